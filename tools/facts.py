@@ -165,7 +165,7 @@ def check_rules(top):
 def counts_of(top):
     names = [name for name, *_ in rules_of(top)]
     kinds = read(top / "crates/e_clause/specs/RuleKinds.antt")
-    cited = int(re.search(r"\b(\d+)\b", kinds[kinds.index("=") :]).group(1))
+    cited = int(re.search(r"^diagram_rule_count = (\d+)$", kinds, re.M).group(1))
     return cited, len(names) - cited, len(names), len(shapes_of(top))
 
 
@@ -285,7 +285,7 @@ def check_program(top):
 
 def reserved_words(top):
     code = read(top / "crates/e_text/src/words.rt")
-    return re.findall(r'is\(token, b"([a-z-]+)"\)', code)
+    return re.findall(r'^ +b"([a-z-]+)",$', code, re.M)
 
 
 def check_language(top):

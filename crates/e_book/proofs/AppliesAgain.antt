@@ -2,7 +2,7 @@
 use Rattle.std.proofs.Common.{◌≡◌, ℕ, Bool, true, false, List, [], ◌∷◌, ◌++◌, map, Option, Some, None, Result, Ok, refl, ap, ◌∙◌}
 use Rattle.std.specs.Prelude.{codes}
 use Rattle.std.proofs.lemmas.List.{append-nil}
-use Rattle.e_text.specs.Names.{is_name, is_title, is_statement_word, is_steps_word, is_relations_word, is_shapes_word, is_others_word}
+use Rattle.e_text.specs.Names.{is_name, is_title, reserved_words}
 use Rattle.e_text.specs.Tokens.{AreTokens}
 use Rattle.e_text.proofs.TokenWords.{is_token-name, is_token-title}
 use Rattle.e_book.specs.declared.fault.Kind.{Kind}
@@ -43,7 +43,7 @@ apply_tokens a g = (is_token-title a.title g.title, append_tokens (map argument_
 -- ---- what is read
 
 no_as : is_name (codes "as") ≡ false
-unfolding is_statement_word is_steps_word is_relations_word is_shapes_word is_others_word
+unfolding reserved_words
 no_as = refl
 
 without_as : (args : List (Option (List ℕ))) → AreArguments args → Without (codes "as") (map argument_word args)

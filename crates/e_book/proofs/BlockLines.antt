@@ -7,7 +7,7 @@ use Rattle.e_literal.specs.declared.object.Obj.{Obj}
 use Rattle.e_literal.specs.declared.literal.Lit.{Lit}
 use Rattle.e_construct.specs.declared.construction.Construction.{Construction}
 use Rattle.e_construct.specs.declared.superpose.Superpose.{Superpose}
-use Rattle.e_construct.specs.Construct.{made, gives}
+use Rattle.e_construct.specs.Construct.{sorts_made, gives_of_construction}
 use Rattle.e_construct.specs.Superposing as superposing
 use Rattle.e_construct.proofs.Given.{gives_plain}
 use Rattle.e_deriv.specs.declared.names.Names.{Names}
@@ -153,13 +153,13 @@ hence_alike known d r t at few =
 -- ---- constructions
 
 made_alike : (known : List Headed) (d : Draft) (raw : RawLet) (form : Construction) → BlockOf known d → d.place ≡ places.Proving → FewNamed d.names → let_in d.in_scope raw ≡ Ok form
-    → Alike known (few_objects (named d.in_scope (made form) raw.new) >>= λ few. with_step (record d { in_scope = named d.in_scope (made form) raw.new }) (Made form raw.new []) (length (gives form (scope_of_names d.in_scope))))
+    → Alike known (few_objects (named d.in_scope (sorts_made form) raw.new) >>= λ few. with_step (record d { in_scope = named d.in_scope (sorts_made form) raw.new }) (Made form raw.new []) (length (gives_of_construction form (scope_of_names d.in_scope))))
     (then_limits known (forms.Let raw) (Proving (head_of d) (around_of d.outers) (d.steps ++ Made form raw.new [] ∷ [])))
 made_alike known d raw form t at few e =
     let s = Made form raw.new [] in
     let n = Proving (head_of d) (around_of d.outers) (d.steps ++ s ∷ []) in
-    let after = named d.in_scope (made form) raw.new in
-    let given = gives form (scope_of_names d.in_scope) in
+    let after = named d.in_scope (sorts_made form) raw.new in
+    let given = gives_of_construction form (scope_of_names d.in_scope) in
     let x : Draft = record d { in_scope = after } in
     let next : Result Draft Kind = with_step x s (length given) in
     let none = plain_count given (gives_plain form (scope_of_names d.in_scope) (let_fits d.in_scope raw form e).fits) in
@@ -176,7 +176,7 @@ pub let_alike : (known : List Headed) (d : Draft) (raw : RawLet) → BlockOf kno
 unfolding built
 let_alike known d raw t at few =
     both known (let_in d.in_scope raw)
-    (λ form. few_objects (named d.in_scope (made form) raw.new) >>= λ few. with_step (record d { in_scope = named d.in_scope (made form) raw.new }) (Made form raw.new []) (length (gives form (scope_of_names d.in_scope))))
+    (λ form. few_objects (named d.in_scope (sorts_made form) raw.new) >>= λ few. with_step (record d { in_scope = named d.in_scope (sorts_made form) raw.new }) (Made form raw.new []) (length (gives_of_construction form (scope_of_names d.in_scope))))
     (λ form. one_more (head_of d) (around_of d.outers) d.steps (Made form raw.new [])) (then_limits known (forms.Let raw))
     (λ form e. made_alike known d raw form t at few e)
 
@@ -324,14 +324,14 @@ claim_alike known d raws t at few =
 
 copies_alike : (known : List Headed) (d : Draft) (raw : RawSuperpose) (form : Superpose) (shown : List Lit) → BlockOf known d → d.place ≡ places.Proving → FewNamed d.names
     → Alike known
-    (few_objects (named d.in_scope superposing.made raw.new) >>= λ objects. deeper d (opened.Superpose form raw.new shown) (length (superposing.gives form (scope_of_names d.in_scope))) >>= λ e. few_monos raw.shown >>= λ few.
-    terms_after e.terms (superposing.gives form (scope_of_names d.in_scope)) >>= λ n. read_ok (record e { in_scope = named d.in_scope superposing.made raw.new; terms = n }))
+    (few_objects (named d.in_scope superposing.sorts_copied raw.new) >>= λ objects. deeper d (opened.Superpose form raw.new shown) (length (superposing.gives_of_superposition form (scope_of_names d.in_scope))) >>= λ e. few_monos raw.shown >>= λ few.
+    terms_after e.terms (superposing.gives_of_superposition form (scope_of_names d.in_scope)) >>= λ n. read_ok (record e { in_scope = named d.in_scope superposing.sorts_copied raw.new; terms = n }))
     (then_limits known (forms.Superpose raw) (Proving (head_of d) (around_of (outer_of d (opened.Superpose form raw.new shown) ∷ d.outers)) []))
 copies_alike known d raw form shown t at few =
     let op = opened.Superpose form raw.new shown in
     let n = Proving (head_of d) (around_of (outer_of d op ∷ d.outers)) [] in
-    let given = superposing.gives form (scope_of_names d.in_scope) in
-    let after = named d.in_scope superposing.made raw.new in
+    let given = superposing.gives_of_superposition form (scope_of_names d.in_scope) in
+    let after = named d.in_scope superposing.sorts_copied raw.new in
     let at_block = context_in known (head_of d) d.outers d.steps in
     let k = d.facts + length given in
     let m = d.terms + count_monomials given in
@@ -339,10 +339,10 @@ copies_alike known d raw form shown t at few =
     let last : Draft → ℕ → Result Draft Kind = λ x n. read_ok (record x { in_scope = after; terms = n }) in
     let then : Draft → Result Draft Kind = λ x. few_monos raw.shown >>= λ few. terms_after x.terms given >>= λ n. last x n in
     let next : Result Draft Kind = deeper d op (length given) >>= then in
-    let renamed : Counted after k m (record { names = named d.in_scope superposing.made raw.new; facts = at_block.facts ++ given }) =
+    let renamed : Counted after k m (record { names = named d.in_scope superposing.sorts_copied raw.new; facts = at_block.facts ++ given }) =
     counted_with at_block d.in_scope after after given d.facts k d.terms m t.counted refl refl refl in
     let c : Counted after k m (context_in known (head_of d) (outer_of d op ∷ d.outers) []) =
-    subst (λ (ns : Names). Counted after k m (record { names = named ns superposing.made raw.new; facts = at_block.facts ++ superposing.gives form (scope_of_names ns) })) t.counted.names renamed in
+    subst (λ (ns : Names). Counted after k m (record { names = named ns superposing.sorts_copied raw.new; facts = at_block.facts ++ superposing.gives_of_superposition form (scope_of_names ns) })) t.counted.names renamed in
     inner_limits known d (few_objects after >>= λ objects. next) op (forms.Superpose raw) after k m t refl c
     (test_objects known next n raw.shown after (d.lines + 1) (length d.outers + 2) k m 0
     (λ objects. inner_then known d op (length given) then n raw.shown m 0
@@ -356,8 +356,8 @@ pub superpose_alike : (known : List Headed) (d : Draft) (raw : RawSuperpose) →
 unfolding superposed
 superpose_alike known d raw t at few =
     both known (superpose_in d.in_scope raw)
-    (λ p. few_objects (named d.in_scope superposing.made raw.new) >>= λ objects. deeper d (opened.Superpose p.0 raw.new p.1) (length (superposing.gives p.0 (scope_of_names d.in_scope))) >>= λ e. few_monos raw.shown >>= λ few.
-    terms_after e.terms (superposing.gives p.0 (scope_of_names d.in_scope)) >>= λ n. read_ok (record e { in_scope = named d.in_scope superposing.made raw.new; terms = n }))
+    (λ p. few_objects (named d.in_scope superposing.sorts_copied raw.new) >>= λ objects. deeper d (opened.Superpose p.0 raw.new p.1) (length (superposing.gives_of_superposition p.0 (scope_of_names d.in_scope))) >>= λ e. few_monos raw.shown >>= λ few.
+    terms_after e.terms (superposing.gives_of_superposition p.0 (scope_of_names d.in_scope)) >>= λ n. read_ok (record e { in_scope = named d.in_scope superposing.sorts_copied raw.new; terms = n }))
     (λ p. inner_block (head_of d) (around_of d.outers) d.steps (BySuperposition p.0 raw.new p.1)) (then_limits known (forms.Superpose raw))
     (λ p e. copies_alike known d raw p.0 p.1 t at few)
 

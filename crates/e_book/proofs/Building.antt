@@ -13,7 +13,7 @@ use Rattle.e_literal.specs.Use.{Stated, scope_of}
 use Rattle.e_construct.specs.declared.construction.Shape.{Shape}
 use Rattle.e_construct.specs.declared.construction.Construction.{Construction}
 use Rattle.e_construct.specs.declared.superpose.Superpose.{Superpose}
-use Rattle.e_construct.specs.Construct.{fits, made}
+use Rattle.e_construct.specs.Construct.{fits_construction, sorts_made}
 use Rattle.e_construct.specs.Superposing as superposing
 pub use Rattle.e_construct.proofs.Moving.{grows}
 use Rattle.e_deriv.specs.declared.names.Names.{Names}
@@ -34,35 +34,35 @@ chosen : (b : Bool) (c form : Construction) (rest : Result Construction Kind) �
 chosen true c form rest e = inl (refl, ok_is c form e)
 chosen false c form rest e = inr e
 
-first_fits : (s : Scope) (args avoid : List Obj) (shapes : List Shape) (form : Construction) → first_fitting s args avoid shapes ≡ Ok form → fits form s ≡ true
+first_fits : (s : Scope) (args avoid : List Obj) (shapes : List Shape) (form : Construction) → first_fitting s args avoid shapes ≡ Ok form → fits_construction form s ≡ true
 first_fits s args avoid [] form e = absurd cc
 first_fits s args avoid (x ∷ shapes) form e =
     let c = construction x args avoid in
-    elim (chosen (fits c s) c form (first_fitting s args avoid shapes) e) [
-      | inl p ↦ subst (λ (f : Construction). fits f s ≡ true) p.1 p.0
+    elim (chosen (fits_construction c s) c form (first_fitting s args avoid shapes) e) [
+      | inl p ↦ subst (λ (f : Construction). fits_construction f s ≡ true) p.1 p.0
       | inr p ↦ first_fits s args avoid shapes form p
     ]
 
 -- it fits, its new names are free, and there is one for each object that it makes
 pub record GoodLet (ns : Names) (form : Construction) (new : List (List ℕ)) : Type 0 where
-  pub fits : fits form (scope_of_names ns) ≡ true
+  pub fits : fits_construction form (scope_of_names ns) ≡ true
   pub free : fresh ns [] new ≡ Ok tt
-  pub count : length new ≡ length (made form)
+  pub count : length new ≡ length (sorts_made form)
 
 pub let_fits : (ns : Names) (l : RawLet) (form : Construction) → let_in ns l ≡ Ok form → GoodLet ns form l.new
 unfolding let_in
 let_fits ns l form e =
     let s = scope_of_names ns in
-    let count : Construction → Result Construction Kind = λ f. right_count (eqb (length l.new) (length (made f))) >>= λ right. read_ok f in
+    let count : Construction → Result Construction Kind = λ f. right_count (eqb (length l.new) (length (sorts_made f))) >>= λ right. read_ok f in
     let a = bind_ok (fresh ns [] l.new) (λ free. arguments_in ns l.shapes [] l.args >>= λ args. each (used ns) l.avoid >>= λ avoid. first_fitting s args avoid l.shapes >>= count) form e in
     let b = bind_ok (arguments_in ns l.shapes [] l.args) (λ args. each (used ns) l.avoid >>= λ avoid. first_fitting s args avoid l.shapes >>= count) form a.2 in
     let c = bind_ok (each (used ns) l.avoid) (λ avoid. first_fitting s b.0 avoid l.shapes >>= count) form b.2 in
     let d = bind_ok (first_fitting s b.0 c.0 l.shapes) count form c.2 in
-    let r = bind_ok (right_count (eqb (length l.new) (length (made d.0)))) (λ right. read_ok d.0) form d.2 in
+    let r = bind_ok (right_count (eqb (length l.new) (length (sorts_made d.0)))) (λ right. read_ok d.0) form d.2 in
     subst (λ (f : Construction). GoodLet ns f l.new) (ok_is d.0 form r.2) (record {
       fits = first_fits s b.0 c.0 l.shapes d.0 d.1;
       free = a.1;
-      count = eqb-true (length l.new) (length (made d.0)) (counted _ r.0 r.1);
+      count = eqb-true (length l.new) (length (sorts_made d.0)) (counted _ r.0 r.1);
     })
 
 -- ---- a superposition that is read
@@ -118,20 +118,20 @@ placed_behind ns a b c k d g h l form e =
       form_is = ok_is (superpose na.0 nb.0 nc.0 nd.0 ng.0 nh.0 nk.0 nl.0) form nl.2;
     }
 
-placed_fits : (ns : Names) (args : List (List ℕ)) (form : Superpose) → placed_in ns args ≡ Ok form → superposing.fits form (scope_of_names ns) ≡ true
+placed_fits : (ns : Names) (args : List (List ℕ)) (form : Superpose) → placed_in ns args ≡ Ok form → superposing.fits_superposition form (scope_of_names ns) ≡ true
 unfolding placed_in
 placed_fits ns (a ∷ b ∷ c ∷ k ∷ d ∷ g ∷ h ∷ l ∷ []) form e =
     let p = placed_behind ns a b c k d g h l form e in
     let point : (name : List ℕ) (n : ℕ) → number_of ns Point name ≡ Ok n → ltb n (length ns.points) ≡ true = λ name n i. number_in_scope ns Point name n i in
     let line : (name : List ℕ) (n : ℕ) → number_of ns Line name ≡ Ok n → ltb n (length ns.lines) ≡ true = λ name n i. number_in_scope ns Line name n i in
-    subst (λ (x : Superpose). superposing.fits x (scope_of_names ns) ≡ true) p.form_is
+    subst (λ (x : Superpose). superposing.fits_superposition x (scope_of_names ns) ≡ true) p.form_is
     (and_from _ _ (point a p.na p.a_is) (and_from _ _ (point b p.nb p.b_is) (and_from _ _ (point c p.nc p.c_is) (and_from _ _ (point d p.nd p.d_is)
     (and_from _ _ (point g p.ng p.g_is) (and_from _ _ (point h p.nh p.h_is) (and_from _ _ (line k p.nk p.k_is) (and_from _ _ (line l p.nl p.l_is) refl))))))))
 placed_fits ns args form e = absurd cc
 
 -- it fits, its new names are free, and its literals have the names of objects around it
 pub record GoodCopy (ns : Names) (raw : RawSuperpose) (form : Superpose) (shown : List Lit) : Type 0 where
-  pub fits : superposing.fits form (scope_of_names ns) ≡ true
+  pub fits : superposing.fits_superposition form (scope_of_names ns) ≡ true
   pub free : fresh ns [] raw.new ≡ Ok tt
   pub lits : lits_in ns raw.shown ≡ Ok shown
 

@@ -14,7 +14,7 @@ use Rattle.e_construct.specs.declared.construction.Shape.{Shape}
 use Rattle.e_construct.specs.declared.construction.Shape.TheVariants.{OnLine, OnCircle, MeetLines, MeetOne, MeetBoth, CirclesOne, CirclesBoth}
 use Rattle.e_construct.specs.declared.construction.Construction.{Construction}
 use Rattle.e_construct.specs.Shapes.{Avoids, NoObject, AnyObject, AnyApartFrom, shape_row}
-use Rattle.e_construct.specs.Construct.{sorts_of, avoids_well, fits, made}
+use Rattle.e_construct.specs.Construct.{sorts_of, avoids_well, fits_construction, sorts_made}
 use Rattle.e_construct.specs.Lines.{are_avoided, begin_with, takes}
 use Rattle.e_deriv.specs.declared.names.Names.{Names}
 use Rattle.e_book.specs.declared.lets.RawLet.{RawLet}
@@ -113,7 +113,7 @@ second_differs s sort xs ys (o ∷ os) h =
     let q = and_parts (is_in_scope s o) (are_of_sorts s (Circle ∷ xs) os) p.1 in
     rw (first_differs s xs ys os q.1, and-false (is_in_scope s o)) (and-false (same_sort sort o.sort))
 
-first_read : (sh : Shape) (s : Scope) (args avoid : List Obj) → fits (construction sh args avoid) s ≡ true → first_fitting s args avoid (alike sh) ≡ Ok (construction sh args avoid)
+first_read : (sh : Shape) (s : Scope) (args avoid : List Obj) → fits_construction (construction sh args avoid) s ≡ true → first_fitting s args avoid (alike sh) ≡ Ok (construction sh args avoid)
 unfolding shape_row
 first_read OnLine s args avoid h = rw h refl
 first_read OnCircle s args avoid h =
@@ -165,7 +165,7 @@ let_number_again ns form names o h =
     let args = arguments_read ns form.shape [] form.args o (of_sorts_in_scope s (sorts_of (shape_row form.shape).args) form.args p.0) (of_sorts_begin s (sorts_of (shape_row form.shape).args) form.args p.0) in
     let avoid = avoided_read ns form.avoid o (avoided_in_scope s (shape_row form.shape).avoids form.avoid p.1) in
     let first = first_read form.shape s form.args form.avoid h.fits in
-    let count : eqb (length names) (length (made form)) ≡ true = eq-eqb _ _ h.count in
+    let count : eqb (length names) (length (sorts_made form)) ≡ true = eq-eqb _ _ h.count in
     rw (h.free, args, avoid, first, count) refl
 
 pub let_named : (ns : Names) (form : Construction) (names : List (List ℕ)) → InOrder ns → GoodLet ns form names → AreNames names → LetNamed (raw_let ns form names)

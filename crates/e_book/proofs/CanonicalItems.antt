@@ -3,7 +3,7 @@ use Rattle.std.proofs.Common.{◌≡◌, ℕ, ◌<◌, Bool, true, false, cond, 
 use Rattle.std.specs.Prelude.{codes}
 use Rattle.std.proofs.lemmas.Bool.{le-ltb}
 use Rattle.std.specs.List.{list_any, AllByRecursion}
-use Rattle.e_text.specs.Names.{is_statement_word, is_steps_word, is_relations_word, is_shapes_word, is_others_word}
+use Rattle.e_text.specs.Names.{reserved_words}
 use Rattle.e_text.specs.Tokens.{tokens_of}
 use Rattle.e_text.specs.Lines.{Seen}
 use Rattle.e_literal.specs.declared.literal.Lit.{Lit}
@@ -63,7 +63,7 @@ literal_again ns l hp hl hc d within good = lit_number_again ns l (in_order ns h
 -- ---- no literal begins with the word as
 
 no_as : is_mono_word (codes "as") ≡ false
-unfolding is_statement_word is_steps_word is_relations_word is_shapes_word is_others_word
+unfolding reserved_words
 no_as = refl
 
 word_no_as : (w : List ℕ) → is_mono_word w ≡ true → is_as w ≡ false

@@ -17,7 +17,7 @@ use Rattle.e_clause.specs.declared.rule.Sig.{Sig}
 use Rattle.e_clause.specs.declared.cert.By.{By}
 use Rattle.e_clause.specs.Rows.{Row}
 use Rattle.e_clause.specs.Table.{table}
-use Rattle.e_clause.specs.Instance.{all_of, fits, Inst, instance_of_row, place_of}
+use Rattle.e_clause.specs.Instance.{all_of, arguments_fit, Inst, instance_of_row, number_of_rule}
 use Rattle.e_clause.specs.Sigs.{sig_of}
 use Rattle.e_clause.specs.RuleKinds.{is_diagram_rule}
 use Rattle.e_deriv.specs.declared.names.Names.{Names}
@@ -94,7 +94,7 @@ has_instance None s args e h = absurd cc
 has_instance (Some r) s args e h =
     let sig : Sig = record { points = r.points; lines = r.lines; circles = r.circles } in
     let is : Some sig ≡ Some s = e in
-    let f : fits r args ≡ true = subst (λ (t : Sig). Parts t.points t.lines t.circles args) (sym (some_sig sig s is)) h in
+    let f : arguments_fit r args ≡ true = subst (λ (t : Sig). Parts t.points t.lines t.circles args) (sym (some_sig sig s is)) h in
     rw f refl where
       some_sig : (x y : Sig) → Some x ≡ Some y → x ≡ y
       some_sig x y e = cc
@@ -119,7 +119,7 @@ pub by_fits : (ns : Names) (rule : List ℕ) (names : List (List ℕ)) (lit : Ra
 unfolding by_in Inst
 by_fits ns rule names lit b e =
     let count : Sig → ℕ = λ s. s.points + s.lines + s.circles in
-    let r = bind_ok (known_rule (place_of rule)) (λ r. variables_of (sig_of r) >>= λ s. right_count (eqb (length names) (s.points + s.lines + s.circles)) >>= λ right. args_in ns s names >>= λ args. lit_in ns lit >>= λ l. read_ok (record { rule = r; args = args; lit = l })) b e in
+    let r = bind_ok (known_rule (number_of_rule rule)) (λ r. variables_of (sig_of r) >>= λ s. right_count (eqb (length names) (s.points + s.lines + s.circles)) >>= λ right. args_in ns s names >>= λ args. lit_in ns lit >>= λ l. read_ok (record { rule = r; args = args; lit = l })) b e in
     let s = bind_ok (variables_of (sig_of r.0)) (λ s. right_count (eqb (length names) (s.points + s.lines + s.circles)) >>= λ right. args_in ns s names >>= λ args. lit_in ns lit >>= λ l. read_ok (record { rule = r.0; args = args; lit = l })) b r.2 in
     let t = bind_ok (right_count (eqb (length names) (s.0.points + s.0.lines + s.0.circles))) (λ right. args_in ns s.0 names >>= λ args. lit_in ns lit >>= λ l. read_ok (record { rule = r.0; args = args; lit = l })) b s.2 in
     let a = bind_ok (args_in ns s.0 names) (λ args. lit_in ns lit >>= λ l. read_ok (record { rule = r.0; args = args; lit = l })) b t.2 in
@@ -128,4 +128,4 @@ by_fits ns rule names lit b e =
     let g = good_args ns s.0 names a.0 n a.1 in
     let inst = has_instance (slice_get table r.0) s.0 a.0 (variables_are (sig_of r.0) s.0 s.1) g.sorts in
     subst (λ (x : By). is_citation (scope_of_names ns) x ≡ true) (ok_is (record { rule = r.0; args = a.0; lit = l.0 }) b l.2)
-    (rw (rule_is (place_of rule) r.0 r.1, g.within, lit_in_scope ns lit l.0 l.1, inst) refl)
+    (rw (rule_is (number_of_rule rule) r.0 r.1, g.within, lit_in_scope ns lit l.0 l.1, inst) refl)

@@ -14,7 +14,7 @@ use Rattle.e_clause.specs.declared.rule.Sig.{Sig}
 use Rattle.e_clause.specs.declared.cert.By.{By}
 use Rattle.e_clause.specs.Rows.{Row}
 use Rattle.e_clause.specs.Table.{table}
-use Rattle.e_clause.specs.Instance.{all_of, fits, Inst, instance_of_row, place_of}
+use Rattle.e_clause.specs.Instance.{all_of, arguments_fit, Inst, instance_of_row, number_of_rule}
 use Rattle.e_clause.specs.Sigs.{sig_of}
 use Rattle.e_clause.proofs.Names.{found_by_name}
 use Rattle.e_clause.specs.RuleKinds.{is_diagram_rule}
@@ -56,7 +56,7 @@ record FitsRow (r : Row) (args : List Obj) : Type 0 where
   lines : all_of Line (take r.lines (drop r.points args)) ≡ true
   circles : all_of Circle (drop r.lines (drop r.points args)) ≡ true
 
-fits_row : (r : Row) (args : List Obj) → fits r args ≡ true → FitsRow r args
+fits_row : (r : Row) (args : List Obj) → arguments_fit r args ≡ true → FitsRow r args
 fits_row r args h =
     let a = and_parts _ _ h in
     let b = and_parts _ _ a.1 in
@@ -70,7 +70,7 @@ fitted false x h = absurd cc
 
 row_of : (o : Option Row) (args : List Obj) → is_some (option_and_then (λ r. instance_of_row r args) o) ≡ true → (r : Row) × (o ≡ Some r) × FitsRow r args
 row_of None args h = absurd cc
-row_of (Some r) args h = (r, refl, fits_row r args (fitted (fits r args) _ h))
+row_of (Some r) args h = (r, refl, fits_row r args (fitted (arguments_fit r args) _ h))
 
 row_at : (rule : ℕ) (args : List Obj) → is_some (Inst rule args) ≡ true → (r : Row) × (slice_get table rule ≡ Some r) × FitsRow r args
 unfolding Inst
@@ -115,9 +115,9 @@ cited ns b h =
     let row = row_at b.rule b.args r.1 in
     record { diagram = p.0; within = q.0; lit = r.0; row = row.0; at = row.1; fitting = row.2 }
 
-rule_again : (ns : Names) (b : By) (c : Cited ns b) → known_rule (place_of (rule_name b.rule)) ≡ Ok b.rule
+rule_again : (ns : Names) (b : By) (c : Cited ns b) → known_rule (number_of_rule (rule_name b.rule)) ≡ Ok b.rule
 rule_again ns b c =
-    ap (λ (w : List ℕ). known_rule (place_of w)) (rule_name_is b.rule c.row c.at) ∙ ap known_rule (found_by_name b.rule c.row c.at) ∙ rw c.diagram refl
+    ap (λ (w : List ℕ). known_rule (number_of_rule w)) (rule_name_is b.rule c.row c.at) ∙ ap known_rule (found_by_name b.rule c.row c.at) ∙ rw c.diagram refl
 
 sig_again : (ns : Names) (b : By) (c : Cited ns b) → variables_of (sig_of b.rule) ≡ Ok (sig_of_row c.row)
 sig_again ns b c = ap (λ (o : Option Row). variables_of (option_map (λ r. sig_of_row r) o)) c.at

@@ -13,7 +13,7 @@ use Rattle.e_literal.specs.WellFormed.{is_well_formed}
 use Rattle.e_literal.specs.Facts.{joined, joined_all}
 use Rattle.e_literal.specs.Use.{Stated, scope_of, is_statement, gives_of_use}
 use Rattle.e_literal.proofs.Booleans.{all_both}
-use Rattle.e_construct.specs.Construct.{made, gives}
+use Rattle.e_construct.specs.Construct.{sorts_made, gives_of_construction}
 use Rattle.e_construct.specs.Superposing as superposing
 use Rattle.e_construct.proofs.Moving.{every, grows}
 use Rattle.e_theorem.specs.declared.statement.Statement.{Statement}
@@ -62,9 +62,9 @@ small_scopes bs (Cite by rest) f ns facts goal few fit = and_from _ _ (few_is_sm
 small_scopes bs (Hence lit cert rest) f ns facts goal few fit = and_from _ _ (few_is_small ns few) (small_scopes bs rest (rest_of f) ns (joined facts lit) goal few fit)
 small_scopes bs (Make form names certs rest) f ns facts goal few fit =
     let s = scope_of_names ns in
-    let after = named ns (made form) names in
-    let more = joined_all facts (gives form s) in
-    let scopes : grown s (made form) ≡ scope_of_names after = named_scope ns (made form) names fit.1 in
+    let after = named ns (sorts_made form) names in
+    let more = joined_all facts (gives_of_construction form s) in
+    let scopes : grown s (sorts_made form) ≡ scope_of_names after = named_scope ns (sorts_made form) names fit.1 in
     and_from _ _ (few_is_small ns few)
     (subst (λ (z : Scope). list_all is_small_line (lines bs rest (rest_of f) z more goal) ≡ true) (sym scopes) (small_scopes bs rest (rest_of f) after more goal (few_named after fit.2) fit.3))
 small_scopes bs (Apply theorem args names certs rest) f ns facts goal few fit =
@@ -81,13 +81,13 @@ small_scopes bs (Claim shown inner rest) f ns facts goal few fit =
     (small_scopes bs rest (rest_of f) ns (joined_all facts shown) goal few fit.1))
 small_scopes bs (Superposed form names shown certs inner rest) f ns facts goal few fit =
     let s = scope_of_names ns in
-    let after = named ns superposing.made names in
-    let more = joined_all facts (superposing.gives form s) in
-    let scopes : grown s superposing.made ≡ scope_of_names after = named_scope ns superposing.made names fit.1 in
-    let inside : list_all is_small_line (lines bs inner (inner_of f) (grown s superposing.made) more (goal_of shown)) ≡ true =
+    let after = named ns superposing.sorts_copied names in
+    let more = joined_all facts (superposing.gives_of_superposition form s) in
+    let scopes : grown s superposing.sorts_copied ≡ scope_of_names after = named_scope ns superposing.sorts_copied names fit.1 in
+    let inside : list_all is_small_line (lines bs inner (inner_of f) (grown s superposing.sorts_copied) more (goal_of shown)) ≡ true =
     subst (λ (z : Scope). list_all is_small_line (lines bs inner (inner_of f) z more (goal_of shown)) ≡ true) (sym scopes) (small_scopes bs inner (inner_of f) after more (goal_of shown) (few_named after fit.2) fit.3) in
     and_from _ _ (few_is_small ns few)
-    (all_both is_small_line (lines bs inner (inner_of f) (grown s superposing.made) more (goal_of shown)) _ inside (small_scopes bs rest (rest_of f) ns (joined_all facts shown) goal few fit.4))
+    (all_both is_small_line (lines bs inner (inner_of f) (grown s superposing.sorts_copied) more (goal_of shown)) _ inside (small_scopes bs rest (rest_of f) ns (joined_all facts shown) goal few fit.4))
 small_scopes bs (Qed objects certs) f ns facts goal few fit = and_from _ _ (few_is_small ns few) refl
 small_scopes bs (Contradiction against) f ns facts goal few fit = and_from _ _ (few_is_small ns few) refl
 small_scopes bs (Cases lit first second) f ns facts goal few fit =

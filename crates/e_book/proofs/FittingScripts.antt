@@ -18,7 +18,7 @@ use Rattle.e_clause.specs.declared.cert.By.{By}
 use Rattle.e_clause.specs.declared.cert.Cert.{Cert}
 use Rattle.e_construct.specs.declared.construction.Construction.{Construction}
 use Rattle.e_construct.specs.declared.superpose.Superpose.{Superpose}
-use Rattle.e_construct.specs.Construct.{made, gives}
+use Rattle.e_construct.specs.Construct.{sorts_made, gives_of_construction}
 use Rattle.e_construct.specs.Superposing as superposing
 use Rattle.e_theorem.specs.Pattern.{is_pattern}
 use Rattle.e_deriv.specs.declared.names.Names.{Names}
@@ -56,8 +56,8 @@ with_facts at ls = spot at.before at.names (at.facts + length ls) (at.terms + co
 -- where the first line of a superposition's block stands
 abbrev pub with_copies : Spot → Superpose → List (List ℕ) → Spot
 with_copies at form names =
-    let given = superposing.gives form (scope_at at) in
-    spot at.before (named at.names superposing.made names) (at.facts + length given) (at.terms + count_monomials given)
+    let given = superposing.gives_of_superposition form (scope_at at) in
+    spot at.before (named at.names superposing.sorts_copied names) (at.facts + length given) (at.terms + count_monomials given)
 
 -- where the first line of either block of a split stands
 abbrev pub with_lit : Spot → Lit → Spot
@@ -94,10 +94,10 @@ pub record ShownFit (at : Spot) (shown : List Lit) : Type 0 where
 
 -- a superposition: it fits, its new names are free, one for each copied point, and within the limits
 pub record CopyFits (at : Spot) (form : Superpose) (names : List (List ℕ)) : Type 0 where
-  pub fits : superposing.fits form (scope_at at) ≡ true
+  pub fits : superposing.fits_superposition form (scope_at at) ≡ true
   pub free : fresh at.names [] names ≡ Ok tt
-  pub count : length names ≡ length superposing.made
-  pub objects : few_objects (named at.names superposing.made names) ≡ Ok tt
+  pub count : length names ≡ length superposing.sorts_copied
+  pub objects : few_objects (named at.names superposing.sorts_copied names) ≡ Ok tt
   pub facts : (with_copies at form names).facts ≤ most_facts
   pub terms : (with_copies at form names).terms ≤ most_terms
 
@@ -157,15 +157,15 @@ fits_inferred at sorts level lit rest over good le lt r = record {
 }
 
 pub fits_made : (at : Spot) (sorts : List Sort) (level : ℕ) (form : Construction) (names : List (List ℕ)) (certs : List Cert) (rest : Script) → GoodLet at.names form names
-    → few_objects (named at.names (made form) names) ≡ Ok tt → at.facts + length (gives form (scope_at at)) ≤ most_facts
-    → ScriptFits (spot at.before (named at.names (made form) names) (at.facts + length (gives form (scope_at at))) at.terms) sorts level rest → ScriptFits at sorts level (Make form names certs rest)
+    → few_objects (named at.names (sorts_made form) names) ≡ Ok tt → at.facts + length (gives_of_construction form (scope_at at)) ≤ most_facts
+    → ScriptFits (spot at.before (named at.names (sorts_made form) names) (at.facts + length (gives_of_construction form (scope_at at))) at.terms) sorts level rest → ScriptFits at sorts level (Make form names certs rest)
 unfolding lines NewNamesFit has_good_literals few_facts few_terms few_blanks depth
 fits_made at sorts level form names certs rest g objects le r =
     let s = scope_at at in
-    let n = at.facts + length (gives form s) in
-    let scopes : grown s (made form) ≡ scope_of_names (named at.names (made form) names) = named_scope at.names (made form) names g.count in
+    let n = at.facts + length (gives_of_construction form s) in
+    let scopes : grown s (sorts_made form) ≡ scope_of_names (named at.names (sorts_made form) names) = named_scope at.names (sorts_made form) names g.count in
     record {
-      forms = λ f known goal m. let more = joined_all known (gives form s) in
+      forms = λ f known goal m. let more = joined_all known (gives_of_construction form s) in
           and_from _ _ g.fits (subst (λ (z : Scope). list_all (line_fits at.before) (lines at.before rest (rest_of f) z more goal) ≡ true) (sym scopes) (r.forms (rest_of f) more goal m));
       new_names = (g.free, g.count, objects, r.new_names);
       literals = r.literals;
@@ -212,15 +212,15 @@ pub fits_copied : (at : Spot) (sorts : List Sort) (level : ℕ) (form : Superpos
 unfolding lines NewNamesFit has_good_literals few_facts few_terms few_blanks depth
 fits_copied at sorts level form names shown certs inner rest c s i le lt r =
     let scope = scope_at at in
-    let given = superposing.gives form scope in
+    let given = superposing.gives_of_superposition form scope in
     let n = at.facts + length given in
     let t = at.terms + count_monomials given in
-    let scopes : grown scope superposing.made ≡ scope_of_names (named at.names superposing.made names) = named_scope at.names superposing.made names c.count in
-    let inside : (f : Script) (known : List Lit) → list_all (line_fits at.before) (lines at.before inner f (grown scope superposing.made) (joined_all known given) (goal_of shown)) ≡ true = λ f known.
+    let scopes : grown scope superposing.sorts_copied ≡ scope_of_names (named at.names superposing.sorts_copied names) = named_scope at.names superposing.sorts_copied names c.count in
+    let inside : (f : Script) (known : List Lit) → list_all (line_fits at.before) (lines at.before inner f (grown scope superposing.sorts_copied) (joined_all known given) (goal_of shown)) ≡ true = λ f known.
     subst (λ (z : Scope). list_all (line_fits at.before) (lines at.before inner f z (joined_all known given) (goal_of shown)) ≡ true) (sym scopes) (i.forms f (joined_all known given) (goal_of shown) refl) in
     record {
       forms = λ f known goal m. and_from _ _ (and_from _ _ c.fits s.over)
-          (all_both (line_fits at.before) (lines at.before inner (inner_of f) (grown scope superposing.made) (joined_all known given) (goal_of shown)) _ (inside (inner_of f) known) (r.forms (rest_of f) (joined_all known shown) goal m));
+          (all_both (line_fits at.before) (lines at.before inner (inner_of f) (grown scope superposing.sorts_copied) (joined_all known given) (goal_of shown)) _ (inside (inner_of f) known) (r.forms (rest_of f) (joined_all known shown) goal m));
       new_names = (c.free, c.count, c.objects, i.new_names, r.new_names);
       literals = and_from _ _ s.good (and_from _ _ i.literals r.literals);
       facts = few _ _ _ c.facts (and_from _ _ (subst (λ (z : Scope). few_facts at.before n z inner ≡ true) (sym scopes) i.facts) (few _ _ _ le r.facts));

@@ -29,8 +29,8 @@ use Rattle.e_clause.specs.declared.cert.By.{By}
 use Rattle.e_clause.specs.Instance.{Inst}
 use Rattle.e_clause.specs.RuleKinds.{is_diagram_rule}
 use Rattle.e_clause.specs.Assignment.{terms_of_atom, terms_of_lits}
-use Rattle.e_clause.specs.Judged.{is_good, are_good, are_good_facts}
-use Rattle.e_construct.specs.Construct.{made, gives, fits as fits_form}
+use Rattle.e_clause.specs.Judged.{is_well_formed_in, are_well_formed_in, are_limited_facts}
+use Rattle.e_construct.specs.Construct.{sorts_made, gives_of_construction, fits_construction as fits_form}
 use Rattle.e_construct.specs.Superposing as superposing
 use Rattle.e_construct.proofs.Moving.{is_plain, moved_lit, Within, in_more, every, grows}
 use Rattle.e_construct.proofs.Given.{needs_good, gives_good, gives_plain, superposition_needs_good, superposition_gives}
@@ -58,7 +58,7 @@ count_terms ls = length (terms_of_lits ls)
 
 -- facts that are in scope and well formed, with at most so many terms
 pub record GoodFacts (s : Scope) (facts : List Lit) (n : ℕ) : Type 0 where
-  pub good : are_good s facts ≡ true
+  pub good : are_well_formed_in s facts ≡ true
   pub few : count_terms facts ≤ n
 
 atom_terms : (a : Atom) → length (terms_of_atom a) ≡ monomials a
@@ -72,18 +72,18 @@ one_more facts l =
     let e : count_terms (facts ++ l ∷ []) ≡ length (terms_of_lits facts ++ (terms_of_atom l.atom ++ [])) = ap (λ (ts : List Term). length ts) (flat_map-append terms facts (l ∷ [])) in
     omega (arith, e, length-append (terms_of_lits facts) (terms_of_atom l.atom ++ []), length-append (terms_of_atom l.atom) [], atom_terms l.atom)
 
-either : (s : Scope) (facts : List Lit) (l : Lit) (n : ℕ) (b : Bool) → GoodFacts s facts n → is_good s l ≡ true → GoodFacts s (cond b facts (facts ++ l ∷ [])) (n + monomials l.atom)
+either : (s : Scope) (facts : List Lit) (l : Lit) (n : ℕ) (b : Bool) → GoodFacts s facts n → is_well_formed_in s l ≡ true → GoodFacts s (cond b facts (facts ++ l ∷ [])) (n + monomials l.atom)
 either s facts l n true g h = record { good = g.good; few = omega (arith, g.few) }
-either s facts l n false g h = record { good = all_both (is_good s) facts (l ∷ []) g.good (rw h refl); few = omega (arith, g.few, one_more facts l) }
+either s facts l n false g h = record { good = all_both (is_well_formed_in s) facts (l ∷ []) g.good (rw h refl); few = omega (arith, g.few, one_more facts l) }
 
-good_joined : (s : Scope) (facts : List Lit) (l : Lit) (n : ℕ) → GoodFacts s facts n → is_good s l ≡ true → GoodFacts s (joined facts l) (n + monomials l.atom)
+good_joined : (s : Scope) (facts : List Lit) (l : Lit) (n : ℕ) → GoodFacts s facts n → is_well_formed_in s l ≡ true → GoodFacts s (joined facts l) (n + monomials l.atom)
 unfolding joined
 good_joined s facts l n g h = either s facts l n (has facts l) g h
 
-pub all_joined : (s : Scope) (facts ls : List Lit) (n : ℕ) → GoodFacts s facts n → are_good s ls ≡ true → GoodFacts s (joined_all facts ls) (n + count_monomials ls)
+pub all_joined : (s : Scope) (facts ls : List Lit) (n : ℕ) → GoodFacts s facts n → are_well_formed_in s ls ≡ true → GoodFacts s (joined_all facts ls) (n + count_monomials ls)
 all_joined s facts [] n g h = record { good = g.good; few = omega (arith, g.few) }
 all_joined s facts (l ∷ ls) n g h =
-    let p = and_parts (is_good s l) (are_good s ls) h in
+    let p = and_parts (is_well_formed_in s l) (are_well_formed_in s ls) h in
     let r = all_joined s (joined facts l) ls (n + monomials l.atom) (good_joined s facts l n g p.0) p.1 in
     record { good = r.good; few = omega (arith, r.few, count_first l ls) }
 
@@ -100,7 +100,7 @@ plain_count (l ∷ ls) h =
     let p = and_parts (is_plain l) (list_all is_plain ls) h in
     omega (arith, count_first l ls, plain_monomials l.neg l.atom p.0, plain_count ls p.1)
 
-pub two_good : (s : Scope) (ls : List Lit) → list_all (all_in_scope s) ls ≡ true → list_all is_well_formed ls ≡ true → are_good s ls ≡ true
+pub two_good : (s : Scope) (ls : List Lit) → list_all (all_in_scope s) ls ≡ true → list_all is_well_formed ls ≡ true → are_well_formed_in s ls ≡ true
 two_good s [] h k = refl
 two_good s (l ∷ ls) h k =
     let p = and_parts (all_in_scope s l) (list_all (all_in_scope s) ls) h in
@@ -108,10 +108,10 @@ two_good s (l ∷ ls) h k =
     rw (p.0, q.0, two_good s ls p.1 q.1) refl
 
 -- in a larger scope
-good_more : (s t : Scope) → Within s t → (ls : List Lit) → are_good s ls ≡ true → are_good t ls ≡ true
-good_more s t w ls h = every (is_good s) (is_good t) one ls h
+good_more : (s t : Scope) → Within s t → (ls : List Lit) → are_well_formed_in s ls ≡ true → are_well_formed_in t ls ≡ true
+good_more s t w ls h = every (is_well_formed_in s) (is_well_formed_in t) one ls h
   where
-    one : (l : Lit) → is_good s l ≡ true → is_good t l ≡ true
+    one : (l : Lit) → is_well_formed_in s l ≡ true → is_well_formed_in t l ≡ true
     one l k =
         let p = and_parts (all_in_scope s l) (is_well_formed l) k in
         rw (every (is_in_scope s) (is_in_scope t) (in_more s t w) (objects_of_atom l.atom) p.0, p.1) refl
@@ -127,7 +127,7 @@ abbrev pub goal_for : Scope → List Sort → List Lit → Goal
 goal_for before sorts shown = record { made = next_objects before sorts; shown = shown }
 
 good_goal : (before s : Scope) (sorts : List Sort) (os : List Obj) (shown : List Lit) → Within before s → are_of_sorts s sorts os ≡ true → list_all (all_in_scope (grown before sorts)) shown ≡ true → list_all is_well_formed shown ≡ true
-    → are_good s (goal_with (goal_for before sorts shown) os) ≡ true
+    → are_well_formed_in s (goal_with (goal_for before sorts shown) os) ≡ true
 good_goal before s sorts os [] w f h k = refl
 good_goal before s sorts os (l ∷ shown) w f h k =
     let p = and_parts (all_in_scope (grown before sorts) l) (list_all (all_in_scope (grown before sorts)) shown) h in
@@ -157,12 +157,12 @@ moved_count image (l ∷ ls) =
 
 -- ---- lines
 
-facts_fit : (s : Scope) (facts : List Lit) (n : ℕ) → GoodFacts s facts n → n ≤ most_terms → are_good_facts s facts ≡ true
+facts_fit : (s : Scope) (facts : List Lit) (n : ℕ) → GoodFacts s facts n → n ≤ most_terms → are_limited_facts s facts ≡ true
 facts_fit s facts n g le =
     let few : leb (count_terms facts) 1100 ≡ true = le-leb _ _ (omega (arith, g.few, le)) in
     rw (g.good, few) refl
 
-one_good : (s : Scope) (l : Lit) → is_good s l ≡ true → are_good s (l ∷ []) ≡ true
+one_good : (s : Scope) (l : Lit) → is_well_formed_in s l ≡ true → are_well_formed_in s (l ∷ []) ≡ true
 one_good s l h = rw h refl
 
 cited_in_scope : (s : Scope) (by : By) → is_citation s by ≡ true → all_in_scope s by.lit ≡ true
@@ -203,7 +203,7 @@ unfolding lines has_good_literals few_terms
 lines_good bs states before sorts shown goal (Cite by rest) g f s other facts n good w le few h fit =
     let p = and_parts (is_citation s by) (list_all (line_fits bs) (lines bs rest (rest_of g) s (joined other by.lit) (goal_for before sorts shown))) fit in
     let q = and_parts (is_diagram_lit by.lit) (has_good_literals rest) h in
-    let lit : is_good s by.lit ≡ true = rw (cited_in_scope s by p.0, diagram_is_good by.lit q.0) refl in
+    let lit : is_well_formed_in s by.lit ≡ true = rw (cited_in_scope s by p.0, diagram_is_good by.lit q.0) refl in
     let next = good_joined s facts by.lit n good lit in
     let same : GoodFacts s (joined facts by.lit) n = record { good = next.good; few = omega (arith, next.few, no_monomials by.lit.atom q.0) } in
     (facts_fit s facts n good le, λ is. (refl, lines_good bs states before sorts shown goal rest (rest_of g) (rest_of f) s (joined other by.lit) (joined facts by.lit) n same w le few q.1 p.1))
@@ -212,7 +212,7 @@ lines_good bs states before sorts shown goal (Hence lit cert rest) g f s other f
     let p = and_parts (all_in_scope s lit) (list_all (line_fits bs) (lines bs rest (rest_of g) s (joined other lit) (goal_for before sorts shown))) fit in
     let q = and_parts (is_well_formed lit) (has_good_literals rest) h in
     let r = room m (few_terms bs m s rest) few in
-    let here : is_good s lit ≡ true = rw (p.0, q.0) refl in (
+    let here : is_well_formed_in s lit ≡ true = rw (p.0, q.0) refl in (
       facts_fit s facts n good le,
       λ is. (
         one_good s lit here,
@@ -220,17 +220,17 @@ lines_good bs states before sorts shown goal (Hence lit cert rest) g f s other f
       ),
     )
 lines_good bs states before sorts shown goal (Make form names certs rest) g f s other facts n good w le few h fit =
-    let t = grown s (made form) in
-    let more = joined_all facts (gives form s) in
-    let p = and_parts (fits_form form s) (list_all (line_fits bs) (lines bs rest (rest_of g) t (joined_all other (gives form s)) (goal_for before sorts shown))) fit in
-    let larger : Within s t = grows s (made form) in
+    let t = grown s (sorts_made form) in
+    let more = joined_all facts (gives_of_construction form s) in
+    let p = and_parts (fits_form form s) (list_all (line_fits bs) (lines bs rest (rest_of g) t (joined_all other (gives_of_construction form s)) (goal_for before sorts shown))) fit in
+    let larger : Within s t = grows s (sorts_made form) in
     let start : GoodFacts t facts n = record { good = good_more s t larger facts good.good; few = good.few } in
-    let next = all_joined t facts (gives form s) n start (gives_good form s p.0) in
-    let same : GoodFacts t more n = record { good = next.good; few = omega (arith, next.few, plain_count (gives form s) (gives_plain form s p.0)) } in (
+    let next = all_joined t facts (gives_of_construction form s) n start (gives_good form s p.0) in
+    let same : GoodFacts t more n = record { good = next.good; few = omega (arith, next.few, plain_count (gives_of_construction form s) (gives_plain form s p.0)) } in (
       facts_fit s facts n good le,
       λ is. (
         needs_good form s p.0,
-        lines_good bs states before sorts shown goal rest (rest_of g) (rest_of f) t (joined_all other (gives form s)) more n same (λ sort. omega (arith, w sort, larger sort)) le few h p.1,
+        lines_good bs states before sorts shown goal rest (rest_of g) (rest_of f) t (joined_all other (gives_of_construction form s)) more n same (λ sort. omega (arith, w sort, larger sort)) le few h p.1,
       ),
     )
 lines_good bs states before sorts shown goal (Apply theorem pattern names certs rest) g f s other facts n good w le few h fit =
@@ -271,21 +271,21 @@ lines_good bs states before sorts shown goal (Claim claimed inner rest) g f s ot
       ),
     )
 lines_good bs states before sorts shown goal (Superposed form names copied certs inner rest) g f s other facts n good w le few h fit =
-    let t = grown s superposing.made in
-    let given = superposing.gives form s in
+    let t = grown s superposing.sorts_copied in
+    let given = superposing.gives_of_superposition form s in
     let i = n + count_monomials given in
     let m = n + count_monomials copied in
     let inside = lines bs inner (inner_of g) t (joined_all other given) (goal_for s [] copied) in
     let behind = lines bs rest (rest_of g) s (joined_all other copied) (goal_for before sorts shown) in
-    let p = and_parts (superposing.fits form s && are_over s copied) (list_all (line_fits bs) (inside ++ behind)) fit in
-    let o = and_parts (superposing.fits form s) (are_over s copied) p.0 in
+    let p = and_parts (superposing.fits_superposition form s && are_over s copied) (list_all (line_fits bs) (inside ++ behind)) fit in
+    let o = and_parts (superposing.fits_superposition form s) (are_over s copied) p.0 in
     let q = parted (line_fits bs) inside behind p.1 in
     let l = and_parts (list_all is_well_formed copied) (has_good_literals inner && has_good_literals rest) h in
     let k = and_parts (has_good_literals inner) (has_good_literals rest) l.1 in
     let a = room i (few_terms bs i t inner && (leb m most_terms && few_terms bs m s rest)) few in
     let r = and_parts (few_terms bs i t inner) (leb m most_terms && few_terms bs m s rest) a.1 in
     let v = room m (few_terms bs m s rest) r.1 in
-    let larger : Within s t = grows s superposing.made in
+    let larger : Within s t = grows s superposing.sorts_copied in
     let start : GoodFacts t facts n = record { good = good_more s t larger facts good.good; few = good.few } in
     let first = all_joined t facts given n start (superposition_gives form s o.0) in
     let next = all_joined s facts copied n good (two_good s copied o.1 l.0) in
@@ -313,7 +313,7 @@ lines_good bs states before sorts shown goal (Cases lit first second) g f s othe
     let k = and_parts (has_good_literals first) (has_good_literals second) l.1 in
     let a = room m (few_terms bs m s first && few_terms bs m s second) few in
     let r = and_parts (few_terms bs m s first) (few_terms bs m s second) a.1 in
-    let here : is_good s lit ≡ true = rw (p.0, l.0) refl in (
+    let here : is_well_formed_in s lit ≡ true = rw (p.0, l.0) refl in (
       facts_fit s facts n good le,
       λ is. (
         refl,

@@ -6,12 +6,12 @@ use Rattle.std.proofs.lemmas.List.Folds.{list_all-append}
 use Rattle.e_literal.specs.declared.object.Kind.{Kind}
 use Rattle.e_literal.specs.declared.object.Mono.{Mono}
 use Rattle.e_literal.specs.Literal.{kind_of_term, kind_of_sums}
-use Rattle.e_literal.specs.WellFormed.{same_kind, is_good_coefficient, are_good_sums}
+use Rattle.e_literal.specs.WellFormed.{same_kind, is_bounded_coefficient, are_well_formed_sums}
 use Rattle.e_literal.proofs.Sorts.{same_kind_is}
 
 -- terms of this kind with good coefficients
 abbrev pub is_good_mono : Kind → Mono → Bool
-is_good_mono k m = same_kind (kind_of_term m.term) k && is_good_coefficient m.coeff
+is_good_mono k m = same_kind (kind_of_term m.term) k && is_bounded_coefficient m.coeff
 
 abbrev pub AreGood : Kind → List Mono → Type 0
 AreGood k ms = list_all (is_good_mono k) ms ≡ true
@@ -22,7 +22,7 @@ pub record GoodSums (k : Kind) (x y : List Mono) : Type 0 where
   pub some : 1 ≤ length x + length y
   pub short : length x + length y ≤ 32
 
-pub good_sums : (x y : List Mono) → are_good_sums x y ≡ true → GoodSums (kind_of_sums x y) x y
+pub good_sums : (x y : List Mono) → are_well_formed_sums x y ≡ true → GoodSums (kind_of_sums x y) x y
 good_sums x y h =
     let k = kind_of_sums x y in
     let p = and_parts (leb 1 (length (x ++ y))) (leb (length (x ++ y)) 32 && list_all (is_good_mono k) (x ++ y)) h in
@@ -35,14 +35,14 @@ good_sums x y h =
 
 -- the kind of sums is that of each of their terms
 first_kind_is : (k : Kind) (m : Mono) (ms : List Mono) → AreGood k (m ∷ ms) → kind_of_term m.term ≡ k
-first_kind_is k m ms h = same_kind_is (kind_of_term m.term) k (and_parts (same_kind (kind_of_term m.term) k) (is_good_coefficient m.coeff) (and_parts (is_good_mono k m) (list_all (is_good_mono k) ms) h).0).0
+first_kind_is k m ms h = same_kind_is (kind_of_term m.term) k (and_parts (same_kind (kind_of_term m.term) k) (is_bounded_coefficient m.coeff) (and_parts (is_good_mono k m) (list_all (is_good_mono k) ms) h).0).0
 
 pub kind_is : (k : Kind) (x y : List Mono) → GoodSums k x y → kind_of_sums x y ≡ k
 kind_is k (m ∷ xs) y g = first_kind_is k m xs g.left
 kind_is k [] (m ∷ ys) g = first_kind_is k m ys g.right
 kind_is k [] [] g = let s : 1 ≤ 0 + 0 = g.some in absurd (omega (arith, s))
 
-pub sums_good : (k : Kind) (x y : List Mono) → GoodSums k x y → are_good_sums x y ≡ true
+pub sums_good : (k : Kind) (x y : List Mono) → GoodSums k x y → are_well_formed_sums x y ≡ true
 sums_good k x y g =
     let is = kind_is k x y g in
     let l = length-append x y in

@@ -14,7 +14,7 @@ use Rattle.e_literal.specs.WellFormed.{is_well_formed}
 use Rattle.e_literal.specs.Scopes.{are_of_sorts}
 use Rattle.e_literal.specs.Rename.{renamed}
 use Rattle.e_literal.specs.Use.{is_statement, are_arguments, image}
-use Rattle.e_clause.specs.Judged.{is_good, are_good}
+use Rattle.e_clause.specs.Judged.{is_well_formed_in, are_well_formed_in}
 use Rattle.e_theorem.specs.declared.notion.Notion.{Notion}
 use Rattle.e_theorem.specs.Notions.{as_stated, expanded, means_something}
 use Rattle.e_theorem.proofs.Uses.{gives_good}
@@ -99,31 +99,31 @@ args_fit ns n names words sorts os args s named declared at here count e misfit 
     true≢false (sym (same ∙ of_sorts ns n.declared names os count read) ∙ misfit)
 
 -- its literals are in scope and well formed
-expanded_good : (n : Notion) (args : List Obj) (s : Scope) → is_notion n ≡ true → are_arguments (as_stated n) s args ≡ true → are_good s (expanded n args s) ≡ true
+expanded_good : (n : Notion) (args : List Obj) (s : Scope) → is_notion n ≡ true → are_arguments (as_stated n) s args ≡ true → are_well_formed_in s (expanded n args s) ≡ true
 expanded_good n args s h fit = gives_good (as_stated n) args s (statement_of n h) fit
 
-taken_good : (s : Scope) (k : ℕ) (ls : List Lit) → are_good s ls ≡ true → are_good s (take k ls) ≡ true
+taken_good : (s : Scope) (k : ℕ) (ls : List Lit) → are_well_formed_in s ls ≡ true → are_well_formed_in s (take k ls) ≡ true
 taken_good s zero ls h = refl
 taken_good s (suc k) [] h = refl
-taken_good s (suc k) (l ∷ ls) h = let p = and_parts (is_good s l) (are_good s ls) h in rw (p.0, taken_good s k ls p.1) refl
+taken_good s (suc k) (l ∷ ls) h = let p = and_parts (is_well_formed_in s l) (are_well_formed_in s ls) h in rw (p.0, taken_good s k ls p.1) refl
 
-within : (s : Scope) (ls : List Lit) → are_good s ls ≡ true → list_all (all_in_scope s) ls ≡ true
+within : (s : Scope) (ls : List Lit) → are_well_formed_in s ls ≡ true → list_all (all_in_scope s) ls ≡ true
 within s [] h = refl
-within s (l ∷ ls) h = let p = and_parts (is_good s l) (are_good s ls) h in rw ((and_parts (all_in_scope s l) (is_well_formed l) p.0).0, within s ls p.1) refl
+within s (l ∷ ls) h = let p = and_parts (is_well_formed_in s l) (are_well_formed_in s ls) h in rw ((and_parts (all_in_scope s l) (is_well_formed l) p.0).0, within s ls p.1) refl
 
-well_formed : (s : Scope) (ls : List Lit) → are_good s ls ≡ true → list_all is_well_formed ls ≡ true
+well_formed : (s : Scope) (ls : List Lit) → are_well_formed_in s ls ≡ true → list_all is_well_formed ls ≡ true
 well_formed s [] h = refl
-well_formed s (l ∷ ls) h = let p = and_parts (is_good s l) (are_good s ls) h in rw ((and_parts (all_in_scope s l) (is_well_formed l) p.0).1, well_formed s ls p.1) refl
+well_formed s (l ∷ ls) h = let p = and_parts (is_well_formed_in s l) (are_well_formed_in s ls) h in rw ((and_parts (all_in_scope s l) (is_well_formed l) p.0).1, well_formed s ls p.1) refl
 
-meant_good : (notions : List Titled) (ns : Names) (most : ℕ) (raw : RawAs) (ls : List Lit) → Meant notions ns most raw ls → are_good (scope_of_names ns) ls ≡ true
+meant_good : (notions : List Titled) (ns : Names) (most : ℕ) (raw : RawAs) (ls : List Lit) → Meant notions ns most raw ls → are_well_formed_in (scope_of_names ns) ls ≡ true
 meant_good notions ns most raw ls m =
     let s = scope_of_names ns in
-    subst (λ (x : List Lit). are_good s x ≡ true) (sym m.are) (taken_good s most (expanded m.notion m.args s) (expanded_good m.notion m.args s m.is_one m.fit))
+    subst (λ (x : List Lit). are_well_formed_in s x ≡ true) (sym m.are) (taken_good s most (expanded m.notion m.args s) (expanded_good m.notion m.args s m.is_one m.fit))
 
 -- the first of what a notion says of arguments that fit it
 pub first_within : (n : Notion) (args : List Obj) (s : Scope) (most : ℕ) (ls : List Lit) → is_notion n ≡ true → are_arguments (as_stated n) s args ≡ true → ls ≡ take most (expanded n args s) → list_all (all_in_scope s) ls ≡ true
 first_within n args s most ls one fit are =
-    within s ls (subst (λ (x : List Lit). are_good s x ≡ true) (sym are) (taken_good s most (expanded n args s) (expanded_good n args s one fit)))
+    within s ls (subst (λ (x : List Lit). are_well_formed_in s x ≡ true) (sym are) (taken_good s most (expanded n args s) (expanded_good n args s one fit)))
 
 pub first_count : (n : Notion) (args : List Obj) (s : Scope) (most : ℕ) (ls : List Lit) → ls ≡ take most (expanded n args s) → length ls ≤ most
 first_count n args s most ls are = omega (arith, ap (λ (x : List Lit). length x) are, length-take most (expanded n args s))

@@ -9,7 +9,7 @@ use Rattle.e_literal.specs.Literal.{all_in_scope}
 use Rattle.e_literal.specs.WellFormed.{is_well_formed}
 use Rattle.e_construct.specs.declared.construction.Construction.{Construction}
 use Rattle.e_construct.specs.declared.superpose.Superpose.{Superpose}
-use Rattle.e_construct.specs.Construct.{made, gives}
+use Rattle.e_construct.specs.Construct.{sorts_made, gives_of_construction}
 use Rattle.e_construct.specs.Superposing as superposing
 use Rattle.e_deriv.specs.declared.names.Names.{Names}
 use Rattle.e_deriv.specs.Script.{Script, Cases, size}
@@ -121,12 +121,12 @@ keeps_built : (known : List Headed) (d e : Draft) (l : RawLet) → Good known d 
 unfolding built
 keeps_built known d e l g at h =
     let s = scope_of_names d.in_scope in
-    let after : Construction → Names = λ f. named d.in_scope (made f) l.new in
-    let then : Construction → Result Draft Kind = λ f. with_step (record d { in_scope = after f }) (Made f l.new []) (length (gives f s)) in
+    let after : Construction → Names = λ f. named d.in_scope (sorts_made f) l.new in
+    let then : Construction → Result Draft Kind = λ f. with_step (record d { in_scope = after f }) (Made f l.new []) (length (gives_of_construction f s)) in
     let f = bind_ok (let_in d.in_scope l) (λ f. few_objects (after f) >>= λ few. then f) e h in
     let w = bind_ok (few_objects (after f.0)) (λ few. then f.0) e f.2 in
-    let t = step_taken (record d { in_scope = after f.0 }) e (Made f.0 l.new []) (length (gives f.0 s)) w.2 in
-    let x : Draft = record d { in_scope = after f.0; lines = d.lines + 1; steps = d.steps ++ Made f.0 l.new [] ∷ []; facts = d.facts + length (gives f.0 s) } in
+    let t = step_taken (record d { in_scope = after f.0 }) e (Made f.0 l.new []) (length (gives_of_construction f.0 s)) w.2 in
+    let x : Draft = record d { in_scope = after f.0; lines = d.lines + 1; steps = d.steps ++ Made f.0 l.new [] ∷ []; facts = d.facts + length (gives_of_construction f.0 s) } in
     let o = open_more (start known d) d.made d.outers d.steps (here known d) (here known x) d.lines (Made f.0 l.new []) (open_at known d at g.body) refl
     (λ rest fit. fits_made (here known d) (made_in d.outers d.made) (level d.outers) f.0 l.new [] rest (let_fits d.in_scope l f.0 f.1) w.1 t.facts fit) in
     subst (λ (y : Draft). Good known y) t.is (record { head = g.head; body = still_open known x at o })
@@ -222,8 +222,8 @@ keeps_claim known d e raws g at said h = keeps_claimed known d e raws g at said.
 keeps_superposed : (known : List Headed) (d e : Draft) (raw : RawSuperpose) → Good known d → d.place ≡ Proving → Said (forms.Superpose raw) → superposed d raw ≡ Ok e → Good known e
 unfolding superposed
 keeps_superposed known d e raw g at said h =
-    let given : Superpose → List Lit = λ form. superposing.gives form (scope_of_names d.in_scope) in
-    let after = named d.in_scope superposing.made raw.new in
+    let given : Superpose → List Lit = λ form. superposing.gives_of_superposition form (scope_of_names d.in_scope) in
+    let after = named d.in_scope superposing.sorts_copied raw.new in
     let then : Draft → ℕ → Result Draft Kind = λ x n. read_ok (record x { in_scope = after; terms = n }) in
     let p = bind_ok (superpose_in d.in_scope raw) (λ p. few_objects after >>= λ objects. deeper d (opened.Superpose p.0 raw.new p.1) (length (given p.0)) >>= λ x. few_monos raw.shown >>= λ few. terms_after x.terms (given p.0) >>= λ n. then x n) e h in
     let form = p.0.0 in

@@ -4,7 +4,7 @@ use Rattle.std.specs.Prelude.{codes}
 use Rattle.std.specs.Str.{bytes_eq}
 use Rattle.std.proofs.lemmas.Bool.{not-true, and_parts}
 use Rattle.std.proofs.lemmas.List.{append-nil}
-use Rattle.e_text.specs.Names.{is_name, is_statement_word, is_steps_word, is_relations_word, is_shapes_word, is_others_word}
+use Rattle.e_text.specs.Names.{is_name, reserved_words}
 use Rattle.e_text.specs.Tokens.{is_token, AreTokens}
 use Rattle.e_text.proofs.TokenWords.{is_token-name}
 use Rattle.e_construct.specs.declared.construction.Shape.{Shape}
@@ -46,7 +46,7 @@ as_read l = raw (all_alike l.shapes) l.new l.args l.avoid
 -- ---- what the words are
 
 no_avoid : is_name (codes "avoid") ≡ false
-unfolding is_statement_word is_steps_word is_relations_word is_shapes_word is_others_word
+unfolding reserved_words
 no_avoid = refl
 
 own_word_differs : (w : List ℕ) → is_own_word w ≡ true → bytes_eq w (codes "avoid") ≡ false

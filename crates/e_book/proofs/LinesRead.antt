@@ -10,7 +10,7 @@ use Rattle.e_literal.specs.Scopes.{same_sort, are_of_sorts}
 use Rattle.e_clause.specs.declared.cert.By.{By}
 use Rattle.e_construct.specs.declared.construction.Construction.{Construction}
 use Rattle.e_construct.specs.declared.superpose.Superpose.{Superpose}
-use Rattle.e_construct.specs.Construct.{made, gives}
+use Rattle.e_construct.specs.Construct.{sorts_made, gives_of_construction}
 use Rattle.e_construct.specs.Superposing as superposing
 use Rattle.e_literal.specs.Use.{Stated}
 use Rattle.e_literal.proofs.Sorts.{same_sort_is}
@@ -88,8 +88,8 @@ applied_behind i t theorem args names =
 -- in the block of a superposition
 abbrev pub copied : Inside → Superpose → List (List ℕ) → List Lit → Inside
 copied i form names shown =
-    let given = superposing.gives form (scope_of_names i.in_scope) in
-    record (written (deep i (opened.Superpose form names shown) (length given)) (count_monomials given)) { in_scope = named i.in_scope superposing.made names }
+    let given = superposing.gives_of_superposition form (scope_of_names i.in_scope) in
+    record (written (deep i (opened.Superpose form names shown) (length given)) (count_monomials given)) { in_scope = named i.in_scope superposing.sorts_copied names }
 
 -- behind an inner block that shows these literals, whose last line has this number
 abbrev pub resume : Inside → ℕ → PlainStep → List Lit → Inside
@@ -119,14 +119,14 @@ step_hence known d i l o p few most short =
     let more : ltb most_terms (i.terms + count_monos (raw_of i.in_scope l ∷ [])) ≡ false = le-ltb _ _ (omega (arith, short, count_again i.in_scope l)) in
     rw (lit_number_again i.in_scope l o p.within p.good, room, place, few_again i.in_scope l p.good, more) (ap (λ (n : ℕ). Ok (proving d (written (behind i (Inferred l None) 1) n))) (count_again i.in_scope l))
 
-pub step_let : (known : List Headed) (d : Draft) (i : Inside) (form : Construction) (names : List (List ℕ)) → InOrder i.in_scope → GoodLet i.in_scope form names → few_objects (named i.in_scope (made form) names) ≡ Ok tt
-    → i.lines + 1 ≤ most_steps → i.facts + length (gives form (scope_of_names i.in_scope)) ≤ most_facts
+pub step_let : (known : List Headed) (d : Draft) (i : Inside) (form : Construction) (names : List (List ℕ)) → InOrder i.in_scope → GoodLet i.in_scope form names → few_objects (named i.in_scope (sorts_made form) names) ≡ Ok tt
+    → i.lines + 1 ≤ most_steps → i.facts + length (gives_of_construction form (scope_of_names i.in_scope)) ≤ most_facts
     → step known (proving d i) (as_read (let_form i.in_scope form names))
-    ≡ Ok (proving d (record (behind i (Made form names []) (length (gives form (scope_of_names i.in_scope)))) { in_scope = named i.in_scope (made form) names }))
+    ≡ Ok (proving d (record (behind i (Made form names []) (length (gives_of_construction form (scope_of_names i.in_scope)))) { in_scope = named i.in_scope (sorts_made form) names }))
 unfolding step stepped built with_step
 step_let known d i form names o h fit few most =
     let room : ltb most_steps (i.lines + 1) ≡ false = le-ltb _ _ few in
-    let place : ltb most_facts (i.facts + length (gives form (scope_of_names i.in_scope))) ≡ false = le-ltb _ _ most in
+    let place : ltb most_facts (i.facts + length (gives_of_construction form (scope_of_names i.in_scope))) ≡ false = le-ltb _ _ most in
     rw (let_number_again i.in_scope form names o h, fit, room, place) refl
 
 pub step_apply : (known : List Headed) (d : Draft) (i : Inside) (theorem : ℕ) (args : List (Option Obj)) (names : List (List ℕ)) → InOrder i.in_scope → GoodApply known i.in_scope theorem args names
@@ -159,14 +159,14 @@ unfolding step stepped claimed
 step_claim known d i shown o p few shallow most =
     rw (lits_number_again i.in_scope shown o p, deeper_again d i (opened.Claim shown) 0 few shallow most, all_few_again i.in_scope shown p.good) refl
 
-pub step_superpose : (known : List Headed) (d : Draft) (i : Inside) (form : Superpose) (names : List (List ℕ)) (shown : List Lit) → GoodSuperpose i.in_scope form names shown → few_objects (named i.in_scope superposing.made names) ≡ Ok tt
+pub step_superpose : (known : List Headed) (d : Draft) (i : Inside) (form : Superpose) (names : List (List ℕ)) (shown : List Lit) → GoodSuperpose i.in_scope form names shown → few_objects (named i.in_scope superposing.sorts_copied names) ≡ Ok tt
     → i.lines + 1 ≤ most_steps → length i.outers + 2 ≤ most_depth
-    → i.facts + length (superposing.gives form (scope_of_names i.in_scope)) ≤ most_facts → i.terms + count_monomials (superposing.gives form (scope_of_names i.in_scope)) ≤ most_terms
+    → i.facts + length (superposing.gives_of_superposition form (scope_of_names i.in_scope)) ≤ most_facts → i.terms + count_monomials (superposing.gives_of_superposition form (scope_of_names i.in_scope)) ≤ most_terms
     → step known (proving d i) (superpose_form i.in_scope form names shown)
     ≡ Ok (proving d (copied i form names shown))
 unfolding step stepped superposed
 step_superpose known d i form names shown g fit few shallow most short =
-    let given = superposing.gives form (scope_of_names i.in_scope) in
+    let given = superposing.gives_of_superposition form (scope_of_names i.in_scope) in
     let more : ltb most_terms (i.terms + count_monomials given) ≡ false = le-ltb _ _ short in
     rw (superpose_number_again i.in_scope form names shown g, fit, deeper_again d i (opened.Superpose form names shown) (length given) few shallow most, all_few_again i.in_scope shown g.plain.good, more) refl
 

@@ -16,7 +16,7 @@ use Rattle.e_literal.specs.declared.literal.Atom.{Atom}
 use Rattle.e_literal.specs.declared.literal.Atom.TheVariants as atoms
 use Rattle.e_literal.specs.declared.literal.Lit.{Lit}
 use Rattle.e_literal.specs.Literal.{obj, is_in_scope, kind_of_term, kind_of_sums, objects_of_term, objects_of_sum, objects_of_atom, all_in_scope}
-use Rattle.e_literal.specs.WellFormed.{same_kind, is_good_coefficient, is_good_atom, is_well_formed}
+use Rattle.e_literal.specs.WellFormed.{same_kind, is_bounded_coefficient, is_well_formed_atom, is_well_formed}
 use Rattle.e_deriv.specs.declared.names.Names.{Names}
 use Rattle.e_book.specs.declared.literal.RawAtom.TheVariants as raw
 use Rattle.e_book.specs.Literals.{is_diagram_raw}
@@ -84,7 +84,7 @@ first_raw_kind ns [] [] = refl
 -- the first monomial and the others
 record First (ns : Names) (k : Magnitude) (m : Mono) (ms : List Mono) : Type 0 where
   kind : same_kind (kind_of_term m.term) k ≡ true
-  coeff : is_good_coefficient m.coeff ≡ true
+  coeff : is_bounded_coefficient m.coeff ≡ true
   good : AreGood k ms
   here : TermWithin ns m.term
   within : SumWithin ns ms
@@ -93,7 +93,7 @@ first_of : (ns : Names) (k : Magnitude) (m : Mono) (ms : List Mono) → AreGood 
 first_of ns k m ms g w =
     let s = scope_of_names ns in
     let p = and_parts (is_good_mono k m) (list_all (is_good_mono k) ms) g in
-    let q = and_parts (same_kind (kind_of_term m.term) k) (is_good_coefficient m.coeff) p.0 in
+    let q = and_parts (same_kind (kind_of_term m.term) k) (is_bounded_coefficient m.coeff) p.0 in
     let r = and_parts (list_all (is_in_scope s) (objects_of_term m.term)) (list_all (is_in_scope s) (objects_of_sum ms)) (sym (list_all-append (is_in_scope s) (objects_of_term m.term) (objects_of_sum ms)) ∙ w) in
     record { kind = q.0; coeff = q.1; good = p.1; here = r.0; within = r.1 }
 
@@ -138,7 +138,7 @@ sides_within ns x y h =
 
 -- ---- literals
 
-atom_number_again : (ns : Names) (a : Atom) → InOrder ns → AtomWithin ns a → is_good_atom a ≡ true → atom_in ns (raw_atom ns a) ≡ Ok a
+atom_number_again : (ns : Names) (a : Atom) → InOrder ns → AtomWithin ns a → is_well_formed_atom a ≡ true → atom_in ns (raw_atom ns a) ≡ Ok a
 unfolding atom_in
 atom_number_again ns (atoms.On a l) s h d = let t = two ns (obj Point a) (obj Line l) h in rw (number_again ns Point a s t.0, used_again ns Line l s t.1) refl
 atom_number_again ns (atoms.OnC a c) s h d = let t = two ns (obj Point a) (obj Circle c) h in rw (number_again ns Point a s t.0, used_again ns Circle c s t.1) refl
@@ -163,7 +163,7 @@ at_most_again : (ns : Names) (k : Magnitude) (x y : List Mono) → InOrder ns �
 unfolding lit_in atom_in
 at_most_again ns k x y s g wy wx = rw (sums_number_again ns k y x s g wy wx) refl
 
-plain_number_again : (ns : Names) (neg : Bool) (a : Atom) → InOrder ns → AtomWithin ns a → is_good_atom a ≡ true → lit_in ns (raw_signed ns neg a) ≡ Ok (lit neg a)
+plain_number_again : (ns : Names) (neg : Bool) (a : Atom) → InOrder ns → AtomWithin ns a → is_well_formed_atom a ≡ true → lit_in ns (raw_signed ns neg a) ≡ Ok (lit neg a)
 unfolding lit_in
 plain_number_again ns false (atoms.On a l) s h d = rw (atom_number_again ns (atoms.On a l) s h d) refl
 plain_number_again ns true (atoms.On a l) s h d = rw (atom_number_again ns (atoms.On a l) s h d) refl
@@ -200,7 +200,7 @@ plain_number_again ns true (atoms.MagLt x y) s h d =
 pub lit_number_again : (ns : Names) (l : Lit) → InOrder ns → all_in_scope (scope_of_names ns) l ≡ true → is_well_formed l ≡ true → lit_in ns (raw_of ns l) ≡ Ok l
 lit_number_again ns l s h d = plain_number_again ns l.neg l.atom s h d
 
-atom_named : (ns : Names) (a : Atom) → InOrder ns → AtomWithin ns a → is_good_atom a ≡ true → AtomNamed (raw_atom ns a)
+atom_named : (ns : Names) (a : Atom) → InOrder ns → AtomWithin ns a → is_well_formed_atom a ≡ true → AtomNamed (raw_atom ns a)
 atom_named ns (atoms.On a l) s h d = let t = two ns (obj Point a) (obj Line l) h in (named_at ns Point a s t.0, named_at ns Line l s t.1)
 atom_named ns (atoms.OnC a c) s h d = let t = two ns (obj Point a) (obj Circle c) h in (named_at ns Point a s t.0, named_at ns Circle c s t.1)
 atom_named ns (atoms.Inside a c) s h d = let t = two ns (obj Point a) (obj Circle c) h in (named_at ns Point a s t.0, named_at ns Circle c s t.1)
@@ -216,7 +216,7 @@ atom_named ns (atoms.EqC c e) s h d = let t = two ns (obj Circle c) (obj Circle 
 atom_named ns (atoms.MagEq x y) s h d = let w = sides_within ns x y h in sides_named ns (kind_of_sums x y) x y s (good_sums x y d) w.0 w.1
 atom_named ns (atoms.MagLt x y) s h d = let w = sides_within ns x y h in sides_named ns (kind_of_sums x y) x y s (good_sums x y d) w.0 w.1
 
-signed_named : (ns : Names) (neg : Bool) (a : Atom) → InOrder ns → AtomWithin ns a → is_good_atom a ≡ true → LitNamed (raw_signed ns neg a)
+signed_named : (ns : Names) (neg : Bool) (a : Atom) → InOrder ns → AtomWithin ns a → is_well_formed_atom a ≡ true → LitNamed (raw_signed ns neg a)
 signed_named ns false (atoms.On a l) s h d = record { atom = atom_named ns (atoms.On a l) s h d; sign = tt }
 signed_named ns true (atoms.On a l) s h d = record { atom = atom_named ns (atoms.On a l) s h d; sign = tt }
 signed_named ns false (atoms.OnC a c) s h d = record { atom = atom_named ns (atoms.OnC a c) s h d; sign = tt }

@@ -6,7 +6,7 @@ use Rattle.std.specs.Str.{bytes_eq}
 use Rattle.std.proofs.lemmas.List.{take_at, drop_at, append-nil}
 use Rattle.std.proofs.lemmas.List.Elements.{All-from_recursion}
 use Rattle.std.proofs.lemmas.List.Splits.{slice_split_at, slice_split_none}
-use Rattle.e_text.specs.Names.{is_name, is_statement_word, is_steps_word, is_relations_word, is_shapes_word, is_others_word}
+use Rattle.e_text.specs.Names.{is_name, reserved_words}
 use Rattle.e_text.specs.Tokens.{AreTokens}
 use Rattle.e_text.proofs.TokenWords.{is_token-name}
 use Rattle.e_book.specs.declared.sum.RawMono.{RawMono}
@@ -55,51 +55,51 @@ pub record LitNamed (l : RawLit) : Type 0 where
 -- ---- signs
 
 no_on : is_mono_word (codes "on") ≡ false
-unfolding is_statement_word is_steps_word is_relations_word is_shapes_word is_others_word
+unfolding reserved_words
 no_on = refl
 
 no_inside : is_mono_word (codes "inside") ≡ false
-unfolding is_statement_word is_steps_word is_relations_word is_shapes_word is_others_word
+unfolding reserved_words
 no_inside = refl
 
 no_center : is_mono_word (codes "center") ≡ false
-unfolding is_statement_word is_steps_word is_relations_word is_shapes_word is_others_word
+unfolding reserved_words
 no_center = refl
 
 no_between : is_mono_word (codes "between") ≡ false
-unfolding is_statement_word is_steps_word is_relations_word is_shapes_word is_others_word
+unfolding reserved_words
 no_between = refl
 
 no_side : is_mono_word (codes "same-side") ≡ false
-unfolding is_statement_word is_steps_word is_relations_word is_shapes_word is_others_word
+unfolding reserved_words
 no_side = refl
 
 no_meets : is_mono_word (codes "meets") ≡ false
-unfolding is_statement_word is_steps_word is_relations_word is_shapes_word is_others_word
+unfolding reserved_words
 no_meets = refl
 
 no_not : is_mono_word (codes "not") ≡ false
-unfolding is_statement_word is_steps_word is_relations_word is_shapes_word is_others_word
+unfolding reserved_words
 no_not = refl
 
 no_equal : is_mono_word (codes "=") ≡ false
-unfolding is_statement_word is_steps_word is_relations_word is_shapes_word is_others_word
+unfolding reserved_words
 no_equal = refl
 
 no_differ : is_mono_word (codes "!=") ≡ false
-unfolding is_statement_word is_steps_word is_relations_word is_shapes_word is_others_word
+unfolding reserved_words
 no_differ = refl
 
 no_less : is_mono_word (codes "<") ≡ false
-unfolding is_statement_word is_steps_word is_relations_word is_shapes_word is_others_word
+unfolding reserved_words
 no_less = refl
 
 no_at_most : is_mono_word (codes "<=") ≡ false
-unfolding is_statement_word is_steps_word is_relations_word is_shapes_word is_others_word
+unfolding reserved_words
 no_at_most = refl
 
 no_semicolon : is_mono_word (codes ";") ≡ false
-unfolding is_statement_word is_steps_word is_relations_word is_shapes_word is_others_word
+unfolding reserved_words
 no_semicolon = refl
 
 no_sign : (w : List ℕ) → is_mono_word w ≡ true → is_sign w ≡ false

@@ -4,7 +4,7 @@ use Rattle.std.specs.Prelude.{codes}
 use Rattle.std.specs.List.{AllByRecursion}
 use Rattle.std.specs.Str.{bytes_eq}
 use Rattle.std.proofs.lemmas.Bool.{not-true, and_parts}
-use Rattle.e_text.specs.Names.{is_name, is_statement_word, is_steps_word, is_relations_word, is_shapes_word, is_others_word}
+use Rattle.e_text.specs.Names.{is_name, reserved_words}
 use Rattle.e_text.specs.Tokens.{is_token}
 use Rattle.e_construct.specs.declared.construction.Shape.{Shape}
 use Rattle.e_construct.specs.declared.construction.Shape.TheVariants.{Free, OnLine, Within, Beyond, SideOf, Opposite, OnCircle, Inside, Outside, MeetLines, MeetOne, MeetBoth, CirclesOne, CirclesBoth}
@@ -28,7 +28,7 @@ own_words (Argument ∷ ps) = own_words ps
 own_words (Word w ∷ ps) = is_own_word w && own_words ps
 
 pub own_words_of : (s : Shape) → own_words (pieces s) ≡ true
-unfolding pieces is_statement_word is_steps_word is_relations_word is_shapes_word is_others_word
+unfolding pieces reserved_words
 own_words_of Free = refl
 own_words_of s = refl
 

@@ -5,7 +5,7 @@ use Rattle.std.proofs.lemmas.List.{drop_all}
 use Rattle.std.specs.Prelude.{slice_get, codes}
 use Rattle.std.specs.Option.{option_map_or}
 use Rattle.e_construct.specs.declared.lines.Piece.{Piece as CodePiece}
-use Rattle.e_construct.specs.Views.{piece_said}
+use Rattle.e_construct.specs.Views.{piece_view}
 use Rattle.e_construct.specs.Lines.{Piece}
 use Rattle.e_construct.specs.declared.construction.Shape.{Shape}
 use Rattle.e_book.specs.declared.fault.Kind.{Kind}
@@ -15,10 +15,10 @@ use Rattle.e_book.specs.Lets.{is_place, words_at, are_words_of, avoided_of, shap
 
 -- whether such a place is there
 abbrev pub is_there : Bool → List CodePiece → ℕ → Bool
-is_there new ps i = option_map_or (λ (p : CodePiece). is_place new (piece_said p)) (slice_get ps i) false
+is_there new ps i = option_map_or (λ (p : CodePiece). is_place new (piece_view p)) (slice_get ps i) false
 
 abbrev Rest : Bool → List CodePiece → List (List ℕ) → ℕ → List (List ℕ)
-Rest new ps ws i = words_at new (map piece_said (drop i ps)) (drop i ws)
+Rest new ps ws i = words_at new (map piece_view (drop i ps)) (drop i ws)
 
 choose : (b : Bool) (w : List ℕ) (ws : List (List ℕ)) → b ≡ true → cond b (w ∷ ws) ws ≡ w ∷ ws
 choose b w ws e = rw e refl
@@ -27,30 +27,30 @@ leave : (b : Bool) (w : List ℕ) (ws : List (List ℕ)) → b ≡ false → con
 leave b w ws e = rw e refl
 
 no_place : (new : Bool) (ws : List (List ℕ)) (i : ℕ) → Rest new [] ws i ≡ []
-no_place new ws i = ap (λ (ps : List CodePiece). words_at new (map piece_said ps) (drop i ws)) (drop_all i [] (omega arith))
+no_place new ws i = ap (λ (ps : List CodePiece). words_at new (map piece_view ps) (drop i ws)) (drop_all i [] (omega arith))
 
 -- a word at such a place is the next
 pub word_taken : (new : Bool) (ps : List CodePiece) (ws : List (List ℕ)) (i : ℕ) → i < length ws → is_there new ps i ≡ true → Rest new ps ws i ≡ get_or ws i [] ∷ Rest new ps ws (i + 1)
 word_taken new [] ws i lt e = absurd cc
 word_taken new (p ∷ ps) [] i lt e = absurd (omega arith)
-word_taken new (p ∷ ps) (w ∷ ws) zero lt e = choose (is_place new (piece_said p)) w (words_at new (map piece_said ps) ws) e
+word_taken new (p ∷ ps) (w ∷ ws) zero lt e = choose (is_place new (piece_view p)) w (words_at new (map piece_view ps) ws) e
 word_taken new (p ∷ ps) (w ∷ ws) (suc i) lt e = rw add-one (rw add-one at (word_taken new ps ws i (omega arith) e))
 
 -- another word is none
 pub word_left : (new : Bool) (ps : List CodePiece) (ws : List (List ℕ)) (i : ℕ) → i < length ws → is_there new ps i ≡ false → Rest new ps ws i ≡ Rest new ps ws (i + 1)
 word_left new [] ws i lt e = no_place new ws i ∙ sym (no_place new ws (i + 1))
 word_left new (p ∷ ps) [] i lt e = absurd (omega arith)
-word_left new (p ∷ ps) (w ∷ ws) zero lt e = leave (is_place new (piece_said p)) w (words_at new (map piece_said ps) ws) e
+word_left new (p ∷ ps) (w ∷ ws) zero lt e = leave (is_place new (piece_view p)) w (words_at new (map piece_view ps) ws) e
 word_left new (p ∷ ps) (w ∷ ws) (suc i) lt e = rw add-one (rw add-one at (word_left new ps ws i (omega arith) e))
 
 -- without words no piece has one
-pub no_words : (ps : List CodePiece) (ws : List (Bor (List ℕ))) → 1 ≤ length ps → length ws ≡ 0 → are_words_of (map piece_said ps) (texts ws) ≡ false
+pub no_words : (ps : List CodePiece) (ws : List (Bor (List ℕ))) → 1 ≤ length ps → length ws ≡ 0 → are_words_of (map piece_view ps) (texts ws) ≡ false
 no_words [] ws h k = absurd (omega arith)
 no_words (p ∷ ps) [] h k = refl
 no_words (p ∷ ps) (w ∷ ws) h k = absurd (omega (arith, k))
 
 -- and without pieces no word is one
-pub no_pieces : (ps : List CodePiece) (ws : List (Bor (List ℕ))) → length ps ≡ 0 → 1 ≤ length ws → are_words_of (map piece_said ps) (texts ws) ≡ false
+pub no_pieces : (ps : List CodePiece) (ws : List (Bor (List ℕ))) → length ps ≡ 0 → 1 ≤ length ws → are_words_of (map piece_view ps) (texts ws) ≡ false
 no_pieces [] [] h k = absurd (omega arith)
 no_pieces [] (w ∷ ws) h k = refl
 no_pieces (p ∷ ps) ws h k = absurd (omega (arith, h))
@@ -59,7 +59,7 @@ pub ruleset counting = (common_steps, no_words, no_pieces)
 
 -- at the end of the words
 pub none_left : (new : Bool) (ps : List CodePiece) (ws : List (List ℕ)) (i : ℕ) → length ws ≤ i → Rest new ps ws i ≡ []
-none_left new ps ws i le = ap (λ (vs : List (List ℕ)). words_at new (map piece_said (drop i ps)) vs) (drop_all i ws le) ∙ nothing (map piece_said (drop i ps))
+none_left new ps ws i le = ap (λ (vs : List (List ℕ)). words_at new (map piece_view (drop i ps)) vs) (drop_all i ws le) ∙ nothing (map piece_view (drop i ps))
   where
     nothing : (qs : List Piece) → words_at new qs [] ≡ []
     nothing [] = refl

@@ -13,7 +13,7 @@ use Rattle.e_literal.specs.declared.literal.Lit.{Lit}
 use Rattle.e_literal.proofs.Booleans.{eqb_self, all_both}
 use Rattle.e_construct.specs.declared.construction.Construction.{Construction}
 use Rattle.e_construct.specs.declared.superpose.Superpose.{Superpose}
-use Rattle.e_construct.specs.Construct.{made, gives}
+use Rattle.e_construct.specs.Construct.{sorts_made, gives_of_construction}
 use Rattle.e_construct.specs.Superposing as superposing
 use Rattle.e_theorem.specs.Statements.{stated}
 use Rattle.e_deriv.specs.declared.names.Names.{Names}
@@ -273,11 +273,11 @@ names_listed (n ∷ ns) h = rw (h.0, names_listed ns h.1) refl
 spelled_built : (known : List Headed) (d e : Draft) (l : RawLet) → Spelled known d → AreNames l.new → built d l ≡ Ok e → Spelled known e
 unfolding built
 spelled_built known d e l g said h =
-    let after : Construction → Names = λ form. named d.in_scope (made form) l.new in
-    let then : Construction → Result Draft Kind = λ form. with_step (record d { in_scope = after form }) (Made form l.new []) (length (gives form (scope_of_names d.in_scope))) in
+    let after : Construction → Names = λ form. named d.in_scope (sorts_made form) l.new in
+    let then : Construction → Result Draft Kind = λ form. with_step (record d { in_scope = after form }) (Made form l.new []) (length (gives_of_construction form (scope_of_names d.in_scope))) in
     let f = bind_ok (let_in d.in_scope l) (λ form. few_objects (after form) >>= λ few. then form) e h in
     let w = bind_ok (few_objects (after f.0)) (λ few. then f.0) e f.2 in
-    spelled_step known (record d { in_scope = after f.0 }) e (Made f.0 l.new []) (length (gives f.0 (scope_of_names d.in_scope))) (moved known d d.place (after f.0) d.lines d.facts d.terms g g.some) (names_listed l.new said) w.2
+    spelled_step known (record d { in_scope = after f.0 }) e (Made f.0 l.new []) (length (gives_of_construction f.0 (scope_of_names d.in_scope))) (moved known d d.place (after f.0) d.lines d.facts d.terms g g.some) (names_listed l.new said) w.2
 
 spelled_let : (known : List Headed) (d e : Draft) (l : RawLet) → Spelled known d → AreNames l.new → stepped known d (forms.Let l) ≡ Ok e → Spelled known e
 unfolding stepped
@@ -382,8 +382,8 @@ shown_length ns raw p e =
 spelled_superpose : (known : List Headed) (d e : Draft) (raw : RawSuperpose) → Spelled known d → AreNames raw.new → 0 < length raw.shown → stepped known d (forms.Superpose raw) ≡ Ok e → Spelled known e
 unfolding stepped superposed
 spelled_superpose known d e raw g names said h =
-    let after = named d.in_scope superposing.made raw.new in
-    let gives : Superpose × List Lit → List Lit = λ p. superposing.gives p.0 (scope_of_names d.in_scope) in
+    let after = named d.in_scope superposing.sorts_copied raw.new in
+    let gives : Superpose × List Lit → List Lit = λ p. superposing.gives_of_superposition p.0 (scope_of_names d.in_scope) in
     let then : Draft → ℕ → Draft = λ x n. record x { in_scope = after; terms = n } in
     let p = bind_ok (superpose_in d.in_scope raw) (λ p. few_objects after >>= λ objects. deeper d (opened.Superpose p.0 raw.new p.1) (length (gives p)) >>= λ x. few_monos raw.shown >>= λ few. terms_after x.terms (gives p) >>= λ n. read_ok (then x n)) e h in
     let given = gives p.0 in

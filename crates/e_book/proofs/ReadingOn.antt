@@ -3,7 +3,7 @@ use Rattle.std.proofs.Common.{◌≡◌, ℕ, Bool, true, false, cond, List, [],
 use Rattle.std.specs.Prelude.{IfOk, OnOk, IfSome}
 use Rattle.std.proofs.lemmas.List.{append-nil}
 use Rattle.e_text.specs.Tokens.{tokens_of}
-use Rattle.e_text.specs.Lines.{Seen, AreGood}
+use Rattle.e_text.specs.Lines.{Seen, HaveNoFault}
 use Rattle.e_text.specs.declared.line.LineFault.{LineFault}
 use Rattle.e_book.specs.declared.fault.Kind.{Kind}
 use Rattle.e_book.specs.declared.fault.Kind.TheVariants as kinds
@@ -132,10 +132,10 @@ through known old mid lines here left l e h last more = h last more ∙ ap (λ (
 pub alike_more : (known : Known) (old mid new : Option Coming) (lines here left : Rest) (l : Seen) → here ≡ Ok l ∷ left → Alike known old lines mid here → TakesLine known mid l (Ok None) new → Alike known old lines new left
 alike_more known old mid new lines here left l e h t = λ last more. through known old mid lines here left l e h last more ∙ t last (left ++ more)
 
-pub good_more : (lines here left : Rest) (l : Seen) → here ≡ Ok l ∷ left → (AreGood here → AreGood lines) → AreGood left → AreGood lines
-good_more lines here left l e good g = good (subst AreGood (sym e) g)
+pub good_more : (lines here left : Rest) (l : Seen) → here ≡ Ok l ∷ left → (HaveNoFault here → HaveNoFault lines) → HaveNoFault left → HaveNoFault lines
+good_more lines here left l e good g = good (subst HaveNoFault (sym e) g)
 
-pub ends_item : (known : Known) (old mid new : Option Coming) (lines here left : Rest) (l : Seen) (t : Item) → here ≡ Ok l ∷ left → Alike known old lines mid here → (AreGood here → AreGood lines) → TakesLine known mid l (Ok (Some t)) new
+pub ends_item : (known : Known) (old mid new : Option Coming) (lines here left : Rest) (l : Seen) (t : Item) → here ≡ Ok l ∷ left → Alike known old lines mid here → (HaveNoFault here → HaveNoFault lines) → TakesLine known mid l (Ok (Some t)) new
     → ReadsOn known old lines (Ok (Some t)) new left
 ends_item known old mid new lines here left l t e h good taken =
     (taken.0, good_more lines here left l e good, λ last more. through known old mid lines here left l e h last more ∙ taken.1 last (left ++ more))
@@ -148,9 +148,9 @@ pub fails_in_line : (known : Known) (old mid other : Option Coming) (lines here 
 fails_in_line known old mid other lines here any f e h =
     λ last more. book_fails (line_fault f) (item_from known last old (lines ++ more)) (h last more ∙ ap (λ (ls : Rest). item_from known last mid (ls ++ more)) e)
 
-pub all_taken : (known : Known) (old new : Option Coming) (lines here left : Rest) → here ≡ [] → left ≡ [] → Alike known old lines new here → (AreGood here → AreGood lines) → ReadsOn known old lines (Ok None) new left
+pub all_taken : (known : Known) (old new : Option Coming) (lines here left : Rest) → here ≡ [] → left ≡ [] → Alike known old lines new here → (HaveNoFault here → HaveNoFault lines) → ReadsOn known old lines (Ok None) new left
 all_taken known old new lines here left e none h good =
-    (none, good (subst AreGood (sym e) tt), λ last more. h last more ∙ ap (λ (ls : Rest). item_from known last new (ls ++ more)) e)
+    (none, good (subst HaveNoFault (sym e) tt), λ last more. h last more ∙ ap (λ (ls : Rest). item_from known last new (ls ++ more)) e)
 
 -- ---- what is read so was read from its first line on
 

@@ -12,7 +12,7 @@ use Rattle.e_literal.specs.declared.literal.Atom.{Atom}
 use Rattle.e_literal.specs.declared.literal.Atom.TheVariants as atoms
 use Rattle.e_literal.specs.declared.literal.Lit.{Lit}
 use Rattle.e_literal.specs.Literal.{kind_of_term, kind_of_sums}
-use Rattle.e_literal.specs.WellFormed.{same_kind, is_good_coefficient, are_good_sums, is_good_atom, is_well_formed}
+use Rattle.e_literal.specs.WellFormed.{same_kind, is_bounded_coefficient, are_well_formed_sums, is_well_formed_atom, is_well_formed}
 use Rattle.e_deriv.specs.declared.names.Names.{Names}
 use Rattle.e_book.specs.declared.sum.RawMono.{RawMono}
 use Rattle.e_book.specs.declared.literal.RawLit.{RawLit}
@@ -103,17 +103,17 @@ coefficients_said ns p h [] e = tt
 coefficients_said ns p h (m ∷ ms) e = let a = and_parts (p m) (list_all p ms) e in (h m a.0, coefficients_said ns p h ms a.1)
 
 abbrev fits_kind : Magnitude → Mono → Bool
-fits_kind k m = same_kind (kind_of_term m.term) k && is_good_coefficient m.coeff
+fits_kind k m = same_kind (kind_of_term m.term) k && is_bounded_coefficient m.coeff
 
 at_least_one : (k : Magnitude) (m : Mono) → fits_kind k m ≡ true → 1 ≤ m.coeff
 at_least_one k m e =
-    let c = (and_parts (same_kind (kind_of_term m.term) k) (is_good_coefficient m.coeff) e).1 in
+    let c = (and_parts (same_kind (kind_of_term m.term) k) (is_bounded_coefficient m.coeff) e).1 in
     leb-true 1 m.coeff (and_parts (leb 1 m.coeff) (leb m.coeff 1000000) c).0
 
 some_of : (a b : ℕ) → 1 ≤ a + b → (a == 0 && b == 0) ≡ false
 some_of a b h = grind (arith, nat_tests)
 
-good_sides : (ns : Names) (x y : List Mono) → are_good_sums x y ≡ true → SidesSaid (raw_sum ns x) (raw_sum ns y)
+good_sides : (ns : Names) (x y : List Mono) → are_well_formed_sums x y ≡ true → SidesSaid (raw_sum ns x) (raw_sum ns y)
 good_sides ns x y e =
     let k = kind_of_sums x y in
     let ms = x ++ y in
@@ -126,7 +126,7 @@ good_sides ns x y e =
       some = some_of (length (raw_sum ns x)) (length (raw_sum ns y)) (omega (arith, leb-true 1 (length ms) p.0, length-append x y, length-map x (raw_mono ns), length-map y (raw_mono ns)));
     }
 
-good_atom_said : (ns : Names) (neg : Bool) (a : Atom) → is_good_atom a ≡ true → AtomSaid (raw_signed ns neg a).atom
+good_atom_said : (ns : Names) (neg : Bool) (a : Atom) → is_well_formed_atom a ≡ true → AtomSaid (raw_signed ns neg a).atom
 good_atom_said ns neg (atoms.MagEq x y) e = equal_said ns neg x y (good_sides ns x y e)
 good_atom_said ns neg (atoms.MagLt x y) e = less_said ns neg x y (good_sides ns x y e)
 good_atom_said ns neg a e = plain_said ns neg a refl

@@ -11,7 +11,7 @@ use Rattle.e_literal.specs.declared.literal.Atom.{Atom}
 use Rattle.e_literal.specs.declared.literal.Atom.TheVariants as atoms
 use Rattle.e_literal.specs.declared.literal.Lit.{Lit}
 use Rattle.e_clause.specs.declared.cert.By.{By}
-use Rattle.e_clause.specs.Instance.{place_of}
+use Rattle.e_clause.specs.Instance.{number_of_rule}
 use Rattle.e_clause.specs.Sigs.{sig_of}
 use Rattle.e_construct.specs.declared.construction.Shape.{Shape}
 use Rattle.e_construct.specs.Lines.{Piece, pieces}
@@ -260,7 +260,7 @@ lit_plain ns r l d e =
 pub by_plain : (ns : Names) (rule : List ℕ) (names : List (List ℕ)) (lit : RawLit) (b : By) → is_diagram_raw lit.atom ≡ true → by_in ns rule names lit ≡ Ok b → is_diagram_lit b.lit ≡ true
 unfolding by_in
 by_plain ns rule names lit b d e =
-    let r = bind_ok (known_rule (place_of rule)) (λ r. variables_of (sig_of r) >>= λ s. right_count (eqb (length names) (s.points + s.lines + s.circles)) >>= λ right. args_in ns s names >>= λ args. lit_in ns lit >>= λ l. read_ok (record { rule = r; args = args; lit = l })) b e in
+    let r = bind_ok (known_rule (number_of_rule rule)) (λ r. variables_of (sig_of r) >>= λ s. right_count (eqb (length names) (s.points + s.lines + s.circles)) >>= λ right. args_in ns s names >>= λ args. lit_in ns lit >>= λ l. read_ok (record { rule = r; args = args; lit = l })) b e in
     let s = bind_ok (variables_of (sig_of r.0)) (λ s. right_count (eqb (length names) (s.points + s.lines + s.circles)) >>= λ right. args_in ns s names >>= λ args. lit_in ns lit >>= λ l. read_ok (record { rule = r.0; args = args; lit = l })) b r.2 in
     let t = bind_ok (right_count (eqb (length names) (s.0.points + s.0.lines + s.0.circles))) (λ right. args_in ns s.0 names >>= λ args. lit_in ns lit >>= λ l. read_ok (record { rule = r.0; args = args; lit = l })) b s.2 in
     let a = bind_ok (args_in ns s.0 names) (λ args. lit_in ns lit >>= λ l. read_ok (record { rule = r.0; args = args; lit = l })) b t.2 in

@@ -4,7 +4,7 @@ use Rattle.e_literal.specs.declared.object.Sort.{Sort}
 use Rattle.e_literal.specs.declared.object.Obj.{Obj}
 use Rattle.e_literal.specs.declared.literal.Lit.{Lit}
 use Rattle.e_literal.specs.Use.{Stated}
-use Rattle.e_construct.specs.Construct.{made, gives}
+use Rattle.e_construct.specs.Construct.{sorts_made, gives_of_construction}
 use Rattle.e_construct.specs.Superposing as superposing
 use Rattle.e_deriv.specs.PlainStep.{PlainStep, Cited, Inferred, Made, Applied, Claimed, Copied, all_before}
 use Rattle.e_deriv.specs.Script.{Script}
@@ -112,8 +112,8 @@ by_hence d raw = from d (lit_in d.in_scope raw) _ (λ l. then d (with_step d (In
 by_let : (d : Draft) (raw : RawLet) → Same d.title (built d raw)
 unfolding built
 by_let d raw =
-    from d (let_in d.in_scope raw) _ (λ form. from d (few_objects (named d.in_scope (made form) raw.new)) _
-    (λ few. by_step (record d { in_scope = named d.in_scope (made form) raw.new }) (Made form raw.new []) (length (gives form (scope_of_names d.in_scope)))))
+    from d (let_in d.in_scope raw) _ (λ form. from d (few_objects (named d.in_scope (sorts_made form) raw.new)) _
+    (λ few. by_step (record d { in_scope = named d.in_scope (sorts_made form) raw.new }) (Made form raw.new []) (length (gives_of_construction form (scope_of_names d.in_scope)))))
 
 by_apply : (known : List Headed) (d : Draft) (raw : RawApply) → Same d.title (applied known d raw)
 unfolding applied
@@ -129,10 +129,10 @@ by_claim d raws = from d (lits_in d.in_scope raws) _ (λ ls. then d (deeper d (o
 by_superpose : (d : Draft) (raw : RawSuperpose) → Same d.title (superposed d raw)
 unfolding superposed
 by_superpose d raw =
-    from d (superpose_in d.in_scope raw) _ (λ p. from d (few_objects (named d.in_scope superposing.made raw.new)) _
-    (λ objects. then d (deeper d (opened.Superpose p.0 raw.new p.1) (length (superposing.gives p.0 (scope_of_names d.in_scope)))) _
-    (by_block d (opened.Superpose p.0 raw.new p.1) (length (superposing.gives p.0 (scope_of_names d.in_scope))))
-    (λ e. from e (few_monos raw.shown) _ (λ few. from e (terms_after e.terms (superposing.gives p.0 (scope_of_names d.in_scope))) _ (λ n. refl)))))
+    from d (superpose_in d.in_scope raw) _ (λ p. from d (few_objects (named d.in_scope superposing.sorts_copied raw.new)) _
+    (λ objects. then d (deeper d (opened.Superpose p.0 raw.new p.1) (length (superposing.gives_of_superposition p.0 (scope_of_names d.in_scope)))) _
+    (by_block d (opened.Superpose p.0 raw.new p.1) (length (superposing.gives_of_superposition p.0 (scope_of_names d.in_scope))))
+    (λ e. from e (few_monos raw.shown) _ (λ few. from e (terms_after e.terms (superposing.gives_of_superposition p.0 (scope_of_names d.in_scope))) _ (λ n. refl)))))
 
 by_split : (d : Draft) (raw : RawLit) → Same d.title (split d raw)
 unfolding split

@@ -18,7 +18,7 @@ use Rattle.e_theorem.specs.Pattern.{is_pattern}
 use Rattle.e_clause.specs.declared.cert.By.{By}
 use Rattle.e_construct.specs.declared.construction.Construction.{Construction}
 use Rattle.e_construct.specs.declared.superpose.Superpose.{Superpose}
-use Rattle.e_construct.specs.Construct.{sorts_of, made, gives, fits as fits_form}
+use Rattle.e_construct.specs.Construct.{sorts_of, sorts_made, gives_of_construction, fits_construction as fits_form}
 use Rattle.e_construct.specs.Superposing as superposing
 use Rattle.e_deriv.specs.PlainStep.{PlainStep, Cited, Inferred, Made, Applied, Claimed, Copied}
 use Rattle.e_deriv.specs.Naming.{named}
@@ -183,43 +183,43 @@ hence_taken known d i l rest given goal r t =
     }
 
 abbrev pub gifts : Inside → Construction → ℕ
-gifts i form = length (gives form (scope_of_names i.in_scope))
+gifts i form = length (gives_of_construction form (scope_of_names i.in_scope))
 
 abbrev pub constructed : Inside → Construction → List (List ℕ) → Inside
-constructed i form names = record (behind i (Made form names []) (gifts i form)) { in_scope = named i.in_scope (made form) names }
+constructed i form names = record (behind i (Made form names []) (gifts i form)) { in_scope = named i.in_scope (sorts_made form) names }
 
 pub make_good : (known : List Headed) (d : Draft) (i : Inside) (form : Construction) (names : List (List ℕ)) (rest : Script) (given : List Lit) (goal : Goal) → Ready known d i (Make form names [] rest) given goal → GoodLet i.in_scope form names
 unfolding lines NewNamesFit
 make_good known d i form names rest given goal r =
     let s = scope_of_names i.in_scope in
     record {
-      fits = (and_parts (fits_form form s) (list_all (line_fits (stated_by known)) (lines (stated_by known) rest rest (grown s (made form)) (joined_all given (gives form s)) goal)) r.fitting).0;
+      fits = (and_parts (fits_form form s) (list_all (line_fits (stated_by known)) (lines (stated_by known) rest rest (grown s (sorts_made form)) (joined_all given (gives_of_construction form s)) goal)) r.fitting).0;
       free = r.new_names.0;
       count = r.new_names.1;
     }
 
 pub make_ready : (known : List Headed) (d : Draft) (i : Inside) (form : Construction) (names : List (List ℕ)) (rest : Script) (given : List Lit) (goal : Goal) → Ready known d i (Make form names [] rest) given goal
-    → Ready known d (constructed i form names) rest (joined_all given (gives form (scope_of_names i.in_scope))) goal
+    → Ready known d (constructed i form names) rest (joined_all given (gives_of_construction form (scope_of_names i.in_scope))) goal
 unfolding is_plain lines NewNamesFit size depth has_good_literals few_facts few_terms names_theorems few_blanks
 make_ready known d i form names rest given goal r =
     let s = scope_of_names i.in_scope in
-    let after = named i.in_scope (made form) names in
-    let facts = joined_all given (gives form s) in
+    let after = named i.in_scope (sorts_made form) names in
+    let facts = joined_all given (gives_of_construction form s) in
     let n = i.facts + gifts i form in
-    let scope : grown s (made form) ≡ scope_of_names after = named_scope i.in_scope (made form) names r.new_names.1 in
+    let scope : grown s (sorts_made form) ≡ scope_of_names after = named_scope i.in_scope (sorts_made form) names r.new_names.1 in
     let p = and_parts (list_all is_name names) (is_plain rest) r.plain in
     record {
-      order = named_in_order i.in_scope (made form) names r.order (list_names names p.0) r.new_names.0;
+      order = named_in_order i.in_scope (sorts_made form) names r.order (list_names names p.0) r.new_names.0;
       goal_sorts = r.goal_sorts;
       plain = p.1;
-      fitting = subst (λ (z : Scope). list_all (line_fits (stated_by known)) (lines (stated_by known) rest rest z facts goal) ≡ true) scope (and_parts (fits_form form s) (list_all (line_fits (stated_by known)) (lines (stated_by known) rest rest (grown s (made form)) facts goal)) r.fitting).1;
+      fitting = subst (λ (z : Scope). list_all (line_fits (stated_by known)) (lines (stated_by known) rest rest z facts goal) ≡ true) scope (and_parts (fits_form form s) (list_all (line_fits (stated_by known)) (lines (stated_by known) rest rest (grown s (sorts_made form)) facts goal)) r.fitting).1;
       new_names = r.new_names.3;
       few = omega (arith, r.few);
       shallow = r.shallow;
       good = r.good;
       theorems = r.theorems;
       blanks = r.blanks;
-      facts = subst (λ (z : Scope). few_facts (stated_by known) n z rest ≡ true) scope (and_parts (leb n most_facts) (few_facts (stated_by known) n (grown s (made form)) rest) r.facts).1;
+      facts = subst (λ (z : Scope). few_facts (stated_by known) n z rest ≡ true) scope (and_parts (leb n most_facts) (few_facts (stated_by known) n (grown s (sorts_made form)) rest) r.facts).1;
       terms = subst (λ (z : Scope). few_terms (stated_by known) i.terms z rest ≡ true) scope r.terms;
     }
 
@@ -230,7 +230,7 @@ make_taken known d i form names rest given goal r t =
     let s = scope_of_names i.in_scope in
     let n = i.facts + gifts i form in
     let good = make_good known d i form names rest given goal r in
-    let most = leb-true _ _ (and_parts (leb n most_facts) (few_facts (stated_by known) n (grown s (made form)) rest) r.facts).0 in
+    let most = leb-true _ _ (and_parts (leb n most_facts) (few_facts (stated_by known) n (grown s (sorts_made form)) rest) r.facts).0 in
     record {
       last = t.last;
       lines = omega (arith, t.lines);
@@ -445,10 +445,10 @@ claim_taken known d i shown inner rest given goal r t u =
 
 pub record CopyParts (known : List Headed) (i : Inside) (form : Superpose) (names : List (List ℕ)) (shown : List Lit) (inner rest : Script) (given : List Lit) (goal : Goal) : Type 0 where
   pub good : GoodSuperpose i.in_scope form names shown
-  pub few : few_objects (named i.in_scope superposing.made names) ≡ Ok tt
+  pub few : few_objects (named i.in_scope superposing.sorts_copied names) ≡ Ok tt
   pub plain_inner : is_plain inner ≡ true
   pub plain_rest : is_plain rest ≡ true
-  pub fit_inner : list_all (line_fits (stated_by known)) (lines (stated_by known) inner inner (scope_of_names (named i.in_scope superposing.made names)) (joined_all given (superposing.gives form (scope_of_names i.in_scope))) (goal_of shown)) ≡ true
+  pub fit_inner : list_all (line_fits (stated_by known)) (lines (stated_by known) inner inner (scope_of_names (named i.in_scope superposing.sorts_copied names)) (joined_all given (superposing.gives_of_superposition form (scope_of_names i.in_scope))) (goal_of shown)) ≡ true
   pub fit_rest : list_all (line_fits (stated_by known)) (lines (stated_by known) rest rest (scope_of_names i.in_scope) (joined_all given shown) goal) ≡ true
   pub good_inner : has_good_literals inner ≡ true
   pub theorems_inner : names_theorems known inner ≡ true
@@ -457,11 +457,11 @@ pub record CopyParts (known : List Headed) (i : Inside) (form : Superpose) (name
   pub theorems_rest : names_theorems known rest ≡ true
   pub blanks_rest : few_blanks rest ≡ true
   pub facts_first : (copied i form names shown).facts ≤ most_facts
-  pub facts_inner : few_facts (stated_by known) (copied i form names shown).facts (scope_of_names (named i.in_scope superposing.made names)) inner ≡ true
+  pub facts_inner : few_facts (stated_by known) (copied i form names shown).facts (scope_of_names (named i.in_scope superposing.sorts_copied names)) inner ≡ true
   pub facts : i.facts + length shown ≤ most_facts
   pub facts_rest : few_facts (stated_by known) (i.facts + length shown) (scope_of_names i.in_scope) rest ≡ true
   pub terms_first : (copied i form names shown).terms ≤ most_terms
-  pub terms_inner : few_terms (stated_by known) (copied i form names shown).terms (scope_of_names (named i.in_scope superposing.made names)) inner ≡ true
+  pub terms_inner : few_terms (stated_by known) (copied i form names shown).terms (scope_of_names (named i.in_scope superposing.sorts_copied names)) inner ≡ true
   pub terms : i.terms + count_monomials shown ≤ most_terms
   pub terms_rest : few_terms (stated_by known) (i.terms + count_monomials shown) (scope_of_names i.in_scope) rest ≡ true
 
@@ -470,10 +470,10 @@ pub copy_parts : (known : List Headed) (d : Draft) (i : Inside) (form : Superpos
 unfolding is_plain lines NewNamesFit has_good_literals few_facts few_terms names_theorems few_blanks
 copy_parts known d i form names shown inner rest given goal r =
     let s = scope_of_names i.in_scope in
-    let t = grown s superposing.made in
-    let gives = superposing.gives form s in
+    let t = grown s superposing.sorts_copied in
+    let gives = superposing.gives_of_superposition form s in
     let begun = joined_all given gives in
-    let scope : t ≡ scope_of_names (named i.in_scope superposing.made names) = named_scope i.in_scope superposing.made names r.new_names.1 in
+    let scope : t ≡ scope_of_names (named i.in_scope superposing.sorts_copied names) = named_scope i.in_scope superposing.sorts_copied names r.new_names.1 in
     let n = i.facts + length gives in
     let m = i.terms + count_monomials gives in
     let facts = i.facts + length shown in
@@ -483,8 +483,8 @@ copy_parts known d i form names shown inner rest given goal r =
     let p = and_parts (list_all is_name names) (ltb 0 (length shown) && (is_plain inner && is_plain rest)) r.plain in
     let q = and_parts (ltb 0 (length shown)) (is_plain inner && is_plain rest) p.1 in
     let pp = and_parts (is_plain inner) (is_plain rest) q.1 in
-    let f = and_parts (superposing.fits form s && are_over s shown) (list_all (line_fits (stated_by known)) (inside ++ after)) r.fitting in
-    let fs = and_parts (superposing.fits form s) (are_over s shown) f.0 in
+    let f = and_parts (superposing.fits_superposition form s && are_over s shown) (list_all (line_fits (stated_by known)) (inside ++ after)) r.fitting in
+    let fs = and_parts (superposing.fits_superposition form s) (are_over s shown) f.0 in
     let ff = both_fit known inside after f.1 in
     let g = and_parts (list_all is_well_formed shown) (has_good_literals inner && has_good_literals rest) r.good in
     let gg = and_parts (has_good_literals inner) (has_good_literals rest) g.1 in
@@ -520,12 +520,12 @@ copy_parts known d i form names shown inner rest given goal r =
     }
 
 pub copy_inner : (known : List Headed) (d : Draft) (i : Inside) (form : Superpose) (names : List (List ℕ)) (shown : List Lit) (inner rest : Script) (given : List Lit) (goal : Goal) → Ready known d i (Superposed form names shown [] inner rest) given goal
-    → Ready known d (copied i form names shown) inner (joined_all given (superposing.gives form (scope_of_names i.in_scope))) (goal_of shown)
+    → Ready known d (copied i form names shown) inner (joined_all given (superposing.gives_of_superposition form (scope_of_names i.in_scope))) (goal_of shown)
 unfolding NewNamesFit size depth
 copy_inner known d i form names shown inner rest given goal r =
     let p = copy_parts known d i form names shown inner rest given goal r in
     record {
-      order = named_in_order i.in_scope superposing.made names r.order p.good.named p.good.free;
+      order = named_in_order i.in_scope superposing.sorts_copied names r.order p.good.named p.good.free;
       goal_sorts = refl;
       plain = p.plain_inner;
       fitting = p.fit_inner;
@@ -746,7 +746,7 @@ run_script known d i (Cite b rest) given goal r = cite_taken known d i b rest gi
 run_script known d i (Hence l None rest) given goal r = hence_taken known d i l rest given goal r (run_script known d (inferred i l) rest (joined given l) goal (hence_ready known d i l rest given goal r))
 run_script known d i (Hence l (Some cert) rest) given goal r = absurd (no_cert r.plain)
 run_script known d i (Make form names [] rest) given goal r =
-    make_taken known d i form names rest given goal r (run_script known d (constructed i form names) rest (joined_all given (gives form (scope_of_names i.in_scope))) goal (make_ready known d i form names rest given goal r))
+    make_taken known d i form names rest given goal r (run_script known d (constructed i form names) rest (joined_all given (gives_of_construction form (scope_of_names i.in_scope))) goal (make_ready known d i form names rest given goal r))
 run_script known d i (Make form names (c ∷ cs) rest) given goal r = absurd (no_cert r.plain)
 run_script known d i (Apply theorem args names [] rest) given goal r =
     let p = apply_parts known d i theorem args names rest given goal r in
@@ -758,7 +758,7 @@ run_script known d i (Claim shown inner rest) given goal r =
     let u = run_script known d (resume i t.last.lines (Claimed shown inner) shown) rest (joined_all given shown) goal (claim_rest known d i t.last.lines shown inner rest given goal t.lines r) in
     claim_taken known d i shown inner rest given goal r t u
 run_script known d i (Superposed form names shown [] inner rest) given goal r =
-    let t = run_script known d (copied i form names shown) inner (joined_all given (superposing.gives form (scope_of_names i.in_scope))) (goal_of shown) (copy_inner known d i form names shown inner rest given goal r) in
+    let t = run_script known d (copied i form names shown) inner (joined_all given (superposing.gives_of_superposition form (scope_of_names i.in_scope))) (goal_of shown) (copy_inner known d i form names shown inner rest given goal r) in
     let u = run_script known d (resume i t.last.lines (Copied form names shown [] inner) shown) rest (joined_all given shown) goal (copy_rest known d i t.last.lines form names shown inner rest given goal t.lines r) in
     copy_taken known d i form names shown inner rest given goal r t u
 run_script known d i (Superposed form names shown (c ∷ cs) inner rest) given goal r = absurd (no_cert r.plain)

@@ -11,7 +11,7 @@ use Rattle.e_literal.specs.declared.literal.Atom.{Atom}
 use Rattle.e_literal.specs.declared.literal.Atom.TheVariants as atoms
 use Rattle.e_literal.specs.declared.literal.Lit.{Lit}
 use Rattle.e_literal.specs.Literal.{kind_of_term, kind_of_sums}
-use Rattle.e_literal.specs.WellFormed.{same_kind, is_good_coefficient, is_good_atom, is_well_formed}
+use Rattle.e_literal.specs.WellFormed.{same_kind, is_bounded_coefficient, is_well_formed_atom, is_well_formed}
 use Rattle.e_deriv.specs.declared.names.Names.{Names}
 use Rattle.e_book.specs.declared.sum.RawMono.{RawMono}
 use Rattle.e_book.specs.Limits.{most_monomials, most_coefficient}
@@ -28,7 +28,7 @@ small_sum : (ns : Names) (k : Magnitude) (ms : List Mono) → AreGood k ms → i
 small_sum ns k [] g = refl
 small_sum ns k (m ∷ ms) g =
     let p = and_parts (is_good_mono k m) (list_all (is_good_mono k) ms) g in
-    let q = and_parts (same_kind (kind_of_term m.term) k) (is_good_coefficient m.coeff) p.0 in
+    let q = and_parts (same_kind (kind_of_term m.term) k) (is_bounded_coefficient m.coeff) p.0 in
     let c = and_parts (leb 1 m.coeff) (leb m.coeff most_coefficient) q.1 in
     rw (c.1, small_sum ns k ms p.1) refl
 
@@ -46,7 +46,7 @@ short_sums ns k x y g = record {
 short_none : Short []
 short_none = record { short = refl; small = refl }
 
-short_lit : (ns : Names) (neg : Bool) (a : Atom) → is_good_atom a ≡ true → Short (monos_of (raw_signed ns neg a).atom)
+short_lit : (ns : Names) (neg : Bool) (a : Atom) → is_well_formed_atom a ≡ true → Short (monos_of (raw_signed ns neg a).atom)
 short_lit ns true (atoms.MagEq x y) h = short_sums ns (kind_of_sums x y) x y (good_sums x y h)
 short_lit ns false (atoms.MagEq x y) h = short_sums ns (kind_of_sums x y) x y (good_sums x y h)
 short_lit ns true (atoms.MagLt x y) h = short_sums ns (kind_of_sums x y) y x (turned (kind_of_sums x y) x y (good_sums x y h))

@@ -1,14 +1,14 @@
 -- The words of a sum are read as that sum.
 use Rattle.std.proofs.Common.{◌≡◌, ℕ, ◌+◌, ◌≤◌, Bool, true, false, cond, ◌||◌, List, [], ◌∷◌, ◌++◌, map, Option, Some, None, Ok, refl, sym, ap, ◌∙◌, arith}
 use Rattle.std.specs.Prelude.{codes, decimal, min, ◌==◌}
-use Rattle.std.specs.List.{slice_split, AllByRecursion}
+use Rattle.std.specs.List.{slice_split, list_any, AllByRecursion}
 use Rattle.std.specs.Str.{bytes_eq}
 use Rattle.std.proofs.lemmas.List.{append-nil}
 use Rattle.std.proofs.lemmas.List.Elements.{All-from_recursion}
 use Rattle.std.proofs.lemmas.List.Splits.{slice_split_at, slice_split_none}
 use Rattle.std.proofs.lemmas.Bool.Decides.{nat_tests}
 use Rattle.std.proofs.lemmas.Slice.Eq.{bytes_eq-Decides}
-use Rattle.e_text.specs.Names.{is_name, is_statement_word, is_steps_word, is_relations_word, is_shapes_word, is_others_word}
+use Rattle.e_text.specs.Names.{is_name, reserved_words}
 use Rattle.e_text.specs.Numerals.{is_numeral, value_from}
 use Rattle.e_text.specs.Tokens.{AreTokens}
 use Rattle.e_text.proofs.TokenWords.{is_token-name}
@@ -26,9 +26,13 @@ use Rattle.e_book.proofs.LetsAgain.{append_tokens}
 
 -- ---- what the words of sums are
 
+-- the words of magnitudes
+abbrev pub is_magnitude_word : List ℕ → Bool
+is_magnitude_word w = list_any (bytes_eq w) (codes "seg" ∷ codes "ang" ∷ codes "area" ∷ codes "right" ∷ [])
+
 -- the words of a monomial
 abbrev pub is_mono_word : List ℕ → Bool
-is_mono_word w = is_name w || (is_numeral w || is_shapes_word w)
+is_mono_word w = is_name w || (is_numeral w || is_magnitude_word w)
 
 pub name_word : (w : List ℕ) → is_name w ≡ true → is_mono_word w ≡ true
 name_word w h = rw h refl
@@ -36,7 +40,7 @@ name_word w h = rw h refl
 numeral_word : (w : List ℕ) → is_numeral w ≡ true → is_mono_word w ≡ true
 numeral_word w h = by (is_name w)
   where
-    by : (b : Bool) → (b || (is_numeral w || is_shapes_word w)) ≡ true
+    by : (b : Bool) → (b || (is_numeral w || is_magnitude_word w)) ≡ true
     by true = refl
     by false = rw h refl
 
@@ -78,23 +82,22 @@ abbrev pub SumNamed : List RawMono → Type 0
 SumNamed ms = AllByRecursion MonoNamed ms
 
 seg_word : is_mono_word (codes "seg") ≡ true
-unfolding is_statement_word is_steps_word is_relations_word is_shapes_word is_others_word
+unfolding reserved_words
 seg_word = refl
 
 ang_word : is_mono_word (codes "ang") ≡ true
-unfolding is_statement_word is_steps_word is_relations_word is_shapes_word is_others_word
+unfolding reserved_words
 ang_word = refl
 
 area_word : is_mono_word (codes "area") ≡ true
-unfolding is_statement_word is_steps_word is_relations_word is_shapes_word is_others_word
+unfolding reserved_words
 area_word = refl
 
 right_word : is_mono_word (codes "right") ≡ true
-unfolding is_statement_word is_steps_word is_relations_word is_shapes_word is_others_word
+unfolding reserved_words
 right_word = refl
 
 no_plus : is_mono_word (codes "+") ≡ false
-unfolding is_shapes_word
 no_plus = refl
 
 term_words_are : (t : RawTerm) → TermNamed t → AreMonoWords (term_words t)
@@ -235,7 +238,7 @@ sum_again (m ∷ ms) h =
     rw (mono_not_zero (m.coeff == 1) (decimal m.coeff) m.term (more_monos ms)) (ap (each mono_of) (split_again m ms h.0 h.1) ∙ monos_again (m ∷ ms) h)
 
 right_no_name : is_name (codes "right") ≡ false
-unfolding is_statement_word is_steps_word is_relations_word is_shapes_word is_others_word
+unfolding reserved_words
 right_no_name = refl
 
 term_no_object : (t : RawTerm) (ws : List (List ℕ)) → object_of (term_words t ++ ws) ≡ None

@@ -9,7 +9,7 @@ use Rattle.e_literal.specs.declared.literal.Lit.{Lit}
 use Rattle.e_literal.specs.Literal.{obj, is_in_scope}
 use Rattle.e_literal.specs.Scopes.{are_of_sorts}
 use Rattle.e_construct.specs.declared.superpose.Superpose.{Superpose}
-use Rattle.e_construct.specs.Superposing.{made, fits}
+use Rattle.e_construct.specs.Superposing.{sorts_copied, fits_superposition}
 use Rattle.e_deriv.specs.declared.names.Names.{Names}
 use Rattle.e_book.specs.declared.superposes.RawSuperpose.{RawSuperpose}
 use Rattle.e_book.specs.Scope.{scope_of_names, fresh}
@@ -91,7 +91,7 @@ whole ps ls = record { points = ps; lines = ls }
 cons : (n : ℕ) (xs ys : List ℕ) → xs ≡ ys → n ∷ xs ≡ n ∷ ys
 cons n xs ys e = ap (λ (zs : List ℕ). n ∷ zs) e
 
-eight : (s : Scope) (form : Superpose) → fits form s ≡ true → Eight s form
+eight : (s : Scope) (form : Superpose) → fits_superposition form s ≡ true → Eight s form
 eight s form fit =
     let a = first_point s (Point ∷ Point ∷ Point ∷ Point ∷ Point ∷ Line ∷ Line ∷ []) form.points form.lines fit in
     let b = first_point s (Point ∷ Point ∷ Point ∷ Point ∷ Line ∷ Line ∷ []) a.more form.lines a.others in
@@ -131,7 +131,7 @@ eight s form fit =
 abbrev pub raw_superpose : Names → Superpose → List (List ℕ) → List Lit → RawSuperpose
 raw_superpose ns form names shown = record { args = placed_names ns form; new = names; shown = map (raw_of ns) shown }
 
-placed_again : (ns : Names) (form : Superpose) → InOrder ns → fits form (scope_of_names ns) ≡ true → placed_in ns (placed_names ns form) ≡ Ok form
+placed_again : (ns : Names) (form : Superpose) → InOrder ns → fits_superposition form (scope_of_names ns) ≡ true → placed_in ns (placed_names ns form) ≡ Ok form
 unfolding placed_in
 placed_again ns form o fit =
     let e = eight (scope_of_names ns) form fit in
@@ -147,7 +147,7 @@ placed_again ns form o fit =
       number_again ns Line e.l o e.in_l,
     ) refl)
 
-placed_named : (ns : Names) (form : Superpose) → InOrder ns → fits form (scope_of_names ns) ≡ true → AreNames (placed_names ns form)
+placed_named : (ns : Names) (form : Superpose) → InOrder ns → fits_superposition form (scope_of_names ns) ≡ true → AreNames (placed_names ns form)
 placed_named ns form o fit =
     let e = eight (scope_of_names ns) form fit in
     subst (λ (x : Superpose). AreNames (placed_names ns x)) e.is (
@@ -176,10 +176,10 @@ placed_named ns form o fit =
 -- what is known of a superposition where these names are in scope
 pub record GoodSuperpose (ns : Names) (form : Superpose) (names : List (List ℕ)) (shown : List Lit) : Type 0 where
   pub order : InOrder ns
-  pub fits : fits form (scope_of_names ns) ≡ true
+  pub fits : fits_superposition form (scope_of_names ns) ≡ true
   pub free : fresh ns [] names ≡ Ok tt
   pub named : AreNames names
-  pub count : length names ≡ length made
+  pub count : length names ≡ length sorts_copied
   pub plain : Plain ns shown
   pub some : 0 < length shown
 

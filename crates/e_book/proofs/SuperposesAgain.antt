@@ -1,7 +1,7 @@
 -- The words of a superposition are read as that superposition.
 use Rattle.std.proofs.Common.{◌≡◌, ℕ, true, List, ◌++◌, length, drop, Ok, refl, ap, ◌∙◌}
 use Rattle.std.proofs.lemmas.List.{take_at, drop_at}
-use Rattle.e_text.specs.Names.{is_statement_word, is_steps_word, is_relations_word, is_shapes_word, is_others_word}
+use Rattle.e_text.specs.Names.{reserved_words}
 use Rattle.e_text.specs.Tokens.{is_token, AreTokens}
 use Rattle.e_text.proofs.TokenWords.{is_token-name}
 use Rattle.e_book.specs.declared.superposes.RawSuperpose.{RawSuperpose}
@@ -25,7 +25,7 @@ abbrev front : RawSuperpose → List (List ℕ)
 front s = filled superpose_pieces s.new s.args
 
 own : own_words superpose_pieces ≡ true
-unfolding is_statement_word is_steps_word is_relations_word is_shapes_word is_others_word
+unfolding reserved_words
 own = refl
 
 pub superpose_tokens : (s : RawSuperpose) → SuperposeNamed s → AreTokens (superpose_words s)

@@ -15,7 +15,7 @@ use Rattle.e_literal.specs.declared.literal.Atom.{Atom}
 use Rattle.e_literal.specs.declared.literal.Atom.TheVariants as atoms
 use Rattle.e_literal.specs.declared.literal.Lit.{Lit}
 use Rattle.e_literal.specs.Literal.{kind_of_term}
-use Rattle.e_literal.specs.WellFormed.{same_kind, is_good_atom, is_well_formed}
+use Rattle.e_literal.specs.WellFormed.{same_kind, is_well_formed_atom, is_well_formed}
 use Rattle.e_deriv.specs.declared.names.Names.{Names}
 use Rattle.e_book.specs.declared.sum.RawTerm.{RawTerm}
 use Rattle.e_book.specs.declared.sum.RawTerm.TheVariants as rawterms
@@ -96,10 +96,10 @@ good_sides ns x y p e said short small =
       short = omega (arith, a, b, few, length-append x y);
     }
 
-to : (x a : Atom) → is_good_atom x ≡ true → read_ok x ≡ Ok a → is_good_atom a ≡ true
-to x a h e = subst (λ (y : Atom). is_good_atom y ≡ true) (ok_is x a e) h
+to : (x a : Atom) → is_well_formed_atom x ≡ true → read_ok x ≡ Ok a → is_well_formed_atom a ≡ true
+to x a h e = subst (λ (y : Atom). is_well_formed_atom y ≡ true) (ok_is x a e) h
 
-good_atom : (ns : Names) (r : RawAtom) (a : Atom) → atom_in ns r ≡ Ok a → AtomSaid r → leb (length (monos_of r)) most_monomials ≡ true → is_small (monos_of r) ≡ true → is_good_atom a ≡ true
+good_atom : (ns : Names) (r : RawAtom) (a : Atom) → atom_in ns r ≡ Ok a → AtomSaid r → leb (length (monos_of r)) most_monomials ≡ true → is_small (monos_of r) ≡ true → is_well_formed_atom a ≡ true
 unfolding atom_in
 good_atom ns (raw.SumsEqual x y) a e said short small =
     let p = bind_ok (sums_in ns x y) (λ p. read_ok (atoms.MagEq p.0 p.1)) a e in

@@ -5,8 +5,8 @@ use Rattle.std.specs.List.{list_all}
 use Rattle.std.proofs.lemmas.Bool.{and_from, and_parts}
 use Rattle.e_literal.specs.declared.literal.Atom.{Atom}
 use Rattle.e_literal.specs.declared.literal.Atom.TheVariants.{MagEq, MagLt}
-use Rattle.e_literal.specs.WellFormed.{is_good_atom, is_well_formed}
-use Rattle.e_clause.specs.Written.{is_good_cert}
+use Rattle.e_literal.specs.WellFormed.{is_well_formed_atom, is_well_formed}
+use Rattle.e_clause.specs.Written.{is_writable_cert}
 use Rattle.e_deriv.specs.Script.{Script, Cite, Hence, Make, Apply, Claim, Superposed, Qed, Contradiction, Cases, erased}
 use Rattle.e_deriv.specs.Parts.{filled_by, rest_of, inner_of}
 use Rattle.e_deriv.specs.Written.{has_good_certs, is_written_well}
@@ -47,7 +47,7 @@ filled_literals (Cases lit first second) f =
 -- ---- good literals and good certificates
 
 -- a diagram atom has no sums
-pub good_diagram : (a : Atom) → is_diagram_atom a ≡ true → is_good_atom a ≡ true
+pub good_diagram : (a : Atom) → is_diagram_atom a ≡ true → is_well_formed_atom a ≡ true
 good_diagram (MagEq x y) h = absurd (true≢false (sym h))
 good_diagram (MagLt x y) h = absurd (true≢false (sym h))
 good_diagram a h = refl
@@ -59,13 +59,13 @@ written_well (Cite by rest) h k =
     and_from _ _ (good_diagram by.lit.atom p.0) (written_well rest p.1 k)
 written_well (Hence lit cert rest) h k =
     let p = and_parts (is_well_formed lit) (has_good_literals rest) h in
-    let q = and_parts (option_map_or is_good_cert cert true) (has_good_certs rest) k in
+    let q = and_parts (option_map_or is_writable_cert cert true) (has_good_certs rest) k in
     and_from _ _ p.0 (and_from _ _ q.0 (written_well rest p.1 q.1))
 written_well (Make form names certs rest) h k =
-    let q = and_parts (list_all is_good_cert certs) (has_good_certs rest) k in
+    let q = and_parts (list_all is_writable_cert certs) (has_good_certs rest) k in
     and_from _ _ q.0 (written_well rest h q.1)
 written_well (Apply theorem args names certs rest) h k =
-    let q = and_parts (list_all is_good_cert certs) (has_good_certs rest) k in
+    let q = and_parts (list_all is_writable_cert certs) (has_good_certs rest) k in
     and_from _ _ q.0 (written_well rest h q.1)
 written_well (Claim shown inner rest) h k =
     let p = and_parts (list_all is_well_formed shown) (has_good_literals inner && has_good_literals rest) h in
@@ -75,7 +75,7 @@ written_well (Claim shown inner rest) h k =
 written_well (Superposed form names shown certs inner rest) h k =
     let p = and_parts (list_all is_well_formed shown) (has_good_literals inner && has_good_literals rest) h in
     let l = and_parts (has_good_literals inner) (has_good_literals rest) p.1 in
-    let c = and_parts (list_all is_good_cert certs) (has_good_certs inner && has_good_certs rest) k in
+    let c = and_parts (list_all is_writable_cert certs) (has_good_certs inner && has_good_certs rest) k in
     let q = and_parts (has_good_certs inner) (has_good_certs rest) c.1 in
     and_from _ _ p.0 (and_from _ _ c.0 (and_from _ _ (written_well inner l.0 q.0) (written_well rest l.1 q.1)))
 written_well (Qed objects certs) h k = k

@@ -15,11 +15,11 @@ use Rattle.e_literal.specs.declared.literal.Lit.{Lit}
 use Rattle.e_literal.specs.Scopes.{same_sort, nothing, next_objects}
 use Rattle.e_literal.specs.Use.{scope_of}
 use Rattle.e_clause.specs.declared.cert.By.{By}
-use Rattle.e_clause.specs.Instance.{name_of}
+use Rattle.e_clause.specs.Instance.{name_of_rule}
 use Rattle.e_construct.specs.declared.construction.Shape.{Shape}
 use Rattle.e_construct.specs.declared.construction.Construction.{Construction}
 use Rattle.e_construct.specs.declared.superpose.Superpose.{Superpose}
-use Rattle.e_construct.specs.Construct.{made}
+use Rattle.e_construct.specs.Construct.{sorts_made}
 use Rattle.e_construct.specs.Superposing as superposing
 use Rattle.e_construct.specs.Lines.{Piece, New, Argument, Word, pieces}
 use Rattle.e_theorem.specs.declared.statement.Statement.{Statement}
@@ -227,7 +227,7 @@ raw_of ns l = raw_signed ns l.neg l.atom
 
 -- the name of a rule
 abbrev pub rule_name : ℕ → List ℕ
-rule_name rule = option_map_or (λ n. n) (name_of rule) []
+rule_name rule = option_map_or (λ n. n) (name_of_rule rule) []
 
 abbrev pub given_form : Names → Lit → Form
 given_form ns l = forms.Given (raw_of ns l ∷ [])
@@ -338,12 +338,12 @@ end_form = forms.End
 unfoldable pub script_forms : List Headed → Names → Script → List Form
 script_forms known ns (Cite by rest) = by_form ns by ∷ script_forms known ns rest
 script_forms known ns (Hence lit cert rest) = hence_form ns lit ∷ script_forms known ns rest
-script_forms known ns (Make form names certs rest) = let_form ns form names ∷ script_forms known (named ns (made form) names) rest
+script_forms known ns (Make form names certs rest) = let_form ns form names ∷ script_forms known (named ns (sorts_made form) names) rest
 script_forms known ns (Apply theorem args names certs rest) =
     apply_form known ns theorem args names ∷ script_forms known (named ns (theorem_of known theorem).made names) rest
 script_forms known ns (Claim shown inner rest) = claim_form ns shown ∷ (script_forms known ns inner ++ script_forms known ns rest)
 script_forms known ns (Superposed form names shown certs inner rest) =
-    superpose_form ns form names shown ∷ (script_forms known (named ns superposing.made names) inner ++ script_forms known ns rest)
+    superpose_form ns form names shown ∷ (script_forms known (named ns superposing.sorts_copied names) inner ++ script_forms known ns rest)
 script_forms known ns (Qed objects certs) = qed_form ns objects ∷ []
 script_forms known ns (Contradiction against) = contradiction_form ∷ []
 script_forms known ns (Cases lit first second) = cases_form ns lit ∷ (script_forms known ns first ++ else_form ∷ script_forms known ns second)

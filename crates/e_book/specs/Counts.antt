@@ -4,7 +4,7 @@ use Rattle.e_literal.specs.declared.object.Sort.TheVariants as sorts
 use Rattle.e_literal.specs.declared.literal.Lit.{Lit}
 use Rattle.e_literal.specs.declared.object.Scope.{Scope}
 use Rattle.e_literal.specs.Literal.{negation}
-use Rattle.e_construct.specs.Construct.{made, gives}
+use Rattle.e_construct.specs.Construct.{sorts_made, gives_of_construction}
 use Rattle.e_construct.specs.Superposing as superposing
 use Rattle.e_theorem.specs.Statements.{stated}
 use Rattle.e_deriv.specs.declared.names.Names.{Names}
@@ -28,7 +28,7 @@ use Rattle.e_book.specs.Open.{Head, Opener, ByClaim, BySuperposition, ByCase, By
 
 -- the names in scope after a step
 abbrev pub names_after : List Headed → Names → PlainStep → Names
-names_after known ns (Made form names certs) = named ns (made form) names
+names_after known ns (Made form names certs) = named ns (sorts_made form) names
 names_after known ns (Applied theorem args names certs) = named ns (theorem_of known theorem).made names
 names_after known ns step = ns
 
@@ -36,7 +36,7 @@ names_after known ns step = ns
 abbrev pub given_by : List Headed → Scope → PlainStep → List Lit
 given_by known s (Cited by) = by.lit ∷ []
 given_by known s (Inferred lit cert) = lit ∷ []
-given_by known s (Made form names certs) = gives form s
+given_by known s (Made form names certs) = gives_of_construction form s
 given_by known s (Applied theorem args names certs) = (theorem_of known theorem).shown
 given_by known s (Claimed shown inner) = shown
 given_by known s (Copied form names shown certs inner) = shown
@@ -56,7 +56,7 @@ after_steps known at (s ∷ steps) = after_steps known (after_step known at s) s
 -- where an inner block begins
 abbrev pub inside : LineContext → Opener → LineContext
 inside at (ByClaim shown) = at
-inside at (BySuperposition form names shown) = record { names = named at.names superposing.made names; facts = at.facts ++ superposing.gives form (scope_of_names at.names) }
+inside at (BySuperposition form names shown) = record { names = named at.names superposing.sorts_copied names; facts = at.facts ++ superposing.gives_of_superposition form (scope_of_names at.names) }
 inside at (ByCase lit) = record at { facts = at.facts ++ lit ∷ [] }
 inside at (ByElse lit first) = record at { facts = at.facts ++ negation lit ∷ [] }
 

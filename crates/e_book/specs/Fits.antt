@@ -10,7 +10,7 @@ use Rattle.e_literal.specs.Literal.{all_in_scope}
 use Rattle.e_literal.specs.WellFormed.{is_well_formed}
 use Rattle.e_literal.specs.Scopes.{grown}
 use Rattle.e_literal.specs.Use.{Stated, scope_of}
-use Rattle.e_construct.specs.Construct.{made, gives}
+use Rattle.e_construct.specs.Construct.{sorts_made, gives_of_construction}
 use Rattle.e_construct.specs.Superposing as superposing
 use Rattle.e_theorem.specs.Statements.{stated}
 use Rattle.e_deriv.specs.declared.names.Names.{Names}
@@ -51,18 +51,18 @@ unfoldable pub NewNamesFit : List Stated → Names → Script → Type 0
 NewNamesFit before ns (Cite by rest) = NewNamesFit before ns rest
 NewNamesFit before ns (Hence lit cert rest) = NewNamesFit before ns rest
 NewNamesFit before ns (Make form names certs rest) =
-    (fresh ns [] names ≡ Ok tt) × (length names ≡ length (made form))
-    × (few_objects (named ns (made form) names) ≡ Ok tt)
-    × NewNamesFit before (named ns (made form) names) rest
+    (fresh ns [] names ≡ Ok tt) × (length names ≡ length (sorts_made form))
+    × (few_objects (named ns (sorts_made form) names) ≡ Ok tt)
+    × NewNamesFit before (named ns (sorts_made form) names) rest
 NewNamesFit before ns (Apply theorem args names certs rest) =
     (fresh ns [] names ≡ Ok tt) × (length names ≡ length (theorem_at before theorem).made)
     × (few_objects (named ns (theorem_at before theorem).made names) ≡ Ok tt)
     × NewNamesFit before (named ns (theorem_at before theorem).made names) rest
 NewNamesFit before ns (Claim shown inner rest) = NewNamesFit before ns inner × NewNamesFit before ns rest
 NewNamesFit before ns (Superposed form names shown certs inner rest) =
-    (fresh ns [] names ≡ Ok tt) × (length names ≡ length superposing.made)
-    × (few_objects (named ns superposing.made names) ≡ Ok tt)
-    × NewNamesFit before (named ns superposing.made names) inner
+    (fresh ns [] names ≡ Ok tt) × (length names ≡ length superposing.sorts_copied)
+    × (few_objects (named ns superposing.sorts_copied names) ≡ Ok tt)
+    × NewNamesFit before (named ns superposing.sorts_copied names) inner
     × NewNamesFit before ns rest
 NewNamesFit before ns (Qed objects certs) = Unit {0}
 NewNamesFit before ns (Contradiction against) = Unit {0}
@@ -73,15 +73,15 @@ unfoldable pub few_facts : List Stated → ℕ → Scope → Script → Bool
 few_facts before n s (Cite by rest) = nat_le (n + 1) most_facts && few_facts before (n + 1) s rest
 few_facts before n s (Hence lit cert rest) = nat_le (n + 1) most_facts && few_facts before (n + 1) s rest
 few_facts before n s (Make form names certs rest) =
-    nat_le (n + length (gives form s)) most_facts && few_facts before (n + length (gives form s)) (grown s (made form)) rest
+    nat_le (n + length (gives_of_construction form s)) most_facts && few_facts before (n + length (gives_of_construction form s)) (grown s (sorts_made form)) rest
 few_facts before n s (Apply theorem args names certs rest) =
     nat_le (n + length (theorem_at before theorem).shown) most_facts
     && few_facts before (n + length (theorem_at before theorem).shown) (grown s (theorem_at before theorem).made) rest
 few_facts before n s (Claim shown inner rest) =
     few_facts before n s inner && (nat_le (n + length shown) most_facts && few_facts before (n + length shown) s rest)
 few_facts before n s (Superposed form names shown certs inner rest) =
-    nat_le (n + length (superposing.gives form s)) most_facts
-    && (few_facts before (n + length (superposing.gives form s)) (grown s superposing.made) inner
+    nat_le (n + length (superposing.gives_of_superposition form s)) most_facts
+    && (few_facts before (n + length (superposing.gives_of_superposition form s)) (grown s superposing.sorts_copied) inner
     && (nat_le (n + length shown) most_facts && few_facts before (n + length shown) s rest))
 few_facts before n s (Qed objects certs) = true
 few_facts before n s (Contradiction against) = true
@@ -114,15 +114,15 @@ has_good_literals (Cases lit first second) = is_well_formed lit && (has_good_lit
 unfoldable pub few_terms : List Stated → ℕ → Scope → Script → Bool
 few_terms before n s (Cite by rest) = few_terms before n s rest
 few_terms before n s (Hence lit cert rest) = nat_le (n + monomials lit.atom) most_terms && few_terms before (n + monomials lit.atom) s rest
-few_terms before n s (Make form names certs rest) = few_terms before n (grown s (made form)) rest
+few_terms before n s (Make form names certs rest) = few_terms before n (grown s (sorts_made form)) rest
 few_terms before n s (Apply theorem args names certs rest) =
     nat_le (n + count_monomials (theorem_at before theorem).shown) most_terms
     && few_terms before (n + count_monomials (theorem_at before theorem).shown) (grown s (theorem_at before theorem).made) rest
 few_terms before n s (Claim shown inner rest) =
     few_terms before n s inner && (nat_le (n + count_monomials shown) most_terms && few_terms before (n + count_monomials shown) s rest)
 few_terms before n s (Superposed form names shown certs inner rest) =
-    nat_le (n + count_monomials (superposing.gives form s)) most_terms
-    && (few_terms before (n + count_monomials (superposing.gives form s)) (grown s superposing.made) inner
+    nat_le (n + count_monomials (superposing.gives_of_superposition form s)) most_terms
+    && (few_terms before (n + count_monomials (superposing.gives_of_superposition form s)) (grown s superposing.sorts_copied) inner
     && (nat_le (n + count_monomials shown) most_terms && few_terms before (n + count_monomials shown) s rest))
 few_terms before n s (Qed objects certs) = true
 few_terms before n s (Contradiction against) = true

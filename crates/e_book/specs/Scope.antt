@@ -19,12 +19,12 @@ use Rattle.e_literal.specs.Scopes.{same_sort}
 use Rattle.e_literal.specs.WellFormed.{same_kind}
 use Rattle.e_clause.specs.declared.rule.Sig.{Sig}
 use Rattle.e_clause.specs.declared.cert.By.{By}
-use Rattle.e_clause.specs.Instance.{place_of}
+use Rattle.e_clause.specs.Instance.{number_of_rule}
 use Rattle.e_clause.specs.Sigs.{sig_of}
 use Rattle.e_clause.specs.RuleKinds.{is_diagram_rule}
 use Rattle.e_construct.specs.declared.construction.Shape.{Shape}
 use Rattle.e_construct.specs.declared.construction.Construction.{Construction}
-use Rattle.e_construct.specs.Construct.{fits, made}
+use Rattle.e_construct.specs.Construct.{fits_construction, sorts_made}
 use Rattle.e_construct.specs.Lines.{takes}
 use Rattle.e_deriv.specs.declared.names.Names.{Names}
 pub use Rattle.e_deriv.specs.Naming.{names_of_sort, with_names}
@@ -207,7 +207,7 @@ args_in ns s names = do
 -- the rule, then how many names it has, then the names, then the literal
 unfoldable pub by_in : Names → List ℕ → List (List ℕ) → RawLit → Result By Kind
 by_in ns rule names lit = do
-  r ← known_rule (place_of rule)
+  r ← known_rule (number_of_rule rule)
   s ← variables_of (sig_of r)
   right ← right_count (length names == s.points + s.lines + s.circles)
   args ← args_in ns s names
@@ -234,7 +234,7 @@ construction shape args avoid = record { shape = shape; args = args; avoid = avo
 abbrev pub first_fitting : Scope → List Obj → List Obj → List Shape → Result Construction Kind
 first_fitting s args avoid [] = Err Malformed
 first_fitting s args avoid (shape ∷ shapes) =
-    if fits (construction shape args avoid) s then Ok (construction shape args avoid) else first_fitting s args avoid shapes
+    if fits_construction (construction shape args avoid) s then Ok (construction shape args avoid) else first_fitting s args avoid shapes
 
 -- the new names, then the arguments, then the avoided objects, as they stand on the line. No line of a book has another number
 -- of new names than objects that are made.
@@ -244,7 +244,7 @@ let_in ns l = do
   args ← arguments_in ns l.shapes [] l.args
   avoid ← each (used ns) l.avoid
   form ← first_fitting (scope_of_names ns) args avoid l.shapes
-  right ← right_count (length l.new == length (made form))
+  right ← right_count (length l.new == length (sorts_made form))
   Ok form
 
 -- ---- the close

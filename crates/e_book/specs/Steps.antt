@@ -4,7 +4,7 @@ use Rattle.e_literal.specs.declared.object.Sort.{Sort}
 use Rattle.e_literal.specs.declared.object.Obj.{Obj}
 use Rattle.e_literal.specs.declared.literal.Lit.{Lit}
 use Rattle.e_literal.specs.Use.{Stated}
-use Rattle.e_construct.specs.Construct.{made, gives}
+use Rattle.e_construct.specs.Construct.{sorts_made, gives_of_construction}
 use Rattle.e_construct.specs.Superposing as superposing
 use Rattle.e_deriv.specs.declared.names.Names.{Names}
 use Rattle.e_deriv.specs.Naming.{names_of_sort, with_names, named, declared_names}
@@ -98,9 +98,9 @@ with_terms d raws = do
 unfoldable pub built : Draft → RawLet → Result Draft Kind
 built d raw = do
   form ← let_in d.in_scope raw
-  let after = named d.in_scope (made form) raw.new
+  let after = named d.in_scope (sorts_made form) raw.new
   few ← few_objects after
-  with_step (record d { in_scope = after }) (Made form raw.new []) (length (gives form (scope_of_names d.in_scope)))
+  with_step (record d { in_scope = after }) (Made form raw.new []) (length (gives_of_construction form (scope_of_names d.in_scope)))
 
 -- a theorem is used within the limits of objects, of steps, of facts, of monomials and of blanks. What it shows are facts, and its
 -- made objects are in scope behind the line.
@@ -164,8 +164,8 @@ copies_begun d what after given shown = do
 unfoldable pub superposed : Draft → RawSuperpose → Result Draft Kind
 superposed d raw = do
   p ← superpose_in d.in_scope raw
-  let given = superposing.gives p.0 (scope_of_names d.in_scope)
-  let after = named d.in_scope superposing.made raw.new
+  let given = superposing.gives_of_superposition p.0 (scope_of_names d.in_scope)
+  let after = named d.in_scope superposing.sorts_copied raw.new
   objects ← few_objects after
   e ← deeper d (opened.Superpose p.0 raw.new p.1) (length given)
   few ← few_monos raw.shown

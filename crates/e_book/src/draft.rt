@@ -1,7 +1,7 @@
 //! A theorem while its lines come.
 ghost use Rattle.std.specs.Prelude.{◌≡◌, ◌≤◌, ◌<◌, ◌+◌, ◌^◌, ◌++◌, length, replicate, IfOk, OnOk, Ok, Err};
 ghost use Rattle.e_book.specs.Reading.{Gives, Moves};
-ghost use Rattle.e_construct.specs.Construct.{gives};
+ghost use Rattle.e_construct.specs.Construct.{gives_of_construction};
 ghost use Rattle.e_book.specs.Scope.{names_of_sort, with_names};
 ghost use Rattle.e_deriv.specs.Naming.{named};
 ghost use Rattle.e_book.specs.LineLimits.{few_objects, FewNamed};
@@ -23,7 +23,7 @@ use crate::theorem::Theorem;
 use crate::theorems::Theorems;
 use e_construct::Construction;
 use e_deriv::{Names, Step};
-use e_literal::{Items, Lit, Scope, Sort, grown};
+use e_literal::{Items, Lit, NOTHING, Scope, Sort, grown};
 use e_text::{Name, Title};
 use e_theorem::Statement;
 use std::alloc::{AllocError, Global};
@@ -148,7 +148,7 @@ fn count_given(alloc: Global, form: &Construction, scope: Scope) -> Result<usize
     requires points { scope.points + 2 < 2 ^ 16 }
     requires lines { scope.lines + 2 < 2 ^ 16 }
     requires circles { scope.circles + 2 < 2 ^ 16 }
-    ensures { IfOk result (λ n. n ≡ length (gives form.now scope)) }
+    ensures { IfOk result (λ n. n ≡ length (gives_of_construction form.now scope)) }
 {
     let given = form.gives(alloc, scope)?;
     Ok(given.len())
@@ -334,12 +334,7 @@ impl Draft {
         ensures value { Moves result self.new (proof_begun self.old) }
         ensures fits { OnOk result (FitsScope self.new) }
     {
-        let nothing = Scope {
-            points: 0,
-            lines: 0,
-            circles: 0,
-        };
-        let scope = grown(nothing, self.declared.items());
+        let scope = grown(NOTHING, self.declared.items());
         let first = self.names.first(alloc, scope)?;
         mem::drop(mem::replace(&mut self.in_scope, first));
         self.place = Place::Proving;

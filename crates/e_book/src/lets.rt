@@ -1,7 +1,7 @@
 //! The lines of constructions, told from their words by spelling alone.
 ghost use Rattle.std.specs.Prelude.{◌≡◌, List, map, slice_get, false, IfOk};
 ghost use Rattle.std.specs.Option.{option_map_or};
-ghost use Rattle.e_construct.specs.Views.{piece_said};
+ghost use Rattle.e_construct.specs.Views.{piece_view};
 ghost use Rattle.e_book.specs.Reading.{texts, names_of, Gives};
 ghost use Rattle.e_book.specs.Lets.{is_word_of, are_words_of, is_line_of, shapes_of, is_place, words_at, avoided_of, let_named, let_of};
 
@@ -26,7 +26,7 @@ pub struct RawLet {
 }
 
 fn is_word_of(piece: Piece, word: &[u8]) -> bool
-    ensures { result ≡ is_word_of (piece_said piece) word.now }
+    ensures { result ≡ is_word_of (piece_view piece) word.now }
 {
     match piece {
         Piece::New => Name::read(word).is_some(),
@@ -38,7 +38,7 @@ fn is_word_of(piece: Piece, word: &[u8]) -> bool
 /// Whether the words are those of a line, one for each piece.
 #[tactic(auto, using(crate::proofs::Placed::counting))]
 pub(crate) fn are_words_of(pieces: &[Piece], words: &[&[u8]]) -> bool
-    ensures { result ≡ are_words_of (map piece_said pieces.now) (texts words.now) }
+    ensures { result ≡ are_words_of (map piece_view pieces.now) (texts words.now) }
 {
     match (pieces, words) {
         ([], []) => true,
@@ -73,7 +73,7 @@ fn shapes_of(alloc: Global, avoiding: bool, words: &[&[u8]]) -> Result<Items<Sha
 
 /// Whether a piece is the place of a new object, or else that of an argument.
 fn is_place(new: bool, piece: Piece) -> bool
-    ensures { result ≡ is_place new (piece_said piece) }
+    ensures { result ≡ is_place new (piece_view piece) }
 {
     match piece {
         Piece::New => new,
@@ -84,7 +84,7 @@ fn is_place(new: bool, piece: Piece) -> bool
 
 /// Whether such a place is there.
 fn is_place_at(new: bool, pieces: &[Piece], at: usize) -> bool
-    ensures { result ≡ option_map_or (λ p. is_place new (piece_said p)) (slice_get pieces.now at) false }
+    ensures { result ≡ option_map_or (λ p. is_place new (piece_view p)) (slice_get pieces.now at) false }
 {
     match pieces.get(at) {
         None => false,
@@ -99,7 +99,7 @@ pub(crate) fn names_at(
     pieces: &[Piece],
     words: &[&[u8]],
 ) -> Result<Items<Name>, Trouble>
-    ensures { Gives (λ n. n) result (names_of (words_at new (map piece_said pieces.now) (texts words.now))) }
+    ensures { Gives (λ n. n) result (names_of (words_at new (map piece_view pieces.now) (texts words.now))) }
 {
     let mut names = Items::empty(alloc);
     for (i, word) in words.iter().enumerate() {

@@ -13,9 +13,9 @@ use crate::lets::RawLet;
 use crate::literal::{RawAtom, RawLit};
 use crate::terms::{Sides, sums_in};
 use e_clause::{By, Rule, Sig};
-use e_construct::{Construction, Shape, same_sort, takes};
+use e_construct::{Construction, Shape, takes};
 use e_deriv::Names;
-use e_literal::{Atom, Items, Lit, Obj, Scope, Sort};
+use e_literal::{Atom, Items, Lit, Obj, Scope, Sort, is_same_sort};
 use e_text::{Name, Title, contains, place_of};
 use std::alloc::{AllocError, Global};
 
@@ -84,7 +84,7 @@ pub(crate) fn number_of(names: &Names, sort: Sort, name: Name) -> Result<u16, Tr
     ensures { Gives (λ n. n) result (number_of names.now sort name) }
 {
     let object = used(names, name)?;
-    if same_sort(object.sort, sort) {
+    if is_same_sort(object.sort, sort) {
         Ok(object.num)
     } else {
         Err(Trouble::Fault(Kind::WrongSort))
@@ -279,7 +279,7 @@ pub(crate) fn fresh(names: &Names, new: &[Name]) -> Result<(), Trouble>
 
 /// The rule of diagrams and equality with this name.
 fn known_rule(name: Title) -> Result<Rule, Trouble>
-    ensures { Gives (λ r. r) result (known_rule (Instance.place_of name)) }
+    ensures { Gives (λ r. r) result (known_rule (Instance.number_of_rule name)) }
 {
     let Some(rule) = Rule::named(name.bytes()) else {
         return Err(Trouble::Fault(Kind::UnknownName));

@@ -1,6 +1,6 @@
 //! The lines of superpositions.
 ghost use Rattle.std.specs.Prelude.{◌≡◌, IfOk, map, take, drop};
-ghost use Rattle.e_construct.specs.Views.{piece_said};
+ghost use Rattle.e_construct.specs.Views.{piece_view};
 ghost use Rattle.e_book.specs.Reading.{texts, Gives};
 ghost use Rattle.e_book.specs.Scope.{FewNames};
 ghost use Rattle.e_book.specs.Superposes.{superpose_pieces, head_of, superpose_of, placed_in, superpose_in};
@@ -48,7 +48,7 @@ static PIECES: [Piece; 13] = [
 /// The words of a superposition from behind its first word to the literals that its block shows: the triangle and its line, the
 /// place and its line, and the names of the copied points. They are thirteen.
 pub fn superposition_pieces() -> &'static [Piece]
-    ensures { map piece_said result.now ≡ superpose_pieces }
+    ensures { map piece_view result.now ≡ superpose_pieces }
 {
     &PIECES
 }

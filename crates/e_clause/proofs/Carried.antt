@@ -15,7 +15,7 @@ use Rattle.e_literal.specs.declared.literal.Lit.{Lit}
 use Rattle.e_literal.specs.declared.literal.Atom.{Atom}
 use Rattle.e_literal.specs.declared.literal.Atom.TheVariants.{On, OnC, Inside, Center, Between, Same, MeetLL, MeetLC, MeetCC, EqP, EqL, EqC, MagEq, MagLt}
 use Rattle.e_literal.specs.Literal.{negation, kind_of_term, kind_of_sums, kind_of_atom}
-use Rattle.e_literal.specs.WellFormed.{same_kind, is_good_coefficient, are_good_sums, is_good_atom, is_well_formed}
+use Rattle.e_literal.specs.WellFormed.{same_kind, is_bounded_coefficient, are_well_formed_sums, is_well_formed_atom, is_well_formed}
 use Rattle.e_literal.specs.Same.{canonical, term_eq, one_term}
 use Rattle.e_literal.specs.Width.{is_among}
 use Rattle.e_literal.specs.Truth.{holds, all_hold}
@@ -33,7 +33,7 @@ use Rattle.e_clause.specs.declared.cert.RowName.TheVariants.{Fact, Goal, Pos}
 use Rattle.e_clause.specs.Assignment.{terms_of_atom, terms_of_lits, terms_of_wanted, terms_of_step, is_within, is_zero_if_degenerate, is_positive_if_apart, agrees_with}
 use Rattle.e_clause.specs.Metric.{wanted_fails, IsCounterexample}
 use Rattle.e_clause.specs.System.{NamedRow, named, is_of_kind, of_kind, against_goal, rows_named, pos_row, top_row, rows_of_term, rows_of_kind, system, rows_of_system, by_kind}
-use Rattle.e_clause.specs.Laws.{is_good_wanted, SolutionsRefute}
+use Rattle.e_clause.specs.Laws.{is_well_formed_metric, SolutionsRefute}
 use Rattle.e_clause.proofs.Spread.{Agree, terms_of_sum, holds_agrees, all_hold_agrees, fails_agrees, among_facts, among_wanted}
 use Rattle.e_clause.proofs.Refuted.{IsSoAt, negation_fails}
 use Rattle.e_clause.proofs.Solved.{SatisfyNamed, terms_of_system}
@@ -56,24 +56,24 @@ satisfy_at w f (s ∷ ss) t h a =
 -- ---- kinds
 
 -- each term of a well-formed sum is of its kind
-kind_in_sums : (ms : List Mono) (which : Kind) (t : Term) → list_all (λ (m : Mono). same_kind (kind_of_term m.term) which && is_good_coefficient m.coeff) ms ≡ true
+kind_in_sums : (ms : List Mono) (which : Kind) (t : Term) → list_all (λ (m : Mono). same_kind (kind_of_term m.term) which && is_bounded_coefficient m.coeff) ms ≡ true
     → is_among (terms_of_sum ms) t ≡ true → kind_of_term t ≡ which
 kind_in_sums [] which t h a = absurd (true≢false (sym a))
 kind_in_sums (m ∷ ms) which t h a =
-    let here = same_kind (kind_of_term m.term) which && is_good_coefficient m.coeff in
-    let rest = list_all (λ (n : Mono). same_kind (kind_of_term n.term) which && is_good_coefficient n.coeff) ms in
+    let here = same_kind (kind_of_term m.term) which && is_bounded_coefficient m.coeff in
+    let rest = list_all (λ (n : Mono). same_kind (kind_of_term n.term) which && is_bounded_coefficient n.coeff) ms in
     elim (or_cases (term_eq t m.term) (is_among (terms_of_sum ms) t) a) [
-      | inl e ↦ ap kind_of_term (term_eq_is t m.term e) ∙ same_kind_is (kind_of_term m.term) which (and_left (same_kind (kind_of_term m.term) which) (is_good_coefficient m.coeff) (and_left here rest h))
+      | inl e ↦ ap kind_of_term (term_eq_is t m.term e) ∙ same_kind_is (kind_of_term m.term) which (and_left (same_kind (kind_of_term m.term) which) (is_bounded_coefficient m.coeff) (and_left here rest h))
       | inr b ↦ kind_in_sums ms which t (and_right here rest h) b
     ]
 
-all_good : (x y : List Mono) → are_good_sums x y ≡ true → list_all (λ (m : Mono). same_kind (kind_of_term m.term) (kind_of_sums x y) && is_good_coefficient m.coeff) (x ++ y) ≡ true
+all_good : (x y : List Mono) → are_well_formed_sums x y ≡ true → list_all (λ (m : Mono). same_kind (kind_of_term m.term) (kind_of_sums x y) && is_bounded_coefficient m.coeff) (x ++ y) ≡ true
 all_good x y h =
-    let each = list_all (λ (m : Mono). same_kind (kind_of_term m.term) (kind_of_sums x y) && is_good_coefficient m.coeff) (x ++ y) in
+    let each = list_all (λ (m : Mono). same_kind (kind_of_term m.term) (kind_of_sums x y) && is_bounded_coefficient m.coeff) (x ++ y) in
     and_right (nat_le (length (x ++ y)) 32) each (and_right (nat_le 1 (length (x ++ y))) (nat_le (length (x ++ y)) 32 && each) h)
 
 -- a well-formed atom with this term is of the term's kind
-kind_in_atom : (a : Atom) (t : Term) → is_good_atom a ≡ true → is_among (terms_of_atom a) t ≡ true → kind_of_atom a ≡ Some (kind_of_term t)
+kind_in_atom : (a : Atom) (t : Term) → is_well_formed_atom a ≡ true → is_among (terms_of_atom a) t ≡ true → kind_of_atom a ≡ Some (kind_of_term t)
 kind_in_atom (MagEq x y) t h k = ap Some (sym (kind_in_sums (x ++ y) (kind_of_sums x y) t (all_good x y h) k))
 kind_in_atom (MagLt x y) t h k = ap Some (sym (kind_in_sums (x ++ y) (kind_of_sums x y) t (all_good x y h) k))
 kind_in_atom (On x y) t h k = absurd (true≢false (sym k))
@@ -109,7 +109,7 @@ among_own_kind (l ∷ ls) t h a =
     by false e (inl k) ih = absurd (true≢false (sym (of_own_kind l t (and_left (is_well_formed l) (list_all is_well_formed ls) h) k) ∙ e))
     by false e (inr k) ih = ih k
 
-pub good_against : (wanted : Option Lit) → is_good_wanted wanted ≡ true → list_all is_well_formed (against_goal wanted) ≡ true
+pub good_against : (wanted : Option Lit) → is_well_formed_metric wanted ≡ true → list_all is_well_formed (against_goal wanted) ≡ true
 good_against None h = refl
 good_against (Some l) h = ap (λ b. b && true) (and_right (is_metric l) (is_well_formed l) h)
 
@@ -118,7 +118,7 @@ among_against None t h = h
 among_against (Some l) t h = among_left (terms_of_atom l.atom) [] t h
 
 -- a term of the step is right, or one of the system of its kind
-among_system : (facts : List Lit) (wanted : Option Lit) (t : Term) → list_all is_well_formed facts ≡ true → is_good_wanted wanted ≡ true
+among_system : (facts : List Lit) (wanted : Option Lit) (t : Term) → list_all is_well_formed facts ≡ true → is_well_formed_metric wanted ≡ true
     → is_among (terms_of_step facts wanted) t ≡ true → (t ≡ Right) ⊎ (is_among (terms_of_system (kind_of_term t) facts wanted) t ≡ true)
 among_system facts wanted t h g a = elim (or_cases (term_eq t Right) (is_among (terms_of_lits facts ++ terms_of_wanted wanted) t) a) [
   | inl e ↦ inl (term_eq_is t Right e)
@@ -271,7 +271,7 @@ apart_same facts a b c d e h =
     second_point : canonical (Seg a b) ≡ canonical (Seg c d) → max a b ≡ max c d
     second_point k = ap second k
 
-module _ (facts : List Lit) (wanted : Option Lit) (values : Kind → Term → ℕ) (good : list_all is_well_formed facts ≡ true) (good_wanted : is_good_wanted wanted ≡ true)
+module _ (facts : List Lit) (wanted : Option Lit) (values : Kind → Term → ℕ) (good : list_all is_well_formed facts ≡ true) (good_wanted : is_well_formed_metric wanted ≡ true)
     (solve : (which : Kind) → SatisfyNamed (values which) (system which facts wanted)) where
   abbrev firsts : Kind → List Term
   firsts which = first_terms [] (terms_of_system which facts wanted)
@@ -304,7 +304,7 @@ module _ (facts : List Lit) (wanted : Option Lit) (values : Kind → Term → �
   wanted_false : wanted_fails all wanted ≡ true
   wanted_false = by wanted good_wanted (literals_true values (λ l. Goal) (against_goal wanted) (good_against wanted good_wanted) goal_rows_so)
     where
-      by : (o : Option Lit) → is_good_wanted o ≡ true → all_hold all (against_goal o) ≡ true → wanted_fails all o ≡ true
+      by : (o : Option Lit) → is_well_formed_metric o ≡ true → all_hold all (against_goal o) ≡ true → wanted_fails all o ≡ true
       by None g h = refl
       by (Some l) g h = negation_fails l all (and_left (is_metric l) (is_well_formed l) g) (and_left (holds all (negation l)) true h)
 
@@ -391,7 +391,7 @@ positive_same facts v u Right e = refl
 
 -- an assignment that has the values of the solutions at the terms of the step is a counterexample
 pub counterexample_of : (facts : List Lit) (wanted : Option Lit) (values : Kind → Term → ℕ) (v : Term → ℕ)
-    → list_all is_well_formed facts ≡ true → is_good_wanted wanted ≡ true
+    → list_all is_well_formed facts ≡ true → is_well_formed_metric wanted ≡ true
     → ((which : Kind) → Satisfy (values which) (rows_of_system which facts wanted))
     → Agree (terms_of_step facts wanted) v (carried (by_kind values)) → IsCounterexample facts wanted v
 counterexample_of facts wanted values v good good_wanted solve agree =

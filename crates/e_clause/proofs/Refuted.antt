@@ -26,7 +26,7 @@ use Rattle.e_clause.specs.declared.cert.RowName.TheVariants.{Fact, Goal, Pos, To
 use Rattle.e_clause.specs.declared.cert.Sums.{Sums}
 use Rattle.e_clause.specs.declared.cert.Sums.TheVariants.{One, Two}
 use Rattle.e_clause.specs.Metric.{wanted_fails}
-use Rattle.e_clause.specs.Sum.{Place, is_step_term, fact_row, row_at, goal_row, says_differ, unless_not, pos_of, top_of, row_named, weighed_rows, is_good_size, refutes}
+use Rattle.e_clause.specs.Sum.{Place, is_step_term, fact_row, row_at, goal_row, says_differ, unless_not, pos_of, top_of, row_named, weighed_rows, is_limited_sum, refutes}
 use Rattle.e_clause.specs.System.{pos_row, top_row, right_row, least_row}
 use Rattle.e_clause.specs.MetricCertificate.{differing_of, differing, above_row, below_row, both_refute, sums_refute}
 use Rattle.e_clause.specs.PartCertificate.{is_fact_at}
@@ -206,7 +206,7 @@ module _ (p : Place) (w : Term → ℕ) (model : IsModel p.facts p.wanted w) (hi
   -- and so no sum refutes
   not_refuted : (xs : List (ℤ × RowName)) → refutes p xs ≡ true → ⊥
   not_refuted xs h =
-      let k = found is_absurd (weighed_rows p xs) (and_right (is_good_size xs) (option_map_or is_absurd (weighed_rows p xs) false) h) in
+      let k = found is_absurd (weighed_rows p xs) (and_right (is_limited_sum xs) (option_map_or is_absurd (weighed_rows p xs) false) h) in
       no_values k.0 w k.2 (weighed_so xs k.0 k.1)
 
 says_not : (s : Says) → says_differ s ≡ true → s ≡ Not

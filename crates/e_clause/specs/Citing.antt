@@ -10,7 +10,8 @@ use Rattle.e_clause.specs.declared.cert.By.{By}
 use Rattle.e_clause.specs.Instance.{Inst}
 use Rattle.e_clause.specs.RuleKinds.{is_diagram_rule}
 
--- the rule is one of diagrams and equality, its arguments have the sorts of its variables, and all objects are in scope
+-- the rule is one of diagrams and equality, its arguments have the sorts of its variables, and all
+-- objects are in scope
 abbrev pub is_citation : Scope → By → Bool
 is_citation s by =
     is_diagram_rule by.rule

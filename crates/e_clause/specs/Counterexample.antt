@@ -16,7 +16,8 @@ abbrev pub value_in : List (Term × ℕ) → Term → ℕ
 value_in [] t = 0
 value_in (p ∷ ps) t = if term_eq (canonical t) p.0 then p.1 else value_in ps t
 
--- segments stand before angles, angles before areas, and right is last; within a kind the points' numbers decide
+-- segments stand before angles, angles before areas, and right is last; within a kind the points'
+-- numbers decide
 abbrev pub is_before : Term → Term → Bool
 is_before s t = is_lt (slice_cmp nat_cmp (numbers_of s) (numbers_of t))
 
@@ -28,8 +29,8 @@ are_in_order (t ∷ ts) = list_all (is_before t) ts && are_in_order ts
 abbrev pub listed_terms : List (Term × ℕ) → List Term
 listed_terms values = map (λ p. p.0) values
 
--- the terms of the step, each once, with its points in their normal order, and the terms in theirs; and with these
--- values the facts are true and the wanted literal, where one is wanted, is false
+-- the terms of the step, each once, with its points in their normal order, and the terms in theirs;
+-- and with these values the facts are true and the wanted literal, where one is wanted, is false
 pub record ListsCounterexample (facts : List Lit) (wanted : Option Lit) (values : List (Term × ℕ)) : Type 0 where
   pub in_order : IsTrue (are_in_order (listed_terms values))
   pub of_step : (t : Term) → is_among (listed_terms values) t ≡ is_among (map canonical (terms_of_step facts wanted)) t

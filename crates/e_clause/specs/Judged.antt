@@ -8,11 +8,11 @@ use Rattle.e_literal.specs.WellFormed.{is_well_formed}
 use Rattle.e_clause.specs.Assignment.{terms_of_lits}
 
 -- the literal is in scope and well formed
-abbrev pub is_good : Scope → Lit → Bool
-is_good s l = all_in_scope s l && is_well_formed l
+abbrev pub is_well_formed_in : Scope → Lit → Bool
+is_well_formed_in s l = all_in_scope s l && is_well_formed l
 
-abbrev pub are_good : Scope → List Lit → Bool
-are_good s ls = list_all (is_good s) ls
+abbrev pub are_well_formed_in : Scope → List Lit → Bool
+are_well_formed_in s ls = list_all (is_well_formed_in s) ls
 
 -- so many terms may stand in the facts of a step
 abbrev pub most_terms : ℕ
@@ -22,5 +22,5 @@ abbrev pub are_few : List Lit → Bool
 are_few facts = nat_le (length (terms_of_lits facts)) most_terms
 
 -- the facts are in scope and well formed, and their terms are few
-abbrev pub are_good_facts : Scope → List Lit → Bool
-are_good_facts s facts = are_good s facts && are_few facts
+abbrev pub are_limited_facts : Scope → List Lit → Bool
+are_limited_facts s facts = are_well_formed_in s facts && are_few facts

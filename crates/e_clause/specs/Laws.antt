@@ -1,4 +1,5 @@
--- What follows from the definitions of metric and transfer consequence, of systems and of certificates.
+-- What follows from the definitions of metric and transfer consequence, of systems and of
+-- certificates.
 use Rattle.std.specs.Prelude.{ℕ, List, ◌&&◌, Bool, true, IsTrue, Option, Some, None}
 use Rattle.std.specs.List.{list_all}
 use Rattle.e_literal.specs.declared.object.Kind.{Kind}
@@ -54,15 +55,16 @@ MetricFactFollows = (facts : List Lit) (l : Lit) → IsTrue (is_metric l) → Is
 -- ---- systems
 
 -- what is wanted, if a literal is, is a well-formed metric literal
-abbrev pub is_good_wanted : Option Lit → Bool
-is_good_wanted (Some l) = is_metric l && is_well_formed l
-is_good_wanted None = true
+abbrev pub is_well_formed_metric : Option Lit → Bool
+is_well_formed_metric (Some l) = is_metric l && is_well_formed l
+is_well_formed_metric None = true
 
--- solutions of the three metric systems, carried to the terms as they are written, are a counterexample
+-- solutions of the three metric systems, carried to the terms as they are written, are a
+-- counterexample
 abbrev pub SolutionsRefute : Type 0
 SolutionsRefute =
     (facts : List Lit) (wanted : Option Lit) (values : Kind → Term → ℕ) →
-    IsTrue (list_all is_well_formed facts) → IsTrue (is_good_wanted wanted) →
+    IsTrue (list_all is_well_formed facts) → IsTrue (is_well_formed_metric wanted) →
     ((which : Kind) → Satisfy (values which) (rows_of_system which facts wanted)) →
     IsCounterexample facts wanted (carried (by_kind values))
 

@@ -16,7 +16,8 @@ use Rattle.e_clause.specs.Sum.{refutes, fact_row, row_at, goal_row, says_differ}
 
 -- ---- two sums, where a row says that its form is not 0
 
--- the row that a `differs` line names, which says that its form is not 0: that of the negated goal or of a fact
+-- the row that a `differs` line names, which says that its form is not 0: that of the negated goal
+-- or of a fact
 abbrev pub differing_of : List Lit → Option Lit → RowName → Option Row
 differing_of facts wanted (Fact l) = fact_row facts l
 differing_of facts wanted Goal = goal_row wanted
@@ -41,7 +42,8 @@ both_refute facts wanted r first second =
 
 -- ---- the sums of a certificate
 
--- the facts and the negation of the wanted literal, where one is wanted, cannot all be true, by these sums
+-- the facts and the negation of the wanted literal, where one is wanted, cannot all be true, by
+-- these sums
 abbrev pub sums_refute : List Lit → Option Lit → Sums → Bool
 sums_refute facts wanted (One sum) = refutes (record { facts = facts; wanted = wanted; above = None; below = None }) sum
 sums_refute facts wanted (Two differs first second) =

@@ -13,7 +13,8 @@ use Rattle.e_clause.specs.MetricCertificate.{metric_certifies, sums_in}
 abbrev pub is_fact_at : List Lit → Lit → ℕ → Bool
 is_fact_at facts l k = option_map_or (λ f. same_lit f l) (slice_get facts k) false
 
--- the literal is among the facts, or at this place among them, or its sums show that it follows from them
+-- the literal is among the facts, or at this place among them, or its sums show that it follows
+-- from them
 abbrev pub part_certifies : List Lit → Lit → Part → Bool
 part_certifies facts l Fact = has facts l
 part_certifies facts l (Metric m) = metric_certifies facts l m

@@ -1,4 +1,5 @@
--- Certificates of one version: all of them cite facts by literals that are the same, or all by their places.
+-- Certificates of one version: all of them cite facts by literals that are the same, or all by
+-- their places.
 use Rattle.std.specs.Prelude.{◌^◌, List, Bool, true, false, ◌&&◌, nat_lt, ℤ}
 use Rattle.std.specs.List.{list_all}
 use Rattle.e_literal.specs.WellFormed.{is_well_formed}
@@ -25,7 +26,8 @@ abbrev pub by_places : Version → Bool
 by_places version.One = false
 by_places version.Two = true
 
--- a fact's row is named as in this version: by a literal, which is well formed, or by a place of 32 bits
+-- a fact's row is named as in this version: by a literal, which is well formed, or by a place of 32
+-- bits
 abbrev pub is_name_of : Version → RowName → Bool
 is_name_of v (Fact l) = by_literals v && is_well_formed l
 is_name_of v (FactAt k) = by_places v && nat_lt k (2 ^ 32)
@@ -38,7 +40,8 @@ abbrev pub are_sums_of : Version → Sums → Bool
 are_sums_of v (One sum) = is_sum_of v sum
 are_sums_of v (Two differs above below) = is_name_of v differs && (is_sum_of v above && is_sum_of v below)
 
--- a fact that is the wanted literal is cited as in this version: with nothing more, or by a place of 32 bits
+-- a fact that is the wanted literal is cited as in this version: with nothing more, or by a place
+-- of 32 bits
 abbrev pub is_part_of : Version → Part → Bool
 is_part_of v FactPart = by_literals v
 is_part_of v (Metric m) = are_sums_of v m.sums

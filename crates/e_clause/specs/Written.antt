@@ -14,27 +14,27 @@ use Rattle.e_clause.specs.declared.cert.Against.{Against}
 use Rattle.e_clause.specs.declared.cert.Against.TheVariants.{Clash, Metric as MetricAgainst}
 
 -- the literal of a row is well formed, and a place has 32 bits
-abbrev pub is_good_name : RowName → Bool
-is_good_name (Fact l) = is_well_formed l
-is_good_name (FactAt k) = nat_lt k (2 ^ 32)
-is_good_name _ = true
+abbrev pub is_writable_name : RowName → Bool
+is_writable_name (Fact l) = is_well_formed l
+is_writable_name (FactAt k) = nat_lt k (2 ^ 32)
+is_writable_name _ = true
 
-abbrev pub is_good_sum : List (ℤ × RowName) → Bool
-is_good_sum xs = list_all (λ x. is_good_name x.1) xs
+abbrev pub is_writable_sum : List (ℤ × RowName) → Bool
+is_writable_sum xs = list_all (λ x. is_writable_name x.1) xs
 
-abbrev pub is_good_sums : Sums → Bool
-is_good_sums (One sum) = is_good_sum sum
-is_good_sums (Two differs above below) = is_good_name differs && (is_good_sum above && is_good_sum below)
+abbrev pub are_writable_sums : Sums → Bool
+are_writable_sums (One sum) = is_writable_sum sum
+are_writable_sums (Two differs above below) = is_writable_name differs && (is_writable_sum above && is_writable_sum below)
 
-abbrev pub is_good_part : Part → Bool
-is_good_part FactPart = true
-is_good_part (Metric m) = is_good_sums m.sums
-is_good_part (FactPartAt k) = nat_lt k (2 ^ 32)
+abbrev pub is_writable_part : Part → Bool
+is_writable_part FactPart = true
+is_writable_part (Metric m) = are_writable_sums m.sums
+is_writable_part (FactPartAt k) = nat_lt k (2 ^ 32)
 
-abbrev pub is_good_cert : Cert → Bool
-is_good_cert (Plain p) = is_good_part p
-is_good_cert (Transfer t) = list_all is_good_part t.parts
+abbrev pub is_writable_cert : Cert → Bool
+is_writable_cert (Plain p) = is_writable_part p
+is_writable_cert (Transfer t) = list_all is_writable_part t.parts
 
-abbrev pub is_good_against : Against → Bool
-is_good_against (Clash l) = true
-is_good_against (MetricAgainst m) = is_good_sums m.sums
+abbrev pub is_writable_against : Against → Bool
+is_writable_against (Clash l) = true
+is_writable_against (MetricAgainst m) = are_writable_sums m.sums

@@ -1,5 +1,5 @@
-//! Laws of metric and transfer consequence, of systems and of certificates, each as a function that does nothing and
-//! whose contract is the law.
+//! Laws of metric and transfer consequence, of systems and of certificates, each as a function that
+//! does nothing and whose contract is the law.
 ghost use Rattle.e_clause.specs.Laws.{CertificateIsSound, ContradictionCertificateIsSound, MetricCertificateIsSound, MetricContradictionIsSound, TransferCertificateIsSound, MetricFactFollows, SolutionsRefute, CounterexampleSolves, UnsolvedFollows, UnsolvedContradicts, CounterexampleRefutes, CounterexampleSatisfies};
 
 /// What a certificate certifies is allowed.

@@ -20,10 +20,10 @@ use Rattle.e_construct.specs.declared.construction.Shape.{Shape}
 use Rattle.e_construct.specs.declared.construction.Shape.TheVariants.{Free}
 use Rattle.e_construct.specs.declared.construction.Construction.{Construction}
 use Rattle.e_construct.specs.Shapes.{ShapeRow, Avoids, NoObject, AnyObject, AnyApartFrom, shape_row}
-use Rattle.e_construct.specs.Construct.{row_of, sorts_of, avoids_well, fits, equation, unequal, argument, of_sort, needs_of_avoided, needs, made, meeting, avoiding, gives_of_avoided, gives}
+use Rattle.e_construct.specs.Construct.{row_of_construction, sorts_of, avoids_well, fits_construction, equation, unequal, argument, of_sort, needs_of_avoided, needs_of_construction, sorts_made, meeting, avoiding, gives_of_avoided, gives_of_construction}
 use Rattle.e_construct.specs.declared.superpose.Superpose.{Superpose}
 use Rattle.e_construct.specs.Superposing as superposing
-use Rattle.e_literal.specs.WellFormed.{is_good_atom, is_well_formed}
+use Rattle.e_literal.specs.WellFormed.{is_well_formed_atom, is_well_formed}
 use Rattle.e_literal.specs.declared.literal.Atom.{Atom}
 use Rattle.e_literal.specs.declared.literal.Atom.TheVariants as atoms
 use Rattle.e_literal.proofs.WithImages.{is_moved_in}
@@ -204,9 +204,9 @@ fine_gives_avoided s t r (AnyApartFrom o) avoid w h k f =
 
 -- ---- the whole
 
-pub fine_needs : (form : Construction) (s : Scope) → fits form s ≡ true → list_all (is_fine s) (needs form) ≡ true
+pub fine_needs : (form : Construction) (s : Scope) → fits_construction form s ≡ true → list_all (is_fine s) (needs_of_construction form) ≡ true
 fine_needs form s h =
-    let r = row_of form in
+    let r = row_of_construction form in
     let g = good_row form.shape in
     let p = and_parts (are_of_sorts s (sorts_of r.args) form.args) (avoids_well s r.avoids form.avoid) h in
     let es = paired r.args form.args in
@@ -214,12 +214,12 @@ fine_needs form s h =
     list_all-append (is_fine s) (map (renamed (image_in es)) r.needs) (needs_of_avoided r.avoids (argument r form.args) form.avoid)
     ∙ rw (first, fine_needs_avoided s r r.avoids form.args form.avoid p.0 g.avoids p.1) refl
 
-pub fine_gives : (form : Construction) (s : Scope) → fits form s ≡ true → list_all (is_fine (grown s (made form))) (gives form s) ≡ true
+pub fine_gives : (form : Construction) (s : Scope) → fits_construction form s ≡ true → list_all (is_fine (grown s (sorts_made form))) (gives_of_construction form s) ≡ true
 fine_gives form s h =
-    let r = row_of form in
+    let r = row_of_construction form in
     let g = good_row form.shape in
-    let t = grown s (made form) in
-    let w : Within s t = grows s (made form) in
+    let t = grown s (sorts_made form) in
+    let w : Within s t = grows s (sorts_made form) in
     let p = and_parts (are_of_sorts s (sorts_of r.args) form.args) (avoids_well s r.avoids form.avoid) h in
     let args = of_sorts_more s t w (sorts_of r.args) form.args p.0 in
     let new = next_objects s (sorts_of r.made) in
@@ -231,21 +231,21 @@ fine_gives form s h =
     list_all-append (is_fine t) (map (renamed (image_in es)) r.gives) (gives_of_avoided new form.avoid)
     ∙ rw (first, fine_gives_avoided s t r r.avoids form.avoid w g.avoids p.1 made_are) refl
 
-pub needs_in_scope : (form : Construction) (s : Scope) → fits form s ≡ true → list_all (all_in_scope s) (needs form) ≡ true
-needs_in_scope form s h = every (is_fine s) (all_in_scope s) (λ l k. (and_parts (all_in_scope s l) (is_plain l) k).0) (needs form) (fine_needs form s h)
+pub needs_in_scope : (form : Construction) (s : Scope) → fits_construction form s ≡ true → list_all (all_in_scope s) (needs_of_construction form) ≡ true
+needs_in_scope form s h = every (is_fine s) (all_in_scope s) (λ l k. (and_parts (all_in_scope s l) (is_plain l) k).0) (needs_of_construction form) (fine_needs form s h)
 
-pub needs_plain : (form : Construction) (s : Scope) → fits form s ≡ true → list_all is_plain (needs form) ≡ true
-needs_plain form s h = every (is_fine s) is_plain (λ l k. (and_parts (all_in_scope s l) (is_plain l) k).1) (needs form) (fine_needs form s h)
+pub needs_plain : (form : Construction) (s : Scope) → fits_construction form s ≡ true → list_all is_plain (needs_of_construction form) ≡ true
+needs_plain form s h = every (is_fine s) is_plain (λ l k. (and_parts (all_in_scope s l) (is_plain l) k).1) (needs_of_construction form) (fine_needs form s h)
 
-pub gives_in_scope : (form : Construction) (s : Scope) → fits form s ≡ true → list_all (all_in_scope (grown s (made form))) (gives form s) ≡ true
+pub gives_in_scope : (form : Construction) (s : Scope) → fits_construction form s ≡ true → list_all (all_in_scope (grown s (sorts_made form))) (gives_of_construction form s) ≡ true
 gives_in_scope form s h =
-    let t = grown s (made form) in
-    every (is_fine t) (all_in_scope t) (λ l k. (and_parts (all_in_scope t l) (is_plain l) k).0) (gives form s) (fine_gives form s h)
+    let t = grown s (sorts_made form) in
+    every (is_fine t) (all_in_scope t) (λ l k. (and_parts (all_in_scope t l) (is_plain l) k).0) (gives_of_construction form s) (fine_gives form s h)
 
-pub gives_plain : (form : Construction) (s : Scope) → fits form s ≡ true → list_all is_plain (gives form s) ≡ true
+pub gives_plain : (form : Construction) (s : Scope) → fits_construction form s ≡ true → list_all is_plain (gives_of_construction form s) ≡ true
 gives_plain form s h =
-    let t = grown s (made form) in
-    every (is_fine t) is_plain (λ l k. (and_parts (all_in_scope t l) (is_plain l) k).1) (gives form s) (fine_gives form s h)
+    let t = grown s (sorts_made form) in
+    every (is_fine t) is_plain (λ l k. (and_parts (all_in_scope t l) (is_plain l) k).1) (gives_of_construction form s) (fine_gives form s h)
 
 -- ---- well formed
 
@@ -253,7 +253,7 @@ gives_plain form s h =
 abbrev pub is_good : Scope → Lit → Bool
 is_good s l = all_in_scope s l && is_well_formed l
 
-plain_atom_good : (n : Bool) (a : Atom) → is_plain (record { neg = n; atom = a }) ≡ true → is_good_atom a ≡ true
+plain_atom_good : (n : Bool) (a : Atom) → is_plain (record { neg = n; atom = a }) ≡ true → is_well_formed_atom a ≡ true
 plain_atom_good n (atoms.MagEq x y) h = absurd cc
 plain_atom_good n (atoms.MagLt x y) h = absurd cc
 plain_atom_good n a h = refl
@@ -261,13 +261,13 @@ plain_atom_good n a h = refl
 fine_is_good : (s : Scope) (l : Lit) → is_fine s l ≡ true → is_good s l ≡ true
 fine_is_good s l h = let p = and_parts (all_in_scope s l) (is_plain l) h in rw (p.0, plain_atom_good l.neg l.atom p.1) refl
 
-pub needs_good : (form : Construction) (s : Scope) → fits form s ≡ true → list_all (is_good s) (needs form) ≡ true
-needs_good form s h = every (is_fine s) (is_good s) (fine_is_good s) (needs form) (fine_needs form s h)
+pub needs_good : (form : Construction) (s : Scope) → fits_construction form s ≡ true → list_all (is_good s) (needs_of_construction form) ≡ true
+needs_good form s h = every (is_fine s) (is_good s) (fine_is_good s) (needs_of_construction form) (fine_needs form s h)
 
-pub gives_good : (form : Construction) (s : Scope) → fits form s ≡ true → list_all (is_good (grown s (made form))) (gives form s) ≡ true
+pub gives_good : (form : Construction) (s : Scope) → fits_construction form s ≡ true → list_all (is_good (grown s (sorts_made form))) (gives_of_construction form s) ≡ true
 gives_good form s h =
-    let t = grown s (made form) in
-    every (is_fine t) (is_good t) (fine_is_good t) (gives form s) (fine_gives form s h)
+    let t = grown s (sorts_made form) in
+    every (is_fine t) (is_good t) (fine_is_good t) (gives_of_construction form s) (fine_gives form s h)
 
 -- ---- a superposition
 
@@ -281,24 +281,24 @@ good_renamed s es args made land (l ∷ ls) h d =
     let here = moved_lit s (image_in es) l (every (λ (o : Obj). is_letter args o || is_letter made o) (is_moved_in s (image_in es)) (λ o i. lands_moved s es o (land o i)) (objects_of_atom l.atom) p.0) in
     rw (here, q.0, good_renamed s es args made land ls p.1 q.1) refl
 
-pub superposition_needs : (x : Superpose) (s : Scope) → superposing.fits x s ≡ true → list_all (is_fine s) (superposing.needs x) ≡ true
+pub superposition_needs : (x : Superpose) (s : Scope) → superposing.fits_superposition x s ≡ true → list_all (is_fine s) (superposing.needs_of_superposition x) ≡ true
 superposition_needs x s h =
     let os = superposing.objects_of x in
     fine_renamed s (paired superposing.superposed_args os) superposing.superposed_args [] (λ o i. lands_paired s superposing.superposed_args os o h i) superposing.superposed_needs refl refl
 
-pub superposition_gives : (x : Superpose) (s : Scope) → superposing.fits x s ≡ true → list_all (is_good (grown s superposing.made)) (superposing.gives x s) ≡ true
+pub superposition_gives : (x : Superpose) (s : Scope) → superposing.fits_superposition x s ≡ true → list_all (is_good (grown s superposing.sorts_copied)) (superposing.gives_of_superposition x s) ≡ true
 superposition_gives x s h =
     let ls = superposing.superposed_args in
     let os = superposing.objects_of x in
-    let t = grown s superposing.made in
-    let w : Within s t = grows s superposing.made in
-    let new = next_objects s superposing.made in
-    let made_are : are_of_sorts t superposing.made new ≡ true = new_of_sorts s t superposing.made (λ sort. omega arith) in
+    let t = grown s superposing.sorts_copied in
+    let w : Within s t = grows s superposing.sorts_copied in
+    let new = next_objects s superposing.sorts_copied in
+    let made_are : are_of_sorts t superposing.sorts_copied new ≡ true = new_of_sorts s t superposing.sorts_copied (λ sort. omega arith) in
     let es = paired ls os ++ paired superposing.copies new in
     let land : (o : Obj) → (is_letter ls o || is_letter superposing.copies o) ≡ true → lands t es o ≡ true = λ o i.
     lands_behind t ls os (paired superposing.copies new) o (is_letter superposing.copies o) (of_sorts_more s t w (sorts_of ls) os h) i
     (λ e. lands_paired t superposing.copies new o made_are (or_none (is_letter superposing.copies o) e)) in
     good_renamed t es ls superposing.copies land superposing.superposed_gives refl refl
 
-pub superposition_needs_good : (x : Superpose) (s : Scope) → superposing.fits x s ≡ true → list_all (is_good s) (superposing.needs x) ≡ true
-superposition_needs_good x s h = every (is_fine s) (is_good s) (fine_is_good s) (superposing.needs x) (superposition_needs x s h)
+pub superposition_needs_good : (x : Superpose) (s : Scope) → superposing.fits_superposition x s ≡ true → list_all (is_good s) (superposing.needs_of_superposition x) ≡ true
+superposition_needs_good x s h = every (is_fine s) (is_good s) (fine_is_good s) (superposing.needs_of_superposition x) (superposition_needs x s h)

@@ -3,7 +3,7 @@ use Rattle.std.proofs.Common.{◌≡◌, List, [], ◌∷◌, ◌++◌, refl, ap
 use Rattle.e_literal.specs.declared.object.Obj.{Obj}
 use Rattle.e_literal.specs.Rename.{image_in, paired, renamed}
 use Rattle.std.proofs.Common.{◌≤◌, arith, length, map}
-use Rattle.e_literal.specs.Scopes.{same_sort, are_of_sorts}
+use Rattle.e_literal.specs.Scopes.{same_sort}
 use Rattle.e_literal.specs.declared.literal.Lit.{Lit}
 use Rattle.e_construct.specs.Shapes.{ShapeRow}
 use Rattle.e_construct.specs.Construct.{of_sort, sorts_of, needs_of_avoided, argument, needs_of_row}
@@ -26,18 +26,13 @@ pub ruleset namings = (common_steps, image_in_first, image_in_second)
 
 pub ruleset joining = (common_steps, append-nil)
 
--- without objects nothing fits, and nothing has an image
-pub no_objects : (s : Scope) (ls os : List Obj) → 1 ≤ length ls → length os ≡ 0 → are_of_sorts s (sorts_of ls) os ≡ false
-no_objects s [] os h k = absurd (omega arith)
-no_objects s (l ∷ ls) [] h k = refl
-no_objects s (l ∷ ls) (o ∷ os) h k = absurd (omega (arith, k))
-
+-- without objects nothing has an image
 pub no_image : (ls os : List Obj) (o : Obj) → length os ≡ 0 → image_in (paired ls os) o ≡ None
 no_image [] os o k = refl
 no_image (l ∷ ls) [] o k = refl
 no_image (l ∷ ls) (x ∷ os) o k = absurd (omega (arith, k))
 
-pub ruleset empties = (common_steps, no_objects, no_image)
+pub ruleset empties = (common_steps, no_image)
 
 -- the needs of a row, where they are written one part after the other
 pub needs_of : (r : ShapeRow) (args avoid : List Obj) (start first last : List Lit) → start ≡ [] →

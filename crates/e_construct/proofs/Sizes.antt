@@ -4,7 +4,7 @@ use Rattle.e_construct.specs.declared.construction.Construction.{Construction}
 use Rattle.e_construct.specs.declared.construction.Shape.{Shape}
 use Rattle.e_construct.specs.declared.construction.Shape.TheVariants.{Free, OnLine, Within, Beyond, SideOf, Opposite, OnCircle, Inside, Outside, LineThrough, CircleAt, MeetLines, MeetOne, MeetBoth, MeetWithin, MeetBeyond, CirclesOne, CirclesBoth, CirclesSide, CirclesOpposite}
 use Rattle.e_construct.specs.Shapes.{shape_row}
-use Rattle.e_construct.specs.Construct.{made, sorts_of}
+use Rattle.e_construct.specs.Construct.{sorts_made, sorts_of}
 
 few_of_shape : (s : Shape) → length (sorts_of (shape_row s).made) ≤ 2
 unfolding shape_row
@@ -30,5 +30,5 @@ few_of_shape CirclesSide = omega arith
 few_of_shape CirclesOpposite = omega arith
 
 -- a construction makes at most two
-pub few_made : (x : Construction) → length (made x) ≤ 2
+pub few_made : (x : Construction) → length (sorts_made x) ≤ 2
 few_made x = few_of_shape x.shape

@@ -9,7 +9,7 @@ use Rattle.e_literal.specs.declared.literal.Lit.{Lit}
 use Rattle.e_literal.specs.declared.literal.Atom.TheVariants.{On, Between, Same, EqP}
 use Rattle.e_construct.specs.declared.superpose.Superpose.{Superpose}
 use Rattle.e_construct.specs.Shapes.{is, isnt}
-use Rattle.e_construct.specs.Superposing.{equal, fits, needs, gives}
+use Rattle.e_construct.specs.Superposing.{equal, fits_superposition, needs_of_superposition, gives_of_superposition}
 
 -- ---- six points and two lines
 
@@ -57,9 +57,9 @@ are_below limit ns = list_all (λ n. nat_lt n limit) ns
 
 -- a superposition fits where its points are below the number of points, and its lines below that of lines
 pub fits_of : (x : Superpose) (s : Scope) → length x.points ≡ 6 → length x.lines ≡ 2 →
-    are_below s.points x.points && are_below s.lines x.lines ≡ fits x s
+    are_below s.points x.points && are_below s.lines x.lines ≡ fits_superposition x s
 fits_of x s e f =
-    of_eight (λ xs ys. are_below s.points xs && are_below s.lines ys ≡ fits (at xs ys) s)
+    of_eight (λ xs ys. are_below s.points xs && are_below s.lines ys ≡ fits_superposition (at xs ys) s)
     (λ a b c d g h k l.
     grouped (nat_lt a s.points) (nat_lt b s.points) (nat_lt c s.points) (nat_lt d s.points) (nat_lt g s.points)
     (nat_lt h s.points) (nat_lt k s.lines && (nat_lt l s.lines && true)))
@@ -78,9 +78,9 @@ needs_at xs ys =
     ∷ is (On (get_or xs 4 0) (get_or ys 1 0))
     ∷ isnt (is (On (get_or xs 5 0) (get_or ys 1 0))) ∷ []
 
-pub needs_of : (x : Superpose) → length x.points ≡ 6 → length x.lines ≡ 2 → needs_at x.points x.lines ≡ needs x
+pub needs_of : (x : Superpose) → length x.points ≡ 6 → length x.lines ≡ 2 → needs_at x.points x.lines ≡ needs_of_superposition x
 needs_of x e f =
-    of_eight (λ xs ys. needs_at xs ys ≡ needs (at xs ys)) (λ a b c d g h k l. refl) x.points x.lines e f
+    of_eight (λ xs ys. needs_at xs ys ≡ needs_of_superposition (at xs ys)) (λ a b c d g h k l. refl) x.points x.lines e f
 
 -- a triangle's sides and angles are those of its copy
 abbrev pub copied : (a b c p q r : ℕ) → List Lit
@@ -97,15 +97,15 @@ gives_at xs ys p q =
     ++ placed (get_or xs 3 0) (get_or xs 4 0) (get_or xs 5 0) (get_or ys 1 0) p q
 
 pub gives_of : (x : Superpose) (s : Scope) → length x.points ≡ 6 → length x.lines ≡ 2 →
-    gives_at x.points x.lines s.points (s.points + 1) ≡ gives x s
+    gives_at x.points x.lines s.points (s.points + 1) ≡ gives_of_superposition x s
 gives_of x s e f =
-    of_eight (λ xs ys. gives_at xs ys s.points (s.points + 1) ≡ gives (at xs ys) s) (λ a b c d g h k l. refl) x.points x.lines e f
+    of_eight (λ xs ys. gives_at xs ys s.points (s.points + 1) ≡ gives_of_superposition (at xs ys) s) (λ a b c d g h k l. refl) x.points x.lines e f
 
 -- as the program tests it, where the points are below their number and where one is not
 pub fits_by_lines : (x : Superpose) (s : Scope) (p l : Bool) → length x.points ≡ 6 → length x.lines ≡ 2 → p ≡ true →
-    p ≡ are_below s.points x.points → l ≡ are_below s.lines x.lines → l ≡ fits x s
+    p ≡ are_below s.points x.points → l ≡ are_below s.lines x.lines → l ≡ fits_superposition x s
 fits_by_lines x s p l e f t h k = k ∙ ap (λ b. b && are_below s.lines x.lines) (sym t ∙ h) ∙ fits_of x s e f
 
 pub fits_not : (x : Superpose) (s : Scope) (p : Bool) → length x.points ≡ 6 → length x.lines ≡ 2 → p ≡ false →
-    p ≡ are_below s.points x.points → p ≡ fits x s
+    p ≡ are_below s.points x.points → p ≡ fits_superposition x s
 fits_not x s p e f t h = t ∙ ap (λ b. b && are_below s.lines x.lines) (sym t ∙ h) ∙ fits_of x s e f

@@ -1,18 +1,19 @@
-// The lines of the twenty constructions.
+//! The lines of the twenty constructions.
 
 #![allow(non_upper_case_globals)]
 
 ghost use Rattle.std.specs.Prelude.{◌≡◌, map};
 ghost use Rattle.e_construct.specs.Construct.{sorts_of};
 ghost use Rattle.e_construct.specs.Lines;
-ghost use Rattle.e_construct.specs.Views.{piece_said};
+ghost use Rattle.e_construct.specs.Views.{piece_view};
 
 use crate::construction::Shape;
 use crate::pattern::Avoids;
 use crate::shapes::row;
 use e_literal::Obj;
 
-/// A piece of a line behind the word `let`: the name of a new object, the name of the next argument, or a word.
+/// A piece of a line behind the word `let`: the name of a new object, the name of the next
+/// argument, or a word.
 #[derive(Clone, Copy)]
 pub enum Piece {
     New,
@@ -112,30 +113,9 @@ pub fn all_shapes() -> &'static [Shape]
 /// The line of a shape, behind the word `let`.
 #[tactic(auto, unfolding(crate::specs::Lines::pieces))]
 pub fn pieces(shape: Shape) -> &'static [Piece]
-    ensures { map piece_said result.now ≡ Lines.pieces shape }
+    ensures { map piece_view result.now ≡ Lines.pieces shape }
 {
-    match shape {
-        Shape::Free => LINES[0],
-        Shape::OnLine => LINES[1],
-        Shape::Within => LINES[2],
-        Shape::Beyond => LINES[3],
-        Shape::SideOf => LINES[4],
-        Shape::Opposite => LINES[5],
-        Shape::OnCircle => LINES[6],
-        Shape::Inside => LINES[7],
-        Shape::Outside => LINES[8],
-        Shape::LineThrough => LINES[9],
-        Shape::CircleAt => LINES[10],
-        Shape::MeetLines => LINES[11],
-        Shape::MeetOne => LINES[12],
-        Shape::MeetBoth => LINES[13],
-        Shape::MeetWithin => LINES[14],
-        Shape::MeetBeyond => LINES[15],
-        Shape::CirclesOne => LINES[16],
-        Shape::CirclesBoth => LINES[17],
-        Shape::CirclesSide => LINES[18],
-        Shape::CirclesOpposite => LINES[19],
-    }
+    LINES[shape as usize]
 }
 
 /// Whether the line of a shape may end with the word `avoid` and objects.

@@ -1,16 +1,12 @@
-// The objects for the variables of a shape.
+//! The objects for the variables of a shape.
 
-ghost use Rattle.std.specs.Prelude.{◌≡◌, ◌<◌, ◌+◌, ◌^◌, ◌++◌, length, IfOk, false};
-ghost use Rattle.e_literal.specs.Literal.{is_in_scope};
-ghost use Rattle.e_literal.specs.Scopes.{are_of_sorts};
-ghost use Rattle.e_literal.specs.Rename.{image_in, paired, number_at, renamed, same_obj};
+ghost use Rattle.std.specs.Prelude.{◌≡◌, false};
+ghost use Rattle.e_literal.specs.Rename.{image_in, paired, number_at, renamed};
 ghost use Rattle.e_literal.specs.declared.object.Sort.TheVariants.{Point, Line, Circle};
-ghost use Rattle.e_construct.specs.Construct.{sorts_of};
-ghost use Rattle.e_construct.specs.Views.{atom_of, lit_of, image_of};
+ghost use Rattle.e_construct.specs.inner.Views.{atom_of, lit_of, image_of};
 
 use crate::pattern::{Pattern, Relation};
-use e_literal::{Atom, Lit, Obj, Scope, Sort, count, with_one};
-use std::alloc::{AllocError, Global};
+use e_literal::{Atom, Lit, Obj, Sort, is_same_object};
 
 /// The arguments in the places of their variables, and the new objects in the places of theirs.
 #[derive(Clone, Copy)]
@@ -98,7 +94,7 @@ pub fn image(letters: &[Obj], objects: &[Obj], letter: Obj) -> Option<Obj>
 {
     match (letters, objects) {
         ([first, letters @ ..], [object, objects @ ..]) => {
-            if same(*first, letter) {
+            if is_same_object(*first, letter) {
                 Some(*object)
             } else {
                 image(letters, objects, letter)
@@ -106,60 +102,5 @@ pub fn image(letters: &[Obj], objects: &[Obj], letter: Obj) -> Option<Obj>
         }
         ([], _) => None,
         ([_, ..], []) => None,
-    }
-}
-
-pub fn same_sort(x: Sort, y: Sort) -> bool
-    ensures { result ≡ Rattle.e_literal.specs.Scopes.same_sort x y }
-{
-    x == y
-}
-
-fn same(x: Obj, y: Obj) -> bool
-    ensures { result ≡ same_obj x y }
-{
-    x.sort == y.sort && x.num == y.num
-}
-
-/// The objects that come next in the scope, one for each variable and of its sort.
-#[tactic(auto, using(e_literal::proofs::Growing::growing))]
-pub fn next_objects(alloc: Global, scope: Scope, letters: &[Obj]) -> Result<Vec<Obj>, AllocError>
-    requires points { scope.points + length letters.now < 2 ^ 16 }
-    requires lines { scope.lines + length letters.now < 2 ^ 16 }
-    requires circles { scope.circles + length letters.now < 2 ^ 16 }
-    ensures { IfOk result (λ objects. objects.items ≡ Rattle.e_literal.specs.Scopes.next_objects scope (sorts_of letters.now)) }
-{
-    let mut scope = scope;
-    let mut objects = Vec::new(alloc);
-    for letter in letters {
-        objects.push(Obj {
-            sort: letter.sort,
-            num: count(scope, letter.sort),
-        })?;
-        scope = with_one(scope, letter.sort);
-    }
-    Ok(objects)
-}
-
-pub fn is_in_scope(scope: Scope, object: Obj) -> bool
-    ensures { result ≡ Rattle.e_literal.specs.Literal.is_in_scope scope object }
-{
-    object.num < count(scope, object.sort)
-}
-
-/// Whether the objects are as many as the variables, of their sorts, and in scope.
-#[tactic(auto, using(crate::proofs::Images::empties))]
-pub fn are_of_sorts(scope: Scope, letters: &[Obj], objects: &[Obj]) -> bool
-    ensures { result ≡ Rattle.e_literal.specs.Scopes.are_of_sorts scope (sorts_of letters.now) objects.now }
-{
-    match (letters, objects) {
-        ([], []) => true,
-        ([letter, letters @ ..], [object, objects @ ..]) => {
-            letter.sort == object.sort
-                && is_in_scope(scope, *object)
-                && are_of_sorts(scope, letters, objects)
-        }
-        ([], [_, ..]) => false,
-        ([_, ..], []) => false,
     }
 }

@@ -1,4 +1,4 @@
-// Literals over the variables of a shape.
+//! Literals over the variables of a shape.
 
 use e_literal::{Obj, Sort};
 
@@ -24,8 +24,8 @@ pub enum Pattern {
     Not(Relation),
 }
 
-/// What a construction may avoid: nothing, any objects, or any objects where those of the variable's
-/// sort have to differ from its argument.
+/// What a construction may avoid: nothing, any objects, or any objects where those of the
+/// variable's sort have to differ from its argument.
 #[derive(Clone, Copy)]
 pub enum Avoids {
     NoObject,
@@ -45,7 +45,8 @@ pub struct Row {
     pub avoids: Avoids,
 }
 
-/// A row: its arguments, its needs, what it makes with the sorts, what it gives, and what it avoids.
+/// A row: its arguments, its needs, what it makes with the sorts, what it gives, and what it
+/// avoids.
 macro_rules! shape {
     ($($arg:ident)*; $($need:expr),* => $($made:ident $sort:ident)*; $($give:expr),*; $avoids:expr) => {
         $crate::pattern::Row {

@@ -1,11 +1,11 @@
-// The table of the twenty shapes.
+//! The table of the twenty shapes.
 
 #![allow(non_upper_case_globals)]
 
 ghost use Rattle.std.specs.Prelude.{◌≡◌, ◌≤◌, length};
 ghost use Rattle.e_construct.specs.Shapes.{shape_row};
 ghost use Rattle.e_construct.specs.Construct.{sorts_of};
-ghost use Rattle.e_construct.specs.Views.{row_said};
+ghost use Rattle.e_construct.specs.inner.Views.{row_view};
 
 use crate::construction::Shape;
 use crate::pattern::Avoids::{AnyApartFrom, AnyObject, NoObject};
@@ -92,30 +92,9 @@ static ROWS: [Row; 20] = [
 /// The row of a shape.
 #[tactic(auto, unfolding(crate::specs::Shapes::shape_row))]
 pub fn row(shape: Shape) -> &'static Row
-    ensures row { row_said result.now ≡ shape_row shape }
+    ensures row { row_view result.now ≡ shape_row shape }
     ensures sorts { result.now.sorts.now ≡ sorts_of (shape_row shape).made }
-    ensures few { length result.now.made.now ≤ 2 }
+    ensures few { length result.now.sorts.now ≤ 2 }
 {
-    match shape {
-        Shape::Free => &ROWS[0],
-        Shape::OnLine => &ROWS[1],
-        Shape::Within => &ROWS[2],
-        Shape::Beyond => &ROWS[3],
-        Shape::SideOf => &ROWS[4],
-        Shape::Opposite => &ROWS[5],
-        Shape::OnCircle => &ROWS[6],
-        Shape::Inside => &ROWS[7],
-        Shape::Outside => &ROWS[8],
-        Shape::LineThrough => &ROWS[9],
-        Shape::CircleAt => &ROWS[10],
-        Shape::MeetLines => &ROWS[11],
-        Shape::MeetOne => &ROWS[12],
-        Shape::MeetBoth => &ROWS[13],
-        Shape::MeetWithin => &ROWS[14],
-        Shape::MeetBeyond => &ROWS[15],
-        Shape::CirclesOne => &ROWS[16],
-        Shape::CirclesBoth => &ROWS[17],
-        Shape::CirclesSide => &ROWS[18],
-        Shape::CirclesOpposite => &ROWS[19],
-    }
+    &ROWS[shape as usize]
 }

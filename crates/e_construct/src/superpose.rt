@@ -1,4 +1,4 @@
-// Superposition: a triangle is put onto a point, along a line.
+//! Superposition: a triangle is put onto a point, along a line.
 
 ghost use Rattle.std.specs.Prelude.{◌≡◌, ◌∷◌, [], ◌<◌, ◌+◌, ◌^◌, ◌++◌, map, IfOk, OnOk, false, true};
 ghost use Rattle.std.specs.Prelude.{nat_lt};
@@ -9,8 +9,8 @@ ghost use Rattle.e_construct.specs.Superposing;
 use e_literal::{Atom, Form, Lit, Mono, Scope, Sort, Term};
 use std::alloc::{AllocError, Global};
 
-/// A superposition: the points `a b c d g h`, and the lines `K L`. The triangle `a b c`, whose side `a b` is on `K`, is put
-/// onto `d`, along `L` towards `g`, and on the side of `L` on which `h` is.
+/// A superposition: the points `a b c d g h`, and the lines `K L`. The triangle `a b c`, whose side
+/// `a b` is on `K`, is put onto `d`, along `L` towards `g`, and on the side of `L` on which `h` is.
 #[derive(Clone, Copy, PartialEq, Eq, Debug)]
 pub struct Superpose {
     pub points: [u16; 6],
@@ -22,7 +22,7 @@ static COPIES: [Sort; 2] = [Sort::Point, Sort::Point];
 impl Superpose {
     /// Whether its points and lines are in scope.
     pub fn fits(&self, scope: Scope) -> bool
-        ensures { result ≡ Superposing.fits self.now scope }
+        ensures { result ≡ Superposing.fits_superposition self.now scope }
     {
         let points = are_below(scope.points, &self.points);
         let lines = are_below(scope.lines, &self.lines);
@@ -31,7 +31,7 @@ impl Superpose {
 
     /// The literals that have to be licensed before it, in order.
     pub fn needs(&self, alloc: Global) -> Result<Vec<Lit>, AllocError>
-        ensures { IfOk result (λ lits. lits.items ≡ Superposing.needs self.now) }
+        ensures { IfOk result (λ lits. lits.items ≡ Superposing.needs_of_superposition self.now) }
     {
         let [a, b, c, d, g, h] = self.points;
         let [k, l] = self.lines;
@@ -50,7 +50,7 @@ impl Superpose {
 
     /// The sorts of the objects that it makes, the copies of `b` and `c`. The copy of `a` is `d`.
     pub fn made(&self) -> &'static [Sort]
-        ensures { result.now ≡ Superposing.made }
+        ensures { result.now ≡ Superposing.sorts_copied }
     {
         &COPIES
     }
@@ -58,7 +58,7 @@ impl Superpose {
     /// What holds in its block, in order, where the copies are the next points of the scope.
     pub fn gives(&self, alloc: Global, scope: Scope) -> Result<Vec<Lit>, AllocError>
         requires { scope.points + 2 < 2 ^ 16 }
-        ensures { IfOk result (λ lits. lits.items ≡ Superposing.gives self.now scope) }
+        ensures { IfOk result (λ lits. lits.items ≡ Superposing.gives_of_superposition self.now scope) }
     {
         let [a, b, c, d, g, h] = self.points;
         let [_, l] = self.lines;

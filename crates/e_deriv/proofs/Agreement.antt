@@ -14,7 +14,7 @@ use Rattle.e_literal.proofs.Booleans.{and_left, and_right, all_left, all_right}
 use Rattle.e_clause.specs.Allowed.{AllAllowed}
 use Rattle.e_clause.specs.Certify.{certify_all}
 use Rattle.e_clause.proofs.Sound.{all_allowed_of_certified, contradictory_of_certified}
-use Rattle.e_construct.specs.Construct.{made, gives}
+use Rattle.e_construct.specs.Construct.{sorts_made, gives_of_construction}
 use Rattle.e_construct.specs.Superposing as superposing
 use Rattle.e_theorem.specs.Choice.{fills, is_choice, IsGood}
 use Rattle.e_deriv.specs.Script.{Script, Cite, Hence, Make, Apply, Claim, Superposed, Qed, Contradiction, Cases}
@@ -78,9 +78,9 @@ proves_of_certified before (Hence lit (Some cert) rest) s facts goal h =
     (q.form, (all_allowed_of_certified s facts (needs before x) (certs_of x.here) q.certs).0, proves_of_certified before rest s (joined facts lit) goal q.rest)
 proves_of_certified before (Make form names certs rest) s facts goal h =
     let x = line (Make form names certs rest) (Make form names certs rest) s facts goal in
-    let after = joined_all facts (gives form s) in
-    let q = parts_of before x (lines before rest rest (grown s (made form)) after goal) h in
-    (q.form, all_allowed_of_certified s facts (needs before x) certs q.certs, proves_of_certified before rest (grown s (made form)) after goal q.rest)
+    let after = joined_all facts (gives_of_construction form s) in
+    let q = parts_of before x (lines before rest rest (grown s (sorts_made form)) after goal) h in
+    (q.form, all_allowed_of_certified s facts (needs before x) certs q.certs, proves_of_certified before rest (grown s (sorts_made form)) after goal q.rest)
 proves_of_certified before (Apply theorem args names certs rest) s facts goal h =
     let x = line (Apply theorem args names certs rest) (Apply theorem args names certs rest) s facts goal in
     let t = theorem_at before theorem in
@@ -98,14 +98,14 @@ proves_of_certified before (Claim shown inner rest) s facts goal h =
     )
 proves_of_certified before (Superposed form names shown certs inner rest) s facts goal h =
     let x = line (Superposed form names shown certs inner rest) (Superposed form names shown certs inner rest) s facts goal in
-    let g = grown s superposing.made in
-    let given = joined_all facts (superposing.gives form s) in
+    let g = grown s superposing.sorts_copied in
+    let given = joined_all facts (superposing.gives_of_superposition form s) in
     let one = lines before inner inner g given (goal_of shown) in
     let other = lines before rest rest s (joined_all facts shown) goal in
     let q = parts_of before x (one ++ other) h in (
-      and_left (superposing.fits form s) (are_over s shown) q.form,
+      and_left (superposing.fits_superposition form s) (are_over s shown) q.form,
       all_allowed_of_certified s facts (needs before x) certs q.certs,
-      and_right (superposing.fits form s) (are_over s shown) q.form,
+      and_right (superposing.fits_superposition form s) (are_over s shown) q.form,
       proves_of_certified before inner g given (goal_of shown) (all_left (is_certified before) one other q.rest),
       proves_of_certified before rest s (joined_all facts shown) goal (all_right (is_certified before) one other q.rest),
     )
@@ -144,7 +144,7 @@ unfolding lines Proves filled_by
 proves_of_licensed before (Cite by rest) f s facts goal h = (h.0.fits, h.0.beside, proves_of_licensed before rest (rest_of f) s (joined facts by.lit) goal h.1)
 proves_of_licensed before (Hence lit cert rest) f s facts goal h = (h.0.fits, h.0.allowed.0, proves_of_licensed before rest (rest_of f) s (joined facts lit) goal h.1)
 proves_of_licensed before (Make form names certs rest) f s facts goal h =
-    (h.0.fits, h.0.allowed, proves_of_licensed before rest (rest_of f) (grown s (made form)) (joined_all facts (gives form s)) goal h.1)
+    (h.0.fits, h.0.allowed, proves_of_licensed before rest (rest_of f) (grown s (sorts_made form)) (joined_all facts (gives_of_construction form s)) goal h.1)
 proves_of_licensed before (Apply theorem pattern names certs rest) f s facts goal h =
     let t = theorem_at before theorem in
     let args = args_of f in
@@ -163,13 +163,13 @@ proves_of_licensed before (Claim shown inner rest) f s facts goal h =
       proves_of_licensed before rest (rest_of f) s (joined_all facts shown) goal (second_licensed before one other h.1),
     )
 proves_of_licensed before (Superposed form names shown certs inner rest) f s facts goal h =
-    let g = grown s superposing.made in
-    let given = joined_all facts (superposing.gives form s) in
+    let g = grown s superposing.sorts_copied in
+    let given = joined_all facts (superposing.gives_of_superposition form s) in
     let one = lines before inner (inner_of f) g given (goal_of shown) in
     let other = lines before rest (rest_of f) s (joined_all facts shown) goal in (
-      and_left (superposing.fits form s) (are_over s shown) h.0.fits,
+      and_left (superposing.fits_superposition form s) (are_over s shown) h.0.fits,
       h.0.allowed,
-      and_right (superposing.fits form s) (are_over s shown) h.0.fits,
+      and_right (superposing.fits_superposition form s) (are_over s shown) h.0.fits,
       proves_of_licensed before inner (inner_of f) g given (goal_of shown) (first_licensed before one other h.1),
       proves_of_licensed before rest (rest_of f) s (joined_all facts shown) goal (second_licensed before one other h.1),
     )
@@ -190,7 +190,7 @@ unfolding lines Proves
 licensed_of_proves before (Cite by rest) s facts goal h = (record { fits = h.0; allowed = tt; beside = h.1 }, licensed_of_proves before rest s (joined facts by.lit) goal h.2)
 licensed_of_proves before (Hence lit cert rest) s facts goal h = (record { fits = h.0; allowed = (h.1, tt); beside = tt }, licensed_of_proves before rest s (joined facts lit) goal h.2)
 licensed_of_proves before (Make form names certs rest) s facts goal h =
-    (record { fits = h.0; allowed = h.1; beside = tt }, licensed_of_proves before rest (grown s (made form)) (joined_all facts (gives form s)) goal h.2)
+    (record { fits = h.0; allowed = h.1; beside = tt }, licensed_of_proves before rest (grown s (sorts_made form)) (joined_all facts (gives_of_construction form s)) goal h.2)
 licensed_of_proves before (Apply theorem args names certs rest) s facts goal h =
     let t = theorem_at before theorem in
     let good : IsGood t s facts args (written args) = record { is_choice = and_right (ltb theorem (length before)) (is_choice t s args (written args)) h.1; allowed = h.2 } in (
@@ -204,11 +204,11 @@ licensed_of_proves before (Claim shown inner rest) s facts goal h =
       both_licensed before one other (licensed_of_proves before inner s facts (goal_of shown) h.1) (licensed_of_proves before rest s (joined_all facts shown) goal h.2),
     )
 licensed_of_proves before (Superposed form names shown certs inner rest) s facts goal h =
-    let g = grown s superposing.made in
-    let given = joined_all facts (superposing.gives form s) in
+    let g = grown s superposing.sorts_copied in
+    let given = joined_all facts (superposing.gives_of_superposition form s) in
     let one = lines before inner inner g given (goal_of shown) in
     let other = lines before rest rest s (joined_all facts shown) goal in (
-      record { fits = and_from (superposing.fits form s) (are_over s shown) h.0 h.2; allowed = h.1; beside = tt },
+      record { fits = and_from (superposing.fits_superposition form s) (are_over s shown) h.0 h.2; allowed = h.1; beside = tt },
       both_licensed before one other (licensed_of_proves before inner g given (goal_of shown) h.3) (licensed_of_proves before rest s (joined_all facts shown) goal h.4),
     )
 licensed_of_proves before (Qed objects certs) s facts goal h = (record { fits = h.0; allowed = h.1; beside = tt }, tt)

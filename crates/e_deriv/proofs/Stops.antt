@@ -13,7 +13,7 @@ use Rattle.e_literal.specs.Scopes.{grown}
 use Rattle.e_literal.specs.Use.{Stated, are_arguments, needs_of_use, gives_of_use, scope_of}
 use Rattle.e_literal.proofs.Booleans.{and_left, and_right}
 use Rattle.e_clause.specs.Allowed.{Allowed, AllAllowed}
-use Rattle.e_construct.specs.Construct.{made, gives}
+use Rattle.e_construct.specs.Construct.{sorts_made, gives_of_construction}
 use Rattle.e_construct.specs.Superposing as superposing
 use Rattle.e_theorem.specs.Choice.{fills, is_choice}
 use Rattle.e_deriv.specs.declared.stop.Wanted.{Wanted}
@@ -178,7 +178,7 @@ unfolding lines size
 lines_length before (Cite by rest) f s facts goal = let h = lines_length before rest (rest_of f) s (joined facts by.lit) goal in omega (arith, h)
 lines_length before (Hence lit cert rest) f s facts goal = let h = lines_length before rest (rest_of f) s (joined facts lit) goal in omega (arith, h)
 lines_length before (Make form names certs rest) f s facts goal =
-    let h = lines_length before rest (rest_of f) (grown s (made form)) (joined_all facts (gives form s)) goal in omega (arith, h)
+    let h = lines_length before rest (rest_of f) (grown s (sorts_made form)) (joined_all facts (gives_of_construction form s)) goal in omega (arith, h)
 lines_length before (Apply theorem args names certs rest) f s facts goal =
     let h = lines_length before rest (rest_of f) (grown s (theorem_at before theorem).made) (joined_all facts (gives_of_use (theorem_at before theorem) (args_of f) s)) goal in omega (arith, h)
 lines_length before (Claim shown inner rest) f s facts goal =
@@ -188,9 +188,9 @@ lines_length before (Claim shown inner rest) f s facts goal =
     let k = lines_length before rest (rest_of f) s (joined_all facts shown) goal in
     omega (arith, h, k, length-append one other)
 lines_length before (Superposed form names shown certs inner rest) f s facts goal =
-    let one = lines before inner (inner_of f) (grown s superposing.made) (joined_all facts (superposing.gives form s)) (goal_of shown) in
+    let one = lines before inner (inner_of f) (grown s superposing.sorts_copied) (joined_all facts (superposing.gives_of_superposition form s)) (goal_of shown) in
     let other = lines before rest (rest_of f) s (joined_all facts shown) goal in
-    let h = lines_length before inner (inner_of f) (grown s superposing.made) (joined_all facts (superposing.gives form s)) (goal_of shown) in
+    let h = lines_length before inner (inner_of f) (grown s superposing.sorts_copied) (joined_all facts (superposing.gives_of_superposition form s)) (goal_of shown) in
     let k = lines_length before rest (rest_of f) s (joined_all facts shown) goal in
     omega (arith, h, k, length-append one other)
 lines_length before (Qed objects certs) f s facts goal = refl
@@ -225,10 +225,10 @@ same_context before (Hence lit cert rest) f f' s facts goal zero x y h k =
 same_context before (Hence lit cert rest) f f' s facts goal (suc p) x y h k =
     same_context before rest (rest_of f) (rest_of f') s (joined facts lit) goal p x y (behind before _ _ p x h) (behind before _ _ p y k)
 same_context before (Make form names certs rest) f f' s facts goal zero x y h k =
-    let after = joined_all facts (gives form s) in
-    first_place before _ _ (lines before rest (rest_of f) (grown s (made form)) after goal) (lines before rest (rest_of f') (grown s (made form)) after goal) x y (alike (Make form names certs rest) f f' s facts goal) h k
+    let after = joined_all facts (gives_of_construction form s) in
+    first_place before _ _ (lines before rest (rest_of f) (grown s (sorts_made form)) after goal) (lines before rest (rest_of f') (grown s (sorts_made form)) after goal) x y (alike (Make form names certs rest) f f' s facts goal) h k
 same_context before (Make form names certs rest) f f' s facts goal (suc p) x y h k =
-    same_context before rest (rest_of f) (rest_of f') (grown s (made form)) (joined_all facts (gives form s)) goal p x y (behind before _ _ p x h) (behind before _ _ p y k)
+    same_context before rest (rest_of f) (rest_of f') (grown s (sorts_made form)) (joined_all facts (gives_of_construction form s)) goal p x y (behind before _ _ p x h) (behind before _ _ p y k)
 same_context before (Apply theorem pattern names certs rest) f f' s facts goal zero x y h k =
     let t = theorem_at before theorem in
     first_place before _ _ (lines before rest (rest_of f) (grown s t.made) (joined_all facts (gives_of_use t (args_of f) s)) goal)
@@ -252,13 +252,13 @@ same_context before (Claim shown inner rest) f f' s facts goal (suc p) x y h k =
       | inr r ↦ same_context before rest (rest_of f) (rest_of f') s (joined_all facts shown) goal r.place x y r.one r.other
     ]
 same_context before (Superposed form names shown certs inner rest) f f' s facts goal zero x y h k =
-    let g = grown s superposing.made in
-    let given = joined_all facts (superposing.gives form s) in
+    let g = grown s superposing.sorts_copied in
+    let given = joined_all facts (superposing.gives_of_superposition form s) in
     first_place before _ _ (lines before inner (inner_of f) g given (goal_of shown) ++ lines before rest (rest_of f) s (joined_all facts shown) goal)
     (lines before inner (inner_of f') g given (goal_of shown) ++ lines before rest (rest_of f') s (joined_all facts shown) goal) x y (alike (Superposed form names shown certs inner rest) f f' s facts goal) h k
 same_context before (Superposed form names shown certs inner rest) f f' s facts goal (suc p) x y h k =
-    let g = grown s superposing.made in
-    let given = joined_all facts (superposing.gives form s) in
+    let g = grown s superposing.sorts_copied in
+    let given = joined_all facts (superposing.gives_of_superposition form s) in
     let one = lines before inner (inner_of f) g given (goal_of shown) in
     let one' = lines before inner (inner_of f') g given (goal_of shown) in
     let other = lines before rest (rest_of f) s (joined_all facts shown) goal in

@@ -8,16 +8,16 @@ use Rattle.e_clause.specs.declared.cert.Cert.{Cert}
 use Rattle.e_clause.specs.declared.cert.Against.{Against}
 use Rattle.e_clause.specs.Versions.{is_cert_of, is_against_of}
 use Rattle.e_clause.proofs.Versions.{good_cert, good_certs, good_against}
-use Rattle.e_clause.specs.Written.{is_good_cert, is_good_against}
+use Rattle.e_clause.specs.Written.{is_writable_cert, is_writable_against}
 use Rattle.e_deriv.specs.Script.{Script, Cite, Hence, Make, Apply, Claim, Superposed, Qed, Contradiction, Cases}
 use Rattle.e_deriv.specs.Written.{has_good_certs}
 use Rattle.e_deriv.specs.Versions.{has_certs_of}
 
-good_if_any : (v : Version) (c : Option Cert) → option_map_or (is_cert_of v) c true ≡ true → option_map_or is_good_cert c true ≡ true
+good_if_any : (v : Version) (c : Option Cert) → option_map_or (is_cert_of v) c true ≡ true → option_map_or is_writable_cert c true ≡ true
 good_if_any v None h = refl
 good_if_any v (Some c) h = good_cert v c h
 
-good_against_if_any : (v : Version) (a : Option Against) → option_map_or (is_against_of v) a true ≡ true → option_map_or is_good_against a true ≡ true
+good_against_if_any : (v : Version) (a : Option Against) → option_map_or (is_against_of v) a true ≡ true → option_map_or is_writable_against a true ≡ true
 good_against_if_any v None h = refl
 good_against_if_any v (Some a) h = good_against v a h
 

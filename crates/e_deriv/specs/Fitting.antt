@@ -4,7 +4,7 @@ use Rattle.std.specs.List.{list_all}
 use Rattle.e_literal.specs.declared.object.Scope.{Scope}
 use Rattle.e_literal.specs.Scopes.{grown}
 use Rattle.e_literal.specs.Use.{Stated, scope_of, is_statement}
-use Rattle.e_clause.specs.Judged.{are_good, are_good_facts}
+use Rattle.e_clause.specs.Judged.{are_well_formed_in, are_limited_facts}
 use Rattle.e_theorem.specs.Pattern.{is_pattern}
 use Rattle.e_deriv.specs.Script.{Script, Apply, size, depth}
 use Rattle.e_deriv.specs.Lines.{Line, theorem_at, proof_lines}
@@ -34,8 +34,8 @@ form_fits before x _ = fits before x
 abbrev pub LitsFit : List Stated → List Line → Type 0
 LitsFit before [] = Unit {0}
 LitsFit before (x ∷ xs) =
-    IsTrue (are_good_facts x.scope x.facts)
-    × (IsTrue (fits before x) → IsTrue (are_good x.scope (needs before x)) × LitsFit before xs)
+    IsTrue (are_limited_facts x.scope x.facts)
+    × (IsTrue (fits before x) → IsTrue (are_well_formed_in x.scope (needs before x)) × LitsFit before xs)
 
 -- the form of each line fits, and so do the literals, however blanks are filled; there are at most 1,024 lines, and at most 32
 -- blocks stand one inside the other; before each line at most 1,000 objects of each sort are in scope, and no statement has more,

@@ -7,7 +7,7 @@ use Rattle.e_literal.specs.Literal.{negation}
 use Rattle.e_literal.specs.Facts.{joined, joined_all}
 use Rattle.e_literal.specs.Scopes.{grown}
 use Rattle.e_literal.specs.Use.{Stated, gives_of_use, scope_of}
-use Rattle.e_construct.specs.Construct.{made, gives}
+use Rattle.e_construct.specs.Construct.{sorts_made, gives_of_construction}
 use Rattle.e_construct.specs.Superposing as superposing
 use Rattle.e_deriv.specs.Script.{Script, Cite, Hence, Make, Apply, Claim, Superposed, Qed, Contradiction, Cases}
 use Rattle.e_deriv.specs.Parts.{rest_of, inner_of, args_of}
@@ -41,7 +41,7 @@ unfoldable pub lines : List Stated → Script → Script → Scope → List Lit 
 lines before (Cite by rest) f s facts goal = line (Cite by rest) f s facts goal ∷ lines before rest (rest_of f) s (joined facts by.lit) goal
 lines before (Hence lit cert rest) f s facts goal = line (Hence lit cert rest) f s facts goal ∷ lines before rest (rest_of f) s (joined facts lit) goal
 lines before (Make form names certs rest) f s facts goal =
-    line (Make form names certs rest) f s facts goal ∷ lines before rest (rest_of f) (grown s (made form)) (joined_all facts (gives form s)) goal
+    line (Make form names certs rest) f s facts goal ∷ lines before rest (rest_of f) (grown s (sorts_made form)) (joined_all facts (gives_of_construction form s)) goal
 lines before (Apply theorem args names certs rest) f s facts goal =
     line (Apply theorem args names certs rest) f s facts goal
     ∷ lines before rest (rest_of f) (grown s (theorem_at before theorem).made)
@@ -51,7 +51,7 @@ lines before (Claim shown inner rest) f s facts goal =
     ∷ (lines before inner (inner_of f) s facts (goal_of shown) ++ lines before rest (rest_of f) s (joined_all facts shown) goal)
 lines before (Superposed form names shown certs inner rest) f s facts goal =
     line (Superposed form names shown certs inner rest) f s facts goal
-    ∷ (lines before inner (inner_of f) (grown s superposing.made) (joined_all facts (superposing.gives form s)) (goal_of shown)
+    ∷ (lines before inner (inner_of f) (grown s superposing.sorts_copied) (joined_all facts (superposing.gives_of_superposition form s)) (goal_of shown)
     ++ lines before rest (rest_of f) s (joined_all facts shown) goal)
 lines before (Qed objects certs) f s facts goal = line (Qed objects certs) f s facts goal ∷ []
 lines before (Contradiction against) f s facts goal = line (Contradiction against) f s facts goal ∷ []

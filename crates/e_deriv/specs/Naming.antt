@@ -4,7 +4,7 @@ use Rattle.e_literal.specs.declared.object.Sort.{Sort}
 use Rattle.e_literal.specs.declared.object.Sort.TheVariants as sorts
 use Rattle.e_literal.specs.declared.object.Scope.{Scope}
 use Rattle.e_literal.specs.Use.{Stated, scope_of}
-use Rattle.e_construct.specs.Construct.{made}
+use Rattle.e_construct.specs.Construct.{sorts_made}
 use Rattle.e_construct.specs.Superposing as superposing
 use Rattle.e_deriv.specs.declared.names.Names.{Names}
 use Rattle.e_deriv.specs.Lines.{theorem_at}
@@ -32,11 +32,11 @@ named ns _ _ = ns
 unfoldable pub names_lines : List Stated → Names → Script → List Names
 names_lines before ns (Cite by rest) = ns ∷ names_lines before ns rest
 names_lines before ns (Hence lit cert rest) = ns ∷ names_lines before ns rest
-names_lines before ns (Make form names certs rest) = ns ∷ names_lines before (named ns (made form) names) rest
+names_lines before ns (Make form names certs rest) = ns ∷ names_lines before (named ns (sorts_made form) names) rest
 names_lines before ns (Apply theorem args names certs rest) = ns ∷ names_lines before (named ns (theorem_at before theorem).made names) rest
 names_lines before ns (Claim shown inner rest) = ns ∷ (names_lines before ns inner ++ names_lines before ns rest)
 names_lines before ns (Superposed form names shown certs inner rest) =
-    ns ∷ (names_lines before (named ns superposing.made names) inner ++ names_lines before ns rest)
+    ns ∷ (names_lines before (named ns superposing.sorts_copied names) inner ++ names_lines before ns rest)
 names_lines before ns (Qed objects certs) = ns ∷ []
 names_lines before ns (Contradiction against) = ns ∷ []
 names_lines before ns (Cases lit first second) = ns ∷ (names_lines before ns first ++ names_lines before ns second)

@@ -1,7 +1,7 @@
 -- A figure text line by line: what one line makes of a plan, and what all lines make of it.
 use Rattle.std.proofs.Common.{◌≡◌, ℕ, Bool, true, false, cond, List, [], ◌∷◌, Result, Ok, Err, sym, ap, subst, ◌∙◌}
 use Rattle.e_text.specs.Tokens.{tokens_of}
-use Rattle.e_text.specs.Lines.{Seen, AreGood}
+use Rattle.e_text.specs.Lines.{Seen, HaveNoFault}
 use Rattle.e_text.specs.declared.line.LineFault.{LineFault}
 use Rattle.e_book.specs.declared.fault.Kind.{Kind}
 use Rattle.e_book.specs.declared.fault.Kind.TheVariants as kinds
@@ -96,12 +96,12 @@ all_taken last line old now lines left r e s h p =
     subst (PlanIs r now) (ap (λ n. at_end n now) s ∙ (ap (plan_from last now) (sym e) ∙ h)) p
 
 -- lines without a fault that no line may have
-pub good_plan : (last : ℕ) (p q : Plan) (lines : Rest) → plan_from last p lines ≡ Ok q → AreGood lines
+pub good_plan : (last : ℕ) (p q : Plan) (lines : Rest) → plan_from last p lines ≡ Ok q → HaveNoFault lines
 good_plan last p q [] e = tt
 good_plan last p q (Err f ∷ lines) e = absurd (cc)
 good_plan last p q (Ok l ∷ lines) e = by (is_skipped (tokens_of l.bytes)) (λ x h. good_plan last x q lines h) e
   where
-    by : (b : Bool) → ((x : Plan) → plan_from last x lines ≡ Ok q → AreGood lines)
-        → cond b (plan_from last p lines) (put_at l.number (words_step p (tokens_of l.bytes)) >>= (λ x. plan_from last x lines)) ≡ Ok q → AreGood lines
+    by : (b : Bool) → ((x : Plan) → plan_from last x lines ≡ Ok q → HaveNoFault lines)
+        → cond b (plan_from last p lines) (put_at l.number (words_step p (tokens_of l.bytes)) >>= (λ x. plan_from last x lines)) ≡ Ok q → HaveNoFault lines
     by true ih e = ih p e
     by false ih e = let a = bind_ok (put_at l.number (words_step p (tokens_of l.bytes))) (λ x. plan_from last x lines) q e in ih a.0 a.2

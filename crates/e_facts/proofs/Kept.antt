@@ -9,7 +9,7 @@ use Rattle.indexmap.specs.IndexSet.{insert_key}
 use Rattle.e_facts.specs.declared.key.Key.{Key}
 use Rattle.e_facts.specs.contracts.key.KeyPartialEq.TheImpl.{eq-value}
 use Rattle.e_facts.specs.Facts.{AreApart}
-use Rattle.e_facts.specs.Key.{key_of_lit, with_key, keys_of, with_place, metric_places, IsKept}
+use Rattle.e_facts.specs.inner.Key.{key_of_lit, with_key, keys_of, with_place, metric_places, IsKept}
 use Rattle.e_facts.proofs.Apart.{apart_push, apart_take}
 use Rattle.e_facts.proofs.Keys.{has_by_key, keys_of-push, metric_places-push}
 

@@ -12,7 +12,7 @@ use Rattle.e_literal.specs.Same.{same_neg, same_atom, same_lit}
 use Rattle.e_literal.specs.Facts.{has}
 use Rattle.e_facts.specs.declared.key.Key.{Key}
 use Rattle.e_facts.specs.contracts.key.KeyPartialEq.TheImpl.{eq-value}
-use Rattle.e_facts.specs.Key.{key_of_lit, with_key, keys_of, with_place, metric_places, same_at}
+use Rattle.e_facts.specs.inner.Key.{key_of_lit, with_key, keys_of, with_place, metric_places, same_at}
 
 -- a diagram literal is the same as another exactly where its key is equal, and as no metric one
 abbrev Agree : Option Key → Option Key → Bool → Type 0

@@ -1,7 +1,7 @@
-// The keys by which diagram literals are looked up.
+//! The keys by which diagram literals are looked up.
 
 ghost use Rattle.std.specs.Prelude.{◌≡◌};
-ghost use Rattle.e_facts.specs.Key.{key_of_lit, parts_of_atom};
+ghost use Rattle.e_facts.specs.inner.Key.{key_of_lit, parts_of_atom};
 
 use e_literal::{Atom, Lit};
 
@@ -22,7 +22,8 @@ pub enum Relation {
     CirclesEqual,
 }
 
-/// A diagram literal as a small value: its sign, its relation, and its numbers, with 0 for the third of two.
+/// A diagram literal as a small value: its sign, its relation, and its numbers, with 0 for the
+/// third of two.
 #[derive(Clone, Copy, PartialEq, Eq, Hash)]
 pub struct Key {
     pub negated: bool,

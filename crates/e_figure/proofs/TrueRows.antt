@@ -16,7 +16,7 @@ use Rattle.e_clause.specs.Table.Circles.{circles}
 use Rattle.e_clause.specs.Table.Equality.{equality}
 use Rattle.e_clause.specs.Table.Lengths.{lengths}
 use Rattle.e_clause.specs.Table.Angles.{angles}
-use Rattle.e_clause.specs.Instance.{Inst, instance_of_row, fits, lit_at, number, line, circle, clause_of}
+use Rattle.e_clause.specs.Instance.{Inst, instance_of_row, arguments_fit, lit_at, number, line, circle, clause_of}
 use Rattle.e_plane.proofs.Cone.{Hold}
 use Rattle.e_plane.proofs.Steps.{Refutation, leads, refuted_by}
 use Rattle.e_figure.specs.declared.figure.Straight.{Straight}
@@ -77,7 +77,7 @@ of_some false xs ys e = absurd (cc)
 row_true : (d : FigureView) (r : Row) (args : List Obj) (lits : List Lit) (q : Refutation) → leads (row_facts r) q.steps q.last ≡ true → IsTrue (is_figure d)
     → instance_of_row r args ≡ Some lits → IsTrue (list_any (is_true d) lits)
 row_true d r args lits q e g i =
-    let same : map (lit_at r args) (clause_of r) ≡ lits = of_some (fits r args) (map (lit_at r args) (clause_of r)) lits i in
+    let same : map (lit_at r args) (clause_of r) ≡ lits = of_some (arguments_fit r args) (map (lit_at r args) (clause_of r)) lits i in
     elim (cases_Bool (list_any (is_true d) (map (lit_at r args) (clause_of r)))) [
       | inl y ↦ ap (list_any (is_true d)) (sym same) ∙ y
       | inr n ↦ absurd (row_clause d r args q e g n)

@@ -6,6 +6,7 @@ use Rattle.e_literal.specs.Literal.{is_in_scope}
 use Rattle.e_literal.specs.declared.literal.Lit.{Lit}
 use Rattle.e_literal.specs.declared.object.Obj.{Obj}
 use Rattle.e_clause.specs.Instance.{Inst}
+use Rattle.e_clause.specs.RuleKinds.{diagram_rule_count}
 use Rattle.e_figure.specs.declared.witness.LawFault.{LawFault}
 use Rattle.e_figure.specs.declared.witness.LawFault.TheVariants.{BadArgs, NoMemory}
 use Rattle.e_figure.specs.Figure.{FigureView, is_figure, scope_of}
@@ -15,7 +16,7 @@ use Rattle.e_figure.specs.Truth.{is_true}
 abbrev pub EveryInstanceIsTrue : Type 0
 EveryInstanceIsTrue =
     (d : FigureView) (rule : ℕ) (args : List Obj) (lits : List Lit) →
-    IsTrue (is_figure d) → rule < 76 → Inst rule args ≡ Some lits → IsTrue (list_any (is_true d) lits)
+    IsTrue (is_figure d) → rule < diagram_rule_count → Inst rule args ≡ Some lits → IsTrue (list_any (is_true d) lits)
 
 -- the literal at this place of the instance is true
 abbrev pub true_at : FigureView → ℕ → List Obj → ℕ → Bool

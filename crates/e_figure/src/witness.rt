@@ -4,12 +4,13 @@ ghost use Rattle.std.specs.Prelude.{◌≡◌, ◌<◌, IsTrue, IfOk, IfErr, OnO
 ghost use Rattle.std.specs.List.{list_all};
 ghost use Rattle.e_literal.specs.Literal;
 ghost use Rattle.e_clause.specs.Instance.{Inst};
+ghost use Rattle.e_clause.specs.RuleKinds.{diagram_rule_count};
 ghost use Rattle.e_figure.specs.Law.{true_at, are_in_figure, LawFaultIs};
 
 use crate::figure::Figure;
 use crate::truth::holds;
 use e_clause::{InstanceFault, Rule, instance};
-use e_literal::{Lit, Obj, Scope, count};
+use e_literal::{Lit, Obj, Scope, object_in_scope};
 use std::alloc::Global;
 use thiserror::Error;
 
@@ -29,7 +30,7 @@ pub enum LawFault {
 ///
 /// `BadArgs` exactly where the rule has no instance at the arguments, or one of them is not in the figure's scope.
 pub fn law(alloc: Global, figure: &Figure, rule: Rule, args: &[Obj]) -> Result<usize, LawFault>
-    requires { rule < 76 }
+    requires { rule < diagram_rule_count }
     ensures ok { IfOk result (λ k. IsTrue (true_at figure.now rule args.now k)) }
     ensures scope { OnOk result (IsTrue (are_in_figure figure.now args.now)) }
     ensures err { IfErr result (LawFaultIs figure.now rule args.now) }
@@ -69,11 +70,5 @@ fn instance_in(
 fn are_in_scope(scope: Scope, objects: &[Obj]) -> bool
     ensures { result ≡ list_all (Literal.is_in_scope scope) objects.now }
 {
-    objects.iter().all(|o| is_in_scope(scope, *o))
-}
-
-fn is_in_scope(scope: Scope, object: Obj) -> bool
-    ensures { result ≡ Literal.is_in_scope scope object }
-{
-    object.num < count(scope, object.sort)
+    objects.iter().all(|o| object_in_scope(scope, *o))
 }

@@ -5,7 +5,7 @@ ghost use Rattle.std.specs.Prelude.{◌&&◌};
 ghost use Rattle.std.specs.List.{list_all, list_any, zip};
 ghost use Rattle.std.specs.Ordering.{int_eq};
 ghost use Rattle.e_literal.specs.Rows.{Summands, coefficient};
-ghost use Rattle.e_literal.specs.Absurd.{total, is_good_sign, is_strict, is_absurd};
+ghost use Rattle.e_literal.specs.Absurd.{total, allows_multiplier, is_strict, is_absurd};
 ghost use Rattle.e_fraction.specs.Limits.{has_small_coefficients, all_small, small_multipliers};
 ghost use Rattle.e_fraction.specs.Views.{says_of, weighed, all_seen};
 ghost use Rattle.e_literal.specs.Solution.{HasSolution};
@@ -98,7 +98,7 @@ fn weighed(row: &Row, multiplier: i128, term: Term) -> i128
 /// Whether no row that says `at least` or `more` is taken away, and one that says `more` is added.
 fn have_absurd_signs(rows: &[Row], multipliers: &[i128]) -> bool
     ensures { result
-        ≡ (list_all (λ x. is_good_sign (says_of x.0.kind) x.1) (zip rows.now multipliers.now)
+        ≡ (list_all (λ x. allows_multiplier (says_of x.0.kind) x.1) (zip rows.now multipliers.now)
         && list_any (λ x. is_strict (says_of x.0.kind) x.1) (zip rows.now multipliers.now)) }
 {
     may_take_all(rows, multipliers) && has_strict(rows, multipliers)
@@ -107,7 +107,7 @@ fn have_absurd_signs(rows: &[Row], multipliers: &[i128]) -> bool
 /// Whether no row that says `at least` or `more` is taken away, and none says `not 0`.
 fn may_take_all(rows: &[Row], multipliers: &[i128]) -> bool
     ensures { result
-        ≡ list_all (λ x. is_good_sign (says_of x.0.kind) x.1) (zip rows.now multipliers.now) }
+        ≡ list_all (λ x. allows_multiplier (says_of x.0.kind) x.1) (zip rows.now multipliers.now) }
 {
     rows.iter()
         .zip(multipliers)
@@ -115,7 +115,7 @@ fn may_take_all(rows: &[Row], multipliers: &[i128]) -> bool
 }
 
 fn may_take(kind: RowKind, multiplier: i128) -> bool
-    ensures { result ≡ is_good_sign (says_of kind) multiplier }
+    ensures { result ≡ allows_multiplier (says_of kind) multiplier }
 {
     match kind {
         RowKind::Zero => true,

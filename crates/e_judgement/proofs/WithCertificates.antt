@@ -10,7 +10,7 @@ use Rattle.e_literal.specs.Scopes.{grown}
 use Rattle.e_literal.specs.Facts.{joined, joined_all}
 use Rattle.e_literal.specs.Use.{Stated, gives_of_use}
 use Rattle.e_literal.proofs.Booleans.{all_both}
-use Rattle.e_construct.specs.Construct.{made, gives}
+use Rattle.e_construct.specs.Construct.{sorts_made, gives_of_construction}
 use Rattle.e_construct.specs.Superposing as superposing
 use Rattle.e_deriv.specs.Script.{Script, Cite, Hence, Make, Apply, Claim, Superposed, Qed, Contradiction, Cases, size, erased}
 use Rattle.e_deriv.specs.Parts.{rest_of, inner_of, args_of}
@@ -48,9 +48,9 @@ small_with bs (Hence lit cert rest) f g s facts more goal aim h =
     let p = and_parts (is_small s) (list_all is_small_line (lines bs (erased rest) (rest_of f) s (joined facts lit) goal)) h in
     and_from _ _ p.0 (small_with bs rest (rest_of f) (rest_of g) s (joined facts lit) (joined more lit) goal aim p.1)
 small_with bs (Make form names certs rest) f g s facts more goal aim h =
-    let t = grown s (made form) in
-    let p = and_parts (is_small s) (list_all is_small_line (lines bs (erased rest) (rest_of f) t (joined_all facts (gives form s)) goal)) h in
-    and_from _ _ p.0 (small_with bs rest (rest_of f) (rest_of g) t (joined_all facts (gives form s)) (joined_all more (gives form s)) goal aim p.1)
+    let t = grown s (sorts_made form) in
+    let p = and_parts (is_small s) (list_all is_small_line (lines bs (erased rest) (rest_of f) t (joined_all facts (gives_of_construction form s)) goal)) h in
+    and_from _ _ p.0 (small_with bs rest (rest_of f) (rest_of g) t (joined_all facts (gives_of_construction form s)) (joined_all more (gives_of_construction form s)) goal aim p.1)
 small_with bs (Apply theorem args names certs rest) f g s facts more goal aim h =
     let u = theorem_at bs theorem in
     let t = grown s u.made in
@@ -65,8 +65,8 @@ small_with bs (Claim shown inner rest) f g s facts more goal aim h =
     (all_both is_small_line (lines bs inner (inner_of g) s more (goal_of shown)) _ (small_with bs inner (inner_of f) (inner_of g) s facts more (goal_of shown) (goal_of shown) q.0)
     (small_with bs rest (rest_of f) (rest_of g) s (joined_all facts shown) (joined_all more shown) goal aim q.1))
 small_with bs (Superposed form names shown certs inner rest) f g s facts more goal aim h =
-    let t = grown s superposing.made in
-    let given = superposing.gives form s in
+    let t = grown s superposing.sorts_copied in
+    let given = superposing.gives_of_superposition form s in
     let inside = lines bs (erased inner) (inner_of f) t (joined_all facts given) (goal_of shown) in
     let behind = lines bs (erased rest) (rest_of f) s (joined_all facts shown) goal in
     let p = and_parts (is_small s) (list_all is_small_line (inside ++ behind)) h in

@@ -12,7 +12,7 @@ use Rattle.e_literal.proofs.Agreeing.{same_lit_self}
 use Rattle.e_clause.specs.declared.cert.Against.TheVariants.{Clash, Metric as MetricAgainst}
 use Rattle.e_clause.specs.declared.cert.MetricCert.{MetricCert}
 use Rattle.e_clause.specs.Clash.{clash, clashes_at}
-use Rattle.e_clause.specs.Judged.{are_good_facts}
+use Rattle.e_clause.specs.Judged.{are_limited_facts}
 use Rattle.e_clause.specs.MetricCertificate.{sums_in, metric_contradicts}
 use Rattle.e_clause.specs.Wide.{IsTooWideContradiction}
 use Rattle.e_metric.proofs.terms.FirstTerms.{take_one}
@@ -57,13 +57,13 @@ none_clashes facts i l h k e =
 
 -- ---- the facts contradict each other, or it cannot be decided
 
-pub by_clash : (b : Basis) (l : Lit) → are_good_facts b.scope b.facts ≡ true → IsClashing b.facts l → IsCertifiedAgainst b (Clash l)
+pub by_clash : (b : Basis) (l : Lit) → are_limited_facts b.scope b.facts ≡ true → IsClashing b.facts l → IsCertifiedAgainst b (Clash l)
 by_clash b l g h = record {
   certifies = and_from (all_in_scope b.scope l) (clashes_at b.facts l) (all_at (all_in_scope b.scope) b.facts h.place l (in_scope b.scope b.facts g) h.is_there) h.clashes;
   written = refl;
 }
 
-pub by_sums : (b : Basis) (m : MetricCert) → are_good_facts b.scope b.facts ≡ true → IsCertified b.facts None m → IsCertifiedAgainst b (MetricAgainst m)
+pub by_sums : (b : Basis) (m : MetricCert) → are_limited_facts b.scope b.facts ≡ true → IsCertified b.facts None m → IsCertifiedAgainst b (MetricAgainst m)
 by_sums b m g h = record {
   certifies = and_from (sums_in b.scope m.sums) (metric_contradicts b.facts m) (h.scoped b.scope (in_scope b.scope b.facts g) refl) h.refutes;
   written = h.written;

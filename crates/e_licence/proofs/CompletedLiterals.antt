@@ -14,7 +14,7 @@ use Rattle.e_literal.specs.WellFormed.{is_well_formed}
 use Rattle.e_literal.specs.Rename.{same_obj, image_in, paired, renamed}
 use Rattle.e_literal.specs.Scopes.{same_sort, nothing, with_one, next_objects}
 use Rattle.e_clause.specs.Allowed.{Allowed, AllAllowed}
-use Rattle.e_clause.specs.Judged.{is_good, are_good}
+use Rattle.e_clause.specs.Judged.{is_well_formed_in, are_well_formed_in}
 use Rattle.e_theorem.proofs.Renaming.{same_renamed}
 use Rattle.e_transfer.specs.Choice.{EachKept}
 use Rattle.e_transfer.specs.Verdicts.{VerdictIs}
@@ -71,7 +71,7 @@ abbrev pub at : List Entry → Lit → Lit
 at es l = renamed (image_in es) l
 
 pub stays : (s m : Scope) (sorts : List Sort) (entries : List (Option Obj)) (part rest : List ℕ) (l : Lit)
-    → is_good s (at (images_of_choice s (next_objects nothing sorts) entries part) l) ≡ true
+    → is_well_formed_in s (at (images_of_choice s (next_objects nothing sorts) entries part) l) ≡ true
     → at (images_of_choice s (next_objects nothing sorts) entries part) l ≡ at (paired (next_objects nothing sorts) (filled_arguments m (next_objects nothing sorts) entries (part ++ rest))) l
 stays s m sorts entries part rest l good =
     let f = image_in (images_of_choice s (next_objects nothing sorts) entries part) in
@@ -84,13 +84,13 @@ stays s m sorts entries part rest l good =
 -- each literal all of whose objects are in scope is allowed
 abbrev pub AllBound : Basis → List Entry → List Lit → Type 0
 AllBound b es [] = Unit {0}
-AllBound b es (l ∷ ls) = (is_good b.scope (at es l) ≡ true → Allowed b.scope b.facts (at es l)) × AllBound b es ls
+AllBound b es (l ∷ ls) = (is_well_formed_in b.scope (at es l) ≡ true → Allowed b.scope b.facts (at es l)) × AllBound b es ls
 
 bound_first : (b : Basis) (now before : List Entry) (ls : List Lit) → AllCompleted b now before true ls → AllBound b now ls
 bound_first b now before [] all = tt
 bound_first b now before (l ∷ ls) (here, rest) = ((λ good. here (ap (λ x. x && true) good)), bound_first b now before ls rest)
 
-bound_next : (b : Basis) (now before : List Entry) (first : Bool) (ls : List Lit) → ((l : Lit) → is_good b.scope (at before l) ≡ true → at before l ≡ at now l)
+bound_next : (b : Basis) (now before : List Entry) (first : Bool) (ls : List Lit) → ((l : Lit) → is_well_formed_in b.scope (at before l) ≡ true → at before l ≡ at now l)
     → AllBound b before ls → AllCompleted b now before first ls → AllBound b now ls
 bound_next b now before first [] stay was all = tt
 bound_next b now before first (l ∷ ls) stay (old, olds) (here, rest) = (one, bound_next b now before first ls stay olds rest)
@@ -99,11 +99,11 @@ bound_next b now before first (l ∷ ls) stay (old, olds) (here, rest) = (one, b
     or_true true = refl
     or_true false = refl
 
-    one : is_good b.scope (at now l) ≡ true → Allowed b.scope b.facts (at now l)
+    one : is_well_formed_in b.scope (at now l) ≡ true → Allowed b.scope b.facts (at now l)
     one good =
-        elim (cases_Bool (is_good b.scope (at before l))) [
+        elim (cases_Bool (is_well_formed_in b.scope (at before l))) [
           | inl was ↦ subst (λ x. Allowed b.scope b.facts x) (stay l was) (old was)
-          | inr new ↦ here (ap (λ x. x && (first || not (is_good b.scope (at before l)))) good ∙ ap (λ x. first || not x) new ∙ or_true first)
+          | inr new ↦ here (ap (λ x. x && (first || not (is_well_formed_in b.scope (at before l)))) good ∙ ap (λ x. first || not x) new ∙ or_true first)
         ]
 
 -- the part without its last number
@@ -153,10 +153,10 @@ pub all_bound : (b : Basis) (sorts : List Sort) (entries : List (Option Obj)) (g
 all_bound b sorts entries given c kept = bound_all b sorts entries given [] c (λ some. absurd (omega (arith, some))) kept
 
 -- and where all objects are in scope, each literal is
-pub allowed_all : (b : Basis) (es : List Entry) (ls : List Lit) → AllBound b es ls → are_good b.scope (map (at es) ls) ≡ true → AllAllowed b.scope b.facts (map (at es) ls)
+pub allowed_all : (b : Basis) (es : List Entry) (ls : List Lit) → AllBound b es ls → are_well_formed_in b.scope (map (at es) ls) ≡ true → AllAllowed b.scope b.facts (map (at es) ls)
 allowed_all b es [] bound good = tt
 allowed_all b es (l ∷ ls) (here, rest) good =
-    (here (and_left (is_good b.scope (at es l)) _ good), allowed_all b es ls rest (and_right (is_good b.scope (at es l)) _ good))
+    (here (and_left (is_well_formed_in b.scope (at es l)) _ good), allowed_all b es ls rest (and_right (is_well_formed_in b.scope (at es l)) _ good))
 
 -- ---- a literal that is refused, or too wide
 
@@ -199,11 +199,11 @@ pub claim_yes : (b : Basis) (es : List Entry) (l image : Lit) (o : Licensed) (ce
 claim_yes b es l image o cert is answer claim =
     subst (λ x. Allowed b.scope b.facts x) is (allowed_of_certified b.scope b.facts image cert (subst (λ x. IsLicence b image x) answer claim).certifies)
 
-pub claim_no : (b : Basis) (es : List Entry) (l image : Lit) (o : Licensed) (values : Option Values) → image ≡ at es l → is_good b.scope image ≡ true → o ≡ licensed.No values
+pub claim_no : (b : Basis) (es : List Entry) (l image : Lit) (o : Licensed) (values : Option Values) → image ≡ at es l → is_well_formed_in b.scope image ≡ true → o ≡ licensed.No values
     → IsLicence b image o → IsRefusedAt b es l
 claim_no b es l image o values is good answer claim =
     record {
-      good = subst (λ x. is_good b.scope x ≡ true) is good;
+      good = subst (λ x. is_well_formed_in b.scope x ≡ true) is good;
       not_allowed = λ allowed. (subst (λ x. IsLicence b image x) answer claim).not_allowed (subst (λ x. Allowed b.scope b.facts x) (sym is) allowed);
     }
 

@@ -9,7 +9,7 @@ use Rattle.e_literal.specs.Scopes.{nothing, next_objects}
 use Rattle.e_literal.specs.Use.{Stated, are_arguments, needs_of_use, is_statement}
 use Rattle.e_literal.proofs.Booleans.{and_left, and_right}
 use Rattle.e_clause.specs.Allowed.{AllAllowed}
-use Rattle.e_clause.specs.Judged.{are_good}
+use Rattle.e_clause.specs.Judged.{are_well_formed_in}
 use Rattle.e_clause.specs.Wide.{IsTooWideLit}
 use Rattle.e_theorem.specs.Choice.{fills, is_choice, is_below, IsGood, IsLeast, NoneIsGood}
 use Rattle.e_theorem.specs.Pattern.{is_pattern}
@@ -101,7 +101,7 @@ kept_allowed b t pattern c args states is fit kept =
     subst (λ (ls : List Lit). AllAllowed b.scope b.facts ls) (sym (needs_declared t args b.scope states fit))
     (subst (λ (os : List Obj). AllAllowed b.scope b.facts (map (at (paired (objects t) os)) t.given)) is
     (allowed_all b (images_of_choice b.scope (objects t) pattern c) t.given (all_bound b t.declared pattern t.given c kept)
-    (ap (λ os. are_good b.scope (map (at (paired (objects t) os)) t.given)) is ∙ declared_good t args b.scope states fit)))
+    (ap (λ os. are_well_formed_in b.scope (map (at (paired (objects t) os)) t.given)) is ∙ declared_good t args b.scope states fit)))
 
 least_at : (b : Basis) (t : Stated) (pattern : List (Option Obj)) (c : List ℕ) → IsAsked b t pattern → has_empty (spans b t pattern) ≡ false → FitsSpans (spans b t pattern) c
     → EachKept (Kept b t pattern) [] c → NoneBelow (Wanted b t pattern) [] (spans b t pattern) c → IsLeast t b.scope b.facts pattern (filled_arguments nothing (objects t) pattern c)

@@ -9,20 +9,20 @@ use Rattle.e_literal.specs.Literal.{all_in_scope}
 use Rattle.e_literal.specs.WellFormed.{is_well_formed}
 use Rattle.e_literal.proofs.Booleans.{and_left, and_right}
 use Rattle.e_clause.specs.Assignment.{terms_of_lits}
-use Rattle.e_clause.specs.Judged.{are_good, are_few, most_terms, are_good_facts}
+use Rattle.e_clause.specs.Judged.{are_well_formed_in, are_few, most_terms, are_limited_facts}
 use Rattle.e_transfer.proofs.Needs.{facts_well, facts_over}
 
 -- good facts are well formed
-pub well_formed : (s : Scope) (facts : List Lit) → are_good_facts s facts ≡ true → list_all is_well_formed facts ≡ true
-well_formed s facts h = facts_well s facts (and_left (are_good s facts) (are_few facts) h)
+pub well_formed : (s : Scope) (facts : List Lit) → are_limited_facts s facts ≡ true → list_all is_well_formed facts ≡ true
+well_formed s facts h = facts_well s facts (and_left (are_well_formed_in s facts) (are_few facts) h)
 
 -- and in scope
-pub in_scope : (s : Scope) (facts : List Lit) → are_good_facts s facts ≡ true → list_all (all_in_scope s) facts ≡ true
-in_scope s facts h = facts_over s facts (and_left (are_good s facts) (are_few facts) h)
+pub in_scope : (s : Scope) (facts : List Lit) → are_limited_facts s facts ≡ true → list_all (all_in_scope s) facts ≡ true
+in_scope s facts h = facts_over s facts (and_left (are_well_formed_in s facts) (are_few facts) h)
 
 -- and have few terms
 at_most : (n m : ℕ) → nat_le n m ≡ true → n ≤ m
 at_most n m h = grind (arith, nat_tests)
 
-pub few_terms : (s : Scope) (facts : List Lit) → are_good_facts s facts ≡ true → length (terms_of_lits facts) ≤ 1100
-few_terms s facts h = at_most (length (terms_of_lits facts)) most_terms (and_right (are_good s facts) (are_few facts) h)
+pub few_terms : (s : Scope) (facts : List Lit) → are_limited_facts s facts ≡ true → length (terms_of_lits facts) ≤ 1100
+few_terms s facts h = at_most (length (terms_of_lits facts)) most_terms (and_right (are_well_formed_in s facts) (are_few facts) h)

@@ -5,7 +5,7 @@ use Rattle.std.proofs.lemmas.List.{length-append, length-take, take_all, take-ta
 use Rattle.e_literal.specs.declared.object.Scope.{Scope}
 use Rattle.e_literal.specs.declared.literal.Lit.{Lit}
 use Rattle.e_literal.specs.Facts.{has, joined}
-use Rattle.e_clause.specs.Judged.{are_good_facts}
+use Rattle.e_clause.specs.Judged.{are_limited_facts}
 use Rattle.e_facts.specs.declared.facts.Added.{Added}
 use Rattle.e_facts.specs.Adding.{AddedIs}
 use Rattle.e_metric.specs.declared.metric_facts.MetricFacts.{MetricFacts}
@@ -35,7 +35,7 @@ same_front facts other n k le e = sym (take-take k n facts le) ∙ ap (λ fs. ta
 
 held_moved : (facts other : List Lit) (x : Held) → take x.facts facts ≡ take x.facts other → IsHeldState facts x → IsHeldState other x
 held_moved facts other x e h =
-    record { good = subst (λ fs. are_good_facts x.scope fs ≡ true) e h.good; metric_facts = subst (λ fs. IfSome x.solved (AreFronts fs)) e h.metric_facts }
+    record { good = subst (λ fs. are_limited_facts x.scope fs ≡ true) e h.good; metric_facts = subst (λ fs. IfSome x.solved (AreFronts fs)) e h.metric_facts }
 
 -- and all that is held of them
 are_moved : (low n : ℕ) (facts other : List Lit) (hs : List Held) → take n facts ≡ take n other → AreHeld low n facts hs → AreHeld low n other hs
@@ -89,7 +89,7 @@ metric_facts_or_outside own held (Ok metric_facts) right = λ facts high k h. ri
 
 -- ---- a new context
 
-pub begins : (s : Scope) (facts : List Lit) (held : List Held) → held ≡ [] → are_good_facts s facts ≡ true → IsContext s facts held None
+pub begins : (s : Scope) (facts : List Lit) (held : List Held) → held ≡ [] → are_limited_facts s facts ≡ true → IsContext s facts held None
 begins s facts held e g = rw e (record { good = g; states = omega arith; metric_facts = tt })
 
 -- ---- facts come
@@ -98,12 +98,12 @@ front_stays : (facts more : List Lit) → take (length facts) facts ≡ take (le
 front_stays facts more = sym (take-append-le (length facts) facts more (omega arith))
 
 -- facts that are the old ones, and more
-more_facts : (s : Scope) (facts new more : List Lit) (held : List Held) (metric_facts : Option MetricFacts) → new ≡ facts ++ more → are_good_facts s new ≡ true → IsContext s facts held metric_facts → IsContext s new held metric_facts
+more_facts : (s : Scope) (facts new more : List Lit) (held : List Held) (metric_facts : Option MetricFacts) → new ≡ facts ++ more → are_limited_facts s new ≡ true → IsContext s facts held metric_facts → IsContext s new held metric_facts
 more_facts s facts new more held metric_facts e g h =
     let many = length-append facts more in
     subst (λ fs. IsContext s fs held metric_facts) (sym e)
     (record {
-      good = subst (λ fs. are_good_facts s fs ≡ true) e g;
+      good = subst (λ fs. are_limited_facts s fs ≡ true) e g;
       states =
           higher 0 (length facts) (length (facts ++ more)) (facts ++ more) held (omega (arith, many)) (are_moved 0 (length facts) facts (facts ++ more) held (front_stays facts more) h.states);
       metric_facts = metric_facts_more facts more metric_facts h.metric_facts;
@@ -122,10 +122,10 @@ joins facts l = by (has facts l)
     by false = (l ∷ [], refl)
 
 pub after_add : {E : Type 0} (r : Result Added E) (s : Scope) (facts new : List Lit) (l : Lit) (held : List Held) (metric_facts : Option MetricFacts) → OnOk r (new ≡ joined facts l) → OnErr r (new ≡ facts) →
-    are_good_facts s (joined facts l) ≡ true → IsContext s facts held metric_facts → IsContext s new held metric_facts
+    are_limited_facts s (joined facts l) ≡ true → IsContext s facts held metric_facts → IsContext s new held metric_facts
 after_add (Ok a) s facts new l held metric_facts ok err g h =
     let j = joins facts l in
-    more_facts s facts new j.0 held metric_facts (ok ∙ j.1) (subst (λ fs. are_good_facts s fs ≡ true) (sym ok) g) h
+    more_facts s facts new j.0 held metric_facts (ok ∙ j.1) (subst (λ fs. are_limited_facts s fs ≡ true) (sym ok) g) h
 after_add (Err e) s facts new l held metric_facts ok err g h = subst (λ fs. IsContext s fs held metric_facts) (sym err) h
 
 pub add_joins : {E : Type 0} (r : Result Added E) (s : Scope) (facts new : List Lit) (l : Lit) (held : List Held) (metric_facts : Option MetricFacts) (b : Basis) → basis_of s facts held ≡ b → OnOk r (new ≡ joined facts l) →
@@ -151,8 +151,8 @@ pub after_hold : (s : Scope) (facts : List Lit) (held new : List Held) (metric_f
     IsContext s facts held metric_facts → IsContext s facts new None
 after_hold s facts held new metric_facts x in_scope many solved e h =
     let all : take x.facts facts ≡ facts = take_all x.facts facts (omega (arith, many)) in
-    let good : are_good_facts x.scope (take x.facts facts) ≡ true =
-    subst (λ t. are_good_facts t (take x.facts facts) ≡ true) (sym in_scope) (subst (λ fs. are_good_facts s fs ≡ true) (sym all) h.good)
+    let good : are_limited_facts x.scope (take x.facts facts) ≡ true =
+    subst (λ t. are_limited_facts t (take x.facts facts) ≡ true) (sym in_scope) (subst (λ fs. are_limited_facts s fs ≡ true) (sym all) h.good)
     in
     let kept : IfSome x.solved (AreFronts (take x.facts facts)) =
     subst (λ o. IfSome o (AreFronts (take x.facts facts))) (sym solved) (subst (λ fs. IfSome metric_facts (AreFronts fs)) (sym all) h.metric_facts)

@@ -12,7 +12,7 @@ use Rattle.e_clause.specs.declared.cert.MetricCert.{MetricCert}
 use Rattle.e_clause.specs.declared.cert.Part.TheVariants.{Metric}
 use Rattle.e_clause.specs.declared.cert.Cert.TheVariants.{Plain, Transfer}
 use Rattle.e_clause.specs.declared.cert.TransferCert.{TransferCert}
-use Rattle.e_clause.specs.Judged.{is_good, are_good_facts}
+use Rattle.e_clause.specs.Judged.{is_well_formed_in, are_limited_facts}
 use Rattle.e_clause.specs.Metric.{MetricConsequence}
 use Rattle.e_clause.specs.MetricCertificate.{sums_in, sums_refute, metric_certifies}
 use Rattle.e_clause.specs.Transfer.{Stands, NegationsStand, TransferConsequence}
@@ -29,7 +29,7 @@ use Rattle.e_licence.proofs.GoodLiterals.{in_scope}
 
 -- ---- the literal follows
 
-pub by_sums : (b : Basis) (l : Lit) (m : MetricCert) → are_good_facts b.scope b.facts ≡ true → is_good b.scope l ≡ true → has b.facts l ≡ false → is_metric l ≡ true
+pub by_sums : (b : Basis) (l : Lit) (m : MetricCert) → are_limited_facts b.scope b.facts ≡ true → is_well_formed_in b.scope l ≡ true → has b.facts l ≡ false → is_metric l ≡ true
     → IsCertified b.facts (Some l) m → IsCertifiedBy b l (Plain (Metric m))
 by_sums b l m g k n e h = record {
   certifies = and_from (sums_in b.scope m.sums) (metric_certifies b.facts l m)

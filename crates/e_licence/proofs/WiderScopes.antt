@@ -12,7 +12,7 @@ use Rattle.e_literal.specs.declared.literal.Lit.{Lit}
 use Rattle.e_literal.specs.Literal.{count_of, is_in_scope, objects_of_atom, all_in_scope}
 use Rattle.e_literal.specs.WellFormed.{is_well_formed}
 use Rattle.e_literal.proofs.Booleans.{and_left, and_right}
-use Rattle.e_clause.specs.Judged.{is_good, are_good, are_few, are_good_facts}
+use Rattle.e_clause.specs.Judged.{is_well_formed_in, are_well_formed_in, are_few, are_limited_facts}
 use Rattle.e_metric.specs.declared.metric_facts.MetricFacts.{MetricFacts}
 use Rattle.e_licence.specs.declared.held.Held.{Held}
 use Rattle.e_licence.specs.Contexts.{IsWithin}
@@ -33,17 +33,17 @@ below n m k le h = grind (arith, nat_tests)
 object_stays : (s t : Scope) → IsWithin s t → (o : Obj) → is_in_scope s o ≡ true → is_in_scope t o ≡ true
 object_stays s t h o e = below o.num (count_of s o.sort) (count_of t o.sort) (as_many s t o.sort h) e
 
-lit_stays : (s t : Scope) → IsWithin s t → (l : Lit) → is_good s l ≡ true → is_good t l ≡ true
+lit_stays : (s t : Scope) → IsWithin s t → (l : Lit) → is_well_formed_in s l ≡ true → is_well_formed_in t l ≡ true
 lit_stays s t h l e =
     and_from (all_in_scope t l) (is_well_formed l)
     (every (is_in_scope s) (is_in_scope t) (object_stays s t h) (objects_of_atom l.atom) (and_left (all_in_scope s l) (is_well_formed l) e))
     (and_right (all_in_scope s l) (is_well_formed l) e)
 
-pub facts_stay : (s t : Scope) (facts : List Lit) → IsWithin s t → are_good_facts s facts ≡ true → are_good_facts t facts ≡ true
+pub facts_stay : (s t : Scope) (facts : List Lit) → IsWithin s t → are_limited_facts s facts ≡ true → are_limited_facts t facts ≡ true
 facts_stay s t facts h e =
-    and_from (are_good t facts) (are_few facts)
-    (every (is_good s) (is_good t) (lit_stays s t h) facts (and_left (are_good s facts) (are_few facts) e))
-    (and_right (are_good s facts) (are_few facts) e)
+    and_from (are_well_formed_in t facts) (are_few facts)
+    (every (is_well_formed_in s) (is_well_formed_in t) (lit_stays s t h) facts (and_left (are_well_formed_in s facts) (are_few facts) e))
+    (and_right (are_well_formed_in s facts) (are_few facts) e)
 
 pub after_widen : (s t : Scope) (facts : List Lit) (held : List Held) (metric_facts : Option MetricFacts) → IsWithin s t → IsContext s facts held metric_facts → IsContext t facts held metric_facts
 after_widen s t facts held metric_facts w h = record { good = facts_stay s t facts w h.good; states = h.states; metric_facts = h.metric_facts }

@@ -2,7 +2,7 @@
 use Rattle.std.specs.Prelude.{ℕ, ◌≤◌, List, [], ◌∷◌, length, take, Option, IfSome, IsTrue}
 use Rattle.e_literal.specs.declared.object.Scope.{Scope}
 use Rattle.e_literal.specs.declared.literal.Lit.{Lit}
-use Rattle.e_clause.specs.Judged.{are_good_facts}
+use Rattle.e_clause.specs.Judged.{are_limited_facts}
 use Rattle.e_metric.specs.declared.metric_facts.MetricFacts.{MetricFacts}
 use Rattle.e_metric.specs.Fronts.{AreFronts}
 use Rattle.e_licence.specs.declared.held.Held.{Held}
@@ -14,7 +14,7 @@ held_in facts h = record { scope = h.scope; facts = take h.facts facts }
 
 -- its facts are good, and what is solved was solved of them
 pub record IsHeldState (facts : List Lit) (h : Held) : Type 0 where
-  pub good : IsTrue (are_good_facts h.scope (take h.facts facts))
+  pub good : IsTrue (are_limited_facts h.scope (take h.facts facts))
   pub metric_facts : IfSome h.solved (AreFronts (take h.facts facts))
 
 -- their checkpoints are from `low` to `high`, none less than the one before it
@@ -24,6 +24,6 @@ AreHeld low high facts (h ∷ hs) = (low ≤ h.facts) × IsHeldState facts h × 
 
 -- the facts are good, so is what is held of them, and what is solved is that of the first of them
 pub record IsContext (scope : Scope) (facts : List Lit) (held : List Held) (solved : Option MetricFacts) : Type 0 where
-  pub good : IsTrue (are_good_facts scope facts)
+  pub good : IsTrue (are_limited_facts scope facts)
   pub states : AreHeld 0 (length facts) facts held
   pub metric_facts : IfSome solved (AreFronts facts)

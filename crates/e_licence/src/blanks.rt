@@ -14,8 +14,7 @@ ghost use Rattle.e_licence.specs.FilledBlanks.{FilledIs};
 
 use crate::context::Context;
 use crate::licensing::{Licensed, licence_by};
-use crate::limits::NOTHING;
-use e_literal::{Items, Lit, Map, Obj, Scope, count, next_objects, renamed};
+use e_literal::{Items, Lit, Map, NOTHING, Obj, Scope, count, next_objects, renamed};
 use e_metric::{MetricFacts, StepFacts};
 use e_theorem::Statement;
 use e_transfer::{Prepared, Span, Task, Verdict, is_good, prepare, search};

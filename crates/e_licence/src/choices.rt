@@ -12,9 +12,8 @@ ghost use Rattle.e_licence.specs.inner.BlankChoices.{filled_arguments};
 
 use crate::blanks::{Blanks, arguments, has_empty, spans};
 use crate::context::Context;
-use crate::limits::NOTHING;
 use crate::sweep::{Swept, sweep};
-use e_literal::{Items, Obj, Scope, next_objects};
+use e_literal::{Items, NOTHING, Obj, Scope, next_objects};
 use e_metric::{MetricFacts, StepFacts};
 use e_theorem::Statement;
 use e_transfer::{Prepared, prepare};

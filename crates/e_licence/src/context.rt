@@ -2,7 +2,7 @@
 
 ghost use Rattle.std.specs.Prelude.{◌≡◌, ◌<◌, [], ◌∷◌, ◌++◌, length, IsTrue, IfOk, IfErr, IfSome, OnOk, OnErr, option_copied};
 ghost use Rattle.e_literal.specs.Facts.{joined};
-ghost use Rattle.e_clause.specs.Judged.{are_good_facts, is_good};
+ghost use Rattle.e_clause.specs.Judged.{are_limited_facts, is_well_formed_in};
 ghost use Rattle.e_facts.specs.Adding.{AddedIs};
 ghost use Rattle.e_metric.specs.Fronts.{AreFronts};
 ghost use Rattle.e_licence.specs.Contexts.{IsReleased, IsWithin, state_of};
@@ -53,7 +53,7 @@ impl Context {
     ///
     /// It fails only out of memory, and then hands the facts back.
     pub fn new(alloc: Global, scope: Scope, facts: Facts) -> Result<Context, (Facts, AllocError)>
-        requires { IsTrue (are_good_facts scope facts) }
+        requires { IsTrue (are_limited_facts scope facts) }
         ensures ok { IfOk result (λ c. c ≡ record { scope = scope; facts = facts; held = [] }) }
         ensures err { IfErr result (λ e. e.0 ≡ facts) }
     {
@@ -90,7 +90,7 @@ impl Context {
     /// The facts are in scope and well formed, and their terms are few. It does nothing: callers
     /// that need this of the context have it from the contract.
     pub fn good(&self)
-        ensures { IsTrue (are_good_facts self.now.scope self.now.facts) }
+        ensures { IsTrue (are_limited_facts self.now.scope self.now.facts) }
     {
         let _ = &self.facts;
     }
@@ -113,7 +113,7 @@ impl Context {
     ///
     /// It fails only out of memory, and then all is as before.
     pub fn add(&mut self, lit: Lit) -> Result<Added, AllocError>
-        requires { IsTrue (are_good_facts self.old.scope (joined self.old.facts lit)) }
+        requires { IsTrue (are_limited_facts self.old.scope (joined self.old.facts lit)) }
         ensures added { IfOk result (AddedIs self.old.facts lit self.new.facts) }
         ensures joined { OnOk result
             (self.new ≡ record self.old { facts = joined self.old.facts lit }) }
@@ -192,7 +192,7 @@ impl Context {
     ///
     /// [`licence`]: crate::licensing::licence
     pub fn licence(&mut self, alloc: Global, lit: &Lit) -> Result<Licensed, AllocError>
-        requires { IsTrue (is_good self.old.scope lit.now) }
+        requires { IsTrue (is_well_formed_in self.old.scope lit.now) }
         ensures licence { IfOk result (IsLicence self.old lit.now) }
         ensures same { self.new ≡ self.old }
     {

@@ -2,7 +2,7 @@
 
 ghost use Rattle.std.specs.Prelude.{IsTrue, IsFalse, IfOk, Some};
 ghost use Rattle.e_literal.specs.Facts.{has, is_metric};
-ghost use Rattle.e_clause.specs.Judged.{is_good};
+ghost use Rattle.e_clause.specs.Judged.{is_well_formed_in};
 ghost use Rattle.e_clause.specs.Metric.{MetricConsequence};
 ghost use Rattle.e_metric.specs.Fronts.{AreFronts};
 ghost use Rattle.e_metric.specs.MetricAnswers.{IsMetricAnswer, IfNo};
@@ -36,7 +36,7 @@ pub enum Licensed {
 /// Questions begin where the context has solved its facts. Where many literals are asked,
 /// [`Context::licence`] keeps what is solved for one of them.
 pub fn licence(alloc: Global, context: &Context, lit: &Lit) -> Result<Licensed, AllocError>
-    requires { IsTrue (is_good context.now.scope lit.now) }
+    requires { IsTrue (is_well_formed_in context.now.scope lit.now) }
     ensures { IfOk result (IsLicence context.now lit.now) }
 {
     if context.facts().has(lit) {
@@ -58,7 +58,7 @@ pub(crate) fn licence_in_turn(
     lit: &Lit,
 ) -> Result<Licensed, AllocError>
     requires metric_facts { AreFronts context.now.facts metric_facts.old }
-    requires lit { IsTrue (is_good context.now.scope lit.now) }
+    requires lit { IsTrue (is_well_formed_in context.now.scope lit.now) }
     requires not_fact { IsFalse (has context.now.facts lit.now) }
     ensures licence { IfOk result (IsLicence context.now lit.now) }
     ensures metric_facts { AreFronts context.now.facts metric_facts.new }
@@ -82,7 +82,7 @@ fn given_in_turn(
     lit: &Lit,
 ) -> Result<Licensed, AllocError>
     requires metric_facts { AreFronts context.now.facts metric_facts.old }
-    requires lit { IsTrue (is_good context.now.scope lit.now) }
+    requires lit { IsTrue (is_well_formed_in context.now.scope lit.now) }
     requires not_fact { IsFalse (has context.now.facts lit.now) }
     ensures licence { IfOk result (IsLicence context.now lit.now) }
     ensures metric_facts { AreFronts context.now.facts metric_facts.new }
@@ -111,7 +111,7 @@ pub(crate) fn licence_by(
 ) -> Result<Licensed, AllocError>
     requires metric_facts { AreFronts context.now.facts metric_facts.now }
     requires prepared { IsPrepared context.now.facts prepared.now }
-    requires lit { IsTrue (is_good context.now.scope lit.now) }
+    requires lit { IsTrue (is_well_formed_in context.now.scope lit.now) }
     ensures { IfOk result (IsLicence context.now lit.now) }
 {
     let facts = context.facts();
@@ -131,7 +131,7 @@ fn by_sums(
 ) -> Result<Licensed, AllocError>
     requires metric_facts { AreFronts context.now.facts metric_facts.now }
     requires prepared { IsPrepared context.now.facts prepared.now }
-    requires lit { IsTrue (is_good context.now.scope lit.now) }
+    requires lit { IsTrue (is_well_formed_in context.now.scope lit.now) }
     requires not_fact { IsFalse (has context.now.facts lit.now) }
     ensures { IfOk result (IsLicence context.now lit.now) }
 {
@@ -154,7 +154,7 @@ fn diagram(
 ) -> Result<Licensed, AllocError>
     requires metric_facts { AreFronts context.now.facts metric_facts.now }
     requires prepared { IsPrepared context.now.facts prepared.now }
-    requires lit { IsTrue (is_good context.now.scope lit.now) }
+    requires lit { IsTrue (is_well_formed_in context.now.scope lit.now) }
     requires not_fact { IsFalse (has context.now.facts lit.now) }
     requires diagram { IsFalse (is_metric lit.now) }
     ensures { IfOk result (IsLicence context.now lit.now) }
@@ -182,7 +182,7 @@ fn metric(
     requires prepared { IsPrepared context.now.facts prepared.now }
     requires answer { IsMetricAnswer context.now.facts (Some lit.now) answer }
     requires no { IfNo answer (¬ MetricConsequence context.now.facts lit.now) }
-    requires lit { IsTrue (is_good context.now.scope lit.now) }
+    requires lit { IsTrue (is_well_formed_in context.now.scope lit.now) }
     requires not_fact { IsFalse (has context.now.facts lit.now) }
     requires metric { IsTrue (is_metric lit.now) }
     ensures { IfOk result (IsLicence context.now lit.now) }

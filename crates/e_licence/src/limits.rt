@@ -7,7 +7,7 @@ ghost use Rattle.e_literal.specs.Use;
 ghost use Rattle.e_literal.specs.WellFormed;
 ghost use Rattle.e_theorem.specs.Statements.{stated};
 
-use e_literal::{Lit, Scope, grown, in_scope};
+use e_literal::{Lit, NOTHING, Scope, grown, in_scope};
 use e_metric::is_well_formed;
 use e_theorem::Statement;
 
@@ -21,13 +21,6 @@ pub fn is_statement(statement: &Statement) -> bool
     let all = grown(declared, statement.made.items());
     are_over(declared, statement.given.items()) && are_over(all, statement.shown.items())
 }
-
-/// No objects.
-pub const NOTHING: Scope = Scope {
-    points: 0,
-    lines: 0,
-    circles: 0,
-};
 
 // Whether each literal is well formed and in scope.
 fn are_over(scope: Scope, lits: &[Lit]) -> bool

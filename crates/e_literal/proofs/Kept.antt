@@ -14,7 +14,8 @@ use Rattle.std.specs.FinMap.{put}
 use Rattle.e_literal.specs.declared.object.Term.{Term}
 use Rattle.e_literal.specs.declared.object.Term.TheVariants.{Seg, Ang, Area, Right}
 use Rattle.e_literal.specs.contracts.object.TermOrd.TheImpl.{cmp-value}
-use Rattle.e_literal.specs.NormalForm.{term_cmp, Coefficients, put_unless_zero, form_cmp}
+use Rattle.e_literal.specs.NormalForm.{term_cmp, Coefficients, form_cmp}
+use Rattle.e_literal.specs.inner.Joining.{put_unless_zero}
 
 then_equal : (r : Ordering) → ordering_then r Equal ≡ r
 then_equal Less = refl

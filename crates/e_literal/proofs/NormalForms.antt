@@ -1,6 +1,6 @@
 -- Normal forms are equal exactly where the literals are the same.
 use Rattle.std.proofs.Common.{◌≡◌, ℕ, zero, suc, ◌+◌, ◌↔◌, List, [], ◌∷◌, ◌++◌, refl, sym, ap, subst, ◌∙◌, arith, Bool, true, false, cond, Option, Some, None, ◌&&◌, ◌||◌, IsTrue, true≢false, T}
-use Rattle.std.specs.Prelude.{ℤ, pos, ◌-ℤ◌, unwrap_or, ◌==◌}
+use Rattle.std.specs.Prelude.{ℤ, pos, ◌-ℤ◌, unwrap_or, ◌==◌, map, filter, not}
 use Rattle.std.specs.List.{fold, list_any}
 use Rattle.std.proofs.lemmas.Int.{ints}
 use Rattle.std.proofs.lemmas.Bool.Decides.{Decides-int_eq}
@@ -10,8 +10,10 @@ use Rattle.std.specs.declared.cmp.Ordering.TheVariants.{Less, Equal, Greater}
 use Rattle.std.specs.Ordering.{nat_cmp, int_cmp, int_eq, is_eq, eq_by_cmp, ordering_reverse, ord_min}
 use Rattle.std.specs.Cmp.{IsTotalOrder, on_total, then_total, int_cmp_total, tied_itself, Equal-is}
 use Rattle.std.specs.Cmp.Lexicographic.{slice_cmp, nat_list_cmp_total, lists_total}
+use Rattle.std.specs.BTreeSet.{insert_key}
 use Rattle.std.specs.FinMap.{put, find, is_sorted, slice_cmp-IsAntisymmetric, nat_cmp-IsAntisymmetric, int_cmp-IsAntisymmetric}
-use Rattle.std.specs.FinMap.Entries.{find-put, is_sorted-put, same_entries}
+use Rattle.std.specs.FinMap.Entries.{where_key, find-put, find-where_key, is_sorted-put, is_sorted-where_key, same_entries}
+use Rattle.std.proofs.lemmas.List.Sums.{fold-append}
 use Rattle.std.proofs.lemmas.Map.Lookups.{exact_pairs}
 use Rattle.std.proofs.lemmas.Bool.{or_left, or_right}
 use mathlib.Core.Bool.{or-true, or-false, or_assoc}
@@ -19,7 +21,8 @@ use Rattle.e_literal.specs.declared.object.Term.{Term}
 use Rattle.e_literal.specs.declared.object.Term.TheVariants.{Seg, Ang, Area, Right}
 use Rattle.e_literal.specs.declared.object.Mono.{Mono}
 use Rattle.e_literal.specs.Same.{canonical, term_eq, one_term, coeff_of, agree, EqualNormal}
-use Rattle.e_literal.specs.NormalForm.{numbers_of, term_cmp, Coefficients, difference, put_unless_zero, put_term, normal_sum, form_cmp, normal_up_to_sign}
+use Rattle.e_literal.specs.NormalForm.{numbers_of, term_cmp, Coefficients, difference, terms_in_order, with_coefficients, normal_sum, form_cmp, normal_up_to_sign}
+use Rattle.e_literal.specs.inner.Joining.{put_unless_zero, put_term}
 use Rattle.e_literal.proofs.Terms.{term_eq_is}
 use Rattle.e_literal.proofs.Agreeing.{coeff_same, equal_of_agree, agree_of_equal}
 use Rattle.e_literal.proofs.Booleans.{or_not_left, or_not_right}
@@ -129,9 +132,71 @@ difference_none x y q n h =
     let k : (among q x || among q y) ≡ false = sym (among-append q x y) ∙ h in
     ap (λ a. pos a -ℤ pos (coeff_of y q)) (absent q x n (or_not_left (among q x) (among q y) k)) ∙ ap (λ a. pos 0 -ℤ pos a) (absent q y n (or_not_right (among q x) (among q y) k))
 
+-- ---- the form by its terms
+
+-- one more term
+put_by : (x y : List Mono) (ts : List Term) (t u : Term) (r : Ordering) → term_cmp t u ≡ r
+    → with_coefficients x y (insert_key term_cmp ts t) ≡ put term_cmp t (difference x y t) (with_coefficients x y ts)
+    → with_coefficients x y (insert_key term_cmp (u ∷ ts) t) ≡ put term_cmp t (difference x y t) (with_coefficients x y (u ∷ ts))
+put_by x y ts t u Less is later = rw is refl
+put_by x y ts t u Equal is later = rw is (ap (λ (v : ℤ). (u, v) ∷ with_coefficients x y ts) (ap (difference x y) (sym (term_cmp_exact t u is))))
+put_by x y ts t u Greater is later = rw is (ap (λ (form : Coefficients). (u, difference x y u) ∷ form) later)
+
+put_in_order : (x y : List Mono) (ts : List Term) (t : Term) → with_coefficients x y (insert_key term_cmp ts t) ≡ put term_cmp t (difference x y t) (with_coefficients x y ts)
+put_in_order x y [] t = refl
+put_in_order x y (u ∷ ts) t = put_by x y ts t u (term_cmp t u) refl (put_in_order x y ts t)
+
+found_first : (x y : List Mono) (q t : Term) (a b : Bool) (o : Option ℤ) → ties q t ≡ b → o ≡ cond a (Some (difference x y q)) None
+    → cond b (Some (difference x y t)) o ≡ cond (b || a) (Some (difference x y q)) None
+found_first x y q t a true o is h = ap (λ (s : Term). Some (difference x y s)) (sym (tied_is q t is))
+found_first x y q t a false o is h = h
+
+-- the coefficient of each term of the monomials
+find-in_order : (x y : List Mono) (q : Term) (ms : List Mono) → find term_cmp q (with_coefficients x y (terms_in_order ms)) ≡ cond (among q ms) (Some (difference x y q)) None
+find-in_order x y q [] = refl
+find-in_order x y q (m ∷ ms) =
+    ap (find term_cmp q) (put_in_order x y (terms_in_order ms) (canonical m.term))
+    ∙ find-put term_cmp term_cmp_total q (canonical m.term) (difference x y (canonical m.term)) (with_coefficients x y (terms_in_order ms))
+    ∙ found_first x y q (canonical m.term) (among q ms) (ties q (canonical m.term)) (find term_cmp q (with_coefficients x y (terms_in_order ms))) refl (find-in_order x y q ms)
+
+sorted_in_order : (x y : List Mono) (ms : List Mono) → T (is_sorted term_cmp (with_coefficients x y (terms_in_order ms)))
+sorted_in_order x y [] = tt
+sorted_in_order x y (m ∷ ms) =
+    subst (λ (form : Coefficients). T (is_sorted term_cmp form)) (sym (put_in_order x y (terms_in_order ms) (canonical m.term)))
+    (is_sorted-put term_cmp term_cmp_total (canonical m.term) (difference x y (canonical m.term)) (with_coefficients x y (terms_in_order ms)) (sorted_in_order x y ms))
+
+-- the term has a coefficient other than 0
+abbrev counts : List Mono → List Mono → Term → Bool
+counts x y t = not (int_eq (difference x y t) (pos 0))
+
+some_count : (x y : List Mono) (ts : List Term) → filter (λ (p : Term × ℤ). not (int_eq p.1 (pos 0))) (with_coefficients x y ts) ≡ where_key term_cmp (counts x y) (with_coefficients x y ts)
+some_count x y [] = refl
+some_count x y (t ∷ ts) = ap (λ (form : Coefficients). cond (counts x y t) ((t, difference x y t) ∷ form) form) (some_count x y ts)
+
+unless_zero : (b z : Bool) (v : ℤ) → cond (not z) (cond b (Some v) None) None ≡ cond b (cond z None (Some v)) None
+unless_zero true true v = refl
+unless_zero true false v = refl
+unless_zero false true v = refl
+unless_zero false false v = refl
+
+-- the coefficient of each term of both sums, but for 0
+find-counted : (x y : List Mono) (q : Term) → find term_cmp q (normal_sum x y) ≡ cond (among q (x ++ y)) (some_unless_zero (difference x y q)) None
+find-counted x y q =
+    let all = with_coefficients x y (terms_in_order (x ++ y)) in
+    ap (find term_cmp q) (some_count x y (terms_in_order (x ++ y)))
+    ∙ find-where_key term_cmp (counts x y) q (λ t e. ap (counts x y) (sym (term_cmp_exact q t e))) all
+    ∙ ap (λ (o : Option ℤ). cond (counts x y q) o None) (find-in_order x y q (x ++ y))
+    ∙ unless_zero (among q (x ++ y)) (int_eq (difference x y q) (pos 0)) (difference x y q)
+
+-- the terms ascend
+sorted_normal_sum : (x y : List Mono) → T (is_sorted term_cmp (normal_sum x y))
+sorted_normal_sum x y =
+    subst (λ (form : Coefficients). T (is_sorted term_cmp form)) (sym (some_count x y (terms_in_order (x ++ y))))
+    (is_sorted-where_key term_cmp (counts x y) (with_coefficients x y (terms_in_order (x ++ y))) (sorted_in_order x y (x ++ y)))
+
 -- the coefficient of each term in its normal order, but for 0
 pub find-normal_sum : (x y : List Mono) (q : Term) → find term_cmp q (normal_sum x y) ≡ cond (ties (canonical q) q) (some_unless_zero (difference x y q)) None
-find-normal_sum x y q = find-fold x y q (x ++ y) [] false refl ∙ by (among q (x ++ y)) refl (ties (canonical q) q) refl
+find-normal_sum x y q = find-counted x y q ∙ by (among q (x ++ y)) refl (ties (canonical q) q) refl
   where
     by : (b : Bool) → among q (x ++ y) ≡ b → (c : Bool) → ties (canonical q) q ≡ c → cond b (some_unless_zero (difference x y q)) None ≡ cond c (some_unless_zero (difference x y q)) None
     by true h true k = refl
@@ -139,7 +204,8 @@ find-normal_sum x y q = find-fold x y q (x ++ y) [] false refl ∙ by (among q (
     by false h true k = sym (ap some_unless_zero (difference_none x y q (tied_is (canonical q) q k) h))
     by false h false k = refl
 
--- the terms ascend
+-- ---- the form as it grows
+
 sorted_once : (form : Coefficients) (k : Term) (v : ℤ) (z : Bool) → T (is_sorted term_cmp form) → T (is_sorted term_cmp (cond z form (put term_cmp k v form)))
 sorted_once form k v true h = h
 sorted_once form k v false h = is_sorted-put term_cmp term_cmp_total k v form h
@@ -149,8 +215,12 @@ sorted_fold x y [] form h = h
 sorted_fold x y (m ∷ ms) form h =
     sorted_fold x y ms (put_term x y form m) (sorted_once form (canonical m.term) (difference x y m.term) (int_eq (difference x y m.term) (pos 0)) h)
 
-sorted_normal_sum : (x y : List Mono) → T (is_sorted term_cmp (normal_sum x y))
-sorted_normal_sum x y = sorted_fold x y (x ++ y) [] tt
+-- one monomial after the other gives the normal form
+pub grown_is_normal : (x y : List Mono) → fold (put_term x y) (fold (put_term x y) [] x) y ≡ normal_sum x y
+grown_is_normal x y =
+    sym (fold-append (put_term x y) [] x y)
+    ∙ same_entries term_cmp term_cmp_total term_cmp_exact (fold (put_term x y) [] (x ++ y)) (normal_sum x y) (sorted_fold x y (x ++ y) [] tt) (sorted_normal_sum x y)
+    (λ q. find-fold x y q (x ++ y) [] false refl ∙ sym (find-counted x y q))
 
 -- ---- equal forms are equal coefficients
 

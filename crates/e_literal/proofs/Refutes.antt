@@ -10,7 +10,7 @@ use Rattle.e_literal.specs.declared.object.Term.{Term}
 use Rattle.e_literal.specs.Same.{term_eq}
 use Rattle.e_literal.specs.Rows.{Says, Zero, AtLeast, More, Not, Summands, coefficient, terms_of_rows}
 use Rattle.e_literal.specs.Width.{is_among, new_terms}
-use Rattle.e_literal.specs.Absurd.{Weighed, total, is_good_sign, is_strict, is_absurd}
+use Rattle.e_literal.specs.Absurd.{Weighed, total, allows_multiplier, is_strict, is_absurd}
 use Rattle.e_literal.specs.Solution.{form_value, IsSo, Satisfy}
 use Rattle.e_literal.proofs.Arith.{sums, add_mul, mul_add, mul_assoc, mul-not_negative, mul-positive}
 use Rattle.e_literal.proofs.Terms.{term_eq_is, among_right, among_first, among_rest}
@@ -148,7 +148,7 @@ forms_among (w ∷ ws) =
 
 -- ---- signs
 
-not_less : (m : ℤ) → is_good_sign AtLeast m ≡ true → pos 0 ≤ℤ m
+not_less : (m : ℤ) → allows_multiplier AtLeast m ≡ true → pos 0 ≤ℤ m
 not_less (pos n) h = omega (arith, sums)
 not_less (negsuc n) h = absurd (true≢false (sym h))
 
@@ -157,7 +157,7 @@ is_more (pos zero) h = absurd (true≢false (sym h))
 is_more (pos (suc n)) h = omega (arith, sums)
 is_more (negsuc n) h = absurd (true≢false (sym h))
 
-one_row : (s : Says) (m z : ℤ) → is_good_sign s m ≡ true → IsSo s z → pos 0 ≤ℤ (m *ℤ z)
+one_row : (s : Says) (m z : ℤ) → allows_multiplier s m ≡ true → IsSo s z → pos 0 ≤ℤ (m *ℤ z)
 one_row Zero m z a b = omega (arith, sums, ap (λ k. m *ℤ k) b, *ℤ-zero m)
 one_row AtLeast m z a b = mul-not_negative m z (not_less m a) b
 one_row More m z a b = mul-not_negative m z (not_less m a) (omega (arith, sums, b))
@@ -170,7 +170,7 @@ one_strict More m z a b = mul-positive m z (is_more m a) b
 one_strict Not m z a b = absurd (true≢false (sym a))
 
 abbrev good : Weighed → Bool
-good w = is_good_sign w.row.says w.multiplier
+good w = allows_multiplier w.row.says w.multiplier
 
 abbrev strict : Weighed → Bool
 strict w = is_strict w.row.says w.multiplier

@@ -16,7 +16,7 @@ use Rattle.e_literal.specs.declared.literal.Atom.TheVariants as atoms
 use Rattle.e_literal.specs.declared.literal.Lit.{Lit}
 use Rattle.e_literal.specs.declared.map.Entry.{Entry}
 use Rattle.e_literal.specs.Literal.{obj, is_in_scope, objects_of_term, objects_of_sum, objects_of_atom, all_in_scope, kind_of_term, kind_of_sums}
-use Rattle.e_literal.specs.WellFormed.{same_kind, is_good_coefficient, are_good_sums, is_good_atom, is_well_formed}
+use Rattle.e_literal.specs.WellFormed.{same_kind, is_bounded_coefficient, are_well_formed_sums, is_well_formed_atom, is_well_formed}
 use Rattle.e_literal.specs.Rename.{term_at, mono_at, atom_at, number_at, renamed, same_obj, image_in}
 
 -- ---- in scope
@@ -72,12 +72,12 @@ kinds_stay p [] [] = refl
 
 -- monomials of this kind, with good coefficients
 abbrev fits_kind : Kind → Mono → Bool
-fits_kind k m = same_kind (kind_of_term m.term) k && is_good_coefficient m.coeff
+fits_kind k m = same_kind (kind_of_term m.term) k && is_bounded_coefficient m.coeff
 
 each_fits : (p : ℕ → ℕ) (k : Kind) (ms : List Mono) → list_all (fits_kind k) (map (mono_at p) ms) ≡ list_all (fits_kind k) ms
 each_fits p k [] = refl
 each_fits p k (m ∷ ms) =
-    ap (λ t. (same_kind t k && is_good_coefficient m.coeff) && list_all (fits_kind k) (map (mono_at p) ms)) (kind_stays p m.term)
+    ap (λ t. (same_kind t k && is_bounded_coefficient m.coeff) && list_all (fits_kind k) (map (mono_at p) ms)) (kind_stays p m.term)
     ∙ ap (λ b. fits_kind k m && b) (each_fits p k ms)
 
 abbrev good_list : Kind → List Mono → Bool
@@ -88,13 +88,13 @@ good_list_stays p k ms =
     ap (λ n. nat_le 1 n && (nat_le n 32 && list_all (fits_kind k) (map (mono_at p) ms))) (length-map ms (mono_at p))
     ∙ ap (λ b. nat_le 1 (length ms) && (nat_le (length ms) 32 && b)) (each_fits p k ms)
 
-good_sums_stay : (p : ℕ → ℕ) (x y : List Mono) → are_good_sums (map (mono_at p) x) (map (mono_at p) y) ≡ are_good_sums x y
+good_sums_stay : (p : ℕ → ℕ) (x y : List Mono) → are_well_formed_sums (map (mono_at p) x) (map (mono_at p) y) ≡ are_well_formed_sums x y
 good_sums_stay p x y =
     ap (λ k. good_list k (map (mono_at p) x ++ map (mono_at p) y)) (kinds_stay p x y)
     ∙ ap (good_list (kind_of_sums x y)) (sym (map-append (mono_at p) x y))
     ∙ good_list_stays p (kind_of_sums x y) (x ++ y)
 
-pub good_atom_stays : (p l c : ℕ → ℕ) (a : Atom) → is_good_atom (atom_at p l c a) ≡ is_good_atom a
+pub good_atom_stays : (p l c : ℕ → ℕ) (a : Atom) → is_well_formed_atom (atom_at p l c a) ≡ is_well_formed_atom a
 good_atom_stays p l c (atoms.MagEq x y) = good_sums_stay p x y
 good_atom_stays p l c (atoms.MagLt x y) = good_sums_stay p x y
 good_atom_stays p l c a = refl

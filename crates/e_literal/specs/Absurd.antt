@@ -16,18 +16,19 @@ total [] t = pos 0
 total (w ∷ ws) t = w.multiplier *ℤ coefficient w.row.form t +ℤ total ws t
 
 -- only a row that says 0 may be taken away, and one that says that its form is not 0 takes no part
-abbrev pub is_good_sign : Says → ℤ → Bool
-is_good_sign Zero n = true
-is_good_sign AtLeast n = int_le (pos 0) n
-is_good_sign More n = int_le (pos 0) n
-is_good_sign Not n = false
+abbrev pub allows_multiplier : Says → ℤ → Bool
+allows_multiplier Zero n = true
+allows_multiplier AtLeast n = int_le (pos 0) n
+allows_multiplier More n = int_le (pos 0) n
+allows_multiplier Not n = false
 
 abbrev pub is_strict : Says → ℤ → Bool
 is_strict More n = int_le (pos 1) n
 is_strict _ n = false
 
--- all terms cancel, no row that says at least or more is taken away, and one that says more is added
+-- all terms cancel, no row that says at least or more is taken away, and one that says more is
+-- added
 abbrev pub is_absurd : List Weighed → Bool
 is_absurd ws =
     list_all (λ t. int_eq (total ws t) (pos 0)) (terms_of_rows (map (λ w. w.row) ws))
-    && (list_all (λ w. is_good_sign w.row.says w.multiplier) ws && list_any (λ w. is_strict w.row.says w.multiplier) ws)
+    && (list_all (λ w. allows_multiplier w.row.says w.multiplier) ws && list_any (λ w. is_strict w.row.says w.multiplier) ws)

@@ -1,18 +1,20 @@
-// Normal forms of literals.
+//! Normal forms of literals.
 
 ghost use Rattle.std.specs.Prelude.{◌≡◌, IfOk, OnOk};
 ghost use Rattle.std.specs.List.{fold};
-ghost use Rattle.e_literal.specs.NormalForm.{put_term, normal_form};
+ghost use Rattle.e_literal.specs.NormalForm;
+ghost use Rattle.e_literal.specs.NormalForm.{normal_form};
+ghost use Rattle.e_literal.specs.inner.Joining.{put_term};
 ghost use Rattle.e_literal.specs.Normal.{atom_of, form_of};
 
-use crate::compare::{canonical, coefficient};
+use crate::compare::{canonical, coefficient_in};
 use crate::literal::{Atom, Lit};
 use crate::normals::{Normal, NormalAtom};
 use crate::object::{Mono, Term};
 use std::alloc::{AllocError, Global};
 use std::collections::BTreeMap;
 
-/// The normal form of a literal. It fails only for want of memory.
+/// The normal form of a literal. It fails only when out of memory.
 pub fn normal(alloc: Global, lit: &Lit) -> Result<Normal, AllocError>
     ensures { IfOk result (λ n. form_of n ≡ normal_form lit.now) }
 {
@@ -24,7 +26,7 @@ pub fn normal(alloc: Global, lit: &Lit) -> Result<Normal, AllocError>
 }
 
 fn normal_atom(alloc: Global, atom: &Atom) -> Result<NormalAtom, AllocError>
-    ensures { IfOk result (λ a. atom_of a ≡ Rattle.e_literal.specs.NormalForm.normal_atom atom.now) }
+    ensures { IfOk result (λ a. atom_of a ≡ NormalForm.normal_atom atom.now) }
 {
     match atom {
         Atom::On(a, b) => Ok(NormalAtom::On(*a, *b)),
@@ -56,7 +58,7 @@ fn normal_up_to_sign(
     x: &[Mono],
     y: &[Mono],
 ) -> Result<BTreeMap<Term, i128>, AllocError>
-    ensures { IfOk result (λ m. m.entries ≡ Rattle.e_literal.specs.NormalForm.normal_up_to_sign x.now y.now) }
+    ensures { IfOk result (λ m. m.entries ≡ NormalForm.normal_up_to_sign x.now y.now) }
 {
     let form = normal_sum(alloc, x, y)?;
     let negative = normal_sum(alloc, y, x)?;
@@ -64,8 +66,9 @@ fn normal_up_to_sign(
 }
 
 // The terms of x - y with their coefficients, but for those with 0.
+#[tactic(auto, using(crate::proofs::NormalForms::grown_is_normal))]
 fn normal_sum(alloc: Global, x: &[Mono], y: &[Mono]) -> Result<BTreeMap<Term, i128>, AllocError>
-    ensures { IfOk result (λ m. m.entries ≡ Rattle.e_literal.specs.NormalForm.normal_sum x.now y.now) }
+    ensures { IfOk result (λ m. m.entries ≡ NormalForm.normal_sum x.now y.now) }
 {
     let mut form = BTreeMap::new(alloc);
     put_terms(&mut form, x, y, x)?;
@@ -106,7 +109,7 @@ fn put_mono(
 
 // The coefficient of a term in x - y.
 fn difference(x: &[Mono], y: &[Mono], term: Term) -> i128
-    ensures { result ≡ Rattle.e_literal.specs.NormalForm.difference x.now y.now term }
+    ensures { result ≡ NormalForm.difference x.now y.now term }
 {
-    coefficient(x, term) as i128 - coefficient(y, term) as i128
+    coefficient_in(x, term) as i128 - coefficient_in(y, term) as i128
 }

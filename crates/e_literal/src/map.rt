@@ -1,8 +1,7 @@
-// Images of objects.
+//! Images of objects.
 
 ghost use Rattle.std.specs.Prelude.{◌≡◌, [], ◌∷◌, OnOk, OnErr, IfOk, is_some, map};
 ghost use Rattle.e_literal.specs.Literal.{obj};
-ghost use Rattle.e_literal.specs.Scopes.{same_sort};
 ghost use Rattle.e_literal.specs.Rename.{image_in, number_at, paired, same_obj};
 
 use crate::object::{Obj, Sort};
@@ -18,7 +17,8 @@ pub struct Entry {
 
 /// A finite map from objects to objects of their sorts.
 ///
-/// Contracts see the list of what was set, the last first; the image of an object is that of the first entry with it.
+/// Contracts see the list of what was set, the last first; the image of an object is that of the
+/// first entry with it.
 #[derive(Drop)]
 pub struct Map {
     entries: Vec<Entry>,
@@ -43,9 +43,10 @@ impl Map {
         }
     }
 
-    /// The map that sends each object to the one in its place, and an object that stands twice to that of its first place.
+    /// The map that sends each object to the one in its place, and an object that stands twice to
+    /// that of its first place.
     ///
-    /// It fails only for want of memory.
+    /// It fails only when out of memory.
     pub fn paired(alloc: Global, from: &[Obj], to: &[Obj]) -> Result<Self, AllocError>
         requires one_sort { map (λ o. o.sort) from.now ≡ map (λ o. o.sort) to.now }
         ensures { IfOk result (λ m. m ≡ paired from.now to.now) }
@@ -62,7 +63,7 @@ impl Map {
 
     /// From now on `to` is the image of `from`, and each other object keeps its image.
     ///
-    /// It fails only for want of memory, and then the map is as before.
+    /// It fails only when out of memory, and then the map is as before.
     pub fn set(&mut self, from: Obj, to: Obj) -> Result<(), AllocError>
         requires one_sort { from.sort ≡ to.sort }
         ensures ok { OnOk result (self.new ≡ record { source = from; target = to } ∷ self.old) }
@@ -105,26 +106,16 @@ fn image_among(entries: &[Entry], object: Obj) -> Option<Obj>
     ensures { result ≡ image_in entries.now object }
 {
     for entry in entries {
-        if is_same(entry.source, object) {
+        if is_same_object(entry.source, object) {
             return Some(entry.target);
         }
     }
     None
 }
 
-fn is_same(a: Obj, b: Obj) -> bool
+/// Whether two objects are the same.
+pub fn is_same_object(a: Obj, b: Obj) -> bool
     ensures { result ≡ same_obj a b }
 {
-    is_same_sort(a.sort, b.sort) && a.num == b.num
-}
-
-fn is_same_sort(a: Sort, b: Sort) -> bool
-    ensures { result ≡ same_sort a b }
-{
-    match (a, b) {
-        (Sort::Point, Sort::Point) | (Sort::Line, Sort::Line) | (Sort::Circle, Sort::Circle) => {
-            true
-        }
-        _ => false,
-    }
+    a == b
 }

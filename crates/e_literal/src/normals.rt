@@ -1,4 +1,4 @@
-// The type of normal forms.
+//! The type of normal forms.
 
 ghost use Rattle.std.specs.Prelude.{◌≡◌, ◌↔◌, IsTrue};
 ghost use Rattle.e_literal.specs.declared.literal.Lit.{Lit};
@@ -9,10 +9,12 @@ ghost use Rattle.e_literal.specs.Normal.{form_of};
 use crate::object::Term;
 use std::collections::BTreeMap;
 
-/// The normal form of a literal. Those of two literals are equal exactly where the literals are the same.
+/// The normal form of a literal. Those of two literals are equal exactly where the literals are the
+/// same.
 ///
-/// A diagram literal is its own normal form. Of a metric one all terms stand on one side, each in its normal order and once,
-/// and those with coefficient 0 are dropped; an equation has one normal form for both signs.
+/// A diagram literal is its own normal form. Of a metric one all terms stand on one side, each in
+/// its normal order and once, and those with coefficient 0 are dropped; an equation has one normal
+/// form for both signs.
 #[derive(PartialEq, Eq, Drop)]
 pub struct Normal {
     pub(crate) negated: bool,
@@ -39,7 +41,8 @@ pub(crate) enum NormalAtom {
 }
 
 impl Normal {
-    /// Whether the two are equal, as `==` answers: exactly where they are the normal forms of literals that are the same.
+    /// Whether the two are equal, as `==` answers: exactly where they are the normal forms of
+    /// literals that are the same.
     pub fn is_equal(&self, other: &Normal) -> bool
         ensures decides { IsTrue result ↔ (form_of self.now ≡ form_of other.now) }
         ensures same { (a b : Lit) → form_of self.now ≡ normal_form a → form_of other.now ≡ normal_form b → result ≡ same_lit a b }

@@ -1,9 +1,10 @@
-// Literals with the images of their objects.
+//! Literals with the images of their objects.
 
 ghost use Rattle.std.specs.Prelude.{◌≡◌, IfOk, List, is_some, map as map_list};
 ghost use Rattle.std.specs.List.{list_all};
 ghost use Rattle.e_literal.specs.declared.object.Sort.TheVariants.{Point, Line, Circle};
 ghost use Rattle.e_literal.specs.Literal.{objects_of_atom, objects_of_sum, objects_of_term};
+ghost use Rattle.e_literal.specs.Rename;
 ghost use Rattle.e_literal.specs.Rename.{image_in, number_at, term_at, mono_at, atom_at};
 
 use crate::form::Form;
@@ -12,11 +13,12 @@ use crate::map::Map;
 use crate::object::{Mono, Sort, Term};
 use std::alloc::{AllocError, Global};
 
-/// The literal with the image of each object for it; none exactly where an object of it has no image.
+/// The literal with the image of each object for it; none exactly where an object of it has no
+/// image.
 ///
-/// It fails only for want of memory.
+/// It fails only when out of memory.
 pub fn rename(alloc: Global, lit: &Lit, map: &Map) -> Result<Option<Lit>, AllocError>
-    ensures { IfOk result (λ r. r ≡ Rattle.e_literal.specs.Rename.rename (image_in map.now) lit.now) }
+    ensures { IfOk result (λ r. r ≡ Rename.rename (image_in map.now) lit.now) }
 {
     if !has_images(map, &lit.atom) {
         return Ok(None);
@@ -27,9 +29,9 @@ pub fn rename(alloc: Global, lit: &Lit, map: &Map) -> Result<Option<Lit>, AllocE
 
 /// The literal with the image of each object for it, where an object without image stays.
 ///
-/// It fails only for want of memory.
+/// It fails only when out of memory.
 pub fn renamed(alloc: Global, lit: &Lit, map: &Map) -> Result<Lit, AllocError>
-    ensures { IfOk result (λ r. r ≡ Rattle.e_literal.specs.Rename.renamed (image_in map.now) lit.now) }
+    ensures { IfOk result (λ r. r ≡ Rename.renamed (image_in map.now) lit.now) }
 {
     let atom = renamed_atom(alloc, &lit.atom, map)?;
     Ok(Lit { neg: lit.neg, atom })
@@ -64,12 +66,7 @@ fn has_images(map: &Map, atom: &Atom) -> bool
 fn sum_has_images(map: &Map, sum: &[Mono]) -> bool
     ensures { result ≡ list_all (λ o. is_some (image_in map.now o)) (objects_of_sum sum.now) }
 {
-    for m in sum {
-        if !term_has_images(map, m.term) {
-            return false;
-        }
-    }
-    true
+    sum.iter().all(|m| term_has_images(map, m.term))
 }
 
 fn term_has_images(map: &Map, term: Term) -> bool

@@ -1,4 +1,4 @@
-// Values of terms.
+//! Values of terms.
 
 ghost use Rattle.std.specs.Prelude.{◌≡◌};
 

@@ -9,7 +9,7 @@ ghost use Rattle.e_literal.specs.Solution.{Satisfy};
 ghost use Rattle.e_literal.specs.Same;
 ghost use Rattle.e_literal.specs.Width.{is_among};
 ghost use Rattle.e_clause.specs.Assignment.{terms_of_atom, terms_of_lits, terms_of_wanted, terms_of_step};
-ghost use Rattle.e_clause.specs.Laws.{is_good_wanted};
+ghost use Rattle.e_clause.specs.Laws.{is_well_formed_metric};
 ghost use Rattle.e_clause.specs.System.{rows_of_system};
 ghost use Rattle.e_clause.specs.Counterexample.{are_in_order, ListsCounterexample};
 ghost use Rattle.e_simplex.specs.Answer;
@@ -140,7 +140,7 @@ pub fn counterexample(
     values: &ByKind<Values>,
 ) -> Result<Values, AllocError>
     requires facts { IsTrue (list_all is_well_formed facts.now) }
-    requires wanted { IsTrue (is_good_wanted (option_copied wanted)) }
+    requires wanted { IsTrue (is_well_formed_metric (option_copied wanted)) }
     requires solved { (which : Kind) → Satisfy (values_of values.now which)
         (rows_of_system which facts.now (option_copied wanted)) }
     ensures { IfOk result (ListsCounterexample facts.now (option_copied wanted.entry)) }

@@ -6,7 +6,7 @@ ghost use Rattle.std.specs.List.{list_all};
 ghost use Rattle.e_literal.specs.WellFormed.{is_well_formed};
 ghost use Rattle.e_clause.specs.Assignment.{terms_of_lits};
 ghost use Rattle.e_clause.specs.Metric.{MetricConsequence, Unsatisfiable};
-ghost use Rattle.e_clause.specs.Laws.{is_good_wanted};
+ghost use Rattle.e_clause.specs.Laws.{is_well_formed_metric};
 ghost use Rattle.e_fraction.specs.Limits.{all_small};
 ghost use Rattle.e_fraction.specs.Views.{all_seen};
 ghost use Rattle.e_simplex.specs.Answer.{IsAbsurdity};
@@ -105,7 +105,7 @@ pub fn answer_of_kind(
 ) -> Result<Metric, AllocError>
     requires facts { IsTrue (list_all is_well_formed facts.now) }
     requires few { length (terms_of_lits facts.now) ≤ 1100 }
-    requires wanted { IsTrue (is_good_wanted (option_copied wanted)) }
+    requires wanted { IsTrue (is_well_formed_metric (option_copied wanted)) }
     ensures { IfOk result (IsKindAnswer which facts.now (option_copied wanted.entry)) }
 {
     let named = system(alloc, which, facts, wanted)?;
@@ -131,7 +131,7 @@ fn answers_of_both(
 ) -> Result<(Metric, Metric), AllocError>
     requires facts { IsTrue (list_all is_well_formed facts.now) }
     requires few { length (terms_of_lits facts.now) ≤ 1100 }
-    requires wanted { IsTrue (is_good_wanted (option_copied wanted)) }
+    requires wanted { IsTrue (is_well_formed_metric (option_copied wanted)) }
     ensures one { IfOk result (λ p. IsKindAnswer one facts.now (option_copied wanted.entry) p.0) }
     ensures other { IfOk result
         (λ p. IsKindAnswer other facts.now (option_copied wanted.entry) p.1) }
@@ -156,7 +156,7 @@ fn answers_by_kind(
 ) -> Result<ByKind<Metric>, AllocError>
     requires facts { IsTrue (list_all is_well_formed facts.now) }
     requires few { length (terms_of_lits facts.now) ≤ 1100 }
-    requires wanted { IsTrue (is_good_wanted (option_copied wanted)) }
+    requires wanted { IsTrue (is_well_formed_metric (option_copied wanted)) }
     requires own_answer { IsKindAnswer which facts.now (option_copied wanted) own_answer }
     ensures segments { IfOk result
         (λ b. IsKindAnswer Kind.Segment facts.now (option_copied wanted.entry) b.segments) }
@@ -196,7 +196,7 @@ pub fn joined_answer(
     answer: ByKind<Metric>,
 ) -> Result<Metric, AllocError>
     requires facts { IsTrue (list_all is_well_formed facts.now) }
-    requires wanted { IsTrue (is_good_wanted (option_copied wanted)) }
+    requires wanted { IsTrue (is_well_formed_metric (option_copied wanted)) }
     requires segments { IsKindAnswer Kind.Segment facts.now (option_copied wanted) answer.segments }
     requires angles { IsKindAnswer Kind.Angle facts.now (option_copied wanted) answer.angles }
     requires areas { IsKindAnswer Kind.Area facts.now (option_copied wanted) answer.areas }
@@ -236,7 +236,7 @@ fn answer(
 ) -> Result<Metric, AllocError>
     requires facts { IsTrue (list_all is_well_formed facts.now) }
     requires few { length (terms_of_lits facts.now) ≤ 1100 }
-    requires wanted { IsTrue (is_good_wanted (option_copied wanted)) }
+    requires wanted { IsTrue (is_well_formed_metric (option_copied wanted)) }
     ensures { IfOk result (IsMetricAnswer facts.now (option_copied wanted.entry)) }
 {
     match answer_of_kind(alloc, which, facts, wanted)? {
@@ -262,7 +262,7 @@ fn answer(
 pub fn follows(alloc: Global, facts: &Facts, goal: &Lit) -> Result<Metric, AllocError>
     requires facts { IsTrue (list_all is_well_formed facts.now) }
     requires few { length (terms_of_lits facts.now) ≤ 1100 }
-    requires goal { IsTrue (is_good_wanted (Some goal.now)) }
+    requires goal { IsTrue (is_well_formed_metric (Some goal.now)) }
     ensures answer { IfOk result (IsMetricAnswer facts.now (Some goal.now)) }
     ensures yes { IfOk result (λ m. IfYes m (MetricConsequence facts.now goal.now)) }
     ensures no { IfOk result (λ m. IfNo m (¬ MetricConsequence facts.now goal.now)) }

@@ -8,7 +8,6 @@ ghost use Rattle.e_simplex.specs.Answer;
 ghost use Rattle.e_metric.specs.inner.FurtherRows;
 
 use crate::assigning::assigned;
-use crate::systems::are_apart;
 use e_facts::Facts;
 use e_fraction::{Row, RowKind};
 use e_literal::{Term, Values, canonical};
@@ -63,7 +62,7 @@ fn default_value(facts: &Facts, term: Term) -> u128
     ensures { result ≡ FurtherRows.value_of_fresh facts.now term }
 {
     match term {
-        Term::Seg(a, b) => u128::from(are_apart(facts, a, b)),
+        Term::Seg(a, b) => u128::from(facts.tell_apart(a, b)),
         Term::Ang(_, _, _) | Term::Area(_, _, _) | Term::Right => 0,
     }
 }

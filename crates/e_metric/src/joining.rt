@@ -1,33 +1,20 @@
 //! The difference of two sums, in which each term occurs once.
 
 ghost use Rattle.std.specs.Prelude.{◌≡◌, ◌+◌, ◌<◌, ◌≤◌, ◌^◌, length, pos, OnOk, IfOk};
-ghost use Rattle.e_literal.specs.Same.{one_term, coeff_of};
+ghost use Rattle.e_literal.specs.Same.{coeff_of};
 ghost use Rattle.e_metric.specs.inner.Differences.{coefficient_in_difference, difference_form, with_summand, with_summands};
 
 use e_fraction::stands_in;
-use e_literal::{Mono, Term, canonical, is_degenerate};
+use e_literal::{Mono, Term, canonical, coefficient_in, is_degenerate};
 use std::alloc::{AllocError, Global};
 
-/// Whether two terms are one.
-pub fn is_one_term(a: Term, b: Term) -> bool
-    ensures { result ≡ one_term a b }
-{
-    canonical(a) == canonical(b)
-}
-
-// The coefficient of a term in a sum, where equal terms are joined.
+// The coefficient of a term in a sum of so few monomials.
 fn coefficient(sum: &[Mono], term: Term) -> i64
     requires { length sum.now ≤ 32 }
     ensures value { result ≡ pos (coeff_of sum.now term) }
     ensures bound { coeff_of sum.now term < 2 ^ 40 }
 {
-    let mut total: u64 = 0;
-    for m in sum {
-        if is_one_term(m.term, term) {
-            total += u64::from(m.coeff);
-        }
-    }
-    total as i64
+    coefficient_in(sum, term) as i64
 }
 
 // The coefficient of a term in the difference.

@@ -4,7 +4,7 @@ ghost use Rattle.std.specs.Prelude.{◌≡◌, ◌≤◌, ◌++◌, length, take
 ghost use Rattle.std.specs.List.{list_all};
 ghost use Rattle.e_literal.specs.WellFormed.{is_well_formed};
 ghost use Rattle.e_clause.specs.Assignment.{terms_of_lits};
-ghost use Rattle.e_clause.specs.Laws.{is_good_wanted};
+ghost use Rattle.e_clause.specs.Laws.{is_well_formed_metric};
 ghost use Rattle.e_clause.specs.System.{rows_of_term};
 ghost use Rattle.e_metric.specs.SolvedSystems.{AreTogether, IsContradictionOf, IsSolvedSystem, IsKindSystem, IsAnswerAlone, AnswersAs};
 ghost use Rattle.e_metric.specs.ListedTerms;
@@ -94,7 +94,7 @@ impl KindSystem {
         requires kind_system { IsKindSystem which facts.now self.now }
         requires facts { IsTrue (list_all is_well_formed facts.now) }
         requires few { length (terms_of_lits facts.now) ≤ 1100 }
-        requires goal { IsTrue (is_good_wanted (Some goal.now)) }
+        requires goal { IsTrue (is_well_formed_metric (Some goal.now)) }
         ensures { IfOk result (IsKindAnswer which facts.now (Some goal.now)) }
     {
         match self {

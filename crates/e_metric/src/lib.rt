@@ -21,4 +21,4 @@ pub use consequence::{Metric, absurd, follows};
 pub use limits::{are_few_facts, is_good_goal, is_well_formed};
 pub use metric_facts::MetricFacts;
 pub use step_facts::StepFacts;
-pub use systems::{are_apart, system};
+pub use systems::system;

@@ -4,9 +4,9 @@ ghost use Rattle.std.specs.Prelude.{◌≡◌, ◌<◌, ◌≤◌, ◌^◌, ◌&
 ghost use Rattle.std.specs.List.{list_all};
 ghost use Rattle.e_literal.specs.Literal.{kind_of_term, kind_of_sums};
 ghost use Rattle.e_literal.specs.WellFormed;
-ghost use Rattle.e_literal.specs.WellFormed.{same_kind, is_good_coefficient};
+ghost use Rattle.e_literal.specs.WellFormed.{same_kind, is_bounded_coefficient};
 ghost use Rattle.e_clause.specs.Assignment.{terms_of_atom, terms_of_lits};
-ghost use Rattle.e_clause.specs.Laws.{is_good_wanted};
+ghost use Rattle.e_clause.specs.Laws.{is_well_formed_metric};
 
 use e_facts::Facts;
 use e_literal::{Atom, Kind, Lit, Mono, Term, kind};
@@ -25,7 +25,7 @@ fn is_of(which: Kind, term: Term) -> bool
 // Whether each monomial is of the kind, with a coefficient from 1 to 1,000,000.
 fn are_good(which: Kind, sum: &[Mono]) -> bool
     ensures { result ≡ list_all
-        (λ m. same_kind (kind_of_term m.term) which && is_good_coefficient m.coeff) sum.now }
+        (λ m. same_kind (kind_of_term m.term) which && is_bounded_coefficient m.coeff) sum.now }
 {
     sum.iter().all(|m| is_of(which, m.term) && 1 <= m.coeff && m.coeff <= 1_000_000)
 }
@@ -33,7 +33,7 @@ fn are_good(which: Kind, sum: &[Mono]) -> bool
 #[tactic(auto, using(crate::proofs::terms::WellFormedSums::parts))]
 fn are_good_sums(which: Kind, x: &[Mono], y: &[Mono]) -> bool
     requires { which ≡ kind_of_sums x.now y.now }
-    ensures { result ≡ WellFormed.are_good_sums x.now y.now }
+    ensures { result ≡ WellFormed.are_well_formed_sums x.now y.now }
 {
     let monomials = x.len() + y.len();
     1 <= monomials && monomials <= 32 && are_good(which, x) && are_good(which, y)
@@ -53,7 +53,7 @@ pub fn is_well_formed(lit: &Lit) -> bool
 
 /// Whether the literal is a metric one, and well formed.
 pub fn is_good_goal(goal: &Lit) -> bool
-    ensures { result ≡ is_good_wanted (Some goal.now) }
+    ensures { result ≡ is_well_formed_metric (Some goal.now) }
 {
     kind(goal).is_some() && is_well_formed(goal)
 }

@@ -4,7 +4,7 @@ ghost use Rattle.std.specs.Prelude.{◌≡◌, ◌+◌, ◌≤◌, ◌++◌, len
 ghost use Rattle.std.specs.List.{list_all};
 ghost use Rattle.e_literal.specs.declared.object.Term.{Term};
 ghost use Rattle.e_literal.specs.Rows.{coefficient, normal_summands, plus, minus, row_of_atom};
-ghost use Rattle.e_literal.specs.WellFormed.{is_good_atom, is_good_coefficient};
+ghost use Rattle.e_literal.specs.WellFormed.{is_well_formed_atom, is_bounded_coefficient};
 ghost use Rattle.e_fraction.specs.Limits.{has_small_coefficients};
 ghost use Rattle.e_metric.specs.AgreeingRows.{has_no_zero, IsRowOrNone, IsLimitedOrNone};
 
@@ -16,8 +16,8 @@ use std::alloc::{AllocError, Global};
 // The form x - y.
 fn difference(alloc: Global, x: &[Mono], y: &[Mono]) -> Result<Signed, AllocError>
     requires few { length x.now + length y.now ≤ 32 }
-    requires left { IsTrue (list_all (λ m. is_good_coefficient m.coeff) x.now) }
-    requires right { IsTrue (list_all (λ m. is_good_coefficient m.coeff) y.now) }
+    requires left { IsTrue (list_all (λ m. is_bounded_coefficient m.coeff) x.now) }
+    requires right { IsTrue (list_all (λ m. is_bounded_coefficient m.coeff) y.now) }
     ensures coefficients { IfOk result (λ f. (t : Term)
         → coefficient f t ≡ coefficient (normal_summands (plus x.now ++ minus y.now)) t) }
     ensures no_zero { IfOk result (λ f. IsTrue (has_no_zero f)) }
@@ -30,7 +30,7 @@ fn difference(alloc: Global, x: &[Mono], y: &[Mono]) -> Result<Signed, AllocErro
 
 /// The row of an atom, or of its negation; none for a diagram atom.
 pub fn row_of(alloc: Global, atom: &Atom, neg: bool) -> Result<Option<Row>, AllocError>
-    requires { IsTrue (is_good_atom atom.now) }
+    requires { IsTrue (is_well_formed_atom atom.now) }
     ensures row { IfOk result (IsRowOrNone (row_of_atom atom.now neg)) }
     ensures limited { IfOk result IsLimitedOrNone }
 {

@@ -7,7 +7,7 @@ ghost use Rattle.e_literal.specs.declared.literal.Lit.{Lit};
 ghost use Rattle.e_literal.specs.Literal.{kind_of_atom};
 ghost use Rattle.e_literal.specs.WellFormed.{is_well_formed};
 ghost use Rattle.e_clause.specs.Assignment.{terms_of_lits};
-ghost use Rattle.e_clause.specs.Laws.{is_good_wanted};
+ghost use Rattle.e_clause.specs.Laws.{is_well_formed_metric};
 ghost use Rattle.e_clause.specs.Metric.{MetricConsequence, Unsatisfiable};
 ghost use Rattle.e_clause.specs.System.{of_kind, against_goal};
 ghost use Rattle.e_metric.specs.Fronts.{IsFront, IsFrontAs, AreFronts};
@@ -109,7 +109,7 @@ impl Slot {
         requires front { IsFront which facts.now self.now }
         requires facts { IsTrue (list_all is_well_formed facts.now) }
         requires few { length (terms_of_lits facts.now) ≤ 1100 }
-        requires goal { IsTrue (is_good_wanted (Some goal.now)) }
+        requires goal { IsTrue (is_well_formed_metric (Some goal.now)) }
         ensures { IfOk result (IsKindAnswer which facts.now (Some goal.now)) }
     {
         if self.is_whole(facts) {
@@ -131,7 +131,7 @@ impl Slot {
         requires front { IsFront which facts.now self.now }
         requires facts { IsTrue (list_all is_well_formed facts.now) }
         requires few { length (terms_of_lits facts.now) ≤ 1100 }
-        requires wanted { IsTrue (is_good_wanted (option_copied wanted)) }
+        requires wanted { IsTrue (is_well_formed_metric (option_copied wanted)) }
         requires other { of_kind which (against_goal (option_copied wanted)) ≡ [] }
         ensures { IfOk result (IsKindAnswer which facts.now (option_copied wanted.entry)) }
     {
@@ -318,7 +318,7 @@ impl MetricFacts {
         requires fronts { AreFronts facts.now self.now }
         requires facts { IsTrue (list_all is_well_formed facts.now) }
         requires few { length (terms_of_lits facts.now) ≤ 1100 }
-        requires goal { IsTrue (is_good_wanted (Some goal.now)) }
+        requires goal { IsTrue (is_well_formed_metric (Some goal.now)) }
         ensures { IfOk result (IsKindAnswer which facts.now (Some goal.now)) }
     {
         self.systems.get(which).ask(alloc, which, facts, goal)
@@ -335,7 +335,7 @@ impl MetricFacts {
         requires fronts { AreFronts facts.now self.now }
         requires facts { IsTrue (list_all is_well_formed facts.now) }
         requires few { length (terms_of_lits facts.now) ≤ 1100 }
-        requires wanted { IsTrue (is_good_wanted (option_copied wanted)) }
+        requires wanted { IsTrue (is_well_formed_metric (option_copied wanted)) }
         requires other { of_kind which (against_goal (option_copied wanted)) ≡ [] }
         ensures { IfOk result (IsKindAnswer which facts.now (option_copied wanted.entry)) }
     {
@@ -356,7 +356,7 @@ impl MetricFacts {
         requires fronts { AreFronts facts.now self.now }
         requires facts { IsTrue (list_all is_well_formed facts.now) }
         requires few { length (terms_of_lits facts.now) ≤ 1100 }
-        requires wanted { IsTrue (is_good_wanted (option_copied wanted)) }
+        requires wanted { IsTrue (is_well_formed_metric (option_copied wanted)) }
         requires one { of_kind one (against_goal (option_copied wanted)) ≡ [] }
         requires other { of_kind other (against_goal (option_copied wanted)) ≡ [] }
         ensures one { IfOk result
@@ -386,7 +386,7 @@ impl MetricFacts {
         requires fronts { AreFronts facts.now self.now }
         requires facts { IsTrue (list_all is_well_formed facts.now) }
         requires few { length (terms_of_lits facts.now) ≤ 1100 }
-        requires goal { IsTrue (is_good_wanted (Some goal.now)) }
+        requires goal { IsTrue (is_well_formed_metric (Some goal.now)) }
         requires kind { kind_of_atom goal.now.atom ≡ Some which }
         requires own_answer { IsKindAnswer which facts.now (Some goal.now) own_answer }
         ensures segments { IfOk result
@@ -419,7 +419,7 @@ impl MetricFacts {
         requires fronts { AreFronts facts.now self.now }
         requires facts { IsTrue (list_all is_well_formed facts.now) }
         requires few { length (terms_of_lits facts.now) ≤ 1100 }
-        requires goal { IsTrue (is_good_wanted (Some goal.now)) }
+        requires goal { IsTrue (is_well_formed_metric (Some goal.now)) }
         requires kind { kind_of_atom goal.now.atom ≡ Some which }
         requires own_answer { IsKindAnswer which facts.now (Some goal.now) own_answer }
         ensures { IfOk result (IsMetricAnswer facts.now (Some goal.now)) }
@@ -439,7 +439,7 @@ impl MetricFacts {
         requires fronts { AreFronts facts.now self.now }
         requires facts { IsTrue (list_all is_well_formed facts.now) }
         requires few { length (terms_of_lits facts.now) ≤ 1100 }
-        requires goal { IsTrue (is_good_wanted (Some goal.now)) }
+        requires goal { IsTrue (is_well_formed_metric (Some goal.now)) }
         requires kind { kind_of_atom goal.now.atom ≡ Some which }
         ensures { IfOk result (IsMetricAnswer facts.now (Some goal.now)) }
     {
@@ -459,7 +459,7 @@ impl MetricFacts {
         requires fronts { AreFronts facts.now self.now }
         requires facts { IsTrue (list_all is_well_formed facts.now) }
         requires few { length (terms_of_lits facts.now) ≤ 1100 }
-        requires goal { IsTrue (is_good_wanted (Some goal.now)) }
+        requires goal { IsTrue (is_well_formed_metric (Some goal.now)) }
         ensures answer { IfOk result (IsMetricAnswer facts.now (Some goal.now)) }
         ensures yes { IfOk result (λ m. IfYes m (MetricConsequence facts.now goal.now)) }
         ensures no { IfOk result (λ m. IfNo m (¬ MetricConsequence facts.now goal.now)) }
@@ -479,7 +479,7 @@ impl MetricFacts {
         requires fronts { AreFronts facts.now self.old }
         requires facts { IsTrue (list_all is_well_formed facts.now) }
         requires few { length (terms_of_lits facts.now) ≤ 1100 }
-        requires goal { IsTrue (is_good_wanted (Some goal.now)) }
+        requires goal { IsTrue (is_well_formed_metric (Some goal.now)) }
         requires kind { kind_of_atom goal.now.atom ≡ Some which }
         ensures answer { IfOk result (IsMetricAnswer facts.now (Some goal.now)) }
         ensures fronts { AreFronts facts.now self.new }
@@ -508,7 +508,7 @@ impl MetricFacts {
         requires fronts { AreFronts facts.now self.old }
         requires facts { IsTrue (list_all is_well_formed facts.now) }
         requires few { length (terms_of_lits facts.now) ≤ 1100 }
-        requires goal { IsTrue (is_good_wanted (Some goal.now)) }
+        requires goal { IsTrue (is_well_formed_metric (Some goal.now)) }
         ensures answer { IfOk result (IsMetricAnswer facts.now (Some goal.now)) }
         ensures yes { IfOk result (λ m. IfYes m (MetricConsequence facts.now goal.now)) }
         ensures no { IfOk result (λ m. IfNo m (¬ MetricConsequence facts.now goal.now)) }
@@ -529,7 +529,7 @@ impl MetricFacts {
         requires fronts { AreFronts facts.now self.old }
         requires facts { IsTrue (list_all is_well_formed facts.now) }
         requires few { length (terms_of_lits facts.now) ≤ 1100 }
-        requires goal { IsTrue (is_good_wanted (Some goal.now)) }
+        requires goal { IsTrue (is_well_formed_metric (Some goal.now)) }
         ensures cert { IfOk result (λ o. IfSome o (IsCertified facts.now (Some goal.now))) }
         ensures fronts { AreFronts facts.now self.new }
     {

@@ -5,7 +5,7 @@ ghost use Rattle.std.specs.List.{list_all};
 ghost use Rattle.e_literal.specs.WellFormed.{is_well_formed};
 ghost use Rattle.e_literal.specs.Width;
 ghost use Rattle.e_clause.specs.Assignment.{terms_of_lits};
-ghost use Rattle.e_clause.specs.Laws.{is_good_wanted};
+ghost use Rattle.e_clause.specs.Laws.{is_well_formed_metric};
 ghost use Rattle.e_clause.specs.System;
 ghost use Rattle.e_clause.specs.System.{system, rows_of_system};
 ghost use Rattle.e_fraction.specs.Views.{all_seen};
@@ -96,7 +96,7 @@ pub fn system_width(
     wanted: Option<&Lit>,
 ) -> Result<u128, AllocError>
     requires facts { IsTrue (list_all is_well_formed facts.now) }
-    requires wanted { IsTrue (is_good_wanted (option_copied wanted)) }
+    requires wanted { IsTrue (is_well_formed_metric (option_copied wanted)) }
     ensures { IfOk result
         (λ w. w ≡ Width.width (rows_of_system which facts.now (option_copied wanted.entry))) }
 {
@@ -159,7 +159,7 @@ impl SolvedSystem {
     ) -> Result<MetricCert, AllocError>
         requires facts { IsTrue (list_all is_well_formed facts.now) }
         requires few { length (terms_of_lits facts.now) ≤ 1100 }
-        requires wanted { IsTrue (is_good_wanted (option_copied wanted)) }
+        requires wanted { IsTrue (is_well_formed_metric (option_copied wanted)) }
         requires together { AreTogether which facts.now (option_copied wanted) self.now names.now
             rows.now }
         requires refuted { IsRefuted (all_seen (self.now.settled ++ rows.now)) absurdity.now }
@@ -183,7 +183,7 @@ impl SolvedSystem {
     ) -> Result<Metric, AllocError>
         requires facts { IsTrue (list_all is_well_formed facts.now) }
         requires few { length (terms_of_lits facts.now) ≤ 1100 }
-        requires goal { IsTrue (is_good_wanted (Some goal.now)) }
+        requires goal { IsTrue (is_well_formed_metric (Some goal.now)) }
         requires together { AreTogether which facts.now (Some goal.now) self.now names.now
             rows.now }
         ensures { IfOk result (IsKindAnswer which facts.now (Some goal.now)) }
@@ -215,7 +215,7 @@ impl SolvedSystem {
         requires solved_system { IsSolvedSystem which facts.now self.now }
         requires facts { IsTrue (list_all is_well_formed facts.now) }
         requires few { length (terms_of_lits facts.now) ≤ 1100 }
-        requires goal { IsTrue (is_good_wanted (Some goal.now)) }
+        requires goal { IsTrue (is_well_formed_metric (Some goal.now)) }
         ensures { IfOk result (IsKindAnswer which facts.now (Some goal.now)) }
     {
         let fresh = fresh_terms(alloc, which, &self.terms, goal)?;

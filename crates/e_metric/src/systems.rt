@@ -3,7 +3,6 @@
 ghost use Rattle.std.specs.Prelude.{◌≡◌, ◌≤◌, ◌∷◌, [], true, length, drop, option_copied, flat_map, IfOk, OnOk, IsTrue, Some};
 ghost use Rattle.std.specs.Option.{option_map_or};
 ghost use Rattle.std.specs.List.{list_all};
-ghost use Rattle.e_literal.specs.Facts.{are_apart as say_apart};
 ghost use Rattle.e_literal.specs.WellFormed.{is_well_formed};
 ghost use Rattle.e_clause.specs.declared.cert.RowName.TheVariants as name;
 ghost use Rattle.e_clause.specs.System.{NamedRow};
@@ -17,23 +16,8 @@ use crate::literals::row_of;
 use e_clause::RowName;
 use e_facts::Facts;
 use e_fraction::{Row, RowKind, Signed};
-use e_literal::{Atom, Kind, Lit, Term, canonical, copy, is_degenerate};
+use e_literal::{Kind, Lit, Term, canonical, copy, is_degenerate};
 use std::alloc::{AllocError, Global};
-
-/// Whether the facts say that the two points differ, in one order or the other.
-pub fn are_apart(facts: &Facts, a: u16, b: u16) -> bool
-    ensures { result ≡ say_apart facts.now a b }
-{
-    let one = Lit {
-        neg: true,
-        atom: Atom::EqP(a, b),
-    };
-    let other = Lit {
-        neg: true,
-        atom: Atom::EqP(b, a),
-    };
-    facts.has(&one) || facts.has(&other)
-}
 
 // The row that says that a term is more than 0.
 fn positive(alloc: Global, term: Term) -> Result<Row, AllocError>
@@ -75,7 +59,7 @@ fn add_term_row(
 {
     match term {
         Term::Seg(a, b) => {
-            if are_apart(facts, a, b) {
+            if facts.tell_apart(a, b) {
                 let row = positive(alloc, term)?;
                 rows.push((RowName::Pos(term), row))?;
             }
@@ -273,7 +257,7 @@ fn count_rows_of(facts: &Facts, term: Term) -> usize
     ensures bound { result ≤ 1 }
 {
     match term {
-        Term::Seg(a, b) => { if are_apart(facts, a, b) { 1 } else { 0 } }
+        Term::Seg(a, b) => { if facts.tell_apart(a, b) { 1 } else { 0 } }
         Term::Ang(_, _, _) => 1,
         Term::Area(_, _, _) | Term::Right => 0,
     }

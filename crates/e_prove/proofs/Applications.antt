@@ -16,7 +16,7 @@ use Rattle.e_literal.proofs.Sorts.{same_obj_self}
 use Rattle.e_literal.proofs.Booleans.{and_left, and_right}
 use Rattle.e_clause.specs.declared.cert.Cert.{Cert}
 use Rattle.e_clause.specs.Certify.{certify_all}
-use Rattle.e_clause.specs.Judged.{are_good}
+use Rattle.e_clause.specs.Judged.{are_well_formed_in}
 use Rattle.e_clause.proofs.Sound.{all_allowed_of_certified}
 use Rattle.e_theorem.specs.Choice.{fills, is_choice, IsLeast}
 use Rattle.e_theorem.specs.Pattern.{is_pattern, are_entries}
@@ -268,6 +268,6 @@ pub written_fits : (t : Stated) (x : Basis) (pattern : List (Option Obj)) (args 
 written_fits t x pattern args w can =
     subst (λ os. are_arguments t x.scope os ≡ true) (sym w.is) (choice_fits t x.scope pattern (written pattern) (written_choice t x.scope pattern w.no_blank can.fits))
 
-pub written_needs : (t : Stated) (x : Basis) (pattern : List (Option Obj)) (args : List Obj) → WrittenIs pattern args → CanApply t pattern x → are_good x.scope (needs_of_use t args x.scope) ≡ true
+pub written_needs : (t : Stated) (x : Basis) (pattern : List (Option Obj)) (args : List Obj) → WrittenIs pattern args → CanApply t pattern x → are_well_formed_in x.scope (needs_of_use t args x.scope) ≡ true
 written_needs t x pattern args w can =
-    subst (λ os. are_good x.scope (needs_of_use t os x.scope) ≡ true) (sym w.is) (can.lits (written pattern) (written_choice t x.scope pattern w.no_blank can.fits)).needs
+    subst (λ os. are_well_formed_in x.scope (needs_of_use t os x.scope) ≡ true) (sym w.is) (can.lits (written pattern) (written_choice t x.scope pattern w.no_blank can.fits)).needs

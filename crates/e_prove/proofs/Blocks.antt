@@ -154,7 +154,7 @@ superposed_stopped before step form names shown written certs inner x n t is rea
     )
 
 pub superposed_refused : (before : List Stated) (step : Step) (form : Superpose) (names : List (List ℕ)) (shown : List Lit) (written : List Cert) (inner : Box Block Global) (x after : StepState) (n : ℕ) (h : StepStop) (t : Stop) →
-    step ≡ SuperposedStep form names shown written inner → StepStopsAmong x.context (superposing.needs form) h → UnlessNoMemory (after.names ≡ x.names) h → StopOf h n after.names t → StepStops before step x n t
+    step ≡ SuperposedStep form names shown written inner → StepStopsAmong x.context (superposing.needs_of_superposition form) h → UnlessNoMemory (after.names ≡ x.names) h → StopOf h n after.names t → StepStops before step x n t
 superposed_refused before step form names shown written inner x after n h t is k m e rest goal r =
     let here = Superposed form names shown written (script_of inner.value) rest in
     let same = ap (λ s. step_script s rest) is ∙ step_script-Superposed form names shown written inner rest in

@@ -9,7 +9,7 @@ use Rattle.e_literal.specs.Use.{Stated}
 use Rattle.e_clause.specs.declared.cert.Cert.{Cert}
 use Rattle.e_clause.specs.declared.cert.Against.{Against}
 use Rattle.e_clause.specs.Certify.{certify_all}
-use Rattle.e_clause.specs.Judged.{are_good}
+use Rattle.e_clause.specs.Judged.{are_well_formed_in}
 use Rattle.e_clause.proofs.Sound.{all_allowed_of_certified, contradictory_of_certified}
 use Rattle.e_clause.specs.Wide.{IsTooWideContradiction}
 use Rattle.e_literal.specs.declared.object.Term.{Term}
@@ -37,7 +37,7 @@ use Rattle.e_prove.specs.inner.LicensedSteps.{IsLicensedClose, IsStopOfClose}
 -- what a qed that is ready says
 pub record QedFits (objects : List Obj) (x : Basis) (goal : Goal) : Type 0 where
   pub form : are_for goal x.scope objects ≡ true
-  pub lits : are_good x.scope (goal_with goal objects) ≡ true
+  pub lits : are_well_formed_in x.scope (goal_with goal objects) ≡ true
 
 qed_lines : (before : List Stated) (objects : List Obj) (certs : List Cert) (x : StepState) (goal : Goal) → IsReadyFor before (Qed objects certs) x goal → QedFits objects x.context goal
 unfolding lines

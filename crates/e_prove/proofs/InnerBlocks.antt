@@ -11,7 +11,7 @@ use Rattle.e_literal.specs.Use.{Stated}
 use Rattle.e_literal.proofs.Booleans.{and_left, and_right, all_left, all_right}
 use Rattle.e_clause.specs.declared.cert.Cert.{Cert}
 use Rattle.e_clause.specs.Certify.{certify_all}
-use Rattle.e_clause.specs.Judged.{are_good}
+use Rattle.e_clause.specs.Judged.{are_well_formed_in}
 use Rattle.e_clause.proofs.Sound.{all_allowed_of_certified}
 use Rattle.e_clause.specs.declared.cert.Version.TheVariants as version
 use Rattle.e_clause.specs.Versions.{is_cert_of}
@@ -173,9 +173,9 @@ passed_claim before shown inner derived x n next over d count =
 
 -- what its steps say of it, of its block and of what comes after it
 pub record SuperposedReady (before : List Stated) (form : Superpose) (names : List (List ℕ)) (shown : List Lit) (inner : Script) (x : StepState) : Type 0 where
-  pub fits : superposing.fits form x.context.scope ≡ true
+  pub fits : superposing.fits_superposition form x.context.scope ≡ true
   pub over : are_over x.context.scope shown ≡ true
-  pub needs : are_good x.context.scope (superposing.needs form) ≡ true
+  pub needs : are_well_formed_in x.context.scope (superposing.needs_of_superposition form) ≡ true
   pub block : IsReadyFor before inner (after_superposed form names x) (goal_of shown)
   pub scope : is_small x.context.scope ≡ true
 
@@ -187,14 +187,14 @@ superposed_ready before form names shown certs inner rest x goal r =
     let facts = x.context.facts in
     let here = Superposed form names shown certs inner rest in
     let y = line_at here here x.context goal in
-    let t = grown s superposing.made in
-    let given = joined_all facts (superposing.gives form s) in
+    let t = grown s superposing.sorts_copied in
+    let given = joined_all facts (superposing.gives_of_superposition form s) in
     let one = lines before inner inner t given (goal_of shown) in
     let other = lines before rest rest s (joined_all facts shown) goal in
     let form_fits = and_left (has_form before y) (list_all (has_form before) (one ++ other)) r.forms in
     record {
-      fits = and_left (superposing.fits form s) (are_over s shown) form_fits;
-      over = and_right (superposing.fits form s) (are_over s shown) form_fits;
+      fits = and_left (superposing.fits_superposition form s) (are_over s shown) form_fits;
+      over = and_right (superposing.fits_superposition form s) (are_over s shown) form_fits;
       needs = ((r.lits here).1 form_fits).0;
       block = record {
         forms = all_left (has_form before) one other (and_right (has_form before y) (list_all (has_form before) (one ++ other)) r.forms);
@@ -213,8 +213,8 @@ superposed_rest before form names shown certs inner derived rest x goal d r =
     let facts = x.context.facts in
     let here = Superposed form names shown certs inner rest in
     let y = line_at here here x.context goal in
-    let t = grown s superposing.made in
-    let given = joined_all facts (superposing.gives form s) in
+    let t = grown s superposing.sorts_copied in
+    let given = joined_all facts (superposing.gives_of_superposition form s) in
     let one = lines before inner inner t given (goal_of shown) in
     let other = lines before rest rest s (joined_all facts shown) goal in
     let form_fits = and_left (has_form before y) (list_all (has_form before) (one ++ other)) r.forms in
@@ -229,23 +229,23 @@ superposed_rest before form names shown certs inner derived rest x goal d r =
 
 -- it is certified where its needs are, by certificates that name literals that are well formed
 abbrev pub Certifies : Superpose → StepState → List Cert → Type 0
-Certifies form x certs = IsTrue (certify_all x.context.scope x.context.facts (superposing.needs form) certs) × IsTrue (list_all (is_cert_of version.One) certs)
+Certifies form x certs = IsTrue (certify_all x.context.scope x.context.facts (superposing.needs_of_superposition form) certs) × IsTrue (list_all (is_cert_of version.One) certs)
 
 superposed_licensed : (before : List Stated) (form : Superpose) (names : List (List ℕ)) (shown : List Lit) (written certs : List Cert) (inner rest f : Script) (x : StepState) (goal : Goal) →
-    superposing.fits form x.context.scope ≡ true → are_over x.context.scope shown ≡ true → Certifies form x certs →
+    superposing.fits_superposition form x.context.scope ≡ true → are_over x.context.scope shown ≡ true → Certifies form x certs →
     Licensed before (line_at (Superposed form names shown written inner rest) f x.context goal)
 superposed_licensed before form names shown written certs inner rest f x goal fit over c =
-    record { fits = and_from _ _ fit over; allowed = all_allowed_of_certified x.context.scope x.context.facts (superposing.needs form) certs c.0; beside = tt }
+    record { fits = and_from _ _ fit over; allowed = all_allowed_of_certified x.context.scope x.context.facts (superposing.needs_of_superposition form) certs c.0; beside = tt }
 
 superposed_derives : (before : List Stated) (form : Superpose) (names : List (List ℕ)) (shown : List Lit) (written certs : List Cert) (inner derived rest more : Script) (x : StepState) (goal : Goal) →
-    superposing.fits form x.context.scope ≡ true → are_over x.context.scope shown ≡ true → Certifies form x certs → IsDerivedFrom before inner (after_superposed form names x) (goal_of shown) derived →
+    superposing.fits_superposition form x.context.scope ≡ true → are_over x.context.scope shown ≡ true → Certifies form x certs → IsDerivedFrom before inner (after_superposed form names x) (goal_of shown) derived →
     IsDerivedFrom before rest (after_block shown x) goal more → IsDerivedFrom before (Superposed form names shown written inner rest) x goal (Superposed form names shown certs derived more)
 unfolding lines erased filled_by has_certs_of
 superposed_derives before form names shown written certs inner derived rest more x goal fit over c d m =
     let s = x.context.scope in
     let facts = x.context.facts in
-    let t = grown s superposing.made in
-    let given = joined_all facts (superposing.gives form s) in
+    let t = grown s superposing.sorts_copied in
+    let given = joined_all facts (superposing.gives_of_superposition form s) in
     record {
       licensed = (
         superposed_licensed before form names shown written certs inner rest (Superposed form names shown certs derived more) x goal fit over c,
@@ -260,17 +260,17 @@ superposed_derives before form names shown written certs inner derived rest more
 
 -- what is found in its block, and after it
 pub superposed_reaches : (before : List Stated) (form : Superpose) (names : List (List ℕ)) (shown : List Lit) (written certs : List Cert) (inner rest : Script) (x : StepState) (goal : Goal) (n : ℕ) (a : Arrival) (i : ℕ) (seen : Names) →
-    superposing.fits form x.context.scope ≡ true → are_over x.context.scope shown ≡ true → Certifies form x certs →
+    superposing.fits_superposition form x.context.scope ≡ true → are_over x.context.scope shown ≡ true → Certifies form x certs →
     ReachesWithin before inner (after_superposed form names x) (goal_of shown) (n + 1) a i seen → ReachesWithin before (Superposed form names shown written inner rest) x goal n a i seen
 unfolding lines names_lines
 superposed_reaches before form names shown written certs inner rest x goal n a i seen fit over c k =
     let s = x.context.scope in
     let facts = x.context.facts in
-    let t = grown s superposing.made in
-    let given = joined_all facts (superposing.gives form s) in
+    let t = grown s superposing.sorts_copied in
+    let given = joined_all facts (superposing.gives_of_superposition form s) in
     let one = lines before inner k.filled t given (goal_of shown) in
     let other = lines before rest rest s (joined_all facts shown) goal in
-    let ns = names_lines before (named x.names superposing.made names) inner in
+    let ns = names_lines before (named x.names superposing.sorts_copied names) inner in
     let ms = names_lines before x.names rest in
     let f = Superposed form names shown certs k.filled rest in
     record {
@@ -281,23 +281,23 @@ superposed_reaches before form names shown written certs inner rest x goal n a i
     }
 
 pub superposed_stops : (before : List Stated) (form : Superpose) (names : List (List ℕ)) (shown : List Lit) (written certs : List Cert) (inner rest : Script) (x : StepState) (goal : Goal) (n : ℕ) (stop : Stop) →
-    superposing.fits form x.context.scope ≡ true → are_over x.context.scope shown ≡ true → Certifies form x certs →
+    superposing.fits_superposition form x.context.scope ≡ true → are_over x.context.scope shown ≡ true → Certifies form x certs →
     StopsWithin before inner (after_superposed form names x) (goal_of shown) (n + 1) stop → StopsWithin before (Superposed form names shown written inner rest) x goal n stop
 superposed_stops before form names shown written certs inner rest x goal n stop fit over c k =
     stops_by before inner (Superposed form names shown written inner rest) (after_superposed form names x) x (goal_of shown) goal (n + 1) n stop (λ a i seen h. superposed_reaches before form names shown written certs inner rest x goal n a i seen fit over c h) k
 
 pub superposed_reaches_later : (before : List Stated) (form : Superpose) (names : List (List ℕ)) (shown : List Lit) (written certs : List Cert) (inner derived rest : Script) (x : StepState) (goal : Goal) (n next : ℕ) (a : Arrival) (i : ℕ) (seen : Names) →
-    superposing.fits form x.context.scope ≡ true → are_over x.context.scope shown ≡ true → Certifies form x certs → IsDerivedFrom before inner (after_superposed form names x) (goal_of shown) derived →
+    superposing.fits_superposition form x.context.scope ≡ true → are_over x.context.scope shown ≡ true → Certifies form x certs → IsDerivedFrom before inner (after_superposed form names x) (goal_of shown) derived →
     next ≡ n + 1 + size inner → ReachesWithin before rest (after_block shown x) goal next a i seen → ReachesWithin before (Superposed form names shown written inner rest) x goal n a i seen
 unfolding lines names_lines
 superposed_reaches_later before form names shown written certs inner derived rest x goal n next a i seen fit over c d count k =
     let s = x.context.scope in
     let facts = x.context.facts in
-    let t = grown s superposing.made in
-    let given = joined_all facts (superposing.gives form s) in
+    let t = grown s superposing.sorts_copied in
+    let given = joined_all facts (superposing.gives_of_superposition form s) in
     let one = lines before inner derived t given (goal_of shown) in
     let other = lines before rest k.filled s (joined_all facts shown) goal in
-    let inside = named x.names superposing.made names in
+    let inside = named x.names superposing.sorts_copied names in
     let ns = names_lines before inside inner in
     let ms = names_lines before x.names rest in
     let f = Superposed form names shown certs derived k.filled in
@@ -311,7 +311,7 @@ superposed_reaches_later before form names shown written certs inner derived res
     }
 
 superposed_later : (before : List Stated) (form : Superpose) (names : List (List ℕ)) (shown : List Lit) (written certs : List Cert) (inner derived rest : Script) (x : StepState) (goal : Goal) (n next : ℕ) (stop : Stop) →
-    superposing.fits form x.context.scope ≡ true → are_over x.context.scope shown ≡ true → Certifies form x certs → IsDerivedFrom before inner (after_superposed form names x) (goal_of shown) derived →
+    superposing.fits_superposition form x.context.scope ≡ true → are_over x.context.scope shown ≡ true → Certifies form x certs → IsDerivedFrom before inner (after_superposed form names x) (goal_of shown) derived →
     next ≡ n + 1 + size inner → StopsWithin before rest (after_block shown x) goal next stop → StopsWithin before (Superposed form names shown written inner rest) x goal n stop
 superposed_later before form names shown written certs inner derived rest x goal n next stop fit over c d count k =
     stops_by before rest (Superposed form names shown written inner rest) (after_block shown x) x goal goal next n stop (λ a i seen h. superposed_reaches_later before form names shown written certs inner derived rest x goal n next a i seen fit over c d count h) k
@@ -321,7 +321,7 @@ unfolding size
 superposed_size form names shown certs inner rest = refl
 
 pub passed_superposed : (before : List Stated) (form : Superpose) (names : List (List ℕ)) (shown : List Lit) (written certs : List Cert) (inner derived : Script) (x : StepState) (n next : ℕ) →
-    superposing.fits form x.context.scope ≡ true → are_over x.context.scope shown ≡ true → Certifies form x certs → IsDerivedFrom before inner (after_superposed form names x) (goal_of shown) derived →
+    superposing.fits_superposition form x.context.scope ≡ true → are_over x.context.scope shown ≡ true → Certifies form x certs → IsDerivedFrom before inner (after_superposed form names x) (goal_of shown) derived →
     next ≡ n + 1 + size inner → IsPassed before (Superposed form names shown written inner) x n (Superposed form names shown certs derived) (after_block shown x) next
 passed_superposed before form names shown written certs inner derived x n next fit over c d count =
     record {
@@ -334,7 +334,7 @@ passed_superposed before form names shown written certs inner derived x n next f
     }
 
 -- what stops at its needs
-pub superposed_step_stops : (before : List Stated) (form : Superpose) (names : List (List ℕ)) (shown : List Lit) (written : List Cert) (inner rest f : Script) (x : StepState) (goal : Goal) (h : StepStop) → StepStopsAmong x.context (superposing.needs form) h →
+pub superposed_step_stops : (before : List Stated) (form : Superpose) (names : List (List ℕ)) (shown : List Lit) (written : List Cert) (inner rest f : Script) (x : StepState) (goal : Goal) (h : StepStop) → StepStopsAmong x.context (superposing.needs_of_superposition form) h →
     StepStopsAt before (line_at (Superposed form names shown written inner rest) f x.context goal) h
 superposed_step_stops before form names shown written inner rest f x goal (step_stop.Lacks (Literal l) values) k = k
 superposed_step_stops before form names shown written inner rest f x goal (step_stop.Lacks Match values) k = absurd k

@@ -6,7 +6,7 @@ use Rattle.std.proofs.lemmas.Bool.{and_from}
 use Rattle.e_literal.specs.declared.literal.Lit.{Lit}
 use Rattle.e_literal.specs.Use.{Stated}
 use Rattle.e_construct.specs.declared.construction.Construction.{Construction}
-use Rattle.e_construct.specs.Construct.{needs}
+use Rattle.e_construct.specs.Construct.{needs_of_construction}
 use Rattle.e_clause.specs.declared.cert.By.{By}
 use Rattle.e_clause.specs.declared.cert.Cert.{Cert}
 use Rattle.e_clause.specs.Certify.{certifies, certify_all}
@@ -68,12 +68,12 @@ licensed_hence before lit derived written cert x after same h g gives = rw (same
 
 -- ---- a construction
 
-licensed_by_certs : (before : List Stated) (form : Construction) (names : List (List ℕ)) (written certs : List Cert) (x : StepState) → IsTrue (certify_all x.context.scope x.context.facts (needs form) certs) →
+licensed_by_certs : (before : List Stated) (form : Construction) (names : List (List ℕ)) (written certs : List Cert) (x : StepState) → IsTrue (certify_all x.context.scope x.context.facts (needs_of_construction form) certs) →
     IsTrue (list_all (is_cert_of version.One) certs) → IsLicensedStep before (MakeStep form names written) x (MakeStep form names certs) (after_make form names x)
 unfolding lines erased filled_by names_lines step_script has_certs_of
 licensed_by_certs before form names written certs x h g =
     record {
-      licensed = λ rest more goal fit. record { fits = fit; allowed = all_allowed_of_certified x.context.scope x.context.facts (needs form) certs h; beside = tt };
+      licensed = λ rest more goal fit. record { fits = fit; allowed = all_allowed_of_certified x.context.scope x.context.facts (needs_of_construction form) certs h; beside = tt };
       certified = λ rest more goal fit. and_from _ _ fit (and_from _ _ h refl);
       erased = λ rest more e. ap (Make form names []) e;
       written = λ more k. and_from _ _ g k;
@@ -84,7 +84,7 @@ licensed_by_certs before form names written certs x h g =
     }
 
 pub licensed_make : (before : List Stated) (form derived : Construction) (names kept : List (List ℕ)) (written certs given : List Cert) (needed : List Lit) (x after : StepState) →
-    derived ≡ form → kept ≡ names → given ≡ certs → needed ≡ needs form → IsTrue (certify_all x.context.scope x.context.facts needed certs) → IsTrue (list_all (is_cert_of version.One) certs) → after ≡ after_make form names x →
+    derived ≡ form → kept ≡ names → given ≡ certs → needed ≡ needs_of_construction form → IsTrue (certify_all x.context.scope x.context.facts needed certs) → IsTrue (list_all (is_cert_of version.One) certs) → after ≡ after_make form names x →
     IsLicensedStep before (MakeStep form names written) x (MakeStep derived kept given) after
 licensed_make before form derived names kept written certs given needed x after same these those all h g gives =
     rw (same, these, those, gives) (licensed_by_certs before form names written certs x (subst (λ ls. certify_all x.context.scope x.context.facts ls certs ≡ true) all h) g)

@@ -16,10 +16,10 @@ use Rattle.e_theorem.specs.declared.statement.Statement.{Statement}
 use Rattle.e_theorem.specs.Statements.{stated, all_stated}
 use Rattle.e_clause.specs.declared.cert.By.{By}
 use Rattle.e_clause.specs.declared.cert.Cert.{Cert}
-use Rattle.e_clause.specs.Judged.{is_good, are_good, are_good_facts}
+use Rattle.e_clause.specs.Judged.{is_well_formed_in, are_well_formed_in, are_limited_facts}
 use Rattle.e_construct.specs.declared.construction.Construction.{Construction}
 use Rattle.e_construct.specs.declared.superpose.Superpose.{Superpose}
-use Rattle.e_construct.specs.Construct.{made, gives, needs as needs_of_form}
+use Rattle.e_construct.specs.Construct.{sorts_made, gives_of_construction, needs_of_construction as needs_of_form}
 use Rattle.e_deriv.specs.declared.block.Block.{Block}
 use Rattle.e_deriv.specs.declared.block.Step.TheVariants.{Cite as CiteStep, Hence as HenceStep, Make as MakeStep, Apply as ApplyStep, Claim as ClaimStep, Superposed as SuperposedStep}
 use Rattle.e_deriv.specs.Script.{Script, Cite, Hence, Make, Apply, Claim, Superposed, script_of, step_script, size}
@@ -39,7 +39,7 @@ use Rattle.e_prove.proofs.PassedSteps.{lines_begin, first_is}
 use Rattle.e_prove.proofs.InnerBlocks.{ClaimReady, claim_ready, SuperposedReady, superposed_ready}
 
 -- the facts that a script begins with are good
-pub first_facts : (before : List Stated) (here f : Script) (s : Scope) (facts : List Lit) (goal : Goal) → LitsFit before (lines before here f s facts goal) → are_good_facts s facts ≡ true
+pub first_facts : (before : List Stated) (here f : Script) (s : Scope) (facts : List Lit) (goal : Goal) → LitsFit before (lines before here f s facts goal) → are_limited_facts s facts ≡ true
 first_facts before here f s facts goal h =
     let begun = lines_begin before here f s facts goal in
     (subst (LitsFit before) begun.1 h).0
@@ -58,8 +58,8 @@ room_of_small s h =
 -- ---- steps that have no block inside
 
 pub record LineReady (s : Scope) (needed : List Lit) (next : StepState) : Type 0 where
-  pub needs : are_good s needed ≡ true
-  pub after : are_good_facts next.context.scope next.context.facts ≡ true
+  pub needs : are_well_formed_in s needed ≡ true
+  pub after : are_limited_facts next.context.scope next.context.facts ≡ true
 
 -- the first step of a script that is ready has its form
 form_first : (before : List Stated) (here : Script) (x : StepState) (goal : Goal) → IsReadyFor before here x goal → has_form before (line_at here here x.context goal) ≡ true
@@ -67,13 +67,13 @@ form_first before here x goal r =
     let begun = lines_begin before here here x.context.scope x.context.facts goal in
     first_is (has_form before) (line_at here here x.context goal) begun.0 (lines_at before here here x.context goal) begun.1 r.forms
 
-cite_lits : (before : List Stated) (by : By) (rest : Script) (x : StepState) (goal : Goal) → IsReadyFor before (Cite by rest) x goal → are_good_facts x.context.scope (joined x.context.facts by.lit) ≡ true
+cite_lits : (before : List Stated) (by : By) (rest : Script) (x : StepState) (goal : Goal) → IsReadyFor before (Cite by rest) x goal → are_limited_facts x.context.scope (joined x.context.facts by.lit) ≡ true
 unfolding lines
 cite_lits before by rest x goal r =
     let here = Cite by rest in
     first_facts before rest rest x.context.scope (joined x.context.facts by.lit) goal ((r.lits here).1 (form_first before here x goal r)).1
 
-pub cite_good : (before : List Stated) (by : By) (x : StepState) (n : ℕ) → IsReadyStep before (CiteStep by) x n → are_good_facts x.context.scope (joined x.context.facts by.lit) ≡ true
+pub cite_good : (before : List Stated) (by : By) (x : StepState) (n : ℕ) → IsReadyStep before (CiteStep by) x n → are_limited_facts x.context.scope (joined x.context.facts by.lit) ≡ true
 unfolding step_script
 cite_good before by x n r = cite_lits before by r.rest x r.goal r.ready
 
@@ -88,8 +88,8 @@ pub hence_good : (before : List Stated) (lit : Lit) (cert : Option Cert) (x : St
 unfolding step_script
 hence_good before lit cert x n r = hence_lits before lit cert r.rest x r.goal r.ready
 
-pub one_good : (s : Scope) (lit : Lit) → are_good s (lit ∷ []) ≡ true → is_good s lit ≡ true
-one_good s lit h = and_left (is_good s lit) true h
+pub one_good : (s : Scope) (lit : Lit) → are_well_formed_in s (lit ∷ []) ≡ true → is_well_formed_in s lit ≡ true
+one_good s lit h = and_left (is_well_formed_in s lit) true h
 
 make_lits : (before : List Stated) (form : Construction) (names : List (List ℕ)) (certs : List Cert) (rest : Script) (x : StepState) (goal : Goal) → IsReadyFor before (Make form names certs rest) x goal →
     LineReady x.context.scope (needs_of_form form) (after_make form names x)
@@ -98,7 +98,7 @@ make_lits before form names certs rest x goal r =
     let s = x.context.scope in
     let here = Make form names certs rest in
     let both = (r.lits here).1 (form_first before here x goal r) in
-    record { needs = both.0; after = first_facts before rest rest (grown s (made form)) (joined_all x.context.facts (gives form s)) goal both.1 }
+    record { needs = both.0; after = first_facts before rest rest (grown s (sorts_made form)) (joined_all x.context.facts (gives_of_construction form s)) goal both.1 }
 
 pub make_good : (before : List Stated) (form : Construction) (names : List (List ℕ)) (certs : List Cert) (x : StepState) (n : ℕ) → IsReadyStep before (MakeStep form names certs) x n →
     LineReady x.context.scope (needs_of_form form) (after_make form names x)
@@ -171,7 +171,7 @@ theorem_is (s ∷ ss) (suc k) t lt e = theorem_is ss k t (omega (arith, lt)) e
 -- ---- steps with a block inside
 
 -- a block that is ready begins with good facts
-pub block_facts : (before : List Stated) (d : Script) (x : StepState) (goal : Goal) → IsReadyFor before d x goal → are_good_facts x.context.scope x.context.facts ≡ true
+pub block_facts : (before : List Stated) (d : Script) (x : StepState) (goal : Goal) → IsReadyFor before d x goal → are_limited_facts x.context.scope x.context.facts ≡ true
 block_facts before d x goal r = first_facts before d d x.context.scope x.context.facts goal (r.lits d)
 
 pub claim_few : (shown : List Lit) (inner rest : Script) (n : ℕ) → n + size (Claim shown inner rest) < 2 ^ 32 → n + 1 + size inner < 2 ^ 32

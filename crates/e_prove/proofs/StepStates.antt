@@ -17,9 +17,9 @@ use Rattle.e_literal.specs.Use.{Stated, gives_of_use}
 use Rattle.e_literal.proofs.Booleans.{and_left, and_right}
 use Rattle.e_literal.proofs.Growing.{grown_bounds}
 use Rattle.e_clause.specs.Assignment.{terms_of_atom, terms_of_lits}
-use Rattle.e_clause.specs.Judged.{is_good, are_good, are_few, most_terms, are_good_facts}
+use Rattle.e_clause.specs.Judged.{is_well_formed_in, are_well_formed_in, are_few, most_terms, are_limited_facts}
 use Rattle.e_construct.specs.declared.construction.Construction.{Construction}
-use Rattle.e_construct.specs.Construct.{made, gives}
+use Rattle.e_construct.specs.Construct.{sorts_made, gives_of_construction}
 use Rattle.e_construct.specs.declared.superpose.Superpose.{Superpose}
 use Rattle.e_construct.specs.Superposing as superposing
 use Rattle.e_deriv.specs.declared.names.Names.{Names}
@@ -41,13 +41,13 @@ all_named now before sorts new i done h =
     sym (none_named now (drop i sorts) (drop i new) none) ∙ h
 
 -- new objects come into scope, and then what is given joins the facts
-pub made_after : (form : Construction) (names : List (List ℕ)) (x mid after : StepState) (sorts : List Sort) (given : List Lit) → sorts ≡ made form →
-    given ≡ gives form x.context.scope → mid.context ≡ record x.context { scope = grown x.context.scope sorts } → mid.names ≡ named x.names sorts names →
+pub made_after : (form : Construction) (names : List (List ℕ)) (x mid after : StepState) (sorts : List Sort) (given : List Lit) → sorts ≡ sorts_made form →
+    given ≡ gives_of_construction form x.context.scope → mid.context ≡ record x.context { scope = grown x.context.scope sorts } → mid.names ≡ named x.names sorts names →
     after ≡ record mid { context = record mid.context { facts = joined_all mid.context.facts given } } → after ≡ after_make form names x
 made_after form names x mid after sorts given a b c d e = rw (e, c, d, b, a) refl
 
-pub superposed_after : (form : Superpose) (names : List (List ℕ)) (x mid after : StepState) (sorts : List Sort) (given : List Lit) → sorts ≡ superposing.made →
-    given ≡ superposing.gives form x.context.scope → mid.context ≡ record x.context { scope = grown x.context.scope sorts } → mid.names ≡ named x.names sorts names →
+pub superposed_after : (form : Superpose) (names : List (List ℕ)) (x mid after : StepState) (sorts : List Sort) (given : List Lit) → sorts ≡ superposing.sorts_copied →
+    given ≡ superposing.gives_of_superposition form x.context.scope → mid.context ≡ record x.context { scope = grown x.context.scope sorts } → mid.names ≡ named x.names sorts names →
     after ≡ record mid { context = record mid.context { facts = joined_all mid.context.facts given } } → after ≡ after_superposed form names x
 superposed_after form names x mid after sorts given a b c d e = rw (e, c, d, b, a) refl
 
@@ -86,59 +86,59 @@ more_terms facts l =
 fewer : (n m k : ℕ) → n ≤ m → nat_le m k ≡ true → nat_le n k ≡ true
 fewer n m k le h = grind (arith, nat_tests)
 
-good_unpushed : (s : Scope) (facts : List Lit) (l : Lit) → are_good_facts s (facts ++ l ∷ []) ≡ true → are_good_facts s facts ≡ true
+good_unpushed : (s : Scope) (facts : List Lit) (l : Lit) → are_limited_facts s (facts ++ l ∷ []) ≡ true → are_limited_facts s facts ≡ true
 good_unpushed s facts l h =
-    let good = and_left (are_good s (facts ++ l ∷ [])) (are_few (facts ++ l ∷ [])) h in
-    let few = and_right (are_good s (facts ++ l ∷ [])) (are_few (facts ++ l ∷ [])) h in
-    and_from (are_good s facts) (are_few facts)
-    (and_left (are_good s facts) (are_good s (l ∷ [])) (sym (list_all-append (is_good s) facts (l ∷ [])) ∙ good))
+    let good = and_left (are_well_formed_in s (facts ++ l ∷ [])) (are_few (facts ++ l ∷ [])) h in
+    let few = and_right (are_well_formed_in s (facts ++ l ∷ [])) (are_few (facts ++ l ∷ [])) h in
+    and_from (are_well_formed_in s facts) (are_few facts)
+    (and_left (are_well_formed_in s facts) (are_well_formed_in s (l ∷ [])) (sym (list_all-append (is_well_formed_in s) facts (l ∷ [])) ∙ good))
     (fewer (length (terms_of_lits facts)) (length (terms_of_lits (facts ++ l ∷ []))) most_terms (more_terms facts l) few)
 
-good_unjoined : (s : Scope) (facts : List Lit) (l : Lit) → are_good_facts s (joined facts l) ≡ true → are_good_facts s facts ≡ true
+good_unjoined : (s : Scope) (facts : List Lit) (l : Lit) → are_limited_facts s (joined facts l) ≡ true → are_limited_facts s facts ≡ true
 unfolding joined
 good_unjoined s facts l h = by (has facts l) h
   where
-    by : (b : Bool) → are_good_facts s (if b then facts else facts ++ l ∷ []) ≡ true → are_good_facts s facts ≡ true
+    by : (b : Bool) → are_limited_facts s (if b then facts else facts ++ l ∷ []) ≡ true → are_limited_facts s facts ≡ true
     by true h = h
     by false h = good_unpushed s facts l h
 
 -- where the facts are good after some literals join they are good before
-pub good_before : (s : Scope) (facts ls : List Lit) → are_good_facts s (joined_all facts ls) ≡ true → are_good_facts s facts ≡ true
+pub good_before : (s : Scope) (facts ls : List Lit) → are_limited_facts s (joined_all facts ls) ≡ true → are_limited_facts s facts ≡ true
 good_before s facts [] h = h
 good_before s facts (l ∷ ls) h = good_unjoined s facts l (good_before s (joined facts l) ls h)
 
 -- and after the first of those that are left
 pub good_left : (before x : Basis) (all left : List Lit) (l : Lit) (rest : List Lit) → x.scope ≡ before.scope →
-    joined_all x.facts left ≡ joined_all before.facts all → left ≡ l ∷ rest → are_good_facts before.scope (joined_all before.facts all) ≡ true →
-    are_good_facts x.scope (joined x.facts l) ≡ true
+    joined_all x.facts left ≡ joined_all before.facts all → left ≡ l ∷ rest → are_limited_facts before.scope (joined_all before.facts all) ≡ true →
+    are_limited_facts x.scope (joined x.facts l) ≡ true
 good_left before x all left l rest same whole split h =
     good_before x.scope (joined x.facts l) rest
-    (subst (λ ls. are_good_facts x.scope (joined_all x.facts ls) ≡ true) split
-    (subst (λ s. are_good_facts s (joined_all x.facts left) ≡ true) (sym same)
-    (subst (λ facts. are_good_facts before.scope facts ≡ true) (sym whole) h)))
+    (subst (λ ls. are_limited_facts x.scope (joined_all x.facts ls) ≡ true) split
+    (subst (λ s. are_limited_facts s (joined_all x.facts left) ≡ true) (sym same)
+    (subst (λ facts. are_limited_facts before.scope facts ≡ true) (sym whole) h)))
 
 -- what a construction gives may join the facts once its objects are in scope
-pub good_given : (form : Construction) (x wider : Basis) (sorts : List Sort) (given : List Lit) → sorts ≡ made form → given ≡ gives form x.scope →
-    wider ≡ record x { scope = grown x.scope sorts } → are_good_facts (grown x.scope (made form)) (joined_all x.facts (gives form x.scope)) ≡ true →
-    are_good_facts wider.scope (joined_all wider.facts given) ≡ true
+pub good_given : (form : Construction) (x wider : Basis) (sorts : List Sort) (given : List Lit) → sorts ≡ sorts_made form → given ≡ gives_of_construction form x.scope →
+    wider ≡ record x { scope = grown x.scope sorts } → are_limited_facts (grown x.scope (sorts_made form)) (joined_all x.facts (gives_of_construction form x.scope)) ≡ true →
+    are_limited_facts wider.scope (joined_all wider.facts given) ≡ true
 good_given form x wider sorts given a b c h = rw (c, b, a) h
 
 -- and what a superposition gives
-pub good_superposed : (form : Superpose) (x wider : Basis) (sorts : List Sort) (given : List Lit) → sorts ≡ superposing.made → given ≡ superposing.gives form x.scope →
-    wider ≡ record x { scope = grown x.scope sorts } → are_good_facts (grown x.scope superposing.made) (joined_all x.facts (superposing.gives form x.scope)) ≡ true →
-    are_good_facts wider.scope (joined_all wider.facts given) ≡ true
+pub good_superposed : (form : Superpose) (x wider : Basis) (sorts : List Sort) (given : List Lit) → sorts ≡ superposing.sorts_copied → given ≡ superposing.gives_of_superposition form x.scope →
+    wider ≡ record x { scope = grown x.scope sorts } → are_limited_facts (grown x.scope superposing.sorts_copied) (joined_all x.facts (superposing.gives_of_superposition form x.scope)) ≡ true →
+    are_limited_facts wider.scope (joined_all wider.facts given) ≡ true
 good_superposed form x wider sorts given a b c h = rw (c, b, a) h
 
 -- what an application gives may join the facts once its objects are in scope
 pub good_applied : (t : Stated) (args : List Obj) (x wider : Basis) (sorts : List Sort) (given : List Lit) → sorts ≡ t.made → given ≡ gives_of_use t args x.scope →
-    wider ≡ record x { scope = grown x.scope sorts } → are_good_facts (grown x.scope t.made) (joined_all x.facts (gives_of_use t args x.scope)) ≡ true →
-    are_good_facts wider.scope (joined_all wider.facts given) ≡ true
+    wider ≡ record x { scope = grown x.scope sorts } → are_limited_facts (grown x.scope t.made) (joined_all x.facts (gives_of_use t args x.scope)) ≡ true →
+    are_limited_facts wider.scope (joined_all wider.facts given) ≡ true
 good_applied t args x wider sorts given a b c h = rw (c, b, a) h
 
 -- a copy of the literal at this place may join the facts that those before it have joined
 pub good_copy : (before x : Basis) (all : List Lit) (i : ℕ) (l m : Lit) → i < length all → l ≡ get_or all i l → m ≡ l → x.scope ≡ before.scope →
-    joined_all x.facts (drop i all) ≡ joined_all before.facts all → are_good_facts before.scope (joined_all before.facts all) ≡ true →
-    are_good_facts x.scope (joined x.facts m) ≡ true
+    joined_all x.facts (drop i all) ≡ joined_all before.facts all → are_limited_facts before.scope (joined_all before.facts all) ≡ true →
+    are_limited_facts x.scope (joined x.facts m) ≡ true
 good_copy before x all i l m lt is same scope joins h =
     let e : drop i all ≡ l ∷ drop (i + 1) all = grind (arith, common_steps) in
     good_left before x all (drop i all) m (drop (i + 1) all) scope joins (e ∙ ap (λ k. k ∷ drop (i + 1) all) (sym same)) h

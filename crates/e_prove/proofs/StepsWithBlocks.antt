@@ -5,7 +5,7 @@ use Rattle.e_literal.specs.declared.literal.Lit.{Lit}
 use Rattle.e_literal.specs.Facts.{joined_all}
 use Rattle.e_literal.specs.Use.{Stated}
 use Rattle.e_clause.specs.declared.cert.Cert.{Cert}
-use Rattle.e_clause.specs.Judged.{are_good_facts}
+use Rattle.e_clause.specs.Judged.{are_limited_facts}
 use Rattle.e_construct.specs.declared.superpose.Superpose.{Superpose}
 use Rattle.e_construct.specs.Superposing as superposing
 use Rattle.e_deriv.specs.declared.block.Block.{Block}
@@ -76,7 +76,7 @@ pub claim_numbers : (before : List Stated) (shown : List Lit) (inner : Script) (
 claim_numbers before shown inner x n r = claim_few shown inner r.rest n r.few
 
 pub claim_ends : (before : List Stated) (shown : List Lit) (inner derived : Script) (x : StepState) (n : ℕ) → IsDerivedFrom before inner x (goal_of shown) derived → AreReadySteps before (Claim shown inner) x n
-    → are_good_facts x.context.scope (joined_all x.context.facts shown) ≡ true
+    → are_limited_facts x.context.scope (joined_all x.context.facts shown) ≡ true
 claim_ends before shown inner derived x n d r = block_facts before r.rest (after_block shown x) r.goal (claim_rest before shown inner derived r.rest x r.goal d r.ready)
 
 pub claim_is_passed : (before : List Stated) (shown : List Lit) (inner : Script) (x z after : StepState) (n : ℕ) (o : Names) (proved : ProvedBlock) (r : Result ProvedStep Stop) → ClaimReady before shown inner x
@@ -114,7 +114,7 @@ pub superposed_numbers : (before : List Stated) (form : Superpose) (names : List
 superposed_numbers before form names shown certs inner x n r = superposed_few form names shown certs inner r.rest n r.few
 
 pub superposed_ends : (before : List Stated) (form : Superpose) (names : List (List ℕ)) (shown : List Lit) (certs : List Cert) (inner derived : Script) (x : StepState) (n : ℕ)
-    → IsDerivedFrom before inner (after_superposed form names x) (goal_of shown) derived → AreReadySteps before (Superposed form names shown certs inner) x n → are_good_facts x.context.scope (joined_all x.context.facts shown) ≡ true
+    → IsDerivedFrom before inner (after_superposed form names x) (goal_of shown) derived → AreReadySteps before (Superposed form names shown certs inner) x n → are_limited_facts x.context.scope (joined_all x.context.facts shown) ≡ true
 superposed_ends before form names shown certs inner derived x n d r =
     block_facts before r.rest (after_block shown x) r.goal (superposed_rest before form names shown certs inner derived r.rest x r.goal d r.ready)
 
@@ -138,7 +138,7 @@ superposed_is_stopped before form names shown certs inner x n t ready cs k writt
       before_more (n + 1 + size inner) (n + size (Superposed form names shown written inner rest) - size rest) t (omega (arith, count)) (stop_within before inner (after_superposed form names x) (goal_of shown) (n + 1) t k),
     )
 
-pub superposed_is_refused : (before : List Stated) (form : Superpose) (names : List (List ℕ)) (shown : List Lit) (inner : Script) (x after : StepState) (n : ℕ) (h : StepStop) (t : Stop) → StepStopsAmong x.context (superposing.needs form) h
+pub superposed_is_refused : (before : List Stated) (form : Superpose) (names : List (List ℕ)) (shown : List Lit) (inner : Script) (x after : StepState) (n : ℕ) (h : StepStop) (t : Stop) → StepStopsAmong x.context (superposing.needs_of_superposition form) h
     → UnlessNoMemory (after.names ≡ x.names) h → StopOf h n after.names t → (written : List Cert) → StepsStop before (Superposed form names shown written inner) x n t
 superposed_is_refused before form names shown inner x after n h t k m e written rest goal r =
     let here = Superposed form names shown written inner rest in

@@ -11,7 +11,7 @@ use Rattle.e_literal.specs.Literal.{negation}
 use Rattle.e_literal.specs.Facts.{joined, joined_all}
 use Rattle.e_literal.specs.Scopes.{grown}
 use Rattle.e_literal.specs.Use.{Stated, gives_of_use}
-use Rattle.e_construct.specs.Construct.{made, gives}
+use Rattle.e_construct.specs.Construct.{sorts_made, gives_of_construction}
 use Rattle.e_construct.specs.Superposing as superposing
 use Rattle.e_deriv.specs.declared.names.Names.{Names}
 use Rattle.e_deriv.specs.declared.stop.Stop.{Stop}
@@ -156,14 +156,14 @@ pub names_length : (before : List Stated) (ns : Names) (d : Script) → length (
 unfolding names_lines size
 names_length before ns (Cite by rest) = let h = names_length before ns rest in omega (arith, h)
 names_length before ns (Hence lit cert rest) = let h = names_length before ns rest in omega (arith, h)
-names_length before ns (Make form names certs rest) = let h = names_length before (named ns (made form) names) rest in omega (arith, h)
+names_length before ns (Make form names certs rest) = let h = names_length before (named ns (sorts_made form) names) rest in omega (arith, h)
 names_length before ns (Apply theorem args names certs rest) = let h = names_length before (named ns (theorem_at before theorem).made names) rest in omega (arith, h)
 names_length before ns (Claim shown inner rest) =
     let h = names_length before ns inner in
     let k = names_length before ns rest in
     omega (arith, h, k, length-append (names_lines before ns inner) (names_lines before ns rest))
 names_length before ns (Superposed form names shown certs inner rest) =
-    let ms = named ns superposing.made names in
+    let ms = named ns superposing.sorts_copied names in
     let h = names_length before ms inner in
     let k = names_length before ns rest in
     omega (arith, h, k, length-append (names_lines before ms inner) (names_lines before ns rest))
@@ -199,7 +199,7 @@ tests_again before p b (Hence lit cert rest) f f' s facts facts' goal =
     both_same _ _ _ _ (b.same (Hence lit cert rest) f f' s facts facts' goal) (tests_again before p b rest (rest_of f) (rest_of f') s (joined facts lit) (joined facts' lit) goal)
 tests_again before p b (Make form names certs rest) f f' s facts facts' goal =
     both_same _ _ _ _ (b.same (Make form names certs rest) f f' s facts facts' goal)
-    (tests_again before p b rest (rest_of f) (rest_of f') (grown s (made form)) (joined_all facts (gives form s)) (joined_all facts' (gives form s)) goal)
+    (tests_again before p b rest (rest_of f) (rest_of f') (grown s (sorts_made form)) (joined_all facts (gives_of_construction form s)) (joined_all facts' (gives_of_construction form s)) goal)
 tests_again before p b (Apply theorem args names certs rest) f f' s facts facts' goal =
     let t = theorem_at before theorem in
     both_same _ _ _ _ (b.same (Apply theorem args names certs rest) f f' s facts facts' goal)
@@ -211,8 +211,8 @@ tests_again before p b (Claim shown inner rest) f f' s facts facts' goal =
     (tests_again before p b inner (inner_of f) (inner_of f') s facts facts' (goal_of shown))
     (tests_again before p b rest (rest_of f) (rest_of f') s (joined_all facts shown) (joined_all facts' shown) goal))
 tests_again before p b (Superposed form names shown certs inner rest) f f' s facts facts' goal =
-    let g = grown s superposing.made in
-    let given = superposing.gives form s in
+    let g = grown s superposing.sorts_copied in
+    let given = superposing.gives_of_superposition form s in
     both_same _ _ _ _ (b.same (Superposed form names shown certs inner rest) f f' s facts facts' goal)
     (both_lists p (lines before inner (inner_of f) g (joined_all facts given) (goal_of shown)) (lines before inner (inner_of f') g (joined_all facts' given) (goal_of shown))
     (lines before rest (rest_of f) s (joined_all facts shown) goal) (lines before rest (rest_of f') s (joined_all facts' shown) goal)

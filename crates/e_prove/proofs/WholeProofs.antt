@@ -8,7 +8,7 @@ use Rattle.e_literal.specs.declared.object.Obj.{Obj}
 use Rattle.e_literal.specs.Scopes.{nothing, next_objects}
 use Rattle.e_literal.specs.Use.{Stated, scope_of}
 use Rattle.e_literal.proofs.Growing.{total_grown, grown_bounds}
-use Rattle.e_clause.specs.Judged.{are_good_facts}
+use Rattle.e_clause.specs.Judged.{are_limited_facts}
 use Rattle.e_deriv.specs.declared.names.Names.{Names}
 use Rattle.e_deriv.specs.declared.stop.Stop.{Stop}
 use Rattle.e_deriv.specs.declared.stop.Stop.TheVariants as stop
@@ -53,7 +53,7 @@ made_fit before t script s same h = rw same (fit before t script h)
 
 -- ---- the start and the stop
 
-pub given_good : (before : List Stated) (t : Stated) (script : Script) → IsFitting before t script → are_good_facts (scope_of t) (facts_of_statement t) ≡ true
+pub given_good : (before : List Stated) (t : Stated) (script : Script) → IsFitting before t script → are_limited_facts (scope_of t) (facts_of_statement t) ≡ true
 given_good before t script h = first_facts before script script (scope_of t) (facts_of_statement t) (goal_of_statement t) (h.lits script)
 
 ready_start : (before : List Stated) (t : Stated) (names : Names) (script : Script) → IsFitting before t script → IsReadyFor before script (start_of t names) (goal_of_statement t)

@@ -4,7 +4,7 @@ ghost use Rattle.std.specs.List.{list_all};
 ghost use Rattle.e_literal.specs.Use.{Stated, are_arguments, needs_of_use, gives_of_use};
 ghost use Rattle.e_clause.specs.declared.cert.Cert.{Cert as Certificate};
 ghost use Rattle.e_clause.specs.Certify.{certify_all};
-ghost use Rattle.e_clause.specs.Judged.{are_good};
+ghost use Rattle.e_clause.specs.Judged.{are_well_formed_in};
 ghost use Rattle.e_theorem.specs.Statements.{stated};
 ghost use Rattle.e_deriv.specs.declared.block.Step.TheVariants.{Apply};
 ghost use Rattle.e_deriv.specs.Fitting.{is_small, is_small_statement};
@@ -171,8 +171,8 @@ fn used_at(
     requires statement { IsTrue (is_small_statement (stated statement.now)) }
     requires scope { IsTrue (is_small context.old.scope) }
     requires fit { IsTrue (are_arguments (stated statement.now) context.old.scope args) }
-    requires needs { IsTrue
-        (are_good context.old.scope (needs_of_use (stated statement.now) args context.old.scope)) }
+    requires needs { IsTrue (are_well_formed_in context.old.scope
+        (needs_of_use (stated statement.now) args context.old.scope)) }
     ensures args { IfOk result (λ u. u.args ≡ args) }
     ensures certified { IfOk result (λ u. IsTrue (certify_all context.old.scope context.old.facts
         (needs_of_use (stated statement.now) args context.old.scope) u.certs.items)) }

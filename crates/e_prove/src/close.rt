@@ -3,7 +3,7 @@ ghost use Rattle.std.specs.Prelude.{◌≡◌, List, Option, IfOk, IfErr, IsTrue
 ghost use Rattle.e_literal.specs.Use.{Stated};
 ghost use Rattle.e_clause.specs.declared.cert.Against.{Against};
 ghost use Rattle.e_clause.specs.declared.cert.Cert.{Cert};
-ghost use Rattle.e_clause.specs.Judged.{are_good};
+ghost use Rattle.e_clause.specs.Judged.{are_well_formed_in};
 ghost use Rattle.e_deriv.specs.declared.block.Close.TheVariants.{Qed, Contradiction};
 ghost use Rattle.e_deriv.specs.Goal.{Goal as BlockGoal, are_for, goal_with as goal_at};
 ghost use Rattle.e_prove.specs.inner.StepStates.{goal_view};
@@ -34,7 +34,8 @@ pub fn qed(
     context: &mut Context,
 ) -> Result<Close, StepStop>
     requires form { IsTrue (are_for (goal_view goal.now) context.old.scope objects.now) }
-    requires lits { IsTrue (are_good context.old.scope (goal_at (goal_view goal.now) objects.now)) }
+    requires lits { IsTrue
+        (are_well_formed_in context.old.scope (goal_at (goal_view goal.now) objects.now)) }
     ensures ok { IfOk result (λ d. (before : List Stated) (certs : List Cert)
         → IsLicensedClose before (Qed objects.now certs) context.old (goal_view goal.now) d) }
     ensures err { IfErr result (λ h. (before : List Stated) (certs : List Cert)

@@ -4,7 +4,7 @@ ghost use Rattle.std.specs.List.{list_all};
 ghost use Rattle.e_literal.specs.Facts.{has, has_all, others};
 ghost use Rattle.e_literal.specs.Literal.{negation};
 ghost use Rattle.e_clause.specs.Certify.{certifies, certify_all};
-ghost use Rattle.e_clause.specs.Judged.{is_good, are_good};
+ghost use Rattle.e_clause.specs.Judged.{is_well_formed_in, are_well_formed_in};
 ghost use Rattle.e_deriv.specs.Steps.{instance_gives, is_cited as gives_cited};
 ghost use Rattle.e_clause.specs.declared.cert.Version.TheVariants as version;
 ghost use Rattle.e_clause.specs.Versions.{is_cert_of};
@@ -22,7 +22,7 @@ use std::mem;
 
 /// A certificate of the literal, where it is allowed. The literals that it names are well formed.
 pub fn licensed(alloc: Global, context: &mut Context, lit: &Lit) -> Result<Cert, StepStop>
-    requires { IsTrue (is_good context.old.scope lit.now) }
+    requires { IsTrue (is_well_formed_in context.old.scope lit.now) }
     ensures ok { IfOk result
         (λ c. IsTrue (certifies context.old.scope context.old.facts lit.now c)) }
     ensures written { IfOk result (λ c. IsTrue (is_cert_of version.One c)) }
@@ -36,7 +36,7 @@ pub fn licensed(alloc: Global, context: &mut Context, lit: &Lit) -> Result<Cert,
 /// A certificate of each literal, where each is allowed. They are licensed in order, and the first
 /// that is not allowed, or too wide to be decided, stops it.
 pub fn licences(alloc: Global, context: &mut Context, lits: &[Lit]) -> Result<Vec<Cert>, StepStop>
-    requires { IsTrue (are_good context.old.scope lits.now) }
+    requires { IsTrue (are_well_formed_in context.old.scope lits.now) }
     ensures ok { IfOk result
         (λ cs. IsTrue (certify_all context.old.scope context.old.facts lits.now cs.items)) }
     ensures written { IfOk result (λ cs. IsTrue (list_all (is_cert_of version.One) cs.items)) }

@@ -2,7 +2,7 @@
 ghost use Rattle.std.specs.Prelude.{◌≡◌, ◌+◌, ◌<◌, ◌≤◌, ◌^◌, IfErr, IsTrue, OnOk};
 ghost use Rattle.e_literal.specs.Literal.{negation};
 ghost use Rattle.e_literal.specs.Facts.{joined};
-ghost use Rattle.e_clause.specs.Judged.{are_good_facts};
+ghost use Rattle.e_clause.specs.Judged.{are_limited_facts};
 ghost use Rattle.e_theorem.specs.Statements.{all_stated};
 ghost use Rattle.e_deriv.specs.Script.{Script, script_of, step_script, close_script, size as script_size};
 ghost use Rattle.e_prove.specs.Stops.{IsStopBefore};
@@ -193,7 +193,7 @@ fn pass_first(
     requires few { first + script_size (script_of block.now) < 2 ^ 32 }
     requires second { (derived : Script) → IsDerivedFrom (all_stated before.now)
         (script_of block.now) (after_literal lit.now state.old) (goal_view goal.now) derived
-        → IsTrue (are_good_facts state.old.context.scope
+        → IsTrue (are_limited_facts state.old.context.scope
         (joined state.old.context.facts (negation lit.now))) }
     ensures passed { OnOk result (IsFirstPassed (all_stated before.now) lit.now
         (script_of block.now) state.old (goal_view goal.now) state.new) }

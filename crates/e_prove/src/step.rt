@@ -4,7 +4,7 @@ ghost use Rattle.std.specs.List.{list_all};
 ghost use Rattle.e_literal.specs.Use.{Stated};
 ghost use Rattle.e_literal.specs.Facts.{joined};
 ghost use Rattle.e_clause.specs.declared.cert.Cert.{Cert as Certificate};
-ghost use Rattle.e_clause.specs.Judged.{is_good, are_good, are_good_facts};
+ghost use Rattle.e_clause.specs.Judged.{is_well_formed_in, are_well_formed_in, are_limited_facts};
 ghost use Rattle.e_construct.specs.Construct;
 ghost use Rattle.e_deriv.specs.declared.block.Step.TheVariants.{Cite, Hence, Make};
 ghost use Rattle.e_construct.specs.Superposing;
@@ -30,7 +30,7 @@ use std::mem;
 #[tactic(auto, unfolding(e_deriv::specs::Script::step_script))]
 pub fn cite(alloc: Global, by: &By, state: &mut StepState) -> Result<Step, StepStop>
     requires { IsTrue
-        (are_good_facts state.old.context.scope (joined state.old.context.facts by.now.lit)) }
+        (are_limited_facts state.old.context.scope (joined state.old.context.facts by.now.lit)) }
     ensures ok { IfOk result (λ d. (before : List Stated)
         → IsLicensedStep before (Cite by.now) state.old d state.new) }
     ensures err { IfErr result (λ h. (before : List Stated)
@@ -51,9 +51,9 @@ pub fn cite(alloc: Global, by: &By, state: &mut StepState) -> Result<Step, StepS
 /// A hence: its literal is allowed.
 #[tactic(auto, unfolding(e_deriv::specs::Script::step_script))]
 pub fn hence(alloc: Global, lit: &Lit, state: &mut StepState) -> Result<Step, StepStop>
-    requires lit { IsTrue (is_good state.old.context.scope lit.now) }
+    requires lit { IsTrue (is_well_formed_in state.old.context.scope lit.now) }
     requires after { IsTrue
-        (are_good_facts state.old.context.scope (joined state.old.context.facts lit.now)) }
+        (are_limited_facts state.old.context.scope (joined state.old.context.facts lit.now)) }
     ensures ok { IfOk result (λ d. (before : List Stated) (cert : Option Certificate)
         → IsLicensedStep before (Hence lit.now cert) state.old d state.new) }
     ensures err { IfErr result (λ h. (before : List Stated) (cert : Option Certificate)
@@ -77,7 +77,7 @@ pub fn hence(alloc: Global, lit: &Lit, state: &mut StepState) -> Result<Step, St
 /// holds then.
 fn assumed(alloc: Global, lit: &Lit, state: &mut StepState) -> Result<Lit, AllocError>
     requires { IsTrue
-        (are_good_facts state.old.context.scope (joined state.old.context.facts lit.now)) }
+        (are_limited_facts state.old.context.scope (joined state.old.context.facts lit.now)) }
     ensures lit { IfOk result (λ l. l ≡ lit.now) }
     ensures after { OnOk result (state.new ≡ after_literal lit.now state.old) }
 {
@@ -94,9 +94,10 @@ pub fn make(
     state: &mut StepState,
 ) -> Result<Step, StepStop>
     requires room { HasRoomForMore state.old.context.scope }
-    requires needs { IsTrue (are_good state.old.context.scope (Construct.needs form.now)) }
+    requires needs { IsTrue
+        (are_well_formed_in state.old.context.scope (Construct.needs_of_construction form.now)) }
     requires after { let after = after_make form.now names.now state.old
-        in IsTrue (are_good_facts after.context.scope after.context.facts) }
+        in IsTrue (are_limited_facts after.context.scope after.context.facts) }
     ensures ok { IfOk result (λ d. (before : List Stated) (certs : List Certificate)
         → IsLicensedStep before (Make form.now names.now certs) state.old d state.new) }
     ensures err { IfErr result (λ h. (before : List Stated) (certs : List Certificate)
@@ -126,14 +127,16 @@ pub fn superpose(
     state: &mut StepState,
 ) -> Result<Vec<Cert>, StepStop>
     requires room { HasRoomForMore state.old.context.scope }
-    requires needs { IsTrue (are_good state.old.context.scope (Superposing.needs form.now)) }
+    requires needs { IsTrue (are_well_formed_in state.old.context.scope
+        (Superposing.needs_of_superposition form.now)) }
     requires after { let after = after_superposed form.now names.now state.old
-        in IsTrue (are_good_facts after.context.scope after.context.facts) }
+        in IsTrue (are_limited_facts after.context.scope after.context.facts) }
     ensures certs { IfOk result (λ cs. IsTrue (certify_all state.old.context.scope
-        state.old.context.facts (Superposing.needs form.now) cs.items)) }
+        state.old.context.facts (Superposing.needs_of_superposition form.now) cs.items)) }
     ensures written { IfOk result (λ cs. IsTrue (list_all (is_cert_of version.One) cs.items)) }
     ensures after { OnOk result (state.new ≡ after_superposed form.now names.now state.old) }
-    ensures err { IfErr result (StepStopsAmong state.old.context (Superposing.needs form.now)) }
+    ensures err { IfErr result
+        (StepStopsAmong state.old.context (Superposing.needs_of_superposition form.now)) }
     ensures kept { IfErr result (UnlessNoMemory (state.new ≡ state.old)) }
 {
     let needs = form.needs(alloc)?;

@@ -4,7 +4,7 @@ ghost use Rattle.e_literal.specs.Literal.{negation};
 ghost use Rattle.e_literal.specs.Facts.{joined, joined_all};
 ghost use Rattle.e_literal.specs.Scopes;
 ghost use Rattle.e_literal.specs.Use.{scope_of};
-ghost use Rattle.e_clause.specs.Judged.{are_good_facts};
+ghost use Rattle.e_clause.specs.Judged.{are_limited_facts};
 ghost use Rattle.e_theorem.specs.Statements.{stated};
 ghost use Rattle.e_deriv.specs.Goal.{facts_of_statement};
 ghost use Rattle.e_deriv.specs.Naming.{named};
@@ -13,7 +13,7 @@ ghost use Rattle.e_prove.specs.inner.StepStates.{start_of, held_at, IsLeft, IsLe
 use e_deriv::Names;
 use e_facts::Facts;
 use e_licence::Context;
-use e_literal::{Lit, Scope, Sort, copy, grown, negate};
+use e_literal::{Lit, NOTHING, Sort, copy, grown, negate};
 use e_text::Name;
 use e_theorem::Statement;
 use std::alloc::{AllocError, Global};
@@ -35,16 +35,11 @@ impl StepState {
         names: &Names,
     ) -> Result<StepState, AllocError>
         requires few { length statement.now.declared < 2 ^ 16 }
-        requires good { IsTrue (are_good_facts (scope_of (stated statement.now))
+        requires good { IsTrue (are_limited_facts (scope_of (stated statement.now))
             (facts_of_statement (stated statement.now))) }
         ensures { IfOk result (λ x. x ≡ start_of (stated statement.now) names.now) }
     {
-        let nothing = Scope {
-            points: 0,
-            lines: 0,
-            circles: 0,
-        };
-        let scope = grown(nothing, statement.declared.items());
+        let scope = grown(NOTHING, statement.declared.items());
         let names = names.first(alloc, scope)?;
         let facts = facts_of(alloc, statement.given.items())?;
         match Context::new(alloc, scope, facts) {
@@ -98,7 +93,7 @@ impl StepState {
     /// The literal is a fact. It fails only out of memory; no clause says what holds then.
     pub fn assume(&mut self, alloc: Global, lit: &Lit) -> Result<(), AllocError>
         requires { IsTrue
-            (are_good_facts self.old.context.scope (joined self.old.context.facts lit.now)) }
+            (are_limited_facts self.old.context.scope (joined self.old.context.facts lit.now)) }
         ensures { OnOk result (self.new ≡ after_literal lit.now self.old) }
     {
         self.context.add(copy(alloc, lit)?)?;
@@ -108,7 +103,7 @@ impl StepState {
     /// The negation of the literal is a fact. It fails only out of memory; no clause says what
     /// holds then.
     pub fn assume_not(&mut self, alloc: Global, lit: &Lit) -> Result<(), AllocError>
-        requires { IsTrue (are_good_facts self.old.context.scope
+        requires { IsTrue (are_limited_facts self.old.context.scope
             (joined self.old.context.facts (negation lit.now))) }
         ensures { OnOk result (self.new ≡ after_literal (negation lit.now) self.old) }
     {
@@ -134,8 +129,8 @@ impl StepState {
     /// The literals join the facts, one after the other. It fails only out of memory; no clause
     /// says what holds then.
     pub fn join(&mut self, lits: Vec<Lit>) -> Result<(), AllocError>
-        requires { IsTrue
-            (are_good_facts self.old.context.scope (joined_all self.old.context.facts lits.items)) }
+        requires { IsTrue (are_limited_facts self.old.context.scope
+            (joined_all self.old.context.facts lits.items)) }
         ensures { OnOk result (self.new ≡ record self.old {
           context
               = record self.old.context { facts = joined_all self.old.context.facts lits.items };
@@ -147,8 +142,8 @@ impl StepState {
     /// Equal literals join the facts, one after the other. It fails only out of memory; no clause
     /// says what holds then.
     pub fn join_equal(&mut self, alloc: Global, lits: &[Lit]) -> Result<(), AllocError>
-        requires { IsTrue
-            (are_good_facts self.old.context.scope (joined_all self.old.context.facts lits.now)) }
+        requires { IsTrue (are_limited_facts self.old.context.scope
+            (joined_all self.old.context.facts lits.now)) }
         ensures { OnOk result (self.new ≡ record self.old {
           context
               = record self.old.context { facts = joined_all self.old.context.facts lits.now };
@@ -170,7 +165,8 @@ fn name_all(names: &mut Names, sorts: &[Sort], new: &[Name]) -> Result<(), Alloc
 
 /// Adds each literal unless one the same is there.
 fn join_all(context: &mut Context, lits: Vec<Lit>) -> Result<(), AllocError>
-    requires { IsTrue (are_good_facts context.old.scope (joined_all context.old.facts lits.items)) }
+    requires { IsTrue
+        (are_limited_facts context.old.scope (joined_all context.old.facts lits.items)) }
     ensures { OnOk result
         (context.new ≡ record context.old { facts = joined_all context.old.facts lits.items }) }
 {
@@ -182,7 +178,8 @@ fn join_all(context: &mut Context, lits: Vec<Lit>) -> Result<(), AllocError>
 
 /// Adds an equal literal for each, unless one the same is there.
 fn join_copies(alloc: Global, context: &mut Context, lits: &[Lit]) -> Result<(), AllocError>
-    requires { IsTrue (are_good_facts context.old.scope (joined_all context.old.facts lits.now)) }
+    requires { IsTrue
+        (are_limited_facts context.old.scope (joined_all context.old.facts lits.now)) }
     ensures { OnOk result
         (context.new ≡ record context.old { facts = joined_all context.old.facts lits.now }) }
 {

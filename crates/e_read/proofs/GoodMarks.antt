@@ -20,7 +20,7 @@ use Rattle.e_clause.specs.declared.cert.Cert.{Cert}
 use Rattle.e_clause.specs.declared.cert.Cert.TheVariants.{Plain}
 use Rattle.e_clause.specs.declared.cert.Against.TheVariants as against
 use Rattle.e_clause.specs.declared.rule.Sig.{Sig}
-use Rattle.e_clause.specs.Instance.{Inst, place_of}
+use Rattle.e_clause.specs.Instance.{Inst, number_of_rule}
 use Rattle.e_clause.specs.Sigs.{sig_of}
 use Rattle.e_deriv.specs.declared.names.Names.{Names}
 use Rattle.e_book.specs.declared.fault.Kind.{Kind}
@@ -49,7 +49,7 @@ use Rattle.e_read.specs.declared.kept.Kept.TheVariants as kept
 use Rattle.e_read.specs.Marks.{mark_of, mark_line, row_is_of, mark_is_of}
 use Rattle.e_read.specs.Strict.{is_strict_mark, strict_mark}
 use Rattle.e_read.specs.Owed.{most_rows, fact_in, row_in, with_row, row_put, sum_begun, differs_put, sums_ended, has_more, certificate, transfer_put, part_put, metric_put, takes_metric, clash_put, transfer_rule, count_others, transfer_at, transfer_in, transfer_begun, ended, sums_behind, due_behind, marked, kept_of, settled}
-use Rattle.e_clause.specs.Written.{is_good_name}
+use Rattle.e_clause.specs.Written.{is_writable_name}
 use Rattle.e_clause.specs.declared.cert.Version.{Version}
 use Rattle.e_clause.specs.Versions.{by_literals, by_places, is_name_of, is_sum_of, are_sums_of, is_part_of, is_cert_of, is_against_of}
 use Rattle.e_read.proofs.GoodCerts.{AreGood}
@@ -87,7 +87,7 @@ good_fact ns raw l said e =
     subst (λ (y : Lit). is_well_formed y ≡ true) (ok_is x.0 l f.2) (and_parts (is_well_formed x.0) true good).0
 
 abbrev pub GoodName : RowName → Type 0
-GoodName r = is_good_name r ≡ true
+GoodName r = is_writable_name r ≡ true
 
 pub good_row : (ns : Names) (raw : RawRow) (r : RowName) → RowSaid raw → row_in ns raw ≡ Ok r → GoodName r
 unfolding row_in
@@ -238,7 +238,7 @@ module _ (v : Version) where
       let last : ℕ → List Obj → Result OpenTransfer Kind = λ r args. transfer_at l r args in
       let third : ℕ → Sig → Result OpenTransfer Kind = λ r s. args_in ns s raws >>= λ args. last r args in
       let second : ℕ → Sig → Result OpenTransfer Kind = λ r s. right_count (length raws == s.points + s.lines + s.circles) >>= λ right. third r s in
-      let r = bind_ok (transfer_rule (place_of title)) (λ r. variables_of (sig_of r) >>= λ s. second r s) t e in
+      let r = bind_ok (transfer_rule (number_of_rule title)) (λ r. variables_of (sig_of r) >>= λ s. second r s) t e in
       let s = bind_ok (variables_of (sig_of r.0)) (λ s. second r.0 s) t r.2 in
       let right = bind_ok (right_count (length raws == s.0.points + s.0.lines + s.0.circles)) (λ right. third r.0 s.0) t s.2 in
       let args = bind_ok (args_in ns s.0 raws) (λ args. last r.0 args) t right.2 in

@@ -5,7 +5,7 @@ use Rattle.e_text.specs.Lines.{Seen}
 use Rattle.e_text.specs.declared.line.LineFault.{LineFault}
 use Rattle.e_literal.specs.declared.literal.Lit.{Lit}
 use Rattle.e_literal.proofs.Booleans.{all_both}
-use Rattle.e_construct.specs.Construct.{needs}
+use Rattle.e_construct.specs.Construct.{needs_of_construction}
 use Rattle.e_construct.specs.Superposing as superposing
 use Rattle.e_book.specs.declared.fault.Kind.{Kind}
 use Rattle.e_book.specs.declared.form.Form.{Form}
@@ -51,9 +51,9 @@ module _ (v : Version) where
   due_good : (known : List Headed) (d : Draft) (f : Form) (new : Due) → due_of known d f ≡ Ok new → GoodDue v new
   unfolding due_of
   due_good known d (forms.Hence raw) new e = owes (lit_in d.in_scope raw) (λ l. l ∷ []) new e
-  due_good known d (forms.Let raw) new e = owes (let_in d.in_scope raw) (λ form. needs form) new e
+  due_good known d (forms.Let raw) new e = owes (let_in d.in_scope raw) (λ form. needs_of_construction form) new e
   due_good known d (forms.Apply raw) new e = owes (needs_of_use known d raw) (λ ls. ls) new e
-  due_good known d (forms.Superpose raw) new e = owes (superpose_in d.in_scope raw) (λ p. superposing.needs p.0) new e
+  due_good known d (forms.Superpose raw) new e = owes (superpose_in d.in_scope raw) (λ p. superposing.needs_of_superposition p.0) new e
   due_good known d (forms.Qed ns) new e = owes (needs_at_qed d ns) (λ ls. ls) new e
   due_good known d forms.Contradiction new e = subst (GoodDue v) (ok_is (due.Contradiction None) new e) refl
   due_good known d f new e = subst (GoodDue v) (ok_is due.Nothing new e) refl

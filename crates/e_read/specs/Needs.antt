@@ -4,7 +4,7 @@ use Rattle.e_literal.specs.declared.literal.Lit.{Lit}
 use Rattle.e_literal.specs.declared.object.Obj.{Obj}
 use Rattle.e_literal.specs.declared.object.Scope.{Scope}
 use Rattle.e_literal.specs.Use.{Stated, use_of}
-use Rattle.e_construct.specs.Construct.{needs}
+use Rattle.e_construct.specs.Construct.{needs_of_construction}
 use Rattle.e_construct.specs.Superposing as superposing
 use Rattle.e_theorem.specs.Statements.{stated}
 use Rattle.e_deriv.specs.Goal.{Goal, goal_of, goal_of_statement, goal_with}
@@ -65,9 +65,9 @@ needs_at_qed d ns = qed_in d.in_scope (made_in d.outers d.made) ns >>= λ object
 -- superposition needs, for each literal of the goal at qed, and one of a contradiction; no other line owes any
 unfoldable pub due_of : List Headed → Draft → Form → Result Due Kind
 due_of known d (forms.Hence raw) = lit_in d.in_scope raw >>= λ l. Ok (one_each (l ∷ []))
-due_of known d (forms.Let raw) = let_in d.in_scope raw >>= λ form. Ok (one_each (needs form))
+due_of known d (forms.Let raw) = let_in d.in_scope raw >>= λ form. Ok (one_each (needs_of_construction form))
 due_of known d (forms.Apply raw) = needs_of_use known d raw >>= λ ls. Ok (one_each ls)
-due_of known d (forms.Superpose raw) = superpose_in d.in_scope raw >>= λ p. Ok (one_each (superposing.needs p.0))
+due_of known d (forms.Superpose raw) = superpose_in d.in_scope raw >>= λ p. Ok (one_each (superposing.needs_of_superposition p.0))
 due_of known d (forms.Qed ns) = needs_at_qed d ns >>= λ ls. Ok (one_each ls)
 due_of known d forms.Contradiction = Ok (due.Contradiction None)
 due_of known d form = Ok due.Nothing

@@ -13,7 +13,7 @@ use Rattle.e_clause.specs.declared.cert.Part.TheVariants as parts
 use Rattle.e_clause.specs.declared.cert.Cert.{Cert}
 use Rattle.e_clause.specs.declared.cert.Cert.TheVariants.{Plain, Transfer}
 use Rattle.e_clause.specs.declared.cert.Against.TheVariants as against
-use Rattle.e_clause.specs.Instance.{Inst, place_of}
+use Rattle.e_clause.specs.Instance.{Inst, number_of_rule}
 use Rattle.e_clause.specs.Sigs.{sig_of}
 use Rattle.e_clause.specs.RuleKinds.{is_transfer}
 use Rattle.e_deriv.specs.declared.names.Names.{Names}
@@ -139,7 +139,7 @@ transfer_at wanted r args = or_malformed (Inst r args) >>= λ lits. Ok (record {
 -- a rule with an object for each of its variables
 unfoldable pub transfer_in : Names → Lit → List ℕ → List (List ℕ) → Result OpenTransfer Kind
 transfer_in ns wanted title raws = do
-  r ← transfer_rule (place_of title)
+  r ← transfer_rule (number_of_rule title)
   s ← variables_of (sig_of r)
   right ← right_count (length raws == s.points + s.lines + s.circles)
   args ← args_in ns s raws

@@ -1,7 +1,7 @@
 //! The line of each form, spelled with the names that it has.
 ghost use Rattle.std.specs.Prelude.{◌≡◌, ◌++◌, ◌∷◌, [], codes, map, OnOk};
 ghost use Rattle.e_text.specs.Tokens.{spaced};
-ghost use Rattle.e_construct.specs.Views.{piece_said};
+ghost use Rattle.e_construct.specs.Views.{piece_view};
 ghost use Rattle.e_book.specs.declared.form.Form.TheVariants as forms;
 ghost use Rattle.e_book.specs.Superposes.{superpose_pieces};
 ghost use Rattle.e_book.specs.Canonical.{lit_words, lits_words, filled, line_pieces, avoid_words, argument_word, made_words, line_of};
@@ -33,7 +33,7 @@ fn put_pieces(
     new: &[Name],
     args: &[Name],
 ) -> Result<(), AllocError>
-    ensures { OnOk result (out.new.items ≡ out.old.items ++ spaced (filled (map piece_said pieces.now) new.now args.now)) }
+    ensures { OnOk result (out.new.items ≡ out.old.items ++ spaced (filled (map piece_view pieces.now) new.now args.now)) }
 {
     let [piece, pieces @ ..] = pieces else {
         return Ok(());

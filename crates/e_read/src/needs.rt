@@ -24,7 +24,7 @@ use e_book::{
     Draft, Form, Kind, Opened, Outer, RawApply, Theorems, Trouble, apply_in, let_in, lit_in,
     qed_in, scope_of_names, superpose_in,
 };
-use e_literal::{Items, Lit, Map, Obj, Scope, Sort, grown, next_objects};
+use e_literal::{Items, Lit, Map, NOTHING, Obj, Scope, Sort, grown, next_objects};
 use e_text::Name;
 use e_theorem::{Statement, UseFault, all_renamed, use_of};
 use std::alloc::{AllocError, Global};
@@ -126,12 +126,6 @@ fn with_objects(
     let with = all_renamed(alloc, shown, &images)?;
     Ok(Items::new(with))
 }
-
-const NOTHING: Scope = Scope {
-    points: 0,
-    lines: 0,
-    circles: 0,
-};
 
 /// The literals of the goal of the whole proof with these objects for its made ones.
 #[tactic(auto, using(crate::proofs::Rooms::made_fits, e_literal::proofs::Growing::sorts_next))]

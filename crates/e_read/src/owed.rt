@@ -1,6 +1,6 @@
 //! The certificates that a line owes, while their lines come.
 ghost use Rattle.std.specs.Prelude.{◌≡◌, ◌+◌, ◌++◌, ◌∷◌, [], length, IfOk, Some, None};
-ghost use Rattle.e_clause.specs.Instance.{place_of};
+ghost use Rattle.e_clause.specs.Instance.{number_of_rule};
 ghost use Rattle.e_clause.specs.declared.cert.Part.TheVariants as parts;
 ghost use Rattle.e_book.specs.Reading.{Gives};
 ghost use Rattle.e_book.specs.Scope.{FewNames};
@@ -356,7 +356,7 @@ fn clash_put(due: Due, lit: Lit) -> Result<Due, Trouble>
 
 /// The transfer rule with this name.
 fn transfer_rule(name: Title) -> Result<Rule, Trouble>
-    ensures { Gives (λ r. r) result (transfer_rule (place_of name)) }
+    ensures { Gives (λ r. r) result (transfer_rule (number_of_rule name)) }
 {
     let Some(rule) = Rule::named(name.bytes()) else {
         return Err(malformed());

@@ -10,8 +10,7 @@ use crate::lines::put_form;
 use crate::mark::{Mark, RawRow, mark_of};
 use crate::marks::put_mark;
 use e_book::{Draft, Form, Kind, RawAtom, RawLit, Trouble, form_of};
-use e_construct::same_sort;
-use e_literal::Sort;
+use e_literal::{Sort, is_same_sort};
 use e_text::Name;
 use std::alloc::{AllocError, Global};
 use std::mem;
@@ -143,7 +142,7 @@ fn ends_with(sorts: &[Sort], sort: Sort) -> bool
 {
     match sorts {
         [] => false,
-        [only] => same_sort(*only, sort),
+        [only] => is_same_sort(*only, sort),
         [_, rest @ ..] => ends_with(rest, sort),
     }
 }

@@ -47,7 +47,7 @@ use Rattle.e_roundtrip.proofs.ScriptsSaid.{StepsSaid, ScriptSaid, no_steps, step
 abbrev pub Opening : List Headed → Goal → Names → Opened → List Kept → Names → List (List ℕ) → Type 0
 Opening known goal ns (opened.Claim shown) ks start ls = (ks ≡ []) × (start ≡ ns) × (ls ≡ line_of (claim_form ns shown) ∷ []) × (are_over (scope_of_names ns) shown ≡ true)
 Opening known goal ns (opened.Superpose form names shown) ks start ls =
-    (cs : List Cert) × (ks ≡ Certs cs ∷ []) × (start ≡ named ns superposing.made names) × (ls ≡ line_of (superpose_form ns form names shown) ∷ certs_lines ns cs) × CopyFormed ns form names shown cs
+    (cs : List Cert) × (ks ≡ Certs cs ∷ []) × (start ≡ named ns superposing.sorts_copied names) × (ls ≡ line_of (superpose_form ns form names shown) ∷ certs_lines ns cs) × CopyFormed ns form names shown cs
 Opening known goal ns (opened.First lit) ks start ls = (ks ≡ []) × (start ≡ ns) × (ls ≡ line_of (cases_form ns lit) ∷ []) × (all_in_scope (scope_of_names ns) lit ≡ true)
 Opening known goal ns (opened.Second lit first) ks start ls =
     (ms : List (List ℕ)) × ScriptSaid known ns goal first ks ms × (start ≡ ns) × (ls ≡ line_of (cases_form ns lit) ∷ (ms ++ line_of else_form ∷ [])) × (all_in_scope (scope_of_names ns) lit ≡ true)

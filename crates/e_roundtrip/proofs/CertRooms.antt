@@ -18,9 +18,9 @@ use Rattle.e_clause.specs.declared.cert.Cert.{Cert}
 use Rattle.e_clause.specs.declared.cert.Cert.TheVariants.{Plain, Transfer}
 use Rattle.e_clause.specs.declared.cert.Against.{Against}
 use Rattle.e_clause.specs.declared.cert.Against.TheVariants as against
-use Rattle.e_clause.specs.Sum.{is_good_multiplier}
+use Rattle.e_clause.specs.Sum.{is_nonzero_bounded}
 use Rattle.e_deriv.specs.declared.names.Names.{Names}
-use Rattle.e_clause.specs.Written.{is_good_name}
+use Rattle.e_clause.specs.Written.{is_writable_name}
 use Rattle.e_book.specs.Canonical.{rule_name, name_of_object}
 use Rattle.e_book.proofs.Lookups.{InOrder}
 use Rattle.e_book.proofs.LitLookups.{diagram_is_good}
@@ -40,7 +40,7 @@ room_place k h =
     room_word 4 11 (codes "fact") _ refl (room_word 10 0 (decimal k) [] (short_number 10 k (omega arith) (omega (arith, few)) (omega (arith, few))) room_none)
 
 -- the words of a row
-room_row : (ns : Names) (r : RowName) → InOrder ns → is_good_name r ≡ true → Room 2182 (row_words ns r)
+room_row : (ns : Names) (r : RowName) → InOrder ns → is_writable_name r ≡ true → Room 2182 (row_words ns r)
 room_row ns (rows.Fact l) o g = room_word 4 2177 (codes "fact") _ refl (room_one ns l o g)
 room_row ns rows.Goal o g = room_more 5 2182 _ (omega arith) (room_word 4 0 (codes "goal") [] refl room_none)
 room_row ns (rows.Pos t) o g = room_more 60 2182 _ (omega arith) (room_word 3 56 (codes "pos") _ refl (room_term ns t o))
@@ -58,7 +58,7 @@ one_more k b w h s =
     short_word (k + 1) (b ∷ w) (rw (h, p.0) refl) (omega (arith, leb-true (length w) k p.1))
 
 -- a multiplier, of size at most 2 ^ 80
-short_multiplier : (z : ℤ) → is_good_multiplier z ≡ true → is_short 26 (signed_decimal z) ≡ true
+short_multiplier : (z : ℤ) → is_nonzero_bounded z ≡ true → is_short 26 (signed_decimal z) ≡ true
 short_multiplier (pos n) h =
     let le = leb-true n (2 ^ 80) (and_parts (not (int_eq (pos n) (pos 0))) (leb n (2 ^ 80)) h).1 in
     short_number 26 n (omega arith) (omega (arith, le)) (omega (arith, le))

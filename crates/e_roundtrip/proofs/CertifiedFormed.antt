@@ -23,14 +23,14 @@ use Rattle.e_clause.specs.declared.cert.Against.{Against}
 use Rattle.e_clause.specs.declared.cert.Against.TheVariants as against
 use Rattle.e_clause.specs.Instance.{Inst}
 use Rattle.e_clause.specs.RuleKinds.{is_transfer}
-use Rattle.e_clause.specs.Sum.{Place, is_good_size, refutes}
+use Rattle.e_clause.specs.Sum.{Place, is_limited_sum, refutes}
 use Rattle.e_clause.specs.MetricCertificate.{differing, both_refute, above_row, below_row, sums_refute, row_name_in, sum_in, sums_in}
 use Rattle.e_clause.specs.PartCertificate.{part_certifies, part_in}
 use Rattle.e_clause.specs.TransferCertificate.{parts_certify, instance_certifies, transfer_certifies, args_in, transfer_in}
 use Rattle.e_clause.specs.Certify.{certifies, certify_all, against_holds, certifies_against}
-use Rattle.e_clause.specs.Written.{is_good_name, is_good_sum, is_good_sums, is_good_part, is_good_cert, is_good_against}
+use Rattle.e_clause.specs.Written.{is_writable_name, is_writable_sum, are_writable_sums, is_writable_part, is_writable_cert, is_writable_against}
 use Rattle.e_clause.proofs.Refuted.{found}
-use Rattle.e_construct.specs.Construct.{made, gives}
+use Rattle.e_construct.specs.Construct.{sorts_made, gives_of_construction}
 use Rattle.e_construct.specs.Superposing as superposing
 use Rattle.e_deriv.specs.Script.{Script, Cite, Hence, Make, Apply, Claim, Superposed, Qed, Contradiction, Cases}
 use Rattle.e_deriv.specs.Goal.{Goal, goal_of, goal_of_statement, facts_of_statement}
@@ -45,11 +45,11 @@ use Rattle.e_roundtrip.proofs.Standing.{OneCertified, first_of, both_of, one_cer
 
 -- ---- sums
 
-sized : (p : Place) (xs : List (ℤ × RowName)) → refutes p xs ≡ true → is_good_size xs ≡ true
-sized p xs h = (and_parts (is_good_size xs) _ h).0
+sized : (p : Place) (xs : List (ℤ × RowName)) → refutes p xs ≡ true → is_limited_sum xs ≡ true
+sized p xs h = (and_parts (is_limited_sum xs) _ h).0
 
-sum_is : (s : Scope) (xs : List (ℤ × RowName)) → sum_in s xs ≡ true → is_good_sum xs ≡ true → is_good_size xs ≡ true → sum_formed s xs ≡ true
-sum_is s xs w g h = and_from (is_good_size xs) (sum_in s xs && is_good_sum xs) h (and_from (sum_in s xs) (is_good_sum xs) w g)
+sum_is : (s : Scope) (xs : List (ℤ × RowName)) → sum_in s xs ≡ true → is_writable_sum xs ≡ true → is_limited_sum xs ≡ true → sum_formed s xs ≡ true
+sum_is s xs w g h = and_from (is_limited_sum xs) (sum_in s xs && is_writable_sum xs) h (and_from (sum_in s xs) (is_writable_sum xs) w g)
 
 -- a row that says that its form is not 0 is the goal's or a fact's
 difference : (facts : List Lit) (wanted : Option Lit) (differs : RowName) (r : Row) → differing facts wanted differs ≡ Some r → names_difference differs ≡ true
@@ -63,24 +63,24 @@ difference facts wanted rownames.Above r e = absurd cc
 difference facts wanted rownames.Below r e = absurd cc
 difference facts wanted (rownames.FactAt k) r e = refl
 
-sums_are : (s : Scope) (facts : List Lit) (wanted : Option Lit) (x : Sums) → sums_in s x ≡ true → is_good_sums x ≡ true → sums_refute facts wanted x ≡ true → sums_formed s x ≡ true
+sums_are : (s : Scope) (facts : List Lit) (wanted : Option Lit) (x : Sums) → sums_in s x ≡ true → are_writable_sums x ≡ true → sums_refute facts wanted x ≡ true → sums_formed s x ≡ true
 sums_are s facts wanted (One xs) w g h = sum_is s xs w g (sized (record { facts = facts; wanted = wanted; above = None; below = None }) xs h)
 sums_are s facts wanted (Two differs above below) w g h =
     let a = and_parts (row_name_in s differs) (sum_in s above && sum_in s below) w in
     let aa = and_parts (sum_in s above) (sum_in s below) a.1 in
-    let b = and_parts (is_good_name differs) (is_good_sum above && is_good_sum below) g in
-    let bb = and_parts (is_good_sum above) (is_good_sum below) b.1 in
+    let b = and_parts (is_writable_name differs) (is_writable_sum above && is_writable_sum below) g in
+    let bb = and_parts (is_writable_sum above) (is_writable_sum below) b.1 in
     let r = found (λ (r : Row). both_refute facts wanted r above below) (differing facts wanted differs) h in
     let p : Place = record { facts = facts; wanted = wanted; above = Some (above_row r.0); below = None } in
     let q : Place = record { facts = facts; wanted = wanted; above = None; below = Some (below_row r.0) } in
     let c = and_parts (refutes p above) (refutes q below) r.2 in
     and_from (difference_formed s differs) (sum_formed s above && sum_formed s below)
-    (and_from (names_difference differs) (row_name_in s differs && is_good_name differs) (difference facts wanted differs r.0 r.1) (and_from (row_name_in s differs) (is_good_name differs) a.0 b.0))
+    (and_from (names_difference differs) (row_name_in s differs && is_writable_name differs) (difference facts wanted differs r.0 r.1) (and_from (row_name_in s differs) (is_writable_name differs) a.0 b.0))
     (and_from (sum_formed s above) (sum_formed s below) (sum_is s above aa.0 bb.0 (sized p above c.0)) (sum_is s below aa.1 bb.1 (sized q below c.1)))
 
 -- ---- certificates
 
-part_is : (s : Scope) (facts : List Lit) (l : Lit) (p : Part) → part_in s p ≡ true → is_good_part p ≡ true → part_certifies facts l p ≡ true → part_formed s p ≡ true
+part_is : (s : Scope) (facts : List Lit) (l : Lit) (p : Part) → part_in s p ≡ true → is_writable_part p ≡ true → part_certifies facts l p ≡ true → part_formed s p ≡ true
 part_is s facts l parts.Fact w g h = refl
 part_is s facts l (parts.FactAt k) w g h = g
 part_is s facts l (parts.Metric m) w g h = sums_are s facts (Some l) m.sums w g (and_parts (is_metric l) (sums_refute facts (Some l) m.sums) h).1
@@ -90,13 +90,13 @@ record PartsFormed (s : Scope) (ls : List Lit) (ps : List Part) : Type 0 where
   count : length ps ≡ length ls
   each : list_all (part_formed s) ps ≡ true
 
-parts_are : (s : Scope) (facts ls : List Lit) (ps : List Part) → list_all (part_in s) ps ≡ true → list_all is_good_part ps ≡ true → parts_certify facts ls ps ≡ true → PartsFormed s ls ps
+parts_are : (s : Scope) (facts ls : List Lit) (ps : List Part) → list_all (part_in s) ps ≡ true → list_all is_writable_part ps ≡ true → parts_certify facts ls ps ≡ true → PartsFormed s ls ps
 parts_are s facts [] [] w g h = record { count = refl; each = refl }
 parts_are s facts [] (p ∷ ps) w g h = absurd cc
 parts_are s facts (l ∷ ls) [] w g h = absurd cc
 parts_are s facts (l ∷ ls) (p ∷ ps) w g h =
     let a = and_parts (part_in s p) (list_all (part_in s) ps) w in
-    let b = and_parts (is_good_part p) (list_all is_good_part ps) g in
+    let b = and_parts (is_writable_part p) (list_all is_writable_part ps) g in
     let c = and_parts (part_certifies facts (negation l) p) (parts_certify facts ls ps) h in
     let more = parts_are s facts ls ps a.1 b.1 c.1 in
     record { count = omega (arith, more.count); each = and_from (part_formed s p) (list_all (part_formed s) ps) (part_is s facts (negation l) p a.0 b.0 c.0) more.each }
@@ -105,7 +105,7 @@ parts_are s facts (l ∷ ls) (p ∷ ps) w g h =
 pub on_found : {A : Type 0} (p : A → Bool) (o : Option A) (x : A) → o ≡ Some x → p x ≡ true → option_map_or p o false ≡ true
 on_found {A} p o x e h = subst (λ (q : Option A). option_map_or p q false ≡ true) (sym e) h
 
-cert_is : (s : Scope) (facts : List Lit) (l : Lit) (c : Cert) → certifies s facts l c ≡ true → is_good_cert c ≡ true → cert_formed s l c ≡ true
+cert_is : (s : Scope) (facts : List Lit) (l : Lit) (c : Cert) → certifies s facts l c ≡ true → is_writable_cert c ≡ true → cert_formed s l c ≡ true
 cert_is s facts l (Plain p) h g =
     let a = and_parts (part_in s p) (part_certifies facts l p) h in
     part_is s facts l p a.0 g a.1
@@ -121,16 +121,16 @@ cert_is s facts l (Transfer t) h g =
     (and_from instance (args_in s t && list_all (part_formed s) t.parts) (on_found (has_parts l t.parts) (Inst t.rule t.args) i.0 i.1 (eq-eqb (length t.parts) (length (others i.0 l)) ps.count))
     (and_from (args_in s t) (list_all (part_formed s) t.parts) w.0 ps.each))
 
-certs_are : (s : Scope) (facts ls : List Lit) (cs : List Cert) → certify_all s facts ls cs ≡ true → list_all is_good_cert cs ≡ true → certs_formed s ls cs ≡ true
+certs_are : (s : Scope) (facts ls : List Lit) (cs : List Cert) → certify_all s facts ls cs ≡ true → list_all is_writable_cert cs ≡ true → certs_formed s ls cs ≡ true
 certs_are s facts [] [] h g = refl
 certs_are s facts [] (c ∷ cs) h g = absurd cc
 certs_are s facts (l ∷ ls) [] h g = absurd cc
 certs_are s facts (l ∷ ls) (c ∷ cs) h g =
     let a = and_parts (certifies s facts l c) (certify_all s facts ls cs) h in
-    let b = and_parts (is_good_cert c) (list_all is_good_cert cs) g in
+    let b = and_parts (is_writable_cert c) (list_all is_writable_cert cs) g in
     and_from (cert_formed s l c) (certs_formed s ls cs) (cert_is s facts l c a.0 b.0) (certs_are s facts ls cs a.1 b.1)
 
-against_is : (s : Scope) (facts : List Lit) (a : Against) → certifies_against s facts a ≡ true → is_good_against a ≡ true → against_formed s a ≡ true
+against_is : (s : Scope) (facts : List Lit) (a : Against) → certifies_against s facts a ≡ true → is_writable_against a ≡ true → against_formed s a ≡ true
 against_is s facts (against.Clash l) h g =
     let a = and_parts (all_in_scope s l) (against_holds facts (against.Clash l)) h in
     and_from (all_in_scope s l) (not (is_metric l)) a.0 (and_parts (not (is_metric l)) _ a.1).0
@@ -141,7 +141,7 @@ against_is s facts (against.Metric m) h g =
 -- ---- lines
 
 -- a line, where its certificates name literals that are well formed, and what stands beside has its form
-line_is : (before : List Stated) (x : Line) (one : OneCertified before x) → list_all is_good_cert (certs_of x.here) ≡ true → formed_beside x.here x.scope ≡ true → is_formed before x ≡ true
+line_is : (before : List Stated) (x : Line) (one : OneCertified before x) → list_all is_writable_cert (certs_of x.here) ≡ true → formed_beside x.here x.scope ≡ true → is_formed before x ≡ true
 line_is before x one g b =
     and_from (fits before x) (certs_formed x.scope (needs before x) (certs_of x.here) && formed_beside x.here x.scope) one.fitting
     (and_from (certs_formed x.scope (needs before x) (certs_of x.here)) (formed_beside x.here x.scope) (certs_are x.scope x.facts (needs before x) (certs_of x.here) one.certs g) b)
@@ -171,10 +171,10 @@ formed_lines before (Hence lit (Some c) rest) s facts goal h w =
     then_lines before x after (line_is before x (one_certified before x p.0) (rw g.1 refl) refl) (formed_lines before rest s (joined facts lit) goal p.1 g.2)
 formed_lines before (Make form names certs rest) s facts goal h w =
     let x = line (Make form names certs rest) (Make form names certs rest) s facts goal in
-    let after = lines before rest rest (grown s (made form)) (joined_all facts (gives form s)) goal in
+    let after = lines before rest rest (grown s (sorts_made form)) (joined_all facts (gives_of_construction form s)) goal in
     let p = first_of (is_certified before) x after h in
     let g = make_written form names certs rest w in
-    then_lines before x after (line_is before x (one_certified before x p.0) g.0 refl) (formed_lines before rest (grown s (made form)) (joined_all facts (gives form s)) goal p.1 g.1)
+    then_lines before x after (line_is before x (one_certified before x p.0) g.0 refl) (formed_lines before rest (grown s (sorts_made form)) (joined_all facts (gives_of_construction form s)) goal p.1 g.1)
 formed_lines before (Apply theorem args names certs rest) s facts goal h w =
     let x = line (Apply theorem args names certs rest) (Apply theorem args names certs rest) s facts goal in
     let t = theorem_at before theorem in
@@ -195,14 +195,14 @@ formed_lines before (Claim shown inner rest) s facts goal h w =
     (all_both (is_formed before) inside after (formed_lines before inner s facts (goal_of shown) q.0 g.1) (formed_lines before rest s (joined_all facts shown) goal q.1 g.2))
 formed_lines before (Superposed form names shown certs inner rest) s facts goal h w =
     let x = line (Superposed form names shown certs inner rest) (Superposed form names shown certs inner rest) s facts goal in
-    let given = joined_all facts (superposing.gives form s) in
-    let inside = lines before inner inner (grown s superposing.made) given (goal_of shown) in
+    let given = joined_all facts (superposing.gives_of_superposition form s) in
+    let inside = lines before inner inner (grown s superposing.sorts_copied) given (goal_of shown) in
     let after = lines before rest rest s (joined_all facts shown) goal in
     let p = first_of (is_certified before) x (inside ++ after) h in
     let q = both_of (is_certified before) inside after p.1 in
     let g = superposed_written form names shown certs inner rest w in
     then_lines before x (inside ++ after) (line_is before x (one_certified before x p.0) g.1 refl)
-    (all_both (is_formed before) inside after (formed_lines before inner (grown s superposing.made) given (goal_of shown) q.0 g.2) (formed_lines before rest s (joined_all facts shown) goal q.1 g.3))
+    (all_both (is_formed before) inside after (formed_lines before inner (grown s superposing.sorts_copied) given (goal_of shown) q.0 g.2) (formed_lines before rest s (joined_all facts shown) goal q.1 g.3))
 formed_lines before (Qed objects certs) s facts goal h w =
     let x = line (Qed objects certs) (Qed objects certs) s facts goal in
     let p = first_of (is_certified before) x [] h in

@@ -20,11 +20,11 @@ use Rattle.e_clause.specs.declared.cert.Against.{Against}
 use Rattle.e_clause.specs.declared.cert.Against.TheVariants as against
 use Rattle.e_clause.specs.Instance.{Inst}
 use Rattle.e_clause.specs.RuleKinds.{is_transfer}
-use Rattle.e_clause.specs.Sum.{is_good_multiplier, is_good_size}
+use Rattle.e_clause.specs.Sum.{is_nonzero_bounded, is_limited_sum}
 use Rattle.e_clause.specs.MetricCertificate.{row_name_in, sum_in}
 use Rattle.e_clause.specs.TransferCertificate.{args_in}
 use Rattle.e_deriv.specs.declared.names.Names.{Names}
-use Rattle.e_clause.specs.Written.{is_good_name, is_good_sum}
+use Rattle.e_clause.specs.Written.{is_writable_name, is_writable_sum}
 use Rattle.e_clause.proofs.Refuted.{found}
 use Rattle.e_book.specs.Scope.{scope_of_names}
 use Rattle.e_book.specs.Fits.{is_diagram_atom}
@@ -36,19 +36,19 @@ use Rattle.e_roundtrip.proofs.CertsPut.{GoodCert, GoodCerts, GoodAgainst}
 
 -- ---- sums
 
-good_rows : (ns : Names) (xs : List (ℤ × RowName)) → sum_in (scope_of_names ns) xs ≡ true → is_good_sum xs ≡ true → list_all (λ (x : ℤ × RowName). is_good_multiplier x.0) xs ≡ true → AllByRecursion (GoodRow ns) xs
+good_rows : (ns : Names) (xs : List (ℤ × RowName)) → sum_in (scope_of_names ns) xs ≡ true → is_writable_sum xs ≡ true → list_all (λ (x : ℤ × RowName). is_nonzero_bounded x.0) xs ≡ true → AllByRecursion (GoodRow ns) xs
 good_rows ns [] w g m = tt
 good_rows ns (x ∷ xs) w g m =
     let a = and_parts (row_name_in (scope_of_names ns) x.1) (sum_in (scope_of_names ns) xs) w in
-    let b = and_parts (is_good_name x.1) (is_good_sum xs) g in
-    let c = and_parts (is_good_multiplier x.0) (list_all (λ (x : ℤ × RowName). is_good_multiplier x.0) xs) m in
+    let b = and_parts (is_writable_name x.1) (is_writable_sum xs) g in
+    let c = and_parts (is_nonzero_bounded x.0) (list_all (λ (x : ℤ × RowName). is_nonzero_bounded x.0) xs) m in
     (record { name = record { within = a.0; good = b.0 }; size = c.0 }, good_rows ns xs a.1 b.1 c.1)
 
 good_sum : (ns : Names) (xs : List (ℤ × RowName)) → sum_formed (scope_of_names ns) xs ≡ true → GoodSum ns xs
 good_sum ns xs h =
-    let all = list_all (λ (x : ℤ × RowName). is_good_multiplier x.0) xs in
-    let p = and_parts (is_good_size xs) (sum_in (scope_of_names ns) xs && is_good_sum xs) h in
-    let q = and_parts (sum_in (scope_of_names ns) xs) (is_good_sum xs) p.1 in
+    let all = list_all (λ (x : ℤ × RowName). is_nonzero_bounded x.0) xs in
+    let p = and_parts (is_limited_sum xs) (sum_in (scope_of_names ns) xs && is_writable_sum xs) h in
+    let q = and_parts (sum_in (scope_of_names ns) xs) (is_writable_sum xs) p.1 in
     let a = and_parts (leb 1 (length xs)) (leb (length xs) 4096 && all) p.0 in
     let b = and_parts (leb (length xs) 4096) all a.1 in
     let some = leb-true 1 (length xs) a.0 in
@@ -67,8 +67,8 @@ good_sums ns (Two differs above below) h =
     let s = scope_of_names ns in
     let a = and_parts (difference_formed s differs) (sum_formed s above && sum_formed s below) h in
     let b = and_parts (sum_formed s above) (sum_formed s below) a.1 in
-    let c = and_parts (names_difference differs) (row_name_in s differs && is_good_name differs) a.0 in
-    let d = and_parts (row_name_in s differs) (is_good_name differs) c.1 in
+    let c = and_parts (names_difference differs) (row_name_in s differs && is_writable_name differs) a.0 in
+    let d = and_parts (row_name_in s differs) (is_writable_name differs) c.1 in
     record {
       name = record { within = d.0; good = d.1 };
       may = may ns differs c.0;

@@ -11,7 +11,7 @@ use Rattle.e_literal.specs.Scopes.{are_of_sorts}
 use Rattle.e_literal.specs.Use.{Stated, are_arguments, needs_of_use}
 use Rattle.e_construct.specs.declared.construction.Construction.{Construction}
 use Rattle.e_construct.specs.declared.superpose.Superpose.{Superpose}
-use Rattle.e_construct.specs.Construct.{needs}
+use Rattle.e_construct.specs.Construct.{needs_of_construction}
 use Rattle.e_construct.specs.Superposing as superposing
 use Rattle.e_deriv.specs.declared.names.Names.{Names}
 use Rattle.e_deriv.specs.Goal.{Goal, goal_with}
@@ -51,7 +51,7 @@ pub hence_due : (known : List Headed) (d : Draft) (l : Lit) → InOrder d.in_sco
 unfolding due_of
 hence_due known d l o p = rw (lit_number_again d.in_scope l o p.within p.good) refl
 
-pub let_due : (known : List Headed) (d : Draft) (form : Construction) (names : List (List ℕ)) → InOrder d.in_scope → GoodLet d.in_scope form names → due_of known d (as_read (let_form d.in_scope form names)) ≡ Ok (one_each (needs form))
+pub let_due : (known : List Headed) (d : Draft) (form : Construction) (names : List (List ℕ)) → InOrder d.in_scope → GoodLet d.in_scope form names → due_of known d (as_read (let_form d.in_scope form names)) ≡ Ok (one_each (needs_of_construction form))
 unfolding due_of
 let_due known d form names o g = rw (let_number_again d.in_scope form names o g) refl
 
@@ -70,7 +70,7 @@ unfolding due_of needs_of_line
 apply_due known d theorem args names o g full fit = rw (apply_number_again known d.in_scope theorem args names o g, needed (scope_of_names d.in_scope) (theorem_of known theorem) args full fit) refl
 
 pub superpose_due : (known : List Headed) (d : Draft) (form : Superpose) (names : List (List ℕ)) (shown : List Lit) → GoodSuperpose d.in_scope form names shown
-    → due_of known d (superpose_form d.in_scope form names shown) ≡ Ok (one_each (superposing.needs form))
+    → due_of known d (superpose_form d.in_scope form names shown) ≡ Ok (one_each (superposing.needs_of_superposition form))
 unfolding due_of
 superpose_due known d form names shown g = rw (superpose_number_again d.in_scope form names shown g) refl
 

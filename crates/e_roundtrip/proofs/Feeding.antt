@@ -11,7 +11,7 @@ use Rattle.e_clause.specs.declared.cert.Sums.TheVariants.{One, Two}
 use Rattle.e_clause.specs.declared.cert.MetricCert.{MetricCert}
 use Rattle.e_clause.specs.declared.cert.Part.{Part}
 use Rattle.e_clause.specs.declared.cert.Part.TheVariants as parts
-use Rattle.e_clause.specs.Sum.{is_good_multiplier}
+use Rattle.e_clause.specs.Sum.{is_nonzero_bounded}
 use Rattle.e_deriv.specs.declared.names.Names.{Names}
 use Rattle.e_book.specs.declared.fault.Kind.TheVariants.{Malformed}
 use Rattle.e_book.specs.Reading.{◌>>=◌}
@@ -71,7 +71,7 @@ puts_append ns o xs ys d e p q = record { last = q.last; fed = fed_append o p.la
 -- a row with a multiplier that has a form
 pub record GoodRow (ns : Names) (x : ℤ × RowName) : Type 0 where
   pub name : GoodName ns x.1
-  pub size : is_good_multiplier x.0 ≡ true
+  pub size : is_nonzero_bounded x.0 ≡ true
 
 -- a sum that comes at this place takes one row after another
 abbrev TakesRows : (List (ℤ × RowName) → OpenSums) → Type 0

@@ -7,7 +7,7 @@ use Rattle.e_literal.specs.declared.object.Obj.{Obj}
 use Rattle.e_literal.specs.declared.object.Scope.{Scope}
 use Rattle.e_literal.specs.Scopes.{grown}
 use Rattle.e_literal.specs.Use.{Stated}
-use Rattle.e_construct.specs.Construct.{made, gives}
+use Rattle.e_construct.specs.Construct.{sorts_made, gives_of_construction}
 use Rattle.e_construct.specs.Superposing as superposing
 use Rattle.e_deriv.specs.declared.names.Names.{Names}
 use Rattle.e_deriv.specs.Naming.{named}
@@ -61,8 +61,8 @@ unfolding few_facts filled_by
 filled_facts before n sc (Cite by rest) f = then_same (leb (n + 1) most_facts) _ _ (filled_facts before (n + 1) sc rest (rest_of f))
 filled_facts before n sc (Hence lit cert rest) f = then_same (leb (n + 1) most_facts) _ _ (filled_facts before (n + 1) sc rest (rest_of f))
 filled_facts before n sc (Make form names certs rest) f =
-    let more = n + length (gives form sc) in
-    then_same (leb more most_facts) _ _ (filled_facts before more (grown sc (made form)) rest (rest_of f))
+    let more = n + length (gives_of_construction form sc) in
+    then_same (leb more most_facts) _ _ (filled_facts before more (grown sc (sorts_made form)) rest (rest_of f))
 filled_facts before n sc (Apply theorem args names certs rest) f =
     let more = n + length (theorem_at before theorem).shown in
     then_same (leb more most_facts) _ _ (filled_facts before more (grown sc (theorem_at before theorem).made) rest (rest_of f))
@@ -70,10 +70,10 @@ filled_facts before n sc (Claim shown inner rest) f =
     let more = n + length shown in
     both_same _ _ _ _ (filled_facts before n sc inner (inner_of f)) (then_same (leb more most_facts) _ _ (filled_facts before more sc rest (rest_of f)))
 filled_facts before n sc (Superposed form names shown certs inner rest) f =
-    let given = n + length (superposing.gives form sc) in
+    let given = n + length (superposing.gives_of_superposition form sc) in
     let more = n + length shown in
     then_same (leb given most_facts) _ _
-    (both_same _ _ _ _ (filled_facts before given (grown sc superposing.made) inner (inner_of f)) (then_same (leb more most_facts) _ _ (filled_facts before more sc rest (rest_of f))))
+    (both_same _ _ _ _ (filled_facts before given (grown sc superposing.sorts_copied) inner (inner_of f)) (then_same (leb more most_facts) _ _ (filled_facts before more sc rest (rest_of f))))
 filled_facts before n sc (Qed objects certs) f = refl
 filled_facts before n sc (Contradiction against) f = refl
 filled_facts before n sc (Cases lit first second) f =
@@ -85,7 +85,7 @@ filled_terms before n sc (Cite by rest) f = filled_terms before n sc rest (rest_
 filled_terms before n sc (Hence lit cert rest) f =
     let more = n + monomials lit.atom in
     then_same (leb more most_terms) _ _ (filled_terms before more sc rest (rest_of f))
-filled_terms before n sc (Make form names certs rest) f = filled_terms before n (grown sc (made form)) rest (rest_of f)
+filled_terms before n sc (Make form names certs rest) f = filled_terms before n (grown sc (sorts_made form)) rest (rest_of f)
 filled_terms before n sc (Apply theorem args names certs rest) f =
     let more = n + count_monomials (theorem_at before theorem).shown in
     then_same (leb more most_terms) _ _ (filled_terms before more (grown sc (theorem_at before theorem).made) rest (rest_of f))
@@ -93,10 +93,10 @@ filled_terms before n sc (Claim shown inner rest) f =
     let more = n + count_monomials shown in
     both_same _ _ _ _ (filled_terms before n sc inner (inner_of f)) (then_same (leb more most_terms) _ _ (filled_terms before more sc rest (rest_of f)))
 filled_terms before n sc (Superposed form names shown certs inner rest) f =
-    let given = n + count_monomials (superposing.gives form sc) in
+    let given = n + count_monomials (superposing.gives_of_superposition form sc) in
     let more = n + count_monomials shown in
     then_same (leb given most_terms) _ _
-    (both_same _ _ _ _ (filled_terms before given (grown sc superposing.made) inner (inner_of f)) (then_same (leb more most_terms) _ _ (filled_terms before more sc rest (rest_of f))))
+    (both_same _ _ _ _ (filled_terms before given (grown sc superposing.sorts_copied) inner (inner_of f)) (then_same (leb more most_terms) _ _ (filled_terms before more sc rest (rest_of f))))
 filled_terms before n sc (Qed objects certs) f = refl
 filled_terms before n sc (Contradiction against) f = refl
 filled_terms before n sc (Cases lit first second) f =
@@ -109,13 +109,13 @@ pub filled_new_names : (before : List Stated) (ns : Names) (s f : Script) → Ne
 unfolding NewNamesFit filled_by
 filled_new_names before ns (Cite by rest) f h = filled_new_names before ns rest (rest_of f) h
 filled_new_names before ns (Hence lit cert rest) f h = filled_new_names before ns rest (rest_of f) h
-filled_new_names before ns (Make form names certs rest) f h = (h.0, h.1, h.2, filled_new_names before (named ns (made form) names) rest (rest_of f) h.3)
+filled_new_names before ns (Make form names certs rest) f h = (h.0, h.1, h.2, filled_new_names before (named ns (sorts_made form) names) rest (rest_of f) h.3)
 filled_new_names before ns (Apply theorem args names certs rest) f h =
     (h.0, h.1, h.2, filled_new_names before (named ns (theorem_at before theorem).made names) rest (rest_of f) h.3)
 filled_new_names before ns (Claim shown inner rest) f h =
     (filled_new_names before ns inner (inner_of f) h.0, filled_new_names before ns rest (rest_of f) h.1)
 filled_new_names before ns (Superposed form names shown certs inner rest) f h =
-    (h.0, h.1, h.2, filled_new_names before (named ns superposing.made names) inner (inner_of f) h.3, filled_new_names before ns rest (rest_of f) h.4)
+    (h.0, h.1, h.2, filled_new_names before (named ns superposing.sorts_copied names) inner (inner_of f) h.3, filled_new_names before ns rest (rest_of f) h.4)
 filled_new_names before ns (Qed objects certs) f h = h
 filled_new_names before ns (Contradiction against) f h = h
 filled_new_names before ns (Cases lit first second) f h =

@@ -11,7 +11,7 @@ use Rattle.e_literal.specs.Facts.{joined, joined_all}
 use Rattle.e_literal.specs.Scopes.{grown, same_sort, are_of_sorts}
 use Rattle.e_literal.specs.Use.{Stated, are_arguments, gives_of_use}
 use Rattle.e_literal.proofs.Booleans.{all_both}
-use Rattle.e_construct.specs.Construct.{made, gives}
+use Rattle.e_construct.specs.Construct.{sorts_made, gives_of_construction}
 use Rattle.e_construct.specs.Superposing as superposing
 use Rattle.e_theorem.specs.Choice.{fills, is_choice}
 use Rattle.e_theorem.specs.Pattern.{are_entries, is_pattern}
@@ -61,9 +61,9 @@ forms_of_certified before (Hence lit cert rest) f s facts others goal h =
     and_from _ _ (one_certified before x p.0).fitting (forms_of_certified before rest (rest_of f) s (joined facts lit) (joined others lit) goal p.1)
 forms_of_certified before (Make form names certs rest) f s facts others goal h =
     let x = line (Make form names certs rest) (Make form names certs rest) s facts goal in
-    let g = gives form s in
-    let p = first_of (is_certified before) x (lines before rest rest (grown s (made form)) (joined_all facts g) goal) h in
-    and_from _ _ (one_certified before x p.0).fitting (forms_of_certified before rest (rest_of f) (grown s (made form)) (joined_all facts g) (joined_all others g) goal p.1)
+    let g = gives_of_construction form s in
+    let p = first_of (is_certified before) x (lines before rest rest (grown s (sorts_made form)) (joined_all facts g) goal) h in
+    and_from _ _ (one_certified before x p.0).fitting (forms_of_certified before rest (rest_of f) (grown s (sorts_made form)) (joined_all facts g) (joined_all others g) goal p.1)
 forms_of_certified before (Apply theorem args names certs rest) f s facts others goal h =
     let x = line (Apply theorem args names certs rest) (Apply theorem args names certs rest) s facts goal in
     let t = theorem_at before theorem in
@@ -84,8 +84,8 @@ forms_of_certified before (Claim shown inner rest) f s facts others goal h =
     (forms_of_certified before rest (rest_of f) s (joined_all facts shown) (joined_all others shown) goal q.1))
 forms_of_certified before (Superposed form names shown certs inner rest) f s facts others goal h =
     let x = line (Superposed form names shown certs inner rest) (Superposed form names shown certs inner rest) s facts goal in
-    let within = grown s superposing.made in
-    let g = superposing.gives form s in
+    let within = grown s superposing.sorts_copied in
+    let g = superposing.gives_of_superposition form s in
     let inside = lines before inner inner within (joined_all facts g) (goal_of shown) in
     let behind = lines before rest rest s (joined_all facts shown) goal in
     let p = first_of (is_certified before) x (inside ++ behind) h in

@@ -18,7 +18,7 @@ use Rattle.e_construct.specs.declared.construction.Shape.TheVariants.{Free, OnLi
 use Rattle.e_construct.specs.declared.construction.Construction.{Construction}
 use Rattle.e_construct.specs.declared.superpose.Superpose.{Superpose}
 use Rattle.e_construct.specs.Shapes.{shape_row}
-use Rattle.e_construct.specs.Construct.{row_of, sorts_of, made_by_row, gives_of_avoided, gives}
+use Rattle.e_construct.specs.Construct.{row_of_construction, sorts_of, made_by_row, gives_of_avoided, gives_of_construction}
 use Rattle.e_construct.specs.Lines.{Piece, New, Argument, Word, pieces}
 use Rattle.e_deriv.specs.declared.names.Names.{Names}
 use Rattle.e_book.specs.Limits.{most_facts, most_terms, count_monomials}
@@ -161,9 +161,9 @@ one_each s [] avoid le = absurd (omega (arith, le))
 one_each s (o ∷ os) avoid le = length-map avoid _
 
 -- it gives a literal for each object that it avoids
-pub avoided_give : (form : Construction) (s : Scope) → length form.avoid ≤ length (gives form s)
+pub avoided_give : (form : Construction) (s : Scope) → length form.avoid ≤ length (gives_of_construction form s)
 avoided_give form s =
-    let r = row_of form in
+    let r = row_of_construction form in
     let first : List Lit = map (renamed (image_in (paired r.args form.args ++ paired r.made (made_by_row r s)))) r.gives in
     let last = gives_of_avoided (made_by_row r s) form.avoid in
     omega (arith, length-append first last, one_each s r.made form.avoid (leb-true 1 (length r.made) (makes form.shape)))

@@ -14,7 +14,7 @@ use Rattle.e_literal.proofs.Booleans.{all_both}
 use Rattle.e_literal.proofs.Sorts.{same_obj_self}
 use Rattle.e_construct.specs.declared.construction.Construction.{Construction}
 use Rattle.e_construct.specs.declared.superpose.Superpose.{Superpose}
-use Rattle.e_construct.specs.Construct.{made, gives, fits as fits_form, needs as needs_of_form}
+use Rattle.e_construct.specs.Construct.{sorts_made, gives_of_construction, fits_construction as fits_form, needs_of_construction as needs_of_form}
 use Rattle.e_construct.specs.Superposing as superposing
 use Rattle.e_clause.specs.declared.cert.By.{By}
 use Rattle.e_clause.specs.declared.cert.Cert.{Cert}
@@ -79,19 +79,19 @@ inferred_formed known ns goal lit (d ∷ e ∷ cs) x w c h facts =
 -- a construction, with its certificates: it fits, and has one new name for each object that it makes
 pub record MadeFormed (ns : Names) (form : Construction) (names : List (List ℕ)) (cs : List Cert) : Type 0 where
   pub fits : fits_form form (scope_of_names ns) ≡ true
-  pub count : length names ≡ length (made form)
+  pub count : length names ≡ length (sorts_made form)
   pub certs : certs_formed (scope_of_names ns) (needs_of_form form) cs ≡ true
 
-pub made_formed : (known : List Headed) (ns : Names) (goal : Goal) (form : Construction) (names : List (List ℕ)) (cs : List Cert) (x : Script) → MadeFormed ns form names cs → FormedHere known (named ns (made form) names) goal x
+pub made_formed : (known : List Headed) (ns : Names) (goal : Goal) (form : Construction) (names : List (List ℕ)) (cs : List Cert) (x : Script) → MadeFormed ns form names cs → FormedHere known (named ns (sorts_made form) names) goal x
     → FormedHere known ns goal (Make form names cs x)
 unfolding lines
 made_formed known ns goal form names cs x m h facts =
     let before = stated_by known in
     let s = scope_of_names ns in
-    let more = joined_all facts (gives form s) in
+    let more = joined_all facts (gives_of_construction form s) in
     let l = line (Make form names cs x) (Make form names cs x) s facts goal in
-    let behind = subst (λ (z : Scope). list_all (is_formed before) (lines before x x z more goal) ≡ true) (sym (named_scope ns (made form) names m.count)) (h more) in
-    then_lines before l (lines before x x (grown s (made form)) more goal) (one_formed before l m.fits m.certs refl) behind
+    let behind = subst (λ (z : Scope). list_all (is_formed before) (lines before x x z more goal) ≡ true) (sym (named_scope ns (sorts_made form) names m.count)) (h more) in
+    then_lines before l (lines before x x (grown s (sorts_made form)) more goal) (one_formed before l m.fits m.certs refl) behind
 
 -- a use of an earlier theorem, with its certificates: it fits without blanks, and has one new name for each made object
 pub record UseFormed (known : List Headed) (ns : Names) (theorem : ℕ) (args : List (Option Obj)) (names : List (List ℕ)) (cs : List Cert) : Type 0 where
@@ -125,23 +125,23 @@ claimed_formed known ns goal shown inner x w i h facts =
 
 -- a superposition, with its certificates: it fits, what it shows is over the objects before it, and each copied point has a new name
 pub record CopyFormed (ns : Names) (form : Superpose) (names : List (List ℕ)) (shown : List Lit) (cs : List Cert) : Type 0 where
-  pub fits : superposing.fits form (scope_of_names ns) ≡ true
+  pub fits : superposing.fits_superposition form (scope_of_names ns) ≡ true
   pub over : are_over (scope_of_names ns) shown ≡ true
-  pub count : length names ≡ length superposing.made
-  pub certs : certs_formed (scope_of_names ns) (superposing.needs form) cs ≡ true
+  pub count : length names ≡ length superposing.sorts_copied
+  pub certs : certs_formed (scope_of_names ns) (superposing.needs_of_superposition form) cs ≡ true
 
 pub copied_formed : (known : List Headed) (ns : Names) (goal : Goal) (form : Superpose) (names : List (List ℕ)) (shown : List Lit) (cs : List Cert) (inner x : Script) → CopyFormed ns form names shown cs
-    → FormedHere known (named ns superposing.made names) (goal_of shown) inner → FormedHere known ns goal x → FormedHere known ns goal (Superposed form names shown cs inner x)
+    → FormedHere known (named ns superposing.sorts_copied names) (goal_of shown) inner → FormedHere known ns goal x → FormedHere known ns goal (Superposed form names shown cs inner x)
 unfolding lines
 copied_formed known ns goal form names shown cs inner x c i h facts =
     let before = stated_by known in
     let s = scope_of_names ns in
-    let given = joined_all facts (superposing.gives form s) in
+    let given = joined_all facts (superposing.gives_of_superposition form s) in
     let l = line (Superposed form names shown cs inner x) (Superposed form names shown cs inner x) s facts goal in
-    let inside = lines before inner inner (grown s superposing.made) given (goal_of shown) in
+    let inside = lines before inner inner (grown s superposing.sorts_copied) given (goal_of shown) in
     let behind = lines before x x s (joined_all facts shown) goal in
-    let within = subst (λ (z : Scope). list_all (is_formed before) (lines before inner inner z given (goal_of shown)) ≡ true) (sym (named_scope ns superposing.made names c.count)) (i given) in
-    then_lines before l (inside ++ behind) (one_formed before l (and_from (superposing.fits form s) (are_over s shown) c.fits c.over) c.certs refl)
+    let within = subst (λ (z : Scope). list_all (is_formed before) (lines before inner inner z given (goal_of shown)) ≡ true) (sym (named_scope ns superposing.sorts_copied names c.count)) (i given) in
+    then_lines before l (inside ++ behind) (one_formed before l (and_from (superposing.fits_superposition form s) (are_over s shown) c.fits c.over) c.certs refl)
     (all_both (is_formed before) inside behind within (h (joined_all facts shown)))
 
 -- ---- closes

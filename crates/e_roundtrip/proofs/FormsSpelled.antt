@@ -9,13 +9,13 @@ use Rattle.e_literal.specs.declared.object.Obj.{Obj}
 use Rattle.e_literal.specs.declared.object.Scope.{Scope}
 use Rattle.e_literal.specs.declared.literal.Lit.{Lit}
 use Rattle.e_clause.specs.declared.cert.By.{By}
-use Rattle.e_clause.specs.Instance.{place_of}
+use Rattle.e_clause.specs.Instance.{number_of_rule}
 use Rattle.e_clause.specs.Sigs.{sig_of}
 use Rattle.e_clause.specs.RuleKinds.{is_diagram_rule}
 use Rattle.e_construct.specs.declared.construction.Shape.{Shape}
 use Rattle.e_construct.specs.declared.construction.Construction.{Construction}
 use Rattle.e_construct.specs.declared.superpose.Superpose.{Superpose}
-use Rattle.e_construct.specs.Construct.{fits, made}
+use Rattle.e_construct.specs.Construct.{fits_construction, sorts_made}
 use Rattle.e_construct.specs.Lines.{Piece, pieces, takes}
 use Rattle.e_deriv.specs.declared.names.Names.{Names}
 use Rattle.e_book.specs.declared.fault.Kind.{Kind}
@@ -71,13 +71,13 @@ pub by_spelled : (ns : Names) (rule : List ℕ) (names : List (List ℕ)) (r : R
 unfolding by_in
 by_spelled ns rule names r b d e =
     let k = keeps_all ns in
-    let a = bind_ok (known_rule (place_of rule)) (λ r1. variables_of (sig_of r1) >>= λ s. right_count (eqb (length names) (s.points + s.lines + s.circles)) >>= λ right. args_in ns s names >>= λ args. lit_in ns r >>= λ l. read_ok (cited r1 args l)) b e in
+    let a = bind_ok (known_rule (number_of_rule rule)) (λ r1. variables_of (sig_of r1) >>= λ s. right_count (eqb (length names) (s.points + s.lines + s.circles)) >>= λ right. args_in ns s names >>= λ args. lit_in ns r >>= λ l. read_ok (cited r1 args l)) b e in
     let s = bind_ok (variables_of (sig_of a.0)) (λ s. right_count (eqb (length names) (s.points + s.lines + s.circles)) >>= λ right. args_in ns s names >>= λ args. lit_in ns r >>= λ l. read_ok (cited a.0 args l)) b a.2 in
     let n = bind_ok (right_count (eqb (length names) (s.0.points + s.0.lines + s.0.circles))) (λ right. args_in ns s.0 names >>= λ args. lit_in ns r >>= λ l. read_ok (cited a.0 args l)) b s.2 in
     let os = bind_ok (args_in ns s.0 names) (λ args. lit_in ns r >>= λ l. read_ok (cited a.0 args l)) b n.2 in
     let l = bind_ok (lit_in ns r) (λ l. read_ok (cited a.0 os.0 l)) b os.2 in
     ap (by_form ns) (sym (ok_is (cited a.0 os.0 l.0) b l.2))
-    ∙ rw (rule_named rule a.0 (known_rule_is (place_of rule) a.0 a.1), args_named ns ns s.0 names os.0 k os.1, lit_named ns ns r l.0 k (diagram_canonical r d) l.1) refl
+    ∙ rw (rule_named rule a.0 (known_rule_is (number_of_rule rule) a.0 a.1), args_named ns ns s.0 names os.0 k os.1, lit_named ns ns r l.0 k (diagram_canonical r d) l.1) refl
 
 -- ---- constructions
 
@@ -102,7 +102,7 @@ record Chosen (ps : List Piece) (args avoid : List Obj) (form : Construction) : 
 
 chosen : (ps : List Piece) (s : Scope) (args avoid : List Obj) (shapes : List Shape) (form : Construction) → AllHave ps shapes → first_fitting s args avoid shapes ≡ Ok form → Chosen ps args avoid form
 chosen ps s args avoid [] form h e = absurd cc
-chosen ps s args avoid (x ∷ shapes) form h e = by_test (fits (construction x args avoid) s) (λ k. chosen ps s args avoid shapes form h.1 k) e
+chosen ps s args avoid (x ∷ shapes) form h e = by_test (fits_construction (construction x args avoid) s) (λ k. chosen ps s args avoid shapes form h.1 k) e
   where
     by_test : (b : Bool) → (first_fitting s args avoid shapes ≡ Ok form → Chosen ps args avoid form) → cond b (read_ok (construction x args avoid)) (first_fitting s args avoid shapes) ≡ Ok form → Chosen ps args avoid form
     by_test true more k = subst (λ (f : Construction). Chosen ps args avoid f) (ok_is (construction x args avoid) form k) (record { line = h.0; args_are = refl; avoid_are = refl })
@@ -112,12 +112,12 @@ pub let_spelled : (ns : Names) (l : RawLet) (form : Construction) → OneLine l 
 unfolding let_in
 let_spelled ns l form h e =
     let s = scope_of_names ns in
-    let count : Construction → Result Construction Kind = λ f. right_count (eqb (length l.new) (length (made f))) >>= λ right. read_ok f in
+    let count : Construction → Result Construction Kind = λ f. right_count (eqb (length l.new) (length (sorts_made f))) >>= λ right. read_ok f in
     let a = bind_ok (fresh ns [] l.new) (λ free. arguments_in ns l.shapes [] l.args >>= λ args. each (used ns) l.avoid >>= λ avoid. first_fitting s args avoid l.shapes >>= count) form e in
     let b = bind_ok (arguments_in ns l.shapes [] l.args) (λ args. each (used ns) l.avoid >>= λ avoid. first_fitting s args avoid l.shapes >>= count) form a.2 in
     let c = bind_ok (each (used ns) l.avoid) (λ avoid. first_fitting s b.0 avoid l.shapes >>= count) form b.2 in
     let d = bind_ok (first_fitting s b.0 c.0 l.shapes) count form c.2 in
-    let r = bind_ok (right_count (eqb (length l.new) (length (made d.0)))) (λ right. read_ok d.0) form d.2 in
+    let r = bind_ok (right_count (eqb (length l.new) (length (sorts_made d.0)))) (λ right. read_ok d.0) form d.2 in
     let f = chosen (line_pieces l.shapes) s b.0 c.0 l.shapes d.0 h d.1 in
     let args : map (name_of_object ns) d.0.args ≡ l.args = ap (map (name_of_object ns)) f.args_are ∙ arguments_named ns l.shapes [] l.args b.0 b.1 in
     let avoid : map (name_of_object ns) d.0.avoid ≡ l.avoid = ap (map (name_of_object ns)) f.avoid_are ∙ each_back (used ns) (name_of_object ns) (λ name o k. used_named ns ns name o (keeps_all ns) k) l.avoid c.0 c.1 in

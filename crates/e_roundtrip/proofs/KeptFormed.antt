@@ -21,9 +21,9 @@ use Rattle.e_clause.specs.declared.cert.Cert.TheVariants.{Plain}
 use Rattle.e_clause.specs.declared.cert.Against.TheVariants as against
 use Rattle.e_clause.specs.Instance.{Inst}
 use Rattle.e_clause.specs.RuleKinds.{is_transfer}
-use Rattle.e_clause.specs.Sum.{is_good_multiplier, is_good_size}
+use Rattle.e_clause.specs.Sum.{is_nonzero_bounded, is_limited_sum}
 use Rattle.e_clause.specs.MetricCertificate.{row_name_in, sum_in}
-use Rattle.e_clause.specs.Written.{is_good_name, is_good_sum}
+use Rattle.e_clause.specs.Written.{is_writable_name, is_writable_sum}
 use Rattle.e_deriv.specs.declared.names.Names.{Names}
 use Rattle.e_book.specs.declared.fault.Kind.TheVariants.{Malformed}
 use Rattle.e_book.specs.Reading.{◌>>=◌}
@@ -76,11 +76,11 @@ row_in_scope ns (rows.FactAt k) r e = subst (InScope (scope_of_names ns)) (ok_is
 
 -- a row of a line, with its names and its limits
 pub record RowFormed (s : Scope) (m : ℤ) (r : RowName) : Type 0 where
-  pub size : is_good_multiplier m ≡ true
+  pub size : is_nonzero_bounded m ≡ true
   pub within : row_name_in s r ≡ true
-  pub good : is_good_name r ≡ true
+  pub good : is_writable_name r ≡ true
 
-pub row_formed : (ns : Names) (m : ℤ) (raw : RawRow) (r : RowName) → is_good_multiplier m ≡ true → RowSaid raw → row_in ns raw ≡ Ok r → RowFormed (scope_of_names ns) m r
+pub row_formed : (ns : Names) (m : ℤ) (raw : RawRow) (r : RowName) → is_nonzero_bounded m ≡ true → RowSaid raw → row_in ns raw ≡ Ok r → RowFormed (scope_of_names ns) m r
 row_formed ns m raw r size said e = record { size = size; within = row_in_scope ns raw r e; good = good_row ns raw r said e }
 
 difference_read : (ns : Names) (raw : RawRow) (r : RowName) → may_differ raw ≡ true → row_in ns raw ≡ Ok r → names_difference r ≡ true
@@ -94,26 +94,26 @@ difference_read ns raw r m e = absurd cc
 
 pub difference_put : (ns : Names) (raw : RawRow) (r : RowName) → may_differ raw ≡ true → RowSaid raw → row_in ns raw ≡ Ok r → difference_formed (scope_of_names ns) r ≡ true
 difference_put ns raw r m said e =
-    and_from (names_difference r) (row_name_in (scope_of_names ns) r && is_good_name r) (difference_read ns raw r m e)
-    (and_from (row_name_in (scope_of_names ns) r) (is_good_name r) (row_in_scope ns raw r e) (good_row ns raw r said e))
+    and_from (names_difference r) (row_name_in (scope_of_names ns) r && is_writable_name r) (difference_read ns raw r m e)
+    (and_from (row_name_in (scope_of_names ns) r) (is_writable_name r) (row_in_scope ns raw r e) (good_row ns raw r said e))
 
 -- ---- sums that are open
 
 -- these rows, of which more may come
 pub record RowsFormed (s : Scope) (xs : List (ℤ × RowName)) : Type 0 where
   pub few : length xs ≤ 4096
-  pub sizes : list_all (λ (x : ℤ × RowName). is_good_multiplier x.0) xs ≡ true
+  pub sizes : list_all (λ (x : ℤ × RowName). is_nonzero_bounded x.0) xs ≡ true
   pub within : sum_in s xs ≡ true
-  pub good : is_good_sum xs ≡ true
+  pub good : is_writable_sum xs ≡ true
 
 no_rows : (s : Scope) → RowsFormed s []
 no_rows s = record { few = omega arith; sizes = refl; within = refl; good = refl }
 
 whole_sum : (s : Scope) (xs : List (ℤ × RowName)) → 0 < length xs → RowsFormed s xs → sum_formed s xs ≡ true
 whole_sum s xs some r =
-    let all = list_all (λ (x : ℤ × RowName). is_good_multiplier x.0) xs in
-    let size : is_good_size xs ≡ true = and_from (leb 1 (length xs)) (leb (length xs) 4096 && all) (le-leb _ _ (omega (arith, some))) (and_from (leb (length xs) 4096) all (le-leb _ _ r.few) r.sizes) in
-    and_from (is_good_size xs) (sum_in s xs && is_good_sum xs) size (and_from (sum_in s xs) (is_good_sum xs) r.within r.good)
+    let all = list_all (λ (x : ℤ × RowName). is_nonzero_bounded x.0) xs in
+    let size : is_limited_sum xs ≡ true = and_from (leb 1 (length xs)) (leb (length xs) 4096 && all) (le-leb _ _ (omega (arith, some))) (and_from (leb (length xs) 4096) all (le-leb _ _ r.few) r.sizes) in
+    and_from (is_limited_sum xs) (sum_in s xs && is_writable_sum xs) size (and_from (sum_in s xs) (is_writable_sum xs) r.within r.good)
 
 abbrev pub OpenFormed : Scope → Option OpenSums → Type 0
 OpenFormed s None = Unit {0}
@@ -132,9 +132,9 @@ with_row_formed s sum new m r h k e =
     let lt = ltb-true (length sum) most_rows p.0 in
     subst (RowsFormed s) (ok_is (sum ++ (m, r) ∷ []) new p.1) (record {
       few = omega (arith, lt, length-append sum ((m, r) ∷ []));
-      sizes = all_both (λ (x : ℤ × RowName). is_good_multiplier x.0) sum ((m, r) ∷ []) h.sizes (and_from _ _ k.size refl);
+      sizes = all_both (λ (x : ℤ × RowName). is_nonzero_bounded x.0) sum ((m, r) ∷ []) h.sizes (and_from _ _ k.size refl);
       within = all_both (λ (x : ℤ × RowName). row_name_in s x.1) sum ((m, r) ∷ []) h.within (and_from _ _ k.within refl);
-      good = all_both (λ (x : ℤ × RowName). is_good_name x.1) sum ((m, r) ∷ []) h.good (and_from _ _ k.good refl);
+      good = all_both (λ (x : ℤ × RowName). is_writable_name x.1) sum ((m, r) ∷ []) h.good (and_from _ _ k.good refl);
     })
 
 pub row_put_formed : (s : Scope) (o : Option OpenSums) (m : ℤ) (r : RowName) (new : OpenSums) → OpenFormed s o → RowFormed s m r → row_put o m r ≡ Ok new → OpenFormed s (Some new)

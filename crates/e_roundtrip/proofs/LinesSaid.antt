@@ -5,7 +5,7 @@ use Rattle.std.proofs.lemmas.List.{append-nil}
 use Rattle.std.proofs.lemmas.Bool.{and_parts}
 use Rattle.e_literal.specs.declared.object.Scope.{Scope}
 use Rattle.e_literal.specs.declared.literal.Lit.{Lit}
-use Rattle.e_construct.specs.Construct.{needs}
+use Rattle.e_construct.specs.Construct.{needs_of_construction}
 use Rattle.e_construct.specs.Superposing as superposing
 use Rattle.e_deriv.specs.declared.names.Names.{Names}
 use Rattle.e_book.specs.declared.literal.RawLit.{RawLit}
@@ -244,10 +244,10 @@ each_at_first ns wanted owes o = subst (λ (x : Due). AtFirst ns x) (ok_is (one_
 pub due_at_start : (known : List Headed) (d : Draft) (f : Form) (owes : Due) (ns : Names) → due_of known d f ≡ Ok owes → AtFirst ns owes
 unfolding due_of
 due_at_start known d (forms.Hence raw) owes ns o = let w = bind_ok (lit_in d.in_scope raw) (λ l. read_ok (one_each (l ∷ []))) owes o in each_at_first ns (w.0 ∷ []) owes w.2
-due_at_start known d (forms.Let raw) owes ns o = let w = bind_ok (let_in d.in_scope raw) (λ form. read_ok (one_each (needs form))) owes o in each_at_first ns (needs w.0) owes w.2
+due_at_start known d (forms.Let raw) owes ns o = let w = bind_ok (let_in d.in_scope raw) (λ form. read_ok (one_each (needs_of_construction form))) owes o in each_at_first ns (needs_of_construction w.0) owes w.2
 due_at_start known d (forms.Apply raw) owes ns o = let w = bind_ok (needs_of_use known d raw) (λ ls. read_ok (one_each ls)) owes o in each_at_first ns w.0 owes w.2
 due_at_start known d (forms.Superpose raw) owes ns o =
-    let w = bind_ok (superpose_in d.in_scope raw) (λ p. read_ok (one_each (superposing.needs p.0))) owes o in each_at_first ns (superposing.needs w.0.0) owes w.2
+    let w = bind_ok (superpose_in d.in_scope raw) (λ p. read_ok (one_each (superposing.needs_of_superposition p.0))) owes o in each_at_first ns (superposing.needs_of_superposition w.0.0) owes w.2
 due_at_start known d (forms.Qed names) owes ns o = let w = bind_ok (needs_at_qed d names) (λ ls. read_ok (one_each ls)) owes o in each_at_first ns w.0 owes w.2
 due_at_start known d forms.Contradiction owes ns o = subst (λ (x : Due). AtFirst ns x) (ok_is (due.Contradiction None) owes o) (record { none = refl; fits = tt; formed = tt })
 due_at_start known d f owes ns o = nothing_at_first ns owes o

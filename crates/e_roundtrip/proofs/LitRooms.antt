@@ -14,7 +14,7 @@ use Rattle.e_literal.specs.declared.literal.Atom.{Atom}
 use Rattle.e_literal.specs.declared.literal.Atom.TheVariants as atoms
 use Rattle.e_literal.specs.declared.literal.Lit.{Lit}
 use Rattle.e_literal.specs.Literal.{kind_of_term, kind_of_sums}
-use Rattle.e_literal.specs.WellFormed.{same_kind, is_good_coefficient, is_good_atom, is_well_formed}
+use Rattle.e_literal.specs.WellFormed.{same_kind, is_bounded_coefficient, is_well_formed_atom, is_well_formed}
 use Rattle.e_deriv.specs.declared.names.Names.{Names}
 use Rattle.e_deriv.specs.Naming.{names_of_sort}
 use Rattle.e_book.specs.Limits.{monomials, count_monomials}
@@ -77,14 +77,14 @@ room_term ns (terms.Area a b c) h =
 room_term ns terms.Right h = room_more 6 56 _ (omega arith) (room_word 5 0 (codes "right") [] refl room_none)
 
 -- a coefficient, at most 1,000,000
-coefficient_by : (b : Bool) (n : ℕ) → is_good_coefficient n ≡ true → Room 8 (cond b [] (decimal n ∷ []))
+coefficient_by : (b : Bool) (n : ℕ) → is_bounded_coefficient n ≡ true → Room 8 (cond b [] (decimal n ∷ []))
 coefficient_by true n h = room_more 0 8 [] (omega arith) room_none
 coefficient_by false n h =
     let le = leb-true n 1000000 (and_parts (leb 1 n) (leb n 1000000) h).1 in
     room_word 7 0 (decimal n) [] (short_number 7 n (omega arith) (omega (arith, le)) (omega (arith, le))) room_none
 
-good_coefficient : (k : Magnitude) (m : Mono) → is_good_mono k m ≡ true → is_good_coefficient m.coeff ≡ true
-good_coefficient k m g = (and_parts (same_kind (kind_of_term m.term) k) (is_good_coefficient m.coeff) g).1
+good_coefficient : (k : Magnitude) (m : Mono) → is_good_mono k m ≡ true → is_bounded_coefficient m.coeff ≡ true
+good_coefficient k m g = (and_parts (same_kind (kind_of_term m.term) k) (is_bounded_coefficient m.coeff) g).1
 
 -- a monomial
 room_mono : (ns : Names) (k : Magnitude) (m : Mono) → InOrder ns → is_good_mono k m ≡ true → Room 64 (mono_words (raw_mono ns m))
@@ -129,19 +129,19 @@ behind_three : (word u v w : List ℕ) → is_short 9 word ≡ true → is_short
 behind_three word u v w e f g h = room_word 9 51 word (u ∷ v ∷ w ∷ []) e (three u v w f g h)
 
 -- a comparison of sums, with at most so many bytes beside its monomials
-compared : (ns : Names) (x y : List Mono) (sign : List ℕ) → InOrder ns → is_short 2 sign ≡ true → is_good_atom (atoms.MagEq x y) ≡ true → Room (61 + 66 * length (x ++ y)) (sums_words (raw_sum ns x) sign (raw_sum ns y))
+compared : (ns : Names) (x y : List Mono) (sign : List ℕ) → InOrder ns → is_short 2 sign ≡ true → is_well_formed_atom (atoms.MagEq x y) ≡ true → Room (61 + 66 * length (x ++ y)) (sums_words (raw_sum ns x) sign (raw_sum ns y))
 compared ns x y sign h s good =
     let g = good_sums x y good in
     room_more (7 + 66 * (length x + length y)) (61 + 66 * length (x ++ y)) _ (omega (arith, length-append x y)) (room_sums ns (kind_of_sums x y) x y sign h s g.left g.right)
 
 -- the same with the sums turned
-turned : (ns : Names) (x y : List Mono) (sign : List ℕ) → InOrder ns → is_short 2 sign ≡ true → is_good_atom (atoms.MagEq x y) ≡ true → Room (61 + 66 * length (x ++ y)) (sums_words (raw_sum ns y) sign (raw_sum ns x))
+turned : (ns : Names) (x y : List Mono) (sign : List ℕ) → InOrder ns → is_short 2 sign ≡ true → is_well_formed_atom (atoms.MagEq x y) ≡ true → Room (61 + 66 * length (x ++ y)) (sums_words (raw_sum ns y) sign (raw_sum ns x))
 turned ns x y sign h s good =
     let g = good_sums x y good in
     room_more (7 + 66 * (length y + length x)) (61 + 66 * length (x ++ y)) _ (omega (arith, length-append x y)) (room_sums ns (kind_of_sums x y) y x sign h s g.right g.left)
 
 -- an atom
-room_atom : (ns : Names) (a : Atom) → InOrder ns → is_good_atom a ≡ true → Room (61 + 66 * monomials a) (atom_words (raw_atom ns a))
+room_atom : (ns : Names) (a : Atom) → InOrder ns → is_well_formed_atom a ≡ true → Room (61 + 66 * monomials a) (atom_words (raw_atom ns a))
 room_atom ns (atoms.On a l) h g = behind_two (codes "on") _ _ refl (short_at ns.points a h.point_names) (short_at ns.lines l h.line_names)
 room_atom ns (atoms.OnC a c) h g = behind_two (codes "on") _ _ refl (short_at ns.points a h.point_names) (short_at ns.circles c h.circle_names)
 room_atom ns (atoms.Inside a c) h g = behind_two (codes "inside") _ _ refl (short_at ns.points a h.point_names) (short_at ns.circles c h.circle_names)
@@ -167,7 +167,7 @@ without_not : (n : ℕ) (ws : List (List ℕ)) → Room (61 + 66 * n) ws → Roo
 without_not n ws r = room_more (61 + 66 * n) (65 + 66 * n) ws (omega arith) r
 
 -- an atom or its negation
-room_signed : (ns : Names) (neg : Bool) (a : Atom) → InOrder ns → is_good_atom a ≡ true → Room (65 + 66 * monomials a) (lit_words (raw_signed ns neg a))
+room_signed : (ns : Names) (neg : Bool) (a : Atom) → InOrder ns → is_well_formed_atom a ≡ true → Room (65 + 66 * monomials a) (lit_words (raw_signed ns neg a))
 room_signed ns false a h g = without_not (monomials a) (atom_words (raw_atom ns a)) (room_atom ns a h g)
 room_signed ns true (atoms.EqP a b) h g = without_not 0 _ (short_sign _ (codes "!=") _ (short_at ns.points a h.point_names) refl (short_at ns.points b h.point_names))
 room_signed ns true (atoms.EqL l m) h g = without_not 0 _ (short_sign _ (codes "!=") _ (short_at ns.lines l h.line_names) refl (short_at ns.lines m h.line_names))
@@ -189,7 +189,7 @@ pub room_lit : (ns : Names) (l : Lit) → InOrder ns → is_well_formed l ≡ tr
 room_lit ns l h g = room_signed ns l.neg l.atom h g
 
 -- there are at most 32
-few_monomials : (a : Atom) → is_good_atom a ≡ true → monomials a ≤ 32
+few_monomials : (a : Atom) → is_well_formed_atom a ≡ true → monomials a ≤ 32
 few_monomials (atoms.MagEq x y) g = omega (arith, (good_sums x y g).short, length-append x y)
 few_monomials (atoms.MagLt x y) g = omega (arith, (good_sums x y g).short, length-append x y)
 few_monomials a g = omega arith

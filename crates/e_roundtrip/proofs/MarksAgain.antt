@@ -11,7 +11,7 @@ use Rattle.e_text.specs.Numerals.{is_numeral}
 use Rattle.e_text.specs.Tokens.{is_blank, has_bytes, is_token, tokens_of, AreTokens}
 use Rattle.e_text.proofs.NumeralWords.{is_numeral-decimal, number_of-decimal, is_token-numeral}
 use Rattle.e_text.proofs.TokenWords.{tokens_of-joined, is_token-title}
-use Rattle.e_clause.specs.Sum.{is_good_multiplier}
+use Rattle.e_clause.specs.Sum.{is_nonzero_bounded}
 use Rattle.e_book.specs.declared.sum.RawMono.{RawMono}
 use Rattle.e_book.specs.declared.sum.RawTerm.{RawTerm}
 use Rattle.e_book.specs.declared.sum.RawTerm.TheVariants as rawterms
@@ -49,7 +49,7 @@ abbrev pub MarkNamed : Mark → Type 0
 MarkNamed (marks.Transfer rule ns) = (is_title rule ≡ true) × AreNames ns
 MarkNamed (marks.Clash l) = LitNamed l × (is_diagram_raw l.atom ≡ true)
 MarkNamed (marks.Differs r) = RowNamed r × (may_differ r ≡ true)
-MarkNamed (marks.Row m r) = (is_good_multiplier m ≡ true) × RowNamed r
+MarkNamed (marks.Row m r) = (is_nonzero_bounded m ≡ true) × RowNamed r
 MarkNamed (marks.FactAt k) = ltb k (2 ^ 32) ≡ true
 MarkNamed mark = Unit {0}
 
@@ -80,7 +80,7 @@ record Sized (m : ℤ) : Type 0 where
   some : int_eq m (pos 0) ≡ false
   few : unsigned_abs m ≤ 2 ^ 80
 
-sized : (m : ℤ) → is_good_multiplier m ≡ true → Sized m
+sized : (m : ℤ) → is_nonzero_bounded m ≡ true → Sized m
 sized m h =
     let p = and_parts (not (int_eq m (pos 0))) (leb (unsigned_abs m) (2 ^ 80)) h in
     record { some = not-true (int_eq m (pos 0)) p.0; few = leb-true _ _ p.1 }
@@ -89,7 +89,7 @@ not_none : (n : ℕ) → int_eq (pos n) (pos 0) ≡ false → 0 < n
 not_none zero h = absurd cc
 not_none (suc n) h = omega arith
 
-pub multiplier_again : (m : ℤ) → is_good_multiplier m ≡ true → multiplier_of (signed_decimal m) ≡ Ok m
+pub multiplier_again : (m : ℤ) → is_nonzero_bounded m ≡ true → multiplier_of (signed_decimal m) ≡ Ok m
 multiplier_again (pos n) h =
     let s = sized (pos n) h in
     unsigned (decimal n) (is_numeral-decimal n (small n s.few)) ∙ sized_again n (not_none n s.some) s.few
@@ -105,7 +105,7 @@ number_apart : (ds : List ℕ) (c : ℕ) (cs : List ℕ) → is_numeral ds ≡ t
 number_apart [] c cs h k = absurd cc
 number_apart (b ∷ bs) c cs h k = rw (no_letter b c (digits b bs h) k) refl
 
-word_apart : (m : ℤ) (c : ℕ) (cs : List ℕ) → is_good_multiplier m ≡ true → 97 ≤ c → bytes_eq (signed_decimal m) (c ∷ cs) ≡ false
+word_apart : (m : ℤ) (c : ℕ) (cs : List ℕ) → is_nonzero_bounded m ≡ true → 97 ≤ c → bytes_eq (signed_decimal m) (c ∷ cs) ≡ false
 word_apart (pos n) c cs h k = number_apart (decimal n) c cs (is_numeral-decimal n (small n (sized (pos n) h).few)) k
 word_apart (negsuc n) c cs h k = let e : eqb 45 c ≡ false = ne_eqb 45 c (λ e. absurd (omega (arith, e, k))) in rw e refl
 
@@ -246,7 +246,7 @@ row_tokens (rows.FactAt k) h = (refl, (place_token k h, tt))
 abbrev unbroken : List ℕ → Bool
 unbroken w = list_all (λ b. not (is_blank b)) w
 
-multiplier_token : (m : ℤ) → is_good_multiplier m ≡ true → is_token (signed_decimal m) ≡ true
+multiplier_token : (m : ℤ) → is_nonzero_bounded m ≡ true → is_token (signed_decimal m) ≡ true
 multiplier_token (pos n) h = is_token-numeral (decimal n) (is_numeral-decimal n (small n (sized (pos n) h).few))
 multiplier_token (negsuc n) h =
     let t = is_token-numeral (decimal (suc n)) (is_numeral-decimal (suc n) (small (suc n) (sized (negsuc n) h).few)) in

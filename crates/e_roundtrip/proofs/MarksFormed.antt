@@ -20,10 +20,10 @@ use Rattle.e_clause.specs.declared.cert.Part.TheVariants as parts
 use Rattle.e_clause.specs.declared.cert.Cert.{Cert}
 use Rattle.e_clause.specs.declared.cert.Cert.TheVariants.{Plain}
 use Rattle.e_clause.specs.declared.cert.Against.TheVariants as against
-use Rattle.e_clause.specs.Instance.{Inst, place_of}
+use Rattle.e_clause.specs.Instance.{Inst, number_of_rule}
 use Rattle.e_clause.specs.Sigs.{sig_of}
 use Rattle.e_clause.specs.RuleKinds.{is_transfer}
-use Rattle.e_clause.specs.Sum.{is_good_multiplier}
+use Rattle.e_clause.specs.Sum.{is_nonzero_bounded}
 use Rattle.e_deriv.specs.declared.names.Names.{Names}
 use Rattle.e_book.specs.declared.fault.Kind.{Kind}
 use Rattle.e_book.specs.declared.fault.Kind.TheVariants.{Malformed}
@@ -70,11 +70,11 @@ sized_small (Some k) n e =
 not_zero : (m : ℤ) → (m ≡ pos 0 → ⊥) → not (int_eq m (pos 0)) ≡ true
 not_zero m h = not_from_false (int_eq m (pos 0)) (false_from_ne_true (int_eq m (pos 0)) (λ e. h ((Decides-int_eq m (pos 0)).0 e)))
 
-good_pos : (n : ℕ) → Small n → is_good_multiplier (pos n) ≡ true
+good_pos : (n : ℕ) → Small n → is_nonzero_bounded (pos n) ≡ true
 good_pos zero h = absurd (let lt = h.some in omega (arith, lt))
 good_pos (suc n) h = and_from _ _ (not_zero (pos (suc n)) (λ e. absurd cc)) (le-leb (suc n) (2 ^ 80) h.few)
 
-good_neg : (n : ℕ) → Small n → is_good_multiplier (neg_ℤ (pos n)) ≡ true
+good_neg : (n : ℕ) → Small n → is_nonzero_bounded (neg_ℤ (pos n)) ≡ true
 good_neg zero h = absurd (let lt = h.some in omega (arith, lt))
 good_neg (suc n) h = and_from _ _ (not_zero (negsuc n) (λ e. absurd cc)) (le-leb (suc n) (2 ^ 80) h.few)
 
@@ -83,25 +83,25 @@ size_is ds m e =
     let n = bind_ok (sized (number_of ds)) (λ n. read_ok (pos n)) m e in
     (n.0, ok_is (pos n.0) m n.2, sized_small (number_of ds) n.0 n.1)
 
-multiplier_good : (w : List ℕ) (m : ℤ) → multiplier_of w ≡ Ok m → is_good_multiplier m ≡ true
+multiplier_good : (w : List ℕ) (m : ℤ) → multiplier_of w ≡ Ok m → is_nonzero_bounded m ≡ true
 multiplier_good [] m e = absurd cc
 multiplier_good (b ∷ bs) m e = by_sign (eqb b 45) e
   where
-    by_sign : (c : Bool) → cond c (size_of bs >>= λ n. read_ok (neg_ℤ n)) (size_of (b ∷ bs)) ≡ Ok m → is_good_multiplier m ≡ true
+    by_sign : (c : Bool) → cond c (size_of bs >>= λ n. read_ok (neg_ℤ n)) (size_of (b ∷ bs)) ≡ Ok m → is_nonzero_bounded m ≡ true
     by_sign true h =
         let x = bind_ok (size_of bs) (λ n. read_ok (neg_ℤ n)) m h in
         let n = size_is bs x.0 x.1 in
-        subst (λ (k : ℤ). is_good_multiplier k ≡ true) (ap neg_ℤ n.1 ∙ ok_is (neg_ℤ x.0) m x.2) (good_neg n.0 n.2)
+        subst (λ (k : ℤ). is_nonzero_bounded k ≡ true) (ap neg_ℤ n.1 ∙ ok_is (neg_ℤ x.0) m x.2) (good_neg n.0 n.2)
     by_sign false h =
         let n = size_is (b ∷ bs) m h in
-        subst (λ (k : ℤ). is_good_multiplier k ≡ true) n.1 (good_pos n.0 n.2)
+        subst (λ (k : ℤ). is_nonzero_bounded k ≡ true) n.1 (good_pos n.0 n.2)
 
 -- ---- lines by their words
 
 -- the multiplier of a row, and the row that differs
 abbrev Numbers : Mark → Type 0
 Numbers (marks.Differs r) = may_differ r ≡ true
-Numbers (marks.Row m r) = is_good_multiplier m ≡ true
+Numbers (marks.Row m r) = is_nonzero_bounded m ≡ true
 Numbers mark = Unit {0}
 
 bare_numbers : (ws : List (List ℕ)) (mark m : Mark) → Numbers mark → bare ws mark ≡ Ok m → Numbers m
@@ -201,14 +201,14 @@ begun_formed ns l title raws t e =
     let last : ℕ → List Obj → Result OpenTransfer Kind = λ r args. transfer_at l r args in
     let third : ℕ → Sig → Result OpenTransfer Kind = λ r s. args_in ns s raws >>= λ args. last r args in
     let second : ℕ → Sig → Result OpenTransfer Kind = λ r s. right_count (length raws == s.points + s.lines + s.circles) >>= λ right. third r s in
-    let r = bind_ok (transfer_rule (place_of title)) (λ r. variables_of (sig_of r) >>= λ s. second r s) t e in
+    let r = bind_ok (transfer_rule (number_of_rule title)) (λ r. variables_of (sig_of r) >>= λ s. second r s) t e in
     let s = bind_ok (variables_of (sig_of r.0)) (λ s. second r.0 s) t r.2 in
     let right = bind_ok (right_count (length raws == s.0.points + s.0.lines + s.0.circles)) (λ right. third r.0 s.0) t s.2 in
     let args = bind_ok (args_in ns s.0 raws) (λ args. last r.0 args) t right.2 in
     let lits = bind_ok (or_malformed (Inst r.0 args.0)) (λ lits. read_ok (then r.0 args.0 lits)) t args.2 in
     let count = eqb-true (length raws) (s.0.points + s.0.lines + s.0.circles) (counted_right (length raws == s.0.points + s.0.lines + s.0.circles) right.0 right.1) in
     subst (λ (x : OpenTransfer). TransferFormed (scope_of_names ns) l x) (ok_is (then r.0 args.0 lits.0) t lits.2) (record {
-      rule = rule_is (place_of title) r.0 r.1;
+      rule = rule_is (number_of_rule title) r.0 r.1;
       lits = lits.0;
       instance = some_is (Inst r.0 args.0) lits.0 lits.1;
       owed = refl;

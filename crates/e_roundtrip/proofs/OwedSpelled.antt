@@ -19,7 +19,7 @@ use Rattle.e_clause.specs.declared.cert.Part.TheVariants as parts
 use Rattle.e_clause.specs.declared.cert.Cert.{Cert}
 use Rattle.e_clause.specs.declared.cert.Cert.TheVariants.{Plain}
 use Rattle.e_clause.specs.declared.cert.Against.TheVariants as against
-use Rattle.e_clause.specs.Instance.{Inst, place_of}
+use Rattle.e_clause.specs.Instance.{Inst, number_of_rule}
 use Rattle.e_clause.specs.Sigs.{sig_of}
 use Rattle.e_clause.specs.RuleKinds.{is_transfer}
 use Rattle.e_deriv.specs.declared.names.Names.{Names}
@@ -268,13 +268,13 @@ record Begun (ns : Names) (title : List ℕ) (raws : List (List ℕ)) (t : OpenT
 transfer_in_spelled : (ns : Names) (wanted : Lit) (title : List ℕ) (raws : List (List ℕ)) (t : OpenTransfer) → transfer_in ns wanted title raws ≡ Ok t → Begun ns title raws t
 unfolding transfer_in transfer_at
 transfer_in_spelled ns wanted title raws t e =
-    let r = bind_ok (transfer_rule (place_of title)) (λ r. variables_of (sig_of r) >>= λ s. right_count (eqb (length raws) (s.points + s.lines + s.circles)) >>= λ right. args_in ns s raws >>= λ args. transfer_at wanted r args) t e in
+    let r = bind_ok (transfer_rule (number_of_rule title)) (λ r. variables_of (sig_of r) >>= λ s. right_count (eqb (length raws) (s.points + s.lines + s.circles)) >>= λ right. args_in ns s raws >>= λ args. transfer_at wanted r args) t e in
     let s = bind_ok (variables_of (sig_of r.0)) (λ s. right_count (eqb (length raws) (s.points + s.lines + s.circles)) >>= λ right. args_in ns s raws >>= λ args. transfer_at wanted r.0 args) t r.2 in
     let n = bind_ok (right_count (eqb (length raws) (s.0.points + s.0.lines + s.0.circles))) (λ right. args_in ns s.0 raws >>= λ args. transfer_at wanted r.0 args) t s.2 in
     let a = bind_ok (args_in ns s.0 raws) (λ args. transfer_at wanted r.0 args) t n.2 in
     let l = bind_ok (or_malformed (Inst r.0 a.0)) (λ lits. read_ok (transfer r.0 a.0 [] (count_others wanted lits))) t a.2 in
     subst (λ (x : OpenTransfer). Begun ns title raws x) (ok_is (transfer r.0 a.0 [] (count_others wanted l.0)) t l.2)
-    (record { rule = rule_named title r.0 (transfer_rule_is (place_of title) r.0 r.1); args = args_named ns ns s.0 raws a.0 (keeps_all ns) a.1; parts = refl })
+    (record { rule = rule_named title r.0 (transfer_rule_is (number_of_rule title) r.0 r.1); args = args_named ns ns s.0 raws a.0 (keeps_all ns) a.1; parts = refl })
 
 -- what a place of a list has is one of its elements
 more_at : (wanted : List Lit) (n : ℕ) (l : Lit) → or_malformed (slice_get wanted n) ≡ Ok l → n < length wanted

@@ -11,7 +11,7 @@ use Rattle.e_literal.specs.Use.{Stated, scope_of, are_arguments}
 use Rattle.e_literal.proofs.Growing.{sorts_next}
 use Rattle.e_construct.specs.declared.construction.Construction.{Construction}
 use Rattle.e_construct.specs.declared.superpose.Superpose.{Superpose}
-use Rattle.e_construct.specs.Construct.{made, gives, needs}
+use Rattle.e_construct.specs.Construct.{sorts_made, gives_of_construction, needs_of_construction}
 use Rattle.e_construct.specs.Superposing as superposing
 use Rattle.e_clause.specs.declared.cert.Cert.{Cert}
 use Rattle.e_clause.specs.declared.cert.Against.{Against as Contradicts}
@@ -168,31 +168,31 @@ takes_hence known d e r owes ks ls p b dir s o h =
 abbrev at_names : Draft → Names → Draft
 at_names d ns = record d { in_scope = ns }
 
-built_goes : (known : List Headed) (d e : Draft) (l : RawLet) (read : Construction) (cs : List Cert) (ks : List Kept) (ls : List (List ℕ)) → let_in d.in_scope l ≡ Ok read → certs_formed (scope_of_names d.in_scope) (needs read) cs ≡ true → d.place ≡ Proving → BodySaid known Proving d ks ls → OneLine l → built d l ≡ Ok e
+built_goes : (known : List Headed) (d e : Draft) (l : RawLet) (read : Construction) (cs : List Cert) (ks : List Kept) (ls : List (List ℕ)) → let_in d.in_scope l ≡ Ok read → certs_formed (scope_of_names d.in_scope) (needs_of_construction read) cs ≡ true → d.place ≡ Proving → BodySaid known Proving d ks ls → OneLine l → built d l ≡ Ok e
     → Goes known d e (ks ++ kept.Certs cs ∷ []) (ls ++ line_of (forms.Let l) ∷ certs_lines d.in_scope cs)
 unfolding built
 built_goes known d e l read cs ks ls r c p b s h =
     let ns = d.in_scope in
-    let after : Construction → Names = λ form. named ns (made form) l.new in
-    let build : Construction → Result Draft Kind = λ form. with_step (at_names d (after form)) (Made form l.new []) (length (gives form (scope_of_names ns))) in
+    let after : Construction → Names = λ form. named ns (sorts_made form) l.new in
+    let build : Construction → Result Draft Kind = λ form. with_step (at_names d (after form)) (Made form l.new []) (length (gives_of_construction form (scope_of_names ns))) in
     let form = bind_ok (let_in ns l) (λ form. few_objects (after form) >>= λ few. build form) e h in
     let few = bind_ok (few_objects (after form.0)) (λ few. build form.0) e form.2 in
     let good = let_fits ns l form.0 form.1 in
     let formed : MadeFormed ns form.0 l.new cs =
-    record { fits = good.fits; count = good.count; certs = subst (λ (x : Construction). certs_formed (scope_of_names ns) (needs x) cs ≡ true) (ok_is read form.0 (sym r ∙ form.1)) c } in
+    record { fits = good.fits; count = good.count; certs = subst (λ (x : Construction). certs_formed (scope_of_names ns) (needs_of_construction x) cs ≡ true) (ok_is read form.0 (sym r ∙ form.1)) c } in
     let lines = line_of (forms.Let l) ∷ certs_lines ns cs in
     let said = steps_as known ns (Made form.0 l.new [] ∷ []) (kept.Certs cs ∷ []) (kept.Certs cs ∷ []) (after form.0) (line_of (let_form ns form.0 l.new) ∷ certs_lines ns cs) lines refl
     (ap (λ (x : List ℕ). x ∷ certs_lines ns cs) (let_spelled ns l form.0 s form.1)) (made_said known ns form.0 l.new cs formed) in
     let blocks = blocks_more known (start_of d) d.outers d.steps (Made form.0 l.new [] ∷ []) ks (kept.Certs cs ∷ []) ns (after form.0) ls lines b said in
-    step_goes known d (at_names d (after form.0)) e (Made form.0 l.new []) (length (gives form.0 (scope_of_names ns))) (ks ++ kept.Certs cs ∷ []) (ls ++ lines) refl p blocks few.2
+    step_goes known d (at_names d (after form.0)) e (Made form.0 l.new []) (length (gives_of_construction form.0 (scope_of_names ns))) (ks ++ kept.Certs cs ∷ []) (ls ++ lines) refl p blocks few.2
 
 pub takes_let : (known : List Headed) (d e : Draft) (l : RawLet) (owes : Due) (ks : List Kept) (ls : List (List ℕ)) → d.place ≡ Proving → BodySaid known Proving d ks ls → OneLine l
     → due_of known d (forms.Let l) ≡ Ok owes → stepped known d (forms.Let l) ≡ Ok e → Takes known d e (forms.Let l) owes ks ls
 unfolding stepped due_of
 takes_let known d e l owes ks ls p b s o h =
-    let w = bind_ok (let_in d.in_scope l) (λ form. read_ok (one_each (needs form))) owes o in
-    subst (λ (y : Due). Takes known d e (forms.Let l) y ks ls) (ok_is (one_each (needs w.0)) owes w.2)
-    (owing_certs known d e (forms.Let l) (needs w.0) ks ls (λ cs c. built_goes known d e l w.0 cs ks ls w.1 c p b s h))
+    let w = bind_ok (let_in d.in_scope l) (λ form. read_ok (one_each (needs_of_construction form))) owes o in
+    subst (λ (y : Due). Takes known d e (forms.Let l) y ks ls) (ok_is (one_each (needs_of_construction w.0)) owes w.2)
+    (owing_certs known d e (forms.Let l) (needs_of_construction w.0) ks ls (λ cs c. built_goes known d e l w.0 cs ks ls w.1 c p b s h))
 
 used_goes : (known : List Headed) (d e : Draft) (t : Stated) (theorem : ℕ) (args : List (Option Obj)) (new : List (List ℕ)) (js : List Kept) (ls : List (List ℕ)) → d.place ≡ Proving
     → BlocksSaid known (start_of d) d.outers (d.steps ++ Applied theorem args new [] ∷ []) js (named d.in_scope t.made new) ls → used_by d t theorem args new ≡ Ok e → Goes known d e js ls
@@ -279,13 +279,13 @@ takes_claim known d e raws owes ks ls p b dir s o h =
     subst (λ (y : Due). Takes known d e (forms.Claim raws) y ks ls) (ok_is due.Nothing owes o) (owing_nothing known d e (forms.Claim raws) ks ls (claimed_goes known d e raws ks ls p b dir s h))
 
 superposed_goes : (known : List Headed) (d e : Draft) (raw : RawSuperpose) (read : Superpose × List Lit) (cs : List Cert) (ks : List Kept) (ls : List (List ℕ)) → superpose_in d.in_scope raw ≡ Ok read
-    → certs_formed (scope_of_names d.in_scope) (superposing.needs read.0) cs ≡ true → length raw.new ≡ 2 → d.place ≡ Proving → BodySaid known Proving d ks ls → are_direct raw.shown ≡ true → AllSigned raw.shown
+    → certs_formed (scope_of_names d.in_scope) (superposing.needs_of_superposition read.0) cs ≡ true → length raw.new ≡ 2 → d.place ≡ Proving → BodySaid known Proving d ks ls → are_direct raw.shown ≡ true → AllSigned raw.shown
     → superposed d raw ≡ Ok e → Goes known d e (ks ++ kept.Certs cs ∷ []) (ls ++ line_of (forms.Superpose raw) ∷ certs_lines d.in_scope cs)
 unfolding superposed
 superposed_goes known d e raw read cs ks ls r c two p b dir s h =
     let ns = d.in_scope in
-    let after = named ns superposing.made raw.new in
-    let given : Superpose → List Lit = λ form. superposing.gives form (scope_of_names ns) in
+    let after = named ns superposing.sorts_copied raw.new in
+    let given : Superpose → List Lit = λ form. superposing.gives_of_superposition form (scope_of_names ns) in
     let at_end : Draft → ℕ → Draft = λ x n. record x { in_scope = after; terms = n } in
     let rest : Superpose × List Lit → Result Draft Kind = λ q. few_objects after >>= λ objects. deeper d (opened.Superpose q.0 raw.new q.1) (length (given q.0)) >>= λ x. few_monos raw.shown >>= λ few. terms_after x.terms (given q.0) >>= λ n. read_ok (at_end x n) in
     let q = bind_ok (superpose_in ns raw) rest e h in
@@ -294,7 +294,7 @@ superposed_goes known d e raw read cs ks ls r c two p b dir s h =
       fits = good.fits;
       over = lits_within ns raw.shown q.0.1 good.lits;
       count = two;
-      certs = subst (λ (x : Superpose × List Lit). certs_formed (scope_of_names ns) (superposing.needs x.0) cs ≡ true) (ok_is read q.0 (sym r ∙ q.1)) c;
+      certs = subst (λ (x : Superpose × List Lit). certs_formed (scope_of_names ns) (superposing.needs_of_superposition x.0) cs ≡ true) (ok_is read q.0 (sym r ∙ q.1)) c;
     } in
     let op = opened.Superpose q.0.0 raw.new q.0.1 in
     let o = bind_ok (few_objects after) (λ objects. deeper d op (length (given q.0.0)) >>= λ x. few_monos raw.shown >>= λ few. terms_after x.terms (given q.0.0) >>= λ n. read_ok (at_end x n)) e q.2 in
@@ -312,9 +312,9 @@ pub takes_superpose : (known : List Headed) (d e : Draft) (raw : RawSuperpose) (
     → due_of known d (forms.Superpose raw) ≡ Ok owes → stepped known d (forms.Superpose raw) ≡ Ok e → Takes known d e (forms.Superpose raw) owes ks ls
 unfolding stepped due_of
 takes_superpose known d e raw owes ks ls two p b dir s o h =
-    let w = bind_ok (superpose_in d.in_scope raw) (λ q. read_ok (one_each (superposing.needs q.0))) owes o in
-    subst (λ (y : Due). Takes known d e (forms.Superpose raw) y ks ls) (ok_is (one_each (superposing.needs w.0.0)) owes w.2)
-    (owing_certs known d e (forms.Superpose raw) (superposing.needs w.0.0) ks ls (λ cs c. superposed_goes known d e raw w.0 cs ks ls w.1 c two p b dir s h))
+    let w = bind_ok (superpose_in d.in_scope raw) (λ q. read_ok (one_each (superposing.needs_of_superposition q.0))) owes o in
+    subst (λ (y : Due). Takes known d e (forms.Superpose raw) y ks ls) (ok_is (one_each (superposing.needs_of_superposition w.0.0)) owes w.2)
+    (owing_certs known d e (forms.Superpose raw) (superposing.needs_of_superposition w.0.0) ks ls (λ cs c. superposed_goes known d e raw w.0 cs ks ls w.1 c two p b dir s h))
 
 split_goes : (known : List Headed) (d e : Draft) (r : RawLit) (ks : List Kept) (ls : List (List ℕ)) → d.place ≡ Proving → BodySaid known Proving d ks ls → is_direct r ≡ true → Signed r → split d r ≡ Ok e
     → Goes known d e ks (ls ++ line_of (forms.Cases r) ∷ [])

@@ -11,7 +11,7 @@ use Rattle.e_clause.specs.declared.cert.RowName.{RowName}
 use Rattle.e_clause.specs.declared.cert.RowName.TheVariants as names
 use Rattle.e_clause.specs.MetricCertificate.{row_name_in}
 use Rattle.e_deriv.specs.declared.names.Names.{Names}
-use Rattle.e_clause.specs.Written.{is_good_name}
+use Rattle.e_clause.specs.Written.{is_writable_name}
 use Rattle.e_book.specs.Scope.{scope_of_names, term_in}
 use Rattle.e_book.specs.Canonical.{raw_term, raw_signed, raw_of}
 use Rattle.e_book.proofs.SumsAgain.{TermNamed}
@@ -91,7 +91,7 @@ lit_direct ns l = signed_direct ns l.neg l.atom
 -- the objects of its name are in scope, and its literal is well formed
 pub record GoodName (ns : Names) (r : RowName) : Type 0 where
   pub within : row_name_in (scope_of_names ns) r ≡ true
-  pub good : is_good_name r ≡ true
+  pub good : is_writable_name r ≡ true
 
 pub row_in_again : (ns : Names) (r : RowName) → InOrder ns → GoodName ns r → row_in ns (raw_row ns r) ≡ Ok r
 unfolding row_in

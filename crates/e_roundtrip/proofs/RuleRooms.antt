@@ -14,7 +14,7 @@ use Rattle.e_clause.specs.Table.Circles.{circles}
 use Rattle.e_clause.specs.Table.Equality.{equality}
 use Rattle.e_clause.specs.Table.Lengths.{lengths}
 use Rattle.e_clause.specs.Table.Angles.{angles}
-use Rattle.e_clause.specs.Instance.{fits, lit_at, clause_of, instance_of_row, Inst}
+use Rattle.e_clause.specs.Instance.{arguments_fit, lit_at, clause_of, instance_of_row, Inst}
 use Rattle.e_book.specs.Canonical.{rule_name}
 use Rattle.e_book.proofs.RuleNames.{title_again, rule_name_is}
 use Rattle.e_roundtrip.proofs.Rooms.{is_short, short_title}
@@ -52,7 +52,7 @@ fitted false x lits h = absurd cc
 few_by : (o : Option Row) (args : List Obj) (lits : List Lit) → ((r : Row) → o ≡ Some r → has_few r ≡ true) → option_and_then (λ r. instance_of_row r args) o ≡ Some lits → length args ≤ 16
 few_by None args lits h e = absurd cc
 few_by (Some r) args lits h e =
-    let fit = fitted (fits r args) (map (lit_at r args) (clause_of r)) lits e in
+    let fit = fitted (arguments_fit r args) (map (lit_at r args) (clause_of r)) lits e in
     let n = eqb-true (length args) (r.points + r.lines + r.circles) (and_parts (eqb (length args) (r.points + r.lines + r.circles)) _ fit).0 in
     omega (arith, n, leb-true (r.points + r.lines + r.circles) 16 (h r refl))
 

@@ -12,7 +12,7 @@ use Rattle.e_literal.specs.declared.object.Obj.{Obj}
 use Rattle.e_clause.specs.declared.rule.Sig.{Sig}
 use Rattle.e_clause.specs.Rows.{Row}
 use Rattle.e_clause.specs.Table.{table}
-use Rattle.e_clause.specs.Instance.{place_of}
+use Rattle.e_clause.specs.Instance.{number_of_rule}
 use Rattle.e_deriv.specs.declared.names.Names.{Names}
 use Rattle.e_book.specs.Reading.{◌>>=◌}
 use Rattle.e_book.specs.Scope.{object_as, objects_as, args_in}
@@ -48,7 +48,7 @@ found_row (r ∷ rows) token from k e = by_test (bytes_eq r.name token) (λ h. f
         let at = f.is in
         record { place = suc f.place; is = omega (arith, at); name = f.name }
 
-pub rule_named : (title : List ℕ) (r : ℕ) → place_of title ≡ Some r → rule_name r ≡ title
+pub rule_named : (title : List ℕ) (r : ℕ) → number_of_rule title ≡ Some r → rule_name r ≡ title
 rule_named title r e =
     let f = found_row table title 0 r e in
     let at = f.is in

@@ -17,7 +17,7 @@ use Rattle.e_clause.specs.declared.cert.By.{By}
 use Rattle.e_clause.specs.declared.cert.Cert.{Cert}
 use Rattle.e_construct.specs.declared.construction.Construction.{Construction}
 use Rattle.e_construct.specs.declared.superpose.Superpose.{Superpose}
-use Rattle.e_construct.specs.Construct.{made, gives, needs}
+use Rattle.e_construct.specs.Construct.{sorts_made, gives_of_construction, needs_of_construction}
 use Rattle.e_construct.specs.Superposing as superposing
 use Rattle.e_deriv.specs.PlainStep.{Cited, Inferred, Made, Applied, Claimed, Copied}
 use Rattle.e_deriv.specs.Naming.{named}
@@ -143,18 +143,18 @@ hence_along known d i l c rest given goal s t =
 -- ---- constructions
 
 pub make_next : (known : List Headed) (d : Draft) (i : Inside) (form : Construction) (names : List (List ℕ)) (certs : List Cert) (rest : Script) (given : List Lit) (goal : Goal) → Stood known d i (Make form names certs rest) given goal
-    → Stood known d (constructed i form names) rest (joined_all given (gives form (scope_of_names i.in_scope))) goal
+    → Stood known d (constructed i form names) rest (joined_all given (gives_of_construction form (scope_of_names i.in_scope))) goal
 unfolding erased lines NewNamesFit
 make_next known d i form names certs rest given goal s =
     let before = stated_by known in
     let sc = scope_of_names i.in_scope in
-    let facts = joined_all given (gives form sc) in
-    let scope : grown sc (made form) ≡ scope_of_names (named i.in_scope (made form) names) = named_scope i.in_scope (made form) names s.ready.new_names.1 in
+    let facts = joined_all given (gives_of_construction form sc) in
+    let scope : grown sc (sorts_made form) ≡ scope_of_names (named i.in_scope (sorts_made form) names) = named_scope i.in_scope (sorts_made form) names s.ready.new_names.1 in
     let here = line (Make form names certs rest) (Make form names certs rest) sc given goal in
     record {
       ready = make_ready known d i form names (erased rest) given goal s.ready;
       goal_is = s.goal_is;
-      formed = subst (λ (z : Scope). list_all (is_formed before) (lines before rest rest z facts goal) ≡ true) scope (first_of (is_formed before) here (lines before rest rest (grown sc (made form)) facts goal) s.formed).1;
+      formed = subst (λ (z : Scope). list_all (is_formed before) (lines before rest rest z facts goal) ≡ true) scope (first_of (is_formed before) here (lines before rest rest (grown sc (sorts_made form)) facts goal) s.formed).1;
     }
 
 make_along : (known : List Headed) (d : Draft) (i : Inside) (form : Construction) (names : List (List ℕ)) (certs : List Cert) (rest : Script) (given : List Lit) (goal : Goal) → Stood known d i (Make form names certs rest) given goal
@@ -166,22 +166,22 @@ make_along known d i form names certs rest given goal s t =
     let sc = scope_of_names i.in_scope in
     let n = i.facts + gifts i form in
     let here = line (Make form names certs rest) (Make form names certs rest) sc given goal in
-    let one = one_formed before here (first_of (is_formed before) here (lines before rest rest (grown sc (made form)) (joined_all given (gives form sc)) goal) s.formed).0 in
+    let one = one_formed before here (first_of (is_formed before) here (lines before rest rest (grown sc (sorts_made form)) (joined_all given (gives_of_construction form sc)) goal) s.formed).0 in
     let good = make_good known d i form names (erased rest) given goal r in
-    let most = leb-true _ _ (and_parts (leb n most_facts) (few_facts before n (grown sc (made form)) (erased rest)) r.facts).0 in
+    let most = leb-true _ _ (and_parts (leb n most_facts) (few_facts before n (grown sc (sorts_made form)) (erased rest)) r.facts).0 in
     record {
       last = t.last;
       lines = omega (arith, t.lines);
       along = λ e h done.
-          then_along known (proving d i) (proving d (constructed i form names)) e (let_form i.in_scope form names) (one_each (needs form)) (flat_map (cert_lines i.in_scope) certs) (Some (kept.Certs certs))
-          (script_lines known (named i.in_scope (made form) names) rest) (kepts rest) (record {
+          then_along known (proving d i) (proving d (constructed i form names)) e (let_form i.in_scope form names) (one_each (needs_of_construction form)) (flat_map (cert_lines i.in_scope) certs) (Some (kept.Certs certs))
+          (script_lines known (named i.in_scope (sorts_made form) names) rest) (kepts rest) (record {
             good = let_named i.in_scope form names r.order good (list_names names (and_parts (list_all _ names) (is_plain (erased rest)) r.plain).0);
             strict = refl;
             apart = refl;
             owes = let_due known (proving d i) form names r.order good;
             steps = step_let known d i form names r.order good r.new_names.2 (omega (arith, r.few, at_least (erased rest))) most;
             going = refl;
-            keeps = certs_kept i.in_scope (needs form) certs r.order (good_certs i.in_scope (needs form) certs one.certs);
+            keeps = certs_kept i.in_scope (needs_of_construction form) certs r.order (good_certs i.in_scope (needs_of_construction form) certs one.certs);
           }) (t.along e (one_more d t.last i (Made form names []) (erased rest) e h) done);
     }
 
@@ -295,15 +295,15 @@ claim_along known d i shown inner rest given goal s t u =
 
 pub copy_formed : (known : List Headed) (d : Draft) (i : Inside) (form : Superpose) (names : List (List ℕ)) (shown : List Lit) (certs : List Cert) (inner rest : Script) (given : List Lit) (goal : Goal)
     → Stood known d i (Superposed form names shown certs inner rest) given goal
-    → (list_all (is_formed (stated_by known)) (lines (stated_by known) inner inner (grown (scope_of_names i.in_scope) superposing.made) (joined_all given (superposing.gives form (scope_of_names i.in_scope))) (goal_of shown)) ≡ true)
+    → (list_all (is_formed (stated_by known)) (lines (stated_by known) inner inner (grown (scope_of_names i.in_scope) superposing.sorts_copied) (joined_all given (superposing.gives_of_superposition form (scope_of_names i.in_scope))) (goal_of shown)) ≡ true)
     × (list_all (is_formed (stated_by known)) (lines (stated_by known) rest rest (scope_of_names i.in_scope) (joined_all given shown) goal) ≡ true)
-    × (certs_formed (scope_of_names i.in_scope) (superposing.needs form) certs ≡ true)
+    × (certs_formed (scope_of_names i.in_scope) (superposing.needs_of_superposition form) certs ≡ true)
 unfolding lines
 copy_formed known d i form names shown certs inner rest given goal s =
     let before = stated_by known in
     let sc = scope_of_names i.in_scope in
     let here = line (Superposed form names shown certs inner rest) (Superposed form names shown certs inner rest) sc given goal in
-    let inside = lines before inner inner (grown sc superposing.made) (joined_all given (superposing.gives form sc)) (goal_of shown) in
+    let inside = lines before inner inner (grown sc superposing.sorts_copied) (joined_all given (superposing.gives_of_superposition form sc)) (goal_of shown) in
     let after = lines before rest rest sc (joined_all given shown) goal in
     let a = first_of (is_formed before) here (inside ++ after) s.formed in
     let b = both_of (is_formed before) inside after a.1 in
@@ -311,16 +311,16 @@ copy_formed known d i form names shown certs inner rest given goal s =
 
 pub copy_inside : (known : List Headed) (d : Draft) (i : Inside) (form : Superpose) (names : List (List ℕ)) (shown : List Lit) (certs : List Cert) (inner rest : Script) (given : List Lit) (goal : Goal)
     → Stood known d i (Superposed form names shown certs inner rest) given goal
-    → Stood known d (copied i form names shown) inner (joined_all given (superposing.gives form (scope_of_names i.in_scope))) (goal_of shown)
+    → Stood known d (copied i form names shown) inner (joined_all given (superposing.gives_of_superposition form (scope_of_names i.in_scope))) (goal_of shown)
 unfolding erased NewNamesFit
 copy_inside known d i form names shown certs inner rest given goal s =
     let before = stated_by known in
     let sc = scope_of_names i.in_scope in
-    let scope : grown sc superposing.made ≡ scope_of_names (named i.in_scope superposing.made names) = named_scope i.in_scope superposing.made names s.ready.new_names.1 in
+    let scope : grown sc superposing.sorts_copied ≡ scope_of_names (named i.in_scope superposing.sorts_copied names) = named_scope i.in_scope superposing.sorts_copied names s.ready.new_names.1 in
     record {
       ready = copy_inner known d i form names shown (erased inner) (erased rest) given goal s.ready;
       goal_is = refl;
-      formed = subst (λ (z : Scope). list_all (is_formed before) (lines before inner inner z (joined_all given (superposing.gives form sc)) (goal_of shown)) ≡ true) scope (copy_formed known d i form names shown certs inner rest given goal s).0;
+      formed = subst (λ (z : Scope). list_all (is_formed before) (lines before inner inner z (joined_all given (superposing.gives_of_superposition form sc)) (goal_of shown)) ≡ true) scope (copy_formed known d i form names shown certs inner rest given goal s).0;
     }
 
 pub copy_next : (known : List Headed) (d : Draft) (i : Inside) (n : ℕ) (form : Superpose) (names : List (List ℕ)) (shown : List Lit) (certs : List Cert) (inner rest : Script) (given : List Lit) (goal : Goal) → n ≡ i.lines + 1 + size (erased inner)
@@ -341,7 +341,7 @@ copy_along known d i form names shown certs inner rest given goal s t u =
     let p = copy_parts known d i form names shown (erased inner) (erased rest) given goal r in
     let begins = copied i form names shown in
     let after = resume i t.last.lines (Copied form names shown [] (erased inner)) shown in
-    let wanted = superposing.needs form in
+    let wanted = superposing.needs_of_superposition form in
     let c = (copy_formed known d i form names shown certs inner rest given goal s).2 in
     record {
       last = u.last;
@@ -504,7 +504,7 @@ script_spelled known d i (Hence l (Some c) rest) given goal s =
     hence_along known d i l c rest given goal s (script_spelled known d (inferred i l) rest (joined given l) goal (hence_next known d i l c rest given goal s))
 script_spelled known d i (Make form names certs rest) given goal s =
     make_along known d i form names certs rest given goal s
-    (script_spelled known d (constructed i form names) rest (joined_all given (gives form (scope_of_names i.in_scope))) goal (make_next known d i form names certs rest given goal s))
+    (script_spelled known d (constructed i form names) rest (joined_all given (gives_of_construction form (scope_of_names i.in_scope))) goal (make_next known d i form names certs rest given goal s))
 script_spelled known d i (Apply theorem args names certs rest) given goal s =
     let t = theorem_of known theorem in
     apply_along known d i theorem args names certs rest given goal s
@@ -514,7 +514,7 @@ script_spelled known d i (Claim shown inner rest) given goal s =
     let u = script_spelled known d (resume i t.last.lines (Claimed shown (erased inner)) shown) rest (joined_all given shown) goal (claim_next known d i t.last.lines shown inner rest given goal t.lines s) in
     claim_along known d i shown inner rest given goal s t u
 script_spelled known d i (Superposed form names shown certs inner rest) given goal s =
-    let t = script_spelled known d (copied i form names shown) inner (joined_all given (superposing.gives form (scope_of_names i.in_scope))) (goal_of shown) (copy_inside known d i form names shown certs inner rest given goal s) in
+    let t = script_spelled known d (copied i form names shown) inner (joined_all given (superposing.gives_of_superposition form (scope_of_names i.in_scope))) (goal_of shown) (copy_inside known d i form names shown certs inner rest given goal s) in
     let u = script_spelled known d (resume i t.last.lines (Copied form names shown [] (erased inner)) shown) rest (joined_all given shown) goal (copy_next known d i t.last.lines form names shown certs inner rest given goal t.lines s) in
     copy_along known d i form names shown certs inner rest given goal s t u
 script_spelled known d i (Qed os certs) given goal s = qed_along known d i os certs given goal s

@@ -21,7 +21,7 @@ use Rattle.e_clause.specs.Instance.{Inst}
 use Rattle.e_clause.specs.RuleKinds.{is_diagram_rule}
 use Rattle.e_construct.specs.declared.construction.Construction.{Construction}
 use Rattle.e_construct.specs.declared.superpose.Superpose.{Superpose}
-use Rattle.e_construct.specs.Construct.{made, gives, needs}
+use Rattle.e_construct.specs.Construct.{sorts_made, gives_of_construction, needs_of_construction}
 use Rattle.e_construct.specs.Superposing as superposing
 use Rattle.e_theorem.specs.Choice.{fills, is_choice}
 use Rattle.e_deriv.specs.PlainStep.{Cited, Claimed, Copied}
@@ -122,13 +122,13 @@ make_short known d i form names certs rest given goal s more =
     let r = s.ready in
     let ns = i.in_scope in
     let sc = scope_of_names ns in
-    let n = i.facts + length (gives form sc) in
+    let n = i.facts + length (gives_of_construction form sc) in
     let here = line (Make form names certs rest) (Make form names certs rest) sc given goal in
-    let one = one_formed before here (first_of (is_formed before) here (lines before rest rest (grown sc (made form)) (joined_all given (gives form sc)) goal) s.formed).0 in
-    let most = leb-true _ _ (and_parts (leb n most_facts) (few_facts before n (grown sc (made form)) (erased rest)) r.facts).0 in
+    let one = one_formed before here (first_of (is_formed before) here (lines before rest rest (grown sc (sorts_made form)) (joined_all given (gives_of_construction form sc)) goal) s.formed).0 in
+    let most = leb-true _ _ (and_parts (leb n most_facts) (few_facts before n (grown sc (sorts_made form)) (erased rest)) r.facts).0 in
     let words = list_names names (and_parts (list_all _ names) (is_plain (erased rest)) r.plain).0 in
-    let own = short_certs ns (needs form) certs r.order (good_certs ns (needs form) certs one.certs) in
-    (short_let ns form names r.order words (omega (arith, most, avoided_give form sc)), short_append (certs_lines ns certs) (script_lines known (named ns (made form) names) rest) own more)
+    let own = short_certs ns (needs_of_construction form) certs r.order (good_certs ns (needs_of_construction form) certs one.certs) in
+    (short_let ns form names r.order words (omega (arith, most, avoided_give form sc)), short_append (certs_lines ns certs) (script_lines known (named ns (sorts_made form) names) rest) own more)
 
 -- the use of an earlier theorem
 apply_short : (known : List Headed) (d : Draft) (i : Inside) (theorem : ℕ) (args : List (Option Obj)) (names : List (List ℕ)) (certs : List Cert) (rest : Script) (given : List Lit) (goal : Goal) → AllFew known
@@ -170,10 +170,10 @@ unfolding erased script_lines
 copy_short known d i form names shown certs inner rest given goal s inside more =
     let ns = i.in_scope in
     let p = copy_parts known d i form names shown (erased inner) (erased rest) given goal s.ready in
-    let wanted = superposing.needs form in
+    let wanted = superposing.needs_of_superposition form in
     let c = (copy_formed known d i form names shown certs inner rest given goal s).2 in
     let own = short_certs ns wanted certs s.ready.order (good_certs ns wanted certs c) in
-    let first = script_lines known (named ns superposing.made names) inner in
+    let first = script_lines known (named ns superposing.sorts_copied names) inner in
     let last = script_lines known ns rest in (
       short_superpose ns form names shown s.ready.order p.good.named p.good.plain.good (omega (arith, p.facts)) (omega (arith, p.terms)),
       short_append (certs_lines ns certs) (first ++ last) own (short_append first last inside more),
@@ -224,7 +224,7 @@ short_script known d i (Hence l (Some c) rest) given goal k m s =
     hence_short known d i l c rest given goal s (short_script known d (inferred i l) rest (joined given l) goal k m (hence_next known d i l c rest given goal s))
 short_script known d i (Make form names certs rest) given goal k m s =
     make_short known d i form names certs rest given goal s
-    (short_script known d (constructed i form names) rest (joined_all given (gives form (scope_of_names i.in_scope))) goal k m (make_next known d i form names certs rest given goal s))
+    (short_script known d (constructed i form names) rest (joined_all given (gives_of_construction form (scope_of_names i.in_scope))) goal k m (make_next known d i form names certs rest given goal s))
 short_script known d i (Apply theorem args names certs rest) given goal k m s =
     let t = theorem_of known theorem in
     apply_short known d i theorem args names certs rest given goal k s
@@ -237,7 +237,7 @@ short_script known d i (Claim shown inner rest) given goal k m s =
 short_script known d i (Superposed form names shown certs inner rest) given goal k m s =
     let n = i.lines + 1 + size (erased inner) in
     copy_short known d i form names shown certs inner rest given goal s
-    (short_script known d (copied i form names shown) inner (joined_all given (superposing.gives form (scope_of_names i.in_scope))) (goal_of shown) k (omega arith) (copy_inside known d i form names shown certs inner rest given goal s))
+    (short_script known d (copied i form names shown) inner (joined_all given (superposing.gives_of_superposition form (scope_of_names i.in_scope))) (goal_of shown) k (omega arith) (copy_inside known d i form names shown certs inner rest given goal s))
     (short_script known d (resume i n (Copied form names shown [] (erased inner)) shown) rest (joined_all given shown) goal k m (copy_next known d i n form names shown certs inner rest given goal refl s))
 short_script known d i (Qed os certs) given goal k m s = qed_short known d i os certs given goal s m
 short_script known d i (Contradiction None) given goal k m s = absurd (no_contradiction known d i given goal s)

@@ -6,7 +6,7 @@ use Rattle.e_literal.specs.declared.literal.Lit.{Lit}
 use Rattle.e_literal.specs.Literal.{all_in_scope}
 use Rattle.e_construct.specs.declared.construction.Construction.{Construction}
 use Rattle.e_construct.specs.declared.superpose.Superpose.{Superpose}
-use Rattle.e_construct.specs.Construct.{made}
+use Rattle.e_construct.specs.Construct.{sorts_made}
 use Rattle.e_construct.specs.Superposing as superposing
 use Rattle.e_clause.specs.declared.cert.By.{By}
 use Rattle.e_clause.specs.declared.cert.Cert.{Cert}
@@ -106,7 +106,7 @@ inferred_said known ns lit cs w c =
     }
 
 pub made_said : (known : List Headed) (ns : Names) (form : Construction) (names : List (List ℕ)) (cs : List Cert) → MadeFormed ns form names cs
-    → StepsSaid known ns (Made form names [] ∷ []) (Certs cs ∷ []) (named ns (made form) names) (line_of (let_form ns form names) ∷ certs_lines ns cs)
+    → StepsSaid known ns (Made form names [] ∷ []) (Certs cs ∷ []) (named ns (sorts_made form) names) (line_of (let_form ns form names) ∷ certs_lines ns cs)
 unfolding filled script_lines
 made_said known ns form names cs m = record { spelled = λ rest more. refl; left = λ rest more. refl; formed = λ goal rest more h. made_formed known ns goal form names cs (filled rest more).0 m h }
 
@@ -131,11 +131,11 @@ claimed_said known ns shown inner ks ls w s =
           (subst (λ (k : List Kept). FormedHere known ns goal (filled rest k).0) (sym (s.left more)) h);
     }
 
-pub copied_said : (known : List Headed) (ns : Names) (form : Superpose) (names : List (List ℕ)) (shown : List Lit) (cs : List Cert) (inner : Script) (ks : List Kept) (ls : List (List ℕ)) → CopyFormed ns form names shown cs → ScriptSaid known (named ns superposing.made names) (goal_of shown) inner ks ls
+pub copied_said : (known : List Headed) (ns : Names) (form : Superpose) (names : List (List ℕ)) (shown : List Lit) (cs : List Cert) (inner : Script) (ks : List Kept) (ls : List (List ℕ)) → CopyFormed ns form names shown cs → ScriptSaid known (named ns superposing.sorts_copied names) (goal_of shown) inner ks ls
     → StepsSaid known ns (Copied form names shown [] inner ∷ []) (Certs cs ∷ ks) ns (line_of (superpose_form ns form names shown) ∷ (certs_lines ns cs ++ ls))
 unfolding filled script_lines
 copied_said known ns form names shown cs inner ks ls c s =
-    let start = named ns superposing.made names in
+    let start = named ns superposing.sorts_copied names in
     record {
       spelled = λ rest more.
           ap (λ (l : List (List ℕ)). line_of (superpose_form ns form names shown) ∷ (certs_lines ns cs ++ l))

@@ -16,7 +16,7 @@ use Rattle.e_clause.specs.declared.cert.Part.{Part}
 use Rattle.e_clause.specs.declared.cert.TransferCert.{TransferCert}
 use Rattle.e_clause.specs.Rows.{Row}
 use Rattle.e_clause.specs.Table.{table}
-use Rattle.e_clause.specs.Instance.{all_of, fits, lit_at, clause_of, Inst, instance_of_row, place_of}
+use Rattle.e_clause.specs.Instance.{all_of, arguments_fit, lit_at, clause_of, Inst, instance_of_row, number_of_rule}
 use Rattle.e_clause.specs.Sigs.{sig_of}
 use Rattle.e_clause.specs.RuleKinds.{is_transfer}
 use Rattle.e_clause.proofs.Names.{found_by_name}
@@ -35,15 +35,15 @@ use Rattle.e_roundtrip.proofs.Feeding.{GoodPart}
 record OfRow (rule : ℕ) (args : List Obj) : Type 0 where
   row : Row
   at : slice_get table rule ≡ Some row
-  fitting : fits row args ≡ true
+  fitting : arguments_fit row args ≡ true
 
 fitted : (b : Bool) (x : List Lit) (lits : List Lit) → cond b (Some x) None ≡ Some lits → b ≡ true
 fitted true x lits h = refl
 fitted false x lits h = absurd cc
 
-row_among : (o : Option Row) (args : List Obj) (lits : List Lit) → option_and_then (λ r. instance_of_row r args) o ≡ Some lits → (r : Row) × (o ≡ Some r) × (fits r args ≡ true)
+row_among : (o : Option Row) (args : List Obj) (lits : List Lit) → option_and_then (λ r. instance_of_row r args) o ≡ Some lits → (r : Row) × (o ≡ Some r) × (arguments_fit r args ≡ true)
 row_among None args lits h = absurd cc
-row_among (Some r) args lits h = (r, refl, fitted (fits r args) (map (lit_at r args) (clause_of r)) lits h)
+row_among (Some r) args lits h = (r, refl, fitted (arguments_fit r args) (map (lit_at r args) (clause_of r)) lits h)
 
 of_row : (rule : ℕ) (args : List Obj) (lits : List Lit) → Inst rule args ≡ Some lits → OfRow rule args
 unfolding Inst
@@ -68,7 +68,7 @@ record Arguments (ns : Names) (r : Row) (args : List Obj) : Type 0 where
   count : eqb (length (map (name_of_object ns) args)) (r.points + r.lines + r.circles) ≡ true
   read : args_in ns (sig_of_row r) (map (name_of_object ns) args) ≡ Ok args
 
-arguments_read : (ns : Names) (r : Row) (args : List Obj) → InOrder ns → fits r args ≡ true → list_all (is_in_scope (scope_of_names ns)) args ≡ true → Arguments ns r args
+arguments_read : (ns : Names) (r : Row) (args : List Obj) → InOrder ns → arguments_fit r args ≡ true → list_all (is_in_scope (scope_of_names ns)) args ≡ true → Arguments ns r args
 unfolding args_in
 arguments_read ns r args o h w =
     let name = name_of_object ns in
@@ -115,7 +115,7 @@ unfolding transfer_in transfer_at
 transfer_again ns l t o g =
     let r = of_row t.rule t.args g.lits g.instance in
     let a = arguments_read ns r.row t.args o r.fitting g.args in
-    let rule : transfer_rule (place_of (rule_name t.rule)) ≡ Ok t.rule =
-    ap (λ (w : List ℕ). transfer_rule (place_of w)) (rule_name_is t.rule r.row r.at) ∙ ap transfer_rule (found_by_name t.rule r.row r.at) ∙ rw g.rule refl in
+    let rule : transfer_rule (number_of_rule (rule_name t.rule)) ≡ Ok t.rule =
+    ap (λ (w : List ℕ). transfer_rule (number_of_rule w)) (rule_name_is t.rule r.row r.at) ∙ ap transfer_rule (found_by_name t.rule r.row r.at) ∙ rw g.rule refl in
     let sig : variables_of (sig_of t.rule) ≡ Ok (sig_of_row r.row) = ap (λ (x : Option Row). variables_of (option_map (λ r. sig_of_row r) x)) r.at in
     rw (rule, sig, a.count, a.read, g.instance, g.count) refl

@@ -31,7 +31,7 @@ use Rattle.e_clause.specs.declared.cert.Against.{Against}
 use Rattle.e_clause.specs.declared.cert.Against.TheVariants.{Clash, Metric as MetricAgainst}
 use Rattle.e_clause.specs.Versions.{by_literals, is_name_of, is_sum_of, are_sums_of, is_part_of, is_cert_of, is_against_of}
 use Rattle.e_construct.specs.declared.construction.Construction.{Construction}
-use Rattle.e_construct.specs.Construct.{made, gives, gives_of_avoided}
+use Rattle.e_construct.specs.Construct.{sorts_made, gives_of_construction, gives_of_avoided}
 use Rattle.e_construct.specs.Superposing as superposing
 use Rattle.e_deriv.specs.Script.{Script, Cite, Hence, Make, Apply, Claim, Superposed, Qed, Contradiction, Cases, erased, depth}
 use Rattle.e_deriv.specs.Goal.{Goal, goal_of}
@@ -89,9 +89,9 @@ avoided_count [] s z os ps e = refl
 avoided_count (x ∷ xs) s z os ps e = length-map os _ ∙ e ∙ sym (length-map ps _)
 
 -- a construction gives as many literals
-gives_count : (kept : List Obj) (form : Construction) (s z : Scope) → length (gives (form_at kept form) s) ≡ length (gives form z)
+gives_count : (kept : List Obj) (form : Construction) (s z : Scope) → length (gives_of_construction (form_at kept form) s) ≡ length (gives_of_construction form z)
 gives_count kept form s z =
-    same_sum _ _ _ _ (length-map _ _ ∙ sym (length-map _ _)) (avoided_count (made form) s z (map (obj_at kept) form.avoid) form.avoid (length-map form.avoid (obj_at kept)))
+    same_sum _ _ _ _ (length-map _ _ ∙ sym (length-map _ _)) (avoided_count (sorts_made form) s z (map (obj_at kept) form.avoid) form.avoid (length-map form.avoid (obj_at kept)))
 
 blanks_stay : (kept : List Obj) (args : List (Option Obj)) → count_blanks (args_at kept args) ≡ count_blanks args
 blanks_stay kept [] = refl
@@ -111,10 +111,10 @@ literals_left before (Hence lit cert rest) kept s facts goal h =
     let r = literals_left before rest kept s (joined facts lit) goal p.1 in
     either (λ x. has_good_literals (erased x)) (is_kept before (Hence lit cert rest) s facts (wants before rest s (joined facts lit) goal)) _ _ (and_from _ _ (renamed_well_formed (image_of kept) lit ∙ p.0) r) r
 literals_left before (Make form names certs rest) kept s facts goal h =
-    let after = joined_all facts (gives form s) in
-    either (λ x. has_good_literals (erased x)) (is_kept before (Make form names certs rest) s facts (wants before rest (grown s (made form)) after goal)) _ _
-    (literals_left before rest (kept ++ next_objects s (made form)) (grown s (made form)) after goal h)
-    (literals_left before rest kept (grown s (made form)) after goal h)
+    let after = joined_all facts (gives_of_construction form s) in
+    either (λ x. has_good_literals (erased x)) (is_kept before (Make form names certs rest) s facts (wants before rest (grown s (sorts_made form)) after goal)) _ _
+    (literals_left before rest (kept ++ next_objects s (sorts_made form)) (grown s (sorts_made form)) after goal h)
+    (literals_left before rest kept (grown s (sorts_made form)) after goal h)
 literals_left before (Apply theorem args names certs rest) kept s facts goal h =
     let here = Apply theorem args names certs rest in
     let new = (theorem_at before theorem).made in
@@ -132,9 +132,9 @@ literals_left before (Superposed form names shown certs inner rest) kept s facts
     let p = and_parts (list_all is_well_formed shown) (has_good_literals inner && has_good_literals rest) h in
     let q = and_parts (has_good_literals inner) (has_good_literals rest) p.1 in
     let r = literals_left before rest kept s (joined_all facts shown) goal q.1 in
-    let opened = joined_all facts (superposing.gives form s) in
+    let opened = joined_all facts (superposing.gives_of_superposition form s) in
     either (λ x. has_good_literals (erased x)) (is_kept before (Superposed form names shown certs inner rest) s facts (wants before rest s (joined_all facts shown) goal)) _ _
-    (and_from _ _ (well_stay kept shown ∙ p.0) (and_from _ _ (literals_left before inner (kept ++ next_objects s superposing.made) (grown s superposing.made) opened (goal_of shown) q.0) r)) r
+    (and_from _ _ (well_stay kept shown ∙ p.0) (and_from _ _ (literals_left before inner (kept ++ next_objects s superposing.sorts_copied) (grown s superposing.sorts_copied) opened (goal_of shown) q.0) r)) r
 literals_left before (Qed objects certs) kept s facts goal h = refl
 literals_left before (Contradiction against) kept s facts goal h = refl
 literals_left before (Cases lit first second) kept s facts goal h =
@@ -159,15 +159,15 @@ facts_left before (Hence lit cert rest) kept s facts goal m n y z le h =
     (and_from _ _ (still_few (m + 1) (n + 1) most_facts (omega (arith, le)) p.0) (facts_left before rest kept s (joined facts lit) goal (m + 1) (n + 1) y z (omega (arith, le)) p.1))
     (facts_left before rest kept s (joined facts lit) goal m (n + 1) y z (omega (arith, le)) p.1)
 facts_left before (Make form names certs rest) kept s facts goal m n y z le h =
-    let after = joined_all facts (gives form s) in
-    let wide = grown s (made form) in
-    let many = n + length (gives form z) in
-    let few = m + length (gives (form_at kept form) y) in
+    let after = joined_all facts (gives_of_construction form s) in
+    let wide = grown s (sorts_made form) in
+    let many = n + length (gives_of_construction form z) in
+    let few = m + length (gives_of_construction (form_at kept form) y) in
     let e = gives_count kept form y z in
-    let p = and_parts (leb many most_facts) (few_facts before many (grown z (made form)) (erased rest)) h in
+    let p = and_parts (leb many most_facts) (few_facts before many (grown z (sorts_made form)) (erased rest)) h in
     either (λ x. few_facts before m y (erased x)) (is_kept before (Make form names certs rest) s facts (wants before rest wide after goal)) _ _
-    (and_from _ _ (still_few few many most_facts (omega (arith, le, e)) p.0) (facts_left before rest (kept ++ next_objects s (made form)) wide after goal few many (grown y (made form)) (grown z (made form)) (omega (arith, le, e)) p.1))
-    (facts_left before rest kept wide after goal m many y (grown z (made form)) (omega (arith, le)) p.1)
+    (and_from _ _ (still_few few many most_facts (omega (arith, le, e)) p.0) (facts_left before rest (kept ++ next_objects s (sorts_made form)) wide after goal few many (grown y (sorts_made form)) (grown z (sorts_made form)) (omega (arith, le, e)) p.1))
+    (facts_left before rest kept wide after goal m many y (grown z (sorts_made form)) (omega (arith, le)) p.1)
 facts_left before (Apply theorem args names certs rest) kept s facts goal m n y z le h =
     let here = Apply theorem args names certs rest in
     let t = theorem_at before theorem in
@@ -189,20 +189,20 @@ facts_left before (Claim shown inner rest) kept s facts goal m n y z le h =
     (and_from _ _ (still_few few many most_facts (omega (arith, le, e)) q.0) (facts_left before rest kept s (joined_all facts shown) goal few many y z (omega (arith, le, e)) q.1)))
     (facts_left before rest kept s (joined_all facts shown) goal m many y z (omega (arith, le)) q.1)
 facts_left before (Superposed form names shown certs inner rest) kept s facts goal m n y z le h =
-    let opened = joined_all facts (superposing.gives form s) in
-    let given = n + length (superposing.gives form z) in
-    let less = m + length (superposing.gives (superpose_at kept form) y) in
-    let same : length (superposing.gives (superpose_at kept form) y) ≡ length (superposing.gives form z) = refl in
+    let opened = joined_all facts (superposing.gives_of_superposition form s) in
+    let given = n + length (superposing.gives_of_superposition form z) in
+    let less = m + length (superposing.gives_of_superposition (superpose_at kept form) y) in
+    let same : length (superposing.gives_of_superposition (superpose_at kept form) y) ≡ length (superposing.gives_of_superposition form z) = refl in
     let many = n + length shown in
     let few = m + length (map (lit_at kept) shown) in
     let e = length-map shown (lit_at kept) in
-    let o = and_parts (leb given most_facts) (few_facts before given (grown z superposing.made) (erased inner) && (leb many most_facts && few_facts before many z (erased rest))) h in
-    let p = and_parts (few_facts before given (grown z superposing.made) (erased inner)) (leb many most_facts && few_facts before many z (erased rest)) o.1 in
+    let o = and_parts (leb given most_facts) (few_facts before given (grown z superposing.sorts_copied) (erased inner) && (leb many most_facts && few_facts before many z (erased rest))) h in
+    let p = and_parts (few_facts before given (grown z superposing.sorts_copied) (erased inner)) (leb many most_facts && few_facts before many z (erased rest)) o.1 in
     let q = and_parts (leb many most_facts) (few_facts before many z (erased rest)) p.1 in
     either (λ x. few_facts before m y (erased x)) (is_kept before (Superposed form names shown certs inner rest) s facts (wants before rest s (joined_all facts shown) goal)) _ _
     (and_from _ _ (still_few less given most_facts (omega (arith, le, same)) o.0)
     (and_from _ _
-    (facts_left before inner (kept ++ next_objects s superposing.made) (grown s superposing.made) opened (goal_of shown) less given (grown y superposing.made) (grown z superposing.made) (omega (arith, le, same)) p.0)
+    (facts_left before inner (kept ++ next_objects s superposing.sorts_copied) (grown s superposing.sorts_copied) opened (goal_of shown) less given (grown y superposing.sorts_copied) (grown z superposing.sorts_copied) (omega (arith, le, same)) p.0)
     (and_from _ _ (still_few few many most_facts (omega (arith, le, e)) q.0) (facts_left before rest kept s (joined_all facts shown) goal few many y z (omega (arith, le, e)) q.1))))
     (facts_left before rest kept s (joined_all facts shown) goal m many y z (omega (arith, le)) q.1)
 facts_left before (Qed objects certs) kept s facts goal m n y z le h = refl
@@ -231,11 +231,11 @@ terms_left before (Hence lit cert rest) kept s facts goal m n y z le h =
     (and_from _ _ (still_few few many most_terms (omega (arith, le, e)) p.0) (terms_left before rest kept s (joined facts lit) goal few many y z (omega (arith, le, e)) p.1))
     (terms_left before rest kept s (joined facts lit) goal m many y z (omega (arith, le)) p.1)
 terms_left before (Make form names certs rest) kept s facts goal m n y z le h =
-    let after = joined_all facts (gives form s) in
-    let wide = grown s (made form) in
+    let after = joined_all facts (gives_of_construction form s) in
+    let wide = grown s (sorts_made form) in
     either (λ x. few_terms before m y (erased x)) (is_kept before (Make form names certs rest) s facts (wants before rest wide after goal)) _ _
-    (terms_left before rest (kept ++ next_objects s (made form)) wide after goal m n (grown y (made form)) (grown z (made form)) le h)
-    (terms_left before rest kept wide after goal m n y (grown z (made form)) le h)
+    (terms_left before rest (kept ++ next_objects s (sorts_made form)) wide after goal m n (grown y (sorts_made form)) (grown z (sorts_made form)) le h)
+    (terms_left before rest kept wide after goal m n y (grown z (sorts_made form)) le h)
 terms_left before (Apply theorem args names certs rest) kept s facts goal m n y z le h =
     let here = Apply theorem args names certs rest in
     let t = theorem_at before theorem in
@@ -258,20 +258,20 @@ terms_left before (Claim shown inner rest) kept s facts goal m n y z le h =
     (and_from _ _ (still_few few many most_terms (omega (arith, le, e)) q.0) (terms_left before rest kept s (joined_all facts shown) goal few many y z (omega (arith, le, e)) q.1)))
     (terms_left before rest kept s (joined_all facts shown) goal m many y z (omega (arith, le)) q.1)
 terms_left before (Superposed form names shown certs inner rest) kept s facts goal m n y z le h =
-    let opened = joined_all facts (superposing.gives form s) in
-    let given = n + count_monomials (superposing.gives form z) in
-    let less = m + count_monomials (superposing.gives (superpose_at kept form) y) in
-    let same : count_monomials (superposing.gives (superpose_at kept form) y) ≡ count_monomials (superposing.gives form z) = refl in
+    let opened = joined_all facts (superposing.gives_of_superposition form s) in
+    let given = n + count_monomials (superposing.gives_of_superposition form z) in
+    let less = m + count_monomials (superposing.gives_of_superposition (superpose_at kept form) y) in
+    let same : count_monomials (superposing.gives_of_superposition (superpose_at kept form) y) ≡ count_monomials (superposing.gives_of_superposition form z) = refl in
     let many = n + count_monomials shown in
     let few = m + count_monomials (map (lit_at kept) shown) in
     let e = lits_monos kept shown in
-    let o = and_parts (leb given most_terms) (few_terms before given (grown z superposing.made) (erased inner) && (leb many most_terms && few_terms before many z (erased rest))) h in
-    let p = and_parts (few_terms before given (grown z superposing.made) (erased inner)) (leb many most_terms && few_terms before many z (erased rest)) o.1 in
+    let o = and_parts (leb given most_terms) (few_terms before given (grown z superposing.sorts_copied) (erased inner) && (leb many most_terms && few_terms before many z (erased rest))) h in
+    let p = and_parts (few_terms before given (grown z superposing.sorts_copied) (erased inner)) (leb many most_terms && few_terms before many z (erased rest)) o.1 in
     let q = and_parts (leb many most_terms) (few_terms before many z (erased rest)) p.1 in
     either (λ x. few_terms before m y (erased x)) (is_kept before (Superposed form names shown certs inner rest) s facts (wants before rest s (joined_all facts shown) goal)) _ _
     (and_from _ _ (still_few less given most_terms (omega (arith, le, same)) o.0)
     (and_from _ _
-    (terms_left before inner (kept ++ next_objects s superposing.made) (grown s superposing.made) opened (goal_of shown) less given (grown y superposing.made) (grown z superposing.made) (omega (arith, le, same)) p.0)
+    (terms_left before inner (kept ++ next_objects s superposing.sorts_copied) (grown s superposing.sorts_copied) opened (goal_of shown) less given (grown y superposing.sorts_copied) (grown z superposing.sorts_copied) (omega (arith, le, same)) p.0)
     (and_from _ _ (still_few few many most_terms (omega (arith, le, e)) q.0) (terms_left before rest kept s (joined_all facts shown) goal few many y z (omega (arith, le, e)) q.1))))
     (terms_left before rest kept s (joined_all facts shown) goal m many y z (omega (arith, le)) q.1)
 terms_left before (Qed objects certs) kept s facts goal m n y z le h = refl
@@ -297,10 +297,10 @@ blanks_left before (Hence lit cert rest) kept s facts goal h =
     let r = blanks_left before rest kept s (joined facts lit) goal h in
     either (λ x. few_blanks (erased x)) (is_kept before (Hence lit cert rest) s facts (wants before rest s (joined facts lit) goal)) _ _ r r
 blanks_left before (Make form names certs rest) kept s facts goal h =
-    let after = joined_all facts (gives form s) in
-    either (λ x. few_blanks (erased x)) (is_kept before (Make form names certs rest) s facts (wants before rest (grown s (made form)) after goal)) _ _
-    (blanks_left before rest (kept ++ next_objects s (made form)) (grown s (made form)) after goal h)
-    (blanks_left before rest kept (grown s (made form)) after goal h)
+    let after = joined_all facts (gives_of_construction form s) in
+    either (λ x. few_blanks (erased x)) (is_kept before (Make form names certs rest) s facts (wants before rest (grown s (sorts_made form)) after goal)) _ _
+    (blanks_left before rest (kept ++ next_objects s (sorts_made form)) (grown s (sorts_made form)) after goal h)
+    (blanks_left before rest kept (grown s (sorts_made form)) after goal h)
 blanks_left before (Apply theorem args names certs rest) kept s facts goal h =
     let here = Apply theorem args names certs rest in
     let new = (theorem_at before theorem).made in
@@ -316,9 +316,9 @@ blanks_left before (Claim shown inner rest) kept s facts goal h =
 blanks_left before (Superposed form names shown certs inner rest) kept s facts goal h =
     let q = and_parts (few_blanks (erased inner)) (few_blanks (erased rest)) h in
     let r = blanks_left before rest kept s (joined_all facts shown) goal q.1 in
-    let opened = joined_all facts (superposing.gives form s) in
+    let opened = joined_all facts (superposing.gives_of_superposition form s) in
     either (λ x. few_blanks (erased x)) (is_kept before (Superposed form names shown certs inner rest) s facts (wants before rest s (joined_all facts shown) goal)) _ _
-    (and_from _ _ (blanks_left before inner (kept ++ next_objects s superposing.made) (grown s superposing.made) opened (goal_of shown) q.0) r) r
+    (and_from _ _ (blanks_left before inner (kept ++ next_objects s superposing.sorts_copied) (grown s superposing.sorts_copied) opened (goal_of shown) q.0) r) r
 blanks_left before (Qed objects certs) kept s facts goal h = refl
 blanks_left before (Contradiction against) kept s facts goal h = refl
 blanks_left before (Cases lit first second) kept s facts goal h =
@@ -377,11 +377,11 @@ version_left v before (Hence lit cert rest) kept s facts goal h =
     let r = version_left v before rest kept s (joined facts lit) goal p.1 in
     either (has_certs_of v) (is_kept before (Hence lit cert rest) s facts (wants before rest s (joined facts lit) goal)) _ _ (and_from _ _ (any_cert_stays v kept cert ∙ p.0) r) r
 version_left v before (Make form names certs rest) kept s facts goal h =
-    let after = joined_all facts (gives form s) in
+    let after = joined_all facts (gives_of_construction form s) in
     let p = and_parts (list_all (is_cert_of v) certs) (has_certs_of v rest) h in
-    either (has_certs_of v) (is_kept before (Make form names certs rest) s facts (wants before rest (grown s (made form)) after goal)) _ _
-    (and_from _ _ (certs_stay v kept certs ∙ p.0) (version_left v before rest (kept ++ next_objects s (made form)) (grown s (made form)) after goal p.1))
-    (version_left v before rest kept (grown s (made form)) after goal p.1)
+    either (has_certs_of v) (is_kept before (Make form names certs rest) s facts (wants before rest (grown s (sorts_made form)) after goal)) _ _
+    (and_from _ _ (certs_stay v kept certs ∙ p.0) (version_left v before rest (kept ++ next_objects s (sorts_made form)) (grown s (sorts_made form)) after goal p.1))
+    (version_left v before rest kept (grown s (sorts_made form)) after goal p.1)
 version_left v before (Apply theorem args names certs rest) kept s facts goal h =
     let here = Apply theorem args names certs rest in
     let new = (theorem_at before theorem).made in
@@ -398,9 +398,9 @@ version_left v before (Superposed form names shown certs inner rest) kept s fact
     let p = and_parts (list_all (is_cert_of v) certs) (has_certs_of v inner && has_certs_of v rest) h in
     let q = and_parts (has_certs_of v inner) (has_certs_of v rest) p.1 in
     let r = version_left v before rest kept s (joined_all facts shown) goal q.1 in
-    let opened = joined_all facts (superposing.gives form s) in
+    let opened = joined_all facts (superposing.gives_of_superposition form s) in
     either (has_certs_of v) (is_kept before (Superposed form names shown certs inner rest) s facts (wants before rest s (joined_all facts shown) goal)) _ _
-    (and_from _ _ (certs_stay v kept certs ∙ p.0) (and_from _ _ (version_left v before inner (kept ++ next_objects s superposing.made) (grown s superposing.made) opened (goal_of shown) q.0) r)) r
+    (and_from _ _ (certs_stay v kept certs ∙ p.0) (and_from _ _ (version_left v before inner (kept ++ next_objects s superposing.sorts_copied) (grown s superposing.sorts_copied) opened (goal_of shown) q.0) r)) r
 version_left v before (Qed objects certs) kept s facts goal h = certs_stay v kept certs ∙ h
 version_left v before (Contradiction against) kept s facts goal h = against_stays v kept against ∙ h
 version_left v before (Cases lit first second) kept s facts goal h =

@@ -15,7 +15,7 @@ use Rattle.e_literal.specs.Facts.{joined, joined_all}
 use Rattle.e_literal.specs.Scopes.{grown, next_objects}
 use Rattle.e_literal.specs.Use.{Stated, scope_of, is_statement}
 use Rattle.e_clause.specs.declared.cert.Version.TheVariants.{One}
-use Rattle.e_construct.specs.Construct.{made, gives}
+use Rattle.e_construct.specs.Construct.{sorts_made, gives_of_construction}
 use Rattle.e_construct.specs.Superposing as superposing
 use Rattle.e_construct.proofs.Moving.{every}
 use Rattle.e_theorem.specs.Statements.{stated}
@@ -59,9 +59,9 @@ theorems_left known before (Hence lit cert rest) kept s facts goal h =
     let r = theorems_left known before rest kept s (joined facts lit) goal h in
     either (λ x. names_theorems known (erased x)) (is_kept before (Hence lit cert rest) s facts (wants before rest s (joined facts lit) goal)) _ _ r r
 theorems_left known before (Make form names certs rest) kept s facts goal h =
-    either (λ x. names_theorems known (erased x)) (is_kept before (Make form names certs rest) s facts (wants before rest (grown s (made form)) (joined_all facts (gives form s)) goal)) _ _
-    (theorems_left known before rest (kept ++ next_objects s (made form)) (grown s (made form)) (joined_all facts (gives form s)) goal h)
-    (theorems_left known before rest kept (grown s (made form)) (joined_all facts (gives form s)) goal h)
+    either (λ x. names_theorems known (erased x)) (is_kept before (Make form names certs rest) s facts (wants before rest (grown s (sorts_made form)) (joined_all facts (gives_of_construction form s)) goal)) _ _
+    (theorems_left known before rest (kept ++ next_objects s (sorts_made form)) (grown s (sorts_made form)) (joined_all facts (gives_of_construction form s)) goal h)
+    (theorems_left known before rest kept (grown s (sorts_made form)) (joined_all facts (gives_of_construction form s)) goal h)
 theorems_left known before (Apply theorem args names certs rest) kept s facts goal h =
     let here = Apply theorem args names certs rest in
     let new = (theorem_at before theorem).made in
@@ -79,7 +79,7 @@ theorems_left known before (Superposed form names shown certs inner rest) kept s
     let p = and_parts (names_theorems known (erased inner)) (names_theorems known (erased rest)) h in
     let r = theorems_left known before rest kept s (joined_all facts shown) goal p.1 in
     either (λ x. names_theorems known (erased x)) (is_kept before (Superposed form names shown certs inner rest) s facts (wants before rest s (joined_all facts shown) goal)) _ _
-    (and_from _ _ (theorems_left known before inner (kept ++ next_objects s superposing.made) (grown s superposing.made) (joined_all facts (superposing.gives form s)) (goal_of shown) p.0) r) r
+    (and_from _ _ (theorems_left known before inner (kept ++ next_objects s superposing.sorts_copied) (grown s superposing.sorts_copied) (joined_all facts (superposing.gives_of_superposition form s)) (goal_of shown) p.0) r) r
 theorems_left known before (Qed objects certs) kept s facts goal h = refl
 theorems_left known before (Contradiction against) kept s facts goal h = refl
 theorems_left known before (Cases lit first second) kept s facts goal h =
@@ -102,10 +102,10 @@ plain_left before (Hence lit cert rest) kept s facts goal h =
     either (λ x. is_plain (erased x)) (is_kept before (Hence lit cert rest) s facts (wants before rest s (joined facts lit) goal)) _ _ r r
 plain_left before (Make form names certs rest) kept s facts goal h =
     let p = and_parts (list_all is_name names) (is_plain (erased rest)) h in
-    let after = joined_all facts (gives form s) in
-    either (λ x. is_plain (erased x)) (is_kept before (Make form names certs rest) s facts (wants before rest (grown s (made form)) after goal)) _ _
-    (and_from (list_all is_name names) _ p.0 (plain_left before rest (kept ++ next_objects s (made form)) (grown s (made form)) after goal p.1))
-    (plain_left before rest kept (grown s (made form)) after goal p.1)
+    let after = joined_all facts (gives_of_construction form s) in
+    either (λ x. is_plain (erased x)) (is_kept before (Make form names certs rest) s facts (wants before rest (grown s (sorts_made form)) after goal)) _ _
+    (and_from (list_all is_name names) _ p.0 (plain_left before rest (kept ++ next_objects s (sorts_made form)) (grown s (sorts_made form)) after goal p.1))
+    (plain_left before rest kept (grown s (sorts_made form)) after goal p.1)
 plain_left before (Apply theorem args names certs rest) kept s facts goal h =
     let here = Apply theorem args names certs rest in
     let new = (theorem_at before theorem).made in
@@ -125,9 +125,9 @@ plain_left before (Superposed form names shown certs inner rest) kept s facts go
     let p = and_parts (nat_lt 0 (length shown)) (is_plain (erased inner) && is_plain (erased rest)) o.1 in
     let q = and_parts (is_plain (erased inner)) (is_plain (erased rest)) p.1 in
     let r = plain_left before rest kept s (joined_all facts shown) goal q.1 in
-    let opened = joined_all facts (superposing.gives form s) in
+    let opened = joined_all facts (superposing.gives_of_superposition form s) in
     either (λ x. is_plain (erased x)) (is_kept before (Superposed form names shown certs inner rest) s facts (wants before rest s (joined_all facts shown) goal)) _ _
-    (and_from (list_all is_name names) _ o.0 (and_from _ _ (some_left kept shown p.0) (and_from _ _ (plain_left before inner (kept ++ next_objects s superposing.made) (grown s superposing.made) opened (goal_of shown) q.0) r))) r
+    (and_from (list_all is_name names) _ o.0 (and_from _ _ (some_left kept shown p.0) (and_from _ _ (plain_left before inner (kept ++ next_objects s superposing.sorts_copied) (grown s superposing.sorts_copied) opened (goal_of shown) q.0) r))) r
 plain_left before (Qed objects certs) kept s facts goal h = refl
 plain_left before (Contradiction against) kept s facts goal h = refl
 plain_left before (Cases lit first second) kept s facts goal h =

@@ -4,7 +4,7 @@ use Rattle.std.specs.Prelude.{Option, Some, None}
 use Rattle.std.specs.Str.{bytes_eq}
 use Rattle.std.proofs.lemmas.Bool.{and_parts}
 use Rattle.std.proofs.lemmas.Slice.Eq.{bytes_eq-Decides}
-use Rattle.e_text.specs.Lines.{Seen, AreGood, end_bytes, text_of_lines}
+use Rattle.e_text.specs.Lines.{Seen, HaveNoFault, end_bytes, text_of_lines}
 use Rattle.e_text.specs.declared.line.LineEnd.{LineEnd}
 use Rattle.e_text.specs.declared.line.LineEnd.TheVariants as ends
 use Rattle.e_text.proofs.WrittenLines.{text_of_lines-lines_of}
@@ -75,14 +75,14 @@ module _ (v : Version) where
       (proof_of_certified (stated_by known) (stated t.statement) t.script p.2, all_proved last (with_theorem known t) p.0 ts now rest p.3)
 
   -- their lines have no fault
-  good_shown : (lines rest : Rest) (texts : List (List ℕ)) → ShowsEnded lines texts rest → AreGood rest → AreGood lines
-  good_shown lines rest [] s g = subst AreGood (sym s) g
+  good_shown : (lines rest : Rest) (texts : List (List ℕ)) → ShowsEnded lines texts rest → HaveNoFault rest → HaveNoFault lines
+  good_shown lines rest [] s g = subst HaveNoFault (sym s) g
   good_shown [] rest (x ∷ texts) s g = absurd s
   good_shown (Err f ∷ lines) rest (x ∷ texts) s g = absurd s
   good_shown (Ok l ∷ lines) rest (x ∷ texts) s g = good_shown lines rest texts s.2 g
 
-  good_passed : (last : ℕ) (known : List Headed) (lines : Rest) (ts : List Entry) (now : List Headed) (rest : Rest) → Passes v last known lines ts now rest → AreGood rest → AreGood lines
-  good_passed last known lines [] now rest p g = subst AreGood (sym p.1) g
+  good_passed : (last : ℕ) (known : List Headed) (lines : Rest) (ts : List Entry) (now : List Headed) (rest : Rest) → Passes v last known lines ts now rest → HaveNoFault rest → HaveNoFault lines
+  good_passed last known lines [] now rest p g = subst HaveNoFault (sym p.1) g
   good_passed last known lines (t ∷ ts) now rest p g =
       good_shown lines p.0 (spelled_lines known t t.script) (read_is_spelled_so v known last t lines p.0 p.1) (good_passed last (with_theorem known t) p.0 ts now rest p.3 g)
 
@@ -124,9 +124,9 @@ module _ (v : Version) where
       let last = 2 + length lines in
       let c = closed_so last j.known j.rest n j.closes in
       let count : length (pairs ts) ≡ length j.known = omega (arith, length-pairs ts, known_grows last [] lines ts j.known j.rest j.passes) in
-      let good : AreGood lines = good_passed last [] lines ts j.known j.rest j.passes (good_shown j.rest [] (last_line_of (length j.known) ∷ []) c.1 tt) in
+      let good : HaveNoFault lines = good_passed last [] lines ts j.known j.rest j.passes (good_shown j.rest [] (last_line_of (length j.known) ∷ []) c.1 tt) in
       let read : text_of_lines (lines_of_text text) ≡ text =
-      text_of_lines-lines_of (record { longest = 262144; most = length text }) (record { line = 1; before = 0 }) text (subst AreGood (sym e) good) in
+      text_of_lines-lines_of (record { longest = 262144; most = length text }) (record { line = 1; before = 0 }) text (subst HaveNoFault (sym e) good) in
       let end : text_of_lines j.rest ≡ accepted_line (length (pairs ts)) =
       last_text j.rest (last_line_of (length j.known)) c.1 ∙ sym (last_is_line (length j.known)) ∙ ap accepted_line (sym count) in
       record {

@@ -19,10 +19,10 @@ use Rattle.e_clause.specs.declared.cert.Against.{Against}
 use Rattle.e_clause.specs.declared.cert.Against.TheVariants.{Clash, Metric as MetricAgainst}
 use Rattle.e_clause.specs.Instance.{Inst}
 use Rattle.e_clause.specs.RuleKinds.{is_transfer}
-use Rattle.e_clause.specs.Sum.{is_good_size}
+use Rattle.e_clause.specs.Sum.{is_limited_sum}
 use Rattle.e_clause.specs.MetricCertificate.{row_name_in, sum_in}
 use Rattle.e_clause.specs.TransferCertificate.{args_in}
-use Rattle.e_clause.specs.Written.{is_good_name, is_good_sum}
+use Rattle.e_clause.specs.Written.{is_writable_name, is_writable_sum}
 use Rattle.e_deriv.specs.Script.{Script, Apply, Contradiction}
 use Rattle.e_deriv.specs.Lines.{Line}
 use Rattle.e_deriv.specs.Parts.{has_no_blank}
@@ -33,7 +33,7 @@ use Rattle.e_deriv.specs.Certified.{certs_of, derivation_lines}
 
 -- 1 to 4,096 rows with multipliers from 1 to 2^80 in size, their objects in scope and their literals well formed
 abbrev pub sum_formed : Scope → List (ℤ × RowName) → Bool
-sum_formed s xs = is_good_size xs && (sum_in s xs && is_good_sum xs)
+sum_formed s xs = is_limited_sum xs && (sum_in s xs && is_writable_sum xs)
 
 -- the row of two sums is a fact's or that of the goal
 abbrev pub names_difference : RowName → Bool
@@ -43,7 +43,7 @@ names_difference (FactAt k) = true
 names_difference row = false
 
 abbrev pub difference_formed : Scope → RowName → Bool
-difference_formed s row = names_difference row && (row_name_in s row && is_good_name row)
+difference_formed s row = names_difference row && (row_name_in s row && is_writable_name row)
 
 abbrev pub sums_formed : Scope → Sums → Bool
 sums_formed s (One sum) = sum_formed s sum

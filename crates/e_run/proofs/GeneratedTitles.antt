@@ -12,7 +12,7 @@ use Rattle.std.proofs.Math.Seq.{take-append-add}
 use Rattle.e_text.specs.declared.line.LineEnd.{LineEnd}
 use Rattle.e_text.specs.declared.line.LineEnd.TheVariants.{Lf, CrLf}
 use Rattle.e_text.specs.declared.line.LineFault.{LineFault}
-use Rattle.e_text.specs.Lines.{is_lf, IsOpen, ends_in_cr, Bounds, Spot, Seen, AreGood, ended, closed, lines_of, lines_of_parts}
+use Rattle.e_text.specs.Lines.{is_lf, IsOpen, ends_in_cr, Bounds, Spot, Seen, HaveNoFault, ended, closed, lines_of, lines_of_parts}
 use Rattle.e_text.specs.Names.{is_digit}
 use Rattle.e_text.specs.Numerals.{is_numeral}
 use Rattle.e_text.specs.Tokens.{is_blank, has_bytes, is_token, tokens_of}
@@ -112,8 +112,8 @@ open_sum from (suc n) le =
 -- where these bytes come before others, and no line has a fault, their lines have so many titles, and the other lines come after them
 abbrev Adds : ℕ → List ℕ → Type 0
 Adds n text =
-    (w : Bounds) (at : Spot) (rest : List ℕ) → AreGood (lines_of w at (text ++ rest)) →
-    (next : Spot) × AreGood (lines_of w next rest) × (titles (lines_of w at (text ++ rest)) ≡ n + titles (lines_of w next rest))
+    (w : Bounds) (at : Spot) (rest : List ℕ) → HaveNoFault (lines_of w at (text ++ rest)) →
+    (next : Spot) × HaveNoFault (lines_of w next rest) × (titles (lines_of w at (text ++ rest)) ≡ n + titles (lines_of w next rest))
 
 adds_none : Adds 0 []
 adds_none = λ w at rest good.
@@ -123,7 +123,7 @@ adds_none = λ w at rest good.
 adds_append : (m n : ℕ) (xs ys : List ℕ) → Adds m xs → Adds n ys → Adds (m + n) (xs ++ ys)
 adds_append m n xs ys h k = λ w at rest good.
     let e = append_assoc xs ys rest in
-    let a = h w at (ys ++ rest) (subst (λ (t : List ℕ). AreGood (lines_of w at t)) e good) in
+    let a = h w at (ys ++ rest) (subst (λ (t : List ℕ). HaveNoFault (lines_of w at t)) e good) in
     let b = k w a.0 rest a.1 in
     let same : titles (lines_of w at ((xs ++ ys) ++ rest)) ≡ titles (lines_of w at (xs ++ (ys ++ rest))) = ap (λ (t : List ℕ). titles (lines_of w at t)) e in
     let count : m + (n + titles (lines_of w b.0 rest)) ≡ m + n + titles (lines_of w b.0 rest) = omega arith in
@@ -140,7 +140,7 @@ lines_front w at part rest h =
     let split : slice_split is_lf (part ++ 10 ∷ rest) ≡ part ∷ slice_split is_lf rest = slice_split_at is_lf part 10 rest (All-from_recursion (λ b. is_lf b ≡ false) part (feeds_open part h)) refl in
     ap (λ ps. lines_of_parts w at ps) split ∙ split_more w at part more.0 more.1 (slice_split is_lf rest) more.2
 
-titles_by : (r : Result Seen LineFault) (more : Rest) (bytes : List ℕ) (k : ℕ) → ((l : Seen) → r ≡ Ok l → l.bytes ≡ bytes) → one_if (has_title (tokens_of bytes)) ≡ k → AreGood (then_lines r more)
+titles_by : (r : Result Seen LineFault) (more : Rest) (bytes : List ℕ) (k : ℕ) → ((l : Seen) → r ≡ Ok l → l.bytes ≡ bytes) → one_if (has_title (tokens_of bytes)) ≡ k → HaveNoFault (then_lines r more)
     → titles (then_lines r more) ≡ k + titles more
 titles_by (Ok l) more bytes k same c good = ap (λ (x : ℕ). x + titles more) (ap (λ (b : List ℕ). one_if (has_title (tokens_of b))) (same l refl) ∙ c)
 titles_by (Err f) more bytes k same c good = absurd good
@@ -152,7 +152,7 @@ adds_line : (part : List ℕ) (k : ℕ) → IsOpen part → one_if (has_title (t
 adds_line part k h c = λ w at rest good.
     let next = spot_behind at (length part) in
     let e = ap (λ (t : List ℕ). lines_of w at t) (append_assoc part (10 ∷ []) rest) ∙ lines_front w at part rest h in
-    let split : AreGood (then_lines (closed w at part) (lines_of w next rest)) = subst AreGood e good in
+    let split : HaveNoFault (then_lines (closed w at part) (lines_of w next rest)) = subst HaveNoFault e good in
     (next, good_rest (closed w at part) (lines_of w next rest) split, ap titles e ∙ titles_by (closed w at part) (lines_of w next rest) (ended part []).0 k (closed_bytes w at part) c split)
 
 -- ---- a line by its first word
@@ -337,12 +337,12 @@ adds_theorems from (suc n) le =
     (adds_append 1 n (theorem_text from) (flat_map theorem_text (numbers (from + 1) n)) (adds_theorem from (omega (arith, le))) (adds_theorems (from + 1) n (omega (arith, le))))
 
 -- the lines of the generated book have as many titles as it was asked for theorems
-pub generated_titles : (n : ℕ) → n ≤ 500 → AreGood (lines_of_book (generated_text n)) → titles (lines_of_book (generated_text n)) ≡ n
+pub generated_titles : (n : ℕ) → n ≤ 500 → HaveNoFault (lines_of_book (generated_text n)) → titles (lines_of_book (generated_text n)) ≡ n
 generated_titles n few good =
     let w : Bounds = record { longest = 1600; most = 4194304 } in
     let at : Spot = record { line = 1; before = 0 } in
     let text = generated_text n in
     let same : text ++ [] ≡ text = append-nil text in
-    let a = adds_theorems 1 n (omega (arith, few)) w at [] (subst (λ (t : List ℕ). AreGood (lines_of w at t)) (sym same) good) in
+    let a = adds_theorems 1 n (omega (arith, few)) w at [] (subst (λ (t : List ℕ). HaveNoFault (lines_of w at t)) (sym same) good) in
     let count : titles (lines_of w at (text ++ [])) ≡ n + 0 = a.2 in
     sym (ap (λ (t : List ℕ). titles (lines_of w at t)) same) ∙ count ∙ omega arith

@@ -4,7 +4,7 @@ use Rattle.std.specs.Prelude.{IfOk}
 use Rattle.std.proofs.lemmas.Bool.{eqb-true}
 use Rattle.std.proofs.lemmas.List.{append-nil, nil_from_length}
 use Rattle.e_io.specs.Bytes.{Reads, Grew}
-use Rattle.e_text.specs.Lines.{Bounds, Spot, AreGood, IsClosed, IsOpen, lines_of, spot_after}
+use Rattle.e_text.specs.Lines.{Bounds, Spot, HaveNoFault, IsClosed, IsOpen, lines_of, spot_after}
 use Rattle.e_text.proofs.Fronts.{lines_of-front}
 use Rattle.e_text.proofs.ClosedTexts.{closed_both, closed_behind, then_good, good_both, fault_is_last, then_some}
 use Rattle.e_text.proofs.WholeLines.{lines_of-take}
@@ -48,7 +48,7 @@ some_of (suc n) e = omega arith
 
 -- ---- the lines of a book after what is taken
 
-lines_after : (taken bytes : List ℕ) (line before : ℕ) → IsClosed taken → AreGood (lines_of_book taken) → line ≡ 1 + length (lines_of_book taken) → before ≡ length taken
+lines_after : (taken bytes : List ℕ) (line before : ℕ) → IsClosed taken → HaveNoFault (lines_of_book taken) → line ≡ 1 + length (lines_of_book taken) → before ≡ length taken
     → lines_of_book (taken ++ bytes) ≡ lines_of_book taken ++ lines_at line before bytes
 lines_after taken bytes line before closed good at from =
     let next : spot_after bounds (spot 1 0) taken ≡ spot line before = ap₂ (λ (a b : ℕ). spot a b) (sym at) (omega (arith, from)) in
@@ -56,7 +56,7 @@ lines_after taken bytes line before closed good at from =
     ∙ ap (λ (p : Spot). lines_of_book taken ++ lines_of bounds p bytes) next
 
 -- with what comes after them
-lines_with : (taken bytes left : List ℕ) (line before : ℕ) → IsClosed taken → AreGood (lines_of_book taken) → line ≡ 1 + length (lines_of_book taken) → before ≡ length taken → IsClosed bytes
+lines_with : (taken bytes left : List ℕ) (line before : ℕ) → IsClosed taken → HaveNoFault (lines_of_book taken) → line ≡ 1 + length (lines_of_book taken) → before ≡ length taken → IsClosed bytes
     → (more : Rest) × (lines_of_book (taken ++ (bytes ++ left)) ≡ lines_of_book taken ++ (lines_at line before bytes ++ more))
 lines_with taken bytes left line before closed good at from ended =
     let s = then_some (lines_at line before bytes) (lines_of bounds (spot_after bounds (spot line before) bytes) left) (fault_is_last bounds (spot line before) bytes) in (
@@ -85,7 +85,7 @@ read_more read more old b u v new items line before s = record {
 
 -- what was not taken is taken
 pub read_taken : (read : List ℕ) (old : Option (List ℕ)) (b c : Book) (u v : Untaken) (new newer : Option (List ℕ)) (lines : Rest) (s : IsReadUpTo read old b u new) → IsClosed u.bytes.items → v.bytes.items ≡ [] → v.line ≡ u.line + length lines
-    → v.before ≡ u.before + length u.bytes.items → lines ≡ lines_at u.line u.before u.bytes.items → AreGood lines → Reaches (λ more. lines_of_book s.taken ++ (lines ++ more)) (λ more. more) old c newer → IsReadUpTo read old c v newer
+    → v.before ≡ u.before + length u.bytes.items → lines ≡ lines_at u.line u.before u.bytes.items → HaveNoFault lines → Reaches (λ more. lines_of_book s.taken ++ (lines ++ more)) (λ more. more) old c newer → IsReadUpTo read old c v newer
 read_taken read old b c u v new newer lines s ended none line before is good r =
     let items = u.bytes.items in
     let all : lines_of_book (s.taken ++ items) ≡ lines_of_book s.taken ++ lines = lines_after s.taken items u.line u.before s.closed s.good s.line s.before ∙ ap (λ (ls : Rest). lines_of_book s.taken ++ ls) (sym is) in
@@ -93,7 +93,7 @@ read_taken read old b c u v new newer lines s ended none line before is good r =
       taken = s.taken ++ items;
       all = s.all ∙ sym (append-nil (s.taken ++ items)) ∙ ap (λ (xs : List ℕ). (s.taken ++ items) ++ xs) (sym none);
       closed = closed_both s.taken items s.closed ended;
-      good = subst AreGood (sym all) (good_both (lines_of_book s.taken) lines s.good good);
+      good = subst HaveNoFault (sym all) (good_both (lines_of_book s.taken) lines s.good good);
       line = omega (arith, line, s.line, ap length all, length-append (lines_of_book s.taken) lines);
       before = omega (arith, before, s.before, length-append s.taken items);
       reaches = reaches_as (λ more. lines_of_book s.taken ++ (lines ++ more)) (λ more. lines_of_book (s.taken ++ items) ++ more) old c newer

@@ -7,7 +7,7 @@ use Rattle.e_text.specs.declared.line.LineEnd.{LineEnd}
 use Rattle.e_text.specs.declared.line.LineEnd.TheVariants.{TextEnd}
 use Rattle.e_text.specs.declared.line.LineFault.{LineFault}
 use Rattle.e_text.specs.Tokens.{tokens_of}
-use Rattle.e_text.specs.Lines.{is_lf, Bounds, Spot, Seen, AreGood, checked, closed, ended, lines_of}
+use Rattle.e_text.specs.Lines.{is_lf, Bounds, Spot, Seen, HaveNoFault, checked, closed, ended, lines_of}
 use Rattle.e_text.proofs.FirstLine.{then_lines}
 use Rattle.e_text.proofs.WholeLines.{lines_of-closed, lines_of-open, spot_behind}
 use Rattle.e_book.specs.declared.fault.BookFault.{BookFault}
@@ -61,58 +61,58 @@ by_skip P true r q a h skipped read = skipped refl h
 by_skip P false r q a h skipped read = read h
 
 -- where something is read, the lines are good if those behind it are
-good_before : (known : Known) (last : ℕ) (s : Option Coming) (lines : Rest) (i : BookItem) (rest : Rest) → item_from known last s lines ≡ found i rest → AreGood rest → AreGood lines
+good_before : (known : Known) (last : ℕ) (s : Option Coming) (lines : Rest) (i : BookItem) (rest : Rest) → item_from known last s lines ≡ found i rest → HaveNoFault rest → HaveNoFault lines
 good_before known last s [] i rest h good = absurd (at_end_found last s i rest h)
 good_before known last s (Err f ∷ lines) i rest h good = absurd cc
 good_before known last s (Ok l ∷ lines) i rest h good =
     let words = tokens_of l.bytes in
-    by_skip (AreGood lines) (is_skipped words) (item_from known last s lines) (put_at l.number (line_said known s words) >>= λ c. whole_or (whole c) lines (item_from known last (Some c) lines)) (found i rest) h
+    by_skip (HaveNoFault lines) (is_skipped words) (item_from known last s lines) (put_at l.number (line_said known s words) >>= λ c. whole_or (whole c) lines (item_from known last (Some c) lines)) (found i rest) h
     (λ skip e. good_before known last s lines i rest e good)
     (λ q. let a = bind_ok (put_at l.number (line_said known s words)) (λ c. whole_or (whole c) lines (item_from known last (Some c) lines)) (Some (i, rest)) q in
-    by_found (AreGood lines) (whole a.0) i lines rest (item_from known last (Some a.0) lines) a.2 (λ ends e. subst AreGood (sym e) good) (λ e. good_before known last (Some a.0) lines i rest e good))
+    by_found (HaveNoFault lines) (whole a.0) i lines rest (item_from known last (Some a.0) lines) a.2 (λ ends e. subst HaveNoFault (sym e) good) (λ e. good_before known last (Some a.0) lines i rest e good))
 
 -- where none is read any more, all lines are good
-good_at_end : (known : Known) (last : ℕ) (s : Option Coming) (lines : Rest) → item_from known last s lines ≡ none_left → AreGood lines
+good_at_end : (known : Known) (last : ℕ) (s : Option Coming) (lines : Rest) → item_from known last s lines ≡ none_left → HaveNoFault lines
 good_at_end known last s [] h = tt
 good_at_end known last s (Err f ∷ lines) h = absurd cc
 good_at_end known last s (Ok l ∷ lines) h =
     let words = tokens_of l.bytes in
-    by_skip (AreGood lines) (is_skipped words) (item_from known last s lines) (put_at l.number (line_said known s words) >>= λ c. whole_or (whole c) lines (item_from known last (Some c) lines)) none_left h
+    by_skip (HaveNoFault lines) (is_skipped words) (item_from known last s lines) (put_at l.number (line_said known s words) >>= λ c. whole_or (whole c) lines (item_from known last (Some c) lines)) none_left h
     (λ skip e. good_at_end known last s lines e)
     (λ q. let a = bind_ok (put_at l.number (line_said known s words)) (λ c. whole_or (whole c) lines (item_from known last (Some c) lines)) None q in
-    by_none (AreGood lines) (whole a.0) lines (item_from known last (Some a.0) lines) a.2 (λ e. good_at_end known last (Some a.0) lines e))
+    by_none (HaveNoFault lines) (whole a.0) lines (item_from known last (Some a.0) lines) a.2 (λ e. good_at_end known last (Some a.0) lines e))
 
-good_defined : (last : ℕ) (known : Known) (lines : Rest) (ns : List Titled) (now : Known) (rest : Rest) → Defines last known lines ns now rest → AreGood rest → AreGood lines
-good_defined last known lines [] now rest d good = subst AreGood (sym d.1) good
+good_defined : (last : ℕ) (known : Known) (lines : Rest) (ns : List Titled) (now : Known) (rest : Rest) → Defines last known lines ns now rest → HaveNoFault rest → HaveNoFault lines
+good_defined last known lines [] now rest d good = subst HaveNoFault (sym d.1) good
 good_defined last known lines (n ∷ ns) now rest d good =
     good_before known last None lines (OfNotion n) d.0 d.1 (good_defined last (and_notion known n) d.0 ns now rest d.2 good)
 
-good_taken : (last : ℕ) (known : Known) (lines : Rest) (ts : List Entry) (now : Known) (rest : Rest) → Takes last known lines ts now rest → AreGood rest → AreGood lines
+good_taken : (last : ℕ) (known : Known) (lines : Rest) (ts : List Entry) (now : Known) (rest : Rest) → Takes last known lines ts now rest → HaveNoFault rest → HaveNoFault lines
 good_taken last known lines [] now rest h good = good_defined last known lines h.notions now rest h.defines good
 good_taken last known lines (t ∷ ts) now rest h good =
     good_defined last known lines h.2.notions h.0 h.1 h.2.defines
     (good_before h.0 last None h.1 (OfTheorem t) h.3 h.4 (good_taken last (and_theorem h.0 t) h.3 ts now rest h.6 good))
 
-pub good_accepted : (lines : Rest) (ts : List Entry) (n : ℕ) → IsOutcome lines ts (Accepted n) → AreGood lines
+pub good_accepted : (lines : Rest) (ts : List Entry) (n : ℕ) → IsOutcome lines ts (Accepted n) → HaveNoFault lines
 good_accepted lines ts n h = good_taken _ nothing_known lines ts h.known h.rest h.begins (good_at_end h.known (end_line_number lines) None h.rest h.ends.0)
 
 -- ---- a text without a faulty line is short enough
 
-not_passed : (w : Bounds) (at : Spot) (bytes : List ℕ) (end : LineEnd) (later : ℕ) (rest : Rest) → w.most < later → AreGood (then_lines (checked w at bytes end later) rest) → ⊥
+not_passed : (w : Bounds) (at : Spot) (bytes : List ℕ) (end : LineEnd) (later : ℕ) (rest : Rest) → w.most < later → HaveNoFault (then_lines (checked w at bytes end later) rest) → ⊥
 not_passed w at bytes end later rest far good =
     let test : ltb w.most later ≡ true = lt-ltb _ _ far in
     rw test at good
 
-not_passed_alone : (w : Bounds) (at : Spot) (bytes : List ℕ) (end : LineEnd) (later : ℕ) → w.most < later → AreGood (checked w at bytes end later ∷ []) → ⊥
+not_passed_alone : (w : Bounds) (at : Spot) (bytes : List ℕ) (end : LineEnd) (later : ℕ) → w.most < later → HaveNoFault (checked w at bytes end later ∷ []) → ⊥
 not_passed_alone w at bytes end later far good =
     let test : ltb w.most later ≡ true = lt-ltb _ _ far in
     rw test at good
 
-pub good_rest : (r : Result Seen LineFault) (rest : Rest) → AreGood (then_lines r rest) → AreGood rest
+pub good_rest : (r : Result Seen LineFault) (rest : Rest) → HaveNoFault (then_lines r rest) → HaveNoFault rest
 good_rest (Ok l) rest h = h
 good_rest (Err f) rest h = absurd h
 
-pub short_by_size : (size : ℕ) (w : Bounds) (at : Spot) (text : List ℕ) → length text ≤ size → at.before ≤ w.most → AreGood (lines_of w at text) → at.before + length text ≤ w.most
+pub short_by_size : (size : ℕ) (w : Bounds) (at : Spot) (text : List ℕ) → length text ≤ size → at.before ≤ w.most → HaveNoFault (lines_of w at text) → at.before + length text ≤ w.most
 short_by_size zero w at [] le within good = omega arith
 short_by_size zero w at (b ∷ bs) le within good = absurd (omega arith)
 short_by_size (suc size) w at [] le within good = omega arith
@@ -124,7 +124,7 @@ short_by_size (suc size) w at (b ∷ bs) le within good =
           let part = take n text in
           let len : length part ≡ n = length-take-le n text (omega arith) in
           let after = drop (n + 1) text in
-          let split = subst AreGood (lines_of-closed w at text lt) good in
+          let split = subst HaveNoFault (lines_of-closed w at text lt) good in
           elim (cases_lt w.most (at.before + length part + 1)) [
             | inl far ↦ absurd (not_passed w at (ended part []).0 (ended part []).1 (at.before + length part + 1) (lines_of w (spot_behind at (length part)) after) far split)
             | inr near ↦
@@ -133,7 +133,7 @@ short_by_size (suc size) w at (b ∷ bs) le within good =
           ]
       | inr le' ↦
           elim (cases_lt w.most (at.before + length text)) [
-            | inl far ↦ absurd (not_passed_alone w at text TextEnd (at.before + length text) far (subst AreGood (lines_of-open w at text (omega arith) le') good))
+            | inl far ↦ absurd (not_passed_alone w at text TextEnd (at.before + length text) far (subst HaveNoFault (lines_of-open w at text (omega arith) le') good))
             | inr near ↦ near
           ]
     ]

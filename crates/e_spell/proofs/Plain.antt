@@ -6,7 +6,7 @@ use Rattle.std.proofs.lemmas.List.Elements.{filter-append}
 use Rattle.e_literal.specs.declared.object.Sort.TheVariants.{Point, Line, Circle}
 use Rattle.e_clause.specs.declared.cert.Cert.{Cert}
 use Rattle.e_deriv.specs.declared.names.Names.{Names}
-use Rattle.e_construct.specs.Construct.{made}
+use Rattle.e_construct.specs.Construct.{sorts_made}
 use Rattle.e_construct.specs.Superposing as superposing
 use Rattle.e_deriv.specs.Naming.{named}
 use Rattle.e_deriv.specs.Script.{Script, Cite, Hence, Make, Apply, Claim, Superposed, Qed, Contradiction, Cases, erased}
@@ -68,7 +68,7 @@ script_stays known ns (Cite by rest) = ap (λ (x : List (List ℕ)). line_of (by
 script_stays known ns (Hence lit cert rest) =
     ap (λ (x : List (List ℕ)). line_of (hence_form ns lit) ∷ x) (certified_stay ns (option_to_list cert) (script_lines known ns rest) ∙ script_stays known ns rest)
 script_stays known ns (Make form names cs rest) =
-    let after = named ns (made form) names in
+    let after = named ns (sorts_made form) names in
     ap (λ (x : List (List ℕ)). line_of (let_form ns form names) ∷ x) (certified_stay ns cs (script_lines known after rest) ∙ script_stays known after rest)
 script_stays known ns (Apply theorem args names cs rest) =
     let after = named ns (theorem_of known theorem).made names in
@@ -77,7 +77,7 @@ script_stays known ns (Claim shown inner rest) =
     ap (λ (x : List (List ℕ)). line_of (claim_form ns shown) ∷ x)
     (both_stay (script_lines known ns inner) (script_lines known ns rest) (script_forms known ns (erased inner)) (script_forms known ns (erased rest)) (script_stays known ns inner) (script_stays known ns rest))
 script_stays known ns (Superposed form names shown cs inner rest) =
-    let inside = named ns superposing.made names in
+    let inside = named ns superposing.sorts_copied names in
     ap (λ (x : List (List ℕ)). line_of (superpose_form ns form names shown) ∷ x)
     (certified_stay ns cs (script_lines known inside inner ++ script_lines known ns rest)
     ∙ both_stay (script_lines known inside inner) (script_lines known ns rest) (script_forms known inside (erased inner)) (script_forms known ns (erased rest)) (script_stays known inside inner) (script_stays known ns rest))

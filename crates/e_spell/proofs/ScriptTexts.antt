@@ -7,7 +7,7 @@ use Rattle.e_literal.specs.declared.literal.Lit.{Lit}
 use Rattle.e_literal.specs.declared.object.Obj.{Obj}
 use Rattle.e_clause.specs.declared.cert.Against.{Against}
 use Rattle.e_clause.specs.declared.cert.Cert.{Cert}
-use Rattle.e_construct.specs.Construct.{made}
+use Rattle.e_construct.specs.Construct.{sorts_made}
 use Rattle.e_construct.specs.Superposing as superposing
 use Rattle.e_deriv.specs.declared.names.Names.{Names}
 use Rattle.e_deriv.specs.Naming.{named}
@@ -41,7 +41,7 @@ before_text known ns (Inferred lit cert) rest =
     ∙ sym (append_assoc (lit_text (codes "hence") ns lit) (certs_text ns (option_to_list cert)) (text_of (script_lines known ns rest)))
 before_text known ns (Made form names certs) rest =
     let words = spaced (construction_words ns form names) ++ 10 ∷ [] in
-    let after = script_lines known (named ns (made form) names) rest in
+    let after = script_lines known (named ns (sorts_made form) names) rest in
     ap (λ (t : List ℕ). codes "let" ++ (words ++ t)) (of_certified ns certs after)
     ∙ ap (λ (t : List ℕ). codes "let" ++ t) (sym (append_assoc words (certs_text ns certs) (text_of after)))
 before_text known ns (Applied theorem args names certs) rest =
@@ -55,7 +55,7 @@ before_text known ns (Claimed shown inner) rest =
     ∙ sym (append_assoc (claim_text ns shown) (text_of inside) (text_of after))
 before_text known ns (Copied form names shown certs inner) rest =
     let line = superposition_text ns form names shown in
-    let inside = script_lines known (named ns superposing.made names) inner in
+    let inside = script_lines known (named ns superposing.sorts_copied names) inner in
     let after = script_lines known ns rest in
     ap (λ (t : List ℕ). line ++ t) (of_certified ns certs (inside ++ after) ∙ ap (λ (t : List ℕ). certs_text ns certs ++ t) (of_lines inside after) ∙ sym (append_assoc (certs_text ns certs) (text_of inside) (text_of after)))
     ∙ sym (append_assoc line (certs_text ns certs ++ text_of inside) (text_of after))

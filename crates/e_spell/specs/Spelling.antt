@@ -8,7 +8,7 @@ use Rattle.e_deriv.specs.declared.stop.Wanted.{Wanted}
 use Rattle.e_deriv.specs.declared.stop.Wanted.TheVariants.{Literal, Match, Contradiction as AContradiction}
 use Rattle.e_deriv.specs.declared.stop.Stop.{Stop}
 use Rattle.e_deriv.specs.declared.stop.Stop.TheVariants.{Unlicensed, TooWide, NoMemory}
-use Rattle.e_construct.specs.Construct.{made}
+use Rattle.e_construct.specs.Construct.{sorts_made}
 use Rattle.e_construct.specs.Superposing as superposing
 use Rattle.e_deriv.specs.Naming.{named}
 use Rattle.e_deriv.specs.Script.{Script, Cite, Hence, Make, Apply, Claim, Superposed, Qed, Contradiction, Cases}
@@ -25,13 +25,13 @@ unfoldable pub script_lines : List Headed → Names → Script → List (List �
 script_lines known ns (Cite by rest) = line_of (by_form ns by) ∷ script_lines known ns rest
 script_lines known ns (Hence lit cert rest) = line_of (hence_form ns lit) ∷ (certs_lines ns (option_to_list cert) ++ script_lines known ns rest)
 script_lines known ns (Make form names certs rest) =
-    line_of (let_form ns form names) ∷ (certs_lines ns certs ++ script_lines known (named ns (made form) names) rest)
+    line_of (let_form ns form names) ∷ (certs_lines ns certs ++ script_lines known (named ns (sorts_made form) names) rest)
 script_lines known ns (Apply theorem args names certs rest) =
     line_of (apply_form known ns theorem args names) ∷ (certs_lines ns certs ++ script_lines known (named ns (theorem_of known theorem).made names) rest)
 script_lines known ns (Claim shown inner rest) = line_of (claim_form ns shown) ∷ (script_lines known ns inner ++ script_lines known ns rest)
 script_lines known ns (Superposed form names shown certs inner rest) =
     line_of (superpose_form ns form names shown)
-    ∷ (certs_lines ns certs ++ (script_lines known (named ns superposing.made names) inner ++ script_lines known ns rest))
+    ∷ (certs_lines ns certs ++ (script_lines known (named ns superposing.sorts_copied names) inner ++ script_lines known ns rest))
 script_lines known ns (Qed objects certs) = line_of (qed_form ns objects) ∷ certs_lines ns certs
 script_lines known ns (Contradiction against) = line_of contradiction_form ∷ contradiction_lines ns against
 script_lines known ns (Cases lit first second) =

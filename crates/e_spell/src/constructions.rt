@@ -3,7 +3,7 @@ ghost use Rattle.std.specs.Prelude.{◌≡◌, ◌++◌, ◌∷◌, [], codes, m
 ghost use Rattle.e_text.specs.Tokens.{spaced};
 ghost use Rattle.e_literal.specs.declared.object.Sort.TheVariants.{Point, Line};
 ghost use Rattle.e_literal.specs.Literal.{obj};
-ghost use Rattle.e_construct.specs.Views.{piece_said};
+ghost use Rattle.e_construct.specs.Views.{piece_view};
 ghost use Rattle.e_book.specs.Canonical.{filled, avoid_words, name_of_object, placed_names};
 ghost use Rattle.e_book.specs.Superposes.{superpose_pieces};
 ghost use Rattle.e_spell.specs.inner.Parts.{construction_words, superposition_words, superposition_text};
@@ -25,7 +25,7 @@ fn put_pieces(
     new: &[Name],
     args: &[Obj],
 ) -> Result<(), AllocError>
-    ensures { OnOk result (out.new.items ≡ out.old.items ++ spaced (filled (map piece_said pieces.now) new.now (map (name_of_object names.now) args.now))) }
+    ensures { OnOk result (out.new.items ≡ out.old.items ++ spaced (filled (map piece_view pieces.now) new.now (map (name_of_object names.now) args.now))) }
 {
     let [piece, pieces @ ..] = pieces else {
         return Ok(());

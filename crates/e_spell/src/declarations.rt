@@ -7,9 +7,8 @@ ghost use Rattle.e_spell.specs.inner.Parts.{role_words, opening, closing, object
 
 use crate::literals::name_of;
 use e_book::sort_word;
-use e_construct::same_sort;
 use e_deriv::Names;
-use e_literal::Sort;
+use e_literal::{Sort, is_same_sort};
 use e_words::{end_line, put};
 use std::alloc::AllocError;
 
@@ -84,7 +83,7 @@ fn put_opening(
     match last {
         None => put_role(out, role, sort),
         Some(before) => {
-            if same_sort(before, sort) {
+            if is_same_sort(before, sort) {
                 return Ok(());
             }
             end_line(out)?;

@@ -1,6 +1,6 @@
 //! The names of the objects in scope while the lines of a proof are written.
 ghost use Rattle.std.specs.Prelude.{◌≡◌, take, IfOk, OnOk};
-ghost use Rattle.e_construct.specs.Superposing.{made};
+ghost use Rattle.e_construct.specs.Superposing.{sorts_copied};
 ghost use Rattle.e_deriv.specs.Naming.{first_names, named};
 ghost use Rattle.e_deriv.specs.PlainStep.{plain_step};
 ghost use Rattle.e_book.specs.Headed.{theorem_of};
@@ -51,7 +51,7 @@ pub(crate) fn with_copies(
     form: Superpose,
     copies: &[Name],
 ) -> Result<Names, AllocError>
-    ensures { IfOk result (λ n. n ≡ named names.now made copies.now) }
+    ensures { IfOk result (λ n. n ≡ named names.now sorts_copied copies.now) }
 {
     let mut inside = names.copy(alloc)?;
     match name_all(&mut inside, form.made(), copies) {

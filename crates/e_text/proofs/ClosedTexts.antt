@@ -7,7 +7,7 @@ use Rattle.std.proofs.lemmas.List.Folds.{list_all-append}
 use Rattle.memchr.specs.Find.{is_byte, Passes, Nowhere}
 use Rattle.e_text.specs.declared.line.LineEnd.TheVariants.{TextEnd}
 use Rattle.e_text.specs.declared.line.LineFault.{LineFault}
-use Rattle.e_text.specs.Lines.{is_lf, Bounds, Spot, Seen, AreGood, checked, closed, lines_of, lines_of_parts, IsClosed, IsOpen, then_more}
+use Rattle.e_text.specs.Lines.{is_lf, Bounds, Spot, Seen, HaveNoFault, checked, closed, lines_of, lines_of_parts, IsClosed, IsOpen, then_more}
 use Rattle.e_text.proofs.FirstLine.{then_lines}
 use Rattle.e_text.proofs.Scans.{false_unless_true}
 
@@ -54,12 +54,12 @@ open_both xs ys h k = list_all-append (λ b. not (is_lf b)) xs ys ∙ and_from _
 -- ---- more lines
 
 -- more lines behind good ones
-pub then_good : (xs ys : Rest) → AreGood xs → then_more xs ys ≡ xs ++ ys
+pub then_good : (xs ys : Rest) → HaveNoFault xs → then_more xs ys ≡ xs ++ ys
 then_good [] ys h = refl
 then_good (Ok l ∷ xs) ys h = ap (λ (ls : Rest). Ok l ∷ ls) (then_good xs ys h)
 then_good (Err f ∷ xs) ys h = absurd h
 
-pub good_both : (xs ys : Rest) → AreGood xs → AreGood ys → AreGood (xs ++ ys)
+pub good_both : (xs ys : Rest) → HaveNoFault xs → HaveNoFault ys → HaveNoFault (xs ++ ys)
 good_both [] ys h k = k
 good_both (Ok l ∷ xs) ys h k = good_both xs ys h k
 good_both (Err f ∷ xs) ys h k = absurd h

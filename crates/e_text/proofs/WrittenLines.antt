@@ -9,7 +9,7 @@ use Rattle.std.proofs.lemmas.List.Splits.{slice_split_at}
 use Rattle.std.proofs.lemmas.List.Sums.{split_at_first}
 use Rattle.e_text.specs.declared.line.LineEnd.TheVariants.{Lf, TextEnd}
 use Rattle.e_text.specs.declared.line.LineFault.{LineFault}
-use Rattle.e_text.specs.Lines.{is_lf, is_allowed, ends_in_cr, Bounds, Spot, Seen, checked, closed, ended, lines_of, lines_of_parts, end_bytes, AreGood, AreShort, text_of_lines, lf_text, numbered}
+use Rattle.e_text.specs.Lines.{is_lf, is_allowed, ends_in_cr, Bounds, Spot, Seen, checked, closed, ended, lines_of, lines_of_parts, end_bytes, HaveNoFault, AreShort, text_of_lines, lf_text, numbered}
 use Rattle.e_text.proofs.FirstLine.{then_lines, split_more, parts_of, seen-checked}
 use Rattle.e_text.proofs.WholeLines.{at_lf, spot_behind, lines_of-closed, lines_of-open}
 
@@ -34,17 +34,17 @@ closed_bytes w at part l e =
     let is = seen-checked w at (ended part []).0 (ended part []).1 (at.before + length part + 1) l e in
     ap (λ (k : Seen). k.bytes ++ end_bytes k.end) (sym is) ∙ ended_bytes part (ends_in_cr part) refl
 
-put_closed : (r : Result Seen LineFault) (rest : List (Result Seen LineFault)) (part after : List ℕ) → ((l : Seen) → r ≡ Ok l → l.bytes ++ end_bytes l.end ≡ part ++ 10 ∷ []) → (AreGood rest → text_of_lines rest ≡ after)
-    → AreGood (then_lines r rest) → text_of_lines (then_lines r rest) ≡ part ++ 10 ∷ after
+put_closed : (r : Result Seen LineFault) (rest : List (Result Seen LineFault)) (part after : List ℕ) → ((l : Seen) → r ≡ Ok l → l.bytes ++ end_bytes l.end ≡ part ++ 10 ∷ []) → (HaveNoFault rest → text_of_lines rest ≡ after)
+    → HaveNoFault (then_lines r rest) → text_of_lines (then_lines r rest) ≡ part ++ 10 ∷ after
 put_closed (Ok l) rest part after bytes more good =
     ap (λ (t : List ℕ). l.bytes ++ (end_bytes l.end ++ t)) (more good) ∙ sym (append_assoc l.bytes (end_bytes l.end) after) ∙ ap (λ (t : List ℕ). t ++ after) (bytes l refl) ∙ append_assoc part (10 ∷ []) after
 put_closed (Err f) rest part after bytes more good = absurd good
 
-put_open : (r : Result Seen LineFault) (text : List ℕ) → ((l : Seen) → r ≡ Ok l → l.bytes ++ end_bytes l.end ≡ text) → AreGood (r ∷ []) → text_of_lines (r ∷ []) ≡ text
+put_open : (r : Result Seen LineFault) (text : List ℕ) → ((l : Seen) → r ≡ Ok l → l.bytes ++ end_bytes l.end ≡ text) → HaveNoFault (r ∷ []) → text_of_lines (r ∷ []) ≡ text
 put_open (Ok l) text bytes good = ap (λ (t : List ℕ). l.bytes ++ t) (append-nil (end_bytes l.end)) ∙ bytes l refl
 put_open (Err f) text bytes good = absurd good
 
-whole_by_size : (size : ℕ) (w : Bounds) (at : Spot) (text : List ℕ) → length text ≤ size → AreGood (lines_of w at text) → text_of_lines (lines_of w at text) ≡ text
+whole_by_size : (size : ℕ) (w : Bounds) (at : Spot) (text : List ℕ) → length text ≤ size → HaveNoFault (lines_of w at text) → text_of_lines (lines_of w at text) ≡ text
 whole_by_size size w at [] le good = refl
 whole_by_size zero w at (b ∷ bs) le good = absurd (omega arith)
 whole_by_size (suc size) w at (b ∷ bs) le good =
@@ -56,18 +56,18 @@ whole_by_size (suc size) w at (b ∷ bs) le good =
           let after = drop (n + 1) text in
           let rest = lines_of w (spot_behind at (length part)) after in
           let e = lines_of-closed w at text lt in
-          let good' : AreGood (then_lines (closed w at part) rest) = subst AreGood e good in
+          let good' : HaveNoFault (then_lines (closed w at part) rest) = subst HaveNoFault e good in
           let feed : get_or text n 0 ≡ 10 = eqb-true _ 10 (at_lf text lt) in
           let cut : part ++ 10 ∷ after ≡ text = ap (λ (x : ℕ). part ++ x ∷ after) (sym feed) ∙ sym (split_at_first is_lf text 0 lt) in
           ap text_of_lines e ∙ put_closed (closed w at part) rest part after (closed_bytes w at part) (λ g. whole_by_size size w (spot_behind at (length part)) after (omega (arith, length-drop (n + 1) text)) g) good' ∙ cut
       | inr le' ↦
           let e = lines_of-open w at text (omega arith) le' in
-          let good' : AreGood (checked w at text TextEnd (at.before + length text) ∷ []) = subst AreGood e good in
+          let good' : HaveNoFault (checked w at text TextEnd (at.before + length text) ∷ []) = subst HaveNoFault e good in
           ap text_of_lines e ∙ put_open (checked w at text TextEnd (at.before + length text)) text (λ l o. ap (λ (k : Seen). k.bytes ++ end_bytes k.end) (sym (seen-checked w at text TextEnd (at.before + length text) l o)) ∙ append-nil text) good'
     ]
 
 -- the lines with their ends, put together, are the text
-pub text_of_lines-lines_of : (w : Bounds) (at : Spot) (text : List ℕ) → AreGood (lines_of w at text) → text_of_lines (lines_of w at text) ≡ text
+pub text_of_lines-lines_of : (w : Bounds) (at : Spot) (text : List ℕ) → HaveNoFault (lines_of w at text) → text_of_lines (lines_of w at text) ≡ text
 text_of_lines-lines_of w at text good = whole_by_size (length text) w at text (omega arith) good
 
 -- ---- written and read

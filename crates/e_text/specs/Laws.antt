@@ -1,12 +1,12 @@
 -- What holds of lines, tokens, names and numerals, whatever the code does.
 use Rattle.std.specs.Prelude.{◌≡◌, ℕ, ◌+◌, ◌-◌, ◌^◌, ◌<◌, ◌≤◌, List, ◌++◌, length, take, Some, decimal}
-use Rattle.e_text.specs.Lines.{Bounds, Spot, AreGood, AreShort, lines_of, text_of_lines, lf_text, numbered, IsClosed, then_more, spot_after}
+use Rattle.e_text.specs.Lines.{Bounds, Spot, HaveNoFault, AreShort, lines_of, text_of_lines, lf_text, numbered, IsClosed, then_more, spot_after}
 use Rattle.e_text.specs.Tokens.{AreTokens, tokens_of, joined}
 use Rattle.e_text.specs.Numerals.{number_of}
 
 -- where no line has a fault, the lines with their ends, put together, are the text
 abbrev pub LinesMakeTheText : Type 0
-LinesMakeTheText = (w : Bounds) (at : Spot) (text : List ℕ) → AreGood (lines_of w at text) → text_of_lines (lines_of w at text) ≡ text
+LinesMakeTheText = (w : Bounds) (at : Spot) (text : List ℕ) → HaveNoFault (lines_of w at text) → text_of_lines (lines_of w at text) ≡ text
 
 -- lines that are written with a line feed behind each are read as these lines
 abbrev pub WrittenLinesAreRead : Type 0
@@ -17,8 +17,8 @@ WrittenLinesAreRead = (w : Bounds) (at : Spot) (lines : List (List ℕ)) → Are
 abbrev pub OneByteMoreIsEnough : Type 0
 OneByteMoreIsEnough = (w : Bounds) (at : Spot) (text : List ℕ) → at.before ≤ w.most → lines_of w at (take (w.most + 1 - at.before) text) ≡ lines_of w at text
 
--- The lines of a text whose front is closed are those of the front and, where none of these has a fault, those of the rest: so they are
--- known before the rest is.
+-- The lines of a text whose front is closed are those of the front and, where none of these has a
+-- fault, those of the rest: so they are known before the rest is.
 abbrev pub FrontsAreRead : Type 0
 FrontsAreRead = (w : Bounds) (at : Spot) (front more : List ℕ) → IsClosed front
     → lines_of w at (front ++ more) ≡ then_more (lines_of w at front) (lines_of w (spot_after w at front) more)

@@ -20,8 +20,8 @@ pub fn one_byte_more_is_enough()
     ensures { OneByteMoreIsEnough }
 {}
 
-/// The lines of a text whose front ends with a line feed are those of the front and then, where none
-/// of these has a fault, those of the rest.
+/// The lines of a text whose front ends with a line feed are those of the front and then, where
+/// none of these has a fault, those of the rest.
 pub fn fronts_are_read()
     ensures { FrontsAreRead }
 {}

@@ -1,4 +1,4 @@
-//! A short spelling, kept where it stands.
+//! A short spelling, kept in place, so that names and titles take no memory.
 ghost use Rattle.std.specs.Prelude.{◌≡◌, ◌≤◌, length, nat_eq};
 ghost use Rattle.std.specs.Hash as fed;
 ghost use Rattle.std.specs.Cmp.Lexicographic.{pointwise, nat_list_eq_equiv};
@@ -11,7 +11,8 @@ use std::fmt;
 use std::hash::{Hash, Hasher};
 use std::marker::Model;
 
-/// At most 24 bytes, seen as these bytes.
+/// At most 24 bytes, seen as these bytes. The rest of the array is 0, so that equal spellings are
+/// equal arrays.
 #[derive(Clone, Copy)]
 pub struct Spelling {
     bytes: [u8; 24],
@@ -38,6 +39,7 @@ impl Model for Spelling {
 }
 
 impl Spelling {
+    /// The spelling of this token.
     pub fn new(token: &[u8]) -> Self
         requires { length token.now ≤ 24 }
         ensures { result ≡ token.now }
@@ -50,6 +52,7 @@ impl Spelling {
         }
     }
 
+    /// The bytes, without those that fill the array up.
     pub fn bytes(&self) -> &[u8]
         ensures { result.now ≡ self.now }
     {

@@ -16,7 +16,7 @@ use Rattle.e_literal.specs.Use.{Stated, scope_of, image, are_arguments, needs_of
 use Rattle.e_literal.proofs.WithImages.{is_moved_in, renamed_scope, renamed_well_formed}
 use Rattle.e_literal.proofs.Sorts.{same_sort_is}
 use Rattle.e_literal.proofs.Booleans.{and_left, and_right}
-use Rattle.e_clause.specs.Judged.{is_good, are_good}
+use Rattle.e_clause.specs.Judged.{is_well_formed_in, are_well_formed_in}
 use Rattle.e_theorem.proofs.Imaging.{counted, counts_grow, made_image, counted_here, counted_other, this_one, none_before, imaged, only_first, paired_behind}
 use Rattle.e_theorem.proofs.Renaming.{same_renamed}
 
@@ -98,7 +98,7 @@ every p q h [] k = refl
 every p q h (o ∷ os) k =
     ap (λ b. b && list_all q os) (h o (and_left (p o) _ k)) ∙ every p q h os (and_right (p o) _ k)
 
-one_good : (t : Stated) (args : List Obj) (s : Scope) (l : Lit) → are_arguments t s args ≡ true → is_given t l ≡ true → is_good s (renamed (declared_images t args) l) ≡ true
+one_good : (t : Stated) (args : List Obj) (s : Scope) (l : Lit) → are_arguments t s args ≡ true → is_given t l ≡ true → is_well_formed_in s (renamed (declared_images t args) l) ≡ true
 one_good t args s l fit given =
     let f = declared_images t args in
     ap (λ b. b && is_well_formed (renamed f l))
@@ -109,18 +109,18 @@ one_good t args s l fit given =
     ∙ renamed_well_formed f l ∙ and_left (is_well_formed l) _ given
 
 each_good : (t : Stated) (args : List Obj) (s : Scope) (ls : List Lit) → are_arguments t s args ≡ true → list_all (is_given t) ls ≡ true
-    → are_good s (map (renamed (declared_images t args)) ls) ≡ true
+    → are_well_formed_in s (map (renamed (declared_images t args)) ls) ≡ true
 each_good t args s [] fit given = refl
 each_good t args s (l ∷ ls) fit given =
-    ap (λ b. b && are_good s (map (renamed (declared_images t args)) ls)) (one_good t args s l fit (and_left (is_given t l) _ given))
+    ap (λ b. b && are_well_formed_in s (map (renamed (declared_images t args)) ls)) (one_good t args s l fit (and_left (is_given t l) _ given))
     ∙ each_good t args s ls fit (and_right (is_given t l) _ given)
 
 pub declared_good : (t : Stated) (args : List Obj) (s : Scope) → is_statement t ≡ true → are_arguments t s args ≡ true
-    → are_good s (map (renamed (declared_images t args)) t.given) ≡ true
+    → are_well_formed_in s (map (renamed (declared_images t args)) t.given) ≡ true
 declared_good t args s states fit = each_good t args s t.given fit (given_all t states)
 
-pub needs_good : (t : Stated) (args : List Obj) (s : Scope) → is_statement t ≡ true → are_arguments t s args ≡ true → are_good s (needs_of_use t args s) ≡ true
-needs_good t args s states fit = ap (are_good s) (needs_declared t args s states fit) ∙ declared_good t args s states fit
+pub needs_good : (t : Stated) (args : List Obj) (s : Scope) → is_statement t ≡ true → are_arguments t s args ≡ true → are_well_formed_in s (needs_of_use t args s) ≡ true
+needs_good t args s states fit = ap (are_well_formed_in s) (needs_declared t args s states fit) ∙ declared_good t args s states fit
 
 -- ---- what a use gives is good too, with the made objects in scope
 
@@ -152,7 +152,7 @@ shown_lands t args s o fit all =
 abbrev is_shown : Stated → Lit → Bool
 is_shown t l = is_well_formed l && all_in_scope (grown (scope_of t) t.made) l
 
-one_gift : (t : Stated) (args : List Obj) (s : Scope) (l : Lit) → are_arguments t s args ≡ true → is_shown t l ≡ true → is_good (grown s t.made) (renamed (image t args s) l) ≡ true
+one_gift : (t : Stated) (args : List Obj) (s : Scope) (l : Lit) → are_arguments t s args ≡ true → is_shown t l ≡ true → is_well_formed_in (grown s t.made) (renamed (image t args s) l) ≡ true
 one_gift t args s l fit shown =
     let f = image t args s in
     ap (λ b. b && is_well_formed (renamed f l))
@@ -162,11 +162,11 @@ one_gift t args s l fit shown =
     ∙ renamed_well_formed f l ∙ and_left (is_well_formed l) _ shown
 
 each_gift : (t : Stated) (args : List Obj) (s : Scope) (ls : List Lit) → are_arguments t s args ≡ true → list_all (is_shown t) ls ≡ true
-    → are_good (grown s t.made) (map (renamed (image t args s)) ls) ≡ true
+    → are_well_formed_in (grown s t.made) (map (renamed (image t args s)) ls) ≡ true
 each_gift t args s [] fit shown = refl
 each_gift t args s (l ∷ ls) fit shown =
-    ap (λ b. b && are_good (grown s t.made) (map (renamed (image t args s)) ls)) (one_gift t args s l fit (and_left (is_shown t l) _ shown))
+    ap (λ b. b && are_well_formed_in (grown s t.made) (map (renamed (image t args s)) ls)) (one_gift t args s l fit (and_left (is_shown t l) _ shown))
     ∙ each_gift t args s ls fit (and_right (is_shown t l) _ shown)
 
-pub gives_good : (t : Stated) (args : List Obj) (s : Scope) → is_statement t ≡ true → are_arguments t s args ≡ true → are_good (grown s t.made) (gives_of_use t args s) ≡ true
+pub gives_good : (t : Stated) (args : List Obj) (s : Scope) → is_statement t ≡ true → are_arguments t s args ≡ true → are_well_formed_in (grown s t.made) (gives_of_use t args s) ≡ true
 gives_good t args s states fit = each_gift t args s t.shown fit (and_right (list_all (is_given t) t.given) _ states)

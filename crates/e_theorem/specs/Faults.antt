@@ -6,7 +6,7 @@ use Rattle.e_literal.specs.Use.{Stated, are_arguments}
 use Rattle.e_theorem.specs.declared.application.UseFault.{UseFault}
 use Rattle.e_theorem.specs.declared.application.UseFault.TheVariants.{BadArgs, NoMemory}
 
--- BadArgs only where the arguments do not fit; want of memory is free
-abbrev pub FaultIs : Stated → List Obj → Scope → UseFault → Type 0
-FaultIs t args s BadArgs = IsFalse (are_arguments t s args)
-FaultIs t args s NoMemory = Unit {0}
+-- BadArgs only where the arguments do not fit; running out of memory is free
+abbrev pub UseFaultIs : Stated → List Obj → Scope → UseFault → Type 0
+UseFaultIs t args s BadArgs = IsFalse (are_arguments t s args)
+UseFaultIs t args s NoMemory = Unit {0}

@@ -1,4 +1,5 @@
-//! The use of a statement: its literals at arguments for the declared objects and new objects for the made ones.
+//! The use of a statement: its literals at arguments for the declared objects and new objects for
+//! the made ones.
 
 ghost use Rattle.std.specs.Prelude.{◌≡◌, ◌<◌, ◌+◌, ◌^◌, ◌++◌, IsTrue, IfOk, IfErr, length, take, map as map_list};
 ghost use Rattle.e_literal.specs.declared.object.Obj.{Obj as Object};
@@ -6,13 +7,13 @@ ghost use Rattle.e_literal.specs.Rename.{image_in, renamed as at_images};
 ghost use Rattle.e_literal.specs.Scopes;
 ghost use Rattle.e_literal.specs.Use.{are_arguments, image, needs_of_use, gives_of_use, scope_of};
 ghost use Rattle.e_theorem.specs.Statements.{stated};
-ghost use Rattle.e_theorem.specs.Faults.{FaultIs};
+ghost use Rattle.e_theorem.specs.Faults.{UseFaultIs};
 ghost use Rattle.e_theorem.specs.Notions.{as_stated, expanded};
 ghost use Rattle.e_theorem.specs.declared.application.UseFault.TheVariants.{NoMemory};
 
 use crate::notion::Notion;
 use crate::statement::Statement;
-use e_literal::{Items, Lit, Map, Obj, Scope, Sort, count, grown, next_objects, renamed};
+use e_literal::{Items, Lit, Map, NOTHING, Obj, Scope, Sort, count, grown, next_objects, renamed};
 use std::alloc::{AllocError, Global};
 use thiserror::Error;
 
@@ -29,7 +30,7 @@ pub enum UseFault {
     /// They are not one object in scope for each declared object, of its sort.
     #[error("the arguments do not fit the declared objects")]
     BadArgs,
-    /// Want of memory.
+    /// Out of memory.
     #[error("out of memory")]
     NoMemory,
 }
@@ -42,10 +43,12 @@ impl From<AllocError> for UseFault {
     }
 }
 
-/// The use of the statement at these arguments: its given literals with the arguments for the declared objects, and
-/// its shown literals with the next objects of the scope for the made ones too.
+/// The use of the statement at these arguments: its given literals with the arguments for the
+/// declared objects, and its shown literals with the next objects of the scope for the made ones
+/// too.
 ///
-/// `BadArgs` exactly where the arguments are not one object in scope for each declared object, of its sort.
+/// `BadArgs` exactly where the arguments are not one object in scope for each declared object, of
+/// its sort.
 pub fn use_of(
     alloc: Global,
     statement: &Statement,
@@ -59,7 +62,7 @@ pub fn use_of(
     ensures fit { IfOk result (λ _. IsTrue (are_arguments (stated statement.now) scope args.now)) }
     ensures needs { IfOk result (λ a. a.needs ≡ needs_of_use (stated statement.now) args.now scope) }
     ensures gives { IfOk result (λ a. a.gives ≡ gives_of_use (stated statement.now) args.now scope) }
-    ensures err { IfErr result (FaultIs (stated statement.now) args.now scope) }
+    ensures err { IfErr result (UseFaultIs (stated statement.now) args.now scope) }
 {
     if !are_of_sorts(scope, statement.declared.items(), args) {
         return Err(UseFault::BadArgs);
@@ -71,9 +74,11 @@ pub fn use_of(
     })
 }
 
-/// What a notion says of these arguments: its literals with the arguments for its declared objects, in order.
+/// What a notion says of these arguments: its literals with the arguments for its declared objects,
+/// in order.
 ///
-/// `BadArgs` exactly where the arguments are not one object in scope for each declared object, of its sort.
+/// `BadArgs` exactly where the arguments are not one object in scope for each declared object, of
+/// its sort.
 pub fn expand(
     alloc: Global,
     notion: &Notion,
@@ -83,12 +88,13 @@ pub fn expand(
     requires few { length notion.now.declared < 2 ^ 16 }
     ensures fit { IfOk result (λ _. IsTrue (are_arguments (as_stated notion.now) scope args.now)) }
     ensures lits { IfOk result (λ ls. ls ≡ expanded notion.now args.now scope) }
-    ensures err { IfErr result (FaultIs (as_stated notion.now) args.now scope) }
+    ensures err { IfErr result (UseFaultIs (as_stated notion.now) args.now scope) }
 {
     expand_first(alloc, notion, args, scope, notion.means.len())
 }
 
-/// The first n literals of what a notion says of these arguments, or all where there are fewer; `BadArgs` as `expand`.
+/// The first n literals of what a notion says of these arguments, or all where there are fewer;
+/// `BadArgs` as `expand`.
 pub fn expand_first(
     alloc: Global,
     notion: &Notion,
@@ -99,7 +105,7 @@ pub fn expand_first(
     requires few { length notion.now.declared < 2 ^ 16 }
     ensures fit { IfOk result (λ _. IsTrue (are_arguments (as_stated notion.now) scope args.now)) }
     ensures lits { IfOk result (λ ls. ls ≡ take most (expanded notion.now args.now scope)) }
-    ensures err { IfErr result (FaultIs (as_stated notion.now) args.now scope) }
+    ensures err { IfErr result (UseFaultIs (as_stated notion.now) args.now scope) }
 {
     if !are_of_sorts(scope, notion.declared.items(), args) {
         return Err(UseFault::BadArgs);
@@ -124,12 +130,6 @@ fn images_declared(
     let images = Map::paired(alloc, &sources, args)?;
     Ok(images)
 }
-
-const NOTHING: Scope = Scope {
-    points: 0,
-    lines: 0,
-    circles: 0,
-};
 
 // The images of the statement's objects: the arguments, and the next objects of the scope.
 fn images(
@@ -172,7 +172,7 @@ fn at(alloc: Global, lits: &[Lit], images: &Map) -> Result<Items<Lit>, AllocErro
     Ok(Items::new(at))
 }
 
-/// The literals with the images of their objects, in their order. It fails only for want of memory.
+/// The literals with the images of their objects, in their order. It fails only when out of memory.
 pub fn all_renamed(alloc: Global, lits: &[Lit], images: &Map) -> Result<Vec<Lit>, AllocError>
     ensures { IfOk result (λ ls. ls.items ≡ map_list (at_images (image_in images.now)) lits.now) }
 {

@@ -9,7 +9,8 @@ ghost use Rattle.e_theorem.specs.Statements.{stated};
 use crate::statement::Statement;
 use e_literal::{Obj, Scope, Sort, count};
 
-/// Whether the pattern has one entry for each declared object, and each object written in it is of its sort and in scope.
+/// Whether the pattern has one entry for each declared object, and each object written in it is of
+/// its sort and in scope.
 pub fn is_pattern(statement: &Statement, pattern: &[Option<Obj>], scope: Scope) -> bool
     ensures { result ≡ Pattern.is_pattern (stated statement.now) scope pattern.now }
 {

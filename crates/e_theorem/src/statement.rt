@@ -2,10 +2,11 @@
 
 use e_literal::{Items, Lit, Sort};
 
-/// For all declared objects with the given literals there are made objects such that the shown literals hold.
+/// For all declared objects with the given literals there are made objects such that the shown
+/// literals hold.
 ///
-/// The objects are numbered by sort, from 0, the declared ones first. A given literal names declared objects
-/// alone, a shown one declared and made ones (System E 2009, section 3.2).
+/// The objects are numbered by sort, from 0, the declared ones first. A given literal names
+/// declared objects alone, a shown one declared and made ones.
 #[derive(Drop)]
 pub struct Statement {
     pub declared: Items<Sort>,

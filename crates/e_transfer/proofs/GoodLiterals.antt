@@ -17,7 +17,7 @@ use Rattle.e_literal.specs.declared.literal.Atom.{Atom}
 use Rattle.e_literal.specs.declared.literal.Atom.TheVariants.{On, OnC, Inside, Center, Between, Same, MeetLL, MeetLC, MeetCC, EqP, EqL, EqC, MagEq, MagLt}
 use Rattle.e_literal.specs.Literal.{negation, obj, is_in_scope, count_of, objects_of_term, objects_of_sum, objects_of_atom, all_in_scope}
 use Rattle.e_literal.specs.Rename.{term_at, mono_at, atom_at}
-use Rattle.e_literal.specs.WellFormed.{is_good_atom, is_well_formed}
+use Rattle.e_literal.specs.WellFormed.{is_well_formed_atom, is_well_formed}
 use Rattle.e_literal.proofs.WithImages.{good_atom_stays}
 use Rattle.e_literal.proofs.Booleans.{and_left, and_right}
 use Rattle.e_clause.specs.Rows.{Row}
@@ -61,7 +61,7 @@ atom_ok r (MagEq x y) = sum_ok r x && sum_ok r y
 atom_ok r (MagLt x y) = sum_ok r x && sum_ok r y
 
 abbrev lit_ok : Row → Lit → Bool
-lit_ok r l = atom_ok r l.atom && is_good_atom l.atom
+lit_ok r l = atom_ok r l.atom && is_well_formed_atom l.atom
 
 abbrev row_ok : Row → Bool
 row_ok r = list_all (lit_ok r) (clause_of r)
@@ -173,14 +173,14 @@ all_in : (r : Row) (scope : Scope) (args : List Obj) → AreOver r scope args �
 all_in r scope args are [] ok = refl
 all_in r scope args are (l ∷ ls) ok =
     let here = and_left (lit_ok r l) (list_all (lit_ok r) ls) ok in
-    and_from _ _ (atom_in r scope args are l.atom (and_left (atom_ok r l.atom) (is_good_atom l.atom) here))
+    and_from _ _ (atom_in r scope args are l.atom (and_left (atom_ok r l.atom) (is_well_formed_atom l.atom) here))
     (all_in r scope args are ls (and_right (lit_ok r l) (list_all (lit_ok r) ls) ok))
 
 all_well : (r : Row) (args : List Obj) (ls : List Lit) → list_all (lit_ok r) ls ≡ true → list_all is_well_formed (map (lit_at r args) ls) ≡ true
 all_well r args [] ok = refl
 all_well r args (l ∷ ls) ok =
     let here = and_left (lit_ok r l) (list_all (lit_ok r) ls) ok in
-    and_from _ _ (good_atom_stays (number args) (line r args) (circle r args) l.atom ∙ and_right (atom_ok r l.atom) (is_good_atom l.atom) here)
+    and_from _ _ (good_atom_stays (number args) (line r args) (circle r args) l.atom ∙ and_right (atom_ok r l.atom) (is_well_formed_atom l.atom) here)
     (all_well r args ls (and_right (lit_ok r l) (list_all (lit_ok r) ls) ok))
 
 with_one : (q : Lit → Bool) (l : Lit) (rest : List Lit) (b : Bool) → q (negation l) ≡ true → list_all q (map negation rest) ≡ true

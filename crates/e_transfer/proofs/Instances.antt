@@ -15,7 +15,7 @@ use Rattle.e_literal.specs.Literal.{negation}
 use Rattle.e_literal.specs.Rename.{term_at, mono_at, atom_at}
 use Rattle.e_clause.specs.Rows.{Row}
 use Rattle.e_clause.specs.Table.{table}
-use Rattle.e_clause.specs.Instance.{Inst, instance_of_row, fits, number, lit_at, clause_of}
+use Rattle.e_clause.specs.Instance.{Inst, instance_of_row, arguments_fit, number, lit_at, clause_of}
 use Rattle.e_transfer.specs.inner.Equations.{line_variable, circle_variable}
 use Rattle.e_transfer.specs.inner.PartsOfChoices.{arguments_from, chosen_arguments, term_last, sum_last, atom_last, ready_at_of}
 
@@ -27,10 +27,10 @@ by_fit false xs lits e = absurd (none-some lits e)
 
 -- an instance has arguments of the row's sorts, and its literals are those of the clause
 pub of_instance : (rule : ℕ) (args : List Obj) (r : Row) (lits : List Lit) → slice_get table rule ≡ Some r → Inst rule args ≡ Some lits
-    → (fits r args ≡ true) × (lits ≡ map (lit_at r args) (clause_of r))
+    → (arguments_fit r args ≡ true) × (lits ≡ map (lit_at r args) (clause_of r))
 unfolding Inst
 of_instance rule args r lits at h =
-    by_fit (fits r args) (map (lit_at r args) (clause_of r)) lits (sym (ap (option_and_then (λ x. instance_of_row x args)) at) ∙ h)
+    by_fit (arguments_fit r args) (map (lit_at r args) (clause_of r)) lits (sym (ap (option_and_then (λ x. instance_of_row x args)) at) ∙ h)
 
 map_at : {X Y : Type 0} (h : X → Y) (xs : List X) (j : ℕ) (y : Y) → slice_get (map h xs) j ≡ Some y → (x : X) × (slice_get xs j ≡ Some x) × (y ≡ h x)
 map_at h [] j y e = absurd (none-some y e)

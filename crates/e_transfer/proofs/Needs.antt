@@ -13,7 +13,7 @@ use Rattle.e_literal.specs.declared.literal.Lit.{Lit}
 use Rattle.e_literal.specs.Literal.{negation, is_in_scope, all_in_scope}
 use Rattle.e_literal.specs.WellFormed.{is_well_formed}
 use Rattle.e_clause.specs.Assignment.{terms_of_lits}
-use Rattle.e_clause.specs.Judged.{is_good, are_good, are_few, are_good_facts}
+use Rattle.e_clause.specs.Judged.{is_well_formed_in, are_well_formed_in, are_few, are_limited_facts}
 use Rattle.e_literal.specs.Same.{same_lit}
 use Rattle.e_literal.specs.Facts.{has, has_all, others, is_metric}
 use Rattle.e_literal.proofs.Booleans.{and_left, and_right}
@@ -237,20 +237,20 @@ one_more_part R xs ps i d p less all here =
 
 -- ---- good facts
 
-pub facts_few : (s : Scope) (facts : List Lit) → are_good_facts s facts ≡ true → length (terms_of_lits facts) ≤ 1100
-facts_few s facts h = leb-true (length (terms_of_lits facts)) 1100 (and_right (are_good s facts) (are_few facts) h)
+pub facts_few : (s : Scope) (facts : List Lit) → are_limited_facts s facts ≡ true → length (terms_of_lits facts) ≤ 1100
+facts_few s facts h = leb-true (length (terms_of_lits facts)) 1100 (and_right (are_well_formed_in s facts) (are_few facts) h)
 
-pub facts_well : (scope : Scope) (facts : List Lit) → are_good scope facts ≡ true → list_all is_well_formed facts ≡ true
+pub facts_well : (scope : Scope) (facts : List Lit) → are_well_formed_in scope facts ≡ true → list_all is_well_formed facts ≡ true
 facts_well scope [] good = refl
 facts_well scope (l ∷ ls) good =
-    let here = and_left (is_good scope l) (are_good scope ls) good in
-    and_from (is_well_formed l) (list_all is_well_formed ls) (and_right (all_in_scope scope l) (is_well_formed l) here) (facts_well scope ls (and_right (is_good scope l) (are_good scope ls) good))
+    let here = and_left (is_well_formed_in scope l) (are_well_formed_in scope ls) good in
+    and_from (is_well_formed l) (list_all is_well_formed ls) (and_right (all_in_scope scope l) (is_well_formed l) here) (facts_well scope ls (and_right (is_well_formed_in scope l) (are_well_formed_in scope ls) good))
 
-pub facts_over : (scope : Scope) (facts : List Lit) → are_good scope facts ≡ true → list_all (all_in_scope scope) facts ≡ true
+pub facts_over : (scope : Scope) (facts : List Lit) → are_well_formed_in scope facts ≡ true → list_all (all_in_scope scope) facts ≡ true
 facts_over scope [] good = refl
 facts_over scope (l ∷ ls) good =
-    let here = and_left (is_good scope l) (are_good scope ls) good in
-    and_from (all_in_scope scope l) (list_all (all_in_scope scope) ls) (and_left (all_in_scope scope l) (is_well_formed l) here) (facts_over scope ls (and_right (is_good scope l) (are_good scope ls) good))
+    let here = and_left (is_well_formed_in scope l) (are_well_formed_in scope ls) good in
+    and_from (all_in_scope scope l) (list_all (all_in_scope scope) ls) (and_left (all_in_scope scope l) (is_well_formed l) here) (facts_over scope ls (and_right (is_well_formed_in scope l) (are_well_formed_in scope ls) good))
 
 -- ---- parts, one by one
 

@@ -12,7 +12,7 @@ use Rattle.e_literal.specs.Literal.{obj, count_of, is_in_scope}
 use Rattle.e_literal.proofs.Sorts.{same_sort_is}
 use Rattle.e_literal.proofs.Booleans.{and_left, and_right}
 use Rattle.e_clause.specs.Rows.{Row}
-use Rattle.e_clause.specs.Instance.{same_sort, all_of, fits, number}
+use Rattle.e_clause.specs.Instance.{same_sort, all_of, arguments_fit, number}
 use Rattle.e_transfer.specs.declared.plan.Plan.{Plan}
 use Rattle.e_transfer.specs.declared.unify.Binding.{Binding}
 use Rattle.e_transfer.specs.declared.unify.Binding.TheVariants as binding
@@ -55,7 +55,7 @@ pub record AreOfRow (r : Row) (args : List Obj) : Type 0 where
   pub middle : all_of Line (take r.lines (drop r.points args)) ≡ true
   pub back : all_of Circle (drop (r.points + r.lines) args) ≡ true
 
-pub of_row : (r : Row) (args : List Obj) → fits r args ≡ true → AreOfRow r args
+pub of_row : (r : Row) (args : List Obj) → arguments_fit r args ≡ true → AreOfRow r args
 of_row r args h =
     let a = eqb (length args) (r.points + r.lines + r.circles) in
     let b = all_of Point (take r.points args) in
@@ -145,7 +145,7 @@ object_is o s n e k = ap (λ x. obj x n) e ∙ ap (λ m. obj o.sort m) k
 
 abbrev Reaches : Row → Scope → List Binding → List ℕ → List Span → Type 0
 Reaches r scope bindings positions spans =
-    (args : List Obj) → IsTrue (fits r args) → IsTrue (list_all (is_in_scope scope) args) → BindingsAgree (number args) bindings
+    (args : List Obj) → IsTrue (arguments_fit r args) → IsTrue (list_all (is_in_scope scope) args) → BindingsAgree (number args) bindings
     → (c : List ℕ) × FitsSpans spans c × (chosen_arguments r positions c ≡ args)
 
 reaches : (r : Row) (scope : Scope) (bindings : List Binding) (representatives order positions : List ℕ) → length bindings ≡ total_of r → RepresentativesAre bindings representatives → OrderIs (length bindings) representatives order

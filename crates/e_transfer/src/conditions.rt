@@ -11,7 +11,7 @@ use e_metric::{are_few_facts, is_well_formed};
 
 /// Whether the literal is in scope and well formed.
 pub fn is_good(scope: Scope, lit: &Lit) -> bool
-    ensures { result ≡ Judged.is_good scope lit.now }
+    ensures { result ≡ Judged.is_well_formed_in scope lit.now }
 {
     in_scope(lit, scope) && is_well_formed(lit)
 }
@@ -19,7 +19,7 @@ pub fn is_good(scope: Scope, lit: &Lit) -> bool
 /// Whether the facts are in scope and well formed, and their terms are few.
 #[tactic(auto, using(crate::proofs::GoodFacts::good_parts))]
 pub fn are_good_facts(scope: Scope, facts: &Facts) -> bool
-    ensures { result ≡ Judged.are_good_facts scope facts.now }
+    ensures { result ≡ Judged.are_limited_facts scope facts.now }
 {
     are_in_scope(scope, facts) && are_few_facts(facts)
 }

@@ -2,7 +2,7 @@
 
 ghost use Rattle.std.specs.Prelude.{IfOk, IsTrue, IsFalse};
 ghost use Rattle.e_literal.specs.Facts.{has};
-ghost use Rattle.e_clause.specs.Judged.{are_good_facts, is_good};
+ghost use Rattle.e_clause.specs.Judged.{are_limited_facts, is_well_formed_in};
 ghost use Rattle.e_clause.specs.Wide.{TransferFromFacts};
 ghost use Rattle.e_metric.specs.Fronts.{AreFronts};
 ghost use Rattle.e_transfer.specs.FoundTransfers.{IsFound, IsFoundByFacts};
@@ -40,8 +40,8 @@ pub enum Found {
 /// systems, and an instance whose diagram literals hold needs a metric literal with a wide system,
 /// of this width. It fails only out of memory.
 pub fn find(alloc: Global, scope: Scope, facts: &Facts, goal: &Lit) -> Result<Found, AllocError>
-    requires facts { IsTrue (are_good_facts scope facts.now) }
-    requires goal { IsTrue (is_good scope goal.now) }
+    requires facts { IsTrue (are_limited_facts scope facts.now) }
+    requires goal { IsTrue (is_well_formed_in scope goal.now) }
     requires not_fact { IsFalse (has facts.now goal.now) }
     ensures { IfOk result (IsFound scope facts.now goal.now) }
 {
@@ -63,8 +63,8 @@ pub fn find_by_facts<'a>(
     facts: &'a Facts,
     goal: &'a Lit,
 ) -> Result<Option<TransferCert>, AllocError>
-    requires facts { IsTrue (are_good_facts scope facts.now) }
-    requires goal { IsTrue (is_good scope goal.now) }
+    requires facts { IsTrue (are_limited_facts scope facts.now) }
+    requires goal { IsTrue (is_well_formed_in scope goal.now) }
     requires not_fact { IsFalse (has facts.now goal.now) }
     ensures { IfOk result (IsFoundByFacts scope facts.now goal.now) }
 {
@@ -96,9 +96,9 @@ pub fn find_by_sums(
     metric_facts: &MetricFacts,
     goal: &Lit,
 ) -> Result<Found, AllocError>
-    requires facts { IsTrue (are_good_facts scope facts.now) }
+    requires facts { IsTrue (are_limited_facts scope facts.now) }
     requires metric_facts { AreFronts facts.now metric_facts.now }
-    requires goal { IsTrue (is_good scope goal.now) }
+    requires goal { IsTrue (is_well_formed_in scope goal.now) }
     requires not_fact { IsFalse (has facts.now goal.now) }
     ensures { IfOk result (IsFound scope facts.now goal.now) }
 {
@@ -119,10 +119,10 @@ pub fn find_prepared<'a>(
     prepared: &'a Prepared,
     goal: &'a Lit,
 ) -> Result<Found, AllocError>
-    requires facts { IsTrue (are_good_facts scope facts.now) }
+    requires facts { IsTrue (are_limited_facts scope facts.now) }
     requires metric_facts { AreFronts facts.now metric_facts.now }
     requires prepared { IsPrepared facts.now prepared.now }
-    requires goal { IsTrue (is_good scope goal.now) }
+    requires goal { IsTrue (is_well_formed_in scope goal.now) }
     requires not_fact { IsFalse (has facts.now goal.now) }
     ensures { IfOk result (IsFound scope facts.now goal.now) }
 {
@@ -151,7 +151,7 @@ pub fn find_prepared<'a>(
 /// may give the goal.
 fn find_where_wide(alloc: Global, query: &Query, width: u128) -> Result<Found, AllocError>
     requires wide { IsWideTransfer query.now.scope query.now.facts.now query.now.goal.now width }
-    requires goal { IsTrue (is_good query.now.scope query.now.goal.now) }
+    requires goal { IsTrue (is_well_formed_in query.now.scope query.now.goal.now) }
     requires not_fact { IsFalse (has query.now.facts.now query.now.goal.now) }
     ensures { IfOk result (IsFound query.now.scope query.now.facts.now query.now.goal.now) }
 {

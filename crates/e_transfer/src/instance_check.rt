@@ -5,7 +5,7 @@ ghost use Rattle.std.specs.List.{list_all};
 ghost use Rattle.e_literal.specs.Facts.{has};
 ghost use Rattle.e_literal.specs.Literal.{all_in_scope, is_in_scope};
 ghost use Rattle.e_literal.specs.WellFormed.{is_well_formed};
-ghost use Rattle.e_clause.specs.Laws.{is_good_wanted};
+ghost use Rattle.e_clause.specs.Laws.{is_well_formed_metric};
 ghost use Rattle.e_clause.specs.Metric.{MetricConsequence};
 ghost use Rattle.e_clause.specs.RuleKinds.{is_transfer};
 ghost use Rattle.e_metric.specs.MetricAnswers.{IsMetricAnswer, IfNo};
@@ -44,7 +44,7 @@ pub fn is_refuted(query: &Query, need: &Lit) -> bool
 
 /// Whether the metric literal follows from the facts, by what is known of them.
 fn answer(alloc: Global, query: &Query, need: &Lit) -> Result<Metric, AllocError>
-    requires well_formed { IsTrue (is_good_wanted (Some need.now)) }
+    requires well_formed { IsTrue (is_well_formed_metric (Some need.now)) }
     ensures answer { IfOk result (IsMetricAnswer query.now.facts.now (Some need.now)) }
     ensures no { IfOk result (λ m. IfNo m (¬ MetricConsequence query.now.facts.now need.now)) }
 {

@@ -2,14 +2,13 @@
 
 ghost use Rattle.std.specs.Prelude.{◌≡◌, ◌⊎◌, ◌++◌, map, if◌then◌else◌, option_to_list, IfOk, OnOk, IsTrue, [], ◌∷◌};
 ghost use Rattle.e_literal.specs.Literal.{negation};
-ghost use Rattle.e_literal.specs.Same.{one_term, coeff_of};
 ghost use Rattle.e_clause.specs.Views.{atom_of, lit_of, row_of};
 ghost use Rattle.e_transfer.specs.inner.Matches;
 ghost use Rattle.e_transfer.specs.inner.Matches.{Cover, CoverAtom, CoverSums, all_cancel, none_cancels, matches_of_term, matches_of_sum, cancellations_of_terms, cancellations_of_sum};
 
 use crate::equations::{Equation, equations_of_atom, equations_of_term, equations_of_terms};
 use e_clause::{Pattern, Row, Shape};
-use e_literal::{Atom, Items, Lit, Mono, Term, canonical};
+use e_literal::{Atom, Items, Lit, Mono, Term, coefficient_in, is_one_term};
 use std::alloc::{AllocError, Global};
 
 /// Matches: each is a list of equations.
@@ -168,26 +167,6 @@ fn add_each(
     Ok(())
 }
 
-/// Whether two terms are one.
-fn is_one_term(a: Term, b: Term) -> bool
-    ensures { result ≡ one_term a b }
-{
-    canonical(a) == canonical(b)
-}
-
-/// The coefficient of a term in a sum, where equal terms are joined.
-fn coefficient(sum: &[Mono], term: Term) -> u128
-    ensures { result ≡ coeff_of sum.now term }
-{
-    let mut total = 0u128;
-    for m in sum {
-        if is_one_term(m.term, term) {
-            total += u128::from(m.coeff);
-        }
-    }
-    total
-}
-
 /// Adds terms of a sum that do not cancel in x - y, each once, until there are two.
 fn add_left(terms: &mut Vec<Term>, sum: &[Mono], x: &[Mono], y: &[Mono]) -> Result<(), AllocError>
     ensures hold { OnOk result (IsTrue (none_cancels x.now y.now terms.old.items)
@@ -196,7 +175,7 @@ fn add_left(terms: &mut Vec<Term>, sum: &[Mono], x: &[Mono], y: &[Mono]) -> Resu
         × IsTrue (all_cancel x.now y.now sum.now)) }
 {
     for m in sum {
-        if coefficient(x, m.term) != coefficient(y, m.term) {
+        if coefficient_in(x, m.term) != coefficient_in(y, m.term) {
             add_once(terms, m.term)?;
         }
     }

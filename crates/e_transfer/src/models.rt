@@ -10,7 +10,6 @@ ghost use Rattle.e_transfer.specs.Models.{value_by, fits_term, fits_terms, is_mo
 
 use e_facts::Facts;
 use e_literal::{Atom, Lit, Mono, Term, canonical, is_degenerate};
-use e_metric::are_apart;
 
 /// Which values the terms have that no list gives.
 #[derive(Clone, Copy)]
@@ -147,7 +146,7 @@ fn may_have(facts: &Facts, filling: Filling, values: &[(Term, u128)], term: Term
     ensures { result ≡ true → IsTrue (fits_term facts.now (value_by filling values.now) term) }
 {
     match term {
-        Term::Seg(a, b) => value(filling, values, term) >= 1 || !are_apart(facts, a, b),
+        Term::Seg(a, b) => value(filling, values, term) >= 1 || !facts.tell_apart(a, b),
         Term::Ang(_, _, _) => match value(filling, values, Term::Right).checked_mul(2) {
             Some(most) => value(filling, values, term) <= most,
             None => false,

@@ -2,7 +2,7 @@
 
 ghost use Rattle.std.specs.Prelude.{◌≡◌, IsTrue, option_copied, not, ◌||◌, true, false};
 ghost use Rattle.std.specs.Option.{ForSome};
-ghost use Rattle.e_clause.specs.Judged.{are_good_facts};
+ghost use Rattle.e_clause.specs.Judged.{are_limited_facts};
 ghost use Rattle.e_transfer.specs.declared.models.Filling.TheVariants as filling;
 ghost use Rattle.e_transfer.specs.Models.{is_model, value_by};
 ghost use Rattle.e_transfer.specs.Areas.{name_areas_of};
@@ -48,7 +48,7 @@ pub struct Query<'a> {
     /// be asked.
     pub areas: &'a [Term],
     ghost step_facts_of: { ForSome (option_copied step_facts) (λ k. k ≡ facts.now) },
-    ghost good: { IsTrue (are_good_facts scope facts.now) },
+    ghost good: { IsTrue (are_limited_facts scope facts.now) },
     ghost marked: { IsTrue (are_marked marks facts.now) },
     ghost named: { IsTrue
         (not (plain_model || spread_model) || name_areas_of areas.now facts.now) },

@@ -7,7 +7,7 @@ use Rattle.std.proofs.lemmas.List.{map-append}
 use Rattle.e_literal.specs.declared.object.Term.{Term}
 use Rattle.e_literal.specs.Rename.{term_at}
 use Rattle.e_literal.specs.Rows.{Summands, terms_of_rows}
-use Rattle.e_literal.specs.Absurd.{Weighed, total, is_good_sign, is_strict, is_absurd}
+use Rattle.e_literal.specs.Absurd.{Weighed, total, allows_multiplier, is_strict, is_absurd}
 use Rattle.e_trim.proofs.TermsAt.{Keeps, Over}
 use Rattle.e_trim.proofs.FormsAt.{form_at, OverForm, weighed_at, OverRows, total_stays}
 
@@ -52,9 +52,9 @@ module _ (p : ℕ → ℕ) (K : ℕ → Type 0) (keeps : Keeps p K) where
       ap (λ n. int_eq n (pos 0) && list_all (λ t. int_eq (total (map (weighed_at p K keeps) ws) t) (pos 0)) (map (term_at p) ts)) (total_stays p K keeps ws t h k.0)
       ∙ ap (λ b. int_eq (total ws t) (pos 0) && b) (cancel_at ws ts h k.1)
 
-  signs_at : (ws : List Weighed) → list_all (λ (w : Weighed). is_good_sign w.row.says w.multiplier) (map (weighed_at p K keeps) ws) ≡ list_all (λ (w : Weighed). is_good_sign w.row.says w.multiplier) ws
+  signs_at : (ws : List Weighed) → list_all (λ (w : Weighed). allows_multiplier w.row.says w.multiplier) (map (weighed_at p K keeps) ws) ≡ list_all (λ (w : Weighed). allows_multiplier w.row.says w.multiplier) ws
   signs_at [] = refl
-  signs_at (w ∷ ws) = ap (λ b. is_good_sign w.row.says w.multiplier && b) (signs_at ws)
+  signs_at (w ∷ ws) = ap (λ b. allows_multiplier w.row.says w.multiplier && b) (signs_at ws)
 
   strict_at : (ws : List Weighed) → list_any (λ (w : Weighed). is_strict w.row.says w.multiplier) (map (weighed_at p K keeps) ws) ≡ list_any (λ (w : Weighed). is_strict w.row.says w.multiplier) ws
   strict_at [] = refl

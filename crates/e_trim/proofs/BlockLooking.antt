@@ -109,8 +109,8 @@ claim_inside before step shown inner x rest is =
     (ap (λ d. inside_of before d x.scope x.facts) e, ap (λ d. step_flags before d x.scope x.facts) e)
 
 pub superposed_inside : (before : List Stated) (step : Step) (form : Superpose) (names : List (List ℕ)) (shown : List Lit) (certs : List Cert) (inner : Box Block Global) (x : Standing) (rest : Script) → step ≡ SuperposedBlock form names shown certs inner
-    → (inside_of before (step_script step rest) x.scope x.facts ≡ outside x.scope x.facts (wants before (script_of inner.value) (grown x.scope superposing.made) (joined_all x.facts (superposing.gives form x.scope)) (goal_of shown)))
-    × (step_flags before (step_script step rest) x.scope x.facts ≡ flags_of before (script_of inner.value) (grown x.scope superposing.made) (joined_all x.facts (superposing.gives form x.scope)) (goal_of shown))
+    → (inside_of before (step_script step rest) x.scope x.facts ≡ outside x.scope x.facts (wants before (script_of inner.value) (grown x.scope superposing.sorts_copied) (joined_all x.facts (superposing.gives_of_superposition form x.scope)) (goal_of shown)))
+    × (step_flags before (step_script step rest) x.scope x.facts ≡ flags_of before (script_of inner.value) (grown x.scope superposing.sorts_copied) (joined_all x.facts (superposing.gives_of_superposition form x.scope)) (goal_of shown))
 superposed_inside before step form names shown certs inner x rest is =
     let e = ap (λ s. step_script s rest) is ∙ step_script-Superposed form names shown certs inner rest in
     (ap (λ d. inside_of before d x.scope x.facts) e, ap (λ d. step_flags before d x.scope x.facts) e)
@@ -198,7 +198,7 @@ close_fits before (CasesClose lit p0 n0 row0 close0 p1 n1 row1 close1) s facts g
 pub two_more : (s : Scope) → is_small s ≡ true → s.points + 2 < 2 ^ 16
 two_more s h = (room s 2 h (omega arith)).0
 
-pub few_copies : (sorts : List Sort) → sorts ≡ superposing.made → length sorts < 2 ^ 15
+pub few_copies : (sorts : List Sort) → sorts ≡ superposing.sorts_copied → length sorts < 2 ^ 15
 few_copies sorts e = let n : length sorts ≡ 2 = ap length e in omega (arith, n)
 
 -- ---- one of several forms

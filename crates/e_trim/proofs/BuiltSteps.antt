@@ -14,7 +14,7 @@ use Rattle.e_literal.specs.Use.{Stated, gives_of_use}
 use Rattle.e_literal.proofs.Booleans.{and_left, and_right}
 use Rattle.e_literal.proofs.Growing.{total_grown}
 use Rattle.e_construct.specs.declared.superpose.Superpose.{Superpose}
-use Rattle.e_construct.specs.Construct.{made, gives}
+use Rattle.e_construct.specs.Construct.{sorts_made, gives_of_construction}
 use Rattle.e_construct.specs.Superposing as superposing
 use Rattle.e_construct.proofs.Sizes.{few_made}
 use Rattle.e_clause.specs.declared.cert.Cert.{Cert}
@@ -155,13 +155,13 @@ small_claim before shown inner s r =
     }
 
 pub small_superposed : (before : List Stated) (form : Superpose) (names : List (List ℕ)) (shown : List Lit) (certs : List Cert) (inner : Box Block Global) (s : Scope) → IsSmallStep before (SuperposedBlock form names shown certs inner) s
-    → AreSmall before (script_of inner.value) (grown s superposing.made)
+    → AreSmall before (script_of inner.value) (grown s superposing.sorts_copied)
 small_superposed before form names shown certs inner s r =
     let x : Standing = record { scope = s; facts = r.small.facts } in
     let step = SuperposedBlock form names shown certs inner in
     let e = step_script-Superposed form names shown certs inner r.rest in
     record {
-      facts = joined_all r.small.facts (superposing.gives form s);
+      facts = joined_all r.small.facts (superposing.gives_of_superposition form s);
       goal = goal_of shown;
       small = subst (λ d. inner_test (λ y. is_small y.scope) before d s r.small.facts ≡ true) e (all_parts (λ y. is_small y.scope) before step r.rest x r.small.goal r.small.small).1;
     }
@@ -180,14 +180,14 @@ first_small : (d : Script) (s : Scope) (before : List Stated) (facts : List Lit)
 unfolding lines
 first_small (Cite x rest) s before facts goal h = (and_parts (is_small s) (list_all (λ (y : Line). is_small y.scope) (lines before rest rest s (joined facts x.lit) goal)) h).0
 first_small (Hence lit cert rest) s before facts goal h = (and_parts (is_small s) (list_all (λ (y : Line). is_small y.scope) (lines before rest rest s (joined facts lit) goal)) h).0
-first_small (Make form names certs rest) s before facts goal h = (and_parts (is_small s) (list_all (λ (y : Line). is_small y.scope) (lines before rest rest (grown s (made form)) (joined_all facts (gives form s)) goal)) h).0
+first_small (Make form names certs rest) s before facts goal h = (and_parts (is_small s) (list_all (λ (y : Line). is_small y.scope) (lines before rest rest (grown s (sorts_made form)) (joined_all facts (gives_of_construction form s)) goal)) h).0
 first_small (Apply theorem args names certs rest) s before facts goal h =
     (and_parts (is_small s) (list_all (λ (y : Line). is_small y.scope) (lines before rest rest (grown s (theorem_at before theorem).made) (joined_all facts (gives_of_use (theorem_at before theorem) (args_of (Apply theorem args names certs rest)) s)) goal)) h).0
 first_small (Claim shown inner rest) s before facts goal h =
     (and_parts (is_small s) (list_all (λ (y : Line). is_small y.scope) (lines before inner inner s facts (goal_of shown) ++ lines before rest rest s (joined_all facts shown) goal)) h).0
 first_small (Superposed form names shown certs inner rest) s before facts goal h =
     (and_parts (is_small s)
-    (list_all (λ (y : Line). is_small y.scope) (lines before inner inner (grown s superposing.made) (joined_all facts (superposing.gives form s)) (goal_of shown) ++ lines before rest rest s (joined_all facts shown) goal)) h).0
+    (list_all (λ (y : Line). is_small y.scope) (lines before inner inner (grown s superposing.sorts_copied) (joined_all facts (superposing.gives_of_superposition form s)) (goal_of shown) ++ lines before rest rest s (joined_all facts shown) goal)) h).0
 first_small (Qed objects certs) s before facts goal h = (and_parts (is_small s) true h).0
 first_small (Contradiction against) s before facts goal h = (and_parts (is_small s) true h).0
 first_small (Cases lit first second) s before facts goal h =

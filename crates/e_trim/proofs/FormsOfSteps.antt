@@ -27,7 +27,7 @@ use Rattle.e_construct.specs.declared.construction.Shape.{Shape}
 use Rattle.e_construct.specs.declared.construction.Shape.TheVariants.{Free, OnLine, Within, Beyond, SideOf, Opposite, OnCircle, Inside, Outside, LineThrough, CircleAt, MeetLines, MeetOne, MeetBoth, MeetWithin, MeetBeyond, CirclesOne, CirclesBoth, CirclesSide, CirclesOpposite}
 use Rattle.e_construct.specs.declared.superpose.Superpose.{Superpose}
 use Rattle.e_construct.specs.Shapes.{ShapeRow, Avoids, NoObject, AnyObject, AnyApartFrom, shape_row}
-use Rattle.e_construct.specs.Construct.{row_of, sorts_of, unequal, argument, of_sort, needs_of_avoided, made, avoiding, made_by_row, gives_of_avoided, gives, needs, fits, avoids_well}
+use Rattle.e_construct.specs.Construct.{row_of_construction, sorts_of, unequal, argument, of_sort, needs_of_avoided, sorts_made, avoiding, made_by_row, gives_of_avoided, gives_of_construction, needs_of_construction, fits_construction, avoids_well}
 use Rattle.e_construct.specs.Superposing as superposing
 use Rattle.e_literal.proofs.Growing.{sorts_next, counts_nothing}
 use Rattle.e_theorem.proofs.Imaging.{counted_here, counted_other, this_one, sources, targets, imaged, sorts_agree, same_images}
@@ -142,9 +142,9 @@ avoids_at kept s NoObject os h k = ap (λ n. eqb n 0) (length-map os (obj_at kep
 avoids_at kept s AnyObject os h k = objects_scope kept os k
 avoids_at kept s (AnyApartFrom o) os h k = objects_scope kept os k
 
-pub fits_at : (kept : List Obj) (s : Scope) (form : Construction) → fits form s ≡ true → AllKept kept (form.args ++ form.avoid) → fits (form_at kept form) (scope_kept kept) ≡ true
+pub fits_at : (kept : List Obj) (s : Scope) (form : Construction) → fits_construction form s ≡ true → AllKept kept (form.args ++ form.avoid) → fits_construction (form_at kept form) (scope_kept kept) ≡ true
 fits_at kept s form h k =
-    let r = row_of form in
+    let r = row_of_construction form in
     let p = and_parts (are_of_sorts s (sorts_of r.args) form.args) (avoids_well s r.avoids form.avoid) h in
     and_from (are_of_sorts (scope_kept kept) (sorts_of r.args) (map (obj_at kept) form.args)) (avoids_well (scope_kept kept) r.avoids (map (obj_at kept) form.avoid))
     (of_sorts_at kept s (sorts_of r.args) form.args p.0 (λ o i. k o (in_left o form.args form.avoid i))) (avoids_at kept s r.avoids form.avoid p.1 (λ o i. k o (in_right o form.args form.avoid i)))
@@ -217,9 +217,9 @@ apart_at kept r (AnyApartFrom o) args os s h =
     ∙ unequals_at kept (argument r args o) (of_sort o.sort os) (λ y i. q.1 ∙ are_of_sort o.sort os y i)
 
 -- what it needs, over the kept objects
-pub needs_at : (kept : List Obj) (s : Scope) (form : Construction) → fits form s ≡ true → needs (form_at kept form) ≡ map (lit_at kept) (needs form)
+pub needs_at : (kept : List Obj) (s : Scope) (form : Construction) → fits_construction form s ≡ true → needs_of_construction (form_at kept form) ≡ map (lit_at kept) (needs_of_construction form)
 needs_at kept s form h =
-    let r = row_of form in
+    let r = row_of_construction form in
     let p = and_parts (are_of_sorts s (sorts_of r.args) form.args) (avoids_well s r.avoids form.avoid) h in
     let z = sorts_are s (sorts_of r.args) form.args p.0 in
     let q = and_parts (list_all (speaks_of r.args) r.needs) (list_all (speaks_of (r.args ++ r.made)) r.gives && avoids_closed r r.avoids) (closed form.shape) in
@@ -304,11 +304,11 @@ avoided_at kept s r AnyObject os b k h w = kept_avoided kept s r.made os b k h
 avoided_at kept s r (AnyApartFrom o) os b k h w = kept_avoided kept s r.made os b k (and_parts (begins_with_point r.made) (is_var r.args o) h).0
 
 -- what it gives, over the kept objects and the new ones
-pub gives_at : (kept : List Obj) (s : Scope) (form : Construction) → Bound s kept → AllKept kept (form.args ++ form.avoid) → fits form s ≡ true
-    → gives (form_at kept form) (scope_kept kept) ≡ map (lit_at (kept ++ next_objects s (made form))) (gives form s)
+pub gives_at : (kept : List Obj) (s : Scope) (form : Construction) → Bound s kept → AllKept kept (form.args ++ form.avoid) → fits_construction form s ≡ true
+    → gives_of_construction (form_at kept form) (scope_kept kept) ≡ map (lit_at (kept ++ next_objects s (sorts_made form))) (gives_of_construction form s)
 gives_at kept s form b k h =
-    let r = row_of form in
-    let more = kept ++ next_objects s (made form) in
+    let r = row_of_construction form in
+    let more = kept ++ next_objects s (sorts_made form) in
     let p = and_parts (are_of_sorts s (sorts_of r.args) form.args) (avoids_well s r.avoids form.avoid) h in
     let z = sorts_are s (sorts_of r.args) form.args p.0 in
     let q = and_parts (list_all (speaks_of r.args) r.needs) (list_all (speaks_of (r.args ++ r.made)) r.gives && avoids_closed r r.avoids) (closed form.shape) in
@@ -336,19 +336,19 @@ closed_needs = refl
 closed_gives : list_all (speaks_of (superposing.superposed_args ++ superposing.copies)) superposing.superposed_gives ≡ true
 closed_gives = refl
 
-pub superposition_fits : (kept : List Obj) (s : Scope) (x : Superpose) → superposing.fits x s ≡ true → AllKept kept (superposing.objects_of x) → superposing.fits (superpose_at kept x) (scope_kept kept) ≡ true
+pub superposition_fits : (kept : List Obj) (s : Scope) (x : Superpose) → superposing.fits_superposition x s ≡ true → AllKept kept (superposing.objects_of x) → superposing.fits_superposition (superpose_at kept x) (scope_kept kept) ≡ true
 superposition_fits kept s x h k =
     ap (are_of_sorts (scope_kept kept) (sorts_of superposing.superposed_args)) (superposed_objects kept x) ∙ of_sorts_at kept s (sorts_of superposing.superposed_args) (superposing.objects_of x) h k
 
-pub superposition_needs : (kept : List Obj) (s : Scope) (x : Superpose) → superposing.fits x s ≡ true → superposing.needs (superpose_at kept x) ≡ map (lit_at kept) (superposing.needs x)
+pub superposition_needs : (kept : List Obj) (s : Scope) (x : Superpose) → superposing.fits_superposition x s ≡ true → superposing.needs_of_superposition (superpose_at kept x) ≡ map (lit_at kept) (superposing.needs_of_superposition x)
 superposition_needs kept s x h =
     ap (λ os. map (renamed (image_in (paired superposing.superposed_args os))) superposing.superposed_needs) (superposed_objects kept x)
     ∙ at_vars kept superposing.superposed_args (superposing.objects_of x) superposing.superposed_needs (sorts_are s (sorts_of superposing.superposed_args) (superposing.objects_of x) h) closed_needs
 
-pub superposition_gives : (kept : List Obj) (s : Scope) (x : Superpose) → Bound s kept → AllKept kept (superposing.objects_of x) → superposing.fits x s ≡ true
-    → superposing.gives (superpose_at kept x) (scope_kept kept) ≡ map (lit_at (kept ++ next_objects s superposing.made)) (superposing.gives x s)
+pub superposition_gives : (kept : List Obj) (s : Scope) (x : Superpose) → Bound s kept → AllKept kept (superposing.objects_of x) → superposing.fits_superposition x s ≡ true
+    → superposing.gives_of_superposition (superpose_at kept x) (scope_kept kept) ≡ map (lit_at (kept ++ next_objects s superposing.sorts_copied)) (superposing.gives_of_superposition x s)
 superposition_gives kept s x b k h =
-    ap (λ os. map (renamed (image_in (paired superposing.superposed_args os ++ paired superposing.copies (next_objects (scope_kept kept) superposing.made)))) superposing.superposed_gives) (superposed_objects kept x)
+    ap (λ os. map (renamed (image_in (paired superposing.superposed_args os ++ paired superposing.copies (next_objects (scope_kept kept) superposing.sorts_copied)))) superposing.superposed_gives) (superposed_objects kept x)
     ∙ at_new_vars kept s superposing.superposed_args superposing.copies (superposing.objects_of x) superposing.superposed_gives b k (sorts_are s (sorts_of superposing.superposed_args) (superposing.objects_of x) h) closed_gives
 
 -- ---- uses
@@ -554,9 +554,9 @@ apart_over kept r (AnyApartFrom o) args os z h k j =
     let q = argument_at kept r args o z v in
     over_map kept (unequal (argument r args o)) (of_sort o.sort os) (λ y i. unequal_over kept (argument r args o) y (k (argument r args o) (argument_in r args o z v)) (j y (in_sorted o.sort os y i)) (q.1 ∙ are_of_sort o.sort os y i))
 
-pub needs_over : (kept : List Obj) (s : Scope) (form : Construction) → fits form s ≡ true → AllKept kept (form.args ++ form.avoid) → OverLits kept (needs form)
+pub needs_over : (kept : List Obj) (s : Scope) (form : Construction) → fits_construction form s ≡ true → AllKept kept (form.args ++ form.avoid) → OverLits kept (needs_of_construction form)
 needs_over kept s form h k =
-    let r = row_of form in
+    let r = row_of_construction form in
     let p = and_parts (are_of_sorts s (sorts_of r.args) form.args) (avoids_well s r.avoids form.avoid) h in
     let z = sorts_are s (sorts_of r.args) form.args p.0 in
     let q = and_parts (list_all (speaks_of r.args) r.needs) (list_all (speaks_of (r.args ++ r.made)) r.gives && avoids_closed r r.avoids) (closed form.shape) in
@@ -591,21 +591,21 @@ new_vars_over kept s vars new args ls k z h =
     = λ o i. elim (in_either o args next i) [ inl j ↦ in_left o kept next (k o j) | inr j ↦ in_right o kept next j ] in
     subst (λ ps. OverLits (kept ++ next) (map (renamed (image_in ps)) ls)) (pairs_both vars new args next z) (vars_over (kept ++ next) (vars ++ new) (args ++ next) ls same_sorts h over)
 
-pub gives_over : (kept : List Obj) (s : Scope) (form : Construction) → fits form s ≡ true → AllKept kept (form.args ++ form.avoid) → OverLits (kept ++ next_objects s (made form)) (gives form s)
+pub gives_over : (kept : List Obj) (s : Scope) (form : Construction) → fits_construction form s ≡ true → AllKept kept (form.args ++ form.avoid) → OverLits (kept ++ next_objects s (sorts_made form)) (gives_of_construction form s)
 gives_over kept s form h k =
-    let r = row_of form in
+    let r = row_of_construction form in
     let p = and_parts (are_of_sorts s (sorts_of r.args) form.args) (avoids_well s r.avoids form.avoid) h in
     let z = sorts_are s (sorts_of r.args) form.args p.0 in
     let q = and_parts (list_all (speaks_of r.args) r.needs) (list_all (speaks_of (r.args ++ r.made)) r.gives && avoids_closed r r.avoids) (closed form.shape) in
     let w = and_parts (list_all (speaks_of (r.args ++ r.made)) r.gives) (avoids_closed r r.avoids) q.1 in
-    over_append (kept ++ next_objects s (made form)) (map (renamed (image_in (paired r.args form.args ++ paired r.made (made_by_row r s)))) r.gives) (gives_of_avoided (made_by_row r s) form.avoid)
+    over_append (kept ++ next_objects s (sorts_made form)) (map (renamed (image_in (paired r.args form.args ++ paired r.made (made_by_row r s)))) r.gives) (gives_of_avoided (made_by_row r s) form.avoid)
     (new_vars_over kept s r.args r.made form.args r.gives (λ o i. k o (in_left o form.args form.avoid i)) z w.0)
     (avoided_over kept s r r.avoids form.avoid (λ o i. k o (in_right o form.args form.avoid i)) w.1 p.1)
 
-pub superposition_needs_over : (kept : List Obj) (s : Scope) (x : Superpose) → superposing.fits x s ≡ true → AllKept kept (superposing.objects_of x) → OverLits kept (superposing.needs x)
+pub superposition_needs_over : (kept : List Obj) (s : Scope) (x : Superpose) → superposing.fits_superposition x s ≡ true → AllKept kept (superposing.objects_of x) → OverLits kept (superposing.needs_of_superposition x)
 superposition_needs_over kept s x h k =
     vars_over kept superposing.superposed_args (superposing.objects_of x) superposing.superposed_needs (sorts_are s (sorts_of superposing.superposed_args) (superposing.objects_of x) h) closed_needs k
 
-pub superposition_gives_over : (kept : List Obj) (s : Scope) (x : Superpose) → superposing.fits x s ≡ true → AllKept kept (superposing.objects_of x) → OverLits (kept ++ next_objects s superposing.made) (superposing.gives x s)
+pub superposition_gives_over : (kept : List Obj) (s : Scope) (x : Superpose) → superposing.fits_superposition x s ≡ true → AllKept kept (superposing.objects_of x) → OverLits (kept ++ next_objects s superposing.sorts_copied) (superposing.gives_of_superposition x s)
 superposition_gives_over kept s x h k =
     new_vars_over kept s superposing.superposed_args superposing.copies (superposing.objects_of x) superposing.superposed_gives k (sorts_are s (sorts_of superposing.superposed_args) (superposing.objects_of x) h) closed_gives

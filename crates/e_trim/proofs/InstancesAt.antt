@@ -23,7 +23,7 @@ use Rattle.e_clause.specs.Table.Equality.{equality}
 use Rattle.e_clause.specs.Table.Lengths.{lengths}
 use Rattle.e_clause.specs.Table.Angles.{angles}
 use Rattle.e_clause.specs.Instance as instances
-use Rattle.e_clause.specs.Instance.{all_of, fits, lit_at, clause_of, instance_of_row, Inst}
+use Rattle.e_clause.specs.Instance.{all_of, arguments_fit, lit_at, clause_of, instance_of_row, Inst}
 use Rattle.e_trim.specs.Trimmed as trimmed
 use Rattle.e_trim.specs.Trimmed.{obj_at}
 use Rattle.e_trim.proofs.Members.{In, all_in}
@@ -134,7 +134,7 @@ at_place r args Point k = refl
 at_place r args Line k = refl
 at_place r args Circle k = refl
 
-fit_parts : (r : Row) (args : List Obj) → fits r args ≡ true
+fit_parts : (r : Row) (args : List Obj) → arguments_fit r args ≡ true
     → (length args ≡ r.points + r.lines + r.circles) × (all_of Point (take r.points args) ≡ true) × (all_of Line (take r.lines (drop r.points args)) ≡ true) × (all_of Circle (drop (r.points + r.lines) args) ≡ true)
 fit_parts r args h =
     let a = and_parts (eqb (length args) (r.points + r.lines + r.circles)) (all_of Point (take r.points args) && (all_of Line (take r.lines (drop r.points args)) && all_of Circle (drop (r.points + r.lines) args))) h in
@@ -143,7 +143,7 @@ fit_parts r args h =
     (eqb-true (length args) (r.points + r.lines + r.circles) a.0, b.0, c.0, c.1)
 
 -- a variable of the row has an argument of its sort
-argument_at : (r : Row) (args : List Obj) (s : Sort) (k : ℕ) → fits r args ≡ true → k < count_of (range r) s → (o : Obj) × (slice_get args (place r s k) ≡ Some o) × (o.sort ≡ s)
+argument_at : (r : Row) (args : List Obj) (s : Sort) (k : ℕ) → arguments_fit r args ≡ true → k < count_of (range r) s → (o : Obj) × (slice_get args (place r s k) ≡ Some o) × (o.sort ≡ s)
 argument_at r args Point k h l =
     let f = fit_parts r args h in
     let n = length-take r.points args in
@@ -161,7 +161,7 @@ argument_at r args Circle k h l =
     let a = of_sort_at Circle (drop (r.points + r.lines) args) k f.3 (omega (arith, m, f.0, l)) in
     (a.0, sym (slice_drop args (r.points + r.lines) k) ∙ a.1, a.2)
 
-number_moves : (kept : List Obj) (r : Row) (args : List Obj) (s : Sort) (k : ℕ) → fits r args ≡ true → k < count_of (range r) s
+number_moves : (kept : List Obj) (r : Row) (args : List Obj) (s : Sort) (k : ℕ) → arguments_fit r args ≡ true → k < count_of (range r) s
     → numbers r (map (obj_at kept) args) s k ≡ trimmed.number kept s (numbers r args s k)
 number_moves kept r args s k h l =
     let a = argument_at r args s k h l in
@@ -175,7 +175,7 @@ all_of_moves : (kept : List Obj) (s : Sort) (os : List Obj) → all_of s (map (o
 all_of_moves kept s [] = refl
 all_of_moves kept s (o ∷ os) = ap (λ b. same_sort o.sort s && b) (all_of_moves kept s os)
 
-fits_moves : (kept : List Obj) (r : Row) (args : List Obj) → fits r (map (obj_at kept) args) ≡ fits r args
+fits_moves : (kept : List Obj) (r : Row) (args : List Obj) → arguments_fit r (map (obj_at kept) args) ≡ arguments_fit r args
 fits_moves kept r args =
     let n = length-map args (obj_at kept) in
     let a = ap (all_of Point) (take-map (obj_at kept) r.points args) ∙ all_of_moves kept Point (take r.points args) in
@@ -188,19 +188,19 @@ fits_moves kept r args =
 in_range : (r : Row) (l : Lit) (o : Obj) → all_in_scope (range r) l ≡ true → In o (objects_of_atom l.atom) → o.num < count_of (range r) o.sort
 in_range r l o h i = ltb-true o.num (count_of (range r) o.sort) (all_in (is_in_scope (range r)) (objects_of_atom l.atom) o h i)
 
-lit_moves : (kept : List Obj) (r : Row) (args : List Obj) (l : Lit) → fits r args ≡ true → all_in_scope (range r) l ≡ true → lit_at r (map (obj_at kept) args) l ≡ trimmed.lit_at kept (lit_at r args l)
+lit_moves : (kept : List Obj) (r : Row) (args : List Obj) (l : Lit) → arguments_fit r args ≡ true → all_in_scope (range r) l ≡ true → lit_at r (map (obj_at kept) args) l ≡ trimmed.lit_at kept (lit_at r args l)
 lit_moves kept r args l f h =
     ap (λ a. record { neg = l.neg; atom = a })
     (moved_atom kept (numbers r args) (numbers r (map (obj_at kept) args)) l.atom (λ o i. number_moves kept r args o.sort o.num f (in_range r l o h i)))
 
-lits_move : (kept : List Obj) (r : Row) (args : List Obj) (ls : List Lit) → fits r args ≡ true → list_all (all_in_scope (range r)) ls ≡ true
+lits_move : (kept : List Obj) (r : Row) (args : List Obj) (ls : List Lit) → arguments_fit r args ≡ true → list_all (all_in_scope (range r)) ls ≡ true
     → map (lit_at r (map (obj_at kept) args)) ls ≡ map (trimmed.lit_at kept) (map (lit_at r args) ls)
 lits_move kept r args [] f h = refl
 lits_move kept r args (l ∷ ls) f h =
     let p = and_parts (all_in_scope (range r) l) (list_all (all_in_scope (range r)) ls) h in
     ap (λ x. x ∷ map (lit_at r (map (obj_at kept) args)) ls) (lit_moves kept r args l f p.0) ∙ ap (λ xs. trimmed.lit_at kept (lit_at r args l) ∷ xs) (lits_move kept r args ls f p.1)
 
-lit_over : (kept : List Obj) (r : Row) (args : List Obj) (l : Lit) → fits r args ≡ true → all_in_scope (range r) l ≡ true → AllKept kept args → OverLit kept (lit_at r args l)
+lit_over : (kept : List Obj) (r : Row) (args : List Obj) (l : Lit) → arguments_fit r args ≡ true → all_in_scope (range r) l ≡ true → AllKept kept args → OverLit kept (lit_at r args l)
 lit_over kept r args l f h k x i =
     let o = object_from (numbers r args) l.atom x i in
     let a = argument_at r args o.0.sort o.0.num f (in_range r l o.0 h o.1) in
@@ -208,7 +208,7 @@ lit_over kept r args l f h k x i =
     let is : a.0 ≡ x = ap (λ s. obj s a.0.num) a.2 ∙ ap (obj o.0.sort) (sym num) ∙ o.2 in
     k x (subst (λ y. In y args) is (slice_member args (place r o.0.sort o.0.num) a.0 a.1))
 
-lits_over : (kept : List Obj) (r : Row) (args : List Obj) (ls : List Lit) → fits r args ≡ true → list_all (all_in_scope (range r)) ls ≡ true → AllKept kept args → OverLits kept (map (lit_at r args) ls)
+lits_over : (kept : List Obj) (r : Row) (args : List Obj) (ls : List Lit) → arguments_fit r args ≡ true → list_all (all_in_scope (range r)) ls ≡ true → AllKept kept args → OverLits kept (map (lit_at r args) ls)
 lits_over kept r args [] f h k x i = absurd i
 lits_over kept r args (l ∷ ls) f h k x (inl e) =
     let p = and_parts (all_in_scope (range r) l) (list_all (all_in_scope (range r)) ls) h in subst (OverLit kept) e (lit_over kept r args l f p.0 k)
@@ -226,11 +226,11 @@ if_fits true ls ms e = (refl, cc)
 if_fits false ls ms e = absurd cc
 
 -- the row of an instance
-row_of : (rule : ℕ) (args : List Obj) (lits : List Lit) → Inst rule args ≡ Some lits → (r : Row) × (slice_get table rule ≡ Some r) × (fits r args ≡ true) × (map (lit_at r args) (clause_of r) ≡ lits)
+row_of : (rule : ℕ) (args : List Obj) (lits : List Lit) → Inst rule args ≡ Some lits → (r : Row) × (slice_get table rule ≡ Some r) × (arguments_fit r args ≡ true) × (map (lit_at r args) (clause_of r) ≡ lits)
 unfolding Inst
 row_of rule args lits e =
     let a = and_then_is (λ r. instance_of_row r args) (slice_get table rule) lits e in
-    let b = if_fits (fits a.0 args) (map (lit_at a.0 args) (clause_of a.0)) lits a.2 in
+    let b = if_fits (arguments_fit a.0 args) (map (lit_at a.0 args) (clause_of a.0)) lits a.2 in
     (a.0, a.1, b.0, b.1)
 
 -- the instance at the arguments over the kept objects

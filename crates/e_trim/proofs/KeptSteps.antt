@@ -75,25 +75,25 @@ claim_built before kept step shown new inner box s pile left is e built =
     (step_script-Claim new box more ∙ r.0 ∙ ap (λ d. kept_step before kept d s facts more) (sym old), r.1))
 
 superposed_done : (before : List Stated) (kept wide : List Obj) (form : Superpose) (now : Superpose) (names same : List (List ℕ)) (shown new : List Lit) (certs cs : List Cert) (inner box : Box Block Global) (s : Scope) (pile left : List Bool)
-    → wide ≡ kept ++ next_objects s superposing.made → now ≡ superpose_at kept form → same ≡ names → new ≡ map (lit_at kept) shown → cs ≡ map (cert_at kept) certs
-    → BlockIsBuilt before wide (script_of inner.value) (grown s superposing.made) pile left box.value
+    → wide ≡ kept ++ next_objects s superposing.sorts_copied → now ≡ superpose_at kept form → same ≡ names → new ≡ map (lit_at kept) shown → cs ≡ map (cert_at kept) certs
+    → BlockIsBuilt before wide (script_of inner.value) (grown s superposing.sorts_copied) pile left box.value
     → (rest more : Script) (facts : List Lit) (under : List Bool) → pile ≡ under ++ step_flags before (Superposed form names shown certs (script_of inner.value) rest) s facts
     → (Superposed now same new cs (script_of box.value) more ≡ kept_step before kept (Superposed form names shown certs (script_of inner.value) rest) s facts more) × (left ≡ under)
 superposed_done before kept wide form now names same shown new certs cs inner box s pile left w f n e g built rest more facts under h =
-    let opened = joined_all facts (superposing.gives form s) in
+    let opened = joined_all facts (superposing.gives_of_superposition form s) in
     let r = built opened (goal_of shown) under h in (
       ap (λ x. Superposed x same new cs (script_of box.value) more) f
           ∙ ap (λ x. Superposed (superpose_at kept form) x new cs (script_of box.value) more) n
           ∙ ap (λ x. Superposed (superpose_at kept form) names x cs (script_of box.value) more) e
           ∙ ap (λ x. Superposed (superpose_at kept form) names (map (lit_at kept) shown) x (script_of box.value) more) g
           ∙ ap (λ x. Superposed (superpose_at kept form) names (map (lit_at kept) shown) (map (cert_at kept) certs) x more)
-          (r.0 ∙ ap (λ ks. trimmed_from before ks (script_of inner.value) (grown s superposing.made) opened (goal_of shown)) w),
+          (r.0 ∙ ap (λ ks. trimmed_from before ks (script_of inner.value) (grown s superposing.sorts_copied) opened (goal_of shown)) w),
       r.1,
     )
 
 pub superposed_built : (before : List Stated) (kept wide : List Obj) (step : Step) (form now : Superpose) (names same : List (List ℕ)) (shown new : List Lit) (certs cs : List Cert) (inner box : Box Block Global) (s : Scope) (pile left : List Bool)
-    → step ≡ SuperposedBlock form names shown certs inner → wide ≡ kept ++ next_objects s superposing.made → now ≡ superpose_at kept form → same ≡ names → new ≡ map (lit_at kept) shown → cs ≡ map (cert_at kept) certs
-    → BlockIsBuilt before wide (script_of inner.value) (grown s superposing.made) pile left box.value → StepIsBuilt before kept step s pile left (SuperposedBlock now same new cs box)
+    → step ≡ SuperposedBlock form names shown certs inner → wide ≡ kept ++ next_objects s superposing.sorts_copied → now ≡ superpose_at kept form → same ≡ names → new ≡ map (lit_at kept) shown → cs ≡ map (cert_at kept) certs
+    → BlockIsBuilt before wide (script_of inner.value) (grown s superposing.sorts_copied) pile left box.value → StepIsBuilt before kept step s pile left (SuperposedBlock now same new cs box)
 superposed_built before kept wide step form now names same shown new certs cs inner box s pile left is w f n e g built =
     subst (λ st. StepIsBuilt before kept st s pile left (SuperposedBlock now same new cs box)) (sym is)
     (λ rest more facts under h.
@@ -150,7 +150,7 @@ boxed before kept inner was box block s t pile left e f g built =
     (subst (λ x. BlockIsBuilt before kept (script_of was.value) x pile left block) g (subst (λ b. BlockIsBuilt before kept (script_of b) t pile left block) e built))
 
 -- the copies have numbers of 16 bits
-pub copies_room : (s : Scope) (sorts : List Sort) → is_small s ≡ true → sorts ≡ superposing.made → (s.points + length sorts < 2 ^ 16) × (s.lines + length sorts < 2 ^ 16) × (s.circles + length sorts < 2 ^ 16)
+pub copies_room : (s : Scope) (sorts : List Sort) → is_small s ≡ true → sorts ≡ superposing.sorts_copied → (s.points + length sorts < 2 ^ 16) × (s.lines + length sorts < 2 ^ 16) × (s.circles + length sorts < 2 ^ 16)
 copies_room s sorts h e =
     let n : length sorts ≡ 2 = ap length e in
     room s (length sorts) h (omega (arith, n))

@@ -39,7 +39,7 @@ use Rattle.e_trim.specs.declared.standing.Standing.{Standing}
 abbrev pub inner_test : (Line → Bool) → List Stated → Script → Scope → List Lit → Bool
 inner_test p before (Claim shown inner rest) s facts = list_all p (lines before inner inner s facts (goal_of shown))
 inner_test p before (Superposed form names shown certs inner rest) s facts =
-    list_all p (lines before inner inner (grown s superposing.made) (joined_all facts (superposing.gives form s)) (goal_of shown))
+    list_all p (lines before inner inner (grown s superposing.sorts_copied) (joined_all facts (superposing.gives_of_superposition form s)) (goal_of shown))
 inner_test p before d s facts = true
 
 abbrev lines_test : (Line → Bool) → List Stated → Script → Standing → Goal → Bool
@@ -62,7 +62,7 @@ step_lines p before (ClaimStep shown p0 n0 row0 close0) rest x goal =
     both_lists p (p (line_at (Claim shown inner rest) x.scope x.facts goal)) (lines before inner inner x.scope x.facts (goal_of shown)) (lines before rest rest x.scope (joined_all x.facts shown) goal)
 step_lines p before (SuperposedStep form names shown certs p0 n0 row0 close0) rest x goal =
     let inner = inner_of (step_script (SuperposedStep form names shown certs p0 n0 row0 close0) rest) in
-    both_lists p (p (line_at (Superposed form names shown certs inner rest) x.scope x.facts goal)) (lines before inner inner (grown x.scope superposing.made) (joined_all x.facts (superposing.gives form x.scope)) (goal_of shown))
+    both_lists p (p (line_at (Superposed form names shown certs inner rest) x.scope x.facts goal)) (lines before inner inner (grown x.scope superposing.sorts_copied) (joined_all x.facts (superposing.gives_of_superposition form x.scope)) (goal_of shown))
     (lines before rest rest x.scope (joined_all x.facts shown) goal)
 
 -- all of a step's lines are so: its own, those of its block, and those behind it
@@ -96,7 +96,7 @@ claim_ready before shown inner x r =
     }
 
 pub superposed_ready : (before : List Stated) (form : Superpose) (names : List (List ℕ)) (shown : List Lit) (certs : List Cert) (inner : Box Block Global) (x : Standing) → IsReadyStep before (SuperposedBlock form names shown certs inner) x
-    → IsReady before (script_of inner.value) (grown x.scope superposing.made) (joined_all x.facts (superposing.gives form x.scope)) (goal_of shown)
+    → IsReady before (script_of inner.value) (grown x.scope superposing.sorts_copied) (joined_all x.facts (superposing.gives_of_superposition form x.scope)) (goal_of shown)
 superposed_ready before form names shown certs inner x r =
     let step = SuperposedBlock form names shown certs inner in
     let e = step_script-Superposed form names shown certs inner r.rest in

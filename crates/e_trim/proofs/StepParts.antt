@@ -15,7 +15,7 @@ use Rattle.e_literal.specs.Use.{Stated, are_arguments, gives_of_use}
 use Rattle.e_literal.proofs.Booleans.{and_left, and_right}
 use Rattle.e_construct.specs.declared.construction.Construction.{Construction}
 use Rattle.e_construct.specs.declared.superpose.Superpose.{Superpose}
-use Rattle.e_construct.specs.Construct.{made, gives}
+use Rattle.e_construct.specs.Construct.{sorts_made, gives_of_construction}
 use Rattle.e_clause.specs.declared.cert.Against.{Against}
 use Rattle.e_clause.specs.declared.cert.By.{By}
 use Rattle.e_clause.specs.declared.cert.Cert.{Cert}
@@ -59,7 +59,7 @@ nothing_at [] k h = refl
 nothing_at (t ∷ before) zero h = absurd (omega (arith, h))
 nothing_at (t ∷ before) (suc k) h = nothing_at before k (omega (arith, h))
 
-pub made_by_form : (before : List Stated) (step : Step) (form : Construction) (names : List (List ℕ)) (certs : List Cert) (rest : Script) → step ≡ MakeStep form names certs → makes_at before (step_script step rest) ≡ made form
+pub made_by_form : (before : List Stated) (step : Step) (form : Construction) (names : List (List ℕ)) (certs : List Cert) (rest : Script) → step ≡ MakeStep form names certs → makes_at before (step_script step rest) ≡ sorts_made form
 unfolding step_script
 made_by_form before step form names certs rest is = ap (λ s. makes_at before (step_script s rest)) is
 
@@ -110,7 +110,7 @@ pub hence_joins : (before : List Stated) (step : Step) (lit : Lit) (cert : Optio
 unfolding step_script
 hence_joins before step lit cert rest s is = ap (λ x. joins_at before (step_script x rest) s) is
 
-pub make_joins : (before : List Stated) (step : Step) (form : Construction) (names : List (List ℕ)) (certs : List Cert) (rest : Script) (s : Scope) → step ≡ MakeStep form names certs → joins_at before (step_script step rest) s ≡ gives form s
+pub make_joins : (before : List Stated) (step : Step) (form : Construction) (names : List (List ℕ)) (certs : List Cert) (rest : Script) (s : Scope) → step ≡ MakeStep form names certs → joins_at before (step_script step rest) s ≡ gives_of_construction form s
 unfolding step_script
 make_joins before step form names certs rest s is = ap (λ x. joins_at before (step_script x rest) s) is
 

@@ -22,7 +22,7 @@ use Rattle.e_clause.specs.declared.cert.Sums.TheVariants.{One, Two}
 use Rattle.e_clause.specs.declared.cert.Version.TheVariants as version
 use Rattle.e_clause.specs.Versions.{is_name_of, is_sum_of, are_sums_of}
 use Rattle.e_clause.specs.System.{pos_row, top_row, right_row, least_row}
-use Rattle.e_clause.specs.Sum.{Place, is_step_term, fact_row, goal_row, says_differ, unless_not, row_named, weighed_rows, is_good_multiplier, is_good_size, refutes}
+use Rattle.e_clause.specs.Sum.{Place, is_step_term, fact_row, goal_row, says_differ, unless_not, row_named, weighed_rows, is_nonzero_bounded, is_limited_sum, refutes}
 use Rattle.e_clause.specs.MetricCertificate.{differing_of, differing, above_row, below_row, both_refute, sums_refute}
 use Rattle.e_trim.specs.Looked.{Wants, both, looked_up, first_that, parts_ends, of_term, of_row, of_sum, of_sums}
 use Rattle.e_trim.specs.Trimmed as trimmed
@@ -183,14 +183,14 @@ rows_move kept looked p now (x ∷ xs) v pl c ws e =
       subst (OverAll kept) b.2 (m.1, n.1),
     )
 
-good_multipliers : (kept : List Obj) (xs : List (ℤ × RowName)) → list_all (λ (x : ℤ × RowName). is_good_multiplier x.0) (sum_at kept xs) ≡ list_all (λ (x : ℤ × RowName). is_good_multiplier x.0) xs
+good_multipliers : (kept : List Obj) (xs : List (ℤ × RowName)) → list_all (λ (x : ℤ × RowName). is_nonzero_bounded x.0) (sum_at kept xs) ≡ list_all (λ (x : ℤ × RowName). is_nonzero_bounded x.0) xs
 good_multipliers kept [] = refl
-good_multipliers kept (x ∷ xs) = ap (λ b. is_good_multiplier x.0 && b) (good_multipliers kept xs)
+good_multipliers kept (x ∷ xs) = ap (λ b. is_nonzero_bounded x.0 && b) (good_multipliers kept xs)
 
 abbrev moved_row : List Obj → ℤ × RowName → ℤ × RowName
 moved_row kept x = (x.0, trimmed.row_at kept x.1)
 
-pub size_stays : (kept : List Obj) (xs : List (ℤ × RowName)) → is_good_size (sum_at kept xs) ≡ is_good_size xs
+pub size_stays : (kept : List Obj) (xs : List (ℤ × RowName)) → is_limited_sum (sum_at kept xs) ≡ is_limited_sum xs
 size_stays kept xs =
     let n : length (sum_at kept xs) ≡ length xs = length-map xs (moved_row kept) in
     let m = good_multipliers kept xs in
@@ -203,10 +203,10 @@ map_or_is f (Some x) e = (x, refl, e)
 pub refutes_still : (kept : List Obj) (looked : List Lit) (p now : Place) (xs : List (ℤ × RowName)) → is_sum_of version.One xs ≡ true → Placed kept looked p now → Covered kept looked (of_sum p.facts p.wanted xs)
     → refutes p xs ≡ true → refutes now (sum_at kept xs) ≡ true
 refutes_still kept looked p now xs v pl c h =
-    let q = and_parts (is_good_size xs) (option_map_or is_absurd (weighed_rows p xs) false) h in
+    let q = and_parts (is_limited_sum xs) (option_map_or is_absurd (weighed_rows p xs) false) h in
     let a = map_or_is is_absurd (weighed_rows p xs) q.1 in
     let m = rows_move kept looked p now xs v pl c a.0 a.1 in
-    and_from (is_good_size (sum_at kept xs)) (option_map_or is_absurd (weighed_rows now (sum_at kept xs)) false) (size_stays kept xs ∙ q.0)
+    and_from (is_limited_sum (sum_at kept xs)) (option_map_or is_absurd (weighed_rows now (sum_at kept xs)) false) (size_stays kept xs ∙ q.0)
     (ap (λ o. option_map_or is_absurd o false) m.0 ∙ absurd_stays (number kept Point) (OfSort kept Point) (keeps kept) a.0 m.1 ∙ a.2)
 
 -- ---- two sums

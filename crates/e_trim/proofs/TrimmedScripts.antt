@@ -41,7 +41,7 @@ use Rattle.e_construct.specs.declared.superpose.Superpose.{Superpose}
 use Rattle.e_construct.specs.Superposing as superposing
 use Rattle.e_construct.specs.declared.construction.Construction.{Construction}
 use Rattle.e_construct.specs.Shapes.{Avoids, NoObject, AnyObject, AnyApartFrom}
-use Rattle.e_construct.specs.Construct.{row_of, sorts_of, avoids_well, fits as fits_form, needs as needs_of_form, made, gives}
+use Rattle.e_construct.specs.Construct.{row_of_construction, sorts_of, avoids_well, fits_construction as fits_form, needs_of_construction as needs_of_form, sorts_made, gives_of_construction}
 
 -- ---- certified from a script on
 
@@ -316,8 +316,8 @@ contradiction_goes before kept s facts goal (Some a) v h now goal' r =
 
 form_in : (s : Scope) (form : Construction) → fits_form form s ≡ true → AllIn s (form.args ++ form.avoid)
 form_in s form h =
-    let p = and_parts (are_of_sorts s (sorts_of (row_of form).args) form.args) (avoids_well s (row_of form).avoids form.avoid) h in
-    both_in s form.args form.avoid (args_in_scope s (sorts_of (row_of form).args) form.args p.0) (avoided_in s (row_of form).avoids form.avoid p.1)
+    let p = and_parts (are_of_sorts s (sorts_of (row_of_construction form).args) form.args) (avoids_well s (row_of_construction form).avoids form.avoid) h in
+    both_in s form.args form.avoid (args_in_scope s (sorts_of (row_of_construction form).args) form.args p.0) (avoided_in s (row_of_construction form).avoids form.avoid p.1)
   where
     args_in_scope : (s : Scope) (xs : List Sort) (os : List Obj) → are_of_sorts s xs os ≡ true → AllIn s os
     args_in_scope s [] [] e o i = absurd i
@@ -336,8 +336,8 @@ form_in s form h =
 
 pub make_goes : (before : List Stated) (kept : List Obj) (s : Scope) (facts : List Lit) (goal : Goal) (form : Construction) (names : List (List ℕ)) (certs : List Cert) (rest : Script)
     → list_all (is_cert_of version.One) certs ≡ true → is_certified before (line_at (Make form names certs rest) s facts goal) ≡ true
-    → ((more : List Obj) → Goes before more (grown s (made form)) (joined_all facts (gives form s)) goal (wants before rest (grown s (made form)) (joined_all facts (gives form s)) goal)
-    (trimmed_from before more rest (grown s (made form)) (joined_all facts (gives form s)) goal))
+    → ((more : List Obj) → Goes before more (grown s (sorts_made form)) (joined_all facts (gives_of_construction form s)) goal (wants before rest (grown s (sorts_made form)) (joined_all facts (gives_of_construction form s)) goal)
+    (trimmed_from before more rest (grown s (sorts_made form)) (joined_all facts (gives_of_construction form s)) goal))
     → Goes before kept s facts goal (wants before (Make form names certs rest) s facts goal) (trimmed_from before kept (Make form names certs rest) s facts goal)
 unfolding wants trimmed_from lines
 make_goes before kept s facts goal form names certs rest v h more now goal' r = by (is_kept before here s facts w) refl r
@@ -346,13 +346,13 @@ make_goes before kept s facts goal form names certs rest v h more now goal' r = 
     here = Make form names certs rest
 
     new : List Sort
-    new = made form
+    new = sorts_made form
 
     wide : List Obj
     wide = kept ++ next_objects s new
 
     after : List Lit
-    after = joined_all facts (gives form s)
+    after = joined_all facts (gives_of_construction form s)
 
     w : Wants
     w = wants before rest (grown s new) after goal
@@ -379,20 +379,20 @@ make_goes before kept s facts goal form names certs rest v h more now goal' r = 
         let own_certs = cover_left kept own.lits looked no_wants (cover_right kept own.lits (needed named) (both looked no_wants) c) in
         let done = certs_stay kept s facts now own.lits (needs_of_form form) certs v line_ready.stays (needs_over kept s form p.0 objects) own_certs q.0 in
         let given = gives_at kept s form line_ready.bound objects p.0 in
-        let next = more wide (joined_all now (map (lit_at wide) (gives form s))) goal'
-        (made_ready kept s new facts now (gives form s) goal goal' w (gives_over kept s form p.0 objects) (first kept s facts now goal goal' w (both own no_wants) k)) in
+        let next = more wide (joined_all now (map (lit_at wide) (gives_of_construction form s))) goal'
+        (made_ready kept s new facts now (gives_of_construction form s) goal goal' w (gives_over kept s form p.0 objects) (first kept s facts now goal goal' w (both own no_wants) k)) in
         and_from (is_certified before (line_at (Make (form_at kept form) names (map (cert_at kept) certs) t) (scope_kept kept) now goal')) _
         (and_from (fits_form (form_at kept form) (scope_kept kept)) _ (fits_at kept s form p.0 objects)
         (and_from _ true (ap (λ ls. certify_all (scope_kept kept) now ls (map (cert_at kept) certs)) (needs_at kept s form p.0) ∙ done) refl))
-        (ap (λ z. certified_from before t z (joined_all now (gives (form_at kept form) (scope_kept kept))) goal') (sym (scope_more kept s new))
+        (ap (λ z. certified_from before t z (joined_all now (gives_of_construction (form_at kept form) (scope_kept kept))) goal') (sym (scope_more kept s new))
         ∙ ap (λ ls. certified_from before t (scope_kept wide) (joined_all now ls) goal') given ∙ next)
     by false e k =
-        let p = or_parts (list_any (supplies facts w) (gives form s)) (list_any (is_needed w) (next_objects s new)) e in
-        more kept now goal' (unmade_ready kept s new facts now (gives form s) goal goal' w p.0 p.1 k)
+        let p = or_parts (list_any (supplies facts w) (gives_of_construction form s)) (list_any (is_needed w) (next_objects s new)) e in
+        more kept now goal' (unmade_ready kept s new facts now (gives_of_construction form s) goal goal' w p.0 p.1 k)
 
 -- ---- superpose
 
-superposed_in : (s : Scope) (x : Superpose) → superposing.fits x s ≡ true → AllIn s (superposing.objects_of x)
+superposed_in : (s : Scope) (x : Superpose) → superposing.fits_superposition x s ≡ true → AllIn s (superposing.objects_of x)
 superposed_in s x h = sorted_in s (sorts_of superposing.superposed_args) (superposing.objects_of x) h
   where
     sorted_in : (s : Scope) (xs : List Sort) (os : List Obj) → are_of_sorts s xs os ≡ true → AllIn s os
@@ -406,9 +406,9 @@ superposed_in s x h = sorted_in s (sorts_of superposing.superposed_args) (superp
 
 pub superposed_goes : (before : List Stated) (kept : List Obj) (s : Scope) (facts : List Lit) (goal : Goal) (form : Superpose) (names : List (List ℕ)) (shown : List Lit) (certs : List Cert) (inner rest : Script)
     → list_all (is_cert_of version.One) certs ≡ true → is_certified before (line_at (Superposed form names shown certs inner rest) s facts goal) ≡ true
-    → Goes before (kept ++ next_objects s superposing.made) (grown s superposing.made) (joined_all facts (superposing.gives form s)) (goal_of shown)
-    (wants before inner (grown s superposing.made) (joined_all facts (superposing.gives form s)) (goal_of shown))
-    (trimmed_from before (kept ++ next_objects s superposing.made) inner (grown s superposing.made) (joined_all facts (superposing.gives form s)) (goal_of shown))
+    → Goes before (kept ++ next_objects s superposing.sorts_copied) (grown s superposing.sorts_copied) (joined_all facts (superposing.gives_of_superposition form s)) (goal_of shown)
+    (wants before inner (grown s superposing.sorts_copied) (joined_all facts (superposing.gives_of_superposition form s)) (goal_of shown))
+    (trimmed_from before (kept ++ next_objects s superposing.sorts_copied) inner (grown s superposing.sorts_copied) (joined_all facts (superposing.gives_of_superposition form s)) (goal_of shown))
     → Goes before kept s (joined_all facts shown) goal (wants before rest s (joined_all facts shown) goal) (trimmed_from before kept rest s (joined_all facts shown) goal)
     → Goes before kept s facts goal (wants before (Superposed form names shown certs inner rest) s facts goal) (trimmed_from before kept (Superposed form names shown certs inner rest) s facts goal)
 unfolding wants trimmed_from lines
@@ -418,22 +418,22 @@ superposed_goes before kept s facts goal form names shown certs inner rest one h
     here = Superposed form names shown certs inner rest
 
     given : List Lit
-    given = superposing.gives form s
+    given = superposing.gives_of_superposition form s
 
     wide : List Obj
-    wide = kept ++ next_objects s superposing.made
+    wide = kept ++ next_objects s superposing.sorts_copied
 
     w : Wants
     w = wants before rest s (joined_all facts shown) goal
 
     v : Wants
-    v = wants before inner (grown s superposing.made) (joined_all facts given) (goal_of shown)
+    v = wants before inner (grown s superposing.sorts_copied) (joined_all facts given) (goal_of shown)
 
     t : Script
     t = trimmed_from before kept rest s (joined_all facts shown) goal
 
     i : Script
-    i = trimmed_from before wide inner (grown s superposing.made) (joined_all facts given) (goal_of shown)
+    i = trimmed_from before wide inner (grown s superposing.sorts_copied) (joined_all facts given) (goal_of shown)
 
     own : Wants
     own = of_line before (line_at here s facts goal)
@@ -449,32 +449,32 @@ superposed_goes before kept s facts goal form names shown certs inner rest one h
     by true e k =
         let line_and_block = second kept s facts now goal goal' w (both own (outside s facts v)) k in
         let line_ready = first kept s facts now goal goal' own (outside s facts v) line_and_block in
-        let looked = of_certs facts (superposing.needs form) certs in
-        let p = and_parts (superposing.fits form s && are_over s shown) (certify_all s facts (superposing.needs form) certs && true) h in
-        let f = and_parts (superposing.fits form s) (are_over s shown) p.0 in
-        let q = and_parts (certify_all s facts (superposing.needs form) certs) true p.1 in
+        let looked = of_certs facts (superposing.needs_of_superposition form) certs in
+        let p = and_parts (superposing.fits_superposition form s && are_over s shown) (certify_all s facts (superposing.needs_of_superposition form) certs && true) h in
+        let f = and_parts (superposing.fits_superposition form s) (are_over s shown) p.0 in
+        let q = and_parts (certify_all s facts (superposing.needs_of_superposition form) certs) true p.1 in
         let scopes = both_in s named (looked.objects ++ []) (both_in s (superposing.objects_of form) (objects_of_lits shown) (superposed_in s form f.0) (lits_in s shown f.1))
-        (both_in s looked.objects [] (certs_scope s facts facts (superposing.needs form) certs q.0) (λ o j. absurd j)) in
+        (both_in s looked.objects [] (certs_scope s facts facts (superposing.needs_of_superposition form) certs q.0) (λ o j. absurd j)) in
         let c = covered kept s facts now goal goal' own line_ready scopes in
         let objects = (cover_left kept own.lits (needed named) (both looked no_wants) c).objects in
         let args : AllKept kept (superposing.objects_of form) = λ o j. objects o (in_left o (superposing.objects_of form) (objects_of_lits shown) j) in
         let over : OverLits kept shown = λ l j o m. objects o (in_right o (superposing.objects_of form) (objects_of_lits shown) (in_flat (λ (x : Lit). objects_of_atom x.atom) l o shown j m)) in
         let own_certs = cover_left kept own.lits looked no_wants (cover_right kept own.lits (needed named) (both looked no_wants) c) in
-        let done = certs_stay kept s facts now own.lits (superposing.needs form) certs one line_ready.stays (superposition_needs_over kept s form f.0 args) own_certs q.0 in
+        let done = certs_stay kept s facts now own.lits (superposing.needs_of_superposition form) certs one line_ready.stays (superposition_needs_over kept s form f.0 args) own_certs q.0 in
         let gives' = superposition_gives kept s form line_ready.bound args f.0 in
         let inner_ready = inside kept s facts now goal goal' v (second kept s facts now goal goal' own (outside s facts v) line_and_block) in
         let goes : GoalGoes kept s (goal_of shown) (goal_of shown') = inl (record { shown = shown; before = refl; after = refl; over = over }) in
-        let opened = made_ready kept s superposing.made facts now given (goal_of shown) (goal_of shown') v (superposition_gives_over kept s form f.0 args) (with_goal kept s facts now goal goal' (goal_of shown) (goal_of shown') v goes inner_ready) in
+        let opened = made_ready kept s superposing.sorts_copied facts now given (goal_of shown) (goal_of shown') v (superposition_gives_over kept s form f.0 args) (with_goal kept s facts now goal goal' (goal_of shown) (goal_of shown') v goes inner_ready) in
         let block_done = block (joined_all now (map (lit_at wide) given)) (goal_of shown') opened in
         let next = more (joined_all now shown') goal' (joined_ready kept s facts now shown goal goal' w over (first kept s facts now goal goal' w (both own (outside s facts v)) k)) in
         and_from (is_certified before (line_at (Superposed (superpose_at kept form) names shown' (map (cert_at kept) certs) i t) (scope_kept kept) now goal'))
-        (list_all (is_certified before) (lines before i i (grown (scope_kept kept) superposing.made) (joined_all now (superposing.gives (superpose_at kept form) (scope_kept kept))) (goal_of shown') ++ lines before t t (scope_kept kept) (joined_all now shown') goal'))
-        (and_from (superposing.fits (superpose_at kept form) (scope_kept kept) && are_over (scope_kept kept) shown') (certify_all (scope_kept kept) now (superposing.needs (superpose_at kept form)) (map (cert_at kept) certs) && true)
-        (and_from (superposing.fits (superpose_at kept form) (scope_kept kept)) (are_over (scope_kept kept) shown') (superposition_fits kept s form f.0 args) (lits_scope kept shown over))
-        (and_from (certify_all (scope_kept kept) now (superposing.needs (superpose_at kept form)) (map (cert_at kept) certs)) true (ap (λ ls. certify_all (scope_kept kept) now ls (map (cert_at kept) certs)) (superposition_needs kept s form f.0) ∙ done) refl))
-        (list_all-append (is_certified before) (lines before i i (grown (scope_kept kept) superposing.made) (joined_all now (superposing.gives (superpose_at kept form) (scope_kept kept))) (goal_of shown')) (lines before t t (scope_kept kept) (joined_all now shown') goal')
-        ∙ and_from (certified_from before i (grown (scope_kept kept) superposing.made) (joined_all now (superposing.gives (superpose_at kept form) (scope_kept kept))) (goal_of shown')) (certified_from before t (scope_kept kept) (joined_all now shown') goal')
-        (ap (λ z. certified_from before i z (joined_all now (superposing.gives (superpose_at kept form) (scope_kept kept))) (goal_of shown')) (sym (scope_more kept s superposing.made))
+        (list_all (is_certified before) (lines before i i (grown (scope_kept kept) superposing.sorts_copied) (joined_all now (superposing.gives_of_superposition (superpose_at kept form) (scope_kept kept))) (goal_of shown') ++ lines before t t (scope_kept kept) (joined_all now shown') goal'))
+        (and_from (superposing.fits_superposition (superpose_at kept form) (scope_kept kept) && are_over (scope_kept kept) shown') (certify_all (scope_kept kept) now (superposing.needs_of_superposition (superpose_at kept form)) (map (cert_at kept) certs) && true)
+        (and_from (superposing.fits_superposition (superpose_at kept form) (scope_kept kept)) (are_over (scope_kept kept) shown') (superposition_fits kept s form f.0 args) (lits_scope kept shown over))
+        (and_from (certify_all (scope_kept kept) now (superposing.needs_of_superposition (superpose_at kept form)) (map (cert_at kept) certs)) true (ap (λ ls. certify_all (scope_kept kept) now ls (map (cert_at kept) certs)) (superposition_needs kept s form f.0) ∙ done) refl))
+        (list_all-append (is_certified before) (lines before i i (grown (scope_kept kept) superposing.sorts_copied) (joined_all now (superposing.gives_of_superposition (superpose_at kept form) (scope_kept kept))) (goal_of shown')) (lines before t t (scope_kept kept) (joined_all now shown') goal')
+        ∙ and_from (certified_from before i (grown (scope_kept kept) superposing.sorts_copied) (joined_all now (superposing.gives_of_superposition (superpose_at kept form) (scope_kept kept))) (goal_of shown')) (certified_from before t (scope_kept kept) (joined_all now shown') goal')
+        (ap (λ z. certified_from before i z (joined_all now (superposing.gives_of_superposition (superpose_at kept form) (scope_kept kept))) (goal_of shown')) (sym (scope_more kept s superposing.sorts_copied))
         ∙ ap (λ ls. certified_from before i (scope_kept wide) (joined_all now ls) (goal_of shown')) gives' ∙ block_done)
         next)
     by false e k =

@@ -14,7 +14,7 @@ use Rattle.e_literal.specs.Scopes.{same_sort, nothing, grown, next_objects}
 use Rattle.e_literal.specs.Use.{Stated, scope_of, gives_of_use}
 use Rattle.e_construct.specs.declared.construction.Construction.{Construction}
 use Rattle.e_construct.specs.declared.superpose.Superpose.{Superpose}
-use Rattle.e_construct.specs.Construct.{made, gives}
+use Rattle.e_construct.specs.Construct.{sorts_made, gives_of_construction}
 use Rattle.e_construct.specs.Superposing as superposing
 use Rattle.e_clause.specs.declared.cert.By.{By}
 use Rattle.e_clause.specs.declared.cert.Cert.{Cert}
@@ -41,7 +41,7 @@ use Rattle.e_trim.specs.Looked.{Wants, no_wants, both, of_line}
 abbrev pub joins_at : List Stated → Script → Scope → List Lit
 joins_at before (Cite by rest) s = by.lit ∷ []
 joins_at before (Hence lit cert rest) s = lit ∷ []
-joins_at before (Make form names certs rest) s = gives form s
+joins_at before (Make form names certs rest) s = gives_of_construction form s
 joins_at before (Apply theorem args names certs rest) s =
     gives_of_use (theorem_at before theorem) (args_of (Apply theorem args names certs rest)) s
 joins_at before (Claim shown inner rest) s = shown
@@ -50,7 +50,7 @@ joins_at before _ s = []
 
 -- the sorts of the objects that the step makes and that live on
 abbrev pub makes_at : List Stated → Script → List Sort
-makes_at before (Make form names certs rest) = made form
+makes_at before (Make form names certs rest) = sorts_made form
 makes_at before (Apply theorem args names certs rest) = (theorem_at before theorem).made
 makes_at before _ = []
 
@@ -90,7 +90,7 @@ wants before (Hence lit cert rest) s facts goal =
     with_step before (Hence lit cert rest) s facts goal no_wants (wants before rest s (joined facts lit) goal)
 wants before (Make form names certs rest) s facts goal =
     with_step before (Make form names certs rest) s facts goal no_wants
-    (wants before rest (grown s (made form)) (joined_all facts (gives form s)) goal)
+    (wants before rest (grown s (sorts_made form)) (joined_all facts (gives_of_construction form s)) goal)
 wants before (Apply theorem args names certs rest) s facts goal =
     let here = Apply theorem args names certs rest in
     with_step before here s facts goal no_wants
@@ -100,7 +100,7 @@ wants before (Claim shown inner rest) s facts goal =
     (wants before rest s (joined_all facts shown) goal)
 wants before (Superposed form names shown certs inner rest) s facts goal =
     with_step before (Superposed form names shown certs inner rest) s facts goal
-    (outside s facts (wants before inner (grown s superposing.made) (joined_all facts (superposing.gives form s)) (goal_of shown)))
+    (outside s facts (wants before inner (grown s superposing.sorts_copied) (joined_all facts (superposing.gives_of_superposition form s)) (goal_of shown)))
     (wants before rest s (joined_all facts shown) goal)
 wants before (Qed objects certs) s facts goal = of_line before (line_at (Qed objects certs) s facts goal)
 wants before (Contradiction against) s facts goal = of_line before (line_at (Contradiction against) s facts goal)
@@ -185,11 +185,11 @@ trimmed_from before kept (Hence lit cert rest) s facts goal =
     if is_kept before (Hence lit cert rest) s facts (wants before rest s (joined facts lit) goal)
     then Hence (lit_at kept lit) (option_map (cert_at kept) cert) more else more
 trimmed_from before kept (Make form names certs rest) s facts goal =
-    let after = joined_all facts (gives form s) in
-    let wide = grown s (made form) in
+    let after = joined_all facts (gives_of_construction form s) in
+    let wide = grown s (sorts_made form) in
     if is_kept before (Make form names certs rest) s facts (wants before rest wide after goal)
     then Make (form_at kept form) names (map (cert_at kept) certs)
-    (trimmed_from before (kept ++ next_objects s (made form)) rest wide after goal)
+    (trimmed_from before (kept ++ next_objects s (sorts_made form)) rest wide after goal)
     else trimmed_from before kept rest wide after goal
 trimmed_from before kept (Apply theorem args names certs rest) s facts goal =
     let here = Apply theorem args names certs rest in
@@ -205,10 +205,10 @@ trimmed_from before kept (Claim shown inner rest) s facts goal =
     then Claim (map (lit_at kept) shown) (trimmed_from before kept inner s facts (goal_of shown)) more else more
 trimmed_from before kept (Superposed form names shown certs inner rest) s facts goal =
     let more = trimmed_from before kept rest s (joined_all facts shown) goal in
-    let opened = joined_all facts (superposing.gives form s) in
+    let opened = joined_all facts (superposing.gives_of_superposition form s) in
     if is_kept before (Superposed form names shown certs inner rest) s facts (wants before rest s (joined_all facts shown) goal)
     then Superposed (superpose_at kept form) names (map (lit_at kept) shown) (map (cert_at kept) certs)
-    (trimmed_from before (kept ++ next_objects s superposing.made) inner (grown s superposing.made) opened (goal_of shown)) more
+    (trimmed_from before (kept ++ next_objects s superposing.sorts_copied) inner (grown s superposing.sorts_copied) opened (goal_of shown)) more
     else more
 trimmed_from before kept (Qed objects certs) s facts goal = Qed (map (obj_at kept) objects) (map (cert_at kept) certs)
 trimmed_from before kept (Contradiction against) s facts goal = Contradiction (option_map (against_at kept) against)

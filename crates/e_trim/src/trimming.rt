@@ -17,16 +17,10 @@ use crate::looking::look;
 use crate::standing::{Goal, Standing, join_copies};
 use e_deriv::Block;
 use e_facts::Facts;
-use e_literal::{Scope, grown, next_objects};
+use e_literal::{NOTHING, Scope, grown, next_objects};
 use e_theorem::Statement;
 use std::alloc::{AllocError, Global};
 use std::mem;
-
-const NOTHING: Scope = Scope {
-    points: 0,
-    lines: 0,
-    circles: 0,
-};
 
 /// What holds before the first line: the declared objects are in scope, and the given literals are facts.
 fn begin(alloc: Global, scope: Scope, statement: &Statement) -> Result<Standing, AllocError>

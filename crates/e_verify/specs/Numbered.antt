@@ -25,7 +25,7 @@ use Rattle.e_clause.specs.declared.cert.Cert.TheVariants.{Plain, Transfer}
 use Rattle.e_clause.specs.declared.cert.Against.{Against}
 use Rattle.e_clause.specs.declared.cert.Against.TheVariants.{Clash, Metric as MetricAgainst}
 use Rattle.e_clause.specs.Instance.{Inst}
-use Rattle.e_construct.specs.Construct.{made, gives}
+use Rattle.e_construct.specs.Construct.{sorts_made, gives_of_construction}
 use Rattle.e_construct.specs.Superposing as superposing
 use Rattle.e_deriv.specs.Script.{Script, Cite, Hence, Make, Apply, Claim, Superposed, Qed, Contradiction, Cases}
 use Rattle.e_deriv.specs.Goal.{Goal, goal_of, goal_of_statement, facts_of_statement}
@@ -138,7 +138,7 @@ with_places before (Cite by rest) s facts goal = Cite by (with_places before res
 with_places before (Hence lit cert rest) s facts goal = Hence lit (option_map (cert_with_places facts lit) cert) (with_places before rest s (joined facts lit) goal)
 with_places before (Make form names certs rest) s facts goal =
     Make form names (certs_with_places facts (needs_of before (Make form names certs rest) s facts goal) certs)
-    (with_places before rest (grown s (made form)) (joined_all facts (gives form s)) goal)
+    (with_places before rest (grown s (sorts_made form)) (joined_all facts (gives_of_construction form s)) goal)
 with_places before (Apply theorem args names certs rest) s facts goal =
     Apply theorem args names (certs_with_places facts (needs_of before (Apply theorem args names certs rest) s facts goal) certs)
     (with_places before rest (grown s (theorem_at before theorem).made)
@@ -146,8 +146,8 @@ with_places before (Apply theorem args names certs rest) s facts goal =
 with_places before (Claim shown inner rest) s facts goal =
     Claim shown (with_places before inner s facts (goal_of shown)) (with_places before rest s (joined_all facts shown) goal)
 with_places before (Superposed form names shown certs inner rest) s facts goal =
-    Superposed form names shown (certs_with_places facts (superposing.needs form) certs)
-    (with_places before inner (grown s superposing.made) (joined_all facts (superposing.gives form s)) (goal_of shown))
+    Superposed form names shown (certs_with_places facts (superposing.needs_of_superposition form) certs)
+    (with_places before inner (grown s superposing.sorts_copied) (joined_all facts (superposing.gives_of_superposition form s)) (goal_of shown))
     (with_places before rest s (joined_all facts shown) goal)
 with_places before (Qed objects certs) s facts goal =
     Qed objects (certs_with_places facts (needs_of before (Qed objects certs) s facts goal) certs)

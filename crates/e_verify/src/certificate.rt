@@ -5,7 +5,7 @@ ghost use Rattle.std.specs.List.{list_all};
 ghost use Rattle.e_literal.specs.WellFormed.{is_well_formed};
 ghost use Rattle.e_clause.specs.Certify;
 ghost use Rattle.e_clause.specs.PartCertificate;
-ghost use Rattle.e_clause.specs.Written.{is_good_part, is_good_cert, is_good_against};
+ghost use Rattle.e_clause.specs.Written.{is_writable_part, is_writable_cert, is_writable_against};
 
 use crate::alike::are_same;
 use crate::facts::Facts;
@@ -29,7 +29,7 @@ pub fn certify_all(
 ) -> Result<bool, AllocError>
     requires facts { IsTrue (list_all is_well_formed facts.now) }
     requires lits { IsTrue (list_all is_well_formed lits.now) }
-    requires certs { IsTrue (list_all is_good_cert certs.now) }
+    requires certs { IsTrue (list_all is_writable_cert certs.now) }
     ensures { IfOk result (λ b. b ≡ Certify.certify_all scope facts.now lits.now certs.now) }
 {
     match (lits, certs) {
@@ -55,7 +55,7 @@ pub fn certifies(
 ) -> Result<bool, AllocError>
     requires facts { IsTrue (list_all is_well_formed facts.now) }
     requires lit { IsTrue (is_well_formed lit.now) }
-    requires cert { IsTrue (is_good_cert cert.now) }
+    requires cert { IsTrue (is_writable_cert cert.now) }
     ensures { IfOk result (λ b. b ≡ Certify.certifies scope facts.now lit.now cert.now) }
 {
     if !cert_in(scope, cert) {
@@ -75,7 +75,7 @@ pub fn certifies_against(
     against: &Against,
 ) -> Result<bool, AllocError>
     requires facts { IsTrue (list_all is_well_formed facts.now) }
-    requires against { IsTrue (is_good_against against.now) }
+    requires against { IsTrue (is_writable_against against.now) }
     ensures { IfOk result (λ b. b ≡ Certify.certifies_against scope facts.now against.now) }
 {
     match against {
@@ -107,7 +107,7 @@ pub fn part_certifies(
 ) -> Result<bool, AllocError>
     requires facts { IsTrue (list_all is_well_formed facts.now) }
     requires lit { IsTrue (is_well_formed lit.now) }
-    requires part { IsTrue (is_good_part part.now) }
+    requires part { IsTrue (is_writable_part part.now) }
     ensures { IfOk result (λ b. b ≡ PartCertificate.part_certifies facts.now lit.now part.now) }
 {
     match part {

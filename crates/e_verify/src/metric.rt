@@ -8,7 +8,7 @@ ghost use Rattle.e_clause.specs.Sum.{says_differ};
 ghost use Rattle.e_clause.specs.MetricCertificate;
 ghost use Rattle.e_verify.specs.inner.Small.{is_small_row, is_short};
 ghost use Rattle.e_verify.specs.inner.Views.{row_view, comparison_view};
-ghost use Rattle.e_clause.specs.Written.{is_good_name, is_good_sum, is_good_sums};
+ghost use Rattle.e_clause.specs.Written.{is_writable_name, is_writable_sum, are_writable_sums};
 
 use crate::facts::Facts;
 use crate::rows::{Comparison, Row, RowScope, Says, fact_row, goal_row, row_at};
@@ -27,7 +27,7 @@ pub fn sums_refute<'a>(
 ) -> Result<bool, AllocError>
     requires facts { IsTrue (list_all is_well_formed facts.now) }
     requires wanted { IsTrue (option_map_or is_well_formed (option_copied wanted) true) }
-    requires sums { IsTrue (is_good_sums sums.now) }
+    requires sums { IsTrue (are_writable_sums sums.now) }
     ensures { IfOk result
         (λ b. b ≡ MetricCertificate.sums_refute facts.now (option_copied wanted.entry) sums.now) }
 {
@@ -64,8 +64,8 @@ fn both_refute<'a>(
     requires facts { IsTrue (list_all is_well_formed facts.now) }
     requires wanted { IsTrue (option_map_or is_well_formed (option_copied wanted) true) }
     requires row { IsTrue (is_short row) }
-    requires above { IsTrue (is_good_sum above.now) }
-    requires below { IsTrue (is_good_sum below.now) }
+    requires above { IsTrue (is_writable_sum above.now) }
+    requires below { IsTrue (is_writable_sum below.now) }
     ensures { IfOk result (λ b. b ≡ MetricCertificate.both_refute facts.now
         (option_copied wanted.entry) (comparison_view row.entry) above.now below.now) }
 {
@@ -95,7 +95,7 @@ fn differing<'a>(
 ) -> Option<Comparison<'a>>
     requires facts { IsTrue (list_all is_well_formed facts.now) }
     requires wanted { IsTrue (option_map_or is_well_formed (option_copied wanted) true) }
-    requires name { IsTrue (is_good_name name.now) }
+    requires name { IsTrue (is_writable_name name.now) }
     ensures row { option_map comparison_view result
         ≡ MetricCertificate.differing facts.now (option_copied wanted.entry) name.now }
     ensures small { IfSome result (λ c. IsTrue (is_short c)) }

@@ -19,17 +19,17 @@ ghost use Rattle.e_verify.specs.Checking.{KeepsFirstFacts};
 ghost use Rattle.e_verify.specs.inner.Numbering.{HaveFew, IsNumberedStep, places_at};
 ghost use Rattle.e_verify.specs.inner.StepStates.{state_after_superposed, block_goal};
 
-use crate::closes::{are_of_sorts, goal_with};
+use crate::closes::goal_with;
 use crate::ending::{Head, claimed, split, superposed};
 use crate::facts::Facts;
 use crate::places::{placed_against, placed_cert, placed_certs};
 use crate::step_state::{Goal, StepState};
 use crate::steps::all_written;
-use crate::verifier::{NOTHING, begin};
+use crate::verifier::begin;
 use e_clause::{Against, By, Cert};
 use e_construct::{Construction, Superpose};
 use e_deriv::{Block, Close, Step, copy_by, copy_construction};
-use e_literal::{Items, Lit, Obj, Scope, copy, grown, next_objects};
+use e_literal::{Items, Lit, NOTHING, Obj, Scope, copy, grown, have_sorts_of, next_objects};
 use e_text::Name;
 use e_theorem::{Statement, UseFault, use_of};
 use std::alloc::{AllocError, Global};
@@ -394,8 +394,8 @@ fn superpose(
     certs: &[Cert],
     state: &mut StepState,
 ) -> Result<Items<Cert>, AllocError>
-    ensures certs { IfOk result (λ cs. cs
-        ≡ Numbered.certs_with_places state.old.facts (superposing.needs form.now) certs.now) }
+    ensures certs { IfOk result (λ cs. cs ≡ Numbered.certs_with_places state.old.facts
+        (superposing.needs_of_superposition form.now) certs.now) }
     ensures after { OnOk result (state.new ≡ state_after_superposed form.now state.old) }
 {
     let scope = state.scope;
@@ -421,7 +421,7 @@ fn qed(
     ensures { IfOk result (λ c. (before : List Stated) → close_script c
         ≡ places_at before (Qed objects.now certs.now) state.now (block_goal goal.now)) }
 {
-    if !are_of_sorts(state.scope, goal.made, objects) {
+    if !have_sorts_of(state.scope, goal.made, objects) {
         return Err(AllocError);
     }
     let wanted = goal_with(alloc, goal, objects)?;

@@ -1,13 +1,12 @@
 //! Certificates with the places of the facts that they cite, in place of the literals.
 
-ghost use Rattle.std.specs.Prelude.{◌≡◌, ◌<◌, ◌++◌, ◌^◌, IfOk, OnOk, false};
-ghost use Rattle.e_literal.specs.Same.{coeff_of, agree_at, one_term};
+ghost use Rattle.std.specs.Prelude.{◌≡◌, ◌++◌, IfOk, OnOk, false};
 ghost use Rattle.e_verify.specs.Numbered;
 
 use crate::facts::Facts;
 use crate::instances::{instance_of, negated_others};
 use e_clause::{Against, Cert, MetricCert, Part, RowName, Sum, Sums, TransferCert};
-use e_literal::{Atom, Items, Lit, Mono, Term, canonical, copy, is_degenerate};
+use e_literal::{Atom, Items, Lit, Mono, agree_at, copy, is_degenerate};
 use std::alloc::{AllocError, Global};
 
 /// The name of a row by its place, and whether the row that it had is opposite.
@@ -65,32 +64,6 @@ fn count_alike_at(x: &[Mono], y: &[Mono], z: &[Mono], w: &[Mono], terms: &[Mono]
     terms
         .iter()
         .all(|m| is_degenerate(m.term) || agree_at(x, y, z, w, m.term))
-}
-
-fn agree_at(x: &[Mono], y: &[Mono], z: &[Mono], w: &[Mono], term: Term) -> bool
-    ensures { result ≡ agree_at x.now y.now z.now w.now term }
-{
-    coefficient(x, term) + coefficient(w, term) == coefficient(z, term) + coefficient(y, term)
-}
-
-/// The coefficient of a term, where equal terms are joined.
-fn coefficient(sum: &[Mono], term: Term) -> u128
-    ensures value { result ≡ coeff_of sum.now term }
-    ensures bound { result < 2 ^ 96 }
-{
-    let mut total = 0u128;
-    for m in sum {
-        if is_one_term(m.term, term) {
-            total += u128::from(m.coeff);
-        }
-    }
-    total
-}
-
-fn is_one_term(a: Term, b: Term) -> bool
-    ensures { result ≡ one_term a b }
-{
-    canonical(a) == canonical(b)
 }
 
 /// The name with its place.

@@ -5,12 +5,12 @@ ghost use Rattle.std.specs.Option.{option_map, option_map_or, option_copied};
 ghost use Rattle.std.specs.List.{list_all};
 ghost use Rattle.e_literal.specs.Rows;
 ghost use Rattle.e_literal.specs.Rows.{row_of_atom};
-ghost use Rattle.e_literal.specs.WellFormed.{is_good_atom, is_well_formed};
+ghost use Rattle.e_literal.specs.WellFormed.{is_well_formed_atom, is_well_formed};
 ghost use Rattle.e_clause.specs.Sum;
 ghost use Rattle.e_clause.specs.declared.cert.RowName.TheVariants.{Least};
 ghost use Rattle.e_verify.specs.inner.Small.{is_small_row, is_short};
 ghost use Rattle.e_verify.specs.inner.Views.{row_view, comparison_view, says_view, row_scope_view};
-ghost use Rattle.e_clause.specs.Written.{is_good_name};
+ghost use Rattle.e_clause.specs.Written.{is_writable_name};
 ghost use Rattle.e_verify.specs.inner.RowScopes.{is_good_row_scope};
 
 use crate::facts::{Facts, stands_in};
@@ -80,7 +80,7 @@ impl<'a> Row<'a> {
 /// The row with this name, or none where the name may not be used here.
 pub fn row_named<'a>(row_scope: &RowScope<'a>, name: &'a RowName) -> Option<Row<'a>>
     requires row_scope { IsTrue (is_good_row_scope row_scope.now) }
-    requires name { IsTrue (is_good_name name.now) }
+    requires name { IsTrue (is_writable_name name.now) }
     ensures row { option_map row_view result
         ≡ Sum.row_named (row_scope_view row_scope.now) name.now }
     ensures small { IfSome result (λ r. IsTrue (is_small_row r)) }
@@ -138,7 +138,7 @@ pub fn goal_row<'a>(wanted: Option<&'a Lit>) -> Option<Comparison<'a>>
 /// The row of an atom or of its negation; none where it does not compare magnitudes.
 #[tactic(auto, using(crate::proofs::arithmetic::SmallSums::good_sums))]
 fn row_of<'a>(atom: &'a Atom, neg: bool) -> Option<Comparison<'a>>
-    requires { IsTrue (is_good_atom atom.now) }
+    requires { IsTrue (is_well_formed_atom atom.now) }
     ensures row { option_map comparison_view result ≡ row_of_atom atom.now neg }
     ensures small { IfSome result (λ c. IsTrue (is_short c)) }
 {

@@ -16,7 +16,7 @@ ghost use Rattle.e_deriv.specs.Steps;
 ghost use Rattle.e_deriv.specs.Steps.{is_citation};
 ghost use Rattle.e_verify.specs.Checking.{IsChecked, line_in_state};
 ghost use Rattle.e_verify.specs.inner.StepStates.{state_after_superposed};
-ghost use Rattle.e_clause.specs.Written.{is_good_cert};
+ghost use Rattle.e_clause.specs.Written.{is_writable_cert};
 
 use crate::certificate::{certifies, certify_all};
 use crate::facts::Facts;
@@ -68,7 +68,7 @@ pub fn hence(
 ) -> Result<bool, AllocError>
     requires facts { IsTrue (list_all is_well_formed state.old.facts) }
     requires lit { IsTrue (is_well_formed lit.now) }
-    requires cert { IsTrue (option_map_or is_good_cert cert.now true) }
+    requires cert { IsTrue (option_map_or is_writable_cert cert.now true) }
     ensures { IfOk result (λ b. (before : List Stated)
         → IsChecked before (Hence lit.now cert.now) state.old state.new b) }
 {
@@ -94,7 +94,7 @@ pub fn make(
 ) -> Result<bool, AllocError>
     requires facts { IsTrue (list_all is_well_formed state.old.facts) }
     requires scope { IsTrue (is_small state.old.scope) }
-    requires certs { IsTrue (list_all is_good_cert certs.now) }
+    requires certs { IsTrue (list_all is_writable_cert certs.now) }
     ensures { IfOk result (λ b. (before : List Stated) (names : List (List ℕ))
         → IsChecked before (Make form.now names certs.now) state.old state.new b) }
 {
@@ -125,7 +125,7 @@ pub fn apply(
     requires facts { IsTrue (list_all is_well_formed state.old.facts) }
     requires scope { IsTrue (is_small state.old.scope) }
     requires statements { IsTrue (list_all is_small_statement (all_stated before.now)) }
-    requires certs { IsTrue (list_all is_good_cert certs.now) }
+    requires certs { IsTrue (list_all is_writable_cert certs.now) }
     ensures { IfOk result (λ b. (names : List (List ℕ)) → IsChecked (all_stated before.now)
         (Apply theorem args.now names certs.now) state.old state.new b) }
 {
@@ -160,7 +160,7 @@ pub fn superpose(
 ) -> Result<bool, AllocError>
     requires facts { IsTrue (list_all is_well_formed state.old.facts) }
     requires scope { IsTrue (is_small state.old.scope) }
-    requires certs { IsTrue (list_all is_good_cert certs.now) }
+    requires certs { IsTrue (list_all is_writable_cert certs.now) }
     ensures test { IfOk result (λ b. (before : List Stated) (names : List (List ℕ))
         (inner rest : Script) (goal : Goal) → b ≡ is_certified before
         (line_in_state (Superposed form.now names shown.now certs.now inner rest) state.old goal)) }

@@ -5,7 +5,7 @@ ghost use Rattle.std.specs.List.{list_all};
 ghost use Rattle.e_literal.specs.Absurd;
 ghost use Rattle.e_clause.specs.Sum;
 ghost use Rattle.e_verify.specs.inner.Views.{says_view, row_scope_view};
-ghost use Rattle.e_clause.specs.Written.{is_good_sum};
+ghost use Rattle.e_clause.specs.Written.{is_writable_sum};
 ghost use Rattle.e_verify.specs.inner.RowScopes.{is_good_row_scope};
 
 use crate::adding::add_row;
@@ -22,7 +22,7 @@ pub fn refutes(
     sum: &[(i128, RowName)],
 ) -> Result<bool, AllocError>
     requires row_scope { IsTrue (is_good_row_scope row_scope.now) }
-    requires sum { IsTrue (is_good_sum sum.now) }
+    requires sum { IsTrue (is_writable_sum sum.now) }
     ensures { IfOk result (λ b. b ≡ Sum.refutes (row_scope_view row_scope.now) sum.now) }
 {
     if !is_good_size(sum) {
@@ -46,26 +46,26 @@ pub fn refutes(
 }
 
 fn is_good_size(sum: &[(i128, RowName)]) -> bool
-    ensures { result ≡ Sum.is_good_size sum.now }
+    ensures { result ≡ Sum.is_limited_sum sum.now }
 {
     1 <= sum.len() && sum.len() <= 4096 && have_good_multipliers(sum)
 }
 
 fn have_good_multipliers(sum: &[(i128, RowName)]) -> bool
-    ensures { result ≡ list_all (λ x. Sum.is_good_multiplier x.0) sum.now }
+    ensures { result ≡ list_all (λ x. Sum.is_nonzero_bounded x.0) sum.now }
 {
     sum.iter().all(|(m, _)| is_good_multiplier(*m))
 }
 
 /// Whether it is not 0, and of size at most 2^80.
 fn is_good_multiplier(n: i128) -> bool
-    ensures { result ≡ Sum.is_good_multiplier n }
+    ensures { result ≡ Sum.is_nonzero_bounded n }
 {
     n != 0 && n.unsigned_abs() <= 0x1_0000_0000_0000_0000_0000
 }
 
 fn is_good_sign(says: Says, multiplier: i128) -> bool
-    ensures { result ≡ Absurd.is_good_sign (says_view says) multiplier }
+    ensures { result ≡ Absurd.allows_multiplier (says_view says) multiplier }
 {
     match says {
         Says::Zero => true,

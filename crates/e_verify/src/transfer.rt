@@ -5,7 +5,7 @@ ghost use Rattle.std.specs.List.{list_all};
 ghost use Rattle.e_literal.specs.Literal.{negation};
 ghost use Rattle.e_literal.specs.WellFormed.{is_well_formed};
 ghost use Rattle.e_clause.specs.TransferCertificate;
-ghost use Rattle.e_clause.specs.Written.{is_good_part};
+ghost use Rattle.e_clause.specs.Written.{is_writable_part};
 
 use crate::certificate::part_certifies;
 use crate::facts::Facts;
@@ -22,7 +22,7 @@ pub fn transfer_certifies(
     cert: &TransferCert,
 ) -> Result<bool, AllocError>
     requires facts { IsTrue (list_all is_well_formed facts.now) }
-    requires parts { IsTrue (list_all is_good_part cert.now.parts) }
+    requires parts { IsTrue (list_all is_writable_part cert.now.parts) }
     ensures { IfOk result
         (λ b. b ≡ TransferCertificate.transfer_certifies facts.now lit.now cert.now) }
 {
@@ -49,7 +49,7 @@ fn parts_certify(
 ) -> Result<bool, AllocError>
     requires facts { IsTrue (list_all is_well_formed facts.now) }
     requires lits { IsTrue (list_all is_well_formed lits.now) }
-    requires parts { IsTrue (list_all is_good_part parts.now) }
+    requires parts { IsTrue (list_all is_writable_part parts.now) }
     ensures { IfOk result
         (λ b. b ≡ TransferCertificate.parts_certify facts.now (map negation lits.now) parts.now) }
 {

@@ -15,16 +15,9 @@ use crate::facts::Facts;
 use crate::reject::Reject;
 use crate::step_state::{Goal, StepState};
 use e_deriv::{Block, certified_proves};
-use e_literal::{Scope, grown, next_objects};
+use e_literal::{NOTHING, Scope, grown, next_objects};
 use e_theorem::Statement;
 use std::alloc::{AllocError, Global};
-
-/// No objects.
-pub(crate) const NOTHING: Scope = Scope {
-    points: 0,
-    lines: 0,
-    circles: 0,
-};
 
 /// Checks the derivation of a statement from those before it, certificate by certificate, in text
 /// order.

@@ -1,5 +1,5 @@
-//! Words written behind spaces, and the ends of lines. Each of these functions adds bytes to what is written. It fails only for
-//! want of memory, and then what was written before is as it was.
+//! Words written behind spaces, and the ends of lines. Each of these functions adds bytes to what
+//! is written. It fails only when out of memory, and then what was written before is as it was.
 #![tactic(auto)]
 
 ghost use Rattle.std.specs.Prelude.{◌≡◌, ◌≤◌, ◌++◌, ◌∷◌, [], ◌==◌, if◌then◌else◌, decimal, length, take, OnOk, OnErr};
@@ -9,7 +9,8 @@ use e_text::Name;
 use itoa::{Buffer, Integer};
 use std::alloc::AllocError;
 
-// Writes a word behind a space, or leaves only so many of the first bytes.
+// Writes a word behind a space, or leaves only so many of the first bytes: what writes several words
+// says where it began, so that nothing of them is left.
 fn put_or_cut(out: &mut Vec<u8>, word: &[u8], before: usize) -> Result<(), AllocError>
     requires { before ≤ length out.old.items }
     ensures ok { OnOk result (out.new.items ≡ out.old.items ++ 32 ∷ word.now) }

@@ -25,7 +25,7 @@ const SCOPE: Scope = Scope {
 };
 
 fn begun(alloc: Global, scope: Scope, facts: Facts) -> Result<Context, AllocError>
-    requires { IsTrue (Judged.are_good_facts scope facts) }
+    requires { IsTrue (Judged.are_limited_facts scope facts) }
     ensures { IfOk result (λ c. c ≡ record { scope = scope; facts = facts; held = [] }) }
 {
     match Context::new(alloc, scope, facts) {

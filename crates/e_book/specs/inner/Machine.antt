@@ -1,7 +1,7 @@
 -- A theorem or a definition as the parser holds it while its lines come.
 use Rattle.std.specs.Prelude.{◌≡◌, ℕ, ◌+◌, ◌≤◌, Bool, true, false, not, ◌||◌, List, [], ◌∷◌, ◌++◌, length, map, Option, Some, None, Result, Ok, Err, if◌then◌else◌}
 use Rattle.e_text.specs.Tokens.{tokens_of}
-use Rattle.e_text.specs.Lines.{Seen, AreGood}
+use Rattle.e_text.specs.Lines.{Seen, HaveNoFault}
 use Rattle.e_deriv.specs.declared.names.Names.{Names}
 use Rattle.e_book.specs.declared.fault.Kind.{Kind}
 use Rattle.e_book.specs.declared.fault.Kind.TheVariants.{Malformed, NameTaken}
@@ -168,9 +168,9 @@ TakesLine known old l (Err f) new = (last : ℕ) (more : Rest) → BookFails f (
 -- what the lines that are ahead make of it: all are taken, and none has a fault; or a theorem or a definition ends, and these are left
 abbrev pub ReadsOn : Known → Option Coming → Rest → Result (Option Item) BookFault → Option Coming → Rest → Type 0
 ReadsOn known old lines (Ok None) new left =
-    (left ≡ []) × AreGood lines × ((last : ℕ) (more : Rest) → item_from known last old (lines ++ more) ≡ item_from known last new more)
+    (left ≡ []) × HaveNoFault lines × ((last : ℕ) (more : Rest) → item_from known last old (lines ++ more) ≡ item_from known last new more)
 ReadsOn known old lines (Ok (Some i)) new left =
-    (new ≡ None) × (AreGood left → AreGood lines) × ((last : ℕ) (more : Rest) → item_from known last old (lines ++ more) ≡ Ok (Some (view_of i, left ++ more)))
+    (new ≡ None) × (HaveNoFault left → HaveNoFault lines) × ((last : ℕ) (more : Rest) → item_from known last old (lines ++ more) ≡ Ok (Some (view_of i, left ++ more)))
 ReadsOn known old lines (Err f) new left = (last : ℕ) (more : Rest) → BookFails f (item_from known last old (lines ++ more))
 
 -- no lines come any more: that is a fault inside a theorem or a definition

@@ -7,7 +7,7 @@ use Rattle.e_literal.specs.declared.map.Entry.{Entry}
 use Rattle.e_literal.specs.Literal.{obj, count_of}
 use Rattle.e_literal.specs.Rename.{image_in, renamed, paired}
 use Rattle.e_clause.specs.Allowed.{Allowed, AllAllowed}
-use Rattle.e_clause.specs.Judged.{is_good}
+use Rattle.e_clause.specs.Judged.{is_well_formed_in}
 use Rattle.e_clause.specs.Wide.{IsTooWideLit}
 use Rattle.e_transfer.specs.declared.walk.Span.{Span}
 use Rattle.e_transfer.specs.declared.walk.Verdict.{Verdict}
@@ -47,7 +47,7 @@ images_of_choice s os entries c = paired os (filled_arguments s os entries c)
 
 -- all objects of the literal are in scope now, and not all were before
 abbrev pub is_completed : Scope → List Entry → List Entry → Bool → Lit → Bool
-is_completed s now before first l = is_good s (renamed (image_in now) l) && (first || not (is_good s (renamed (image_in before) l)))
+is_completed s now before first l = is_well_formed_in s (renamed (image_in now) l) && (first || not (is_well_formed_in s (renamed (image_in before) l)))
 
 -- each literal that is completed is allowed
 abbrev pub AllCompleted : Basis → List Entry → List Entry → Bool → List Lit → Type 0
@@ -66,12 +66,12 @@ IsWanted b os entries given c = AllAllowed b.scope b.facts (map (renamed (image_
 
 -- all objects of the literal are in scope, and it is not allowed
 pub record IsRefusedAt (b : Basis) (now : List Entry) (l : Lit) : Type 0 where
-  pub good : IsTrue (is_good b.scope (renamed (image_in now) l))
+  pub good : IsTrue (is_well_formed_in b.scope (renamed (image_in now) l))
   pub not_allowed : ¬ Allowed b.scope b.facts (renamed (image_in now) l)
 
 -- all objects of the literal are in scope, and it is too wide
 pub record IsWideUnder (b : Basis) (now : List Entry) (l : Lit) (w : ℕ) : Type 0 where
-  pub good : IsTrue (is_good b.scope (renamed (image_in now) l))
+  pub good : IsTrue (is_well_formed_in b.scope (renamed (image_in now) l))
   pub is_wide : IsTooWideLit b.scope b.facts (renamed (image_in now) l) w
 
 -- one of the literals is so

@@ -26,7 +26,7 @@ use Rattle.e_clause.specs.declared.cert.Sums.{Sums}
 use Rattle.e_clause.specs.declared.cert.Sums.TheVariants.{One, Two}
 use Rattle.e_clause.specs.Assignment.{terms_of_lits, terms_of_wanted}
 use Rattle.e_clause.specs.System.{pos_row, top_row, least_row}
-use Rattle.e_clause.specs.Sum.{Place, is_step_term, fact_row, row_at, says_differ, unless_not, row_named, weighed_rows, is_good_size, refutes}
+use Rattle.e_clause.specs.Sum.{Place, is_step_term, fact_row, row_at, says_differ, unless_not, row_named, weighed_rows, is_limited_sum, refutes}
 use Rattle.e_clause.specs.MetricCertificate.{differing, above_row, below_row, both_refute, sums_refute}
 use Rattle.e_metric.specs.declared.kind_system.KindSystem.{KindSystem}
 use Rattle.e_metric.specs.declared.kind_system.KindSystem.TheVariants.{Absurd}
@@ -134,9 +134,9 @@ module _ (facts more : List Lit) (wanted : Option Lit) where
 
     sum_wider : (xs : List (ℤ × RowName)) → refutes alone xs ≡ true → refutes beside_terms xs ≡ true
     sum_wider xs h =
-        and_from (is_good_size xs) (option_map_or is_absurd (weighed_rows beside_terms xs) false)
-        (and_left (is_good_size xs) (option_map_or is_absurd (weighed_rows alone xs) false) h)
-        (by (weighed_rows alone xs) refl (and_right (is_good_size xs) (option_map_or is_absurd (weighed_rows alone xs) false) h))
+        and_from (is_limited_sum xs) (option_map_or is_absurd (weighed_rows beside_terms xs) false)
+        (and_left (is_limited_sum xs) (option_map_or is_absurd (weighed_rows alone xs) false) h)
+        (by (weighed_rows alone xs) refl (and_right (is_limited_sum xs) (option_map_or is_absurd (weighed_rows alone xs) false) h))
       where
         by : (q : Option (List Weighed)) → weighed_rows alone xs ≡ q → option_map_or is_absurd q false ≡ true → option_map_or is_absurd (weighed_rows beside_terms xs) false ≡ true
         by None e k = absurd (true≢false (sym k))

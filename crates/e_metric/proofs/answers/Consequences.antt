@@ -5,7 +5,7 @@ use Rattle.e_literal.specs.declared.literal.Lit.{Lit}
 use Rattle.e_literal.specs.Facts.{is_metric}
 use Rattle.e_literal.specs.WellFormed.{is_well_formed}
 use Rattle.e_literal.proofs.Booleans.{and_left}
-use Rattle.e_clause.specs.Laws.{is_good_wanted}
+use Rattle.e_clause.specs.Laws.{is_well_formed_metric}
 use Rattle.e_clause.specs.Metric.{MetricConsequence, Unsatisfiable}
 use Rattle.e_clause.specs.MetricCertificate.{sums_refute}
 use Rattle.e_clause.specs.Counterexample.{value_in}
@@ -14,7 +14,7 @@ use Rattle.e_metric.specs.declared.consequence.Metric.{Metric}
 use Rattle.e_metric.specs.declared.consequence.Metric.TheVariants.{Yes, No, TooWide}
 use Rattle.e_metric.specs.MetricAnswers.{IsMetricAnswer, IfYes, IfNo}
 
-pub yes_follows : (facts : List Lit) (l : Lit) (m : Metric) → is_good_wanted (Some l) ≡ true → IsMetricAnswer facts (Some l) m → IfYes m (MetricConsequence facts l)
+pub yes_follows : (facts : List Lit) (l : Lit) (m : Metric) → is_well_formed_metric (Some l) ≡ true → IsMetricAnswer facts (Some l) m → IfYes m (MetricConsequence facts l)
 yes_follows facts l (Yes c) g h =
     metric_certificate facts l c (and_from (is_metric l) (sums_refute facts (Some l) c.sums) (and_left (is_metric l) (is_well_formed l) g) h.refutes)
 yes_follows facts l (No v) g h = tt
@@ -41,7 +41,7 @@ if_ok : {E : Type 0} (P Q : Metric → Type 0) → ((m : Metric) → P m → Q m
 if_ok P Q f (Ok m) h = f m h
 if_ok P Q f (Err e) h = tt
 
-pub each_yes_follows : {E : Type 0} (facts : List Lit) (l : Lit) (r : Result Metric E) → is_good_wanted (Some l) ≡ true → IfOk r (IsMetricAnswer facts (Some l)) → IfOk r (λ m. IfYes m (MetricConsequence facts l))
+pub each_yes_follows : {E : Type 0} (facts : List Lit) (l : Lit) (r : Result Metric E) → is_well_formed_metric (Some l) ≡ true → IfOk r (IsMetricAnswer facts (Some l)) → IfOk r (λ m. IfYes m (MetricConsequence facts l))
 each_yes_follows facts l r g h = if_ok (IsMetricAnswer facts (Some l)) (λ m. IfYes m (MetricConsequence facts l)) (λ m k. yes_follows facts l m g k) r h
 
 pub each_no_follows : {E : Type 0} (facts : List Lit) (l : Lit) (r : Result Metric E) → IfOk r (IsMetricAnswer facts (Some l)) → IfOk r (λ m. IfNo m (¬ MetricConsequence facts l))

@@ -17,7 +17,7 @@ use Rattle.e_clause.specs.declared.cert.RowName.{RowName}
 use Rattle.e_clause.specs.declared.cert.Sums.{Sums}
 use Rattle.e_clause.specs.Assignment.{terms_of_lits}
 use Rattle.e_clause.specs.MetricCertificate.{sums_refute, sums_in}
-use Rattle.e_clause.specs.Laws.{is_good_wanted}
+use Rattle.e_clause.specs.Laws.{is_well_formed_metric}
 use Rattle.e_clause.specs.System.{NamedRow, system, rows_of_system, metric_systems}
 use Rattle.e_clause.specs.Wide.{HasWidth}
 use Rattle.e_clause.proofs.Named.{Each}
@@ -75,7 +75,7 @@ module _ (which : Kind) (facts : List Lit) (wanted : Option Lit) where
       (satisfy_each v ns (satisfy_alike (all_seen (rows_given ps)) (map row_of ns) v (rows_alike ns ps are) (subst (λ rs. Satisfy v (all_seen rs)) rows_are h))))
 
   module _ (ns : List NamedRow) (order : AreReordered ns (system which facts wanted)) (ps : List (RowName × GivenRow)) (are : AreRows ns ps) (limited : AllLimited ps)
-      (good : list_all is_well_formed facts ≡ true) (few : length (terms_of_lits facts) ≤ 1100) (good_wanted : is_good_wanted wanted ≡ true) (rows : List GivenRow) (rows_are : rows ≡ rows_given ps) where
+      (good : list_all is_well_formed facts ≡ true) (few : length (terms_of_lits facts) ≤ 1100) (good_wanted : is_well_formed_metric wanted ≡ true) (rows : List GivenRow) (rows_are : rows ≡ rows_given ps) where
     together : length ps + length (with_listed (distinct_terms which facts wanted) (Right ∷ [])) ≤ 4096
     together = omega (arith, length_rows ns ps are, order.many, system_length which facts wanted good good_wanted few)
 

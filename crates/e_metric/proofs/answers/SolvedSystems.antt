@@ -16,7 +16,7 @@ use Rattle.e_literal.specs.WellFormed.{is_well_formed}
 use Rattle.e_clause.specs.declared.cert.RowName.{RowName}
 use Rattle.e_clause.specs.declared.cert.Sums.{Sums}
 use Rattle.e_clause.specs.Assignment.{terms_of_lits}
-use Rattle.e_clause.specs.Laws.{is_good_wanted}
+use Rattle.e_clause.specs.Laws.{is_well_formed_metric}
 use Rattle.e_clause.specs.System.{NamedRow, system, rows_of_system}
 use Rattle.e_clause.specs.Wide.{HasWidth}
 use Rattle.e_fraction.specs.declared.row.Row.{Row as GivenRow}
@@ -70,7 +70,7 @@ named_of ns ps names rows a l n r = record { pairs = ps; are = a; limited = l; n
 -- ---- what is solved of such rows
 
 module _ (which : Kind) (facts : List Lit) (wanted : Option Lit) (ns : List NamedRow) (order : AreReordered ns (system which facts wanted)) (names : List RowName) (rows : List GivenRow) (named : AreNamed ns names rows)
-    (good : list_all is_well_formed facts ≡ true) (few : length (terms_of_lits facts) ≤ 1100) (good_wanted : is_good_wanted wanted ≡ true) where
+    (good : list_all is_well_formed facts ≡ true) (few : length (terms_of_lits facts) ≤ 1100) (good_wanted : is_well_formed_metric wanted ≡ true) where
   pub few_named : length rows ≤ 4096
   few_named = KindAnswers.few_rows which facts wanted ns order named.pairs named.are named.limited good few good_wanted rows named.rows_are
 
@@ -128,7 +128,7 @@ one_so v rows i r l e h s = subst (λ rs. Satisfy v (all_seen rs)) (sym (at rows
 -- ---- the answer where more rows come after those that are kept
 
 module _ (which : Kind) (facts : List Lit) (wanted : Option Lit) (g : SolvedSystem) (names : List RowName) (rows : List GivenRow) (t : AreTogether which facts wanted g names rows)
-    (good : list_all is_well_formed facts ≡ true) (few : length (terms_of_lits facts) ≤ 1100) (good_wanted : is_good_wanted wanted ≡ true) where
+    (good : list_all is_well_formed facts ≡ true) (few : length (terms_of_lits facts) ≤ 1100) (good_wanted : is_well_formed_metric wanted ≡ true) where
   abbrev both : List GivenRow
   both = g.settled ++ rows
 

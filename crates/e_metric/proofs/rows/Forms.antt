@@ -16,7 +16,7 @@ use Rattle.e_literal.specs.declared.object.Kind.{Kind}
 use Rattle.e_literal.specs.Literal.{kind_of_term, kind_of_sums}
 use Rattle.e_literal.specs.declared.literal.Atom.{Atom}
 use Rattle.e_literal.specs.declared.literal.Atom.TheVariants.{MagEq, MagLt}
-use Rattle.e_literal.specs.WellFormed.{same_kind, is_good_coefficient, are_good_sums, is_good_atom}
+use Rattle.e_literal.specs.WellFormed.{same_kind, is_bounded_coefficient, are_well_formed_sums, is_well_formed_atom}
 use Rattle.e_fraction.specs.Distinct.{have_distinct_terms}
 use Rattle.e_fraction.specs.Limits.{has_small_coefficients}
 use Rattle.e_literal.proofs.Arith.{sums, zero_is, not_zero}
@@ -188,11 +188,11 @@ no_zero x y (p ∷ ps) h = and_from (not (int_eq p.0 (pos 0))) (has_no_zero ps) 
         by true e = absurd (n (zero_is z e))
         by false e = refl
 
-coefficient_bound : (ms : List Mono) (t : Term) → list_all (λ m. is_good_coefficient m.coeff) ms ≡ true → coeff_of ms t ≤ 1000000 * length ms
+coefficient_bound : (ms : List Mono) (t : Term) → list_all (λ m. is_bounded_coefficient m.coeff) ms ≡ true → coeff_of ms t ≤ 1000000 * length ms
 coefficient_bound [] t h = omega arith
 coefficient_bound (m ∷ ms) t h =
-    by (one_term m.term t) (at_most m.coeff (and_right (nat_le 1 m.coeff) (nat_le m.coeff 1000000) (and_left (is_good_coefficient m.coeff) (list_all (λ n. is_good_coefficient n.coeff) ms) h)))
-    (coefficient_bound ms t (and_right (is_good_coefficient m.coeff) (list_all (λ n. is_good_coefficient n.coeff) ms) h))
+    by (one_term m.term t) (at_most m.coeff (and_right (nat_le 1 m.coeff) (nat_le m.coeff 1000000) (and_left (is_bounded_coefficient m.coeff) (list_all (λ n. is_bounded_coefficient n.coeff) ms) h)))
+    (coefficient_bound ms t (and_right (is_bounded_coefficient m.coeff) (list_all (λ n. is_bounded_coefficient n.coeff) ms) h))
   where
     at_most : (n : ℕ) → nat_le n 1000000 ≡ true → n ≤ 1000000
     at_most n h = grind (arith, nat_tests)
@@ -201,7 +201,7 @@ coefficient_bound (m ∷ ms) t h =
     by true a i = omega (arith, a, i)
     by false a i = omega (arith, i)
 
-pub all_small : (x y : List Mono) (form : Summands) → length x + length y ≤ 32 → list_all (λ m. is_good_coefficient m.coeff) x ≡ true → list_all (λ m. is_good_coefficient m.coeff) y ≡ true
+pub all_small : (x y : List Mono) (form : Summands) → length x + length y ≤ 32 → list_all (λ m. is_bounded_coefficient m.coeff) x ≡ true → list_all (λ m. is_bounded_coefficient m.coeff) y ≡ true
     → AreSummands x y form → has_small_coefficients form ≡ true
 all_small x y [] l a b h = refl
 all_small x y (p ∷ ps) l a b h =
@@ -231,9 +231,9 @@ joined_length x y = omega (arith, terms_length x y (with_summands x y [] x) y, t
 
 -- ---- sums that are well formed
 
-module _ (x y : List Mono) (h : are_good_sums x y ≡ true) where
+module _ (x y : List Mono) (h : are_well_formed_sums x y ≡ true) where
   abbrev each_good : Bool
-  each_good = list_all (λ m. same_kind (kind_of_term m.term) (kind_of_sums x y) && is_good_coefficient m.coeff) (x ++ y)
+  each_good = list_all (λ m. same_kind (kind_of_term m.term) (kind_of_sums x y) && is_bounded_coefficient m.coeff) (x ++ y)
 
   abbrev few_good : Bool
   few_good = nat_le (length (x ++ y)) 32 && each_good
@@ -247,40 +247,40 @@ module _ (x y : List Mono) (h : are_good_sums x y ≡ true) where
       le_of : (a b : ℕ) → nat_le a b ≡ true → a ≤ b
       le_of a b h = grind (arith, nat_tests)
 
-  coefficients_of : (k : Kind) (ms : List Mono) → list_all (λ m. same_kind (kind_of_term m.term) k && is_good_coefficient m.coeff) ms ≡ true → list_all (λ m. is_good_coefficient m.coeff) ms ≡ true
+  coefficients_of : (k : Kind) (ms : List Mono) → list_all (λ m. same_kind (kind_of_term m.term) k && is_bounded_coefficient m.coeff) ms ≡ true → list_all (λ m. is_bounded_coefficient m.coeff) ms ≡ true
   coefficients_of k [] e = refl
   coefficients_of k (m ∷ ms) e =
-      (let first = and_left (same_kind (kind_of_term m.term) k && is_good_coefficient m.coeff) (list_all (λ n. same_kind (kind_of_term n.term) k && is_good_coefficient n.coeff) ms) e in
-      let rest = and_right (same_kind (kind_of_term m.term) k && is_good_coefficient m.coeff) (list_all (λ n. same_kind (kind_of_term n.term) k && is_good_coefficient n.coeff) ms) e in
-      and_from (is_good_coefficient m.coeff) (list_all (λ n. is_good_coefficient n.coeff) ms) (and_right (same_kind (kind_of_term m.term) k) (is_good_coefficient m.coeff) first) (coefficients_of k ms rest))
+      (let first = and_left (same_kind (kind_of_term m.term) k && is_bounded_coefficient m.coeff) (list_all (λ n. same_kind (kind_of_term n.term) k && is_bounded_coefficient n.coeff) ms) e in
+      let rest = and_right (same_kind (kind_of_term m.term) k && is_bounded_coefficient m.coeff) (list_all (λ n. same_kind (kind_of_term n.term) k && is_bounded_coefficient n.coeff) ms) e in
+      and_from (is_bounded_coefficient m.coeff) (list_all (λ n. is_bounded_coefficient n.coeff) ms) (and_right (same_kind (kind_of_term m.term) k) (is_bounded_coefficient m.coeff) first) (coefficients_of k ms rest))
 
-  all_coefficients : list_all (λ m. is_good_coefficient m.coeff) (x ++ y) ≡ true
+  all_coefficients : list_all (λ m. is_bounded_coefficient m.coeff) (x ++ y) ≡ true
   all_coefficients = coefficients_of (kind_of_sums x y) (x ++ y) (and_right (nat_le (length (x ++ y)) 32) each_good after_one)
 
-  parts : (xs ys : List Mono) → list_all (λ m. is_good_coefficient m.coeff) (xs ++ ys) ≡ true → (list_all (λ m. is_good_coefficient m.coeff) xs ≡ true) × (list_all (λ m. is_good_coefficient m.coeff) ys ≡ true)
+  parts : (xs ys : List Mono) → list_all (λ m. is_bounded_coefficient m.coeff) (xs ++ ys) ≡ true → (list_all (λ m. is_bounded_coefficient m.coeff) xs ≡ true) × (list_all (λ m. is_bounded_coefficient m.coeff) ys ≡ true)
   parts [] ys e = (refl, e)
   parts (m ∷ ms) ys e =
-      (let r = parts ms ys (and_right (is_good_coefficient m.coeff) (list_all (λ n. is_good_coefficient n.coeff) (ms ++ ys)) e) in
-      (and_from (is_good_coefficient m.coeff) (list_all (λ n. is_good_coefficient n.coeff) ms) (and_left (is_good_coefficient m.coeff) (list_all (λ n. is_good_coefficient n.coeff) (ms ++ ys)) e) r.0, r.1))
+      (let r = parts ms ys (and_right (is_bounded_coefficient m.coeff) (list_all (λ n. is_bounded_coefficient n.coeff) (ms ++ ys)) e) in
+      (and_from (is_bounded_coefficient m.coeff) (list_all (λ n. is_bounded_coefficient n.coeff) ms) (and_left (is_bounded_coefficient m.coeff) (list_all (λ n. is_bounded_coefficient n.coeff) (ms ++ ys)) e) r.0, r.1))
 
-  pub left_coefficients : list_all (λ m. is_good_coefficient m.coeff) x ≡ true
+  pub left_coefficients : list_all (λ m. is_bounded_coefficient m.coeff) x ≡ true
   left_coefficients = (parts x y all_coefficients).0
 
-  pub right_coefficients : list_all (λ m. is_good_coefficient m.coeff) y ≡ true
+  pub right_coefficients : list_all (λ m. is_bounded_coefficient m.coeff) y ≡ true
   right_coefficients = (parts x y all_coefficients).1
 
 abbrev pub AllGood : List Mono → Type 0
-AllGood ms = list_all (λ m. is_good_coefficient m.coeff) ms ≡ true
+AllGood ms = list_all (λ m. is_bounded_coefficient m.coeff) ms ≡ true
 
 -- the sums of an atom that is well formed
-pub left_of_eq : (a : Atom) (x y u : List Mono) → is_good_atom a ≡ true → a ≡ MagEq x y → u ≡ x → AllGood u
-left_of_eq a x y u h e f = subst AllGood (sym f) (left_coefficients x y (ap is_good_atom (sym e) ∙ h))
+pub left_of_eq : (a : Atom) (x y u : List Mono) → is_well_formed_atom a ≡ true → a ≡ MagEq x y → u ≡ x → AllGood u
+left_of_eq a x y u h e f = subst AllGood (sym f) (left_coefficients x y (ap is_well_formed_atom (sym e) ∙ h))
 
-pub right_of_eq : (a : Atom) (x y u : List Mono) → is_good_atom a ≡ true → a ≡ MagEq x y → u ≡ y → AllGood u
-right_of_eq a x y u h e f = subst AllGood (sym f) (right_coefficients x y (ap is_good_atom (sym e) ∙ h))
+pub right_of_eq : (a : Atom) (x y u : List Mono) → is_well_formed_atom a ≡ true → a ≡ MagEq x y → u ≡ y → AllGood u
+right_of_eq a x y u h e f = subst AllGood (sym f) (right_coefficients x y (ap is_well_formed_atom (sym e) ∙ h))
 
-pub left_of_lt : (a : Atom) (x y u : List Mono) → is_good_atom a ≡ true → a ≡ MagLt x y → u ≡ x → AllGood u
-left_of_lt a x y u h e f = subst AllGood (sym f) (left_coefficients x y (ap is_good_atom (sym e) ∙ h))
+pub left_of_lt : (a : Atom) (x y u : List Mono) → is_well_formed_atom a ≡ true → a ≡ MagLt x y → u ≡ x → AllGood u
+left_of_lt a x y u h e f = subst AllGood (sym f) (left_coefficients x y (ap is_well_formed_atom (sym e) ∙ h))
 
-pub right_of_lt : (a : Atom) (x y u : List Mono) → is_good_atom a ≡ true → a ≡ MagLt x y → u ≡ y → AllGood u
-right_of_lt a x y u h e f = subst AllGood (sym f) (right_coefficients x y (ap is_good_atom (sym e) ∙ h))
+pub right_of_lt : (a : Atom) (x y u : List Mono) → is_well_formed_atom a ≡ true → a ≡ MagLt x y → u ≡ y → AllGood u
+right_of_lt a x y u h e f = subst AllGood (sym f) (right_coefficients x y (ap is_well_formed_atom (sym e) ∙ h))

@@ -13,13 +13,13 @@ use Rattle.e_literal.specs.declared.literal.Lit.{Lit}
 use Rattle.e_literal.specs.Literal.{kind_of_sums, kind_of_term}
 use Rattle.e_literal.specs.Facts.{are_apart, is_metric}
 use Rattle.e_literal.specs.Rows.{row_of_lit, has_term, first_terms}
-use Rattle.e_literal.specs.WellFormed.{same_kind, is_good_coefficient, are_good_sums, is_good_atom, is_well_formed}
+use Rattle.e_literal.specs.WellFormed.{same_kind, is_bounded_coefficient, are_well_formed_sums, is_well_formed_atom, is_well_formed}
 use Rattle.e_literal.proofs.Valued.{IsMagEq, IsMagLt, IsDiagram, split}
 use Rattle.e_literal.proofs.Booleans.{and_left, and_right}
 use Rattle.e_clause.specs.declared.cert.RowName.{RowName}
 use Rattle.e_clause.specs.declared.cert.RowName.TheVariants.{Fact, Goal, Pos}
 use Rattle.e_clause.specs.Assignment.{terms_of_atom, terms_of_lits}
-use Rattle.e_clause.specs.Laws.{is_good_wanted}
+use Rattle.e_clause.specs.Laws.{is_well_formed_metric}
 use Rattle.e_clause.specs.System.{NamedRow, named, is_of_kind, of_kind, against_goal, rows_named, rows_of_term, rows_of_kind, pos_row, system}
 use Rattle.e_clause.proofs.Carried.{good_against}
 use Rattle.e_metric.specs.ListedTerms.{with_listed, distinct_terms}
@@ -27,13 +27,13 @@ use Rattle.e_metric.proofs.terms.FirstTerms.{with_right}
 
 -- ---- one literal
 
-sums_some : (x y : List Mono) → are_good_sums x y ≡ true → 1 ≤ length (map (λ (m : Mono). m.term) (x ++ y))
+sums_some : (x y : List Mono) → are_well_formed_sums x y ≡ true → 1 ≤ length (map (λ (m : Mono). m.term) (x ++ y))
 sums_some x y h = omega (arith, length-map (x ++ y) (λ (m : Mono). m.term), leb-true 1 (length (x ++ y)) (and_left (nat_le 1 (length (x ++ y))) (nat_le (length (x ++ y)) 32 && each) h))
   where
     each : Bool
-    each = list_all (λ (m : Mono). same_kind (kind_of_term m.term) (kind_of_sums x y) && is_good_coefficient m.coeff) (x ++ y)
+    each = list_all (λ (m : Mono). same_kind (kind_of_term m.term) (kind_of_sums x y) && is_bounded_coefficient m.coeff) (x ++ y)
 
-sums_few : (x y : List Mono) → are_good_sums x y ≡ true → length (map (λ (m : Mono). m.term) (x ++ y)) ≤ 32
+sums_few : (x y : List Mono) → are_well_formed_sums x y ≡ true → length (map (λ (m : Mono). m.term) (x ++ y)) ≤ 32
 sums_few x y h = omega (
   arith,
   length-map (x ++ y) (λ (m : Mono). m.term),
@@ -42,23 +42,23 @@ sums_few x y h = omega (
 )
   where
     each : Bool
-    each = list_all (λ (m : Mono). same_kind (kind_of_term m.term) (kind_of_sums x y) && is_good_coefficient m.coeff) (x ++ y)
+    each = list_all (λ (m : Mono). same_kind (kind_of_term m.term) (kind_of_sums x y) && is_bounded_coefficient m.coeff) (x ++ y)
 
 -- a literal of a kind has a term
 some_terms : (which : Kind) (l : Lit) → is_well_formed l ≡ true → is_of_kind which l ≡ true → 1 ≤ length (terms_of_atom l.atom)
 some_terms which l h k = by (split l.atom)
   where
     by : (IsMagEq l.atom ⊎ IsMagLt l.atom) ⊎ IsDiagram l.atom → 1 ≤ length (terms_of_atom l.atom)
-    by (inl (inl p)) = subst (λ a. 1 ≤ length (terms_of_atom a)) (sym p.2) (sums_some p.0 p.1 (ap is_good_atom (sym p.2) ∙ h))
-    by (inl (inr p)) = subst (λ a. 1 ≤ length (terms_of_atom a)) (sym p.2) (sums_some p.0 p.1 (ap is_good_atom (sym p.2) ∙ h))
+    by (inl (inl p)) = subst (λ a. 1 ≤ length (terms_of_atom a)) (sym p.2) (sums_some p.0 p.1 (ap is_well_formed_atom (sym p.2) ∙ h))
+    by (inl (inr p)) = subst (λ a. 1 ≤ length (terms_of_atom a)) (sym p.2) (sums_some p.0 p.1 (ap is_well_formed_atom (sym p.2) ∙ h))
     by (inr d) = absurd (true≢false (sym k ∙ ap (λ (o : Option Kind). option_map_or (same_kind which) o false) d.no_kind))
 
 few_terms : (l : Lit) → is_well_formed l ≡ true → is_metric l ≡ true → length (terms_of_atom l.atom) ≤ 32
 few_terms l h k = by (split l.atom)
   where
     by : (IsMagEq l.atom ⊎ IsMagLt l.atom) ⊎ IsDiagram l.atom → length (terms_of_atom l.atom) ≤ 32
-    by (inl (inl p)) = subst (λ a. length (terms_of_atom a) ≤ 32) (sym p.2) (sums_few p.0 p.1 (ap is_good_atom (sym p.2) ∙ h))
-    by (inl (inr p)) = subst (λ a. length (terms_of_atom a) ≤ 32) (sym p.2) (sums_few p.0 p.1 (ap is_good_atom (sym p.2) ∙ h))
+    by (inl (inl p)) = subst (λ a. length (terms_of_atom a) ≤ 32) (sym p.2) (sums_few p.0 p.1 (ap is_well_formed_atom (sym p.2) ∙ h))
+    by (inl (inr p)) = subst (λ a. length (terms_of_atom a) ≤ 32) (sym p.2) (sums_few p.0 p.1 (ap is_well_formed_atom (sym p.2) ∙ h))
     by (inr d) = absurd (true≢false (sym k ∙ ap (λ (o : Option Kind). is_some o) d.no_kind))
 
 -- ---- rows
@@ -125,11 +125,11 @@ right_rows AreaKind = omega arith
 
 -- ---- a system
 
-wanted_terms : (wanted : Option Lit) → is_good_wanted wanted ≡ true → length (terms_of_lits (against_goal wanted)) ≤ 32
+wanted_terms : (wanted : Option Lit) → is_well_formed_metric wanted ≡ true → length (terms_of_lits (against_goal wanted)) ≤ 32
 wanted_terms None h = omega arith
 wanted_terms (Some l) h = omega (arith, length-append (terms_of_atom l.atom) [], few_terms l (and_right (is_metric l) (is_well_formed l) h) (and_left (is_metric l) (is_well_formed l) h))
 
-pub system_length : (which : Kind) (facts : List Lit) (wanted : Option Lit) → list_all is_well_formed facts ≡ true → is_good_wanted wanted ≡ true → length (terms_of_lits facts) ≤ 1100
+pub system_length : (which : Kind) (facts : List Lit) (wanted : Option Lit) → list_all is_well_formed facts ≡ true → is_well_formed_metric wanted ≡ true → length (terms_of_lits facts) ≤ 1100
     → length (system which facts wanted) + length (with_listed (distinct_terms which facts wanted) (Right ∷ [])) ≤ 4096
 system_length which facts wanted good good_wanted few =
     (let known = of_kind which facts in

@@ -14,7 +14,7 @@ use Rattle.e_literal.specs.declared.object.Term.{Term}
 use Rattle.e_literal.specs.declared.object.Mono.{Mono}
 use Rattle.e_literal.specs.Same.{canonical, term_eq, one_term}
 use Rattle.e_literal.specs.Rows.{Row, Says, Zero, AtLeast, More, Not, coefficient, terms_of_rows, is_degenerate, has_term}
-use Rattle.e_literal.specs.Absurd.{Weighed, total, is_good_sign, is_strict, is_absurd}
+use Rattle.e_literal.specs.Absurd.{Weighed, total, allows_multiplier, is_strict, is_absurd}
 use Rattle.e_literal.proofs.Arith.{sums, mul_one, zero_is, is_zero, not_zero}
 use Rattle.e_literal.proofs.Terms.{term_eq_is, term_eq_turned}
 use Rattle.e_literal.proofs.CanonicalTerms.{one_term_is}
@@ -23,7 +23,7 @@ use Rattle.e_literal.proofs.Booleans.{and_left, all_hold}
 use Rattle.e_clause.specs.declared.cert.RowName.{RowName}
 use Rattle.e_clause.specs.declared.cert.RowName.TheVariants.{Least}
 use Rattle.e_clause.specs.System.{least_row}
-use Rattle.e_clause.specs.Sum.{Place, is_step_term, row_named, weighed_rows, is_good_multiplier, is_good_size, refutes}
+use Rattle.e_clause.specs.Sum.{Place, is_step_term, row_named, weighed_rows, is_nonzero_bounded, is_limited_sum, refutes}
 use Rattle.e_simplex.specs.Answer.{each_weighed, MayTake, AreTaken, TakesMore, Refutes}
 use Rattle.e_metric.specs.inner.Certificate.{named_multipliers, leasts}
 use Rattle.e_metric.proofs.terms.FirstTerms.{Once, has_same}
@@ -126,32 +126,32 @@ least_total left (t ∷ ts) u neg once =
 
 -- ---- signs and sizes of what brings each term to 0
 
-good_of : (z : ℤ) → z ≢ pos 0 → unsigned_abs z ≤ 2 ^ 80 → is_good_multiplier z ≡ true
+good_of : (z : ℤ) → z ≢ pos 0 → unsigned_abs z ≤ 2 ^ 80 → is_nonzero_bounded z ≡ true
 good_of z n h = and_from (not (int_eq z (pos 0))) (nat_le (unsigned_abs z) (2 ^ 80)) (by (int_eq z (pos 0)) refl) (le-leb (unsigned_abs z) (2 ^ 80) h)
   where
     by : (b : Bool) → int_eq z (pos 0) ≡ b → not b ≡ true
     by true e = absurd (n (zero_is z e))
     by false e = refl
 
-least_good : (left : Term → ℤ) (ts : List Term) → ((t : Term) → unsigned_abs (left t) ≤ 2 ^ 80) → list_all (λ (x : ℤ × RowName). is_good_multiplier x.0) (leasts left ts) ≡ true
+least_good : (left : Term → ℤ) (ts : List Term) → ((t : Term) → unsigned_abs (left t) ≤ 2 ^ 80) → list_all (λ (x : ℤ × RowName). is_nonzero_bounded x.0) (leasts left ts) ≡ true
 least_good left [] h = refl
 least_good left (t ∷ ts) h = by (int_lt (left (canonical t)) (pos 0)) refl (least_good left ts h)
   where
-    by : (b : Bool) → int_lt (left (canonical t)) (pos 0) ≡ b → list_all (λ (x : ℤ × RowName). is_good_multiplier x.0) (leasts left ts) ≡ true
-        → list_all (λ (x : ℤ × RowName). is_good_multiplier x.0) (cond b ((neg_ℤ (left (canonical t)), Least t) ∷ leasts left ts) (leasts left ts)) ≡ true
+    by : (b : Bool) → int_lt (left (canonical t)) (pos 0) ≡ b → list_all (λ (x : ℤ × RowName). is_nonzero_bounded x.0) (leasts left ts) ≡ true
+        → list_all (λ (x : ℤ × RowName). is_nonzero_bounded x.0) (cond b ((neg_ℤ (left (canonical t)), Least t) ∷ leasts left ts) (leasts left ts)) ≡ true
     by true e ih = (let k = below_is (left (canonical t)) e in
-        and_from (is_good_multiplier (neg_ℤ (left (canonical t)))) (list_all (λ (x : ℤ × RowName). is_good_multiplier x.0) (leasts left ts))
+        and_from (is_nonzero_bounded (neg_ℤ (left (canonical t)))) (list_all (λ (x : ℤ × RowName). is_nonzero_bounded x.0) (leasts left ts))
         (good_of (neg_ℤ (left (canonical t))) (λ z. omega (arith, sums, k, z)) (omega (arith, sums, abs_is (neg_ℤ (left (canonical t))), abs_is (left (canonical t)), h (canonical t)))) ih)
     by false e ih = ih
 
-least_signs : (left : Term → ℤ) (ts : List Term) → list_all (λ (w : Weighed). is_good_sign w.row.says w.multiplier) (least_rows left ts) ≡ true
+least_signs : (left : Term → ℤ) (ts : List Term) → list_all (λ (w : Weighed). allows_multiplier w.row.says w.multiplier) (least_rows left ts) ≡ true
 least_signs left [] = refl
 least_signs left (t ∷ ts) = by (int_lt (left (canonical t)) (pos 0)) refl (least_signs left ts)
   where
-    by : (b : Bool) → int_lt (left (canonical t)) (pos 0) ≡ b → list_all (λ (w : Weighed). is_good_sign w.row.says w.multiplier) (least_rows left ts) ≡ true
-        → list_all (λ (w : Weighed). is_good_sign w.row.says w.multiplier) (cond b (one_least left t ∷ least_rows left ts) (least_rows left ts)) ≡ true
+    by : (b : Bool) → int_lt (left (canonical t)) (pos 0) ≡ b → list_all (λ (w : Weighed). allows_multiplier w.row.says w.multiplier) (least_rows left ts) ≡ true
+        → list_all (λ (w : Weighed). allows_multiplier w.row.says w.multiplier) (cond b (one_least left t ∷ least_rows left ts) (least_rows left ts)) ≡ true
     by true e ih = (let k = below_is (left (canonical t)) e in
-        and_from (int_le (pos 0) (neg_ℤ (left (canonical t)))) (list_all (λ (w : Weighed). is_good_sign w.row.says w.multiplier) (least_rows left ts))
+        and_from (int_le (pos 0) (neg_ℤ (left (canonical t)))) (list_all (λ (w : Weighed). allows_multiplier w.row.says w.multiplier) (least_rows left ts))
         (at_least_is (neg_ℤ (left (canonical t))) (omega (arith, sums, k))) ih)
     by false e ih = ih
 
@@ -199,21 +199,21 @@ kept_total (r ∷ rs) (m ∷ ms) u = by (int_eq m (pos 0)) refl (kept_total rs m
     by true e ih = omega (arith, sums, ih, ap (λ x. x *ℤ coefficient r.form u) (zero_is m e), zero-*ℤ (coefficient r.form u))
     by false e ih = ap (λ z. m *ℤ coefficient r.form u +ℤ z) ih
 
-one_sign : (s : Says) (m : ℤ) → m ≢ pos 0 → MayTake s m → is_good_sign s m ≡ true
+one_sign : (s : Says) (m : ℤ) → m ≢ pos 0 → MayTake s m → allows_multiplier s m ≡ true
 one_sign Zero m n h = refl
 one_sign AtLeast m n h = at_least_is m h
 one_sign More m n h = at_least_is m h
 one_sign Not m n h = absurd (n h)
 
-kept_signs : (rs : List Row) (ms : List ℤ) → AreTaken rs ms → list_all (λ (w : Weighed). is_good_sign w.row.says w.multiplier) (kept_rows rs ms) ≡ true
+kept_signs : (rs : List Row) (ms : List ℤ) → AreTaken rs ms → list_all (λ (w : Weighed). allows_multiplier w.row.says w.multiplier) (kept_rows rs ms) ≡ true
 kept_signs [] ms h = refl
 kept_signs (r ∷ rs) [] h = refl
 kept_signs (r ∷ rs) (m ∷ ms) h = by (int_eq m (pos 0)) refl (kept_signs rs ms h.1)
   where
-    by : (b : Bool) → int_eq m (pos 0) ≡ b → list_all (λ (w : Weighed). is_good_sign w.row.says w.multiplier) (kept_rows rs ms) ≡ true
-        → list_all (λ (w : Weighed). is_good_sign w.row.says w.multiplier) (cond b (kept_rows rs ms) (record { multiplier = m; row = r } ∷ kept_rows rs ms)) ≡ true
+    by : (b : Bool) → int_eq m (pos 0) ≡ b → list_all (λ (w : Weighed). allows_multiplier w.row.says w.multiplier) (kept_rows rs ms) ≡ true
+        → list_all (λ (w : Weighed). allows_multiplier w.row.says w.multiplier) (cond b (kept_rows rs ms) (record { multiplier = m; row = r } ∷ kept_rows rs ms)) ≡ true
     by true e ih = ih
-    by false e ih = and_from (is_good_sign r.says m) (list_all (λ (w : Weighed). is_good_sign w.row.says w.multiplier) (kept_rows rs ms)) (one_sign r.says m (not_zero m e) h.0) ih
+    by false e ih = and_from (allows_multiplier r.says m) (list_all (λ (w : Weighed). allows_multiplier w.row.says w.multiplier) (kept_rows rs ms)) (one_sign r.says m (not_zero m e) h.0) ih
 
 kept_strict : (rs : List Row) (ms : List ℤ) → TakesMore rs ms → list_any (λ (w : Weighed). is_strict w.row.says w.multiplier) (kept_rows rs ms) ≡ true
 kept_strict [] ms h = absurd h
@@ -247,15 +247,15 @@ kept_length (n ∷ ns) (m ∷ ms) = by (int_eq m (pos 0)) (kept_length ns ms)
     by true ih = omega (arith, ih)
     by false ih = omega (arith, ih)
 
-kept_good : (ns : List RowName) (ms : List ℤ) → ((i : ℕ) → i < length ms → unsigned_abs (get_or ms i (pos 0)) ≤ 2 ^ 80) → list_all (λ (x : ℤ × RowName). is_good_multiplier x.0) (named_multipliers ns ms) ≡ true
+kept_good : (ns : List RowName) (ms : List ℤ) → ((i : ℕ) → i < length ms → unsigned_abs (get_or ms i (pos 0)) ≤ 2 ^ 80) → list_all (λ (x : ℤ × RowName). is_nonzero_bounded x.0) (named_multipliers ns ms) ≡ true
 kept_good [] ms h = refl
 kept_good (n ∷ ns) [] h = refl
 kept_good (n ∷ ns) (m ∷ ms) h = by (int_eq m (pos 0)) refl (kept_good ns ms (λ i l. h (suc i) (omega (arith, l))))
   where
-    by : (b : Bool) → int_eq m (pos 0) ≡ b → list_all (λ (x : ℤ × RowName). is_good_multiplier x.0) (named_multipliers ns ms) ≡ true
-        → list_all (λ (x : ℤ × RowName). is_good_multiplier x.0) (cond b (named_multipliers ns ms) ((m, n) ∷ named_multipliers ns ms)) ≡ true
+    by : (b : Bool) → int_eq m (pos 0) ≡ b → list_all (λ (x : ℤ × RowName). is_nonzero_bounded x.0) (named_multipliers ns ms) ≡ true
+        → list_all (λ (x : ℤ × RowName). is_nonzero_bounded x.0) (cond b (named_multipliers ns ms) ((m, n) ∷ named_multipliers ns ms)) ≡ true
     by true e ih = ih
-    by false e ih = and_from (is_good_multiplier m) (list_all (λ (x : ℤ × RowName). is_good_multiplier x.0) (named_multipliers ns ms)) (good_of m (not_zero m e) (h 0 (omega arith))) ih
+    by false e ih = and_from (is_nonzero_bounded m) (list_all (λ (x : ℤ × RowName). is_nonzero_bounded x.0) (named_multipliers ns ms)) (good_of m (not_zero m e) (h 0 (omega arith))) ih
 
 -- ---- both together
 
@@ -289,25 +289,25 @@ pub record IsMade (p : Place) (names : List RowName) (rows : List Row) (ms : Lis
 
 pub sum_refutes : (p : Place) (names : List RowName) (rows : List Row) (ms : List ℤ) (left : Term → ℤ) (terms : List Term) → IsMade p names rows ms left terms → refutes p (named_multipliers names ms ++ leasts left terms) ≡ true
 sum_refutes p names rows ms left terms h =
-    and_from (is_good_size (named_multipliers names ms ++ leasts left terms)) (option_map_or is_absurd (weighed_rows p (named_multipliers names ms ++ leasts left terms)) false) size
+    and_from (is_limited_sum (named_multipliers names ms ++ leasts left terms)) (option_map_or is_absurd (weighed_rows p (named_multipliers names ms ++ leasts left terms)) false) size
     (ap (λ (o : Option (List Weighed)). option_map_or is_absurd o false) (weighed_append p (named_multipliers names ms) (leasts left terms) (kept_rows rows ms) (least_rows left terms) (kept_named p names rows ms h.named) (least_named p left terms h.steps))
-    ∙ and_from (list_all (λ t. int_eq (total ws t) (pos 0)) (terms_of_rows (map (λ (w : Weighed). w.row) ws))) (list_all (λ (w : Weighed). is_good_sign w.row.says w.multiplier) ws && list_any (λ (w : Weighed). is_strict w.row.says w.multiplier) ws)
+    ∙ and_from (list_all (λ t. int_eq (total ws t) (pos 0)) (terms_of_rows (map (λ (w : Weighed). w.row) ws))) (list_all (λ (w : Weighed). allows_multiplier w.row.says w.multiplier) ws && list_any (λ (w : Weighed). is_strict w.row.says w.multiplier) ws)
     (all_hold (λ t. int_eq (total ws t) (pos 0)) (terms_of_rows (map (λ (w : Weighed). w.row) ws)) (λ t. is_zero (total ws t) (cancels t)))
-    (and_from (list_all (λ (w : Weighed). is_good_sign w.row.says w.multiplier) ws) (list_any (λ (w : Weighed). is_strict w.row.says w.multiplier) ws) signs strict))
+    (and_from (list_all (λ (w : Weighed). allows_multiplier w.row.says w.multiplier) ws) (list_any (λ (w : Weighed). is_strict w.row.says w.multiplier) ws) signs strict))
   where
     ws : List Weighed
     ws = kept_rows rows ms ++ least_rows left terms
 
-    size : is_good_size (named_multipliers names ms ++ leasts left terms) ≡ true
+    size : is_limited_sum (named_multipliers names ms ++ leasts left terms) ≡ true
     size =
         (let xs = named_multipliers names ms in
         let ys = leasts left terms in
-        and_from (nat_le 1 (length (xs ++ ys))) (nat_le (length (xs ++ ys)) 4096 && list_all (λ (x : ℤ × RowName). is_good_multiplier x.0) (xs ++ ys))
+        and_from (nat_le 1 (length (xs ++ ys))) (nat_le (length (xs ++ ys)) 4096 && list_all (λ (x : ℤ × RowName). is_nonzero_bounded x.0) (xs ++ ys))
         (le-leb 1 (length (xs ++ ys)) (omega (arith, length-append xs ys, kept_some names rows ms h.as_many h.refutes.more)))
-        (and_from (nat_le (length (xs ++ ys)) 4096) (list_all (λ (x : ℤ × RowName). is_good_multiplier x.0) (xs ++ ys))
+        (and_from (nat_le (length (xs ++ ys)) 4096) (list_all (λ (x : ℤ × RowName). is_nonzero_bounded x.0) (xs ++ ys))
         (le-leb (length (xs ++ ys)) 4096 (omega (arith, length-append xs ys, kept_length names ms, least_length left terms, h.few)))
-        (list_all-append (λ (x : ℤ × RowName). is_good_multiplier x.0) xs ys
-        ∙ and_from (list_all (λ (x : ℤ × RowName). is_good_multiplier x.0) xs) (list_all (λ (x : ℤ × RowName). is_good_multiplier x.0) ys)
+        (list_all-append (λ (x : ℤ × RowName). is_nonzero_bounded x.0) xs ys
+        ∙ and_from (list_all (λ (x : ℤ × RowName). is_nonzero_bounded x.0) xs) (list_all (λ (x : ℤ × RowName). is_nonzero_bounded x.0) ys)
         (kept_good names ms h.refutes.small)
         (least_good left terms (λ t. subst (λ z. unsigned_abs z ≤ 2 ^ 80) (sym (h.left_is t)) (h.refutes.small_sums t))))))
 
@@ -321,10 +321,10 @@ sum_refutes p names rows ms left terms h =
         by true e = omega (arith, sums, h.left_is t)
         by false e = omega (arith, sums, h.covers t e)
 
-    signs : list_all (λ (w : Weighed). is_good_sign w.row.says w.multiplier) (kept_rows rows ms ++ least_rows left terms) ≡ true
+    signs : list_all (λ (w : Weighed). allows_multiplier w.row.says w.multiplier) (kept_rows rows ms ++ least_rows left terms) ≡ true
     signs =
-        list_all-append (λ (w : Weighed). is_good_sign w.row.says w.multiplier) (kept_rows rows ms) (least_rows left terms)
-        ∙ and_from (list_all (λ (w : Weighed). is_good_sign w.row.says w.multiplier) (kept_rows rows ms)) (list_all (λ (w : Weighed). is_good_sign w.row.says w.multiplier) (least_rows left terms))
+        list_all-append (λ (w : Weighed). allows_multiplier w.row.says w.multiplier) (kept_rows rows ms) (least_rows left terms)
+        ∙ and_from (list_all (λ (w : Weighed). allows_multiplier w.row.says w.multiplier) (kept_rows rows ms)) (list_all (λ (w : Weighed). allows_multiplier w.row.says w.multiplier) (least_rows left terms))
         (kept_signs rows ms h.refutes.taken) (least_signs left terms)
 
     strict : list_any (λ (w : Weighed). is_strict w.row.says w.multiplier) (kept_rows rows ms ++ least_rows left terms) ≡ true

@@ -17,7 +17,7 @@ use Rattle.e_literal.specs.Solution.{Satisfy, carried}
 use Rattle.e_literal.proofs.Terms.{term_eq_is, equal_terms}
 use Rattle.e_literal.proofs.CanonicalTerms.{canonical_twice, degenerate_canonical}
 use Rattle.e_clause.specs.Assignment.{terms_of_atom, terms_of_lits, terms_of_wanted, terms_of_step}
-use Rattle.e_clause.specs.Laws.{is_good_wanted}
+use Rattle.e_clause.specs.Laws.{is_well_formed_metric}
 use Rattle.e_clause.specs.System.{by_kind, rows_of_system}
 use Rattle.e_clause.specs.Counterexample.{value_in, are_in_order, listed_terms, ListsCounterexample}
 use Rattle.e_clause.proofs.Carried.{counterexample_of}
@@ -73,7 +73,7 @@ among_map (u ∷ us) t h = elim (or_cases (term_eq t u) (is_among us t) h) [
 ]
 
 pub lists : (facts : List Lit) (wanted : Option Lit) (solutions : ByKind (List (Term × ℕ))) (terms : List Term) (values : List (Term × ℕ))
-    → list_all is_well_formed facts ≡ true → is_good_wanted wanted ≡ true → ((which : Kind) → Satisfy (values_of solutions which) (rows_of_system which facts wanted))
+    → list_all is_well_formed facts ≡ true → is_well_formed_metric wanted ≡ true → ((which : Kind) → Satisfy (values_of solutions which) (rows_of_system which facts wanted))
     → are_in_order terms ≡ true → ((t : Term) → is_among terms t ≡ is_among (map canonical (terms_of_step facts wanted)) t)
     → values ≡ map (λ t. (t, step_value solutions t)) terms → ListsCounterexample facts wanted values
 lists facts wanted solutions terms values good good_wanted solved ordered same is =

@@ -8,17 +8,17 @@ use Rattle.e_literal.specs.declared.object.Kind.{Kind}
 use Rattle.e_literal.specs.declared.object.Mono.{Mono}
 use Rattle.e_literal.specs.declared.literal.Lit.{Lit}
 use Rattle.e_literal.specs.Literal.{kind_of_term, kind_of_sums}
-use Rattle.e_literal.specs.WellFormed.{same_kind, is_good_coefficient, are_good_sums}
+use Rattle.e_literal.specs.WellFormed.{same_kind, is_bounded_coefficient, are_well_formed_sums}
 use Rattle.e_clause.specs.Assignment.{terms_of_atom, terms_of_lits}
 use Rattle.e_metric.proofs.rows.Forms.{none_more}
 use Rattle.e_metric.proofs.terms.FirstTerms.{take_one, lits_append}
 use Rattle.e_metric.proofs.rows.SystemRows.{all_at}
 
 abbrev good_of : Kind → Mono → Bool
-good_of which m = same_kind (kind_of_term m.term) which && is_good_coefficient m.coeff
+good_of which m = same_kind (kind_of_term m.term) which && is_bounded_coefficient m.coeff
 
-pub parts : (x y : List Mono) → are_good_sums x y ≡ (nat_le 1 (length x + length y) && (nat_le (length x + length y) 32
-    && (list_all (λ m. same_kind (kind_of_term m.term) (kind_of_sums x y) && is_good_coefficient m.coeff) x && list_all (λ m. same_kind (kind_of_term m.term) (kind_of_sums x y) && is_good_coefficient m.coeff) y)))
+pub parts : (x y : List Mono) → are_well_formed_sums x y ≡ (nat_le 1 (length x + length y) && (nat_le (length x + length y) 32
+    && (list_all (λ m. same_kind (kind_of_term m.term) (kind_of_sums x y) && is_bounded_coefficient m.coeff) x && list_all (λ m. same_kind (kind_of_term m.term) (kind_of_sums x y) && is_bounded_coefficient m.coeff) y)))
 parts x y =
     ap₂ {A = ℕ} {B = Bool} (λ n b. nat_le 1 n && (nat_le n 32 && b)) (length-append x y) (list_all-append (good_of (kind_of_sums x y)) x y)
 

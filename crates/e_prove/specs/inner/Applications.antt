@@ -6,7 +6,7 @@ use Rattle.e_literal.specs.Facts.{joined_all}
 use Rattle.e_literal.specs.Scopes.{grown}
 use Rattle.e_literal.specs.Use.{Stated, needs_of_use, gives_of_use}
 use Rattle.e_clause.specs.Certify.{certify_all}
-use Rattle.e_clause.specs.Judged.{are_good, are_good_facts}
+use Rattle.e_clause.specs.Judged.{are_well_formed_in, are_limited_facts}
 use Rattle.e_theorem.specs.Choice.{is_choice, IsLeast}
 use Rattle.e_theorem.specs.Pattern.{is_pattern}
 use Rattle.e_deriv.specs.Fitting.{is_small, is_small_statement}
@@ -17,8 +17,8 @@ use Rattle.e_prove.specs.declared.application.Use.{Use}
 
 -- the literals that the statement needs and gives at these arguments are good
 pub record LitsFitAt (t : Stated) (args : List Obj) (x : Basis) : Type 0 where
-  pub needs : IsTrue (are_good x.scope (needs_of_use t args x.scope))
-  pub after : IsTrue (are_good_facts (grown x.scope t.made) (joined_all x.facts (gives_of_use t args x.scope)))
+  pub needs : IsTrue (are_well_formed_in x.scope (needs_of_use t args x.scope))
+  pub after : IsTrue (are_limited_facts (grown x.scope t.made) (joined_all x.facts (gives_of_use t args x.scope)))
 
 -- the arguments fit the statement, whatever their blanks are filled with, and at each choice the literals are good; there are
 -- numbers for all objects

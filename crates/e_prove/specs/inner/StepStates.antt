@@ -6,9 +6,9 @@ use Rattle.e_literal.specs.declared.literal.Lit.{Lit}
 use Rattle.e_literal.specs.Facts.{joined, joined_all}
 use Rattle.e_literal.specs.Scopes.{grown}
 use Rattle.e_literal.specs.Use.{Stated, scope_of, gives_of_use}
-use Rattle.e_clause.specs.Judged.{are_good_facts}
+use Rattle.e_clause.specs.Judged.{are_limited_facts}
 use Rattle.e_construct.specs.declared.construction.Construction.{Construction}
-use Rattle.e_construct.specs.Construct.{made, gives}
+use Rattle.e_construct.specs.Construct.{sorts_made, gives_of_construction}
 use Rattle.e_construct.specs.declared.superpose.Superpose.{Superpose}
 use Rattle.e_construct.specs.Superposing as superposing
 use Rattle.e_deriv.specs.declared.names.Names.{Names}
@@ -30,8 +30,8 @@ after_literal l x = record x { context = record x.context { facts = joined x.con
 abbrev pub after_make : Construction → List (List ℕ) → StepState → StepState
 after_make form names x =
     record {
-      context = record x.context { scope = grown x.context.scope (made form); facts = joined_all x.context.facts (gives form x.context.scope) };
-      names = named x.names (made form) names;
+      context = record x.context { scope = grown x.context.scope (sorts_made form); facts = joined_all x.context.facts (gives_of_construction form x.context.scope) };
+      names = named x.names (sorts_made form) names;
     }
 
 -- after an application of the statement at these arguments, whose new objects have these names
@@ -46,8 +46,8 @@ after_apply t args names x =
 abbrev pub after_superposed : Superpose → List (List ℕ) → StepState → StepState
 after_superposed form names x =
     record {
-      context = record x.context { scope = grown x.context.scope superposing.made; facts = joined_all x.context.facts (superposing.gives form x.context.scope) };
-      names = named x.names superposing.made names;
+      context = record x.context { scope = grown x.context.scope superposing.sorts_copied; facts = joined_all x.context.facts (superposing.gives_of_superposition form x.context.scope) };
+      names = named x.names superposing.sorts_copied names;
     }
 
 -- after an inner block that shows these literals
@@ -76,7 +76,7 @@ IsLeftWith names shown x after =
 
 -- they may join the facts of the last held state
 abbrev pub CanJoinLast : List Lit → StepState → Type 0
-CanJoinLast shown x = (before : List State) (last : State) → x.context.held ≡ before ++ last ∷ [] → IsTrue (are_good_facts last.scope (joined_all last.facts shown))
+CanJoinLast shown x = (before : List State) (last : State) → x.context.held ≡ before ++ last ∷ [] → IsTrue (are_limited_facts last.scope (joined_all last.facts shown))
 
 -- two objects more of each sort have numbers of 16 bits
 pub record HasRoomForMore (s : Scope) : Type 0 where

@@ -2,7 +2,7 @@
 use Rattle.std.specs.Prelude.{◌≡◌, ℕ, ◌+◌, ◌*◌, ◌≤◌, IsTrue, IfSome, List, [], ◌++◌, length, Option, Some, None, Result, Ok, Err}
 use Rattle.std.specs.List.{list_all}
 use Rattle.e_io.specs.Bytes.{Grew}
-use Rattle.e_text.specs.Lines.{Ahead, AreGood, IsClosed}
+use Rattle.e_text.specs.Lines.{Ahead, HaveNoFault, IsClosed}
 use Rattle.e_deriv.specs.Fitting.{is_small_statement}
 use Rattle.e_book.specs.declared.coming.Coming.{Coming}
 use Rattle.e_book.specs.declared.known.Known.{Known}
@@ -67,7 +67,7 @@ BookTakes all old (Err error) b new = (more : Rest) → BlocksAre (all more) old
 -- the lines that remained are taken, and none has a fault
 pub record AreTaken (old new : Ahead) : Type 0 where
   pub none : new.lines ≡ []
-  pub good : AreGood old.lines
+  pub good : HaveNoFault old.lines
   pub line : new.line ≡ last_line old
 
 -- how a book ends where no lines come any more
@@ -83,7 +83,7 @@ pub record IsReadUpTo (read : List ℕ) (old : Option (List ℕ)) (b : Book) (u 
   pub taken : List ℕ
   pub all : read ≡ taken ++ u.bytes.items
   pub closed : IsClosed taken
-  pub good : AreGood (lines_of_book taken)
+  pub good : HaveNoFault (lines_of_book taken)
   pub line : u.line ≡ 1 + length (lines_of_book taken)
   pub before : u.before ≡ length taken
   pub reaches : Reaches (λ more. lines_of_book taken ++ more) (λ more. more) old b new

@@ -10,7 +10,7 @@ use Rattle.e_literal.specs.declared.literal.Lit.{Lit}
 use Rattle.e_literal.specs.Scopes.{same_sort}
 use Rattle.e_construct.specs.declared.construction.Construction.{Construction}
 use Rattle.e_construct.specs.declared.superpose.Superpose.{Superpose}
-use Rattle.e_construct.specs.Construct.{made}
+use Rattle.e_construct.specs.Construct.{sorts_made}
 use Rattle.e_construct.specs.Superposing as superposing
 use Rattle.e_construct.specs.Lines.{pieces}
 use Rattle.e_clause.specs.declared.cert.By.{By}
@@ -149,13 +149,13 @@ step_text known ns (MadeStep form names certs) = codes "let" ++ ((spaced (constr
 step_text known ns (Applied theorem args names certs) = application_text known ns theorem args names ++ certs_text ns certs
 step_text known ns (Claimed shown inner) = claim_text ns shown ++ script_text known ns inner
 step_text known ns (Copied form names shown certs inner) =
-    superposition_text ns form names shown ++ (certs_text ns certs ++ script_text known (named ns superposing.made names) inner)
+    superposition_text ns form names shown ++ (certs_text ns certs ++ script_text known (named ns superposing.sorts_copied names) inner)
 
 -- the names in scope behind a step: those of an inner block are gone
 abbrev pub names_behind : List Headed → Names → PlainStep → Names
 names_behind known ns (Cited by) = ns
 names_behind known ns (Inferred lit cert) = ns
-names_behind known ns (MadeStep form names certs) = named ns (made form) names
+names_behind known ns (MadeStep form names certs) = named ns (sorts_made form) names
 names_behind known ns (Applied theorem args names certs) = named ns (theorem_of known theorem).made names
 names_behind known ns (Claimed shown inner) = ns
 names_behind known ns (Copied form names shown certs inner) = ns

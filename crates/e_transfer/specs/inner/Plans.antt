@@ -5,7 +5,7 @@ use Rattle.e_literal.specs.declared.object.Obj.{Obj}
 use Rattle.e_literal.specs.declared.object.Scope.{Scope}
 use Rattle.e_literal.specs.Literal.{count_of, is_in_scope}
 use Rattle.e_clause.specs.Rows.{Row}
-use Rattle.e_clause.specs.Instance.{fits, number}
+use Rattle.e_clause.specs.Instance.{arguments_fit, number}
 use Rattle.e_transfer.specs.declared.plan.Plan.{Plan}
 use Rattle.e_transfer.specs.declared.unify.Binding.{Binding}
 use Rattle.e_transfer.specs.declared.unify.Binding.TheVariants as binding
@@ -57,5 +57,5 @@ plan_spans r scope bindings order = map (λ v. variable_span (count_of scope (va
 pub record IsPlanFor (r : Row) (scope : Scope) (bindings : List Binding) (plan : Plan) : Type 0 where
   pub ready_at : plan.ready_at.items ≡ ready_at_of r plan.positions.items
   pub below : IsTrue (list_all (λ p. nat_lt p (length plan.spans.items)) plan.positions.items)
-  pub reaches : (args : List Obj) → IsTrue (fits r args) → IsTrue (list_all (is_in_scope scope) args) → BindingsAgree (number args) bindings
+  pub reaches : (args : List Obj) → IsTrue (arguments_fit r args) → IsTrue (list_all (is_in_scope scope) args) → BindingsAgree (number args) bindings
       → (c : List ℕ) × FitsSpans plan.spans.items c × (chosen_arguments r plan.positions.items c ≡ args)

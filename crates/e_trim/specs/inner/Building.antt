@@ -40,7 +40,7 @@ kept_step before kept (Claim shown inner rest) s facts more =
     Claim (map (lit_at kept) shown) (trimmed_from before kept inner s facts (goal_of shown)) more
 kept_step before kept (Superposed form names shown certs inner rest) s facts more =
     Superposed (superpose_at kept form) names (map (lit_at kept) shown) (map (cert_at kept) certs)
-    (trimmed_from before (kept ++ next_objects s superposing.made) inner (grown s superposing.made) (joined_all facts (superposing.gives form s)) (goal_of shown))
+    (trimmed_from before (kept ++ next_objects s superposing.sorts_copied) inner (grown s superposing.sorts_copied) (joined_all facts (superposing.gives_of_superposition form s)) (goal_of shown))
     more
 kept_step before kept close s facts more = more
 

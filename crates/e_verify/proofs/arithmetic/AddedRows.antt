@@ -11,12 +11,12 @@ use mathlib.Core.Bool.{or-false, and_comm, and-true}
 use Rattle.e_literal.specs.declared.object.Term.{Term}
 use Rattle.e_literal.specs.Same.{term_eq}
 use Rattle.e_literal.specs.Rows.{Row, Summands, coefficient, terms_of_rows}
-use Rattle.e_literal.specs.Absurd.{Weighed, total, is_good_sign, is_strict, is_absurd}
+use Rattle.e_literal.specs.Absurd.{Weighed, total, allows_multiplier, is_strict, is_absurd}
 use Rattle.e_literal.proofs.Terms.{term_eq_is}
 use Rattle.e_literal.proofs.Arith.{sums, zero_is, product_size}
 use Rattle.e_literal.proofs.Booleans.{or_not_left, or_not_right, and_left, and_right, same_bool, all_hold}
 use Rattle.e_clause.specs.declared.cert.RowName.{RowName}
-use Rattle.e_clause.specs.Sum.{Place, row_named, weighed_rows, is_good_multiplier, is_good_size, refutes}
+use Rattle.e_clause.specs.Sum.{Place, row_named, weighed_rows, is_nonzero_bounded, is_limited_sum, refutes}
 use Rattle.e_verify.specs.inner.Totals.{total_at}
 use Rattle.e_verify.specs.inner.Small.{is_small_row}
 use Rattle.e_verify.specs.inner.Views.{row_view}
@@ -27,7 +27,7 @@ abbrev pub weigh : ℤ → Row → Weighed
 weigh m r = record { multiplier = m; row = r }
 
 abbrev good_signs : List Weighed → Bool
-good_signs ws = list_all (λ w. is_good_sign w.row.says w.multiplier) ws
+good_signs ws = list_all (λ w. allows_multiplier w.row.says w.multiplier) ws
 
 abbrev some_strict : List Weighed → Bool
 some_strict ws = list_any (λ w. is_strict w.row.says w.multiplier) ws
@@ -60,7 +60,7 @@ and_false : (a b : Bool) → b ≡ false → (a && b) ≡ false
 and_false true b h = h
 and_false false b h = refl
 
-bad_signs : (p : Place) (xs : List (ℤ × RowName)) (i : ℕ) (d : ℤ × RowName) (r : Row) → i < length xs → row_named p (get_or xs i d).1 ≡ Some r → is_good_sign r.says (get_or xs i d).0 ≡ false
+bad_signs : (p : Place) (xs : List (ℤ × RowName)) (i : ℕ) (d : ℤ × RowName) (r : Row) → i < length xs → row_named p (get_or xs i d).1 ≡ Some r → allows_multiplier r.says (get_or xs i d).0 ≡ false
     → option_map_or good_signs (weighed_rows p xs) false ≡ false
 bad_signs p [] i d r h e k = absurd (omega (arith, h))
 bad_signs p (x ∷ xs) zero d r h e k = ap (λ o. option_map_or good_signs (option_and_then (λ q. option_map (λ rs. weigh x.0 q ∷ rs) (weighed_rows p xs)) o) false) e ∙ by (weighed_rows p xs)
@@ -73,7 +73,7 @@ bad_signs p (x ∷ xs) (suc i) d r h e k = by (row_named p x.1) (weighed_rows p 
     by : (o : Option Row) (w : Option (List Weighed)) → option_map_or good_signs w false ≡ false → option_map_or good_signs (option_and_then (λ q. option_map (λ rs. weigh x.0 q ∷ rs) w) o) false ≡ false
     by None w h = refl
     by (Some q) None h = refl
-    by (Some q) (Some ws) h = and_false (is_good_sign q.says x.0) (good_signs ws) h
+    by (Some q) (Some ws) h = and_false (allows_multiplier q.says x.0) (good_signs ws) h
 
 -- ---- terms that cancel
 
@@ -134,7 +134,7 @@ total_more [] w t = omega (arith, sums)
 total_more (v ∷ ws) w t = omega (arith, sums, total_more ws w t)
 
 pub one_added : (p : Place) (xs : List (ℤ × RowName)) (i : ℕ) (x : ℤ × RowName) (es after : List (ℕ × ℤ)) (strict now new : Bool) (row : CodeRow) → i < length xs → x ≡ get_or xs i x → IsAdded p (take i xs) i es strict
-    → row_named p x.1 ≡ Some (row_view row) → ((t : Term) → total_at after t ≡ total_at es t +ℤ x.0 *ℤ coefficient (row_view row).form t) → is_good_sign (row_view row).says x.0 ≡ true
+    → row_named p x.1 ≡ Some (row_view row) → ((t : Term) → total_at after t ≡ total_at es t +ℤ x.0 *ℤ coefficient (row_view row).form t) → allows_multiplier (row_view row).says x.0 ≡ true
     → now ≡ is_strict (row_view row).says x.0 → new ≡ (strict || now) → is_small_row row ≡ true → unsigned_abs x.0 ≤ 2 ^ 80 → IsAdded p (take (i + 1) xs) (i + 1) after new
 one_added p xs i x es after strict now new row h is a e f g k n small m =
     let r = row_view row in
@@ -143,7 +143,7 @@ one_added p xs i x es after strict now new row h is a e f g k n small m =
       named = ap (weighed_rows p) (take_more xs i x h ∙ ap (λ y. take i xs ++ y ∷ []) (sym is)) ∙ named_more p (take i xs) x r e ∙ ap (option_map (λ ws. ws ++ weigh x.0 r ∷ [])) a.named;
       sum = λ t. f t ∙ ap (λ z. z +ℤ x.0 *ℤ coefficient r.form t) (a.sum t) ∙ sym (total_more a.rows (weigh x.0 r) t);
       size = λ t. omega (arith, ap unsigned_abs (f t), a.size t, abs_sum (total_at es t) (x.0 *ℤ coefficient r.form t), product_size x.0 (coefficient r.form t) (2 ^ 80) 64000000 m (row_size row t small));
-      signs = list_all-append (λ (w : Weighed). is_good_sign w.row.says w.multiplier) a.rows (weigh x.0 r ∷ []) ∙ ap (λ b. b && (is_good_sign r.says x.0 && true)) a.signs ∙ and-true (is_good_sign r.says x.0) ∙ g;
+      signs = list_all-append (λ (w : Weighed). allows_multiplier w.row.says w.multiplier) a.rows (weigh x.0 r ∷ []) ∙ ap (λ b. b && (allows_multiplier r.says x.0 && true)) a.signs ∙ and-true (allows_multiplier r.says x.0) ∙ g;
       has_strict = n ∙ ap (λ b. b || now) a.has_strict ∙ ap (λ b. some_strict a.rows || b) (k ∙ sym (or-false (is_strict r.says x.0)))
           ∙ sym (list_any-append (λ (w : Weighed). is_strict w.row.says w.multiplier) a.rows (weigh x.0 r ∷ []));
     }
@@ -151,18 +151,18 @@ one_added p xs i x es after strict now new row h is a e f g k n small m =
 -- ---- what the sum comes to
 
 pub not_named : (p : Place) (xs : List (ℤ × RowName)) (i : ℕ) (x : ℤ × RowName) → i < length xs → x ≡ get_or xs i x → row_named p x.1 ≡ None → refutes p xs ≡ false
-not_named p xs i x h is e = ap (λ o. is_good_size xs && option_map_or is_absurd o false) (unnamed p xs i x h (ap (λ y. row_named p y.1) (sym is) ∙ e)) ∙ and_false (is_good_size xs) false refl
+not_named p xs i x h is e = ap (λ o. is_limited_sum xs && option_map_or is_absurd o false) (unnamed p xs i x h (ap (λ y. row_named p y.1) (sym is) ∙ e)) ∙ and_false (is_limited_sum xs) false refl
 
-pub bad_sign : (p : Place) (xs : List (ℤ × RowName)) (i : ℕ) (x : ℤ × RowName) (r : Row) → i < length xs → x ≡ get_or xs i x → row_named p x.1 ≡ Some r → is_good_sign r.says x.0 ≡ false → refutes p xs ≡ false
+pub bad_sign : (p : Place) (xs : List (ℤ × RowName)) (i : ℕ) (x : ℤ × RowName) (r : Row) → i < length xs → x ≡ get_or xs i x → row_named p x.1 ≡ Some r → allows_multiplier r.says x.0 ≡ false → refutes p xs ≡ false
 bad_sign p xs i x r h is e k =
-    and_false (is_good_size xs) (option_map_or is_absurd (weighed_rows p xs) false)
-    (by (weighed_rows p xs) (bad_signs p xs i x r h (ap (λ y. row_named p y.1) (sym is) ∙ e) (ap (λ y. is_good_sign r.says y.0) (sym is) ∙ k)))
+    and_false (is_limited_sum xs) (option_map_or is_absurd (weighed_rows p xs) false)
+    (by (weighed_rows p xs) (bad_signs p xs i x r h (ap (λ y. row_named p y.1) (sym is) ∙ e) (ap (λ y. allows_multiplier r.says y.0) (sym is) ∙ k)))
   where
     by : (w : Option (List Weighed)) → option_map_or good_signs w false ≡ false → option_map_or is_absurd w false ≡ false
     by None h = refl
     by (Some ws) h = and_false (cancel ws) (good_signs ws && some_strict ws) (ap (λ b. b && some_strict ws) h)
 
-pub whole : (p : Place) (xs ys : List (ℤ × RowName)) (n : ℕ) (es : List (ℕ × ℤ)) (strict none : Bool) → is_good_size xs ≡ true → ys ≡ xs → IsAdded p ys n es strict
+pub whole : (p : Place) (xs ys : List (ℤ × RowName)) (n : ℕ) (es : List (ℕ × ℤ)) (strict none : Bool) → is_limited_sum xs ≡ true → ys ≡ xs → IsAdded p ys n es strict
     → IsTrue none ↔ ((t : Term) → total_at es t ≡ pos 0) → (strict && none) ≡ refutes p xs
 whole p xs ys n es strict none size all a z =
     and_comm strict none ∙ ap (λ b. b && strict) same ∙ ap (λ b. cancel a.rows && b) (a.has_strict ∙ sym (ap (λ b. b && some_strict a.rows) a.signs))
@@ -176,16 +176,16 @@ all_get f [] i d h k = absurd (omega (arith, k))
 all_get f (x ∷ xs) zero d h k = and_left (f x) (list_all f xs) h
 all_get f (x ∷ xs) (suc i) d h k = all_get f xs i d (and_right (f x) (list_all f xs) h) (omega (arith, k))
 
-pub good_multiplier : (xs : List (ℤ × RowName)) (i : ℕ) (x : ℤ × RowName) → is_good_size xs ≡ true → i < length xs → x ≡ get_or xs i x → unsigned_abs x.0 ≤ 2 ^ 80
+pub good_multiplier : (xs : List (ℤ × RowName)) (i : ℕ) (x : ℤ × RowName) → is_limited_sum xs ≡ true → i < length xs → x ≡ get_or xs i x → unsigned_abs x.0 ≤ 2 ^ 80
 good_multiplier xs i x h k is =
-    let all = list_all (λ (x : ℤ × RowName). is_good_multiplier x.0) xs in
+    let all = list_all (λ (x : ℤ × RowName). is_nonzero_bounded x.0) xs in
     let m = x.0 in
     leb-true (unsigned_abs m) (2 ^ 80) (and_right (not (int_eq m (pos 0))) (nat_le (unsigned_abs m) (2 ^ 80))
-    (ap (λ (y : ℤ × RowName). is_good_multiplier y.0) is ∙ all_get (λ (x : ℤ × RowName). is_good_multiplier x.0) xs i x (and_right (nat_le (length xs) 4096) all (and_right (nat_le 1 (length xs)) (nat_le (length xs) 4096 && all) h)) k))
+    (ap (λ (y : ℤ × RowName). is_nonzero_bounded y.0) is ∙ all_get (λ (x : ℤ × RowName). is_nonzero_bounded x.0) xs i x (and_right (nat_le (length xs) 4096) all (and_right (nat_le 1 (length xs)) (nat_le (length xs) 4096 && all) h)) k))
 
-pub room_for : (p : Place) (xs : List (ℤ × RowName)) (i : ℕ) (es : List (ℕ × ℤ)) (strict : Bool) (t : Term) → is_good_size xs ≡ true → i < length xs → IsAdded p (take i xs) i es strict → unsigned_abs (total_at es t) ≤ 2 ^ 120
+pub room_for : (p : Place) (xs : List (ℤ × RowName)) (i : ℕ) (es : List (ℕ × ℤ)) (strict : Bool) (t : Term) → is_limited_sum xs ≡ true → i < length xs → IsAdded p (take i xs) i es strict → unsigned_abs (total_at es t) ≤ 2 ^ 120
 room_for p xs i es strict t h k a =
-    let all = list_all (λ (x : ℤ × RowName). is_good_multiplier x.0) xs in
+    let all = list_all (λ (x : ℤ × RowName). is_nonzero_bounded x.0) xs in
     let few = leb-true (length xs) 4096 (and_left (nat_le (length xs) 4096) all (and_right (nat_le 1 (length xs)) (nat_le (length xs) 4096 && all) h)) in
     omega (arith, few, k, a.size t)
 

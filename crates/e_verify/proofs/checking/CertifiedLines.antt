@@ -23,7 +23,7 @@ use Rattle.e_clause.specs.Table.Angles.{angles}
 use Rattle.e_clause.specs.Instance.{Inst, instance_of_row}
 use Rattle.e_clause.specs.RuleKinds.{is_transfer, is_diagram_rule}
 use Rattle.e_construct.specs.declared.construction.Construction.{Construction}
-use Rattle.e_construct.specs.Construct.{fits, needs, made, gives}
+use Rattle.e_construct.specs.Construct.{fits_construction, needs_of_construction, sorts_made, gives_of_construction}
 use Rattle.e_construct.specs.declared.superpose.Superpose.{Superpose}
 use Rattle.e_construct.specs.Superposing as superposing
 use Rattle.e_construct.proofs.Given.{needs_good, superposition_needs_good}
@@ -103,16 +103,16 @@ each p q f [] h = refl
 each p q f (x ∷ xs) h =
     ap (λ b. b && list_all q xs) (f x (and_left (p x && q x) (list_all (λ x. p x && q x) xs) h)) ∙ each p q f xs (and_right (p x && q x) (list_all (λ x. p x && q x) xs) h)
 
-pub make_formed : (form : Construction) (s : Scope) → fits form s ≡ true → list_all is_well_formed (needs form) ≡ true
-make_formed form s h = each (all_in_scope s) is_well_formed (λ l k. and_right (all_in_scope s l) (is_well_formed l) k) (needs form) (needs_good form s h)
+pub make_formed : (form : Construction) (s : Scope) → fits_construction form s ≡ true → list_all is_well_formed (needs_of_construction form) ≡ true
+make_formed form s h = each (all_in_scope s) is_well_formed (λ l k. and_right (all_in_scope s l) (is_well_formed l) k) (needs_of_construction form) (needs_good form s h)
 
-pub checked_make : (before : List Stated) (form : Construction) (names : List (List ℕ)) (certs : List Cert) (x after : StepState) → fits form x.scope ≡ true → certify_all x.scope x.facts (needs form) certs ≡ true
+pub checked_make : (before : List Stated) (form : Construction) (names : List (List ℕ)) (certs : List Cert) (x after : StepState) → fits_construction form x.scope ≡ true → certify_all x.scope x.facts (needs_of_construction form) certs ≡ true
     → after ≡ after_make form x → IsChecked before (Make form names certs) x after true
 checked_make before form names certs x after h k e =
-    checked before (Make form names certs) x (after_make form x) after true (λ rest goal. rw (h, k) refl) (make_lines before form names certs x) (stay_all x.facts (gives form x.scope))
-    (λ g. all_joined_formed x.facts (gives form x.scope) g (make_gives_formed form x.scope h)) e
+    checked before (Make form names certs) x (after_make form x) after true (λ rest goal. rw (h, k) refl) (make_lines before form names certs x) (stay_all x.facts (gives_of_construction form x.scope))
+    (λ g. all_joined_formed x.facts (gives_of_construction form x.scope) g (make_gives_formed form x.scope h)) e
 
-pub few_new : (s : Scope) (form : Construction) (n : ℕ) → is_small s ≡ true → n ≡ length (made form) → (s.points + n < 2 ^ 16) × (s.lines + n < 2 ^ 16) × (s.circles + n < 2 ^ 16)
+pub few_new : (s : Scope) (form : Construction) (n : ℕ) → is_small s ≡ true → n ≡ length (sorts_made form) → (s.points + n < 2 ^ 16) × (s.lines + n < 2 ^ 16) × (s.circles + n < 2 ^ 16)
 few_new s form n h e = let f = few_of_small s h in (omega (arith, f.points, e, few_made form), omega (arith, f.lines, e, few_made form), omega (arith, f.circles, e, few_made form))
 
 -- ---- an application
@@ -197,21 +197,21 @@ few_new_of s t h k =
 
 -- ---- a superposition
 
-pub superposed_formed : (form : Superpose) (s : Scope) → superposing.fits form s ≡ true → list_all is_well_formed (superposing.needs form) ≡ true
-superposed_formed form s h = each (all_in_scope s) is_well_formed (λ l k. and_right (all_in_scope s l) (is_well_formed l) k) (superposing.needs form) (superposition_needs_good form s h)
+pub superposed_formed : (form : Superpose) (s : Scope) → superposing.fits_superposition form s ≡ true → list_all is_well_formed (superposing.needs_of_superposition form) ≡ true
+superposed_formed form s h = each (all_in_scope s) is_well_formed (λ l k. and_right (all_in_scope s l) (is_well_formed l) k) (superposing.needs_of_superposition form) (superposition_needs_good form s h)
 
-pub few_copies : (s : Scope) (n : ℕ) → is_small s ≡ true → n ≡ length superposing.made → (s.points + n < 2 ^ 16) × (s.lines + n < 2 ^ 16) × (s.circles + n < 2 ^ 16)
+pub few_copies : (s : Scope) (n : ℕ) → is_small s ≡ true → n ≡ length superposing.sorts_copied → (s.points + n < 2 ^ 16) × (s.lines + n < 2 ^ 16) × (s.circles + n < 2 ^ 16)
 few_copies s n h e = let f = few_of_small s h in (omega (arith, f.points, e), omega (arith, f.lines, e), omega (arith, f.circles, e))
 
-pub superposed_certified : (form : Superpose) (shown : List Lit) (certs : List Cert) (x : StepState) → superposing.fits form x.scope ≡ true → are_over x.scope shown ≡ true
-    → certify_all x.scope x.facts (superposing.needs form) certs ≡ true → (before : List Stated) (names : List (List ℕ)) (inner rest : Script) (goal : Goal)
+pub superposed_certified : (form : Superpose) (shown : List Lit) (certs : List Cert) (x : StepState) → superposing.fits_superposition form x.scope ≡ true → are_over x.scope shown ≡ true
+    → certify_all x.scope x.facts (superposing.needs_of_superposition form) certs ≡ true → (before : List Stated) (names : List (List ℕ)) (inner rest : Script) (goal : Goal)
     → true ≡ is_certified before (line_in_state (Superposed form names shown certs inner rest) x goal)
 superposed_certified form shown certs x h k m before names inner rest goal = rw (h, k, m) refl
 
 -- where it is certified it fits
 pub superposed_fits : (before : List Stated) (form : Superpose) (names : List (List ℕ)) (shown : List Lit) (certs : List Cert) (inner rest : Script) (x : StepState) (goal : Goal)
-    → true ≡ is_certified before (line_in_state (Superposed form names shown certs inner rest) x goal) → superposing.fits form x.scope ≡ true
+    → true ≡ is_certified before (line_in_state (Superposed form names shown certs inner rest) x goal) → superposing.fits_superposition form x.scope ≡ true
 superposed_fits before form names shown certs inner rest x goal h =
-    let fit = superposing.fits form x.scope && are_over x.scope shown in
-    let cert = certify_all x.scope x.facts (superposing.needs form) certs && true in
-    and_left (superposing.fits form x.scope) (are_over x.scope shown) (and_left fit cert (sym h))
+    let fit = superposing.fits_superposition form x.scope && are_over x.scope shown in
+    let cert = certify_all x.scope x.facts (superposing.needs_of_superposition form) certs && true in
+    and_left (superposing.fits_superposition form x.scope) (are_over x.scope shown) (and_left fit cert (sym h))

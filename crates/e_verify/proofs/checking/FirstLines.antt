@@ -11,7 +11,7 @@ use Rattle.e_clause.specs.declared.cert.By.{By}
 use Rattle.e_clause.specs.declared.cert.Cert.{Cert}
 use Rattle.e_construct.specs.declared.construction.Construction.{Construction}
 use Rattle.e_construct.specs.declared.superpose.Superpose.{Superpose}
-use Rattle.e_construct.specs.Construct.{made, gives}
+use Rattle.e_construct.specs.Construct.{sorts_made, gives_of_construction}
 use Rattle.e_deriv.specs.Script.{Script, Cite, Hence, Make, Apply, Claim, Superposed, Qed, Contradiction, Cases}
 use Rattle.e_deriv.specs.Goal.{Goal, goal_of}
 use Rattle.e_deriv.specs.Lines.{Line, lines, theorem_at}
@@ -34,7 +34,7 @@ hence_lines before lit cert x rest goal = refl
 
 -- after a construction
 abbrev pub after_make : Construction → StepState → StepState
-after_make form x = record { scope = grown x.scope (made form); facts = joined_all x.facts (gives form x.scope) }
+after_make form x = record { scope = grown x.scope (sorts_made form); facts = joined_all x.facts (gives_of_construction form x.scope) }
 
 pub make_lines : (before : List Stated) (form : Construction) (names : List (List ℕ)) (certs : List Cert) (x : StepState) (rest : Script) (goal : Goal)
     → lines_in_state before (Make form names certs rest) x goal ≡ line_in_state (Make form names certs rest) x goal ∷ lines_in_state before rest (after_make form x) goal

@@ -21,7 +21,7 @@ use Rattle.e_clause.specs.Table.Circles.{circles}
 use Rattle.e_clause.specs.Table.Equality.{equality}
 use Rattle.e_clause.specs.Table.Lengths.{lengths}
 use Rattle.e_clause.specs.Table.Angles.{angles}
-use Rattle.e_clause.specs.Instance.{Inst, instance_of_row, fits, number, line, circle, lit_at, clause_of}
+use Rattle.e_clause.specs.Instance.{Inst, instance_of_row, arguments_fit, number, line, circle, lit_at, clause_of}
 
 abbrev all_formed : List Lit → Bool
 all_formed ls = list_all is_well_formed ls
@@ -72,7 +72,7 @@ instance_formed rule args lits e = by (slice_get table rule) refl e
       where
         none_some : None ≡ Some lits → ⊥
         none_some e = cc
-    by (Some r) at e = inside r (at_place (λ r. all_formed (clause_of r)) table rule r rows_formed at) (fits r args) e
+    by (Some r) at e = inside r (at_place (λ r. all_formed (clause_of r)) table rule r rows_formed at) (arguments_fit r args) e
 
 pub needs_formed : (ls : List Lit) (l : Lit) → all_formed ls ≡ true → all_formed (map negation (others ls l)) ≡ true
 needs_formed [] l h = refl

@@ -32,7 +32,7 @@ use Rattle.e_verify.specs.declared.reject.Reject.TheVariants.{Bad}
 use Rattle.e_verify.specs.declared.step_state.StepState.{StepState}
 use Rattle.e_verify.specs.declared.step_state.Checkpoint.{Checkpoint}
 use Rattle.e_verify.specs.inner.StepStates.{with_facts, state_after_superposed, checkpoint_of, restored}
-use Rattle.e_clause.specs.Written.{is_good_cert, is_good_against}
+use Rattle.e_clause.specs.Written.{is_writable_cert, is_writable_against}
 use Rattle.e_verify.specs.Checking.{line_in_state, verdict_at, RejectIs, IsCheckable, IsCheckableStep, AreCheckable, KeepsFirstFacts, AreVerified, LinesReject, StepRejects}
 use Rattle.e_verify.proofs.checking.FirstLines.{some_lines, qed_lines, contradiction_lines}
 use Rattle.e_deriv.proofs.Keeping.{stay_on, stay_joined, stay_all}
@@ -114,18 +114,18 @@ formed_step before s x n r = r.ready.facts
 pub cite_parts : (before : List Stated) (s : Step) (by : By) (x : StepState) (n : ℕ) → s ≡ CiteStep by → IsCheckableStep before s x n → is_well_formed by.lit ≡ true
 cite_parts before s by x n is r = (cite_written by r.rest (subst (λ d. IsCheckable before d x r.goal n) (cite_is s by is r.rest) r.ready).written).0
 
-pub hence_parts : (before : List Stated) (s : Step) (lit : Lit) (cert : Option Cert) (x : StepState) (n : ℕ) → s ≡ HenceStep lit cert → IsCheckableStep before s x n → (is_well_formed lit ≡ true) × (option_map_or is_good_cert cert true ≡ true)
+pub hence_parts : (before : List Stated) (s : Step) (lit : Lit) (cert : Option Cert) (x : StepState) (n : ℕ) → s ≡ HenceStep lit cert → IsCheckableStep before s x n → (is_well_formed lit ≡ true) × (option_map_or is_writable_cert cert true ≡ true)
 hence_parts before s lit cert x n is r =
     let w = hence_written lit cert r.rest (subst (λ d. IsCheckable before d x r.goal n) (hence_is s lit cert is r.rest) r.ready).written in (w.0, w.1)
 
-pub make_parts : (before : List Stated) (s : Step) (form : Construction) (names : List (List ℕ)) (certs seen : List Cert) (x : StepState) (n : ℕ) → s ≡ MakeStep form names certs → seen ≡ certs → IsCheckableStep before s x n → list_all is_good_cert seen ≡ true
+pub make_parts : (before : List Stated) (s : Step) (form : Construction) (names : List (List ℕ)) (certs seen : List Cert) (x : StepState) (n : ℕ) → s ≡ MakeStep form names certs → seen ≡ certs → IsCheckableStep before s x n → list_all is_writable_cert seen ≡ true
 make_parts before s form names certs seen x n is same r =
-    ap (list_all is_good_cert) same ∙ (make_written form names certs r.rest (subst (λ d. IsCheckable before d x r.goal n) (make_is s form names certs is r.rest) r.ready).written).0
+    ap (list_all is_writable_cert) same ∙ (make_written form names certs r.rest (subst (λ d. IsCheckable before d x r.goal n) (make_is s form names certs is r.rest) r.ready).written).0
 
 pub apply_parts : (before : List Stated) (s : Step) (theorem : ℕ) (args : List (Option Obj)) (names : List (List ℕ)) (certs seen : List Cert) (x : StepState) (n : ℕ) → s ≡ ApplyStep theorem args names certs → seen ≡ certs → IsCheckableStep before s x n
-    → list_all is_good_cert seen ≡ true
+    → list_all is_writable_cert seen ≡ true
 apply_parts before s theorem args names certs seen x n is same r =
-    ap (list_all is_good_cert) same ∙ (apply_written theorem args names certs r.rest (subst (λ d. IsCheckable before d x r.goal n) (apply_is s theorem args names certs is r.rest) r.ready).written).0
+    ap (list_all is_writable_cert) same ∙ (apply_written theorem args names certs r.rest (subst (λ d. IsCheckable before d x r.goal n) (apply_is s theorem args names certs is r.rest) r.ready).written).0
 
 -- ---- blocks that are left
 
@@ -203,10 +203,10 @@ superposed_is s form names shown over certs seen inner block is like same at res
     ∙ ap (λ cs. Superposed form names over cs (script_of inner.value) rest) (sym same) ∙ ap (λ b. Superposed form names over seen (script_of b) rest) (sym at)
 
 pub superposed_parts : (before : List Stated) (form : Superpose) (names : List (List ℕ)) (shown : List Lit) (certs : List Cert) (inner : Script) (x : StepState) (n : ℕ) → AreCheckable before (Superposed form names shown certs inner) x n
-    → list_all is_good_cert certs ≡ true
+    → list_all is_writable_cert certs ≡ true
 superposed_parts before form names shown certs inner x n r = (superposed_written form names shown certs inner r.rest r.ready.written).1
 
-pub superposed_ready : (before : List Stated) (form : Superpose) (names : List (List ℕ)) (shown : List Lit) (certs : List Cert) (inner : Script) (x z : StepState) (n : ℕ) → z ≡ state_after_superposed form x → superposing.fits form x.scope ≡ true
+pub superposed_ready : (before : List Stated) (form : Superpose) (names : List (List ℕ)) (shown : List Lit) (certs : List Cert) (inner : Script) (x z : StepState) (n : ℕ) → z ≡ state_after_superposed form x → superposing.fits_superposition form x.scope ≡ true
     → AreCheckable before (Superposed form names shown certs inner) x n → IsCheckable before inner z (goal_of shown) (n + 1)
 superposed_ready before form names shown certs inner x z n begun fit r =
     subst (λ w. IsCheckable before inner w (goal_of shown) (n + 1)) (sym begun) (superposed_inner before form names shown certs inner r.rest x r.goal n fit r.ready)
@@ -219,7 +219,7 @@ head_as : (before : List Stated) (form : Superpose) (names : List (List ℕ)) (s
 head_as before form names shown certs x b c is h inner rest goal = sym is ∙ h names inner rest goal
 
 -- what is tested and certified fits
-pub tested_fits : (before : List Stated) (form : Superpose) (shown : List Lit) (certs : List Cert) (x : StepState) (b : Bool) → b ≡ true → IsTested before form shown certs x b → superposing.fits form x.scope ≡ true
+pub tested_fits : (before : List Stated) (form : Superpose) (shown : List Lit) (certs : List Cert) (x : StepState) (b : Bool) → b ≡ true → IsTested before form shown certs x b → superposing.fits_superposition form x.scope ≡ true
 tested_fits before form shown certs x b is h =
     superposed_fits before form [] shown certs (Qed [] []) (Qed [] []) x (goal_of []) (sym is ∙ h [] (Qed [] []) (Qed [] []) (goal_of []))
 
@@ -240,7 +240,7 @@ pub superposed_done : (before : List Stated) (form : Superpose) (shown : List Li
 superposed_done before form shown certs inner x z w y after o n m b begun t h v e k left end names =
     let v' = ap (λ q. verdict_at before inner q (goal_of shown) (n + 1)) (sym begun) ∙ v in
     let p = passed_superposed before form names shown certs inner x n m (head_as before form names shown certs x b true t h) v' in
-    let kept = kept_on x z w (subst (KeepsFirstFacts x) (sym begun) (stay_all x.facts (superposing.gives form x.scope))) k in
+    let kept = kept_on x z w (subst (KeepsFirstFacts x) (sym begun) (stay_all x.facts (superposing.gives_of_superposition form x.scope))) k in
     let back = end ∙ ap (λ q. with_facts (joined_all q.facts shown) q) (restored_is o x w y e kept left) in
     subst (λ q. AreVerified before (Superposed form names shown certs inner) x n q m) (sym back) p
 
@@ -253,12 +253,12 @@ contradiction_is : (c : Close) (against : Option Against) → c ≡ Contradictio
 contradiction_is c against is = ap close_script is ∙ close_script-Contradiction against
 
 pub qed_parts : (before : List Stated) (c : Close) (objects : List Obj) (certs seen : List Cert) (x : StepState) (goal : Goal) (n : ℕ) → c ≡ QedClose objects certs → seen ≡ certs → IsCheckable before (close_script c) x goal n
-    → list_all is_good_cert seen ≡ true
+    → list_all is_writable_cert seen ≡ true
 qed_parts before c objects certs seen x goal n is same r =
-    ap (list_all is_good_cert) same ∙ qed_written objects certs (subst (λ d. IsCheckable before d x goal n) (qed_is c objects certs is) r).written
+    ap (list_all is_writable_cert) same ∙ qed_written objects certs (subst (λ d. IsCheckable before d x goal n) (qed_is c objects certs is) r).written
 
 pub contradiction_parts : (before : List Stated) (c : Close) (against : Option Against) (x : StepState) (goal : Goal) (n : ℕ) → c ≡ ContradictionClose against → IsCheckable before (close_script c) x goal n
-    → option_map_or is_good_against against true ≡ true
+    → option_map_or is_writable_against against true ≡ true
 contradiction_parts before c against x goal n is r = contradiction_written against (subst (λ d. IsCheckable before d x goal n) (contradiction_is c against is) r).written
 
 pub qed_ok : (before : List Stated) (c : Close) (objects os : List Obj) (certs cs : List Cert) (x : StepState) (goal : Goal) (n : ℕ) (b : Bool) (r : Result ℕ Reject) → c ≡ QedClose objects certs → os ≡ objects → cs ≡ certs

@@ -29,7 +29,7 @@ use Rattle.e_verify.specs.declared.reject.Reject.{Reject}
 use Rattle.e_verify.specs.declared.reject.Reject.TheVariants.{Bad, NoMemory}
 use Rattle.e_verify.specs.declared.step_state.StepState.{StepState}
 use Rattle.e_verify.specs.inner.StepStates.{with_facts, state_after_superposed}
-use Rattle.e_clause.specs.Written.{is_good_cert, is_good_against}
+use Rattle.e_clause.specs.Written.{is_writable_cert, is_writable_against}
 use Rattle.e_deriv.specs.Written.{is_written_well}
 use Rattle.e_verify.specs.Checking.{line_in_state, lines_in_state, verdict_at, RejectIs, IsCheckable, IsChecked, AreVerified, StepRejects}
 use Rattle.e_verify.proofs.checking.FirstLines.{some_lines, claim_lines, superposed_lines, cases_lines}
@@ -130,20 +130,20 @@ pub cite_written : (by : By) (rest : Script) → is_written_well (Cite by rest) 
 unfolding is_written_well
 cite_written by rest h = (and_left (is_well_formed by.lit) (is_written_well rest) h, and_right (is_well_formed by.lit) (is_written_well rest) h)
 
-pub hence_written : (lit : Lit) (cert : Option Cert) (rest : Script) → is_written_well (Hence lit cert rest) ≡ true → (is_well_formed lit ≡ true) × (option_map_or is_good_cert cert true ≡ true) × (is_written_well rest ≡ true)
+pub hence_written : (lit : Lit) (cert : Option Cert) (rest : Script) → is_written_well (Hence lit cert rest) ≡ true → (is_well_formed lit ≡ true) × (option_map_or is_writable_cert cert true ≡ true) × (is_written_well rest ≡ true)
 unfolding is_written_well
 hence_written lit cert rest h =
-    let c = option_map_or is_good_cert cert true in
+    let c = option_map_or is_writable_cert cert true in
     let k = and_right (is_well_formed lit) (c && is_written_well rest) h in
     (and_left (is_well_formed lit) (c && is_written_well rest) h, and_left c (is_written_well rest) k, and_right c (is_written_well rest) k)
 
-pub make_written : (form : Construction) (names : List (List ℕ)) (certs : List Cert) (rest : Script) → is_written_well (Make form names certs rest) ≡ true → (list_all is_good_cert certs ≡ true) × (is_written_well rest ≡ true)
+pub make_written : (form : Construction) (names : List (List ℕ)) (certs : List Cert) (rest : Script) → is_written_well (Make form names certs rest) ≡ true → (list_all is_writable_cert certs ≡ true) × (is_written_well rest ≡ true)
 unfolding is_written_well
-make_written form names certs rest h = (and_left (list_all is_good_cert certs) (is_written_well rest) h, and_right (list_all is_good_cert certs) (is_written_well rest) h)
+make_written form names certs rest h = (and_left (list_all is_writable_cert certs) (is_written_well rest) h, and_right (list_all is_writable_cert certs) (is_written_well rest) h)
 
-pub apply_written : (theorem : ℕ) (args : List (Option Obj)) (names : List (List ℕ)) (certs : List Cert) (rest : Script) → is_written_well (Apply theorem args names certs rest) ≡ true → (list_all is_good_cert certs ≡ true) × (is_written_well rest ≡ true)
+pub apply_written : (theorem : ℕ) (args : List (Option Obj)) (names : List (List ℕ)) (certs : List Cert) (rest : Script) → is_written_well (Apply theorem args names certs rest) ≡ true → (list_all is_writable_cert certs ≡ true) × (is_written_well rest ≡ true)
 unfolding is_written_well
-apply_written theorem args names certs rest h = (and_left (list_all is_good_cert certs) (is_written_well rest) h, and_right (list_all is_good_cert certs) (is_written_well rest) h)
+apply_written theorem args names certs rest h = (and_left (list_all is_writable_cert certs) (is_written_well rest) h, and_right (list_all is_writable_cert certs) (is_written_well rest) h)
 
 pub claim_written : (shown : List Lit) (inner rest : Script) → is_written_well (Claim shown inner rest) ≡ true → (list_all is_well_formed shown ≡ true) × (is_written_well inner ≡ true) × (is_written_well rest ≡ true)
 unfolding is_written_well
@@ -154,22 +154,22 @@ claim_written shown inner rest h =
     (and_left a (b && c) h, and_left b c (and_right a (b && c) h), and_right b c (and_right a (b && c) h))
 
 pub superposed_written : (form : Superpose) (names : List (List ℕ)) (shown : List Lit) (certs : List Cert) (inner rest : Script) → is_written_well (Superposed form names shown certs inner rest) ≡ true
-    → (list_all is_well_formed shown ≡ true) × (list_all is_good_cert certs ≡ true) × (is_written_well inner ≡ true) × (is_written_well rest ≡ true)
+    → (list_all is_well_formed shown ≡ true) × (list_all is_writable_cert certs ≡ true) × (is_written_well inner ≡ true) × (is_written_well rest ≡ true)
 unfolding is_written_well
 superposed_written form names shown certs inner rest h =
     let a = list_all is_well_formed shown in
-    let k = list_all is_good_cert certs in
+    let k = list_all is_writable_cert certs in
     let b = is_written_well inner in
     let c = is_written_well rest in
     let e = and_right a (k && (b && c)) h in
     let f = and_right k (b && c) e in
     (and_left a (k && (b && c)) h, and_left k (b && c) e, and_left b c f, and_right b c f)
 
-pub qed_written : (objects : List Obj) (certs : List Cert) → is_written_well (Qed objects certs) ≡ true → list_all is_good_cert certs ≡ true
+pub qed_written : (objects : List Obj) (certs : List Cert) → is_written_well (Qed objects certs) ≡ true → list_all is_writable_cert certs ≡ true
 unfolding is_written_well
 qed_written objects certs h = h
 
-pub contradiction_written : (against : Option Against) → is_written_well (Contradiction against) ≡ true → option_map_or is_good_against against true ≡ true
+pub contradiction_written : (against : Option Against) → is_written_well (Contradiction against) ≡ true → option_map_or is_writable_against against true ≡ true
 unfolding is_written_well
 contradiction_written against h = h
 
@@ -300,7 +300,7 @@ claim_bad before shown inner rest x goal n h = bad_line before (Claim shown inne
 -- ---- a superposition
 
 pub superposed_inner : (before : List Stated) (form : Superpose) (names : List (List ℕ)) (shown : List Lit) (certs : List Cert) (inner rest : Script) (x : StepState) (goal : Goal) (n : ℕ)
-    → superposing.fits form x.scope ≡ true → IsCheckable before (Superposed form names shown certs inner rest) x goal n → IsCheckable before inner (state_after_superposed form x) (goal_of shown) (n + 1)
+    → superposing.fits_superposition form x.scope ≡ true → IsCheckable before (Superposed form names shown certs inner rest) x goal n → IsCheckable before inner (state_after_superposed form x) (goal_of shown) (n + 1)
 superposed_inner before form names shown certs inner rest x goal n fit r =
     let w = superposed_written form names shown certs inner rest r.written in
     let d = Superposed form names shown certs inner rest in
@@ -308,7 +308,7 @@ superposed_inner before form names shown certs inner rest x goal n fit r =
     record {
       written = w.2;
       scopes = left_small (lines_in_state before inner (state_after_superposed form x) (goal_of shown)) (lines_in_state before rest (with_facts (joined_all x.facts shown) x) goal) s;
-      facts = all_joined_formed x.facts (superposing.gives form x.scope) r.facts (superposed_gives_formed form x.scope fit);
+      facts = all_joined_formed x.facts (superposing.gives_of_superposition form x.scope) r.facts (superposed_gives_formed form x.scope fit);
       shown = w.0;
       few = omega (arith, r.few, size-Superposed form names shown certs inner rest);
     }

@@ -1,13 +1,9 @@
 -- The objects of a qed, and its goal.
-use Rattle.std.proofs.Common.{◌≡◌, ◌≤◌, List, [], ◌∷◌, length, map, refl, sym, ap, ◌∙◌, arith, true, false, ◌&&◌}
+use Rattle.std.proofs.Common.{◌≡◌, List, [], ◌∷◌, map, refl, sym, ap, ◌∙◌, true, ◌&&◌}
 use Rattle.std.specs.List.{list_all}
-use Rattle.std.proofs.lemmas.Grind.{common_steps}
 use mathlib.Core.Bool.{and-true}
-use Rattle.e_literal.specs.declared.object.Sort.{Sort}
 use Rattle.e_literal.specs.declared.object.Obj.{Obj}
-use Rattle.e_literal.specs.declared.object.Scope.{Scope}
 use Rattle.e_literal.specs.declared.literal.Lit.{Lit}
-use Rattle.e_literal.specs.Scopes.{are_of_sorts}
 use Rattle.e_literal.specs.Rename.{renamed, image_in, paired}
 use Rattle.e_literal.specs.Use.{Stated}
 use Rattle.e_literal.specs.WellFormed.{is_well_formed}
@@ -20,17 +16,6 @@ use Rattle.e_deriv.specs.Goal.{Goal, are_for, goal_with}
 use Rattle.e_deriv.specs.Certified.{is_certified}
 use Rattle.e_verify.specs.declared.step_state.StepState.{StepState}
 use Rattle.e_verify.specs.Checking.{line_in_state}
-use Rattle.e_construct.proofs.Images.{no_objects}
-
-abbrev sorts_of : List Obj → List Sort
-sorts_of os = map (λ o. o.sort) os
-
-pub no_made : (s : Scope) (ms os : List Obj) → length ms ≡ 0 → 1 ≤ length os → are_of_sorts s (sorts_of ms) os ≡ false
-no_made s [] [] h k = absurd (omega (arith, k))
-no_made s [] (o ∷ os) h k = refl
-no_made s (m ∷ ms) os h k = absurd (omega (arith, h))
-
-pub ruleset objects = (common_steps, no_made, no_objects)
 
 each_formed : (f : Lit → Lit) → ((l : Lit) → is_well_formed (f l) ≡ is_well_formed l) → (ls : List Lit) → list_all is_well_formed ls ≡ true → list_all is_well_formed (map f ls) ≡ true
 each_formed f e [] h = refl

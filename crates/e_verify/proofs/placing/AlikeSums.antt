@@ -8,7 +8,7 @@ use Rattle.e_literal.specs.declared.object.Term.{Term}
 use Rattle.e_literal.specs.Same.{term_eq}
 use Rattle.e_literal.specs.Rows.{Summands, coefficient, terms_of_rows}
 use Rattle.e_literal.specs.Width.{is_among}
-use Rattle.e_literal.specs.Absurd.{Weighed, total, is_good_sign, is_strict, is_absurd}
+use Rattle.e_literal.specs.Absurd.{Weighed, total, allows_multiplier, is_strict, is_absurd}
 use Rattle.e_literal.proofs.Arith.{sums, zero_is, is_zero}
 use Rattle.e_literal.proofs.Terms.{term_eq_is, equal_terms, among_left, among_right}
 use Rattle.e_literal.proofs.Booleans.{and_left, and_right, or_not_left, or_not_right}
@@ -16,7 +16,7 @@ use Rattle.e_literal.proofs.Booleans.{and_left, and_right, or_not_left, or_not_r
 -- one share in each term, and taken away or added alike
 pub record HaveOneShare (w v : Weighed) : Type 0 where
   pub share : (t : Term) → v.multiplier *ℤ coefficient v.row.form t ≡ w.multiplier *ℤ coefficient w.row.form t
-  pub good : is_good_sign v.row.says v.multiplier ≡ is_good_sign w.row.says w.multiplier
+  pub good : allows_multiplier v.row.says v.multiplier ≡ allows_multiplier w.row.says w.multiplier
   pub strict : is_strict v.row.says v.multiplier ≡ is_strict w.row.says w.multiplier
 
 abbrev pub AllHaveOneShare : List Weighed → List Weighed → Type 0
@@ -30,7 +30,7 @@ same_total [] (v ∷ vs) t h = absurd h
 same_total (w ∷ ws) [] t h = absurd h
 same_total (w ∷ ws) (v ∷ vs) t h = ap₂ {A = ℤ} {B = ℤ} (λ a b. a +ℤ b) (h.0.share t) (same_total ws vs t h.1)
 
-same_good : (ws vs : List Weighed) → AllHaveOneShare ws vs → list_all (λ w. is_good_sign w.row.says w.multiplier) vs ≡ list_all (λ w. is_good_sign w.row.says w.multiplier) ws
+same_good : (ws vs : List Weighed) → AllHaveOneShare ws vs → list_all (λ w. allows_multiplier w.row.says w.multiplier) vs ≡ list_all (λ w. allows_multiplier w.row.says w.multiplier) ws
 same_good [] [] h = refl
 same_good [] (v ∷ vs) h = absurd h
 same_good (w ∷ ws) [] h = absurd h
@@ -95,7 +95,7 @@ cancel_everywhere f (t ∷ ts) h = ap₂ {A = Bool} {B = Bool} (λ a b. a && b) 
 pub absurd_together : (ws vs : List Weighed) → AllHaveOneShare ws vs → is_absurd ws ≡ true → is_absurd vs ≡ true
 absurd_together ws vs h a =
     let terms : Bool = list_all (λ t. int_eq (total ws t) (pos 0)) (terms_of_rows (map (λ (w : Weighed). w.row) ws)) in
-    let good : Bool = list_all (λ (w : Weighed). is_good_sign w.row.says w.multiplier) ws in
+    let good : Bool = list_all (λ (w : Weighed). allows_multiplier w.row.says w.multiplier) ws in
     let strict : Bool = list_any (λ (w : Weighed). is_strict w.row.says w.multiplier) ws in
     let none = all_cancel ws (and_left terms (good && strict) a) in
     let cancels = cancel_everywhere (total vs) (terms_of_rows (map (λ (w : Weighed). w.row) vs)) (λ t. same_total ws vs t h ∙ none t) in

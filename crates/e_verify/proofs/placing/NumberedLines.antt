@@ -24,8 +24,8 @@ use Rattle.e_clause.specs.declared.cert.Against.{Against}
 use Rattle.e_clause.specs.declared.cert.Against.TheVariants.{Clash, Metric as MetricAgainst}
 use Rattle.e_clause.specs.Instance.{Inst}
 use Rattle.e_clause.specs.Versions.{is_name_of, is_sum_of, are_sums_of, is_part_of, is_cert_of, is_against_of}
-use Rattle.e_clause.specs.Written.{is_good_name, is_good_sum, is_good_sums, is_good_part, is_good_cert, is_good_against}
-use Rattle.e_construct.specs.Construct.{fits as fits_form, made, gives}
+use Rattle.e_clause.specs.Written.{is_writable_name, is_writable_sum, are_writable_sums, is_writable_part, is_writable_cert, is_writable_against}
+use Rattle.e_construct.specs.Construct.{fits_construction as fits_form, sorts_made, gives_of_construction}
 use Rattle.e_construct.specs.Superposing as superposing
 use Rattle.e_deriv.specs.Script.{Script, Cite, Hence, Make, Apply, Claim, Superposed, Qed, Contradiction, Cases, erased}
 use Rattle.e_deriv.specs.Goal.{Goal, goal_of, are_for}
@@ -78,9 +78,9 @@ numbered_certified before (Hence lit cert rest) s facts goal h =
     by (Some c) k = with_certs (all_in_scope s lit) _ _ true (certs_certified s facts (lit ∷ []) (c ∷ [])) k
 numbered_certified before (Make form names certs rest) s facts goal h =
     let first : Bool = is_certified before (line (Make form names certs rest) (Make form names certs rest) s facts goal) in
-    let next : List Line = lines before rest rest (grown s (made form)) (joined_all facts (gives form s)) goal in
+    let next : List Line = lines before rest rest (grown s (sorts_made form)) (joined_all facts (gives_of_construction form s)) goal in
     both_true _ _ (with_certs (fits_form form s) _ _ true (certs_certified s facts (needs before (line (Make form names certs rest) (Make form names certs rest) s facts goal)) certs) (and_left first (are_certified before next) h))
-    (numbered_certified before rest (grown s (made form)) (joined_all facts (gives form s)) goal (and_right first (are_certified before next) h))
+    (numbered_certified before rest (grown s (sorts_made form)) (joined_all facts (gives_of_construction form s)) goal (and_right first (are_certified before next) h))
 numbered_certified before (Apply theorem args names certs rest) s facts goal h =
     let t : Stated = theorem_at before theorem in
     let first : Bool = is_certified before (line (Apply theorem args names certs rest) (Apply theorem args names certs rest) s facts goal) in
@@ -98,13 +98,13 @@ numbered_certified before (Claim shown inner rest) s facts goal h =
     (numbered_certified before rest s (joined_all facts shown) goal (all_right (is_certified before) within next later)))
 numbered_certified before (Superposed form names shown certs inner rest) s facts goal h =
     let first : Bool = is_certified before (line (Superposed form names shown certs inner rest) (Superposed form names shown certs inner rest) s facts goal) in
-    let within : List Line = lines before inner inner (grown s superposing.made) (joined_all facts (superposing.gives form s)) (goal_of shown) in
+    let within : List Line = lines before inner inner (grown s superposing.sorts_copied) (joined_all facts (superposing.gives_of_superposition form s)) (goal_of shown) in
     let next : List Line = lines before rest rest s (joined_all facts shown) goal in
     let later = and_right first (are_certified before (within ++ next)) h in
-    both_true _ _ (with_certs (superposing.fits form s && are_over s shown) _ _ true (certs_certified s facts (superposing.needs form) certs) (and_left first (are_certified before (within ++ next)) h))
-    (all_both (is_certified before) (lines_of before (with_places before inner (grown s superposing.made) (joined_all facts (superposing.gives form s)) (goal_of shown)) (grown s superposing.made) (joined_all facts (superposing.gives form s)) (goal_of shown))
+    both_true _ _ (with_certs (superposing.fits_superposition form s && are_over s shown) _ _ true (certs_certified s facts (superposing.needs_of_superposition form) certs) (and_left first (are_certified before (within ++ next)) h))
+    (all_both (is_certified before) (lines_of before (with_places before inner (grown s superposing.sorts_copied) (joined_all facts (superposing.gives_of_superposition form s)) (goal_of shown)) (grown s superposing.sorts_copied) (joined_all facts (superposing.gives_of_superposition form s)) (goal_of shown))
     (lines_of before (with_places before rest s (joined_all facts shown) goal) s (joined_all facts shown) goal)
-    (numbered_certified before inner (grown s superposing.made) (joined_all facts (superposing.gives form s)) (goal_of shown) (all_left (is_certified before) within next later))
+    (numbered_certified before inner (grown s superposing.sorts_copied) (joined_all facts (superposing.gives_of_superposition form s)) (goal_of shown) (all_left (is_certified before) within next later))
     (numbered_certified before rest s (joined_all facts shown) goal (all_right (is_certified before) within next later)))
 numbered_certified before (Qed objects certs) s facts goal h =
     let first : Bool = is_certified before (line (Qed objects certs) (Qed objects certs) s facts goal) in
@@ -129,14 +129,14 @@ pub numbered_erased : (before : List Stated) (d : Script) (s : Scope) (facts : L
 unfolding erased with_places
 numbered_erased before (Cite by rest) s facts goal = ap (Cite by) (numbered_erased before rest s (joined facts by.lit) goal)
 numbered_erased before (Hence lit cert rest) s facts goal = ap (Hence lit None) (numbered_erased before rest s (joined facts lit) goal)
-numbered_erased before (Make form names certs rest) s facts goal = ap (Make form names []) (numbered_erased before rest (grown s (made form)) (joined_all facts (gives form s)) goal)
+numbered_erased before (Make form names certs rest) s facts goal = ap (Make form names []) (numbered_erased before rest (grown s (sorts_made form)) (joined_all facts (gives_of_construction form s)) goal)
 numbered_erased before (Apply theorem args names certs rest) s facts goal =
     ap (Apply theorem args names []) (numbered_erased before rest (grown s (theorem_at before theorem).made) (joined_all facts (gives_of_use (theorem_at before theorem) (written args) s)) goal)
 numbered_erased before (Claim shown inner rest) s facts goal =
     ap₂ {A = Script} {B = Script} (Claim shown) (numbered_erased before inner s facts (goal_of shown)) (numbered_erased before rest s (joined_all facts shown) goal)
 numbered_erased before (Superposed form names shown certs inner rest) s facts goal =
     ap₂ {A = Script} {B = Script} (Superposed form names shown [])
-    (numbered_erased before inner (grown s superposing.made) (joined_all facts (superposing.gives form s)) (goal_of shown)) (numbered_erased before rest s (joined_all facts shown) goal)
+    (numbered_erased before inner (grown s superposing.sorts_copied) (joined_all facts (superposing.gives_of_superposition form s)) (goal_of shown)) (numbered_erased before rest s (joined_all facts shown) goal)
 numbered_erased before (Qed objects certs) s facts goal = refl
 numbered_erased before (Contradiction against) s facts goal = refl
 numbered_erased before (Cases lit one two) s facts goal =
@@ -157,7 +157,7 @@ module _ (facts : List Lit) (few : length facts < 2 ^ 32) where
   small : (l : Lit) → nat_lt (place_of_same facts l) (2 ^ 32) ≡ true
   small l = lt-ltb (place_of_same facts l) (2 ^ 32) (omega (arith, few, place_within facts l))
 
-  name_of_second : (name : RowName) → is_good_name name ≡ true → is_name_of version.Two (name_with_place facts name) ≡ true
+  name_of_second : (name : RowName) → is_writable_name name ≡ true → is_name_of version.Two (name_with_place facts name) ≡ true
   name_of_second (Fact l) h = small l
   name_of_second GoalRow h = refl
   name_of_second (Pos t) h = refl
@@ -168,9 +168,9 @@ module _ (facts : List Lit) (few : length facts < 2 ^ 32) where
   name_of_second Below h = refl
   name_of_second (FactAt k) h = h
 
-  sum_of_second : (xs : List (ℤ × RowName)) → is_good_sum xs ≡ true → is_sum_of version.Two (sum_with_places facts xs) ≡ true
+  sum_of_second : (xs : List (ℤ × RowName)) → is_writable_sum xs ≡ true → is_sum_of version.Two (sum_with_places facts xs) ≡ true
   sum_of_second [] h = refl
-  sum_of_second (x ∷ xs) h = both_true _ _ (name_of_second x.1 (and_left (is_good_name x.1) (is_good_sum xs) h)) (sum_of_second xs (and_right (is_good_name x.1) (is_good_sum xs) h))
+  sum_of_second (x ∷ xs) h = both_true _ _ (name_of_second x.1 (and_left (is_writable_name x.1) (is_writable_sum xs) h)) (sum_of_second xs (and_right (is_writable_name x.1) (is_writable_sum xs) h))
 
   other_of_second : (name : RowName) → is_name_of version.Two name ≡ true → is_name_of version.Two (opposite_side name) ≡ true
   other_of_second (Fact l) h = h
@@ -188,50 +188,50 @@ module _ (facts : List Lit) (few : length facts < 2 ^ 32) where
   swapped_of_second (x ∷ xs) h =
       both_true _ _ (other_of_second x.1 (and_left (is_name_of version.Two x.1) (is_sum_of version.Two xs) h)) (swapped_of_second xs (and_right (is_name_of version.Two x.1) (is_sum_of version.Two xs) h))
 
-  sums_of_second : (m : Sums) → is_good_sums m ≡ true → are_sums_of version.Two (sums_with_places facts m) ≡ true
+  sums_of_second : (m : Sums) → are_writable_sums m ≡ true → are_sums_of version.Two (sums_with_places facts m) ≡ true
   sums_of_second (One sum) h = sum_of_second sum h
   sums_of_second (Two differs first second) h = by (turns facts differs)
     where
-      both : (is_good_sum first && is_good_sum second) ≡ true
-      both = and_right (is_good_name differs) (is_good_sum first && is_good_sum second) h
+      both : (is_writable_sum first && is_writable_sum second) ≡ true
+      both = and_right (is_writable_name differs) (is_writable_sum first && is_writable_sum second) h
 
       one : is_sum_of version.Two (sum_with_places facts first) ≡ true
-      one = sum_of_second first (and_left (is_good_sum first) (is_good_sum second) both)
+      one = sum_of_second first (and_left (is_writable_sum first) (is_writable_sum second) both)
 
       two : is_sum_of version.Two (sum_with_places facts second) ≡ true
-      two = sum_of_second second (and_right (is_good_sum first) (is_good_sum second) both)
+      two = sum_of_second second (and_right (is_writable_sum first) (is_writable_sum second) both)
 
       name : is_name_of version.Two (name_with_place facts differs) ≡ true
-      name = name_of_second differs (and_left (is_good_name differs) (is_good_sum first && is_good_sum second) h)
+      name = name_of_second differs (and_left (is_writable_name differs) (is_writable_sum first && is_writable_sum second) h)
 
       by : (b : Bool) → are_sums_of version.Two (two_placed b (name_with_place facts differs) (sum_with_places facts first) (sum_with_places facts second)) ≡ true
       by true = both_true _ _ name (both_true _ _ (swapped_of_second (sum_with_places facts second) two) (swapped_of_second (sum_with_places facts first) one))
       by false = both_true _ _ name (both_true _ _ one two)
 
-  part_of_second : (l : Lit) (p : Part) → is_good_part p ≡ true → is_part_of version.Two (part_with_places facts l p) ≡ true
+  part_of_second : (l : Lit) (p : Part) → is_writable_part p ≡ true → is_part_of version.Two (part_with_places facts l p) ≡ true
   part_of_second l FactPart h = small l
   part_of_second l (Metric m) h = sums_of_second m.sums h
   part_of_second l (FactPartAt k) h = h
 
-  parts_of_second : (ls : List Lit) (ps : List Part) → list_all is_good_part ps ≡ true → list_all (is_part_of version.Two) (parts_with_places facts ls ps) ≡ true
+  parts_of_second : (ls : List Lit) (ps : List Part) → list_all is_writable_part ps ≡ true → list_all (is_part_of version.Two) (parts_with_places facts ls ps) ≡ true
   parts_of_second [] ps h = refl
   parts_of_second (l ∷ ls) [] h = refl
-  parts_of_second (l ∷ ls) (p ∷ ps) h = both_true _ _ (part_of_second l p (and_left (is_good_part p) (list_all is_good_part ps) h)) (parts_of_second ls ps (and_right (is_good_part p) (list_all is_good_part ps) h))
+  parts_of_second (l ∷ ls) (p ∷ ps) h = both_true _ _ (part_of_second l p (and_left (is_writable_part p) (list_all is_writable_part ps) h)) (parts_of_second ls ps (and_right (is_writable_part p) (list_all is_writable_part ps) h))
 
-  for_of_second : (l : Lit) (ps : List Part) (o : Option (List Lit)) → list_all is_good_part ps ≡ true → list_all (is_part_of version.Two) (placed_for facts l ps o) ≡ true
+  for_of_second : (l : Lit) (ps : List Part) (o : Option (List Lit)) → list_all is_writable_part ps ≡ true → list_all (is_part_of version.Two) (placed_for facts l ps o) ≡ true
   for_of_second l ps (Some lits) h = parts_of_second (map negation (others lits l)) ps h
   for_of_second l ps None h = refl
 
-  cert_of_second : (l : Lit) (c : Cert) → is_good_cert c ≡ true → is_cert_of version.Two (cert_with_places facts l c) ≡ true
+  cert_of_second : (l : Lit) (c : Cert) → is_writable_cert c ≡ true → is_cert_of version.Two (cert_with_places facts l c) ≡ true
   cert_of_second l (Plain p) h = part_of_second l p h
   cert_of_second l (Transfer t) h = for_of_second l t.parts (Inst t.rule t.args) h
 
-  certs_of_second : (ls : List Lit) (cs : List Cert) → list_all is_good_cert cs ≡ true → list_all (is_cert_of version.Two) (certs_with_places facts ls cs) ≡ true
+  certs_of_second : (ls : List Lit) (cs : List Cert) → list_all is_writable_cert cs ≡ true → list_all (is_cert_of version.Two) (certs_with_places facts ls cs) ≡ true
   certs_of_second [] cs h = refl
   certs_of_second (l ∷ ls) [] h = refl
-  certs_of_second (l ∷ ls) (c ∷ cs) h = both_true _ _ (cert_of_second l c (and_left (is_good_cert c) (list_all is_good_cert cs) h)) (certs_of_second ls cs (and_right (is_good_cert c) (list_all is_good_cert cs) h))
+  certs_of_second (l ∷ ls) (c ∷ cs) h = both_true _ _ (cert_of_second l c (and_left (is_writable_cert c) (list_all is_writable_cert cs) h)) (certs_of_second ls cs (and_right (is_writable_cert c) (list_all is_writable_cert cs) h))
 
-  against_of_second : (a : Against) → is_good_against a ≡ true → is_against_of version.Two (against_with_places facts a) ≡ true
+  against_of_second : (a : Against) → is_writable_against a ≡ true → is_against_of version.Two (against_with_places facts a) ≡ true
   against_of_second (Clash l) h = refl
   against_of_second (MetricAgainst m) h = sums_of_second m.sums h
 
@@ -246,13 +246,13 @@ numbered_of_second before (Hence lit cert rest) s facts goal w h =
     let k = hence_written lit cert rest w in
     both_true _ _ (by cert k.1) (numbered_of_second before rest s (joined facts lit) goal k.2 (and_right _ _ h))
   where
-    by : (c : Option Cert) → option_map_or is_good_cert c true ≡ true → option_map_or (is_cert_of version.Two) (option_map (cert_with_places facts lit) c) true ≡ true
+    by : (c : Option Cert) → option_map_or is_writable_cert c true ≡ true → option_map_or (is_cert_of version.Two) (option_map (cert_with_places facts lit) c) true ≡ true
     by None k = refl
     by (Some c) k = cert_of_second facts (few_of facts _ h) lit c k
 numbered_of_second before (Make form names certs rest) s facts goal w h =
     let k = make_written form names certs rest w in
     both_true _ _ (certs_of_second facts (few_of facts _ h) (needs before (line (Make form names certs rest) (Make form names certs rest) s facts goal)) certs k.0)
-    (numbered_of_second before rest (grown s (made form)) (joined_all facts (gives form s)) goal k.1 (and_right _ _ h))
+    (numbered_of_second before rest (grown s (sorts_made form)) (joined_all facts (gives_of_construction form s)) goal k.1 (and_right _ _ h))
 numbered_of_second before (Apply theorem args names certs rest) s facts goal w h =
     let k = apply_written theorem args names certs rest w in
     both_true _ _ (certs_of_second facts (few_of facts _ h) (needs before (line (Apply theorem args names certs rest) (Apply theorem args names certs rest) s facts goal)) certs k.0)
@@ -265,12 +265,12 @@ numbered_of_second before (Claim shown inner rest) s facts goal w h =
     both_true _ _ (numbered_of_second before inner s facts (goal_of shown) k.1 (all_left has_few within next later))
     (numbered_of_second before rest s (joined_all facts shown) goal k.2 (all_right has_few within next later))
 numbered_of_second before (Superposed form names shown certs inner rest) s facts goal w h =
-    let within : List Line = lines before inner inner (grown s superposing.made) (joined_all facts (superposing.gives form s)) (goal_of shown) in
+    let within : List Line = lines before inner inner (grown s superposing.sorts_copied) (joined_all facts (superposing.gives_of_superposition form s)) (goal_of shown) in
     let next : List Line = lines before rest rest s (joined_all facts shown) goal in
     let later = and_right (nat_lt (length facts) (2 ^ 32)) (list_all has_few (within ++ next)) h in
     let k = superposed_written form names shown certs inner rest w in
-    both_true _ _ (certs_of_second facts (few_of facts _ h) (superposing.needs form) certs k.1)
-    (both_true _ _ (numbered_of_second before inner (grown s superposing.made) (joined_all facts (superposing.gives form s)) (goal_of shown) k.2 (all_left has_few within next later))
+    both_true _ _ (certs_of_second facts (few_of facts _ h) (superposing.needs_of_superposition form) certs k.1)
+    (both_true _ _ (numbered_of_second before inner (grown s superposing.sorts_copied) (joined_all facts (superposing.gives_of_superposition form s)) (goal_of shown) k.2 (all_left has_few within next later))
     (numbered_of_second before rest s (joined_all facts shown) goal k.3 (all_right has_few within next later)))
 numbered_of_second before (Qed objects certs) s facts goal w h =
     certs_of_second facts (few_of facts _ h) (needs before (line (Qed objects certs) (Qed objects certs) s facts goal)) certs (qed_written objects certs w)

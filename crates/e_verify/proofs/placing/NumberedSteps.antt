@@ -49,7 +49,7 @@ unfolding with_places
 hence_places before lit cert x rest goal = refl
 
 make_places : (before : List Stated) (form : Construction) (names : List (List ℕ)) (certs : List Cert) (x : StepState) (rest : Script) (goal : Goal)
-    → places_at before (Make form names certs rest) x goal ≡ Make form names (certs_with_places x.facts (construct.needs form) certs) (places_at before rest (after_make form x) goal)
+    → places_at before (Make form names certs rest) x goal ≡ Make form names (certs_with_places x.facts (construct.needs_of_construction form) certs) (places_at before rest (after_make form x) goal)
 unfolding with_places
 make_places before form names certs x rest goal = refl
 
@@ -66,7 +66,7 @@ claim_places before shown inner x rest goal = refl
 
 superposed_places : (before : List Stated) (form : Superpose) (names : List (List ℕ)) (shown : List Lit) (certs : List Cert) (inner : Script) (x : StepState) (rest : Script) (goal : Goal)
     → places_at before (Superposed form names shown certs inner rest) x goal
-    ≡ Superposed form names shown (certs_with_places x.facts (superposing.needs form) certs) (places_at before inner (state_after_superposed form x) (goal_of shown)) (places_at before rest (with_facts (joined_all x.facts shown) x) goal)
+    ≡ Superposed form names shown (certs_with_places x.facts (superposing.needs_of_superposition form) certs) (places_at before inner (state_after_superposed form x) (goal_of shown)) (places_at before rest (with_facts (joined_all x.facts shown) x) goal)
 unfolding with_places
 superposed_places before form names shown certs inner x rest goal = refl
 
@@ -116,15 +116,15 @@ hence_numbered before lit cert x after s is end =
       kept = stay_joined x.facts lit;
     })
 
-pub make_numbered : (before : List Stated) (form : Construction) (names : List (List ℕ)) (certs : List Cert) (x after : StepState) (s : Step) → s ≡ MakeStep form names (certs_with_places x.facts (construct.needs form) certs) → after ≡ after_make form x
+pub make_numbered : (before : List Stated) (form : Construction) (names : List (List ℕ)) (certs : List Cert) (x after : StepState) (s : Step) → s ≡ MakeStep form names (certs_with_places x.facts (construct.needs_of_construction form) certs) → after ≡ after_make form x
     → IsNumberedStep before (Make form names certs) x (step_script s) after
 make_numbered before form names certs x after s is end =
     subst (λ (y : StepState). IsNumberedStep before (Make form names certs) x (step_script s) y) (sym end)
     (record {
       same = λ rest goal. make_places before form names certs x rest goal
-          ∙ sym (ap (λ t. step_script t (places_at before rest (after_make form x) goal)) is ∙ step_script-Make form names (certs_with_places x.facts (construct.needs form) certs) _);
+          ∙ sym (ap (λ t. step_script t (places_at before rest (after_make form x) goal)) is ∙ step_script-Make form names (certs_with_places x.facts (construct.needs_of_construction form) certs) _);
       few = λ few rest goal h. few_line before (Make form names certs rest) x goal rest (after_make form x) few (make_lines before form names certs x rest goal) h;
-      kept = stay_all x.facts (construct.gives form x.scope);
+      kept = stay_all x.facts (construct.gives_of_construction form x.scope);
     })
 
 pub apply_numbered : (before : List Stated) (theorem : ℕ) (args : List (Option Obj)) (names : List (List ℕ)) (certs : List Cert) (x after : StepState) (s : Step)
@@ -171,11 +171,11 @@ claim_numbered before shown inner numbered x z after o s placed few e k made end
     })
 
 pub superposed_numbered : (before : List Stated) (form : Superpose) (names : List (List ℕ)) (shown : List Lit) (certs placed : List Cert) (inner : Script) (numbered : Block) (x z w after : StepState) (o : Checkpoint) (s : Step)
-    → placed ≡ certs_with_places x.facts (superposing.needs form) certs → z ≡ state_after_superposed form x → script_of numbered ≡ places_at before inner z (goal_of shown) → HaveFew before inner z (goal_of shown)
+    → placed ≡ certs_with_places x.facts (superposing.needs_of_superposition form) certs → z ≡ state_after_superposed form x → script_of numbered ≡ places_at before inner z (goal_of shown) → HaveFew before inner z (goal_of shown)
     → o ≡ checkpoint_of x → KeepsFirstFacts z w → ((rest : Script) → step_script s rest ≡ Superposed form names shown placed (script_of numbered) rest)
     → after ≡ with_facts (joined_all (restored o w).facts shown) (restored o w) → IsNumberedStep before (Superposed form names shown certs inner) x (step_script s) after
 superposed_numbered before form names shown certs placed inner numbered x z w after o s put begun block_is few e k made end =
-    let kept = kept_on x z w (subst (KeepsFirstFacts x) (sym begun) (stay_all x.facts (superposing.gives form x.scope))) k in
+    let kept = kept_on x z w (subst (KeepsFirstFacts x) (sym begun) (stay_all x.facts (superposing.gives_of_superposition form x.scope))) k in
     let begin : StepState = state_after_superposed form x in
     let later : StepState = with_facts (joined_all x.facts shown) x in
     let block_placed : script_of numbered ≡ places_at before inner begin (goal_of shown) = block_is ∙ ap (λ q. places_at before inner q (goal_of shown)) begun in

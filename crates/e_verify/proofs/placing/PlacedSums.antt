@@ -11,7 +11,7 @@ use Rattle.e_literal.specs.declared.object.Term.TheVariants.{Seg, Ang, Area, Rig
 use Rattle.e_literal.specs.declared.literal.Lit.{Lit}
 use Rattle.e_literal.specs.Facts.{has}
 use Rattle.e_literal.specs.Rows.{Row, Zero, Not, coefficient, row_of_lit}
-use Rattle.e_literal.specs.Absurd.{Weighed, is_good_sign, is_strict, is_absurd}
+use Rattle.e_literal.specs.Absurd.{Weighed, allows_multiplier, is_strict, is_absurd}
 use Rattle.e_literal.proofs.Arith.{sums, neg_mul, mul_neg, size_negative, zero_is, is_zero}
 use Rattle.e_literal.proofs.Booleans.{and_left, and_right, same_bool}
 use Rattle.e_literal.proofs.Valued.{coefficient_negative}
@@ -19,7 +19,7 @@ use Rattle.e_clause.specs.declared.cert.RowName.{RowName}
 use Rattle.e_clause.specs.declared.cert.RowName.TheVariants.{Fact, Goal, Pos, Top, Right as RightRow, Least, Above, Below, FactAt}
 use Rattle.e_clause.specs.declared.cert.Sums.{Sums}
 use Rattle.e_clause.specs.declared.cert.Sums.TheVariants.{One, Two}
-use Rattle.e_clause.specs.Sum.{Place, fact_row, row_at, says_differ, unless_not, pos_of, top_of, row_named, weighed_rows, is_good_multiplier, is_good_size, refutes}
+use Rattle.e_clause.specs.Sum.{Place, fact_row, row_at, says_differ, unless_not, pos_of, top_of, row_named, weighed_rows, is_nonzero_bounded, is_limited_sum, refutes}
 use Rattle.e_clause.specs.MetricCertificate.{differing_of, differing, above_row, below_row, both_refute, sums_refute}
 use Rattle.e_clause.proofs.Refuted.{option_split, found}
 use Rattle.e_verify.specs.Numbered.{place_of_same, have_opposite_rows, has_opposite_row, name_with_place, turns, sum_with_places, opposite_side, sides_swapped, two_placed, sums_with_places}
@@ -56,18 +56,18 @@ alike_self r = record { says = refl; form = λ t. refl; sign = λ k. absurd (tru
 one_share : (turned : Bool) (n : ℤ) (r s : Row) → AreAlike turned r s → HaveOneShare (record { multiplier = n; row = r }) (record { multiplier = cond turned (neg_ℤ n) n; row = s })
 one_share false n r s h = record {
   share = λ t. ap (λ z. n *ℤ z) (h.form t);
-  good = ap (λ x. is_good_sign x n) h.says;
+  good = ap (λ x. allows_multiplier x n) h.says;
   strict = ap (λ x. is_strict x n) h.says;
 }
 one_share true n r s h = record {
   share = λ t. ap (λ z. neg_ℤ n *ℤ z) (h.form t) ∙ omega (arith, sums, neg_mul n (neg_ℤ (coefficient r.form t)), mul_neg n (coefficient r.form t));
-  good = ap (λ x. is_good_sign x (neg_ℤ n)) h.says ∙ signs (h.sign refl);
+  good = ap (λ x. allows_multiplier x (neg_ℤ n)) h.says ∙ signs (h.sign refl);
   strict = ap (λ x. is_strict x (neg_ℤ n)) h.says ∙ stricts (h.sign refl);
 }
   where
-    signs : (r.says ≡ Zero) ⊎ (r.says ≡ Not) → is_good_sign r.says (neg_ℤ n) ≡ is_good_sign r.says n
-    signs (inl e) = ap (λ x. is_good_sign x (neg_ℤ n)) e ∙ sym (ap (λ x. is_good_sign x n) e)
-    signs (inr e) = ap (λ x. is_good_sign x (neg_ℤ n)) e ∙ sym (ap (λ x. is_good_sign x n) e)
+    signs : (r.says ≡ Zero) ⊎ (r.says ≡ Not) → allows_multiplier r.says (neg_ℤ n) ≡ allows_multiplier r.says n
+    signs (inl e) = ap (λ x. allows_multiplier x (neg_ℤ n)) e ∙ sym (ap (λ x. allows_multiplier x n) e)
+    signs (inr e) = ap (λ x. allows_multiplier x (neg_ℤ n)) e ∙ sym (ap (λ x. allows_multiplier x n) e)
 
     stricts : (r.says ≡ Zero) ⊎ (r.says ≡ Not) → is_strict r.says (neg_ℤ n) ≡ is_strict r.says n
     stricts (inl e) = ap (λ x. is_strict x (neg_ℤ n)) e ∙ sym (ap (λ x. is_strict x n) e)
@@ -85,7 +85,7 @@ not_sided : (xs : List (ℤ × RowName)) → sided false xs ≡ xs
 not_sided [] = refl
 not_sided (x ∷ xs) = ap (λ ys. x ∷ ys) (not_sided xs)
 
-good_negative : (n : ℤ) → is_good_multiplier (neg_ℤ n) ≡ is_good_multiplier n
+good_negative : (n : ℤ) → is_nonzero_bounded (neg_ℤ n) ≡ is_nonzero_bounded n
 good_negative n = ap₂ {A = Bool} {B = Bool} (λ a b. not a && b)
     (same_bool (int_eq (neg_ℤ n) (pos 0)) (int_eq n (pos 0)) (λ h. is_zero n (let e = zero_is (neg_ℤ n) h in omega (arith, sums, e))) (λ h. is_zero (neg_ℤ n) (ap neg_ℤ (zero_is n h))))
     (ap (λ k. nat_le k (2 ^ 80)) (size_negative n))
@@ -94,11 +94,11 @@ module _ (facts : List Lit) (swap : Bool) where
   abbrev renamed : List (ℤ × RowName) → List (ℤ × RowName)
   renamed xs = sided swap (sum_with_places facts xs)
 
-  all_good : (xs : List (ℤ × RowName)) → list_all (λ x. is_good_multiplier x.0) (renamed xs) ≡ list_all (λ x. is_good_multiplier x.0) xs
+  all_good : (xs : List (ℤ × RowName)) → list_all (λ x. is_nonzero_bounded x.0) (renamed xs) ≡ list_all (λ x. is_nonzero_bounded x.0) xs
   all_good [] = refl
   all_good (x ∷ xs) = ap₂ {A = Bool} {B = Bool} (λ a b. a && b) (by (turns facts x.1)) (all_good xs)
     where
-      by : (b : Bool) → is_good_multiplier (cond b (neg_ℤ x.0) x.0) ≡ is_good_multiplier x.0
+      by : (b : Bool) → is_nonzero_bounded (cond b (neg_ℤ x.0) x.0) ≡ is_nonzero_bounded x.0
       by true = good_negative x.0
       by false = refl
 
@@ -106,7 +106,7 @@ module _ (facts : List Lit) (swap : Bool) where
   same_length [] = refl
   same_length (x ∷ xs) = ap suc (same_length xs)
 
-  same_size : (xs : List (ℤ × RowName)) → is_good_size (renamed xs) ≡ is_good_size xs
+  same_size : (xs : List (ℤ × RowName)) → is_limited_sum (renamed xs) ≡ is_limited_sum xs
   same_size xs = ap₂ {A = ℕ} {B = Bool} (λ n b. nat_le 1 n && (nat_le n 4096 && b)) (same_length xs) (all_good xs)
 
   module _ (wanted : Option Lit) (above below above' below' : Option Row) where
@@ -185,10 +185,10 @@ module _ (facts : List Lit) (swap : Bool) where
       -- the sum refutes still
       refutes_on : (xs : List (ℤ × RowName)) → refutes old xs ≡ true → refutes new (renamed xs) ≡ true
       refutes_on xs h =
-          let k = found is_absurd (weighed_rows old xs) (and_right (is_good_size xs) (option_map_or is_absurd (weighed_rows old xs) false) h) in
+          let k = found is_absurd (weighed_rows old xs) (and_right (is_limited_sum xs) (option_map_or is_absurd (weighed_rows old xs) false) h) in
           let s = weighed xs k.0 k.1 in
           ap₂ {A = Bool} {B = Bool} (λ a b. a && b)
-          (same_size xs ∙ and_left (is_good_size xs) (option_map_or is_absurd (weighed_rows old xs) false) h)
+          (same_size xs ∙ and_left (is_limited_sum xs) (option_map_or is_absurd (weighed_rows old xs) false) h)
           (ap (λ o. option_map_or is_absurd o false) s.1 ∙ absurd_together k.0 s.0 s.2 k.2)
 
 -- ---- certificates with one sum or two

@@ -1,5 +1,5 @@
 use Rattle.std.proofs.Common.{◌+◌, [], get_or, drop, map, sym, ap, ◌∙◌, arith}
-use Rattle.e_construct.specs.Views.{piece_said}
+use Rattle.e_construct.specs.Views.{piece_view}
 use Rattle.e_text.specs.Names.{name_of}
 use Rattle.e_book.specs.declared.fault.Kind.TheVariants.{Malformed}
 use Rattle.e_book.specs.declared.fault.Trouble.TheVariants.{Fault}
@@ -22,8 +22,8 @@ returns-in-None c =
     let i = c.loop-i.i in
     let here = sym (text_at words i (record { ref_ptr = (0, 0); now = [] })) in
     let taken = word_taken c.args.new c.args.pieces.now (texts words) i (omega (arith, length-texts words)) (sym c.is_place_at.ensures ∙ c.if-not-is_place_at.false) in
-    fails (λ w. or_malformed (name_of w)) c.loop-i.names (get_or (texts words) i []) (words_at c.args.new (map piece_said (drop (i + 1) c.args.pieces.now)) (drop (i + 1) (texts words)))
-    (words_at c.args.new (map piece_said (drop i c.args.pieces.now)) (drop i (texts words))) (Fault Malformed) (names_of (words_at c.args.new (map piece_said c.args.pieces.now) (texts words))) taken
+    fails (λ w. or_malformed (name_of w)) c.loop-i.names (get_or (texts words) i []) (words_at c.args.new (map piece_view (drop (i + 1) c.args.pieces.now)) (drop (i + 1) (texts words)))
+    (words_at c.args.new (map piece_view (drop i c.args.pieces.now)) (drop i (texts words))) (Fault Malformed) (names_of (words_at c.args.new (map piece_view c.args.pieces.now) (texts words))) taken
     (ap (λ w. or_malformed (name_of w)) here ∙ sym (ap or_malformed c.in-None.ensures)) c.loop-i.invariant
 
 pub loop-i-preserved : goal.loop-i-preserved
@@ -32,13 +32,13 @@ loop-i-preserved c =
     let i = c.loop-i.i in
     let here = sym (text_at words i (record { ref_ptr = (0, 0); now = [] })) in
     let taken = word_taken c.args.new c.args.pieces.now (texts words) i (omega (arith, length-texts words)) (sym c.is_place_at.ensures ∙ c.if-not-is_place_at.false) in
-    rw c.in_ok-push-in-Some.ensures.ok (goes_on (λ w. or_malformed (name_of w)) c.loop-i.names (get_or (texts words) i []) (words_at c.args.new (map piece_said (drop (i + 1) c.args.pieces.now)) (drop (i + 1) (texts words)))
-    (words_at c.args.new (map piece_said (drop i c.args.pieces.now)) (drop i (texts words))) c.in-Some.name (names_of (words_at c.args.new (map piece_said c.args.pieces.now) (texts words))) taken
+    rw c.in_ok-push-in-Some.ensures.ok (goes_on (λ w. or_malformed (name_of w)) c.loop-i.names (get_or (texts words) i []) (words_at c.args.new (map piece_view (drop (i + 1) c.args.pieces.now)) (drop (i + 1) (texts words)))
+    (words_at c.args.new (map piece_view (drop i c.args.pieces.now)) (drop i (texts words))) c.in-Some.name (names_of (words_at c.args.new (map piece_view c.args.pieces.now) (texts words))) taken
     (ap (λ w. or_malformed (name_of w)) here ∙ sym (ap or_malformed c.in-Some.ensures)) c.loop-i.invariant)
 
 pub returns : goal.returns
 returns c =
     let words = c.args.words.now in
     let i = c.loop-i.i in
-    is_done (λ w. or_malformed (name_of w)) c.loop-i.names (words_at c.args.new (map piece_said (drop i c.args.pieces.now)) (drop i (texts words))) (names_of (words_at c.args.new (map piece_said c.args.pieces.now) (texts words)))
+    is_done (λ w. or_malformed (name_of w)) c.loop-i.names (words_at c.args.new (map piece_view (drop i c.args.pieces.now)) (drop i (texts words))) (names_of (words_at c.args.new (map piece_view c.args.pieces.now) (texts words)))
     (none_left c.args.new c.args.pieces.now (texts words) i (omega (arith, length-texts words))) c.loop-i.invariant

@@ -3,7 +3,7 @@ use Rattle.std.specs.List.{list_all}
 use Rattle.e_literal.specs.declared.object.Scope.{Scope}
 use Rattle.e_literal.specs.Literal.{all_in_scope}
 use Rattle.e_theorem.specs.Notions.{as_stated}
-use Rattle.e_theorem.specs.Faults.{FaultIs}
+use Rattle.e_theorem.specs.Faults.{UseFaultIs}
 use Rattle.e_book.proofs.ItemsWritten.{notion_few, is_known_one, first_within, first_count, args_fit}
 use Rattle.e_book.proofs.meanings.meant_in.Goals as goal
 
@@ -14,7 +14,7 @@ pub unreachable-requires : goal.unreachable-requires
 unreachable-requires c =
     args_fit c.args.names.now c.in_ok-notion.notion.now c.args.raw.now.args c.items-2.result.now c.items.result.now c.in_ok-args.args c.items-3.result.now c.scope_of_names.result c.items-2.ensures c.items.ensures c.items-3.ensures
     c.scope_of_names.ensures (omega (arith, c.if-len.false, c.len.ensures, c.len-2.ensures)) c.in_ok-args.ensures
-    (subst (FaultIs (as_stated c.in_ok-notion.notion.now) c.items-3.result.now c.scope_of_names.result) c.in-Err-BadArgs.field-0-is c.in-Err-BadArgs.ensures.err)
+    (subst (UseFaultIs (as_stated c.in_ok-notion.notion.now) c.items-3.result.now c.scope_of_names.result) c.in-Err-BadArgs.field-0-is c.in-Err-BadArgs.ensures.err)
 
 pub returns-in-Ok-clause-within : goal.returns-in-Ok-clause-within
 returns-in-Ok-clause-within c =

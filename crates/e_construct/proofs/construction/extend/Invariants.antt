@@ -1,6 +1,6 @@
 use Rattle.std.proofs.Common.{◌≡◌, ◌++◌, map, drop}
 use Rattle.e_literal.specs.Rename.{renamed}
-use Rattle.e_construct.specs.Views.{lit_of, image_of}
+use Rattle.e_construct.specs.inner.Views.{lit_of, image_of}
 use Rattle.e_construct.proofs.construction.extend.Given as goal
 
 abbrev pub invariant-loop-pattern : goal.invariant-loop-pattern

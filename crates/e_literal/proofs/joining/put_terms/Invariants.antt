@@ -1,6 +1,6 @@
 use Rattle.std.proofs.Common.{◌≡◌, drop}
 use Rattle.std.specs.List.{fold}
-use Rattle.e_literal.specs.NormalForm.{put_term}
+use Rattle.e_literal.specs.inner.Joining.{put_term}
 use Rattle.e_literal.proofs.joining.put_terms.Given as goal
 
 abbrev pub invariant-loop-m : goal.invariant-loop-m

@@ -1,7 +1,7 @@
 use Rattle.std.proofs.Common.{◌≡◌, sym, subst, true}
 use Rattle.std.proofs.lemmas.Result.{err_from_is_err_and}
 use Rattle.e_clause.specs.Certify.{certify_all}
-use Rattle.e_clause.specs.Judged.{are_good}
+use Rattle.e_clause.specs.Judged.{are_well_formed_in}
 use Rattle.e_theorem.specs.Statements.{stated}
 use Rattle.e_prove.specs.inner.StopsOfSteps.{StepStopsAmong}
 use Rattle.e_prove.proofs.Applications.{room_for, needs_there}
@@ -23,7 +23,7 @@ pub licences-requires : goal.licences-requires
 licences-requires c =
     let x = c.args.context.now in
     let all = needs_there (stated c.args.statement.now) x.scope c.scope.result c.args.args c.items.result.now c.in-Ok.field-0.needs c.items-in-Ok.result.now c.items.ensures c.scope.ensures c.in-Ok.ensures.needs c.items-in-Ok.ensures in
-    subst (λ ls. are_good x.scope ls ≡ true) (sym all) c.requires.needs
+    subst (λ ls. are_well_formed_in x.scope ls ≡ true) (sym all) c.requires.needs
 
 pub returns-in_err-certs-in-Ok-clause-err : goal.returns-in_err-certs-in-Ok-clause-err
 returns-in_err-certs-in-Ok-clause-err c =

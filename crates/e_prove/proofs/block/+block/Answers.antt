@@ -3,7 +3,7 @@ use Rattle.e_literal.specs.Literal.{negation}
 use Rattle.e_literal.specs.Facts.{joined}
 use Rattle.e_clause.specs.declared.cert.Cert.{Cert}
 use Rattle.e_clause.specs.Certify.{certify_all}
-use Rattle.e_clause.specs.Judged.{are_good, are_good_facts}
+use Rattle.e_clause.specs.Judged.{are_well_formed_in, are_limited_facts}
 use Rattle.e_theorem.specs.Statements.{stated, all_stated}
 use Rattle.e_deriv.specs.declared.block.Close.TheViews.{the_lemmas}
 use Rattle.e_deriv.specs.declared.block.Step.TheVariants.{Cite, Hence, Make, Apply}
@@ -115,7 +115,7 @@ prove_close-qed-answered-requires-clause-lits t c =
     let x = c.args.state.now in
     let goal = goal_view c.args.goal.now in
     let fit = qed_fits (all_stated c.args.before.now) c.in-Qed.objects c.in-Qed.certs x goal (subst (λ close. IsReadyFor (all_stated c.args.before.now) (close_script close) x goal) c.in-Qed.is c.requires.ready) in
-    subst (λ os. are_good x.context.scope (goal_with goal os) ≡ true) (sym c.items.ensures) fit.lits
+    subst (λ os. are_well_formed_in x.context.scope (goal_with goal os) ≡ true) (sym c.items.ensures) fit.lits
 
 pub prove_close-close_with_number-requires : goal.prove_close-close_with_number-requires
 prove_close-close_with_number-requires t c = let one = at_least (close_script c.args.close.now) in omega (arith, one, c.requires.few)
@@ -129,7 +129,7 @@ prove_close-assume-requires t c =
     let goal = goal_view c.args.goal.now in
     let parts = split_parts (all_stated c.args.before.now) c.args.close.now c.in-Cases.lit c.in-Cases.first c.in-Cases.second x goal c.in-Cases.is c.requires.ready in
     let good = block_facts (all_stated c.args.before.now) (script_of c.in-Cases.first.value) (after_literal c.in-Cases.lit x) goal parts.one in
-    subst (λ y. are_good_facts y.context.scope (joined y.context.facts c.in-Cases.lit) ≡ true) (sym c.in_ok-outer-in-Cases.ensures.held) good
+    subst (λ y. are_limited_facts y.context.scope (joined y.context.facts c.in-Cases.lit) ≡ true) (sym c.in_ok-outer-in-Cases.ensures.held) good
 
 pub prove_close-overflow_add-number : goal.prove_close-overflow_add-number
 prove_close-overflow_add-number t c = let one = at_least (close_script c.args.close.now) in omega (arith, one, c.requires.few)
@@ -188,7 +188,7 @@ prove_close-assume_not-requires t c =
     left_is c.in_ok-outer-in-Cases.outer x c.prove_block.new.state c.release.new.self c.in_ok-outer-in-Cases.ensures.names
     (c.in-Ok.ensures.kept ∙ ap (λ w. w.context.held) entered) c.release.ensures
     in
-    subst (λ y. are_good_facts y.context.scope (joined y.context.facts (negation lit)) ≡ true) (sym back) (block_facts (all_stated c.args.before.now) (script_of c.in-Cases.second.value) (after_literal (negation lit) x) goal other)
+    subst (λ y. are_limited_facts y.context.scope (joined y.context.facts (negation lit)) ≡ true) (sym back) (block_facts (all_stated c.args.before.now) (script_of c.in-Cases.second.value) (after_literal (negation lit) x) goal other)
 
 pub prove_close-prove_block-requires-in-Cases : goal.prove_close-prove_block-requires-in-Cases
 prove_close-prove_block-requires-in-Cases t c =
@@ -565,7 +565,7 @@ prove_superposed-superpose-requires-clause-needs t c =
     let h = c.args.superposition.now in
     let x = c.args.state.now in
     let parts = superposed_begins (all_stated c.args.before.now) h.form.now h.names.now h.shown.now c.requires.0 (script_of c.args.inner.now) x c.args.number c.requires.1 in
-    subst (λ z. are_good z.context.scope (superposing.needs h.form.now) ≡ true) (sym c.in_ok-outer.ensures.held) parts.needs
+    subst (λ z. are_well_formed_in z.context.scope (superposing.needs_of_superposition h.form.now) ≡ true) (sym c.in_ok-outer.ensures.held) parts.needs
 
 pub prove_superposed-superpose-requires-clause-after : goal.prove_superposed-superpose-requires-clause-after
 prove_superposed-superpose-requires-clause-after t c =
@@ -575,7 +575,7 @@ prove_superposed-superpose-requires-clause-after t c =
     let inner = script_of c.args.inner.now in
     let parts = superposed_begins before h.form.now h.names.now h.shown.now c.requires.0 inner x c.args.number c.requires.1 in
     let good = block_facts before inner (after_superposed h.form.now h.names.now x) (goal_of h.shown.now) parts.block in
-    subst (λ z. let after = after_superposed h.form.now h.names.now z in are_good_facts after.context.scope after.context.facts ≡ true) (sym c.in_ok-outer.ensures.held) good
+    subst (λ z. let after = after_superposed h.form.now h.names.now z in are_limited_facts after.context.scope after.context.facts ≡ true) (sym c.in_ok-outer.ensures.held) good
 
 pub prove_superposed-returns-in-Err-clause-err : goal.prove_superposed-returns-in-Err-clause-err
 prove_superposed-returns-in-Err-clause-err t c =
@@ -584,7 +584,7 @@ prove_superposed-returns-in-Err-clause-err t c =
     let s = c.in-Err.step_stop in
     let hs = x.context.held ++ state_of x.context ∷ [] in
     superposed_is_refused (all_stated c.args.before.now) h.form.now h.names.now h.shown.now (script_of c.args.inner.now) x c.superpose.new.state c.args.number s c.stop_at.result
-    (step_stops_outside hs x c.hold.new.self (superposing.needs h.form.now) s c.in_ok-outer.ensures.held c.in-Err.ensures.err)
+    (step_stops_outside hs x c.hold.new.self (superposing.needs_of_superposition h.form.now) s c.in_ok-outer.ensures.held c.in-Err.ensures.err)
     (names_outside hs x c.hold.new.self c.superpose.new.state s c.in_ok-outer.ensures.held c.in-Err.ensures.kept) c.stop_at.ensures
 
 pub prove_superposed-overflow_add-number : goal.prove_superposed-overflow_add-number
@@ -634,7 +634,7 @@ prove_superposed-returns-in-Ok-prove_block-clause-ok t c =
     let x = c.args.state.now in
     let inner = script_of c.args.inner.now in
     let hs = x.context.held ++ state_of x.context ∷ [] in
-    let certified = subst (λ z. certify_all z.context.scope z.context.facts (superposing.needs h.form.now) c.in-Ok.certs.items ≡ true) c.in_ok-outer.ensures.held c.in-Ok.ensures.certs in
+    let certified = subst (λ z. certify_all z.context.scope z.context.facts (superposing.needs_of_superposition h.form.now) c.in-Ok.certs.items ≡ true) c.in_ok-outer.ensures.held c.in-Ok.ensures.certs in
     let begun = c.in-Ok.ensures.after ∙ ap (after_superposed h.form.now h.names.now) c.in_ok-outer.ensures.held in
     let derived = derived_outside before inner (after_superposed h.form.now h.names.now x) c.superpose.new.state (goal_of h.shown.now) (script_of c.in-Ok-prove_block.proved.block) hs begun c.in-Ok-prove_block.ensures.derived in
     superposed_is_passed before h.form.now h.names.now h.shown.now c.in-Ok.certs.items inner x c.prove_block.new.state c.superposed.new.state c.args.number c.in_ok-outer.outer c.in-Ok-prove_block.proved c.superposed.result
@@ -648,7 +648,7 @@ prove_superposed-returns-in-Err-prove_block-clause-err t c =
     let x = c.args.state.now in
     let inner = script_of c.args.inner.now in
     let hs = x.context.held ++ state_of x.context ∷ [] in
-    let certified = subst (λ z. certify_all z.context.scope z.context.facts (superposing.needs h.form.now) c.in-Ok.certs.items ≡ true) c.in_ok-outer.ensures.held c.in-Ok.ensures.certs in
+    let certified = subst (λ z. certify_all z.context.scope z.context.facts (superposing.needs_of_superposition h.form.now) c.in-Ok.certs.items ≡ true) c.in_ok-outer.ensures.held c.in-Ok.ensures.certs in
     let begun = c.in-Ok.ensures.after ∙ ap (after_superposed h.form.now h.names.now) c.in_ok-outer.ensures.held in
     superposed_is_stopped before h.form.now h.names.now h.shown.now c.in-Ok.certs.items inner x c.args.number c.in-Err-prove_block.stop (superposed_begins before h.form.now h.names.now h.shown.now c.requires.0 inner x c.args.number c.requires.1)
     (certified, c.in-Ok.ensures.written)

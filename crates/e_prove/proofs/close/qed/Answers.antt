@@ -2,7 +2,7 @@ use Rattle.std.proofs.Common.{◌≡◌, sym, ◌∙◌, subst, true}
 use Rattle.std.proofs.lemmas.Result.{err_from_is_err_and}
 use Rattle.std.specs.Prelude.{IsTrue}
 use Rattle.e_clause.specs.Certify.{certify_all}
-use Rattle.e_clause.specs.Judged.{are_good}
+use Rattle.e_clause.specs.Judged.{are_well_formed_in}
 use Rattle.e_prove.specs.inner.StepStates.{goal_view}
 use Rattle.e_deriv.proofs.Sorts.{sorts_agree}
 use Rattle.e_prove.proofs.Closes.{closed_qed, qed_stops}
@@ -12,7 +12,7 @@ pub goal_with-requires : goal.goal_with-requires
 goal_with-requires c = record { one_sort = sorts_agree c.args.context.now.scope _ c.args.objects.now c.requires.form }
 
 pub licences-requires : goal.licences-requires
-licences-requires c = subst (λ ls. are_good c.args.context.now.scope ls ≡ true) (sym (c.deref.ensures.value ∙ c.in_ok-wanted.ensures)) c.requires.lits
+licences-requires c = subst (λ ls. are_well_formed_in c.args.context.now.scope ls ≡ true) (sym (c.deref.ensures.value ∙ c.in_ok-wanted.ensures)) c.requires.lits
 
 pub returns-in_err-certs-clause-err : goal.returns-in_err-certs-clause-err
 returns-in_err-certs-clause-err c =

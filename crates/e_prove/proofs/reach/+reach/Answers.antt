@@ -1,6 +1,6 @@
 use Rattle.std.proofs.Common.{◌≡◌, ◌+◌, ◌++◌, ◌∷◌, [], rules, arith, refl, sym, ap, ◌∙◌, subst, true}
 use Rattle.e_literal.specs.Literal.{negation}
-use Rattle.e_clause.specs.Judged.{are_good_facts}
+use Rattle.e_clause.specs.Judged.{are_limited_facts}
 use Rattle.e_theorem.specs.Statements.{all_stated}
 use Rattle.e_deriv.specs.declared.block.Close.TheViews.{the_lemmas}
 use Rattle.e_deriv.specs.Script.{script_of, step_script, close_script, size}
@@ -239,7 +239,7 @@ enter_step-superpose-requires-clause-after t c =
     let y = c.in-Superposed in
     let parts = superposed_parts (all_stated c.args.before.now) y.form y.names y.shown y.certs y.inner x c.args.number (subst (λ s. IsReadyStep (all_stated c.args.before.now) s x c.args.number) y.is c.requires.ready) in
     let good = block_facts (all_stated c.args.before.now) (script_of y.inner.value) (after_superposed y.form y.names x) (goal_of y.shown) parts.block in
-    subst (λ ns. let after = after_superposed y.form ns x in are_good_facts after.context.scope after.context.facts ≡ true) (sym c.items-in-Superposed.ensures) good
+    subst (λ ns. let after = after_superposed y.form ns x in are_limited_facts after.context.scope after.context.facts ≡ true) (sym c.items-in-Superposed.ensures) good
 
 pub enter_step-returns-in-Err-clause-err : goal.enter_step-returns-in-Err-clause-err
 enter_step-returns-in-Err-clause-err t c =

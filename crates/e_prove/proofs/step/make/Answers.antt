@@ -3,7 +3,7 @@ use Rattle.std.specs.Prelude.{IsTrue}
 use Rattle.e_literal.specs.declared.object.Scope.{Scope}
 use Rattle.e_literal.specs.Scopes.{grown}
 use Rattle.e_clause.specs.Certify.{certify_all}
-use Rattle.e_construct.specs.Construct.{gives}
+use Rattle.e_construct.specs.Construct.{gives_of_construction}
 use Rattle.e_construct.proofs.Sizes.{few_made}
 use Rattle.e_licence.specs.Contexts.{Basis}
 use Rattle.e_prove.proofs.StepStates.{made_after, good_given}
@@ -53,7 +53,7 @@ join-requires c =
     let sorts = c.made.result.now in
     let same = c.in_ok-certs.ensures.kept in
     good_given form c.args.state.now.context c.grow.new.self.context sorts c.in_ok-given.given.items c.made.ensures
-    (c.in_ok-given.ensures ∙ ap (gives form) (c.scope.ensures ∙ ap (λ (b : Basis). b.scope) same))
+    (c.in_ok-given.ensures ∙ ap (gives_of_construction form) (c.scope.ensures ∙ ap (λ (b : Basis). b.scope) same))
     (c.in_ok-grow.ensures.scope ∙ ap (λ (b : Basis). record b { scope = grown b.scope sorts }) same) c.requires.after
 
 pub returns-clause-ok : goal.returns-clause-ok
@@ -67,5 +67,5 @@ returns-clause-ok c before written =
     c.in_ok-derived.ensures (c.new.ensures ∙ c.in_ok-copied.ensures.items) c.new-2.ensures c.in_ok-needs.ensures
     (subst (λ ls. IsTrue (certify_all x.context.scope x.context.facts ls certs)) c.deref.ensures.value c.in_ok-certs.ensures.ok) c.in_ok-certs.ensures.written
     (made_after form c.args.names.now x c.grow.new.self c.join.new.self sorts c.in_ok-given.given.items c.made.ensures
-    (c.in_ok-given.ensures ∙ ap (gives form) (c.scope.ensures ∙ ap (λ (b : Basis). b.scope) same))
+    (c.in_ok-given.ensures ∙ ap (gives_of_construction form) (c.scope.ensures ∙ ap (λ (b : Basis). b.scope) same))
     (c.in_ok-grow.ensures.scope ∙ ap (λ (b : Basis). record b { scope = grown b.scope sorts }) same) c.in_ok-grow.ensures.names c.in_ok-join.ensures)

@@ -39,7 +39,7 @@ join-requires c =
     let sorts = c.made.result.now in
     let same = c.in_ok-certs.ensures.kept in
     good_superposed form c.args.state.now.context c.grow.new.self.context sorts c.in_ok-given.given.items c.made.ensures
-    (c.in_ok-given.ensures ∙ ap (superposing.gives form) (c.scope.ensures ∙ ap (λ (b : Basis). b.scope) same))
+    (c.in_ok-given.ensures ∙ ap (superposing.gives_of_superposition form) (c.scope.ensures ∙ ap (λ (b : Basis). b.scope) same))
     (c.in_ok-grow.ensures.scope ∙ ap (λ (b : Basis). record b { scope = grown b.scope sorts }) same) c.requires.after
 
 pub returns-clause-after : goal.returns-clause-after
@@ -48,5 +48,5 @@ returns-clause-after c =
     let sorts = c.made.result.now in
     let same = c.in_ok-certs.ensures.kept in
     superposed_after form c.args.names.now c.args.state.now c.grow.new.self c.join.new.self sorts c.in_ok-given.given.items c.made.ensures
-    (c.in_ok-given.ensures ∙ ap (superposing.gives form) (c.scope.ensures ∙ ap (λ (b : Basis). b.scope) same))
+    (c.in_ok-given.ensures ∙ ap (superposing.gives_of_superposition form) (c.scope.ensures ∙ ap (λ (b : Basis). b.scope) same))
     (c.in_ok-grow.ensures.scope ∙ ap (λ (b : Basis). record b { scope = grown b.scope sorts }) same) c.in_ok-grow.ensures.names c.in_ok-join.ensures

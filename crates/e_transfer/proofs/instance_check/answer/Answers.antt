@@ -1,7 +1,7 @@
 use Rattle.std.proofs.Common.{ap, subst}
 use Rattle.std.specs.Prelude.{option_copied}
 use Rattle.e_literal.proofs.Booleans.{and_left}
-use Rattle.e_clause.specs.Judged.{are_good, are_few}
+use Rattle.e_clause.specs.Judged.{are_well_formed_in, are_few}
 use Rattle.e_metric.specs.Fronts.{AreFronts}
 use Rattle.e_transfer.proofs.Needs.{facts_well}
 use Rattle.e_transfer.proofs.instance_check.answer.Goals as goal
@@ -12,9 +12,9 @@ follows-requires-clause-fronts c = subst (λ fs. AreFronts fs c.metric_facts.res
 pub follows-requires-clause-facts : goal.follows-requires-clause-facts
 follows-requires-clause-facts c =
     let s = c.args.query.now in
-    facts_well s.scope s.facts.now (and_left (are_good s.scope s.facts.now) (are_few s.facts.now) s.good)
+    facts_well s.scope s.facts.now (and_left (are_well_formed_in s.scope s.facts.now) (are_few s.facts.now) s.good)
 
 pub follows-requires-in-None-clause-facts : goal.follows-requires-in-None-clause-facts
 follows-requires-in-None-clause-facts c =
     let s = c.args.query.now in
-    facts_well s.scope s.facts.now (and_left (are_good s.scope s.facts.now) (are_few s.facts.now) s.good)
+    facts_well s.scope s.facts.now (and_left (are_well_formed_in s.scope s.facts.now) (are_few s.facts.now) s.good)

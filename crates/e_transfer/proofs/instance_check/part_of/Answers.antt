@@ -3,7 +3,7 @@ use Rattle.std.specs.Prelude.{is_some, Some}
 use Rattle.std.proofs.lemmas.Bool.{and_from}
 use Rattle.e_literal.specs.Facts.{is_metric}
 use Rattle.e_literal.proofs.Booleans.{and_left}
-use Rattle.e_clause.specs.Judged.{are_good, are_few}
+use Rattle.e_clause.specs.Judged.{are_well_formed_in, are_few}
 use Rattle.e_clause.specs.MetricCertificate.{sums_refute}
 use Rattle.e_transfer.proofs.Needs.{facts_over, answer_yes}
 use Rattle.e_transfer.proofs.ModelValues.{insufficient}
@@ -16,7 +16,7 @@ returns-in-Yes c =
     let yes = answer_yes s.facts.now need _ c.in-Yes.cert c.in-Yes.is c.in_ok-cert.ensures.answer in
     record {
       certifies = and_from (is_metric need) (sums_refute s.facts.now (Some need) c.in-Yes.cert.sums) (ap is_some (sym c.kind.ensures) ∙ c.if-is_none.ensures) yes.refutes;
-      over = yes.scoped s.scope (facts_over s.scope s.facts.now (and_left (are_good s.scope s.facts.now) (are_few s.facts.now) s.good)) c.requires.in_scope;
+      over = yes.scoped s.scope (facts_over s.scope s.facts.now (and_left (are_well_formed_in s.scope s.facts.now) (are_few s.facts.now) s.good)) c.requires.in_scope;
       written = yes.written;
     }
 

@@ -210,7 +210,7 @@ build_step-build_block-requires-in-Superposed t c = (
   omega (arith, c.decreases, superposed_falls c.args.step.now c.in-Superposed.form c.in-Superposed.names c.in-Superposed.shown c.in-Superposed.certs c.in-Superposed.inner c.deref-in-Superposed.result.now c.in-Superposed.is c.deref-in-Superposed.ensures),
   (
     subst (λ x. AreSmall (all_stated c.args.before.now) (script_of c.deref-in-Superposed.result.now) x) (sym (c.grown.ensures ∙ ap (grown c.args.scope) c.made-copies.ensures))
-        (subst (λ b. AreSmall (all_stated c.args.before.now) (script_of b) (grown c.args.scope superposing.made)) (sym c.deref-in-Superposed.ensures)
+        (subst (λ b. AreSmall (all_stated c.args.before.now) (script_of b) (grown c.args.scope superposing.sorts_copied)) (sym c.deref-in-Superposed.ensures)
         (small_superposed (all_stated c.args.before.now) c.in-Superposed.form c.in-Superposed.names c.in-Superposed.shown c.in-Superposed.certs c.in-Superposed.inner c.args.scope (subst (λ st. IsSmallStep (all_stated c.args.before.now) st c.args.scope) c.in-Superposed.is c.requires.scopes))),
     (c.requires.statements, more_few c.args.scope c.grown.result c.made-copies.result.now c.args.kept.now c.deref-in-Superposed-2.result.now c.grown.ensures (c.deref-in-Superposed-2.ensures.value ∙ c.in_ok-inside-in-Superposed.ensures) c.requires.few),
   ),
@@ -224,4 +224,4 @@ build_step-returns-in_ok-names-in-Superposed t c =
     superposed_built (all_stated c.args.before.now) c.args.kept.now wide c.args.step.now c.in-Superposed.form c.new_superpose.result c.in-Superposed.names c.in_ok-names-in-Superposed.names c.in-Superposed.shown c.in_ok-shown-in-Superposed.shown c.in-Superposed.certs c.in_ok-certs-in-Superposed.certs c.in-Superposed.inner c.in_ok-inner-in-Superposed-2.inner c.args.scope pile left c.in-Superposed.is
     (c.deref-in-Superposed-2.ensures.value ∙ c.in_ok-inside-in-Superposed.ensures ∙ ap (λ xs. c.args.kept.now ++ next_objects c.args.scope xs) c.made-copies.ensures) c.new_superpose.ensures (c.in_ok-names-in-Superposed.ensures ∙ c.items-in-Superposed-3.ensures)
     (c.in_ok-shown-in-Superposed.ensures ∙ ap (map (lit_at c.args.kept.now)) c.items-in-Superposed.ensures) (c.in_ok-certs-in-Superposed.ensures ∙ ap (map (cert_at c.args.kept.now)) c.items-in-Superposed-2.ensures)
-    (boxed (all_stated c.args.before.now) wide c.deref-in-Superposed.result.now c.in-Superposed.inner c.in_ok-inner-in-Superposed-2.inner c.in_ok-inner-in-Superposed.inner (grown c.args.scope superposing.made) c.grown.result pile left c.deref-in-Superposed.ensures c.in_ok-inner-in-Superposed-2.ensures.ok (c.grown.ensures ∙ ap (grown c.args.scope) c.made-copies.ensures) c.in_ok-inner-in-Superposed.ensures)
+    (boxed (all_stated c.args.before.now) wide c.deref-in-Superposed.result.now c.in-Superposed.inner c.in_ok-inner-in-Superposed-2.inner c.in_ok-inner-in-Superposed.inner (grown c.args.scope superposing.sorts_copied) c.grown.result pile left c.deref-in-Superposed.ensures c.in_ok-inner-in-Superposed-2.ensures.ok (c.grown.ensures ∙ ap (grown c.args.scope) c.made-copies.ensures) c.in_ok-inner-in-Superposed.ensures)

@@ -134,9 +134,9 @@ look_at_step-look_inside-requires-in-Superposed t c = (
       few_copies c.made-made.result.now c.made-made.ensures,
       (
         subst (λ xs. IsReady (all_stated c.args.before.now) (script_of c.deref-in-Superposed.result.now) (grown c.args.standing.now.scope xs) (joined_all c.args.standing.now.facts c.deref-in-Superposed-2.result.now) (goal_of c.items-in-Superposed.result.now)) (sym c.made-made.ensures)
-            (subst (λ fs. IsReady (all_stated c.args.before.now) (script_of c.deref-in-Superposed.result.now) (grown c.args.standing.now.scope superposing.made) (joined_all c.args.standing.now.facts fs) (goal_of c.items-in-Superposed.result.now)) (sym (c.deref-in-Superposed-2.ensures.value ∙ c.in_ok-given-in-Superposed.ensures))
-            (subst (λ ls. IsReady (all_stated c.args.before.now) (script_of c.deref-in-Superposed.result.now) (grown c.args.standing.now.scope superposing.made) (joined_all c.args.standing.now.facts (superposing.gives c.in-Superposed.form c.args.standing.now.scope)) (goal_of ls)) (sym c.items-in-Superposed.ensures)
-            (subst (λ b. IsReady (all_stated c.args.before.now) (script_of b) (grown c.args.standing.now.scope superposing.made) (joined_all c.args.standing.now.facts (superposing.gives c.in-Superposed.form c.args.standing.now.scope)) (goal_of c.in-Superposed.shown)) (sym c.deref-in-Superposed.ensures)
+            (subst (λ fs. IsReady (all_stated c.args.before.now) (script_of c.deref-in-Superposed.result.now) (grown c.args.standing.now.scope superposing.sorts_copied) (joined_all c.args.standing.now.facts fs) (goal_of c.items-in-Superposed.result.now)) (sym (c.deref-in-Superposed-2.ensures.value ∙ c.in_ok-given-in-Superposed.ensures))
+            (subst (λ ls. IsReady (all_stated c.args.before.now) (script_of c.deref-in-Superposed.result.now) (grown c.args.standing.now.scope superposing.sorts_copied) (joined_all c.args.standing.now.facts (superposing.gives_of_superposition c.in-Superposed.form c.args.standing.now.scope)) (goal_of ls)) (sym c.items-in-Superposed.ensures)
+            (subst (λ b. IsReady (all_stated c.args.before.now) (script_of b) (grown c.args.standing.now.scope superposing.sorts_copied) (joined_all c.args.standing.now.facts (superposing.gives_of_superposition c.in-Superposed.form c.args.standing.now.scope)) (goal_of c.in-Superposed.shown)) (sym c.deref-in-Superposed.ensures)
             (superposed_ready (all_stated c.args.before.now) c.in-Superposed.form c.in-Superposed.names c.in-Superposed.shown c.in-Superposed.certs c.in-Superposed.inner c.args.standing.now (subst (λ st. IsReadyStep (all_stated c.args.before.now) st c.args.standing.now) c.in-Superposed.is c.requires.ready))))),
         c.requires.statements,
       ),
@@ -148,8 +148,8 @@ pub look_at_step-returns-in_ok-inside-in-Superposed-clause-wanted : goal.look_at
 look_at_step-returns-in_ok-inside-in-Superposed-clause-wanted t c =
     let inside = c.in_ok-inside-in-Superposed.ensures.wanted ∙ ap (λ b. outside c.args.standing.now.scope c.args.standing.now.facts (wants (all_stated c.args.before.now) (script_of b) (grown c.args.standing.now.scope c.made-made.result.now) (joined_all c.args.standing.now.facts c.deref-in-Superposed-2.result.now) (goal_of c.items-in-Superposed.result.now))) c.deref-in-Superposed.ensures
     ∙ ap (λ xs. outside c.args.standing.now.scope c.args.standing.now.facts (wants (all_stated c.args.before.now) (script_of c.in-Superposed.inner.value) (grown c.args.standing.now.scope xs) (joined_all c.args.standing.now.facts c.deref-in-Superposed-2.result.now) (goal_of c.items-in-Superposed.result.now))) c.made-made.ensures
-    ∙ ap (λ fs. outside c.args.standing.now.scope c.args.standing.now.facts (wants (all_stated c.args.before.now) (script_of c.in-Superposed.inner.value) (grown c.args.standing.now.scope superposing.made) (joined_all c.args.standing.now.facts fs) (goal_of c.items-in-Superposed.result.now))) (c.deref-in-Superposed-2.ensures.value ∙ c.in_ok-given-in-Superposed.ensures)
-    ∙ ap (λ ls. outside c.args.standing.now.scope c.args.standing.now.facts (wants (all_stated c.args.before.now) (script_of c.in-Superposed.inner.value) (grown c.args.standing.now.scope superposing.made) (joined_all c.args.standing.now.facts (superposing.gives c.in-Superposed.form c.args.standing.now.scope)) (goal_of ls))) c.items-in-Superposed.ensures in
+    ∙ ap (λ fs. outside c.args.standing.now.scope c.args.standing.now.facts (wants (all_stated c.args.before.now) (script_of c.in-Superposed.inner.value) (grown c.args.standing.now.scope superposing.sorts_copied) (joined_all c.args.standing.now.facts fs) (goal_of c.items-in-Superposed.result.now))) (c.deref-in-Superposed-2.ensures.value ∙ c.in_ok-given-in-Superposed.ensures)
+    ∙ ap (λ ls. outside c.args.standing.now.scope c.args.standing.now.facts (wants (all_stated c.args.before.now) (script_of c.in-Superposed.inner.value) (grown c.args.standing.now.scope superposing.sorts_copied) (joined_all c.args.standing.now.facts (superposing.gives_of_superposition c.in-Superposed.form c.args.standing.now.scope)) (goal_of ls))) c.items-in-Superposed.ensures in
     and_so c.append-in-Superposed.result
     (λ h. inside_wants (all_stated c.args.before.now) c.args.step.now c.args.standing.now c.args.out.now c.look_step.new.out c.in_ok-inside-in-Superposed.inside c.append-in-Superposed.new.self c.in_ok-look_step.ensures
     (λ rest. (superposed_inside (all_stated c.args.before.now) c.args.step.now c.in-Superposed.form c.in-Superposed.names c.in-Superposed.shown c.in-Superposed.certs c.in-Superposed.inner c.args.standing.now rest c.in-Superposed.is).0 ∙ sym inside) h) c.append-in-Superposed.ensures
@@ -158,10 +158,10 @@ pub look_at_step-returns-in_ok-inside-in-Superposed-clause-flags : goal.look_at_
 look_at_step-returns-in_ok-inside-in-Superposed-clause-flags t c =
     let inside = c.in_ok-inside-in-Superposed.ensures.flags ∙ ap (λ b. c.args.flags.now.items ++ flags_of (all_stated c.args.before.now) (script_of b) (grown c.args.standing.now.scope c.made-made.result.now) (joined_all c.args.standing.now.facts c.deref-in-Superposed-2.result.now) (goal_of c.items-in-Superposed.result.now)) c.deref-in-Superposed.ensures
     ∙ ap (λ xs. c.args.flags.now.items ++ flags_of (all_stated c.args.before.now) (script_of c.in-Superposed.inner.value) (grown c.args.standing.now.scope xs) (joined_all c.args.standing.now.facts c.deref-in-Superposed-2.result.now) (goal_of c.items-in-Superposed.result.now)) c.made-made.ensures
-    ∙ ap (λ fs. c.args.flags.now.items ++ flags_of (all_stated c.args.before.now) (script_of c.in-Superposed.inner.value) (grown c.args.standing.now.scope superposing.made) (joined_all c.args.standing.now.facts fs) (goal_of c.items-in-Superposed.result.now)) (c.deref-in-Superposed-2.ensures.value ∙ c.in_ok-given-in-Superposed.ensures)
-    ∙ ap (λ ls. c.args.flags.now.items ++ flags_of (all_stated c.args.before.now) (script_of c.in-Superposed.inner.value) (grown c.args.standing.now.scope superposing.made) (joined_all c.args.standing.now.facts (superposing.gives c.in-Superposed.form c.args.standing.now.scope)) (goal_of ls)) c.items-in-Superposed.ensures in
+    ∙ ap (λ fs. c.args.flags.now.items ++ flags_of (all_stated c.args.before.now) (script_of c.in-Superposed.inner.value) (grown c.args.standing.now.scope superposing.sorts_copied) (joined_all c.args.standing.now.facts fs) (goal_of c.items-in-Superposed.result.now)) (c.deref-in-Superposed-2.ensures.value ∙ c.in_ok-given-in-Superposed.ensures)
+    ∙ ap (λ ls. c.args.flags.now.items ++ flags_of (all_stated c.args.before.now) (script_of c.in-Superposed.inner.value) (grown c.args.standing.now.scope superposing.sorts_copied) (joined_all c.args.standing.now.facts (superposing.gives_of_superposition c.in-Superposed.form c.args.standing.now.scope)) (goal_of ls)) c.items-in-Superposed.ensures in
     on_ok c.append-in-Superposed.result
-    (inside_flags (all_stated c.args.before.now) c.args.step.now c.args.standing.now c.args.flags.now.items (flags_of (all_stated c.args.before.now) (script_of c.in-Superposed.inner.value) (grown c.args.standing.now.scope superposing.made) (joined_all c.args.standing.now.facts (superposing.gives c.in-Superposed.form c.args.standing.now.scope)) (goal_of c.in-Superposed.shown)) c.look_inside-in-Superposed.new.flags.items
+    (inside_flags (all_stated c.args.before.now) c.args.step.now c.args.standing.now c.args.flags.now.items (flags_of (all_stated c.args.before.now) (script_of c.in-Superposed.inner.value) (grown c.args.standing.now.scope superposing.sorts_copied) (joined_all c.args.standing.now.facts (superposing.gives_of_superposition c.in-Superposed.form c.args.standing.now.scope)) (goal_of c.in-Superposed.shown)) c.look_inside-in-Superposed.new.flags.items
     (λ rest. (superposed_inside (all_stated c.args.before.now) c.args.step.now c.in-Superposed.form c.in-Superposed.names c.in-Superposed.shown c.in-Superposed.certs c.in-Superposed.inner c.args.standing.now rest c.in-Superposed.is).1) inside)
 
 pub look_at_step-returns-in-Cite-clause-wanted : goal.look_at_step-returns-in-Cite-clause-wanted

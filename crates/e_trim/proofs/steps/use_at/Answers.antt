@@ -1,6 +1,6 @@
 use Rattle.std.proofs.Common.{sym, ap, ◌∙◌, subst, true≢false}
 use Rattle.e_literal.specs.Use.{are_arguments, needs_of_use, gives_of_use}
-use Rattle.e_theorem.specs.Faults.{FaultIs}
+use Rattle.e_theorem.specs.Faults.{UseFaultIs}
 use Rattle.e_theorem.specs.Statements.{stated}
 use Rattle.e_deriv.specs.Parts.{written}
 use Rattle.e_trim.proofs.StepParts.{use_room, theorem_there}
@@ -34,6 +34,6 @@ pub unreachable-requires-in-Err-BadArgs : goal.unreachable-requires-in-Err-BadAr
 unreachable-requires-in-Err-BadArgs c =
     let t = stated c.in-Some.statement.now in
     let there = theorem_there c.args.before.now c.args.theorem c.in-Some.statement.now c.in-Some.ensures.lookup.3.0 c.in-Some.ensures.lookup.1 in
-    let no = subst (FaultIs t c.deref.result.now c.args.scope) c.in-Err-BadArgs.field-0-is c.in-Err-BadArgs.ensures.err in
+    let no = subst (UseFaultIs t c.deref.result.now c.args.scope) c.in-Err-BadArgs.field-0-is c.in-Err-BadArgs.ensures.err in
     let yes = ap (λ os. are_arguments t c.args.scope os) (c.deref.ensures.value ∙ c.in_ok-objects.ensures) ∙ ap (λ u. are_arguments u c.args.scope (written c.args.args.now)) (sym there) ∙ c.requires.fits.fit in
     true≢false (sym yes ∙ no)

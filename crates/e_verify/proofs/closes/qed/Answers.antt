@@ -13,7 +13,7 @@ if_ok (Ok b) x h f = f b h
 if_ok (Err e) x h f = h
 
 pub goal_with-requires : goal.goal_with-requires
-goal_with-requires c = record { one_sort = sorts_agree c.args.state.now.scope _ c.args.objects.now (sym c.are_of_sorts.ensures ∙ c.if-not-are_of_sorts.false) }
+goal_with-requires c = record { one_sort = sorts_agree c.args.state.now.scope _ c.args.objects.now (sym c.have_sorts_of.ensures ∙ c.if-not-have_sorts_of.false) }
 
 pub certify_all-requires-clause-lits : goal.certify_all-requires-clause-lits
 certify_all-requires-clause-lits c =
@@ -25,4 +25,4 @@ returns c =
     let g = block_goal c.args.goal.now in
     if_ok c.certify_all.result (certify_all x.scope x.facts c.deref.result.now c.args.certs.now) c.certify_all.ensures
     (λ b e before. e ∙ ap (λ ls. certify_all x.scope x.facts ls c.args.certs.now) (c.deref.ensures.value ∙ c.in_ok-wanted.ensures)
-    ∙ qed_certified c.args.objects.now c.args.certs.now g x (sym c.are_of_sorts.ensures ∙ c.if-not-are_of_sorts.false) before)
+    ∙ qed_certified c.args.objects.now c.args.certs.now g x (sym c.have_sorts_of.ensures ∙ c.if-not-have_sorts_of.false) before)

@@ -4,7 +4,7 @@ use Rattle.e_literal.specs.declared.object.Scope.{Scope}
 use Rattle.e_literal.specs.declared.literal.Lit.{Lit}
 use Rattle.e_literal.specs.Facts.{joined_all}
 use Rattle.e_literal.specs.Scopes.{grown}
-use Rattle.e_construct.specs.Construct.{made}
+use Rattle.e_construct.specs.Construct.{sorts_made}
 use Rattle.e_deriv.specs.declared.block.Step.TheVariants.{Make as MakeStep}
 use Rattle.e_verify.specs.Numbered.{certs_with_places}
 use Rattle.e_verify.specs.declared.step_state.StepState.{StepState}
@@ -40,4 +40,4 @@ returns c before =
     (ap (λ f. MakeStep f c.new-names.result placed) c.in_ok-form.ensures
     ∙ ap (λ ns. MakeStep form ns placed) (c.new-names.ensures ∙ c.in_ok-from_slice.ensures.items)
     ∙ ap (MakeStep form names) (c.in_ok-certs.ensures ∙ ap (λ ls. certs_with_places x.facts ls c.args.certs.now) wanted))
-    (ap (λ (s : Scope). as_state s c.join.new.self) scope ∙ ap (as_state (grown x.scope (made form))) facts)
+    (ap (λ (s : Scope). as_state s c.join.new.self) scope ∙ ap (as_state (grown x.scope (sorts_made form))) facts)

@@ -9,7 +9,7 @@ use Rattle.e_literal.specs.Scopes.{grown}
 use Rattle.e_literal.specs.Use.{are_arguments, needs_of_use, gives_of_use}
 use Rattle.e_literal.specs.WellFormed.{is_well_formed}
 use Rattle.e_clause.specs.Certify.{certify_all}
-use Rattle.e_theorem.specs.Faults.{FaultIs}
+use Rattle.e_theorem.specs.Faults.{UseFaultIs}
 use Rattle.e_theorem.specs.Statements.{stated, all_stated}
 use Rattle.e_deriv.specs.Parts.{has_no_blank, written}
 use Rattle.e_verify.specs.declared.step_state.StepState.{StepState}
@@ -49,7 +49,7 @@ returns-in-Err-BadArgs c names =
     let x = c.args.state.now in
     let w = all_are_written c.in-Some-2.objects.items (written c.args.args.now) (has_no_blank c.args.args.now) (sym (ap (option_map (λ v. v.items)) c.in-Some-2.is) ∙ c.in_ok-objects.ensures) in
     no_arguments (all_stated c.args.before.now) c.args.theorem c.args.args.now names c.args.certs.now t x x (theorem_there c.args.before.now c.args.theorem c.in-Some.statement.now c.in-Some.ensures.lookup.3.0 c.in-Some.ensures.lookup.1)
-    (ap (λ os. are_arguments t x.scope os) (sym (c.deref.ensures.value ∙ w.1)) ∙ subst (FaultIs t c.deref.result.now x.scope) c.in-Err-BadArgs.field-0-is c.in-Err-BadArgs.ensures.err)
+    (ap (λ os. are_arguments t x.scope os) (sym (c.deref.ensures.value ∙ w.1)) ∙ subst (UseFaultIs t c.deref.result.now x.scope) c.in-Err-BadArgs.field-0-is c.in-Err-BadArgs.ensures.err)
 
 pub certify_all-requires-clause-lits : goal.certify_all-requires-clause-lits
 certify_all-requires-clause-lits c =

@@ -3,7 +3,7 @@ use Rattle.std.specs.List.{list_all}
 use Rattle.std.specs.Prelude.{List}
 use Rattle.e_literal.specs.declared.object.Scope.{Scope}
 use Rattle.e_literal.specs.declared.literal.Lit.{Lit}
-use Rattle.e_construct.specs.Construct.{made}
+use Rattle.e_construct.specs.Construct.{sorts_made}
 use Rattle.e_literal.specs.Facts.{joined_all}
 use Rattle.e_literal.specs.Scopes.{grown}
 use Rattle.e_literal.specs.WellFormed.{is_well_formed}
@@ -36,4 +36,4 @@ returns c before names =
     let scope = c.grown-state.ensures ∙ ap (grown x.scope) c.made.ensures in
     checked_make before form names c.args.certs.now x _ (sym c.fits.ensures ∙ c.if-not-fits.false)
     (ap (λ ls. certify_all x.scope x.facts ls c.args.certs.now) (sym (c.deref.ensures.value ∙ c.in_ok-needs.ensures)) ∙ sym c.in_ok-certify_all.ensures ∙ c.if-not-branch.false)
-    (ap (λ (s : Scope). as_state s c.join.new.self) scope ∙ ap (as_state (grown x.scope (made form))) facts)
+    (ap (λ (s : Scope). as_state s c.join.new.self) scope ∙ ap (as_state (grown x.scope (sorts_made form))) facts)

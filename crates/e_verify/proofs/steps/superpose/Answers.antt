@@ -39,4 +39,4 @@ returns-clause-after c t =
     let x = c.args.state.now in
     let facts = c.in_ok-join.ensures ∙ ap (joined_all x.facts) c.in_ok-given.ensures in
     let scope = c.grown-state.ensures ∙ ap (grown x.scope) c.made.ensures in
-    ap (λ (s : Scope). as_state s c.join.new.self) scope ∙ ap (as_state (grown x.scope superposing.made)) facts
+    ap (λ (s : Scope). as_state s c.join.new.self) scope ∙ ap (as_state (grown x.scope superposing.sorts_copied)) facts

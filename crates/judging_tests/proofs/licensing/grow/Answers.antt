@@ -3,7 +3,7 @@ use Rattle.std.proofs.lemmas.List.{length-append}
 use Rattle.e_literal.specs.declared.object.Scope.{Scope}
 use Rattle.e_literal.specs.declared.literal.Lit.{Lit}
 use Rattle.e_literal.specs.Facts.{joined}
-use Rattle.e_clause.specs.Judged.{are_good_facts}
+use Rattle.e_clause.specs.Judged.{are_limited_facts}
 use Rattle.e_licence.specs.Contexts.{Basis, IsWithin, state_of}
 use Rattle.judging_tests.specs.Points.{one_point, equal_points}
 use Rattle.judging_tests.proofs.licensing.grow.Goals as goal
@@ -14,15 +14,15 @@ two_points = record { points = 2; lines = 0; circles = 0 }
 one_in_two : IsWithin one_point two_points
 one_in_two = record { points = omega arith; lines = omega arith; circles = omega arith }
 
-first_fact : are_good_facts two_points (joined [] equal_points) ≡ true
+first_fact : are_limited_facts two_points (joined [] equal_points) ≡ true
 unfolding joined
 first_fact = refl
 
-same_fact : are_good_facts two_points (joined (joined [] equal_points) equal_points) ≡ true
+same_fact : are_limited_facts two_points (joined (joined [] equal_points) equal_points) ≡ true
 unfolding joined
 same_fact = refl
 
-good_at : (b : Basis) (facts : List Lit) (l : Lit) → b.scope ≡ two_points → b.facts ≡ facts → l ≡ equal_points → are_good_facts two_points (joined facts equal_points) ≡ true → are_good_facts b.scope (joined b.facts l) ≡ true
+good_at : (b : Basis) (facts : List Lit) (l : Lit) → b.scope ≡ two_points → b.facts ≡ facts → l ≡ equal_points → are_limited_facts two_points (joined facts equal_points) ≡ true → are_limited_facts b.scope (joined b.facts l) ≡ true
 good_at b facts l s f e h = rw (s, f, e) h
 
 held_of : (b c : Basis) → c ≡ record b { held = b.held ++ state_of b ∷ [] } → 0 < length c.held

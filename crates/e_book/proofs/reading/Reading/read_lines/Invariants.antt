@@ -1,6 +1,6 @@
 use Rattle.std.proofs.Common.{◌≡◌, ◌≤◌, length}
 use Rattle.std.specs.Prelude.{IfSome}
-use Rattle.e_text.specs.Lines.{AreGood}
+use Rattle.e_text.specs.Lines.{HaveNoFault}
 use Rattle.e_book.specs.inner.Machine.{FitsComing}
 use Rattle.e_book.specs.Grammar.{last_line}
 use Rattle.e_book.proofs.ReadingOn.{Alike}
@@ -9,7 +9,7 @@ use Rattle.e_book.proofs.reading.Reading.read_lines.Given as goal
 abbrev pub invariant-loop-line : goal.invariant-loop-line
 invariant-loop-line l = record {
   alike : Alike l.known l.initial.self.coming l.initial.lines.lines l.self.coming l.lines.lines;
-  good : AreGood l.lines.lines → AreGood l.initial.lines.lines;
+  good : HaveNoFault l.lines.lines → HaveNoFault l.initial.lines.lines;
   last : last_line l.lines ≡ last_line l.initial.lines;
   fewer : length l.lines.lines ≤ length l.initial.lines.lines;
   fits : IfSome l.self.coming (FitsComing l.known);

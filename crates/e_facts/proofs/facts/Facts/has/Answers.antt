@@ -1,7 +1,7 @@
 use Rattle.std.proofs.Common.{◌∙◌, ap, sym}
 use Rattle.std.specs.List.{list_any}
 use Rattle.e_literal.specs.Facts.{has}
-use Rattle.e_facts.specs.Key.{same_at}
+use Rattle.e_facts.specs.inner.Key.{same_at}
 use Rattle.e_facts.specs.contracts.key.KeyPartialEq.TheImpl.{eq-value}
 use Rattle.e_facts.proofs.Keys.{has_by_key, has_by_places}
 use Rattle.e_facts.proofs.facts.Facts.has.Goals as goal

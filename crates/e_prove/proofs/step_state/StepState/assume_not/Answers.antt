@@ -1,14 +1,14 @@
 use Rattle.std.proofs.Common.{◌≡◌, sym, ap, ◌∙◌, subst, true}
 use Rattle.e_literal.specs.Literal.{negation}
 use Rattle.e_literal.specs.Facts.{joined}
-use Rattle.e_clause.specs.Judged.{are_good_facts}
+use Rattle.e_clause.specs.Judged.{are_limited_facts}
 use Rattle.e_licence.specs.Contexts.{Basis}
 use Rattle.e_prove.proofs.step_state.StepState.assume_not.Goals as goal
 
 pub add-requires : goal.add-requires
 add-requires c =
     let x = c.args.self.now.context in
-    subst (λ l. are_good_facts x.scope (joined x.facts l) ≡ true) (sym (c.negate.ensures ∙ ap negation c.in_ok-copy.ensures)) c.requires
+    subst (λ l. are_limited_facts x.scope (joined x.facts l) ≡ true) (sym (c.negate.ensures ∙ ap negation c.in_ok-copy.ensures)) c.requires
 
 pub returns : goal.returns
 returns c =

@@ -1,5 +1,5 @@
 use Rattle.std.proofs.Common.{◌≡◌, ◌≤◌, ◌++◌, ℕ, List, Option, length}
-use Rattle.e_text.specs.Lines.{AreGood}
+use Rattle.e_text.specs.Lines.{HaveNoFault}
 use Rattle.e_book.specs.Grammar.{last_line}
 use Rattle.e_run.specs.Outcome.{Rest}
 use Rattle.e_run.specs.inner.Progress.{IsBook, Reaches}
@@ -9,7 +9,7 @@ abbrev pub invariant-loop-item : goal.invariant-loop-item
 invariant-loop-item g l = record {
   book : IsBook l.self;
   reaches : (all : Rest → Rest) (before : Option (List ℕ)) → Reaches all (λ more. l.initial.lines.lines ++ more) before l.initial.self (g.K.Sink.written l.initial.sink) → Reaches all (λ more. l.lines.lines ++ more) before l.self (g.K.Sink.written l.sink);
-  good : AreGood l.lines.lines → AreGood l.initial.lines.lines;
+  good : HaveNoFault l.lines.lines → HaveNoFault l.initial.lines.lines;
   last : last_line l.lines ≡ last_line l.initial.lines;
   rises : g.K.Sink.faults l.initial.sink ≤ g.K.Sink.faults l.sink;
 }

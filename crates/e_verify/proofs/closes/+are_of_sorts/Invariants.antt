@@ -1,5 +1,0 @@
-use Rattle.std.proofs.Common.{length}
-use Rattle.e_verify.proofs.closes.+are_of_sorts.Given as goal
-
-abbrev pub decreases-are_of_sorts : goal.decreases-are_of_sorts
-decreases-are_of_sorts l = length l.made.now
