@@ -41,7 +41,7 @@ fn add_sum(terms: &mut Vec<Term>, sum: &[Mono]) -> Result<(), AllocError>
 }
 
 // Puts the terms of an atom last, in their normal order.
-#[tactic(auto, using(crate::proofs::arithmetic::StepTerms::atom_terms))]
+#[tactic(auto, using(crate::proofs::terms::StepTerms::atom_terms))]
 fn add_atom(terms: &mut Vec<Term>, atom: &Atom) -> Result<(), AllocError>
     ensures { OnOk result
         (terms.new.items ≡ terms.old.items ++ map Same.canonical (terms_of_atom atom.now)) }
@@ -56,7 +56,7 @@ fn add_atom(terms: &mut Vec<Term>, atom: &Atom) -> Result<(), AllocError>
 }
 
 // Right, and the terms of the facts, in their normal order.
-#[tactic(auto, using(crate::proofs::arithmetic::StepTerms::fact_terms))]
+#[tactic(auto, using(crate::proofs::terms::StepTerms::fact_terms))]
 fn terms_of_facts(alloc: Global, facts: &Facts) -> Result<Vec<Term>, AllocError>
     ensures { IfOk result
         (λ v. v.items ≡ map Same.canonical (Term.Right ∷ terms_of_lits facts.now)) }
@@ -81,7 +81,7 @@ fn add_wanted(terms: &mut Vec<Term>, wanted: Option<&Lit>) -> Result<(), AllocEr
 }
 
 // The terms of the step, in their order, each once.
-#[tactic(auto, using(crate::proofs::arithmetic::StepTerms::step_terms))]
+#[tactic(auto, using(crate::proofs::terms::StepTerms::step_terms))]
 fn step_terms(alloc: Global, facts: &Facts, wanted: Option<&Lit>) -> Result<Vec<Term>, AllocError>
     ensures in_order { IfOk result (λ v. IsTrue (are_in_order v.items)) }
     ensures same { IfOk result (λ v. (t : Term) → is_among v.items t
