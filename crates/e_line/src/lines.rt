@@ -1,4 +1,4 @@
-//! The line of each form, spelled with the names that it has.
+//! The line of each form, with the names that it has, and without its end. It fails only for want of memory.
 ghost use Rattle.std.specs.Prelude.{◌≡◌, ◌++◌, ◌∷◌, [], codes, map, OnOk};
 ghost use Rattle.e_text.specs.Tokens.{spaced};
 ghost use Rattle.e_construct.specs.Views.{piece_said};
@@ -202,7 +202,7 @@ fn put_said(out: &mut Vec<u8>, word: &[u8], lit: &RawLit) -> Result<(), AllocErr
 }
 
 /// The line of a form, without its end.
-pub(crate) fn put_form(out: &mut Vec<u8>, form: &Form) -> Result<(), AllocError>
+pub fn put_form(out: &mut Vec<u8>, form: &Form) -> Result<(), AllocError>
     ensures { OnOk result (out.new.items ≡ out.old.items ++ line_of form.now) }
 {
     match form {

@@ -1,7 +1,7 @@
 use Rattle.std.proofs.Common.{◌∷◌}
 use Rattle.e_book.specs.Canonical.{sum_words}
-use Rattle.e_read.proofs.Spaced.{after}
-use Rattle.e_read.proofs.literals.put_sums.Goals as goal
+use Rattle.e_line.proofs.Spaced.{after}
+use Rattle.e_line.proofs.literals.put_sums.Goals as goal
 
 pub returns : goal.returns
 returns c =

@@ -3,8 +3,8 @@ use Rattle.std.proofs.lemmas.List.{take_rest}
 use Rattle.e_text.specs.Tokens.{spaced}
 use Rattle.e_book.specs.declared.literal.RawLit.{RawLit}
 use Rattle.e_book.specs.Canonical.{more_words}
-use Rattle.e_read.proofs.Spaced.{first_after}
-use Rattle.e_read.proofs.literals.put_literals.Goals as goal
+use Rattle.e_line.proofs.Spaced.{first_after}
+use Rattle.e_line.proofs.literals.put_literals.Goals as goal
 
 pub returns-in_ok-put_more_literals-in-len1-up : goal.returns-in_ok-put_more_literals-in-len1-up
 returns-in_ok-put_more_literals-in-len1-up c =

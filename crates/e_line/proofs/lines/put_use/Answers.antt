@@ -1,7 +1,7 @@
 use Rattle.std.proofs.Common.{ℕ, List, ◌∷◌, ◌++◌, map, ap, ◌∙◌}
 use Rattle.e_book.specs.Canonical.{argument_word, made_words}
-use Rattle.e_read.proofs.Spaced.{after, word_after}
-use Rattle.e_read.proofs.lines.put_use.Goals as goal
+use Rattle.e_line.proofs.Spaced.{after, word_after}
+use Rattle.e_line.proofs.lines.put_use.Goals as goal
 
 pub returns : goal.returns
 returns c =

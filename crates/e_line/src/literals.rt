@@ -1,4 +1,4 @@
-//! Sums and literals, spelled with the names that they have.
+//! Terms, sums and literals, with the names that they have.
 ghost use Rattle.std.specs.Prelude.{◌≡◌, ◌++◌, ◌∷◌, [], true, OnOk};
 ghost use Rattle.e_text.specs.Tokens.{spaced};
 ghost use Rattle.e_book.specs.Canonical.{term_words, mono_words, more_monos, sum_words, sums_words, atom_words, not_words, lit_words, more_words, lits_words};
@@ -8,7 +8,8 @@ use e_text::Name;
 use e_words::{put, put_coefficient, put_four, put_three};
 use std::alloc::AllocError;
 
-pub(crate) fn put_term(out: &mut Vec<u8>, term: &RawTerm) -> Result<(), AllocError>
+/// Writes a term, each word behind a space. It fails only for want of memory.
+pub fn put_term(out: &mut Vec<u8>, term: &RawTerm) -> Result<(), AllocError>
     ensures { OnOk result (out.new.items ≡ out.old.items ++ spaced (term_words term.now)) }
 {
     match term {
@@ -113,7 +114,8 @@ fn put_not(out: &mut Vec<u8>, atom: &RawAtom) -> Result<(), AllocError>
     }
 }
 
-pub(crate) fn put_literal(out: &mut Vec<u8>, lit: &RawLit) -> Result<(), AllocError>
+/// Writes a literal, each word behind a space. It fails only for want of memory.
+pub fn put_literal(out: &mut Vec<u8>, lit: &RawLit) -> Result<(), AllocError>
     ensures { OnOk result (out.new.items ≡ out.old.items ++ spaced (lit_words lit.now)) }
 {
     if lit.neg {

@@ -1,6 +1,6 @@
 use Rattle.std.proofs.Common.{◌∙◌}
-use Rattle.e_read.proofs.Spaced.{more_after}
-use Rattle.e_read.proofs.literals.put_more_literals.Goals as goal
+use Rattle.e_line.proofs.Spaced.{more_after}
+use Rattle.e_line.proofs.literals.put_more_literals.Goals as goal
 
 pub loop-lit-preserved : goal.loop-lit-preserved
 loop-lit-preserved c =

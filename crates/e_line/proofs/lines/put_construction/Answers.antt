@@ -1,6 +1,6 @@
 use Rattle.e_book.specs.Canonical.{filled, line_pieces, avoid_words}
-use Rattle.e_read.proofs.Spaced.{after}
-use Rattle.e_read.proofs.lines.put_construction.Goals as goal
+use Rattle.e_line.proofs.Spaced.{after}
+use Rattle.e_line.proofs.lines.put_construction.Goals as goal
 
 pub returns : goal.returns
 returns c =
