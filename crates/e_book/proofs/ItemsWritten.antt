@@ -198,11 +198,6 @@ items_some notions ns (item ∷ is) p all some e =
     subst (λ (q : List Lit × ℕ). 0 < length (named ns q.0)) (ok_is (pair (a.0.0 ++ b.0.0) b.0.1) p b.2)
     (omega (arith, item_some notions ns item a.0 all a.1, length-append a.0.0 b.0.0, length-map (a.0.0 ++ b.0.0) (raw_of ns)))
 
--- ---- as they are written out
-
-pub one_within : (ns : Names) (raw : RawLit) (l : Lit) (ls : List Lit) → lit_in ns raw ≡ Ok l → ls ≡ l ∷ [] → list_all (all_in_scope (scope_of_names ns)) ls ≡ true
-one_within ns raw l ls e one = rw (one, lit_in_scope ns raw l e) refl
-
 -- what fails is not gone on with
 pub fails_on : {A B : Type 0} (e : Trouble) (r : Result A Kind) (f : A → Result B Kind) → Fails e r → Fails e (r >>= f)
 fails_on troubles.NoMemory r f h = tt

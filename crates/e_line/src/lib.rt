@@ -4,5 +4,7 @@
 mod lines;
 mod literals;
 
-pub use lines::put_form;
+pub use lines::{
+    put_apply, put_by, put_form, put_let, put_named, put_said, put_stated, put_superpose,
+};
 pub use literals::{put_literal, put_term};

@@ -7,23 +7,39 @@ ghost use Rattle.e_book.specs.Superposes.{superpose_pieces};
 ghost use Rattle.e_book.specs.Canonical.{lit_words, lits_words, filled, line_pieces, avoid_words, argument_word, made_words, line_of};
 
 use crate::literals::{put_literal, put_literals};
-use e_book::{
-    Form, RawApply, RawLet, RawLit, RawSuperpose, put_made_names, sort_word, superposition_pieces,
-};
+use e_book::{Form, RawLit, sort_word, superposition_pieces};
 use e_construct::{Piece, Shape, pieces};
-use e_text::{Name, Title};
+use e_text::Name;
 use e_words::{put, put_names};
 use std::alloc::AllocError;
 
 /// A citation behind its first word.
-fn put_by(out: &mut Vec<u8>, rule: Title, names: &[Name], lit: &RawLit) -> Result<(), AllocError>
-    ensures { OnOk result (out.new.items ≡ out.old.items ++ spaced (rule ∷ (names.now ++ codes ":" ∷ lit_words lit.now))) }
+fn put_citation(
+    out: &mut Vec<u8>,
+    rule: &[u8],
+    names: &[Name],
+    lit: &RawLit,
+) -> Result<(), AllocError>
+    ensures { OnOk result (out.new.items ≡ out.old.items ++ spaced (rule.now ∷ (names.now ++ codes ":" ∷ lit_words lit.now))) }
 {
-    put(out, rule.bytes())?;
+    put(out, rule)?;
     put_names(out, names)?;
     put(out, b":")?;
     put_literal(out, lit)?;
     Ok(())
+}
+
+/// Writes the line that cites a rule, by the rule's name.
+pub fn put_by(
+    out: &mut Vec<u8>,
+    rule: &[u8],
+    names: &[Name],
+    lit: &RawLit,
+) -> Result<(), AllocError>
+    ensures { OnOk result (out.new.items ≡ out.old.items ++ line_of (forms.By rule.now names.now lit.now)) }
+{
+    out.extend_from_slice(b"by")?;
+    put_citation(out, rule, names, lit)
 }
 
 /// The pieces of a line, with the names of new objects and of arguments at their places.
@@ -101,17 +117,18 @@ fn put_construction(
     Ok(())
 }
 
-fn put_let(out: &mut Vec<u8>, raw: &RawLet) -> Result<(), AllocError>
-    ensures { OnOk result (out.new.items ≡ out.old.items ++ line_of (forms.Let raw.now)) }
+/// Writes the line of a construction of these shapes.
+pub fn put_let(
+    out: &mut Vec<u8>,
+    shapes: &[Shape],
+    new: &[Name],
+    args: &[Name],
+    avoid: &[Name],
+) -> Result<(), AllocError>
+    ensures { OnOk result (out.new.items ≡ out.old.items ++ line_of (forms.Let (record { shapes = shapes.now; new = new.now; args = args.now; avoid = avoid.now }))) }
 {
     out.extend_from_slice(b"let")?;
-    put_construction(
-        out,
-        raw.shapes.items(),
-        raw.new.items(),
-        raw.args.items(),
-        raw.avoid.items(),
-    )
+    put_construction(out, shapes, new, args, avoid)
 }
 
 fn put_arguments(out: &mut Vec<u8>, args: &[Option<Name>]) -> Result<(), AllocError>
@@ -133,26 +150,43 @@ fn put_argument(out: &mut Vec<u8>, argument: Option<Name>) -> Result<(), AllocEr
     }
 }
 
+/// The names of made objects, if there are any.
+fn put_made(out: &mut Vec<u8>, new: &[Name]) -> Result<(), AllocError>
+    ensures { OnOk result (out.new.items ≡ out.old.items ++ spaced (made_words new.now)) }
+{
+    if new.is_empty() {
+        return Ok(());
+    }
+    put(out, b"as")?;
+    put_names(out, new)
+}
+
 /// The use of an earlier theorem behind its first word.
 fn put_use(
     out: &mut Vec<u8>,
-    title: Title,
+    title: &[u8],
     args: &[Option<Name>],
     new: &[Name],
 ) -> Result<(), AllocError>
-    ensures { OnOk result (out.new.items ≡ out.old.items ++ spaced (title ∷ (map argument_word args.now ++ made_words new.now))) }
+    ensures { OnOk result (out.new.items ≡ out.old.items ++ spaced (title.now ∷ (map argument_word args.now ++ made_words new.now))) }
 {
-    put(out, title.bytes())?;
+    put(out, title)?;
     put_arguments(out, args)?;
-    put_made_names(out, new)?;
+    put_made(out, new)?;
     Ok(())
 }
 
-fn put_apply(out: &mut Vec<u8>, raw: &RawApply) -> Result<(), AllocError>
-    ensures { OnOk result (out.new.items ≡ out.old.items ++ line_of (forms.Apply raw.now)) }
+/// Writes the line that uses the theorem with this title.
+pub fn put_apply(
+    out: &mut Vec<u8>,
+    title: &[u8],
+    args: &[Option<Name>],
+    new: &[Name],
+) -> Result<(), AllocError>
+    ensures { OnOk result (out.new.items ≡ out.old.items ++ line_of (forms.Apply (record { title = title.now; args = args.now; new = new.now }))) }
 {
     out.extend_from_slice(b"apply")?;
-    put_use(out, raw.title, raw.args.items(), raw.new.items())
+    put_use(out, title, args, new)
 }
 
 /// A superposition behind its first word.
@@ -170,38 +204,44 @@ fn put_superposition(
     Ok(())
 }
 
-fn put_superpose(out: &mut Vec<u8>, raw: &RawSuperpose) -> Result<(), AllocError>
-    ensures { OnOk result (out.new.items ≡ out.old.items ++ line_of (forms.Superpose raw.now)) }
+/// Writes the line of a superposition: the triangle and the place, the names of the copied points, and what its block shows.
+pub fn put_superpose(
+    out: &mut Vec<u8>,
+    args: &[Name],
+    new: &[Name],
+    shown: &[RawLit],
+) -> Result<(), AllocError>
+    ensures { OnOk result (out.new.items ≡ out.old.items ++ line_of (forms.Superpose (record { args = args.now; new = new.now; shown = shown.now }))) }
 {
     out.extend_from_slice(b"superpose")?;
-    put_superposition(out, raw.new.items(), raw.args.items(), raw.shown.items())
+    put_superposition(out, new, args, shown)
 }
 
-/// A word and names.
-fn put_named(out: &mut Vec<u8>, word: &[u8], names: &[Name]) -> Result<(), AllocError>
+/// Writes a line of a word and names.
+pub fn put_named(out: &mut Vec<u8>, word: &[u8], names: &[Name]) -> Result<(), AllocError>
     ensures { OnOk result (out.new.items ≡ out.old.items ++ (word.now ++ spaced names.now)) }
 {
     out.extend_from_slice(word)?;
     put_names(out, names)
 }
 
-/// A word and literals.
-fn put_stated(out: &mut Vec<u8>, word: &[u8], lits: &[RawLit]) -> Result<(), AllocError>
+/// Writes a line of a word and literals.
+pub fn put_stated(out: &mut Vec<u8>, word: &[u8], lits: &[RawLit]) -> Result<(), AllocError>
     ensures { OnOk result (out.new.items ≡ out.old.items ++ (word.now ++ spaced (lits_words lits.now))) }
 {
     out.extend_from_slice(word)?;
     put_literals(out, lits)
 }
 
-/// A word and a literal.
-fn put_said(out: &mut Vec<u8>, word: &[u8], lit: &RawLit) -> Result<(), AllocError>
+/// Writes a line of a word and a literal.
+pub fn put_said(out: &mut Vec<u8>, word: &[u8], lit: &RawLit) -> Result<(), AllocError>
     ensures { OnOk result (out.new.items ≡ out.old.items ++ (word.now ++ spaced (lit_words lit.now))) }
 {
     out.extend_from_slice(word)?;
     put_literal(out, lit)
 }
 
-/// The line of a form, without its end.
+/// Writes the line of a form.
 pub fn put_form(out: &mut Vec<u8>, form: &Form) -> Result<(), AllocError>
     ensures { OnOk result (out.new.items ≡ out.old.items ++ line_of form.now) }
 {
@@ -219,17 +259,22 @@ pub fn put_form(out: &mut Vec<u8>, form: &Form) -> Result<(), AllocError>
         }
         Form::Show(lits) => put_stated(out, b"show", lits.items()),
         Form::Proof => out.extend_from_slice(b"proof"),
-        Form::By(rule, names, lit) => {
-            out.extend_from_slice(b"by")?;
-            put_by(out, *rule, names.items(), lit)
-        }
+        Form::By(rule, names, lit) => put_by(out, rule.bytes(), names.items(), lit),
         Form::Hence(lit) => put_said(out, b"hence", lit),
-        Form::Let(raw) => put_let(out, raw),
-        Form::Apply(raw) => put_apply(out, raw),
+        Form::Let(raw) => put_let(
+            out,
+            raw.shapes.items(),
+            raw.new.items(),
+            raw.args.items(),
+            raw.avoid.items(),
+        ),
+        Form::Apply(raw) => put_apply(out, raw.title.bytes(), raw.args.items(), raw.new.items()),
         Form::Qed(names) => put_named(out, b"qed", names.items()),
         Form::Contradiction => out.extend_from_slice(b"contradiction"),
         Form::Claim(lits) => put_stated(out, b"claim", lits.items()),
-        Form::Superpose(raw) => put_superpose(out, raw),
+        Form::Superpose(raw) => {
+            put_superpose(out, raw.args.items(), raw.new.items(), raw.shown.items())
+        }
         Form::Cases(lit) => put_said(out, b"cases", lit),
         Form::Else => out.extend_from_slice(b"else"),
         Form::End => out.extend_from_slice(b"end"),

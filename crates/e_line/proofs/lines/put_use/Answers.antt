@@ -1,4 +1,4 @@
-use Rattle.std.proofs.Common.{ℕ, List, ◌∷◌, ◌++◌, map, ap, ◌∙◌}
+use Rattle.std.proofs.Common.{◌++◌, map}
 use Rattle.e_book.specs.Canonical.{argument_word, made_words}
 use Rattle.e_line.proofs.Spaced.{after, word_after}
 use Rattle.e_line.proofs.lines.put_use.Goals as goal
@@ -9,5 +9,4 @@ returns c =
     let b = c.put.new.out.items in
     let args = map argument_word c.args.args.now in
     let made = made_words c.args.new.now in
-    word_after a b c.put_made_names.new.out.items c.args.title (args ++ made) (c.in_ok-put.ensures.ok ∙ ap (λ (w : List ℕ). a ++ 32 ∷ w) c.bytes.ensures.bytes)
-    (after b c.put_arguments.new.out.items c.put_made_names.new.out.items args made c.in_ok-put_arguments.ensures c.in_ok-put_made_names.ensures)
+    word_after a b c.put_made.new.out.items c.args.title.now (args ++ made) c.in_ok-put.ensures.ok (after b c.put_arguments.new.out.items c.put_made.new.out.items args made c.in_ok-put_arguments.ensures c.in_ok-put_made.ensures)

@@ -1,7 +1,7 @@
-use Rattle.std.proofs.Common.{ℕ, List, [], ◌∷◌, ◌++◌, ap, ◌∙◌}
+use Rattle.std.proofs.Common.{[], ◌∷◌, ◌++◌}
 use Rattle.e_book.specs.Canonical.{lit_words}
 use Rattle.e_line.proofs.Spaced.{after, word_after}
-use Rattle.e_line.proofs.lines.put_by.Goals as goal
+use Rattle.e_line.proofs.lines.put_citation.Goals as goal
 
 pub returns : goal.returns
 returns c =
@@ -10,5 +10,5 @@ returns c =
     let n = c.put_names.new.out.items in
     let end = c.put_literal.new.out.items in
     let said = lit_words c.args.lit.now in
-    word_after a b end c.args.rule (c.args.names.now ++ (58 ∷ []) ∷ said) (c.in_ok-put.ensures.ok ∙ ap (λ (w : List ℕ). a ++ 32 ∷ w) c.bytes.ensures.bytes)
+    word_after a b end c.args.rule.now (c.args.names.now ++ (58 ∷ []) ∷ said) c.in_ok-put.ensures.ok
     (after b n end c.args.names.now ((58 ∷ []) ∷ said) c.in_ok-put_names.ensures.ok (word_after n c.put-2.new.out.items end (58 ∷ []) said c.in_ok-put-2.ensures.ok c.in_ok-put_literal.ensures))
