@@ -34,7 +34,7 @@ use Rattle.e_book.specs.Scope.{scope_of_names, right_count, objects_of_sorts, li
 use Rattle.e_book.specs.Canonical.{raw_of}
 use Rattle.e_book.specs.Titled.{Titled, notion_of, is_notion, are_notions}
 use Rattle.e_book.specs.Meanings.{known_notion, meant_in, item_in, items_in}
-use Rattle.e_book.proofs.InScope.{bind_ok, ok_is, read_ok, lit_in_scope}
+use Rattle.e_book.proofs.InScope.{bind_ok, ok_is, read_ok}
 use Rattle.e_book.proofs.Citations.{counted}
 use Rattle.e_book.proofs.Building.{of_sorts}
 use Rattle.e_book.proofs.SaidLits.{AtomSaid, LitsSaid}
