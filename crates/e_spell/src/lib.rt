@@ -14,6 +14,5 @@ mod stops;
 mod writer;
 
 pub use laws::lines_are_the_theorem;
-pub use literals::put_objects;
 pub use stops::spell_stop;
 pub use writer::spell;

@@ -25,8 +25,8 @@ pub(crate) fn name_of(names: &Names, sort: Sort, num: usize) -> Name
     name_at(names.of_sort(sort), num)
 }
 
-/// Writes the names of objects, each behind a space; an object without a name is written as `nameless`. It fails only for want of memory.
-pub fn put_objects(out: &mut Vec<u8>, names: &Names, objects: &[Obj]) -> Result<(), AllocError>
+/// The names of objects, each behind a space.
+pub(crate) fn put_objects(out: &mut Vec<u8>, names: &Names, objects: &[Obj]) -> Result<(), AllocError>
     ensures { OnOk result (out.new.items ≡ out.old.items ++ spaced (map (name_of_object names.now) objects.now)) }
 {
     for object in objects {
