@@ -46,11 +46,11 @@ fn names_of_choice(
 ) -> Result<Items<Option<Name>>, AllocError>
     ensures { IfOk result (λ n. map argument_word n ≡ map (name_of_object names.now) args.now) }
 {
-    let mut found = Items::empty(alloc);
+    let mut found = Vec::new(alloc);
     for object in args {
         found.push(Some(name_of_object(names, *object)))?;
     }
-    Ok(found)
+    Ok(Items::new(found))
 }
 
 /// A line that applies a theorem.

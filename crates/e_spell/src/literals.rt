@@ -43,11 +43,11 @@ pub(crate) fn names_of_objects(
 ) -> Result<Items<Name>, AllocError>
     ensures { IfOk result (λ n. n ≡ map (name_of_object names.now) objects.now) }
 {
-    let mut found = Items::empty(alloc);
+    let mut found = Vec::new(alloc);
     for object in objects {
         found.push(name_of_object(names, *object))?;
     }
-    Ok(found)
+    Ok(Items::new(found))
 }
 
 /// An argument: the name of an object, or a blank.
@@ -68,11 +68,11 @@ pub(crate) fn names_of_arguments(
 ) -> Result<Items<Option<Name>>, AllocError>
     ensures { IfOk result (λ n. n ≡ map (argument_name names.now) args.now) }
 {
-    let mut found = Items::empty(alloc);
+    let mut found = Vec::new(alloc);
     for argument in args {
         found.push(argument_name(names, *argument))?;
     }
-    Ok(found)
+    Ok(Items::new(found))
 }
 
 fn point(num: u16) -> Obj
