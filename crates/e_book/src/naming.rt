@@ -8,6 +8,7 @@ use e_deriv::Names;
 use e_literal::{Atom, Items, Lit, Mono, Obj, Sort, Term};
 use e_text::Name;
 use std::alloc::{AllocError, Global};
+use std::mem;
 
 /// What is written for an object without a name.
 #[tactic(auto, unfolding(e_text::specs::Names::is_statement_word, e_text::specs::Names::is_steps_word, e_text::specs::Names::is_relations_word, e_text::specs::Names::is_shapes_word, e_text::specs::Names::is_others_word))]
@@ -173,6 +174,11 @@ pub fn raw_lits(alloc: Global, names: &Names, lits: &[Lit]) -> Result<Items<RawL
     ensures { IfOk result (λ r. r ≡ map (raw_of names.now) lits.now) }
 {
     let mut raws = Items::empty(alloc);
-    put_named(alloc, names, lits, &mut raws)?;
-    Ok(raws)
+    match put_named(alloc, names, lits, &mut raws) {
+        Ok(()) => Ok(raws),
+        Err(error) => {
+            mem::drop(raws);
+            Err(error)
+        }
+    }
 }
