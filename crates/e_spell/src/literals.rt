@@ -26,7 +26,11 @@ pub(crate) fn name_of(names: &Names, sort: Sort, num: usize) -> Name
 }
 
 /// The names of objects, each behind a space.
-pub(crate) fn put_objects(out: &mut Vec<u8>, names: &Names, objects: &[Obj]) -> Result<(), AllocError>
+pub(crate) fn put_objects(
+    out: &mut Vec<u8>,
+    names: &Names,
+    objects: &[Obj],
+) -> Result<(), AllocError>
     ensures { OnOk result (out.new.items ≡ out.old.items ++ spaced (map (name_of_object names.now) objects.now)) }
 {
     for object in objects {
