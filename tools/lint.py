@@ -12,8 +12,11 @@ What it looks for:
 - A crate that is in one of crates.txt, README.md, docs/architecture.md and crates/ and not in
   another, or that stands on other crates there.
 - docs/claim.txt, where it is not what tools/claim.py makes of the definitions.
+- A fact that a document tells otherwise than the tree has it: tools/facts.py says which.
 - A line of prose with more than 100 columns. Rows of tables in docs/ are exempt, and so are lines
   of code, and links that cannot be broken.
+- A cell of a table with more than one sentence.
+- A link that begins on one line and ends on the next.
 
 It prints each finding as FILE:LINE, ends with the line `lint: N findings`, and with the status 1
 where N is not 0.
@@ -25,6 +28,7 @@ from pathlib import Path
 
 sys.dont_write_bytecode = True
 import claim  # noqa: E402
+import facts  # noqa: E402
 
 TOP = Path(sys.argv[1] if sys.argv[1:] else Path(__file__).resolve().parent.parent).resolve()
 COLUMNS = 100
@@ -154,6 +158,9 @@ def check_links(findings):
                     findings.append((page, number, f"no such file: {link}"))
                 elif fragment and target.suffix == ".md" and fragment not in anchors(target):
                     findings.append((page, number, f"no such heading: {link}"))
+        text = re.sub(r"`[^`]*`", lambda span: re.sub(r"\S", "x", span.group()), page.read_text(encoding="utf-8"))
+        for match in re.finditer(r"\[[^\[\]\n]*\n[^\[\]\n]*\]\(", text):
+            findings.append((page, text[: match.start()].count("\n") + 1, "a link over two lines"))
 
 
 def crates_of_list():
@@ -215,6 +222,14 @@ def check_columns(findings):
                 findings.append((page, number, f"{len(line)} columns"))
 
 
+def check_cells(findings):
+    for page in pages():
+        for number, cells in rows_of(page):
+            for cell in cells:
+                if re.search(r"\w[.] +[A-Z]", re.sub(r"`[^`]*`", "x", cell)):
+                    findings.append((page, number, "a cell with more than one sentence"))
+
+
 def check_claim(findings):
     page = TOP / "docs/claim.txt"
     made = claim.page(TOP)
@@ -227,8 +242,10 @@ def check_claim(findings):
 
 def main():
     findings = []
-    for check in (check_names, check_links, check_crates, check_claim, check_columns):
+    for check in (check_names, check_links, check_crates, check_claim, check_cells, check_columns):
         check(findings)
+    for check in facts.CHECKS:
+        findings.extend(check(TOP))
     for page, number, what in sorted(findings, key=lambda finding: (str(finding[0]), finding[1])):
         print(f"{page.relative_to(TOP)}:{number}: {what}")
     print(f"lint: {len(findings)} findings")

@@ -22,7 +22,7 @@ use Rattle.e_book.specs.HasSpelling.{is_plain, is_named_by_title, names_theorems
 
 -- ---- two tests, each as good as another
 
-both_same : (a b c d : Bool) → a ≡ b → c ≡ d → (a && c) ≡ (b && d)
+pub both_same : (a b c d : Bool) → a ≡ b → c ≡ d → (a && c) ≡ (b && d)
 both_same a b c d e f = rw (e, f) refl
 
 then_same : (a b c : Bool) → b ≡ c → (a && b) ≡ (a && c)

@@ -1,17 +1,18 @@
 -- What is left of a script is within the limits: its literals, facts and monomials, blanks, certificates and depth.
-use Rattle.std.proofs.Common.{◌≡◌, ℕ, suc, ◌+◌, ◌≤◌, List, [], ◌∷◌, ◌++◌, map, length, refl, sym, ap, ◌∙◌, arith, Bool, true, ◌&&◌, cond, leb, Option, Some, None, ℤ, length-append}
+use Rattle.std.proofs.Common.{◌≡◌, ℕ, suc, ◌+◌, ◌≤◌, List, [], ◌∷◌, ◌++◌, map, length, refl, sym, ap, ◌∙◌, arith, Bool, true, false, ◌&&◌, cond, leb, Option, Some, None, ℤ, length-append}
 use Rattle.std.specs.Option.{option_map_or, option_map}
 use Rattle.std.specs.List.{list_all}
 use Rattle.std.proofs.lemmas.Bool.{and_parts, and_from, leb-true, le-leb}
 use Rattle.std.proofs.lemmas.List.{length-map, map-append}
 use Rattle.e_literal.specs.declared.object.Sort.{Sort}
+use Rattle.e_literal.specs.declared.object.Sort.TheVariants.{Point, Line, Circle}
 use Rattle.e_literal.specs.declared.object.Obj.{Obj}
 use Rattle.e_literal.specs.declared.object.Scope.{Scope}
 use Rattle.e_literal.specs.declared.literal.Lit.{Lit}
 use Rattle.e_literal.specs.declared.literal.Atom.{Atom}
 use Rattle.e_literal.specs.declared.literal.Atom.TheVariants as atoms
 use Rattle.e_literal.specs.Literal.{negation}
-use Rattle.e_literal.specs.Rename.{atom_at, mono_at}
+use Rattle.e_literal.specs.Rename.{atom_at, mono_at, number_at}
 use Rattle.e_literal.specs.Facts.{joined, joined_all}
 use Rattle.e_literal.specs.Scopes.{grown, next_objects}
 use Rattle.e_literal.specs.Use.{Stated}
@@ -38,8 +39,9 @@ use Rattle.e_deriv.specs.Lines.{theorem_at}
 use Rattle.e_deriv.specs.Versions.{has_certs_of}
 use Rattle.e_book.specs.Limits.{most_facts, most_terms, most_blanks, monomials, count_monomials}
 use Rattle.e_book.specs.Applies.{count_blanks}
-use Rattle.e_book.specs.Fits.{is_diagram_atom, has_good_literals, few_facts, few_terms, few_blanks}
+use Rattle.e_book.specs.Fits.{is_diagram_atom, is_diagram_lit, has_good_literals, few_facts, few_terms, few_blanks}
 use Rattle.e_book.proofs.ShortLits.{count_first}
+use Rattle.e_roundtrip.proofs.Filled.{both_same}
 use Rattle.e_trim.specs.Trimmed.{obj_at, image_of, lit_at, row_at, sum_at, sums_at, part_at, cert_at, against_at, form_at, superpose_at, args_at, joins_at, is_kept, wants, trimmed_from}
 
 -- ---- tests
@@ -48,9 +50,6 @@ use Rattle.e_trim.specs.Trimmed.{obj_at, image_of, lit_at, row_at, sum_at, sums_
 pub either : (p : Script → Bool) (b : Bool) (x y : Script) → p x ≡ true → p y ≡ true → p (cond b x y) ≡ true
 either p true x y h k = h
 either p false x y h k = k
-
-both_same : (a b c d : Bool) → a ≡ b → c ≡ d → (a && c) ≡ (b && d)
-both_same a b c d e f = rw (e, f) refl
 
 -- where less is counted it is still few
 still_few : (m n most : ℕ) → m ≤ n → leb n most ≡ true → leb m most ≡ true
@@ -69,7 +68,10 @@ monos_stay p l c (atoms.MagLt x y) = ap length (sym (map-append (mono_at p) x y)
 monos_stay p l c a = refl
 
 lit_monos : (kept : List Obj) (l : Lit) → monomials (lit_at kept l).atom ≡ monomials l.atom
-lit_monos kept l = monos_stay _ _ _ l.atom
+lit_monos kept l = monos_stay (number_at (image_of kept) Point) (number_at (image_of kept) Line) (number_at (image_of kept) Circle) l.atom
+
+lit_diagram : (kept : List Obj) (l : Lit) → is_diagram_lit (lit_at kept l) ≡ is_diagram_lit l
+lit_diagram kept l = diagram_stays (number_at (image_of kept) Point) (number_at (image_of kept) Line) (number_at (image_of kept) Circle) l.atom
 
 lits_monos : (kept : List Obj) (ls : List Lit) → count_monomials (map (lit_at kept) ls) ≡ count_monomials ls
 lits_monos kept [] = refl
@@ -103,7 +105,7 @@ unfolding trimmed_from erased has_good_literals
 literals_left before (Cite by rest) kept s facts goal h =
     let p = and_parts _ (has_good_literals rest) h in
     let r = literals_left before rest kept s (joined facts by.lit) goal p.1 in
-    either (λ x. has_good_literals (erased x)) (is_kept before (Cite by rest) s facts (wants before rest s (joined facts by.lit) goal)) _ _ (and_from _ _ (diagram_stays _ _ _ by.lit.atom ∙ p.0) r) r
+    either (λ x. has_good_literals (erased x)) (is_kept before (Cite by rest) s facts (wants before rest s (joined facts by.lit) goal)) _ _ (and_from _ _ (lit_diagram kept by.lit ∙ p.0) r) r
 literals_left before (Hence lit cert rest) kept s facts goal h =
     let p = and_parts (is_well_formed lit) (has_good_literals rest) h in
     let r = literals_left before rest kept s (joined facts lit) goal p.1 in

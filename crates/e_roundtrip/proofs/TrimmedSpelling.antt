@@ -17,6 +17,7 @@ use Rattle.e_literal.specs.Use.{Stated, scope_of, is_statement}
 use Rattle.e_clause.specs.declared.cert.Version.TheVariants.{One}
 use Rattle.e_construct.specs.Construct.{made, gives}
 use Rattle.e_construct.specs.Superposing as superposing
+use Rattle.e_construct.proofs.Moving.{every}
 use Rattle.e_theorem.specs.Statements.{stated}
 use Rattle.e_deriv.specs.Naming.{declared_names}
 use Rattle.e_deriv.specs.Script.{Script, Cite, Hence, Make, Apply, Claim, Superposed, Qed, Contradiction, Cases, erased, depth}
@@ -136,10 +137,7 @@ plain_left before (Cases lit first second) kept s facts goal h =
 -- ---- the whole
 
 are_statements : (ts : List Stated) → list_all is_small_statement ts ≡ true → list_all is_statement ts ≡ true
-are_statements [] h = h
-are_statements (t ∷ ts) h =
-    let p = and_parts (is_small_statement t) (list_all is_small_statement ts) h in
-    and_from _ _ (and_parts (is_statement t) (is_small (all_objects t)) p.0).0 (are_statements ts p.1)
+are_statements ts h = every is_small_statement is_statement (λ t k. (and_parts (is_statement t) (is_small (all_objects t)) k).0) ts h
 
 -- a theorem that can be spelled states something small
 states : (known : List Headed) (t : Entry) → HasSpelling known (record t { script = erased t.script }) → is_statement (stated t.statement) ≡ true

@@ -37,11 +37,11 @@ returns-in-Ok-clause-on c = (c.in-Ok-Theorem.ensures.shorter, c.in-Ok-Theorem.en
 
 pub returns-in-Err-Bad-clause-next : goal.returns-in-Err-Bad-clause-next
 returns-in-Err-Bad-clause-next c =
-    rw c.in-Err-Bad.field-0-is (inr (inr (
+    inr (inr (
       entry_of c.in-Ok-Theorem.theorem,
       c.read.new.lines.lines,
       c.in-Err-Bad.step,
       rw c.in-Ok-Theorem.field-0-is at c.in-Ok-Theorem.ensures.read,
       rw c.in-Err-Bad.field-0-is at c.in-Err-Bad.ensures.bad,
       refl,
-    )))
+    ))

@@ -1,0 +1,380 @@
+#!/usr/bin/env python3
+"""Facts that documents tell and the tree has: tools/lint.py asks that they agree.
+
+- docs/rules.md has the rules and the constructions of the definitions, row by row: `check_rules`.
+- A number of rules, in any document, is that of the table: `check_counts`. So is the number of stored rows, and of
+  reserved words.
+- The row of a crate in docs/architecture.md has the first sentence of its head comment, and its section in
+  docs/proved.md names each of its public functions and laws; what README says carries its claim is in its code:
+  `check_crates`.
+- The usage line, the exit statuses and the libraries that are trusted are those of the code: `check_program`.
+- The limits and the reserved words of docs/book.md are those of the code: `check_language`.
+- What Book I applies and rests on is what its `apply` lines say: `check_book_one`.
+- Pages of definitions and files of proofs, which docs/definitions.md and docs/proofs.md name without their suffix, are
+  there: `check_files`.
+
+Each check yields findings: a page, the number of a line, and what is wrong there.
+"""
+
+import re
+
+import rests
+
+PAGES = ["README.md", "CONTRIBUTING.md", "docs/*.md", "examples/*.md", "examples/*/*.md"]
+TABLES = "Incidence Sides Circles Equality Lengths Angles".split()
+EQUAL = {"eq_p", "eq_l", "eq_c", "sums_equal"}
+ATOMS = {"onc": "on", "same_side": "same-side", "meets_ll": "meets", "meets_lc": "meets", "meets_cc": "meets"}
+STEP = re.compile(r"(by|hence|let|apply|claim|superpose|qed|contradiction|cases)\b")
+
+
+def read(path):
+    return path.read_text(encoding="utf-8")
+
+
+def line_of(text, part):
+    """The number of the first line that has the part, or 1."""
+    return text[: max(text.find(part), 0)].count("\n") + 1
+
+
+def cells_of(text):
+    """The rows of all tables of a page with the numbers of their lines."""
+    for number, line in enumerate(text.split("\n"), 1):
+        if line.startswith("|"):
+            yield number, [cell.strip().replace("\\|", "|") for cell in re.split(r"(?<!\\)\|", line)[1:-1]]
+
+
+# ---- rules and constructions
+
+
+def parsed(tokens):
+    """The first expression of the tokens of antt: a word, or a list of expressions for what is applied."""
+    token = tokens.pop(0)
+    if token != "(":
+        return token
+    inside = []
+    while tokens[0] != ")":
+        inside.append(parsed(tokens))
+    tokens.pop(0)
+    return inside
+
+
+def parsed_all(text):
+    tokens = re.findall(r"\"[^\"]*\"|[()]|[^\s()]+", text)
+    found = []
+    while tokens:
+        found.append(parsed(tokens))
+    return found
+
+
+def items_of(expression):
+    """The items of a list that is written with `∷` and `[]`."""
+    if not isinstance(expression, list):
+        return []
+    items, item = [], []
+    for word in expression:
+        if word == "∷":
+            items.append(item[0] if len(item) == 1 else item)
+            item = []
+        else:
+            item.append(word)
+    return items
+
+
+def sum_of(expression):
+    monomials = []
+    for item in items_of(expression):
+        words = item if isinstance(item, list) else [item]
+        monomials.append(" ".join("2" if word == "two" else word for word in words))
+    return " + ".join(monomials) or "0"
+
+
+def literal_of(expression):
+    """A literal of the definitions, as documents spell it."""
+    head, *rest = expression
+    if head == "isnt":
+        inner = rest[0]
+        if inner[0] == "sum_less":
+            return f"{sum_of(inner[2])} <= {sum_of(inner[1])}"
+        spelled = literal_of(inner)
+        return spelled.replace(" = ", " != ") if inner[0] in EQUAL else f"not {spelled}"
+    if head == "apart":
+        return f"{rest[0]} != {rest[1]}"
+    if head == "sums_equal":
+        return f"{sum_of(rest[0])} = {sum_of(rest[1])}"
+    if head == "sum_less":
+        return f"{sum_of(rest[0])} < {sum_of(rest[1])}"
+    if head in EQUAL:
+        return f"{rest[0]} = {rest[1]}"
+    return " ".join([ATOMS.get(head, head), *rest])
+
+
+def literals_of(expression):
+    return [literal_of(item) for item in items_of(expression)]
+
+
+def spans(cell):
+    return re.findall(r"`([^`]+)`", cell)
+
+
+def rules_of(top):
+    """Each rule of the definitions, in order: its name, its numbers of variables, its premises and conclusions."""
+    rules = []
+    for table in TABLES:
+        text = read(top / f"crates/e_clause/specs/Table/{table}.antt")
+        for row in re.findall(r"row \(codes .*", text):
+            _, name, *numbers, premises, conclusions = parsed_all(row)[:7]
+            rules.append((name[1].strip('"'), [int(n) for n in numbers], literals_of(premises), literals_of(conclusions)))
+    return rules
+
+
+def shapes_of(top):
+    """Each construction of the definitions: its name, its needs, and what it gives."""
+    text = read(top / "crates/e_construct/specs/Shapes.antt")
+    shapes = []
+    for name, row in re.findall(r"^shape_row (\w+) =\s+shape (.*(?:\n    .*)?)", text, re.M):
+        _, needs, _, gives, *_ = parsed_all(row)
+        shapes.append((name, literals_of(needs), literals_of(gives)))
+    return shapes
+
+
+def check_rules(top):
+    page = top / "docs/rules.md"
+    text = read(page)
+    rules = {name: rest for name, *rest in rules_of(top)}
+    shapes = {name: rest for name, *rest in shapes_of(top)}
+    names = []
+    for number, cells in cells_of(text):
+        name = cells[0].strip("`")
+        if len(cells) == 5 and cells[0].startswith("`") and " " not in name:
+            names.append(name)
+            variables = cells[1].strip("`").split()
+            sorts = [sum(map(test, variables)) for test in (str.islower, "LMN".__contains__, "ABC".__contains__)]
+            if rules.get(name) != [sorts, spans(cells[2]), spans(cells[3])]:
+                yield page, number, f"the rule {name} is another one in the definitions"
+        if len(cells) == 6 and cells[1] in shapes:
+            names.append(cells[1])
+            if shapes[cells[1]] != [spans(cells[3]), spans(cells[4])]:
+                yield page, number, f"the construction {cells[1]} is another one in the definitions"
+    if names != [*rules, *shapes]:
+        yield page, 1, "the rules and constructions are not those of the definitions, in their order"
+
+
+# ---- counts
+
+
+def counts_of(top):
+    names = [name for name, *_ in rules_of(top)]
+    kinds = read(top / "crates/e_clause/specs/RuleKinds.antt")
+    cited = int(re.search(r"\b(\d+)\b", kinds[kinds.index("=") :]).group(1))
+    return cited, len(names) - cited, len(names), len(shapes_of(top))
+
+
+def stored_rows(top, crate):
+    with open(top / "crates" / crate / "stdin", encoding="utf-8", newline="\n") as rows:
+        return sum(1 for row in rows if row.strip() and not row.startswith("*"))
+
+
+def check_counts(top):
+    cited, transfers, rules, shapes = counts_of(top)
+    if shapes != 20:
+        yield top / "docs/rules.md", 1, f"there are {shapes} constructions, and documents say twenty"
+    words = len(reserved_words(top))
+    wanted = [
+        (r"(?<!to )\b(\d+) transfer rules", {transfers}, "transfer rules"),
+        (r"(?<!transfer )\b(\d+) rules\b|\b(\d+) (?:are the rules )?that `by` (?:may )?cites?", {cited, rules}, "rules"),
+        (r"These (\d+) (?:carry facts|are the rules)", {cited, transfers}, "rules"),
+        (r"`language_rows` has ([\d,]+) rows", {stored_rows(top, "language_rows")}, "rows of language_rows"),
+        (r"`run_rows` runs `run` on ([\d,]+) rows", {stored_rows(top, "run_rows")}, "rows of run_rows"),
+        (r"\b(\d+) reserved words|Reserved words are (\d+)", {words}, "reserved words"),
+    ]
+    for page in sorted({page for pattern in PAGES for page in top.glob(pattern)}):
+        text = read(page)
+        flat = re.sub(r"\s", " ", text)
+        for pattern, numbers, what in wanted:
+            for match in re.finditer(pattern, flat):
+                said = next(group for group in match.groups() if group)
+                if int(said.replace(",", "")) not in numbers:
+                    number = text[: match.start()].count("\n") + 1
+                    yield page, number, f"{said} {what}, and the tree has {' or '.join(map(str, sorted(numbers)))}"
+
+
+# ---- crates
+
+
+def head_sentence(top, crate):
+    """The first sentence of the comment at the head of a crate."""
+    root = next(path for name in ("lib.rt", "main.rt") if (path := top / "crates" / crate / "src" / name).exists())
+    lines = []
+    for line in read(root).split("\n"):
+        match = re.match(r"//!? (.*)", line)
+        if not match:
+            break
+        lines.append(match.group(1))
+    return re.split(r"\.(?: |$)", " ".join(lines))[0]
+
+
+def public_names(top, crate):
+    """The functions that the root of a crate hands on, with its laws."""
+    root = top / "crates" / crate / "src/lib.rt"
+    text = read(root) if root.exists() else ""
+    for names in re.findall(r"^pub use [\w:]+::(\{[^}]*\}|\w+);", text, re.M):
+        yield from (name for name in re.findall(r"\w+", names) if name[0].islower())
+
+
+def check_crates(top):
+    crates = re.findall(r"^(\w+):", read(top / "crates.txt"), re.M)
+    page = top / "docs/architecture.md"
+    rows = {cells[1].strip("`"): (number, cells[2]) for number, cells in cells_of(read(page)) if len(cells) == 4}
+    for crate in crates:
+        number, sentence = rows.get(crate, (1, ""))
+        if sentence != head_sentence(top, crate):
+            yield page, number, f"the sentence of {crate} is not that at the head of the crate"
+    page = top / "docs/proved.md"
+    text = read(page)
+    for crate in crates:
+        section = re.search(rf"^### `{crate}`\n(.*?)(?=^##|\Z)", text, re.M | re.S)
+        for name in public_names(top, crate):
+            if section and not re.search(rf"\b{name}\b", section.group(1)):
+                yield page, line_of(text, section.group()), f"{crate} has the public function {name}"
+    page = top / "README.md"
+    for number, cells in cells_of(read(page)):
+        crate = cells[0].strip("`")
+        if len(cells) == 3 and crate in crates:
+            code = "".join(read(path) for path in sorted((top / "crates" / crate / "src").glob("*.rt")))
+            for name in re.findall(r"\w+", " ".join(spans(cells[2]))):
+                if not re.search(rf"\b{name}\b", code):
+                    yield page, number, f"{crate} has no {name}"
+
+
+# ---- the program
+
+
+def check_program(top):
+    usage = re.search(r'"(usage: .*?)\\n"', read(top / "crates/e_run/src/runner.rt")).group(1)
+    for name in ("README.md", "docs/answers.md"):
+        if usage not in read(top / name).replace("\\|", "|"):
+            yield top / name, 1, f"the usage line is another one: {usage}"
+    for command in re.findall(r"(\w+)(?: [A-Z]+)*(?: \||$)", usage.replace("usage: elements ", "")):
+        for name in ("docs/answers.md", "docs/claims.md"):
+            if not re.search(rf"`{command}\b", read(top / name)):
+                yield top / name, 1, f"the command {command} is not told"
+    code = read(top / "crates/e_run/src/status.rt")
+    code = code[code.index("fn exit_code") :]
+    exits = {}
+    for arms, status in re.findall(r"((?:\s*\|?\s*Status::\w+(?: \{ \.\. \}|\(_\))?)+) => (\d+),", code):
+        exits.update({name: status for name in re.findall(r"Status::(\w+)", arms)})
+    page = top / "docs/answers.md"
+    told = {}
+    for number, cells in cells_of(read(page)):
+        if len(cells) == 3 and cells[2].isdigit():
+            told[cells[0].strip("`")] = cells[2]
+            if exits.get(cells[0].strip("`")) != cells[2]:
+                yield page, number, f"exit status of {cells[0]}"
+    for name in sorted(set(exits) - set(told)):
+        yield page, 1, f"the answer {name} is not told"
+    listed = dict(re.findall(r"^(\w+):(.*)$", read(top / "crates.txt"), re.M))
+    libraries = {name for names in listed.values() for name in names.split()} - set(listed)
+    page = top / "README.md"
+    trusted = re.search(r"of its crates ((?:`\w+`[,.\s]*)+)", read(page))
+    if not trusted or set(spans(trusted.group(1))) != libraries:
+        yield page, 1, f"the libraries of crates.txt: {' '.join(sorted(libraries))}"
+
+
+# ---- the language
+
+
+def reserved_words(top):
+    code = read(top / "crates/e_text/src/words.rt")
+    return re.findall(r'is\(token, b"([a-z-]+)"\)', code)
+
+
+def check_language(top):
+    page = top / "docs/book.md"
+    text = read(page)
+    listed = re.search(r"Reserved words, which are no names: `([^`]*)`", text)
+    if not listed or sorted(listed.group(1).split()) != sorted(reserved_words(top)):
+        yield page, line_of(text, "Reserved words"), "the reserved words of the code are others"
+    code = read(top / "crates/e_book/src/limits.rt") + read(top / "crates/e_book/src/sum.rt")
+    limits = dict(re.findall(r"const MAX_(\w+): \w+ = ([\d_]+);", code))
+    for number, cells in cells_of(text):
+        name = cells[0].strip("`").upper()
+        if len(cells) == 3 and name in limits and cells[1][:1].isdigit() and limits[name].replace("_", ",") != cells[1]:
+            yield page, number, f"the limit of the code is {limits[name]}"
+
+
+# ---- Book I
+
+
+def theorems_of(book):
+    """Each theorem of a book with the theorems that its steps apply, in order of first use, and its number of steps."""
+    theorems = {}
+    in_proof, applied, steps = False, [], 0
+    for words in filter(None, map(str.split, book.split("\n"))):
+        if words[0] == "theorem":
+            title, in_proof, applied, steps = words[1], False, [], 0
+        elif words[0] == "proof":
+            in_proof = True
+        elif words[0] == "end":
+            theorems[title] = (applied, steps)
+        elif in_proof and STEP.match(words[0]):
+            steps += 1
+            if words[0] == "apply" and words[1] not in applied:
+                applied.append(words[1])
+    return theorems
+
+
+def check_book_one(top):
+    theorems = theorems_of(read(top / "examples/book-1.book"))
+    page = top / "examples/book-1/README.md"
+    told = set()
+    for number, cells in cells_of(read(page)):
+        title = cells[1].strip("`")
+        if len(cells) == 5 and title in theorems:
+            told.add(title)
+            applied, steps = theorems[title]
+            if sorted(spans(cells[3])) != sorted(applied) or cells[4] != str(steps):
+                yield page, number, f"{title} applies {' '.join(applied) or 'none'} and has {steps} steps"
+    for title in sorted(set(theorems) - told):
+        yield page, 1, f"no row for {title}"
+    page = top / "examples/book-1/uses.out"
+    lines = [" ".join(["uses", title, *applied]) for title, (applied, _) in theorems.items()]
+    if read(page) != "\n".join([*lines, f"listed {len(theorems)}", ""]):
+        yield page, 1, "not the lines of the book"
+    count = f"{len(theorems)} theorems, {sum(steps for _, steps in theorems.values()):,} steps"
+    for name in ("examples/README.md", "examples/book-1/README.md"):
+        if count not in re.sub(r"\s+", " ", read(top / name)):
+            yield top / name, 1, f"Book I has {count}"
+    page = top / "docs/trimming.md"
+    text = read(page)
+    table = rests.table({title: applied for title, (applied, _) in theorems.items()}, r"I\.[0-9]+")
+    if "\n".join(table) not in text:
+        yield page, line_of(text, table[0]), "what Book I rests on is not what tools/rests.py makes"
+
+
+# ---- files that are named without their suffix
+
+
+def check_files(top):
+    specs, proofs = ({path.stem for path in top.glob(f"crates/*/{folder}/**/*.antt")} for folder in ("specs", "proofs"))
+    page = top / "docs/definitions.md"
+    for number, line in enumerate(read(page).split("\n"), 1):
+        text = re.sub(r"`[^`]*`", "", line)
+        cells = re.split(r"(?<!\\)\|", text)
+        words = re.findall(r"\b[A-Z]\w+", cells[3]) if len(cells) == 6 else re.findall(r"\b[A-Z][a-z]+[A-Z]\w+", text)
+        for word in words:
+            if word not in specs and word != "File":
+                yield page, number, f"no page of definitions: {word}"
+    page = top / "docs/proofs.md"
+    text = read(page)
+    for match in re.finditer(r"\[([^\[\]]+)\](?!\()", text):
+        for word in re.findall(r"\b[A-Z]\w+", re.sub(r"`[^`]*`", "", match.group(1))):
+            if word not in specs | proofs:
+                yield page, text[: match.start()].count("\n") + 1, f"no file of proofs: {word}"
+    for number, cells in cells_of(text):
+        if len(cells) == 3 and cells[1].startswith("e_"):
+            for word in re.findall(r"\b[A-Z]\w+", cells[2]):
+                if word not in proofs:
+                    yield page, number, f"no file of proofs: {word}"
+
+
+CHECKS = [check_rules, check_counts, check_crates, check_program, check_language, check_book_one, check_files]
