@@ -122,6 +122,7 @@ pub(crate) fn put_claim(
 }
 
 /// A superposition, with names for the copied points, and with the literals that its block shows.
+#[tactic(auto, unfolding(crate::specs::inner::Parts::superposition_text))]
 pub(crate) fn put_superposition(
     alloc: Global,
     out: &mut Vec<u8>,
