@@ -34,7 +34,7 @@ use Rattle.e_book.specs.Scope.{scope_of_names, right_count, objects_of_sorts, li
 use Rattle.e_book.specs.Canonical.{raw_of}
 use Rattle.e_book.specs.Titled.{Titled, notion_of, is_notion, are_notions}
 use Rattle.e_book.specs.Meanings.{known_notion, meant_in, item_in, items_in}
-use Rattle.e_book.proofs.InScope.{bind_ok, ok_is, read_ok, lit_in_scope}
+use Rattle.e_book.proofs.InScope.{bind_ok, ok_is, read_ok}
 use Rattle.e_book.proofs.Citations.{counted}
 use Rattle.e_book.proofs.Building.{of_sorts}
 use Rattle.e_book.proofs.SaidLits.{AtomSaid, LitsSaid}
@@ -197,11 +197,6 @@ items_some notions ns (item ∷ is) p all some e =
     let b = bind_ok (items_in notions ns a.0.1 is) (λ b. read_ok (pair (a.0.0 ++ b.0) b.1)) p a.2 in
     subst (λ (q : List Lit × ℕ). 0 < length (named ns q.0)) (ok_is (pair (a.0.0 ++ b.0.0) b.0.1) p b.2)
     (omega (arith, item_some notions ns item a.0 all a.1, length-append a.0.0 b.0.0, length-map (a.0.0 ++ b.0.0) (raw_of ns)))
-
--- ---- as they are written out
-
-pub one_within : (ns : Names) (raw : RawLit) (l : Lit) (ls : List Lit) → lit_in ns raw ≡ Ok l → ls ≡ l ∷ [] → list_all (all_in_scope (scope_of_names ns)) ls ≡ true
-one_within ns raw l ls e one = rw (one, lit_in_scope ns raw l e) refl
 
 -- what fails is not gone on with
 pub fails_on : {A B : Type 0} (e : Trouble) (r : Result A Kind) (f : A → Result B Kind) → Fails e r → Fails e (r >>= f)

@@ -72,7 +72,7 @@ pub mod FreshTitles
 pub mod ItemLoops
 pub mod SaidAgain
 pub mod SameTitle
-pub mod NamesInRange
+pub mod NamesPut
 pub mod ItemsWritten
 pub mod OutWritten
 pub mod LinesByWord

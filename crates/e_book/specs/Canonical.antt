@@ -181,9 +181,13 @@ form_words forms.End = codes "end" ∷ []
 abbrev pub line_of : Form → List ℕ
 line_of form = joined (form_words form)
 
+-- what is written for an object without a name: no object that is in scope is one
+abbrev pub nameless : List ℕ
+nameless = codes "nameless"
+
 -- the name of an object
 abbrev pub name_at : List (List ℕ) → ℕ → List ℕ
-name_at names i = slice_index_or names i []
+name_at names i = slice_index_or names i nameless
 
 abbrev pub name_of_object : Names → Obj → List ℕ
 name_of_object ns o = name_at (names_of_sort ns o.sort) o.num

@@ -1,12 +1,10 @@
 //! The lines that use an earlier theorem.
-ghost use Rattle.std.specs.Prelude.{◌≡◌, ◌<◌, ◌≤◌, ◌++◌, IfOk, OnOk, length};
-ghost use Rattle.e_text.specs.Tokens.{spaced};
+ghost use Rattle.std.specs.Prelude.{◌≡◌, ◌<◌, ◌≤◌, IfOk, length};
 ghost use Rattle.e_theorem.specs.Statements.{stated};
 ghost use Rattle.e_book.specs.Reading.{texts, Gives};
 ghost use Rattle.e_book.specs.Headed.{place_in, theorem_of};
 ghost use Rattle.e_book.specs.Limits.{most_theorems};
 ghost use Rattle.e_book.specs.Scope.{FewNames};
-ghost use Rattle.e_book.specs.Canonical.{made_words};
 ghost use Rattle.e_book.specs.Applies.{argument_of, arguments_of, made_names, apply_of, known_place, entry_in, entries_in, apply_in, count_blanks};
 
 use crate::fault::{Kind, Trouble};
@@ -16,8 +14,7 @@ use crate::words::{cut, some_names};
 use e_deriv::Names;
 use e_literal::{Items, Obj, Sort};
 use e_text::{Name, Title, is};
-use e_words::{put, put_names};
-use std::alloc::{AllocError, Global};
+use std::alloc::Global;
 
 /// The use of an earlier theorem with its names as they are spelled, from left to right.
 #[derive(Drop)]
@@ -62,17 +59,6 @@ fn made_names(alloc: Global, making: bool, words: &[&[u8]]) -> Result<Items<Name
     } else {
         Ok(Items::empty(alloc))
     }
-}
-
-/// Writes `as` and the names of made objects, each behind a space, and nothing where there are none. It fails only for want of memory.
-pub fn put_made_names(out: &mut Vec<u8>, new: &[Name]) -> Result<(), AllocError>
-    ensures { OnOk result (out.new.items ≡ out.old.items ++ spaced (made_words new.now)) }
-{
-    if new.is_empty() {
-        return Ok(());
-    }
-    put(out, b"as")?;
-    put_names(out, new)
 }
 
 /// What stands behind `apply`: a title, arguments, and perhaps `as` with names behind it.

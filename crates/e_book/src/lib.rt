@@ -32,7 +32,7 @@ mod theorem;
 mod theorems;
 mod words;
 
-pub use applies::{Application, RawApply, apply_in, put_made_names};
+pub use applies::{Application, RawApply, apply_in};
 pub use blocks::{Closed, Opened, Outer, Outers};
 pub use book::next_item;
 pub use coming::Coming;
@@ -49,6 +49,7 @@ pub use laws::{
 pub use lets::RawLet;
 pub use limits::few_monos;
 pub use literal::{RawAtom, RawLit, diagram_lit_of, diagram_lits_of, lit_of};
+pub use naming::{name_at, name_of_object, raw_lits, raw_of, raw_term};
 pub use notions::Notions;
 pub use reading::{Reading, is_skipped};
 pub use scope::{args_in, let_in, lit_in, put_lits, qed_in, scope_of_names};

@@ -1,43 +1,79 @@
-//! Literals with the names of their objects, as a line would spell them.
-ghost use Rattle.std.specs.Prelude.{◌≡◌, ◌<◌, ◌++◌, length, map, true, IfOk, OnOk, IsTrue};
-ghost use Rattle.std.specs.List.{list_all};
-ghost use Rattle.e_literal.specs.Literal.{is_in_scope, objects_of_term, objects_of_sum, objects_of_atom, all_in_scope};
-ghost use Rattle.e_book.specs.Canonical.{name_at, raw_term, raw_sum, raw_atom, raw_signed, raw_of};
-ghost use Rattle.e_book.specs.Scope.{scope_of_names};
+//! Objects, terms and literals by their names, as a line spells them.
+ghost use Rattle.std.specs.Prelude.{◌≡◌, ◌++◌, map, true, IfOk, OnOk};
+ghost use Rattle.e_book.specs.Canonical.{nameless, name_at, name_of_object, raw_term, raw_sum, raw_atom, raw_signed, raw_of};
 
 use crate::literal::{RawAtom, RawLit};
 use crate::sum::{RawMono, RawTerm};
 use e_deriv::Names;
-use e_literal::{Atom, Items, Lit, Mono, Term};
+use e_literal::{Atom, Items, Lit, Mono, Obj, Sort, Term};
 use e_text::Name;
 use std::alloc::{AllocError, Global};
+use std::mem;
 
-fn name_at(names: &[Name], i: u16) -> Name
-    requires { i < length names.now }
-    ensures { result ≡ name_at names.now i }
+/// What is written for an object without a name.
+#[tactic(auto, unfolding(e_text::specs::Names::is_statement_word, e_text::specs::Names::is_steps_word, e_text::specs::Names::is_relations_word, e_text::specs::Names::is_shapes_word, e_text::specs::Names::is_others_word))]
+fn nameless() -> Name
+    ensures { result ≡ nameless }
 {
-    names[usize::from(i)]
+    Name::read(b"nameless").unwrap()
 }
 
-fn raw_term(names: &Names, term: Term) -> RawTerm
-    requires { IsTrue (list_all (is_in_scope (scope_of_names names.now)) (objects_of_term term)) }
+/// The name at a place.
+pub fn name_at(names: &[Name], i: usize) -> Name
+    ensures { result ≡ name_at names.now i }
+{
+    match names.get(i) {
+        Some(name) => *name,
+        None => nameless(),
+    }
+}
+
+fn point_at(names: &Names, i: u16) -> Name
+    ensures { result ≡ name_at names.now.points i }
+{
+    name_at(names.points.items(), usize::from(i))
+}
+
+fn line_at(names: &Names, i: u16) -> Name
+    ensures { result ≡ name_at names.now.lines i }
+{
+    name_at(names.lines.items(), usize::from(i))
+}
+
+fn circle_at(names: &Names, i: u16) -> Name
+    ensures { result ≡ name_at names.now.circles i }
+{
+    name_at(names.circles.items(), usize::from(i))
+}
+
+/// The name of an object.
+pub fn name_of_object(names: &Names, object: Obj) -> Name
+    ensures { result ≡ name_of_object names.now object }
+{
+    match object.sort {
+        Sort::Point => point_at(names, object.num),
+        Sort::Line => line_at(names, object.num),
+        Sort::Circle => circle_at(names, object.num),
+    }
+}
+
+/// A term with the names of its points.
+pub fn raw_term(names: &Names, term: Term) -> RawTerm
     ensures { result ≡ raw_term names.now term }
 {
-    let points = names.points.items();
     match term {
-        Term::Seg(a, b) => RawTerm::Seg(name_at(points, a), name_at(points, b)),
+        Term::Seg(a, b) => RawTerm::Seg(point_at(names, a), point_at(names, b)),
         Term::Ang(a, b, c) => {
-            RawTerm::Ang(name_at(points, a), name_at(points, b), name_at(points, c))
+            RawTerm::Ang(point_at(names, a), point_at(names, b), point_at(names, c))
         }
         Term::Area(a, b, c) => {
-            RawTerm::Area(name_at(points, a), name_at(points, b), name_at(points, c))
+            RawTerm::Area(point_at(names, a), point_at(names, b), point_at(names, c))
         }
         Term::Right => RawTerm::Right,
     }
 }
 
 fn raw_sum(alloc: Global, names: &Names, monos: &[Mono]) -> Result<Items<RawMono>, AllocError>
-    requires { IsTrue (list_all (is_in_scope (scope_of_names names.now)) (objects_of_sum monos.now)) }
     ensures { IfOk result (λ s. s ≡ raw_sum names.now monos.now) }
 {
     let mut sum = Items::empty(alloc);
@@ -51,33 +87,29 @@ fn raw_sum(alloc: Global, names: &Names, monos: &[Mono]) -> Result<Items<RawMono
 
 /// An atom with the names of its objects.
 fn raw_atom(alloc: Global, names: &Names, atom: &Atom) -> Result<RawAtom, AllocError>
-    requires { IsTrue (list_all (is_in_scope (scope_of_names names.now)) (objects_of_atom atom.now)) }
     ensures { IfOk result (λ a. a ≡ raw_atom names.now atom.now) }
 {
-    let points = names.points.items();
-    let lines = names.lines.items();
-    let circles = names.circles.items();
     let raw = match atom {
-        Atom::On(a, l) => RawAtom::On(name_at(points, *a), name_at(lines, *l)),
-        Atom::OnC(a, c) => RawAtom::On(name_at(points, *a), name_at(circles, *c)),
-        Atom::Inside(a, c) => RawAtom::Inside(name_at(points, *a), name_at(circles, *c)),
-        Atom::Center(a, c) => RawAtom::Center(name_at(points, *a), name_at(circles, *c)),
+        Atom::On(a, l) => RawAtom::On(point_at(names, *a), line_at(names, *l)),
+        Atom::OnC(a, c) => RawAtom::On(point_at(names, *a), circle_at(names, *c)),
+        Atom::Inside(a, c) => RawAtom::Inside(point_at(names, *a), circle_at(names, *c)),
+        Atom::Center(a, c) => RawAtom::Center(point_at(names, *a), circle_at(names, *c)),
         Atom::Between(a, b, c) => {
             RawAtom::Between(
-                name_at(points, *a),
-                name_at(points, *b),
-                name_at(points, *c),
+                point_at(names, *a),
+                point_at(names, *b),
+                point_at(names, *c),
             )
         }
         Atom::Same(a, b, l) => {
-            RawAtom::Same(name_at(points, *a), name_at(points, *b), name_at(lines, *l))
+            RawAtom::Same(point_at(names, *a), point_at(names, *b), line_at(names, *l))
         }
-        Atom::MeetLL(l, m) => RawAtom::Meets(name_at(lines, *l), name_at(lines, *m)),
-        Atom::MeetLC(l, c) => RawAtom::Meets(name_at(lines, *l), name_at(circles, *c)),
-        Atom::MeetCC(c, d) => RawAtom::Meets(name_at(circles, *c), name_at(circles, *d)),
-        Atom::EqP(a, b) => RawAtom::Equal(name_at(points, *a), name_at(points, *b)),
-        Atom::EqL(l, m) => RawAtom::Equal(name_at(lines, *l), name_at(lines, *m)),
-        Atom::EqC(c, d) => RawAtom::Equal(name_at(circles, *c), name_at(circles, *d)),
+        Atom::MeetLL(l, m) => RawAtom::Meets(line_at(names, *l), line_at(names, *m)),
+        Atom::MeetLC(l, c) => RawAtom::Meets(line_at(names, *l), circle_at(names, *c)),
+        Atom::MeetCC(c, d) => RawAtom::Meets(circle_at(names, *c), circle_at(names, *d)),
+        Atom::EqP(a, b) => RawAtom::Equal(point_at(names, *a), point_at(names, *b)),
+        Atom::EqL(l, m) => RawAtom::Equal(line_at(names, *l), line_at(names, *m)),
+        Atom::EqC(c, d) => RawAtom::Equal(circle_at(names, *c), circle_at(names, *d)),
         Atom::MagEq(x, y) => {
             let left = raw_sum(alloc, names, x.items())?;
             RawAtom::SumsEqual(left, raw_sum(alloc, names, y.items())?)
@@ -92,7 +124,6 @@ fn raw_atom(alloc: Global, names: &Names, atom: &Atom) -> Result<RawAtom, AllocE
 
 /// A negated atom: the negation of X < Y is Y <= X.
 fn raw_negated(alloc: Global, names: &Names, atom: &Atom) -> Result<RawLit, AllocError>
-    requires { IsTrue (list_all (is_in_scope (scope_of_names names.now)) (objects_of_atom atom.now)) }
     ensures { IfOk result (λ l. l ≡ raw_signed names.now true atom.now) }
 {
     match atom {
@@ -111,8 +142,8 @@ fn raw_negated(alloc: Global, names: &Names, atom: &Atom) -> Result<RawLit, Allo
     }
 }
 
-fn raw_of(alloc: Global, names: &Names, lit: &Lit) -> Result<RawLit, AllocError>
-    requires { IsTrue (all_in_scope (scope_of_names names.now) lit.now) }
+/// A literal with the names of its objects. It fails only for want of memory.
+pub fn raw_of(alloc: Global, names: &Names, lit: &Lit) -> Result<RawLit, AllocError>
     ensures { IfOk result (λ l. l ≡ raw_of names.now lit.now) }
 {
     if lit.neg {
@@ -129,7 +160,6 @@ pub(crate) fn put_named(
     lits: &[Lit],
     raws: &mut Items<RawLit>,
 ) -> Result<(), AllocError>
-    requires { IsTrue (list_all (all_in_scope (scope_of_names names.now)) lits.now) }
     ensures { OnOk result (raws.new ≡ raws.old ++ map (raw_of names.now) lits.now) }
 {
     for lit in lits {
@@ -137,4 +167,18 @@ pub(crate) fn put_named(
         raws.push(raw)?;
     }
     Ok(())
+}
+
+/// The literals with the names of their objects. It fails only for want of memory.
+pub fn raw_lits(alloc: Global, names: &Names, lits: &[Lit]) -> Result<Items<RawLit>, AllocError>
+    ensures { IfOk result (λ r. r ≡ map (raw_of names.now) lits.now) }
+{
+    let mut raws = Items::empty(alloc);
+    match put_named(alloc, names, lits, &mut raws) {
+        Ok(()) => Ok(raws),
+        Err(error) => {
+            mem::drop(raws);
+            Err(error)
+        }
+    }
 }

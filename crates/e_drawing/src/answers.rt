@@ -3,12 +3,14 @@ ghost use Rattle.std.specs.Prelude.{◌≡◌, ◌++◌, flat_map, length, OnOk}
 ghost use Rattle.e_drawing.specs.Answers.{given_word, shown_word, answer_line, given_line, shown_line, figure_line, answered};
 
 use crate::plan::Plan;
+use e_book::raw_of;
 use e_deriv::Names;
 use e_figure::{Figure, holds, refutes};
+use e_line::put_literal;
 use e_literal::Lit;
-use e_spell::put_literal;
 use e_words::{end_line, put_number};
-use std::alloc::AllocError;
+use std::alloc::{AllocError, Global};
+use std::mem;
 
 /// Whether a given literal is true.
 fn given_word(figure: &Figure, lit: &Lit) -> &'static [u8]
@@ -35,6 +37,7 @@ fn shown_word(figure: &Figure, given: &[Lit], lit: &Lit) -> &'static [u8]
 
 /// A word, what holds of a literal, and the literal, as a line.
 fn put_answer(
+    alloc: Global,
     out: &mut Vec<u8>,
     word: &[u8],
     holds: &[u8],
@@ -45,16 +48,20 @@ fn put_answer(
 {
     out.extend_from_slice(word)?;
     out.extend_from_slice(holds)?;
-    put_literal(out, names, lit)?;
+    let raw = raw_of(alloc, names, lit)?;
+    let put = put_literal(out, &raw);
+    mem::drop(raw);
+    put?;
     end_line(out)
 }
 
 /// A line for each given literal.
-fn put_given(out: &mut Vec<u8>, plan: &Plan) -> Result<(), AllocError>
+fn put_given(alloc: Global, out: &mut Vec<u8>, plan: &Plan) -> Result<(), AllocError>
     ensures { OnOk result (out.new.items ≡ out.old.items ++ flat_map (given_line plan.now) plan.now.given) }
 {
     for lit in plan.given.items() {
         put_answer(
+            alloc,
             out,
             b"given ",
             given_word(&plan.figure, lit),
@@ -66,11 +73,12 @@ fn put_given(out: &mut Vec<u8>, plan: &Plan) -> Result<(), AllocError>
 }
 
 /// A line for each shown literal.
-fn put_shown(out: &mut Vec<u8>, plan: &Plan) -> Result<(), AllocError>
+fn put_shown(alloc: Global, out: &mut Vec<u8>, plan: &Plan) -> Result<(), AllocError>
     ensures { OnOk result (out.new.items ≡ out.old.items ++ flat_map (shown_line plan.now) plan.now.shown) }
 {
     for lit in plan.shown.items() {
         put_answer(
+            alloc,
             out,
             b"show ",
             shown_word(&plan.figure, plan.given.items(), lit),
@@ -91,11 +99,16 @@ fn put_last(out: &mut Vec<u8>, shown: u64) -> Result<(), AllocError>
 }
 
 /// The answer to a figure text.
-pub fn put_answers(out: &mut Vec<u8>, plan: &Plan, shown: u64) -> Result<(), AllocError>
+pub fn put_answers(
+    alloc: Global,
+    out: &mut Vec<u8>,
+    plan: &Plan,
+    shown: u64,
+) -> Result<(), AllocError>
     requires { shown ≡ length plan.now.shown }
     ensures { OnOk result (out.new.items ≡ out.old.items ++ answered plan.now) }
 {
-    put_given(out, plan)?;
-    put_shown(out, plan)?;
+    put_given(alloc, out, plan)?;
+    put_shown(alloc, out, plan)?;
     put_last(out, shown)
 }

@@ -42,7 +42,7 @@ fn drawing_of(alloc: Global, plan: &Plan) -> Result<Drawing, AllocError>
 {
     let shown = plan.shown.len() as u64;
     let mut bytes = Vec::new(alloc);
-    put_answers(&mut bytes, plan, shown)?;
+    put_answers(alloc, &mut bytes, plan, shown)?;
     Ok(Drawing { shown, bytes })
 }
 

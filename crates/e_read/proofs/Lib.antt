@@ -1,4 +1,3 @@
-pub mod Spaced
 pub mod FilledScripts
 pub mod TakenLines
 pub mod Bridge

@@ -5,8 +5,6 @@
 mod filling;
 mod kept;
 mod laws;
-mod lines;
-mod literals;
 mod mark;
 mod marks;
 mod needs;

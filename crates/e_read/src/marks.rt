@@ -4,9 +4,9 @@ ghost use Rattle.e_text.specs.Tokens.{spaced};
 ghost use Rattle.e_book.specs.Canonical.{term_words};
 ghost use Rattle.e_read.specs.Marks.{row_words, mark_words, mark_line};
 
-use crate::literals::{put_literal, put_term};
 use crate::mark::{Mark, RawRow};
 use e_book::RawTerm;
+use e_line::{put_literal, put_term};
 use e_words::{put, put_names, put_number};
 use std::alloc::AllocError;
 

@@ -6,10 +6,10 @@ ghost use Rattle.e_book.specs.Reading.{texts, Gives};
 ghost use Rattle.e_read.specs.Marks.{mark_line};
 ghost use Rattle.e_read.specs.Strict.{is_less, is_direct, are_direct, is_strict, strict_of, is_strict_row, is_strict_mark, strict_mark, ends_with, is_apart};
 
-use crate::lines::put_form;
 use crate::mark::{Mark, RawRow, mark_of};
 use crate::marks::put_mark;
 use e_book::{Draft, Form, Kind, RawAtom, RawLit, Trouble, form_of};
+use e_line::put_form;
 use e_literal::{Sort, is_same_sort};
 use e_text::Name;
 use std::alloc::{AllocError, Global};

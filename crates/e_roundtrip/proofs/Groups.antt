@@ -13,7 +13,7 @@ use Rattle.e_literal.proofs.Growing.{count_one}
 use Rattle.e_deriv.specs.declared.names.Names.{Names}
 use Rattle.e_deriv.specs.Naming.{names_of_sort, with_names}
 use Rattle.e_book.specs.Scope.{scope_of_names}
-use Rattle.e_book.specs.Canonical.{name_at, name_of_object, Group, group, grouped_before, grouped}
+use Rattle.e_book.specs.Canonical.{nameless, name_at, name_of_object, Group, group, grouped_before, grouped}
 use Rattle.e_read.specs.Strict.{ends_with}
 use Rattle.e_roundtrip.proofs.NamesSpelled.{Holds, Keeps}
 
@@ -25,7 +25,7 @@ next_append s (x ∷ xs) ys = ap (λ (l : List Obj). obj x (count_of s x) ∷ l)
 
 here : (xs ys new : List (List ℕ)) (n : List ℕ) → Holds (xs ++ n ∷ new) ys → name_at ys (length xs) ≡ n
 here xs ys new n h =
-    h (length xs) (omega (arith, length-append xs (n ∷ new))) ∙ ap (λ (i : ℕ). get_or (xs ++ n ∷ new) i []) (omega arith) ∙ get_or-append-add xs (n ∷ new) 0 []
+    h (length xs) (omega (arith, length-append xs (n ∷ new))) ∙ ap (λ (i : ℕ). get_or (xs ++ n ∷ new) i nameless) (omega arith) ∙ get_or-append-add xs (n ∷ new) 0 nameless
 
 -- the next objects of a sort have the names that stand next
 names_next : (more : Names) (sort : Sort) (xs new : List (List ℕ)) (s : Scope) → count_of s sort ≡ length xs → Holds (xs ++ new) (names_of_sort more sort)
@@ -130,7 +130,7 @@ scope_more ns sort (n ∷ new) =
     ap scope_of_names (one_then ns sort n new) ∙ scope_more (with_more ns sort (n ∷ [])) sort new ∙ ap (λ (s : Scope). grown s (replicate (length new) sort)) (one_named ns sort n)
 
 holds_before : (xs new ys : List (List ℕ)) → Holds (xs ++ new) ys → Holds xs ys
-holds_before xs new ys h i lt = h i (omega (arith, lt, length-append xs new)) ∙ get_or_append_left xs new [] i lt
+holds_before xs new ys h i lt = h i (omega (arith, lt, length-append xs new)) ∙ get_or_append_left xs new nameless i lt
 
 -- the names that were there are kept
 pub keeps_before : (ns more : Names) (sort : Sort) (new : List (List ℕ)) → Keeps (with_names ns sort (names_of_sort ns sort ++ new)) more → Keeps ns more

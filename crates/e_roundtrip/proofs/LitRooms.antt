@@ -27,7 +27,7 @@ use Rattle.e_roundtrip.proofs.Rooms.{is_short, short_name, short_number, Room, r
 
 -- ---- names of objects
 
--- the name at a place, or no word past the last
+-- the name at a place, or the word for an object without one
 pub short_at : (names : List (List ℕ)) (i : ℕ) → AreNames names → is_short 16 (name_at names i) ≡ true
 short_at [] i h = refl
 short_at (n ∷ names) zero h = short_name n h.0

@@ -1,5 +1,5 @@
 -- A name that is read stands at the place of its object.
-use Rattle.std.proofs.Common.{◌≡◌, ℕ, ◌<◌, List, [], length, Option, Some, None, Ok, refl, subst, ◌∙◌}
+use Rattle.std.proofs.Common.{◌≡◌, ℕ, ◌<◌, List, length, Option, Some, None, Ok, refl, subst, ◌∙◌}
 use Rattle.std.specs.List.{position}
 use Rattle.std.specs.Str.{bytes_eq}
 use Rattle.std.proofs.lemmas.List.Quantifiers.{position-Some}
@@ -11,7 +11,7 @@ use Rattle.e_literal.specs.Literal.{obj}
 use Rattle.e_deriv.specs.declared.names.Names.{Names}
 use Rattle.e_deriv.specs.Naming.{names_of_sort}
 use Rattle.e_book.specs.Scope.{object_at, or_else, object_in, object_of, used, number_at, number_of, object_as}
-use Rattle.e_book.specs.Canonical.{name_at, name_of_object}
+use Rattle.e_book.specs.Canonical.{nameless, name_at, name_of_object}
 use Rattle.e_book.proofs.InScope.{bind_ok, ok_is, read_ok, known_is}
 
 -- each name of the first list stands at its place in the second, which may be longer
@@ -30,7 +30,7 @@ keeps_all ns = record { points = λ i lt. refl; lines = λ i lt. refl; circles =
 -- a name that is found
 found_name : (xs ys : List (List ℕ)) (name : List ℕ) (i : ℕ) → Holds xs ys → position (λ n. bytes_eq n name) xs ≡ Some i → name_at ys i ≡ name
 found_name xs ys name i h e =
-    let p = position-Some (λ n. bytes_eq n name) xs i [] e in
+    let p = position-Some (λ n. bytes_eq n name) xs i nameless e in
     h i p.0 ∙ (bytes_eq-Decides (name_at xs i) name).0 p.1
 
 -- an object with its name among more names

@@ -1,24 +1,25 @@
 //! What is suggested at a place: a line for each choice of arguments for each theorem.
-ghost use Rattle.std.specs.Prelude.{◌≡◌, ◌++◌, ◌∷◌, [], IfOk, IsTrue, OnOk};
+ghost use Rattle.std.specs.Prelude.{◌≡◌, ◌++◌, ◌∷◌, [], map, IfOk, IsTrue, OnOk};
 ghost use Rattle.std.specs.List.{list_all};
 ghost use Rattle.e_literal.specs.Use.{is_statement};
 ghost use Rattle.e_theorem.specs.Statements.{stated};
 ghost use Rattle.e_deriv.specs.Fitting.{is_small_statement};
 ghost use Rattle.e_book.specs.Headed.{stated_by};
-ghost use Rattle.e_book.specs.Canonical.{text_of};
+ghost use Rattle.e_book.specs.Canonical.{argument_word, name_of_object, text_of};
 ghost use Rattle.e_run.specs.SuggesterAnswers.{apply_line, apply_lines};
 ghost use Rattle.e_run.specs.inner.Suggesting.{IsListed, IsListedOne};
 
-use e_book::Theorems;
+use e_book::{Theorems, name_of_object};
 use e_deriv::Names;
+use e_line::put_apply;
 use e_literal::{Items, Obj};
 use e_prove::Place;
-use e_spell::put_objects;
 use e_suggest::{Suggested, all};
-use e_text::Title;
+use e_text::{Name, Title};
 use e_theorem::Statement;
-use e_words::{end_line, put};
+use e_words::end_line;
 use std::alloc::{AllocError, Global};
+use std::mem;
 
 /// The most lines that are suggested.
 const MOST_LINES: usize = 1000;
@@ -37,8 +38,24 @@ pub enum Listed {
     TooWide(u128),
 }
 
+/// The names of arguments, none of them a blank.
+fn names_of_choice(
+    alloc: Global,
+    names: &Names,
+    args: &[Obj],
+) -> Result<Items<Option<Name>>, AllocError>
+    ensures { IfOk result (λ n. map argument_word n ≡ map (name_of_object names.now) args.now) }
+{
+    let mut found = Vec::new(alloc);
+    for object in args {
+        found.push(Some(name_of_object(names, *object)))?;
+    }
+    Ok(Items::new(found))
+}
+
 /// A line that applies a theorem.
 fn put_application(
+    alloc: Global,
     out: &mut Vec<u8>,
     title: Title,
     names: &Names,
@@ -46,14 +63,16 @@ fn put_application(
 ) -> Result<(), AllocError>
     ensures { OnOk result (out.new.items ≡ out.old.items ++ (apply_line title names.now args.now ++ 10 ∷ [])) }
 {
-    out.extend_from_slice(b"apply")?;
-    put(out, title.bytes())?;
-    put_objects(out, names, args)?;
+    let args = names_of_choice(alloc, names, args)?;
+    let put = put_apply(out, title.bytes(), args.items(), &[]);
+    mem::drop(args);
+    put?;
     end_line(out)
 }
 
 /// A line for each choice of arguments.
 fn put_applications(
+    alloc: Global,
     out: &mut Vec<u8>,
     title: Title,
     names: &Names,
@@ -62,7 +81,7 @@ fn put_applications(
     ensures { OnOk result (out.new.items ≡ out.old.items ++ text_of (apply_lines title names.now choices.now)) }
 {
     for choice in choices {
-        put_application(out, title, names, choice.items())?;
+        put_application(alloc, out, title, names, choice.items())?;
     }
     Ok(())
 }
@@ -85,7 +104,7 @@ fn list_theorem(
     }
     match all(alloc, &place.context, statement, left)? {
         Suggested::Found { choices, more } => {
-            put_applications(out, title, &place.names, choices.items())?;
+            put_applications(alloc, out, title, &place.names, choices.items())?;
             let count = choices.len();
             if more {
                 Ok(Listed::Full(count))

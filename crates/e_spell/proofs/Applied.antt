@@ -1,5 +1,5 @@
 -- The title of an earlier theorem and its made objects, by its place.
-use Rattle.std.proofs.Common.{◌≡◌, ℕ, ◌≤◌, List, [], ◌∷◌, ◌++◌, length, Some, ap, ◌∙◌, arith, append_assoc}
+use Rattle.std.proofs.Common.{◌≡◌, ℕ, ◌≤◌, List, [], length, Some, ap, arith}
 use Rattle.std.specs.Prelude.{slice_get, unwrap_or}
 use Rattle.std.proofs.lemmas.Grind.{common_steps}
 use Rattle.std.proofs.lemmas.List.{get_or_past, length-map}
@@ -10,8 +10,6 @@ use Rattle.e_deriv.specs.declared.names.Names.{Names}
 use Rattle.e_deriv.specs.Naming.{named}
 use Rattle.e_deriv.specs.Lines.{no_statement}
 use Rattle.e_book.specs.Headed.{Headed, titles, statements, stated_by, title_at, theorem_of}
-use Rattle.e_text.specs.Tokens.{spaced}
-use Rattle.e_words.proofs.Spaced.{spaced_append}
 
 pub title_found : (known : List Headed) (k : ℕ) (title : List ℕ) → slice_get (titles known) k ≡ Some title → title_at known k ≡ title
 title_found known k title e = get_or_from_slice_get (titles known) k title [] e
@@ -32,8 +30,3 @@ pub none_named : (known : List Headed) (k : ℕ) (ns : Names) (names : List (Lis
 none_named known k ns names le = ap (λ (s : List Sort). named ns s names) (none_made known k le)
 
 pub ruleset made_past = (common_steps, none_named)
-
--- a title, the arguments and the names of made objects, one behind the other
-pub application : (old o1 o2 o3 title : List ℕ) (args new : List (List ℕ)) → o1 ≡ old ++ 32 ∷ title → o2 ≡ o1 ++ spaced args → o3 ≡ o2 ++ spaced new
-    → o3 ≡ old ++ spaced (title ∷ (args ++ new))
-application old o1 o2 o3 title args new e1 e2 e3 = e3 ∙ rw (e2, e1, spaced_append args new) (simp append_assoc)

@@ -1,4 +1,3 @@
-pub mod Spaced
 pub mod Applied
 pub mod Declared
 pub mod CertTexts

@@ -1,6 +1,5 @@
 -- The texts of scripts, from those of their lines.
 use Rattle.std.proofs.Common.{◌≡◌, ℕ, List, [], ◌∷◌, ◌++◌, map, refl, sym, ap, ◌∙◌, append_assoc, Option}
-use Rattle.std.specs.Prelude.{codes}
 use Rattle.std.specs.Option.{option_to_list}
 use Rattle.std.proofs.lemmas.Grind.{common_steps}
 use Rattle.e_literal.specs.declared.literal.Lit.{Lit}
@@ -15,12 +14,12 @@ use Rattle.e_deriv.specs.declared.block.Step.{Step}
 use Rattle.e_deriv.specs.Script.{Script, Qed, Contradiction, Cases, steps_script}
 use Rattle.e_deriv.specs.PlainStep.{PlainStep, Cited, Inferred, Made, Applied, Claimed, Copied, plain_step, before}
 use Rattle.e_deriv.proofs.Scripts.{scripts, plain_steps, step_script-plain}
-use Rattle.e_text.specs.Tokens.{spaced}
+use Rattle.e_book.specs.declared.form.Form.{Form}
 use Rattle.e_book.specs.Headed.{Headed, theorem_of}
-use Rattle.e_book.specs.Canonical.{name_of_object, text_of}
+use Rattle.e_book.specs.Canonical.{line_of, hence_form, let_form, apply_form, claim_form, superpose_form, cases_form, else_form, qed_form, contradiction_form, text_of}
 use Rattle.e_spell.specs.Certificates.{certs_lines}
 use Rattle.e_spell.specs.Spelling.{script_lines}
-use Rattle.e_spell.specs.inner.Parts.{lit_text, certs_text, construction_words, application_text, claim_text, superposition_words, superposition_text, script_text, step_text, steps_text, names_behind, names_after, qed_text, contradicted_text, split_text}
+use Rattle.e_spell.specs.inner.Parts.{form_text, certs_text, superposition_text, script_text, step_text, steps_text, names_behind, names_after, qed_text, contradicted_text, split_text}
 use Rattle.e_spell.proofs.CertTexts.{of_certs, of_contradiction}
 
 pub of_lines : (xs ys : List (List ℕ)) → text_of (xs ++ ys) ≡ text_of xs ++ text_of ys
@@ -33,28 +32,24 @@ of_certified ns cs rest = of_lines (certs_lines ns cs) rest ∙ ap (λ (t : List
 
 -- ---- steps
 
+-- a line, its certificates, and what comes after them
+line_certified : (f : Form) (ns : Names) (cs : List Cert) (rest : List (List ℕ)) → text_of (line_of f ∷ (certs_lines ns cs ++ rest)) ≡ (form_text f ++ certs_text ns cs) ++ text_of rest
+line_certified f ns cs rest = ap (λ (t : List ℕ). form_text f ++ t) (of_certified ns cs rest) ∙ sym (append_assoc (form_text f) (certs_text ns cs) (text_of rest))
+
 before_text : (known : List Headed) (ns : Names) (s : PlainStep) (rest : Script) → script_text known ns (before s rest) ≡ step_text known ns s ++ script_text known (names_behind known ns s) rest
-unfolding script_text script_lines superposition_words
+unfolding script_text script_lines superposition_text
 before_text known ns (Cited by) rest = refl
-before_text known ns (Inferred lit cert) rest =
-    ap (λ (t : List ℕ). lit_text (codes "hence") ns lit ++ t) (of_certified ns (option_to_list cert) (script_lines known ns rest))
-    ∙ sym (append_assoc (lit_text (codes "hence") ns lit) (certs_text ns (option_to_list cert)) (text_of (script_lines known ns rest)))
-before_text known ns (Made form names certs) rest =
-    let words = spaced (construction_words ns form names) ++ 10 ∷ [] in
-    let after = script_lines known (named ns (sorts_made form) names) rest in
-    ap (λ (t : List ℕ). codes "let" ++ (words ++ t)) (of_certified ns certs after)
-    ∙ ap (λ (t : List ℕ). codes "let" ++ t) (sym (append_assoc words (certs_text ns certs) (text_of after)))
+before_text known ns (Inferred lit cert) rest = line_certified (hence_form ns lit) ns (option_to_list cert) (script_lines known ns rest)
+before_text known ns (Made form names certs) rest = line_certified (let_form ns form names) ns certs (script_lines known (named ns (sorts_made form) names) rest)
 before_text known ns (Applied theorem args names certs) rest =
-    let line = application_text known ns theorem args names in
-    let after = script_lines known (named ns (theorem_of known theorem).made names) rest in
-    ap (λ (t : List ℕ). line ++ t) (of_certified ns certs after) ∙ sym (append_assoc line (certs_text ns certs) (text_of after))
+    line_certified (apply_form known ns theorem args names) ns certs (script_lines known (named ns (theorem_of known theorem).made names) rest)
 before_text known ns (Claimed shown inner) rest =
+    let line = form_text (claim_form ns shown) in
     let inside = script_lines known ns inner in
     let after = script_lines known ns rest in
-    ap (λ (t : List ℕ). claim_text ns shown ++ t) (of_lines inside after)
-    ∙ sym (append_assoc (claim_text ns shown) (text_of inside) (text_of after))
+    ap (λ (t : List ℕ). line ++ t) (of_lines inside after) ∙ sym (append_assoc line (text_of inside) (text_of after))
 before_text known ns (Copied form names shown certs inner) rest =
-    let line = superposition_text ns form names shown in
+    let line = form_text (superpose_form ns form names shown) in
     let inside = script_lines known (named ns superposing.sorts_copied names) inner in
     let after = script_lines known ns rest in
     ap (λ (t : List ℕ). line ++ t) (of_certified ns certs (inside ++ after) ∙ ap (λ (t : List ℕ). certs_text ns certs ++ t) (of_lines inside after) ∙ sym (append_assoc (certs_text ns certs) (text_of inside) (text_of after)))
@@ -77,15 +72,15 @@ pub ruleset blocks = (common_steps, of_steps)
 
 pub script_text-Qed : (known : List Headed) (ns : Names) (objects : List Obj) (cs : List Cert) → script_text known ns (Qed objects cs) ≡ qed_text ns objects cs
 unfolding script_text script_lines
-script_text-Qed known ns objects cs = ap (λ (t : List ℕ). codes "qed" ++ ((spaced (map (name_of_object ns) objects) ++ 10 ∷ []) ++ t)) (of_certs ns cs)
+script_text-Qed known ns objects cs = ap (λ (t : List ℕ). form_text (qed_form ns objects) ++ t) (of_certs ns cs)
 
 pub script_text-Contradiction : (known : List Headed) (ns : Names) (against : Option Against) → script_text known ns (Contradiction against) ≡ contradicted_text ns against
 unfolding script_text script_lines
-script_text-Contradiction known ns against = ap (λ (t : List ℕ). codes "contradiction" ++ (10 ∷ t)) (of_contradiction ns against)
+script_text-Contradiction known ns against = ap (λ (t : List ℕ). form_text contradiction_form ++ t) (of_contradiction ns against)
 
 pub script_text-Cases : (known : List Headed) (ns : Names) (lit : Lit) (first second : Script) → script_text known ns (Cases lit first second) ≡ split_text known ns lit first second
 unfolding script_text script_lines
 script_text-Cases known ns lit first second =
-    ap (λ (t : List ℕ). lit_text (codes "cases") ns lit ++ t) (of_lines (script_lines known ns first) ((codes "else") ∷ script_lines known ns second))
+    ap (λ (t : List ℕ). form_text (cases_form ns lit) ++ t) (of_lines (script_lines known ns first) (line_of else_form ∷ script_lines known ns second))
 
 pub ruleset closes = (common_steps, scripts, script_text-Qed, script_text-Contradiction, script_text-Cases)

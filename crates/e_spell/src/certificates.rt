@@ -6,14 +6,13 @@ ghost use Rattle.e_book.specs.Canonical.{lit_words, raw_of};
 ghost use Rattle.e_spell.specs.Certificates.{named_term, row_words};
 ghost use Rattle.e_spell.specs.inner.Parts.{place_text, row_text, sum_text, rows_text, differs_text, sums_text, metric_text, part_text, parts_text, instance_text, transfer_text, cert_text, certs_text, against_text, contradiction_text};
 
-use crate::literals::{put_literal, put_literal_line, put_objects};
+use crate::literals::{put_literal, put_literal_line, put_objects, put_term};
 use crate::rules::put_rule;
-use crate::sums::put_term;
 use e_clause::{Against, Cert, MetricCert, Part, RowName, Rule, Sums, TransferCert};
 use e_deriv::Names;
 use e_literal::{Lit, Obj, Term};
 use e_words::{end_line, put, put_line, put_number};
-use std::alloc::AllocError;
+use std::alloc::{AllocError, Global};
 
 /// A row that is said of a term.
 fn put_term_row(out: &mut Vec<u8>, names: &Names, word: &[u8], term: Term) -> Result<(), AllocError>
@@ -23,11 +22,16 @@ fn put_term_row(out: &mut Vec<u8>, names: &Names, word: &[u8], term: Term) -> Re
     put_term(out, names, term)
 }
 
-fn put_fact_row(out: &mut Vec<u8>, names: &Names, lit: &Lit) -> Result<(), AllocError>
+fn put_fact_row(
+    alloc: Global,
+    out: &mut Vec<u8>,
+    names: &Names,
+    lit: &Lit,
+) -> Result<(), AllocError>
     ensures { OnOk result (out.new.items ≡ out.old.items ++ spaced (codes "fact" ∷ lit_words (raw_of names.now lit.now))) }
 {
     put(out, b"fact")?;
-    put_literal(out, names, lit)
+    put_literal(alloc, out, names, lit)
 }
 
 /// A fact by its place.
@@ -39,11 +43,11 @@ fn put_place(out: &mut Vec<u8>, place: u32) -> Result<(), AllocError>
 }
 
 /// The name of a row.
-fn put_row(out: &mut Vec<u8>, names: &Names, row: &RowName) -> Result<(), AllocError>
+fn put_row(alloc: Global, out: &mut Vec<u8>, names: &Names, row: &RowName) -> Result<(), AllocError>
     ensures { OnOk result (out.new.items ≡ out.old.items ++ spaced (row_words names.now row.now)) }
 {
     match row {
-        RowName::Fact(lit) => put_fact_row(out, names, lit),
+        RowName::Fact(lit) => put_fact_row(alloc, out, names, lit),
         RowName::Goal => put(out, b"goal"),
         RowName::Pos(term) => put_term_row(out, names, b"pos", *term),
         RowName::Top(term) => put_term_row(out, names, b"top", *term),
@@ -56,63 +60,88 @@ fn put_row(out: &mut Vec<u8>, names: &Names, row: &RowName) -> Result<(), AllocE
 }
 
 /// A row behind its multiplier.
-fn put_row_line(out: &mut Vec<u8>, names: &Names, row: &(i128, RowName)) -> Result<(), AllocError>
+fn put_row_line(
+    alloc: Global,
+    out: &mut Vec<u8>,
+    names: &Names,
+    row: &(i128, RowName),
+) -> Result<(), AllocError>
     ensures { OnOk result (out.new.items ≡ out.old.items ++ row_text names.now row.now) }
 {
     out.extend_from_slice(b"|")?;
     put_number(out, row.0)?;
-    put_row(out, names, &row.1)?;
+    put_row(alloc, out, names, &row.1)?;
     end_line(out)
 }
 
 /// The rows of a sum, one a line.
-fn put_rows(out: &mut Vec<u8>, names: &Names, rows: &[(i128, RowName)]) -> Result<(), AllocError>
+fn put_rows(
+    alloc: Global,
+    out: &mut Vec<u8>,
+    names: &Names,
+    rows: &[(i128, RowName)],
+) -> Result<(), AllocError>
     ensures { OnOk result (out.new.items ≡ out.old.items ++ rows_text names.now rows.now) }
 {
     for row in rows {
-        put_row_line(out, names, row)?;
+        put_row_line(alloc, out, names, row)?;
     }
     Ok(())
 }
 
-fn put_sum(out: &mut Vec<u8>, names: &Names, rows: &[(i128, RowName)]) -> Result<(), AllocError>
+fn put_sum(
+    alloc: Global,
+    out: &mut Vec<u8>,
+    names: &Names,
+    rows: &[(i128, RowName)],
+) -> Result<(), AllocError>
     ensures { OnOk result (out.new.items ≡ out.old.items ++ sum_text names.now rows.now) }
 {
     put_line(out, b"| sum")?;
-    put_rows(out, names, rows)
+    put_rows(alloc, out, names, rows)
 }
 
 /// The row whose form is more or less than 0.
-fn put_differs(out: &mut Vec<u8>, names: &Names, row: &RowName) -> Result<(), AllocError>
+fn put_differs(
+    alloc: Global,
+    out: &mut Vec<u8>,
+    names: &Names,
+    row: &RowName,
+) -> Result<(), AllocError>
     ensures { OnOk result (out.new.items ≡ out.old.items ++ differs_text names.now row.now) }
 {
     out.extend_from_slice(b"| differs")?;
-    put_row(out, names, row)?;
+    put_row(alloc, out, names, row)?;
     end_line(out)
 }
 
-fn put_sums(out: &mut Vec<u8>, names: &Names, sums: &Sums) -> Result<(), AllocError>
+fn put_sums(alloc: Global, out: &mut Vec<u8>, names: &Names, sums: &Sums) -> Result<(), AllocError>
     ensures { OnOk result (out.new.items ≡ out.old.items ++ sums_text names.now sums.now) }
 {
     match sums {
-        Sums::One(sum) => put_sum(out, names, sum.rows()),
+        Sums::One(sum) => put_sum(alloc, out, names, sum.rows()),
         Sums::Two {
             differs,
             above,
             below,
         } => {
-            put_differs(out, names, differs)?;
-            put_sum(out, names, above.rows())?;
-            put_sum(out, names, below.rows())
+            put_differs(alloc, out, names, differs)?;
+            put_sum(alloc, out, names, above.rows())?;
+            put_sum(alloc, out, names, below.rows())
         }
     }
 }
 
-fn put_metric(out: &mut Vec<u8>, names: &Names, cert: &MetricCert) -> Result<(), AllocError>
+fn put_metric(
+    alloc: Global,
+    out: &mut Vec<u8>,
+    names: &Names,
+    cert: &MetricCert,
+) -> Result<(), AllocError>
     ensures { OnOk result (out.new.items ≡ out.old.items ++ metric_text names.now cert.now) }
 {
     put_line(out, b"| metric")?;
-    put_sums(out, names, &cert.sums)
+    put_sums(alloc, out, names, &cert.sums)
 }
 
 /// The line of a fact by its place.
@@ -124,22 +153,27 @@ fn put_place_line(out: &mut Vec<u8>, place: u32) -> Result<(), AllocError>
     end_line(out)
 }
 
-fn put_part(out: &mut Vec<u8>, names: &Names, part: &Part) -> Result<(), AllocError>
+fn put_part(alloc: Global, out: &mut Vec<u8>, names: &Names, part: &Part) -> Result<(), AllocError>
     ensures { OnOk result (out.new.items ≡ out.old.items ++ part_text names.now part.now) }
 {
     match part {
         Part::Fact => put_line(out, b"| fact"),
-        Part::Metric(cert) => put_metric(out, names, cert),
+        Part::Metric(cert) => put_metric(alloc, out, names, cert),
         Part::FactAt(place) => put_place_line(out, *place),
     }
 }
 
 /// The certificates of the parts of a transfer, in order.
-fn put_parts(out: &mut Vec<u8>, names: &Names, parts: &[Part]) -> Result<(), AllocError>
+fn put_parts(
+    alloc: Global,
+    out: &mut Vec<u8>,
+    names: &Names,
+    parts: &[Part],
+) -> Result<(), AllocError>
     ensures { OnOk result (out.new.items ≡ out.old.items ++ parts_text names.now parts.now) }
 {
     for part in parts {
-        put_part(out, names, part)?;
+        put_part(alloc, out, names, part)?;
     }
     Ok(())
 }
@@ -159,34 +193,45 @@ fn put_instance(
     end_line(out)
 }
 
-fn put_transfer(out: &mut Vec<u8>, names: &Names, cert: &TransferCert) -> Result<(), AllocError>
+fn put_transfer(
+    alloc: Global,
+    out: &mut Vec<u8>,
+    names: &Names,
+    cert: &TransferCert,
+) -> Result<(), AllocError>
     ensures { OnOk result (out.new.items ≡ out.old.items ++ transfer_text names.now cert.now) }
 {
     put_instance(out, names, cert.rule, cert.args.items())?;
-    put_parts(out, names, cert.parts.items())
+    put_parts(alloc, out, names, cert.parts.items())
 }
 
-fn put_cert(out: &mut Vec<u8>, names: &Names, cert: &Cert) -> Result<(), AllocError>
+fn put_cert(alloc: Global, out: &mut Vec<u8>, names: &Names, cert: &Cert) -> Result<(), AllocError>
     ensures { OnOk result (out.new.items ≡ out.old.items ++ cert_text names.now cert.now) }
 {
     match cert {
-        Cert::Plain(part) => put_part(out, names, part),
-        Cert::Transfer(transfer) => put_transfer(out, names, transfer),
+        Cert::Plain(part) => put_part(alloc, out, names, part),
+        Cert::Transfer(transfer) => put_transfer(alloc, out, names, transfer),
     }
 }
 
 /// The certificates of a line, in order.
-pub(crate) fn put_certs(out: &mut Vec<u8>, names: &Names, certs: &[Cert]) -> Result<(), AllocError>
+pub(crate) fn put_certs(
+    alloc: Global,
+    out: &mut Vec<u8>,
+    names: &Names,
+    certs: &[Cert],
+) -> Result<(), AllocError>
     ensures { OnOk result (out.new.items ≡ out.old.items ++ certs_text names.now certs.now) }
 {
     for cert in certs {
-        put_cert(out, names, cert)?;
+        put_cert(alloc, out, names, cert)?;
     }
     Ok(())
 }
 
 /// The certificate of a line, if it has one.
 pub(crate) fn put_cert_of(
+    alloc: Global,
     out: &mut Vec<u8>,
     names: &Names,
     cert: &Option<Cert>,
@@ -194,22 +239,28 @@ pub(crate) fn put_cert_of(
     ensures { OnOk result (out.new.items ≡ out.old.items ++ certs_text names.now (option_to_list cert.now)) }
 {
     match cert {
-        Some(cert) => put_cert(out, names, cert),
+        Some(cert) => put_cert(alloc, out, names, cert),
         None => Ok(()),
     }
 }
 
-fn put_against(out: &mut Vec<u8>, names: &Names, against: &Against) -> Result<(), AllocError>
+fn put_against(
+    alloc: Global,
+    out: &mut Vec<u8>,
+    names: &Names,
+    against: &Against,
+) -> Result<(), AllocError>
     ensures { OnOk result (out.new.items ≡ out.old.items ++ against_text names.now against.now) }
 {
     match against {
-        Against::Clash { lit } => put_literal_line(out, b"| clash", names, lit),
-        Against::Metric(cert) => put_metric(out, names, cert),
+        Against::Clash { lit } => put_literal_line(alloc, out, b"| clash", names, lit),
+        Against::Metric(cert) => put_metric(alloc, out, names, cert),
     }
 }
 
 /// The certificate of a contradiction, if it has one.
 pub(crate) fn put_against_of(
+    alloc: Global,
     out: &mut Vec<u8>,
     names: &Names,
     against: &Option<Against>,
@@ -217,7 +268,7 @@ pub(crate) fn put_against_of(
     ensures { OnOk result (out.new.items ≡ out.old.items ++ contradiction_text names.now against.now) }
 {
     match against {
-        Some(against) => put_against(out, names, against),
+        Some(against) => put_against(alloc, out, names, against),
         None => Ok(()),
     }
 }

@@ -133,7 +133,7 @@ pub(crate) fn put_objects_of(
     let mut last = None;
     for sort in sorts {
         let name = name_of(names, *sort, count_of(counts, *sort));
-        put_object(out, role, last, *sort, name)?;
+        put_object(out, role, last, *sort, name.bytes())?;
         counts = with_one(counts, *sort);
         last = Some(*sort);
     }

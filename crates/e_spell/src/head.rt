@@ -11,7 +11,7 @@ use e_deriv::Names;
 use e_text::Title;
 use e_theorem::Statement;
 use e_words::{end_line, put, put_line};
-use std::alloc::AllocError;
+use std::alloc::{AllocError, Global};
 
 fn put_title(out: &mut Vec<u8>, title: Title) -> Result<(), AllocError>
     ensures { OnOk result (out.new.items ≡ out.old.items ++ title_text title) }
@@ -23,6 +23,7 @@ fn put_title(out: &mut Vec<u8>, title: Title) -> Result<(), AllocError>
 
 /// What is given and what is shown, with the lines of the objects before it. It answers how many objects are declared.
 fn put_statement(
+    alloc: Global,
     out: &mut Vec<u8>,
     names: &Names,
     statement: &Statement,
@@ -37,14 +38,15 @@ fn put_statement(
     };
     let sorts = statement.declared.items();
     let declared = put_objects_of(out, Role::Declared, names, none, sorts)?;
-    put_literal_lines(out, b"given", names, statement.given.items())?;
+    put_literal_lines(alloc, out, b"given", names, statement.given.items())?;
     put_objects_of(out, Role::Made, names, declared, statement.made.items())?;
-    put_literal_lines(out, b"show", names, statement.shown.items())?;
+    put_literal_lines(alloc, out, b"show", names, statement.shown.items())?;
     Ok(declared)
 }
 
 /// The lines from the title to the word proof. It answers how many objects are declared.
 pub(crate) fn put_head(
+    alloc: Global,
     out: &mut Vec<u8>,
     title: Title,
     names: &Names,
@@ -54,7 +56,7 @@ pub(crate) fn put_head(
     ensures declared { IfOk result (λ c. scope_of_counts c ≡ scope_of (stated statement.now)) }
 {
     put_title(out, title)?;
-    let declared = put_statement(out, names, statement)?;
+    let declared = put_statement(alloc, out, names, statement)?;
     put_line(out, b"proof")?;
     Ok(declared)
 }

@@ -1,9 +1,7 @@
 //! The one spelling of a derivation: each line of a theorem with the certificates that it needs.
 #![tactic(auto)]
 
-mod applications;
 mod certificates;
-mod constructions;
 mod declarations;
 mod head;
 mod laws;
@@ -11,11 +9,10 @@ mod literals;
 mod proof;
 mod rules;
 mod scope;
+mod steps;
 mod stops;
-mod sums;
 mod writer;
 
 pub use laws::lines_are_the_theorem;
-pub use literals::{put_literal, put_objects};
 pub use stops::spell_stop;
 pub use writer::spell;

@@ -1,155 +1,151 @@
-//! Literals and objects by their names.
-ghost use Rattle.std.specs.Prelude.{◌≡◌, ◌++◌, codes, map, true, OnOk};
-ghost use Rattle.e_deriv.specs.Naming.{names_of_sort};
+//! Objects, terms and literals by their names.
+ghost use Rattle.std.specs.Prelude.{◌≡◌, ◌++◌, map, OnOk, IfOk};
+ghost use Rattle.e_literal.specs.declared.object.Sort.TheVariants.{Point, Line};
+ghost use Rattle.e_literal.specs.Literal.{obj};
 ghost use Rattle.e_text.specs.Tokens.{spaced};
-ghost use Rattle.e_book.specs.Canonical.{atom_words, lit_words, more_words, raw_atom, raw_signed, raw_of, name_at, name_of_object};
-ghost use Rattle.e_spell.specs.inner.Parts.{lit_text, lits_text, list_words};
+ghost use Rattle.e_deriv.specs.Naming.{names_of_sort};
+ghost use Rattle.e_book.specs.Canonical.{lit_words, raw_of, name_at, name_of_object, argument_name, placed_names};
+ghost use Rattle.e_spell.specs.Certificates.{named_term};
+ghost use Rattle.e_spell.specs.inner.Parts.{lit_text, lits_text};
 
-use crate::sums::put_sums;
+use e_book::{name_at, name_of_object, raw_of, raw_term};
+use e_construct::Superpose;
 use e_deriv::Names;
-use e_literal::{Atom, Lit, Obj, Sort};
+use e_line::put_said;
+use e_literal::{Items, Lit, Obj, Sort, Term};
 use e_text::Name;
-use e_words::{end_line, put, put_four, put_three};
-use std::alloc::AllocError;
-
-/// A name by its place; nothing where there is none.
-fn name_at(names: &[Name], i: usize) -> &[u8]
-    ensures { result.now ≡ name_at names.now i }
-{
-    match names.get(i) {
-        Some(name) => name.bytes(),
-        None => &[],
-    }
-}
+use e_words::{end_line, put};
+use std::alloc::{AllocError, Global};
+use std::mem;
 
 /// The name of the object of a sort with a number.
-pub(crate) fn name_of(names: &Names, sort: Sort, num: usize) -> &[u8]
-    ensures { result.now ≡ name_at (names_of_sort names.now sort) num }
+pub(crate) fn name_of(names: &Names, sort: Sort, num: usize) -> Name
+    ensures { result ≡ name_at (names_of_sort names.now sort) num }
 {
     name_at(names.of_sort(sort), num)
 }
 
-/// The name of an object.
-pub(crate) fn name_of_object(names: &Names, object: Obj) -> &[u8]
-    ensures { result.now ≡ name_of_object names.now object }
-{
-    name_of(names, object.sort, object.num as usize)
-}
-
-pub(crate) fn point(names: &Names, i: u16) -> &[u8]
-    ensures { result.now ≡ name_at names.now.points i }
-{
-    name_at(names.points.items(), i as usize)
-}
-
-fn line(names: &Names, i: u16) -> &[u8]
-    ensures { result.now ≡ name_at names.now.lines i }
-{
-    name_at(names.lines.items(), i as usize)
-}
-
-fn circle(names: &Names, i: u16) -> &[u8]
-    ensures { result.now ≡ name_at names.now.circles i }
-{
-    name_at(names.circles.items(), i as usize)
-}
-
-/// Writes the names of objects, each behind a space; an object without a name is written as nothing. It fails only for want of memory.
-pub fn put_objects(out: &mut Vec<u8>, names: &Names, objects: &[Obj]) -> Result<(), AllocError>
+/// The names of objects, each behind a space.
+pub(crate) fn put_objects(
+    out: &mut Vec<u8>,
+    names: &Names,
+    objects: &[Obj],
+) -> Result<(), AllocError>
     ensures { OnOk result (out.new.items ≡ out.old.items ++ spaced (map (name_of_object names.now) objects.now)) }
 {
     for object in objects {
-        put(out, name_of_object(names, *object))?;
+        put(out, name_of_object(names, *object).bytes())?;
     }
     Ok(())
 }
 
-fn put_atom(out: &mut Vec<u8>, names: &Names, atom: &Atom) -> Result<(), AllocError>
-    ensures { OnOk result (out.new.items ≡ out.old.items ++ spaced (atom_words (raw_atom names.now atom.now))) }
+/// The names of objects.
+pub(crate) fn names_of_objects(
+    alloc: Global,
+    names: &Names,
+    objects: &[Obj],
+) -> Result<Items<Name>, AllocError>
+    ensures { IfOk result (λ n. n ≡ map (name_of_object names.now) objects.now) }
 {
-    match atom {
-        Atom::On(a, l) => put_three(out, b"on", point(names, *a), line(names, *l)),
-        Atom::OnC(a, c) => put_three(out, b"on", point(names, *a), circle(names, *c)),
-        Atom::Inside(a, c) => put_three(out, b"inside", point(names, *a), circle(names, *c)),
-        Atom::Center(a, c) => put_three(out, b"center", point(names, *a), circle(names, *c)),
-        Atom::Between(a, b, c) => put_four(
-            out,
-            b"between",
-            point(names, *a),
-            point(names, *b),
-            point(names, *c),
-        ),
-        Atom::Same(a, b, l) => put_four(
-            out,
-            b"same-side",
-            point(names, *a),
-            point(names, *b),
-            line(names, *l),
-        ),
-        Atom::MeetLL(l, m) => put_three(out, b"meets", line(names, *l), line(names, *m)),
-        Atom::MeetLC(l, c) => put_three(out, b"meets", line(names, *l), circle(names, *c)),
-        Atom::MeetCC(c, d) => put_three(out, b"meets", circle(names, *c), circle(names, *d)),
-        Atom::EqP(a, b) => put_three(out, point(names, *a), b"=", point(names, *b)),
-        Atom::EqL(l, m) => put_three(out, line(names, *l), b"=", line(names, *m)),
-        Atom::EqC(c, d) => put_three(out, circle(names, *c), b"=", circle(names, *d)),
-        Atom::MagEq(x, y) => put_sums(out, names, x.items(), b"=", y.items()),
-        Atom::MagLt(x, y) => put_sums(out, names, x.items(), b"<", y.items()),
+    let mut found = Vec::new(alloc);
+    for object in objects {
+        found.push(name_of_object(names, *object))?;
+    }
+    Ok(Items::new(found))
+}
+
+/// An argument: the name of an object, or a blank.
+fn argument_name(names: &Names, argument: Option<Obj>) -> Option<Name>
+    ensures { result ≡ argument_name names.now argument }
+{
+    match argument {
+        None => None,
+        Some(object) => Some(name_of_object(names, object)),
     }
 }
 
-/// The negation of an atom: a comparison by its sign, any other atom by a word before it. For sums, what is not less is
-/// turned: the sides change places.
-fn put_not(out: &mut Vec<u8>, names: &Names, atom: &Atom) -> Result<(), AllocError>
-    ensures { OnOk result (out.new.items ≡ out.old.items ++ spaced (lit_words (raw_signed names.now true atom.now))) }
+/// The names of arguments.
+pub(crate) fn names_of_arguments(
+    alloc: Global,
+    names: &Names,
+    args: &[Option<Obj>],
+) -> Result<Items<Option<Name>>, AllocError>
+    ensures { IfOk result (λ n. n ≡ map (argument_name names.now) args.now) }
 {
-    match atom {
-        Atom::EqP(a, b) => put_three(out, point(names, *a), b"!=", point(names, *b)),
-        Atom::EqL(l, m) => put_three(out, line(names, *l), b"!=", line(names, *m)),
-        Atom::EqC(c, d) => put_three(out, circle(names, *c), b"!=", circle(names, *d)),
-        Atom::MagEq(x, y) => put_sums(out, names, x.items(), b"!=", y.items()),
-        Atom::MagLt(x, y) => put_sums(out, names, y.items(), b"<=", x.items()),
-        _ => {
-            put(out, b"not")?;
-            put_atom(out, names, atom)
-        }
+    let mut found = Vec::new(alloc);
+    for argument in args {
+        found.push(argument_name(names, *argument))?;
+    }
+    Ok(Items::new(found))
+}
+
+fn point(num: u16) -> Obj
+    ensures { result ≡ obj Point num }
+{
+    Obj {
+        sort: Sort::Point,
+        num,
     }
 }
 
-/// Writes a literal with the names of its objects, each word behind a space. It fails only for want of memory.
-pub fn put_literal(out: &mut Vec<u8>, names: &Names, lit: &Lit) -> Result<(), AllocError>
+fn line(num: u16) -> Obj
+    ensures { result ≡ obj Line num }
+{
+    Obj {
+        sort: Sort::Line,
+        num,
+    }
+}
+
+/// The names of the triangle and its line, and then of the place and its line.
+pub(crate) fn placed_names(
+    alloc: Global,
+    names: &Names,
+    form: Superpose,
+) -> Result<Items<Name>, AllocError>
+    ensures { IfOk result (λ n. n ≡ placed_names names.now form) }
+{
+    let [a, b, c, d, g, h] = form.points;
+    let [k, l] = form.lines;
+    let objects = [
+        point(a),
+        point(b),
+        point(c),
+        line(k),
+        point(d),
+        point(g),
+        point(h),
+        line(l),
+    ];
+    names_of_objects(alloc, names, &objects)
+}
+
+/// A term by the names of its points.
+pub(crate) fn put_term(out: &mut Vec<u8>, names: &Names, term: Term) -> Result<(), AllocError>
+    ensures { OnOk result (out.new.items ≡ out.old.items ++ spaced (named_term names.now term)) }
+{
+    let raw = raw_term(names, term);
+    e_line::put_term(out, &raw)
+}
+
+/// A literal by the names of its objects.
+pub(crate) fn put_literal(
+    alloc: Global,
+    out: &mut Vec<u8>,
+    names: &Names,
+    lit: &Lit,
+) -> Result<(), AllocError>
     ensures { OnOk result (out.new.items ≡ out.old.items ++ spaced (lit_words (raw_of names.now lit.now))) }
 {
-    if lit.neg {
-        put_not(out, names, &lit.atom)
-    } else {
-        put_atom(out, names, &lit.atom)
-    }
-}
-
-/// More literals, each behind a semicolon.
-fn put_more_literals(out: &mut Vec<u8>, names: &Names, lits: &[Lit]) -> Result<(), AllocError>
-    ensures { OnOk result (out.new.items ≡ out.old.items ++ spaced (more_words (map (raw_of names.now) lits.now))) }
-{
-    for lit in lits {
-        put(out, b";")?;
-        put_literal(out, names, lit)?;
-    }
-    Ok(())
-}
-
-/// Literals with a semicolon between two.
-pub(crate) fn put_literals(out: &mut Vec<u8>, names: &Names, lits: &[Lit]) -> Result<(), AllocError>
-    ensures { OnOk result (out.new.items ≡ out.old.items ++ spaced (list_words names.now lits.now)) }
-{
-    let Some((first, rest)) = lits.split_first() else {
-        return Ok(());
-    };
-    put_literal(out, names, first)?;
-    put_more_literals(out, names, rest)
+    let raw = raw_of(alloc, names, lit)?;
+    let put = e_line::put_literal(out, &raw);
+    mem::drop(raw);
+    put
 }
 
 /// A line of a word and a literal.
 pub(crate) fn put_literal_line(
+    alloc: Global,
     out: &mut Vec<u8>,
     word: &[u8],
     names: &Names,
@@ -157,13 +153,16 @@ pub(crate) fn put_literal_line(
 ) -> Result<(), AllocError>
     ensures { OnOk result (out.new.items ≡ out.old.items ++ lit_text word.now names.now lit.now) }
 {
-    out.extend_from_slice(word)?;
-    put_literal(out, names, lit)?;
+    let raw = raw_of(alloc, names, lit)?;
+    let put = put_said(out, word, &raw);
+    mem::drop(raw);
+    put?;
     end_line(out)
 }
 
 /// One line for each literal.
 pub(crate) fn put_literal_lines(
+    alloc: Global,
     out: &mut Vec<u8>,
     word: &[u8],
     names: &Names,
@@ -172,7 +171,7 @@ pub(crate) fn put_literal_lines(
     ensures { OnOk result (out.new.items ≡ out.old.items ++ lits_text word.now names.now lits.now) }
 {
     for lit in lits {
-        put_literal_line(out, word, names, lit)?;
+        put_literal_line(alloc, out, word, names, lit)?;
     }
     Ok(())
 }

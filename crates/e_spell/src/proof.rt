@@ -1,76 +1,59 @@
 //! The lines of a proof, each with its certificates below it, and then the blocks inside it.
-ghost use Rattle.std.specs.Prelude.{◌≡◌, ◌++◌, ◌∷◌, [], codes, map, OnOk};
+ghost use Rattle.std.specs.Prelude.{◌≡◌, ◌++◌, map, OnOk};
 ghost use Rattle.std.specs.Option.{option_to_list};
-ghost use Rattle.e_text.specs.Tokens.{spaced};
 ghost use Rattle.e_deriv.specs.PlainStep.{plain_step};
 ghost use Rattle.e_deriv.specs.Script.{script_of, close_script};
-ghost use Rattle.e_book.specs.Canonical.{name_of_object};
-ghost use Rattle.e_spell.specs.inner.Parts.{citation_words, construction_words, application_text, certs_text, claim_text, superposition_text, lit_text, qed_text, step_text, steps_text, names_after, script_text, contradicted_text, proof_text};
+ghost use Rattle.e_book.specs.Canonical.{hence_form, let_form, apply_form};
+ghost use Rattle.e_spell.specs.inner.Parts.{form_text, certs_text, superposition_text, qed_text, step_text, steps_text, names_after, script_text, contradicted_text, proof_text};
 
-use crate::applications::put_apply;
 use crate::certificates::{put_against_of, put_cert_of, put_certs};
-use crate::constructions::{put_let, put_superpose};
-use crate::literals::{put_literal, put_literal_line, put_literals, put_objects};
-use crate::rules::put_rule;
+use crate::literals::put_literal_line;
 use crate::scope::{name_new, with_copies};
+use crate::steps::{
+    put_application, put_citation, put_claim, put_conclusion, put_construction, put_superposition,
+};
 use e_book::Theorems;
-use e_clause::{Against, By, Cert};
+use e_clause::{Against, Cert};
 use e_construct::{Construction, Superpose};
 use e_deriv::{Block, Close, Names, Step};
 use e_literal::{Lit, Obj};
 use e_text::Name;
-use e_words::{end_line, put, put_line};
+use e_words::put_line;
 use std::alloc::{AllocError, Global};
 use std::mem;
 
-/// A rule, its objects and the literal that it gives.
-#[tactic(auto, using(e_words::proofs::Spaced::spaced_append))]
-fn put_citation(out: &mut Vec<u8>, names: &Names, by: &By) -> Result<(), AllocError>
-    ensures { OnOk result (out.new.items ≡ out.old.items ++ spaced (citation_words names.now by.now)) }
-{
-    put_rule(out, by.rule)?;
-    put_objects(out, names, by.args.items())?;
-    put(out, b":")?;
-    put_literal(out, names, &by.lit)
-}
-
-fn put_by(out: &mut Vec<u8>, names: &Names, by: &By) -> Result<(), AllocError>
-    ensures { OnOk result (out.new.items ≡ out.old.items ++ (codes "by" ++ (spaced (citation_words names.now by.now) ++ 10 ∷ []))) }
-{
-    out.extend_from_slice(b"by")?;
-    put_citation(out, names, by)?;
-    end_line(out)
-}
-
 /// The line of a hence, and its certificate if it has one.
 fn put_hence(
+    alloc: Global,
     out: &mut Vec<u8>,
     names: &Names,
     lit: &Lit,
     cert: &Option<Cert>,
 ) -> Result<(), AllocError>
-    ensures { OnOk result (out.new.items ≡ out.old.items ++ (lit_text (codes "hence") names.now lit.now ++ certs_text names.now (option_to_list cert.now))) }
+    ensures { OnOk result (out.new.items ≡ out.old.items ++ (form_text (hence_form names.now lit.now) ++ certs_text names.now (option_to_list cert.now))) }
 {
-    put_literal_line(out, b"hence", names, lit)?;
-    put_cert_of(out, names, cert)
+    put_literal_line(alloc, out, b"hence", names, lit)?;
+    put_cert_of(alloc, out, names, cert)
 }
 
 /// A construction, and a certificate for each literal that it needs, with the names in scope before it.
 fn put_made(
+    alloc: Global,
     out: &mut Vec<u8>,
     names: &Names,
     form: &Construction,
     new: &[Name],
     certs: &[Cert],
 ) -> Result<(), AllocError>
-    ensures { OnOk result (out.new.items ≡ out.old.items ++ (codes "let" ++ ((spaced (construction_words names.now form.now new.now) ++ 10 ∷ []) ++ certs_text names.now certs.now))) }
+    ensures { OnOk result (out.new.items ≡ out.old.items ++ (form_text (let_form names.now form.now new.now) ++ certs_text names.now certs.now)) }
 {
-    put_let(out, names, form, new)?;
-    put_certs(out, names, certs)
+    put_construction(alloc, out, names, form, new)?;
+    put_certs(alloc, out, names, certs)
 }
 
 /// The use of an earlier theorem, and a certificate for each literal that it needs, with the names in scope before it.
 fn put_applied(
+    alloc: Global,
     out: &mut Vec<u8>,
     known: &Theorems,
     names: &Names,
@@ -79,23 +62,15 @@ fn put_applied(
     new: &[Name],
     certs: &[Cert],
 ) -> Result<(), AllocError>
-    ensures { OnOk result (out.new.items ≡ out.old.items ++ (application_text known.now names.now theorem args.now new.now ++ certs_text names.now certs.now)) }
+    ensures { OnOk result (out.new.items ≡ out.old.items ++ (form_text (apply_form known.now names.now theorem args.now new.now) ++ certs_text names.now certs.now)) }
 {
-    put_apply(out, known, names, theorem, args, new)?;
-    put_certs(out, names, certs)
-}
-
-/// The line of a claim.
-fn put_claim(out: &mut Vec<u8>, names: &Names, shown: &[Lit]) -> Result<(), AllocError>
-    ensures { OnOk result (out.new.items ≡ out.old.items ++ claim_text names.now shown.now) }
-{
-    out.extend_from_slice(b"claim")?;
-    put_literals(out, names, shown)?;
-    end_line(out)
+    put_application(alloc, out, known, names, theorem, args, new)?;
+    put_certs(alloc, out, names, certs)
 }
 
 /// The line of a superposition, and a certificate for each literal that it needs, with the names in scope before it.
 fn put_superposed(
+    alloc: Global,
     out: &mut Vec<u8>,
     names: &Names,
     form: Superpose,
@@ -105,8 +80,8 @@ fn put_superposed(
 ) -> Result<(), AllocError>
     ensures { OnOk result (out.new.items ≡ out.old.items ++ (superposition_text names.now form new.now shown.now ++ certs_text names.now certs.now)) }
 {
-    put_superpose(out, names, form, new, shown)?;
-    put_certs(out, names, certs)
+    put_superposition(alloc, out, names, form, new, shown)?;
+    put_certs(alloc, out, names, certs)
 }
 
 /// A step, and the block inside it. An inner block begins with the names before its step, and with those of the copied
@@ -123,19 +98,20 @@ fn put_step(
     ensures { OnOk result (out.new.items ≡ out.old.items ++ step_text known.now names.now (plain_step step.now)) }
 {
     match step {
-        Step::Cite(by) => put_by(out, names, by),
-        Step::Hence { lit, cert } => put_hence(out, names, lit, cert),
+        Step::Cite(by) => put_citation(alloc, out, names, by),
+        Step::Hence { lit, cert } => put_hence(alloc, out, names, lit, cert),
         Step::Make {
             form,
             names: new,
             certs,
-        } => put_made(out, names, form, new.items(), certs.items()),
+        } => put_made(alloc, out, names, form, new.items(), certs.items()),
         Step::Apply {
             theorem,
             args,
             names: new,
             certs,
         } => put_applied(
+            alloc,
             out,
             known,
             names,
@@ -145,7 +121,7 @@ fn put_step(
             certs.items(),
         ),
         Step::Claim { shown, inner } => {
-            put_claim(out, names, shown.items())?;
+            put_claim(alloc, out, names, shown.items())?;
             put_block(alloc, out, known, names, inner)
         }
         Step::Superposed {
@@ -155,7 +131,15 @@ fn put_step(
             certs,
             inner,
         } => {
-            put_superposed(out, names, *form, new.items(), shown.items(), certs.items())?;
+            put_superposed(
+                alloc,
+                out,
+                names,
+                *form,
+                new.items(),
+                shown.items(),
+                certs.items(),
+            )?;
             let inside = with_copies(alloc, names, *form, new.items())?;
             let put = put_block(alloc, out, known, &inside, inner);
             mem::drop(inside);
@@ -183,16 +167,9 @@ fn put_steps(
     Ok(())
 }
 
-fn put_qed_line(out: &mut Vec<u8>, names: &Names, objects: &[Obj]) -> Result<(), AllocError>
-    ensures { OnOk result (out.new.items ≡ out.old.items ++ (codes "qed" ++ (spaced (map (name_of_object names.now) objects.now) ++ 10 ∷ []))) }
-{
-    out.extend_from_slice(b"qed")?;
-    put_objects(out, names, objects)?;
-    end_line(out)
-}
-
 /// The line of a qed, and a certificate for each literal of the goal.
 fn put_qed(
+    alloc: Global,
     out: &mut Vec<u8>,
     names: &Names,
     objects: &[Obj],
@@ -200,12 +177,13 @@ fn put_qed(
 ) -> Result<(), AllocError>
     ensures { OnOk result (out.new.items ≡ out.old.items ++ qed_text names.now objects.now certs.now) }
 {
-    put_qed_line(out, names, objects)?;
-    put_certs(out, names, certs)
+    put_conclusion(alloc, out, names, objects)?;
+    put_certs(alloc, out, names, certs)
 }
 
 /// A contradiction, and its certificate if it has one.
 fn put_contradiction(
+    alloc: Global,
     out: &mut Vec<u8>,
     names: &Names,
     against: &Option<Against>,
@@ -213,7 +191,7 @@ fn put_contradiction(
     ensures { OnOk result (out.new.items ≡ out.old.items ++ contradicted_text names.now against.now) }
 {
     put_line(out, b"contradiction")?;
-    put_against_of(out, names, against)
+    put_against_of(alloc, out, names, against)
 }
 
 /// A close. Each block of a split begins with the names before it.
@@ -229,10 +207,10 @@ fn put_close(
     ensures { OnOk result (out.new.items ≡ out.old.items ++ script_text known.now names.now (close_script close.now)) }
 {
     match close {
-        Close::Qed { objects, certs } => put_qed(out, names, objects.items(), certs.items()),
-        Close::Contradiction { against } => put_contradiction(out, names, against),
+        Close::Qed { objects, certs } => put_qed(alloc, out, names, objects.items(), certs.items()),
+        Close::Contradiction { against } => put_contradiction(alloc, out, names, against),
         Close::Cases { lit, first, second } => {
-            put_literal_line(out, b"cases", names, lit)?;
+            put_literal_line(alloc, out, b"cases", names, lit)?;
             put_block(alloc, out, known, names, first)?;
             put_line(out, b"else")?;
             put_block(alloc, out, known, names, second)

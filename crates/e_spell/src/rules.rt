@@ -7,7 +7,7 @@ use e_words::put;
 use std::alloc::AllocError;
 
 /// The name of a rule in the table.
-fn rule_name(rule: Rule) -> &'static [u8]
+pub(crate) fn rule_name(rule: Rule) -> &'static [u8]
     ensures { result.now ≡ rule_name rule }
 {
     rule.name().as_bytes()

@@ -3,8 +3,7 @@ ghost use Rattle.std.specs.Prelude.{◌≡◌, ◌++◌, IfOk, OnOk};
 ghost use Rattle.e_spell.specs.inner.Parts.{place_line, wanted_line, value_line, values_text, values_of_text, width_line};
 ghost use Rattle.e_spell.specs.Spelling.{unlicensed_text, too_wide_text, stop_text, IsStop};
 
-use crate::literals::put_literal;
-use crate::sums::put_term;
+use crate::literals::{put_literal, put_term};
 use e_deriv::{Names, Stop, Wanted};
 use e_literal::{Term, Values};
 use e_text::Title;
@@ -22,12 +21,17 @@ fn put_place(out: &mut Vec<u8>, what: &[u8], title: Title, step: u32) -> Result<
     Ok(())
 }
 
-fn put_wanted(out: &mut Vec<u8>, names: &Names, wanted: &Wanted) -> Result<(), AllocError>
+fn put_wanted(
+    alloc: Global,
+    out: &mut Vec<u8>,
+    names: &Names,
+    wanted: &Wanted,
+) -> Result<(), AllocError>
     ensures { OnOk result (out.new.items ≡ out.old.items ++ wanted_line names.now wanted.now) }
 {
     out.extend_from_slice(b"| wanted")?;
     match wanted {
-        Wanted::Literal(lit) => put_literal(out, names, lit)?,
+        Wanted::Literal(lit) => put_literal(alloc, out, names, lit)?,
         Wanted::Match => put(out, b"match")?,
         Wanted::Contradiction => put(out, b"contradiction")?,
     }
@@ -88,7 +92,7 @@ fn spell_unlicensed(
 {
     let mut out = Vec::new(alloc);
     put_place(&mut out, b"unlicensed", title, step)?;
-    put_wanted(&mut out, names, wanted)?;
+    put_wanted(alloc, &mut out, names, wanted)?;
     put_values_of(&mut out, names, values)?;
     Ok(out)
 }
@@ -105,7 +109,7 @@ fn spell_too_wide(
 {
     let mut out = Vec::new(alloc);
     put_place(&mut out, b"too-wide", title, step)?;
-    put_wanted(&mut out, names, wanted)?;
+    put_wanted(alloc, &mut out, names, wanted)?;
     put_width(&mut out, width)?;
     Ok(out)
 }
@@ -114,7 +118,7 @@ fn spell_too_wide(
 /// number; below it what the line lacks, or what is wanted where it is too wide; and the values that show that it does
 /// not follow, one a line in their order where there are any, or the width.
 ///
-/// An object without a name is written as nothing. It fails only for want of memory.
+/// An object without a name is written as `nameless`. It fails only for want of memory.
 pub fn spell_stop(alloc: Global, title: Title, stop: &Stop) -> Result<Vec<u8>, AllocError>
     // The stop is at a line: want of memory has no last lines of a theorem.
     requires { IsStop stop.now }

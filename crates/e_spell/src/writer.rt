@@ -22,7 +22,13 @@ fn put_theorem(
 ) -> Result<(), AllocError>
     ensures { OnOk result (out.new.items ≡ out.old.items ++ theorem_text known.now (entry_of theorem.now) (script_of deriv.now)) }
 {
-    let declared = put_head(out, theorem.title, &theorem.names, &theorem.statement)?;
+    let declared = put_head(
+        alloc,
+        out,
+        theorem.title,
+        &theorem.names,
+        &theorem.statement,
+    )?;
     let names = first_names(alloc, &theorem.names, declared)?;
     let put = put_proof(alloc, out, known, &names, deriv);
     mem::drop(names);
@@ -34,8 +40,8 @@ fn put_theorem(
 /// derivation, below it its certificates and then the blocks inside it, and `end`. Each line ends with a line feed.
 ///
 /// An earlier theorem that the derivation uses is written by its title, which it has among those that are known. The theorem's own
-/// block is not written. An object without a name, and a theorem that is not known, are written as nothing. It fails only for want of
-/// memory. The text takes at most a few times the memory of the theorem, the derivation and the titles that it writes.
+/// block is not written. An object without a name is written as `nameless`, and a theorem that is not known by no word. It fails only for
+/// want of memory. The text takes at most a few times the memory of the theorem, the derivation and the titles that it writes.
 pub fn spell(
     alloc: Global,
     known: &Theorems,

@@ -8,12 +8,9 @@ use Rattle.e_literal.specs.declared.object.Obj.{Obj}
 use Rattle.e_literal.specs.declared.object.Term.{Term}
 use Rattle.e_literal.specs.declared.literal.Lit.{Lit}
 use Rattle.e_literal.specs.Scopes.{same_sort}
-use Rattle.e_construct.specs.declared.construction.Construction.{Construction}
 use Rattle.e_construct.specs.declared.superpose.Superpose.{Superpose}
 use Rattle.e_construct.specs.Construct.{sorts_made}
 use Rattle.e_construct.specs.Superposing as superposing
-use Rattle.e_construct.specs.Lines.{pieces}
-use Rattle.e_clause.specs.declared.cert.By.{By}
 use Rattle.e_clause.specs.declared.cert.RowName.{RowName}
 use Rattle.e_clause.specs.declared.cert.Sums.{Sums}
 use Rattle.e_clause.specs.declared.cert.Sums.TheVariants.{One, Two}
@@ -31,11 +28,11 @@ use Rattle.e_deriv.specs.Script.{Script}
 use Rattle.e_deriv.specs.PlainStep.{PlainStep, Cited, Inferred, Made as MadeStep, Applied, Claimed, Copied}
 use Rattle.e_deriv.specs.declared.stop.Wanted.{Wanted}
 use Rattle.e_theorem.specs.declared.statement.Statement.{Statement}
-use Rattle.e_book.specs.Headed.{Headed, title_at, theorem_of}
+use Rattle.e_book.specs.declared.form.Form.{Form}
+use Rattle.e_book.specs.Headed.{Headed, theorem_of}
 use Rattle.e_book.specs.Entry.{Entry}
-use Rattle.e_book.specs.Superposes.{superpose_pieces}
 use Rattle.e_text.specs.Tokens.{spaced}
-use Rattle.e_book.specs.Canonical.{lit_words, lits_words, filled, avoid_words, argument_name, argument_word, made_words, raw_of, rule_name, name_of_object, placed_names, sort_word, declared_objects, made_objects, names_of_proof, text_of}
+use Rattle.e_book.specs.Canonical.{lit_words, raw_of, rule_name, name_of_object, sort_word, line_of, by_form, hence_form, let_form, apply_form, claim_form, superpose_form, cases_form, else_form, qed_form, contradiction_form, end_form, declared_objects, made_objects, names_of_proof, text_of}
 use Rattle.e_spell.specs.declared.declarations.Role.{Role}
 use Rattle.e_spell.specs.declared.declarations.Role.TheVariants.{Declared, Made}
 use Rattle.e_spell.specs.Certificates.{named_term, row_words}
@@ -106,36 +103,13 @@ abbrev pub contradiction_text : Names → Option Against → List ℕ
 contradiction_text ns None = []
 contradiction_text ns (Some a) = against_text ns a
 
--- a citation behind the first word of its line
-abbrev pub citation_words : Names → By → List (List ℕ)
-citation_words ns b = rule_name b.rule ∷ (map (name_of_object ns) b.args ++ codes ":" ∷ lit_words (raw_of ns b.lit))
+-- a line with its end
+abbrev pub form_text : Form → List ℕ
+form_text f = line_of f ++ 10 ∷ []
 
--- a construction behind the first word of its line
-abbrev pub construction_words : Names → Construction → List (List ℕ) → List (List ℕ)
-construction_words ns form names =
-    filled (pieces form.shape) names (map (name_of_object ns) form.args) ++ avoid_words (map (name_of_object ns) form.avoid)
-
--- the use of an earlier theorem behind the first word of its line
-abbrev pub application_words : List Headed → Names → ℕ → List (Option Obj) → List (List ℕ) → List (List ℕ)
-application_words known ns theorem args names =
-    title_at known theorem ∷ (map argument_word (map (argument_name ns) args) ++ made_words names)
-
-abbrev pub application_text : List Headed → Names → ℕ → List (Option Obj) → List (List ℕ) → List ℕ
-application_text known ns theorem args names = codes "apply" ++ (spaced (application_words known ns theorem args names) ++ 10 ∷ [])
-
--- literals with a semicolon between two
-abbrev pub list_words : Names → List Lit → List (List ℕ)
-list_words ns ls = lits_words (map (raw_of ns) ls)
-
--- a superposition behind the first word of its line
-unfoldable pub superposition_words : Names → Superpose → List (List ℕ) → List Lit → List (List ℕ)
-superposition_words ns form names shown = filled superpose_pieces names (placed_names ns form) ++ list_words ns shown
-
-abbrev pub claim_text : Names → List Lit → List ℕ
-claim_text ns shown = codes "claim" ++ (spaced (list_words ns shown) ++ 10 ∷ [])
-
-abbrev pub superposition_text : Names → Superpose → List (List ℕ) → List Lit → List ℕ
-superposition_text ns form names shown = codes "superpose" ++ (spaced (superposition_words ns form names shown) ++ 10 ∷ [])
+-- the line of a superposition
+unfoldable pub superposition_text : Names → Superpose → List (List ℕ) → List Lit → List ℕ
+superposition_text ns form names shown = form_text (superpose_form ns form names shown)
 
 -- the lines of a script with its certificates
 unfoldable pub script_text : List Headed → Names → Script → List ℕ
@@ -143,11 +117,11 @@ script_text known ns d = text_of (script_lines known ns d)
 
 -- a step with its certificates, and the block inside it
 abbrev pub step_text : List Headed → Names → PlainStep → List ℕ
-step_text known ns (Cited by) = codes "by" ++ (spaced (citation_words ns by) ++ 10 ∷ [])
-step_text known ns (Inferred lit cert) = lit_text (codes "hence") ns lit ++ certs_text ns (option_to_list cert)
-step_text known ns (MadeStep form names certs) = codes "let" ++ ((spaced (construction_words ns form names) ++ 10 ∷ []) ++ certs_text ns certs)
-step_text known ns (Applied theorem args names certs) = application_text known ns theorem args names ++ certs_text ns certs
-step_text known ns (Claimed shown inner) = claim_text ns shown ++ script_text known ns inner
+step_text known ns (Cited by) = form_text (by_form ns by)
+step_text known ns (Inferred lit cert) = form_text (hence_form ns lit) ++ certs_text ns (option_to_list cert)
+step_text known ns (MadeStep form names certs) = form_text (let_form ns form names) ++ certs_text ns certs
+step_text known ns (Applied theorem args names certs) = form_text (apply_form known ns theorem args names) ++ certs_text ns certs
+step_text known ns (Claimed shown inner) = form_text (claim_form ns shown) ++ script_text known ns inner
 step_text known ns (Copied form names shown certs inner) =
     superposition_text ns form names shown ++ (certs_text ns certs ++ script_text known (named ns superposing.sorts_copied names) inner)
 
@@ -170,20 +144,17 @@ steps_text known ns [] = []
 steps_text known ns (s ∷ steps) = step_text known ns s ++ steps_text known (names_behind known ns s) steps
 
 abbrev pub qed_text : Names → List Obj → List Cert → List ℕ
-qed_text ns objects cs = codes "qed" ++ ((spaced (map (name_of_object ns) objects) ++ 10 ∷ []) ++ certs_text ns cs)
+qed_text ns objects cs = form_text (qed_form ns objects) ++ certs_text ns cs
 
 abbrev pub contradicted_text : Names → Option Against → List ℕ
-contradicted_text ns against = (codes "contradiction" ++ 10 ∷ []) ++ contradiction_text ns against
-
-abbrev pub else_text : List ℕ
-else_text = codes "else" ++ 10 ∷ []
+contradicted_text ns against = form_text contradiction_form ++ contradiction_text ns against
 
 -- two blocks behind the line of a split
 abbrev pub split_text : List Headed → Names → Lit → Script → Script → List ℕ
-split_text known ns lit first second = lit_text (codes "cases") ns lit ++ (script_text known ns first ++ (else_text ++ script_text known ns second))
+split_text known ns lit first second = form_text (cases_form ns lit) ++ (script_text known ns first ++ (form_text else_form ++ script_text known ns second))
 
 abbrev pub proof_text : List Headed → Names → Script → List ℕ
-proof_text known ns d = script_text known ns d ++ (codes "end" ++ 10 ∷ [])
+proof_text known ns d = script_text known ns d ++ form_text end_form
 
 -- the first words of a line of objects
 abbrev pub role_words : Role → Sort → List ℕ

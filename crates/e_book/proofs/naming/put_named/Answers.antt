@@ -1,23 +1,13 @@
 use Rattle.std.proofs.Common.{◌+◌, ◌++◌, map, drop, get_or}
-use Rattle.e_literal.specs.Literal.{all_in_scope}
 use Rattle.e_book.specs.Canonical.{raw_of}
-use Rattle.e_book.specs.Scope.{scope_of_names}
 use Rattle.e_book.proofs.Loops.{rest_at}
-use Rattle.e_book.proofs.NamesInRange.{put_more, all_more}
+use Rattle.e_book.proofs.NamesPut.{put_more}
 use Rattle.e_book.proofs.naming.put_named.Goals as goal
-
-pub raw_of-requires : goal.raw_of-requires
-raw_of-requires c =
-    let lits = c.args.lits.now in
-    let i = c.loop-lit.lit-index in
-    rw c.lit-item.is (all_more (all_in_scope (scope_of_names c.args.names.now)) (drop i lits) (drop (i + 1) lits) (get_or lits i c.lit-item.result) (rest_at lits i c.lit-item.result c.loop-lit-test.true) c.loop-lit.invariant.within).0
 
 pub loop-lit-preserved : goal.loop-lit-preserved
 loop-lit-preserved c =
     let lits = c.args.lits.now in
     let names = c.args.names.now in
     let i = c.loop-lit.lit-index in
-    let here = rest_at lits i c.lit-item.result c.loop-lit-test.true in
-    let one = put_more (raw_of names) c.loop-lit.raws (c.args.raws.now ++ map (raw_of names) lits) (drop i lits) (drop (i + 1) lits) (get_or lits i c.lit-item.result) here c.loop-lit.invariant.named in
     rw (c.in_ok-push.ensures.ok, c.in_ok-raw.ensures, c.lit-item.is)
-    (record { named = one; within = (all_more (all_in_scope (scope_of_names names)) (drop i lits) (drop (i + 1) lits) (get_or lits i c.lit-item.result) here c.loop-lit.invariant.within).1 })
+    (put_more (raw_of names) c.loop-lit.raws (c.args.raws.now ++ map (raw_of names) lits) (drop i lits) (drop (i + 1) lits) (get_or lits i c.lit-item.result) (rest_at lits i c.lit-item.result c.loop-lit-test.true) c.loop-lit.invariant)

@@ -1,4 +1,4 @@
-use Rattle.e_book.proofs.NamesInRange.{signed_so}
+use Rattle.e_book.proofs.NamesPut.{signed_so}
 use Rattle.e_book.proofs.naming.raw_negated.Goals as goal
 
 pub returns-in_ok-atom-in_default : goal.returns-in_ok-atom-in_default

@@ -3,22 +3,13 @@ use Rattle.e_literal.specs.declared.object.Term.TheVariants.{Seg}
 use Rattle.e_literal.specs.declared.object.Mono.{Mono}
 use Rattle.e_book.specs.Canonical.{raw_mono}
 use Rattle.e_book.proofs.Loops.{rest_at}
-use Rattle.e_book.proofs.NamesInRange.{mono_in, put_more}
+use Rattle.e_book.proofs.NamesPut.{put_more}
 use Rattle.e_book.proofs.naming.raw_sum.Goals as goal
-
-pub raw_term-term-requires : goal.raw_term-term-requires
-raw_term-term-requires c =
-    let ms = c.args.monos.now in
-    let i = c.loop-mono.mono-index in
-    let none : Mono = record { coeff = 0; term = Seg 0 0 } in
-    (mono_in c.args.names.now (drop i ms) (drop (i + 1) ms) (get_or ms i none) (rest_at ms i none c.loop-mono-test.true) c.loop-mono.invariant.within).0
 
 pub loop-mono-preserved : goal.loop-mono-preserved
 loop-mono-preserved c =
     let ms = c.args.monos.now in
     let i = c.loop-mono.mono-index in
     let none : Mono = record { coeff = 0; term = Seg 0 0 } in
-    let here = rest_at ms i none c.loop-mono-test.true in
-    let one = put_more (raw_mono c.args.names.now) c.loop-mono.sum (map (raw_mono c.args.names.now) ms) (drop i ms) (drop (i + 1) ms) (get_or ms i none) here c.loop-mono.invariant.named in
     rw (c.in_ok-push.ensures.ok, c.raw_term-term.ensures)
-    (record { named = one; within = (mono_in c.args.names.now (drop i ms) (drop (i + 1) ms) (get_or ms i none) here c.loop-mono.invariant.within).1 })
+    (put_more (raw_mono c.args.names.now) c.loop-mono.sum (map (raw_mono c.args.names.now) ms) (drop i ms) (drop (i + 1) ms) (get_or ms i none) (rest_at ms i none c.loop-mono-test.true) c.loop-mono.invariant)

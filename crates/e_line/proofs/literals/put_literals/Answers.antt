@@ -1,0 +1,14 @@
+use Rattle.std.proofs.Common.{◌++◌, List, ap, ◌∙◌}
+use Rattle.std.proofs.lemmas.List.{take_rest}
+use Rattle.e_text.specs.Tokens.{spaced}
+use Rattle.e_book.specs.declared.literal.RawLit.{RawLit}
+use Rattle.e_book.specs.Canonical.{more_words}
+use Rattle.e_line.proofs.Spaced.{first_after}
+use Rattle.e_line.proofs.literals.put_literals.Goals as goal
+
+pub returns-in_ok-put_more_literals-in-len1-up : goal.returns-in_ok-put_more_literals-in-len1-up
+returns-in_ok-put_more_literals-in-len1-up c =
+    let b = c.put_literal.new.out.items in
+    let rest = ap (λ (ls : List RawLit). b ++ spaced (more_words ls)) (take_rest c.args.lits.now 1) in
+    first_after c.args.out.now.items b c.put_more_literals.new.out.items c.args.lits.now c.first-item.result c.in-len1-up.len_at_least c.first-item.is c.in_ok-put_literal-in-len1-up.ensures
+    (c.in_ok-put_more_literals-in-len1-up.ensures ∙ rest)

@@ -1,0 +1,282 @@
+//! The line of each form, with the names that it has, and without its end. It fails only for want of memory.
+ghost use Rattle.std.specs.Prelude.{◌≡◌, ◌++◌, ◌∷◌, [], codes, map, OnOk};
+ghost use Rattle.e_text.specs.Tokens.{spaced};
+ghost use Rattle.e_construct.specs.Views.{piece_view};
+ghost use Rattle.e_book.specs.declared.form.Form.TheVariants as forms;
+ghost use Rattle.e_book.specs.Superposes.{superpose_pieces};
+ghost use Rattle.e_book.specs.Canonical.{lit_words, lits_words, filled, line_pieces, avoid_words, argument_word, made_words, line_of};
+
+use crate::literals::{put_literal, put_literals};
+use e_book::{Form, RawLit, sort_word, superposition_pieces};
+use e_construct::{Piece, Shape, pieces};
+use e_text::Name;
+use e_words::{put, put_names};
+use std::alloc::AllocError;
+
+/// A citation behind its first word.
+fn put_citation(
+    out: &mut Vec<u8>,
+    rule: &[u8],
+    names: &[Name],
+    lit: &RawLit,
+) -> Result<(), AllocError>
+    ensures { OnOk result (out.new.items ≡ out.old.items ++ spaced (rule.now ∷ (names.now ++ codes ":" ∷ lit_words lit.now))) }
+{
+    put(out, rule)?;
+    put_names(out, names)?;
+    put(out, b":")?;
+    put_literal(out, lit)?;
+    Ok(())
+}
+
+/// Writes the line that cites a rule, by the rule's name.
+pub fn put_by(
+    out: &mut Vec<u8>,
+    rule: &[u8],
+    names: &[Name],
+    lit: &RawLit,
+) -> Result<(), AllocError>
+    ensures { OnOk result (out.new.items ≡ out.old.items ++ line_of (forms.By rule.now names.now lit.now)) }
+{
+    out.extend_from_slice(b"by")?;
+    put_citation(out, rule, names, lit)
+}
+
+/// The pieces of a line, with the names of new objects and of arguments at their places.
+fn put_pieces(
+    out: &mut Vec<u8>,
+    pieces: &[Piece],
+    new: &[Name],
+    args: &[Name],
+) -> Result<(), AllocError>
+    ensures { OnOk result (out.new.items ≡ out.old.items ++ spaced (filled (map piece_view pieces.now) new.now args.now)) }
+{
+    let [piece, pieces @ ..] = pieces else {
+        return Ok(());
+    };
+    match *piece {
+        Piece::Word(word) => {
+            put(out, word)?;
+            put_pieces(out, pieces, new, args)
+        }
+        Piece::New => match new {
+            [] => put_pieces(out, pieces, new, args),
+            [name, new @ ..] => {
+                put(out, name.bytes())?;
+                put_pieces(out, pieces, new, args)
+            }
+        },
+        Piece::Argument => match args {
+            [] => put_pieces(out, pieces, new, args),
+            [name, args @ ..] => {
+                put(out, name.bytes())?;
+                put_pieces(out, pieces, new, args)
+            }
+        },
+    }
+}
+
+/// The line of the first of the shapes.
+fn put_shape(
+    out: &mut Vec<u8>,
+    shapes: &[Shape],
+    new: &[Name],
+    args: &[Name],
+) -> Result<(), AllocError>
+    ensures { OnOk result (out.new.items ≡ out.old.items ++ spaced (filled (line_pieces shapes.now) new.now args.now)) }
+{
+    match shapes {
+        [] => Ok(()),
+        [shape, ..] => put_pieces(out, pieces(*shape), new, args),
+    }
+}
+
+/// The names of the avoided objects, if there are any.
+fn put_avoided(out: &mut Vec<u8>, avoid: &[Name]) -> Result<(), AllocError>
+    ensures { OnOk result (out.new.items ≡ out.old.items ++ spaced (avoid_words avoid.now)) }
+{
+    if avoid.is_empty() {
+        return Ok(());
+    }
+    put(out, b"avoid")?;
+    put_names(out, avoid)
+}
+
+/// A construction behind its first word.
+fn put_construction(
+    out: &mut Vec<u8>,
+    shapes: &[Shape],
+    new: &[Name],
+    args: &[Name],
+    avoid: &[Name],
+) -> Result<(), AllocError>
+    ensures { OnOk result (out.new.items ≡ out.old.items ++ spaced (filled (line_pieces shapes.now) new.now args.now ++ avoid_words avoid.now)) }
+{
+    put_shape(out, shapes, new, args)?;
+    put_avoided(out, avoid)?;
+    Ok(())
+}
+
+/// Writes the line of a construction of these shapes.
+pub fn put_let(
+    out: &mut Vec<u8>,
+    shapes: &[Shape],
+    new: &[Name],
+    args: &[Name],
+    avoid: &[Name],
+) -> Result<(), AllocError>
+    ensures { OnOk result (out.new.items ≡ out.old.items ++ line_of (forms.Let (record { shapes = shapes.now; new = new.now; args = args.now; avoid = avoid.now }))) }
+{
+    out.extend_from_slice(b"let")?;
+    put_construction(out, shapes, new, args, avoid)
+}
+
+fn put_arguments(out: &mut Vec<u8>, args: &[Option<Name>]) -> Result<(), AllocError>
+    ensures { OnOk result (out.new.items ≡ out.old.items ++ spaced (map argument_word args.now)) }
+{
+    for argument in args {
+        put_argument(out, *argument)?;
+    }
+    Ok(())
+}
+
+/// An argument: a name, or the blank.
+fn put_argument(out: &mut Vec<u8>, argument: Option<Name>) -> Result<(), AllocError>
+    ensures { OnOk result (out.new.items ≡ out.old.items ++ 32 ∷ argument_word argument) }
+{
+    match argument {
+        None => put(out, b"_"),
+        Some(name) => put(out, name.bytes()),
+    }
+}
+
+/// The names of made objects, if there are any.
+fn put_made(out: &mut Vec<u8>, new: &[Name]) -> Result<(), AllocError>
+    ensures { OnOk result (out.new.items ≡ out.old.items ++ spaced (made_words new.now)) }
+{
+    if new.is_empty() {
+        return Ok(());
+    }
+    put(out, b"as")?;
+    put_names(out, new)
+}
+
+/// The use of an earlier theorem behind its first word.
+fn put_use(
+    out: &mut Vec<u8>,
+    title: &[u8],
+    args: &[Option<Name>],
+    new: &[Name],
+) -> Result<(), AllocError>
+    ensures { OnOk result (out.new.items ≡ out.old.items ++ spaced (title.now ∷ (map argument_word args.now ++ made_words new.now))) }
+{
+    put(out, title)?;
+    put_arguments(out, args)?;
+    put_made(out, new)?;
+    Ok(())
+}
+
+/// Writes the line that uses the theorem with this title.
+pub fn put_apply(
+    out: &mut Vec<u8>,
+    title: &[u8],
+    args: &[Option<Name>],
+    new: &[Name],
+) -> Result<(), AllocError>
+    ensures { OnOk result (out.new.items ≡ out.old.items ++ line_of (forms.Apply (record { title = title.now; args = args.now; new = new.now }))) }
+{
+    out.extend_from_slice(b"apply")?;
+    put_use(out, title, args, new)
+}
+
+/// A superposition behind its first word.
+#[tactic(auto, using(e_words::proofs::Spaced::spaced_append))]
+fn put_superposition(
+    out: &mut Vec<u8>,
+    new: &[Name],
+    args: &[Name],
+    shown: &[RawLit],
+) -> Result<(), AllocError>
+    ensures { OnOk result (out.new.items ≡ out.old.items ++ spaced (filled superpose_pieces new.now args.now ++ lits_words shown.now)) }
+{
+    put_pieces(out, superposition_pieces(), new, args)?;
+    put_literals(out, shown)?;
+    Ok(())
+}
+
+/// Writes the line of a superposition: the triangle and the place, the names of the copied points, and what its block shows.
+pub fn put_superpose(
+    out: &mut Vec<u8>,
+    args: &[Name],
+    new: &[Name],
+    shown: &[RawLit],
+) -> Result<(), AllocError>
+    ensures { OnOk result (out.new.items ≡ out.old.items ++ line_of (forms.Superpose (record { args = args.now; new = new.now; shown = shown.now }))) }
+{
+    out.extend_from_slice(b"superpose")?;
+    put_superposition(out, new, args, shown)
+}
+
+/// Writes a line of a word and names.
+pub fn put_named(out: &mut Vec<u8>, word: &[u8], names: &[Name]) -> Result<(), AllocError>
+    ensures { OnOk result (out.new.items ≡ out.old.items ++ (word.now ++ spaced names.now)) }
+{
+    out.extend_from_slice(word)?;
+    put_names(out, names)
+}
+
+/// Writes a line of a word and literals.
+pub fn put_stated(out: &mut Vec<u8>, word: &[u8], lits: &[RawLit]) -> Result<(), AllocError>
+    ensures { OnOk result (out.new.items ≡ out.old.items ++ (word.now ++ spaced (lits_words lits.now))) }
+{
+    out.extend_from_slice(word)?;
+    put_literals(out, lits)
+}
+
+/// Writes a line of a word and a literal.
+pub fn put_said(out: &mut Vec<u8>, word: &[u8], lit: &RawLit) -> Result<(), AllocError>
+    ensures { OnOk result (out.new.items ≡ out.old.items ++ (word.now ++ spaced (lit_words lit.now))) }
+{
+    out.extend_from_slice(word)?;
+    put_literal(out, lit)
+}
+
+/// Writes the line of a form.
+pub fn put_form(out: &mut Vec<u8>, form: &Form) -> Result<(), AllocError>
+    ensures { OnOk result (out.new.items ≡ out.old.items ++ line_of form.now) }
+{
+    match form {
+        Form::Theorem(title) => {
+            out.extend_from_slice(b"theorem")?;
+            put(out, title.bytes())
+        }
+        Form::Declare(sort, names) => put_named(out, sort_word(*sort), names.items()),
+        Form::Given(lits) => put_stated(out, b"given", lits.items()),
+        Form::Made(sort, names) => {
+            out.extend_from_slice(b"made")?;
+            put(out, sort_word(*sort))?;
+            put_names(out, names.items())
+        }
+        Form::Show(lits) => put_stated(out, b"show", lits.items()),
+        Form::Proof => out.extend_from_slice(b"proof"),
+        Form::By(rule, names, lit) => put_by(out, rule.bytes(), names.items(), lit),
+        Form::Hence(lit) => put_said(out, b"hence", lit),
+        Form::Let(raw) => put_let(
+            out,
+            raw.shapes.items(),
+            raw.new.items(),
+            raw.args.items(),
+            raw.avoid.items(),
+        ),
+        Form::Apply(raw) => put_apply(out, raw.title.bytes(), raw.args.items(), raw.new.items()),
+        Form::Qed(names) => put_named(out, b"qed", names.items()),
+        Form::Contradiction => out.extend_from_slice(b"contradiction"),
+        Form::Claim(lits) => put_stated(out, b"claim", lits.items()),
+        Form::Superpose(raw) => {
+            put_superpose(out, raw.args.items(), raw.new.items(), raw.shown.items())
+        }
+        Form::Cases(lit) => put_said(out, b"cases", lit),
+        Form::Else => out.extend_from_slice(b"else"),
+        Form::End => out.extend_from_slice(b"end"),
+    }
+}

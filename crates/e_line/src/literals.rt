@@ -1,0 +1,151 @@
+//! Terms, sums and literals, with the names that they have.
+ghost use Rattle.std.specs.Prelude.{◌≡◌, ◌++◌, ◌∷◌, [], true, OnOk};
+ghost use Rattle.e_text.specs.Tokens.{spaced};
+ghost use Rattle.e_book.specs.Canonical.{term_words, mono_words, more_monos, sum_words, sums_words, atom_words, not_words, lit_words, more_words, lits_words};
+
+use e_book::{RawAtom, RawLit, RawMono, RawTerm};
+use e_text::Name;
+use e_words::{put, put_coefficient, put_four, put_three};
+use std::alloc::AllocError;
+
+/// Writes a term, each word behind a space. It fails only for want of memory.
+pub fn put_term(out: &mut Vec<u8>, term: &RawTerm) -> Result<(), AllocError>
+    ensures { OnOk result (out.new.items ≡ out.old.items ++ spaced (term_words term.now)) }
+{
+    match term {
+        RawTerm::Seg(x, y) => put_three(out, b"seg", x.bytes(), y.bytes()),
+        RawTerm::Ang(x, y, z) => put_four(out, b"ang", x.bytes(), y.bytes(), z.bytes()),
+        RawTerm::Area(x, y, z) => put_four(out, b"area", x.bytes(), y.bytes(), z.bytes()),
+        RawTerm::Right => put(out, b"right"),
+    }
+}
+
+#[tactic(auto, using(e_words::proofs::Spaced::spaced_append))]
+fn put_mono(out: &mut Vec<u8>, mono: &RawMono) -> Result<(), AllocError>
+    ensures { OnOk result (out.new.items ≡ out.old.items ++ spaced (mono_words mono.now)) }
+{
+    put_coefficient(out, mono.coeff)?;
+    put_term(out, &mono.term)
+}
+
+/// More monomials, each behind a plus.
+#[tactic(auto, using(e_words::proofs::Spaced::spaced_append))]
+fn put_more(out: &mut Vec<u8>, monos: &[RawMono]) -> Result<(), AllocError>
+    ensures { OnOk result (out.new.items ≡ out.old.items ++ spaced (more_monos monos.now)) }
+{
+    for mono in monos {
+        put(out, b"+")?;
+        put_mono(out, mono)?;
+    }
+    Ok(())
+}
+
+/// Monomials with a plus between two, and 0 for none.
+#[tactic(auto, using(e_words::proofs::Spaced::spaced_append))]
+fn put_sum(out: &mut Vec<u8>, sum: &[RawMono]) -> Result<(), AllocError>
+    ensures { OnOk result (out.new.items ≡ out.old.items ++ spaced (sum_words sum.now)) }
+{
+    match sum {
+        [] => put(out, b"0"),
+        [first, rest @ ..] => {
+            put_mono(out, first)?;
+            put_more(out, rest)
+        }
+    }
+}
+
+/// A sum behind a sign.
+fn put_side(out: &mut Vec<u8>, sign: &[u8], sum: &[RawMono]) -> Result<(), AllocError>
+    ensures { OnOk result (out.new.items ≡ out.old.items ++ spaced (sign.now ∷ sum_words sum.now)) }
+{
+    put(out, sign)?;
+    put_sum(out, sum)
+}
+
+/// Two sums with a sign between them.
+fn put_sums(
+    out: &mut Vec<u8>,
+    left: &[RawMono],
+    sign: &[u8],
+    right: &[RawMono],
+) -> Result<(), AllocError>
+    ensures { OnOk result (out.new.items ≡ out.old.items ++ spaced (sums_words left.now sign.now right.now)) }
+{
+    put_sum(out, left)?;
+    put_side(out, sign, right)?;
+    Ok(())
+}
+
+/// A word and three names.
+fn put_of_three(out: &mut Vec<u8>, word: &[u8], x: Name, y: Name, z: Name) -> Result<(), AllocError>
+    ensures { OnOk result (out.new.items ≡ out.old.items ++ spaced (word.now ∷ x ∷ y ∷ z ∷ [])) }
+{
+    put_four(out, word, x.bytes(), y.bytes(), z.bytes())
+}
+
+fn put_atom(out: &mut Vec<u8>, atom: &RawAtom) -> Result<(), AllocError>
+    ensures { OnOk result (out.new.items ≡ out.old.items ++ spaced (atom_words atom.now)) }
+{
+    match atom {
+        RawAtom::On(x, y) => put_three(out, b"on", x.bytes(), y.bytes()),
+        RawAtom::Inside(x, y) => put_three(out, b"inside", x.bytes(), y.bytes()),
+        RawAtom::Center(x, y) => put_three(out, b"center", x.bytes(), y.bytes()),
+        RawAtom::Between(x, y, z) => put_of_three(out, b"between", *x, *y, *z),
+        RawAtom::Same(x, y, z) => put_of_three(out, b"same-side", *x, *y, *z),
+        RawAtom::Meets(x, y) => put_three(out, b"meets", x.bytes(), y.bytes()),
+        RawAtom::Equal(x, y) => put_three(out, x.bytes(), b"=", y.bytes()),
+        RawAtom::SumsEqual(x, y) => put_sums(out, x.items(), b"=", y.items()),
+        RawAtom::SumsLess(x, y) => put_sums(out, x.items(), b"<", y.items()),
+        RawAtom::SumsAtMost(x, y) => put_sums(out, x.items(), b"<=", y.items()),
+    }
+}
+
+/// A negated atom: an equality by its sign, and any other atom by a word before it.
+fn put_not(out: &mut Vec<u8>, atom: &RawAtom) -> Result<(), AllocError>
+    ensures { OnOk result (out.new.items ≡ out.old.items ++ spaced (not_words atom.now)) }
+{
+    match atom {
+        RawAtom::Equal(x, y) => put_three(out, x.bytes(), b"!=", y.bytes()),
+        RawAtom::SumsEqual(x, y) => put_sums(out, x.items(), b"!=", y.items()),
+        _ => {
+            put(out, b"not")?;
+            put_atom(out, atom)
+        }
+    }
+}
+
+/// Writes a literal, each word behind a space. It fails only for want of memory.
+pub fn put_literal(out: &mut Vec<u8>, lit: &RawLit) -> Result<(), AllocError>
+    ensures { OnOk result (out.new.items ≡ out.old.items ++ spaced (lit_words lit.now)) }
+{
+    if lit.neg {
+        put_not(out, &lit.atom)
+    } else {
+        put_atom(out, &lit.atom)
+    }
+}
+
+/// More literals, each behind a semicolon.
+fn put_more_literals(out: &mut Vec<u8>, lits: &[RawLit]) -> Result<(), AllocError>
+    ensures { OnOk result (out.new.items ≡ out.old.items ++ spaced (more_words lits.now)) }
+{
+    for lit in lits {
+        put(out, b";")?;
+        put_literal(out, lit)?;
+    }
+    Ok(())
+}
+
+/// Literals with a semicolon between two.
+pub(crate) fn put_literals(out: &mut Vec<u8>, lits: &[RawLit]) -> Result<(), AllocError>
+    ensures { OnOk result (out.new.items ≡ out.old.items ++ spaced (lits_words lits.now)) }
+{
+    match lits {
+        [] => Ok(()),
+        [first, rest @ ..] => {
+            put_literal(out, first)?;
+            put_more_literals(out, rest)?;
+            Ok(())
+        }
+    }
+}

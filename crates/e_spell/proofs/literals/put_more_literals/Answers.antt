@@ -1,7 +1,0 @@
-use Rattle.e_spell.proofs.Spaced.{one_more_literal}
-use Rattle.e_spell.proofs.literals.put_more_literals.Goals as goal
-
-pub loop-lit-preserved : goal.loop-lit-preserved
-loop-lit-preserved c =
-    one_more_literal c.args.names.now c.args.lits.now c.loop-lit.lit-index c.lit-item.result c.loop-lit.out.items c.put.new.out.items c.put_literal.new.out.items c.loop-lit-test.true c.lit-item.is c.in_ok-put.ensures.ok
-    c.in_ok-put_literal.ensures c.loop-lit.invariant

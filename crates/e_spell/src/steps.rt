@@ -1,0 +1,165 @@
+//! The lines of steps and closes, without certificates.
+ghost use Rattle.std.specs.Prelude.{◌≡◌, ◌++◌, OnOk};
+ghost use Rattle.e_book.specs.declared.form.Form.TheVariants as forms;
+ghost use Rattle.e_book.specs.Headed.{title_at};
+ghost use Rattle.e_book.specs.Canonical.{line_of, by_form, let_form, apply_form, claim_form, qed_form};
+ghost use Rattle.e_spell.specs.inner.Parts.{form_text, superposition_text};
+
+use crate::literals::{names_of_arguments, names_of_objects, placed_names};
+use crate::rules::rule_name;
+use e_book::{Theorems, raw_lits, raw_of};
+use e_clause::By;
+use e_construct::{Construction, Superpose};
+use e_deriv::Names;
+use e_line::{put_apply, put_by, put_let, put_named, put_stated, put_superpose};
+use e_literal::{Lit, Obj};
+use e_text::Name;
+use e_words::end_line;
+use std::alloc::{AllocError, Global};
+use std::{mem, slice};
+
+/// A rule, its objects and the literal that it gives.
+pub(crate) fn put_citation(
+    alloc: Global,
+    out: &mut Vec<u8>,
+    names: &Names,
+    by: &By,
+) -> Result<(), AllocError>
+    ensures { OnOk result (out.new.items ≡ out.old.items ++ form_text (by_form names.now by.now)) }
+{
+    let raw = raw_of(alloc, names, &by.lit)?;
+    let args = match names_of_objects(alloc, names, by.args.items()) {
+        Ok(args) => args,
+        Err(error) => {
+            mem::drop(raw);
+            return Err(error);
+        }
+    };
+    let put = put_by(out, rule_name(by.rule), args.items(), &raw);
+    mem::drop(args);
+    mem::drop(raw);
+    put?;
+    end_line(out)
+}
+
+/// A construction, with names for the objects that it makes.
+pub(crate) fn put_construction(
+    alloc: Global,
+    out: &mut Vec<u8>,
+    names: &Names,
+    form: &Construction,
+    new: &[Name],
+) -> Result<(), AllocError>
+    ensures { OnOk result (out.new.items ≡ out.old.items ++ form_text (let_form names.now form.now new.now)) }
+{
+    let args = names_of_objects(alloc, names, form.args.items())?;
+    let avoid = match names_of_objects(alloc, names, form.avoid.items()) {
+        Ok(avoid) => avoid,
+        Err(error) => {
+            mem::drop(args);
+            return Err(error);
+        }
+    };
+    let shapes = slice::from_ref(&form.shape);
+    let put = put_let(out, shapes, new, args.items(), avoid.items());
+    mem::drop(avoid);
+    mem::drop(args);
+    put?;
+    end_line(out)
+}
+
+/// The use of the theorem at a place by its title; by no word where there is none.
+#[tactic(auto, using(crate::proofs::Applied::titles_at))]
+fn put_by_title(
+    out: &mut Vec<u8>,
+    known: &Theorems,
+    place: usize,
+    args: &[Option<Name>],
+    new: &[Name],
+) -> Result<(), AllocError>
+    ensures { OnOk result (out.new.items ≡ out.old.items ++ line_of (forms.Apply (record { title = title_at known.now place; args = args.now; new = new.now }))) }
+{
+    if place < known.len() {
+        put_apply(out, known.title(place).bytes(), args, new)
+    } else {
+        put_apply(out, b"", args, new)
+    }
+}
+
+/// The use of an earlier theorem, with names for the objects that it makes.
+pub(crate) fn put_application(
+    alloc: Global,
+    out: &mut Vec<u8>,
+    known: &Theorems,
+    names: &Names,
+    theorem: u32,
+    args: &[Option<Obj>],
+    new: &[Name],
+) -> Result<(), AllocError>
+    ensures { OnOk result (out.new.items ≡ out.old.items ++ form_text (apply_form known.now names.now theorem args.now new.now)) }
+{
+    let args = names_of_arguments(alloc, names, args)?;
+    let put = put_by_title(out, known, theorem as usize, args.items(), new);
+    mem::drop(args);
+    put?;
+    end_line(out)
+}
+
+/// What a claim shows.
+pub(crate) fn put_claim(
+    alloc: Global,
+    out: &mut Vec<u8>,
+    names: &Names,
+    shown: &[Lit],
+) -> Result<(), AllocError>
+    ensures { OnOk result (out.new.items ≡ out.old.items ++ form_text (claim_form names.now shown.now)) }
+{
+    let raws = raw_lits(alloc, names, shown)?;
+    let put = put_stated(out, b"claim", raws.items());
+    mem::drop(raws);
+    put?;
+    end_line(out)
+}
+
+/// A superposition, with names for the copied points, and with the literals that its block shows.
+#[tactic(auto, unfolding(crate::specs::inner::Parts::superposition_text))]
+pub(crate) fn put_superposition(
+    alloc: Global,
+    out: &mut Vec<u8>,
+    names: &Names,
+    form: Superpose,
+    new: &[Name],
+    shown: &[Lit],
+) -> Result<(), AllocError>
+    ensures { OnOk result (out.new.items ≡ out.old.items ++ superposition_text names.now form new.now shown.now) }
+{
+    let args = placed_names(alloc, names, form)?;
+    let raws = match raw_lits(alloc, names, shown) {
+        Ok(raws) => raws,
+        Err(error) => {
+            mem::drop(args);
+            return Err(error);
+        }
+    };
+    let put = put_superpose(out, args.items(), new, raws.items());
+    mem::drop(raws);
+    mem::drop(args);
+    put?;
+    end_line(out)
+}
+
+/// The objects that a block concludes with.
+pub(crate) fn put_conclusion(
+    alloc: Global,
+    out: &mut Vec<u8>,
+    names: &Names,
+    objects: &[Obj],
+) -> Result<(), AllocError>
+    ensures { OnOk result (out.new.items ≡ out.old.items ++ form_text (qed_form names.now objects.now)) }
+{
+    let objects = names_of_objects(alloc, names, objects)?;
+    let put = put_named(out, b"qed", objects.items());
+    mem::drop(objects);
+    put?;
+    end_line(out)
+}
