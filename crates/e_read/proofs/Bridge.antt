@@ -13,7 +13,7 @@ use Rattle.e_book.specs.Entry.{Entry}
 use Rattle.e_book.specs.Grammar.{is_skipped}
 use Rattle.e_book.specs.Book.{line_step, is_done, read_from}
 use Rattle.e_book.proofs.InScope.{bind_ok}
-use Rattle.e_read.specs.declared.kept.Kept.{Kept}
+use Rattle.e_cert.specs.declared.kept.Kept.{Kept}
 use Rattle.e_read.specs.declared.reading.Reading.{Reading}
 use Rattle.e_read.specs.Filled.{filled}
 use Rattle.e_read.specs.Laws.{begins_with_bar, is_of_theorem}

@@ -5,7 +5,7 @@ use Rattle.std.proofs.lemmas.Bool.{and_parts}
 use Rattle.e_text.specs.Names.{is_name}
 use Rattle.e_deriv.specs.Script.{Script, Cite, Hence, Make, Apply, Claim, Superposed, Qed, Contradiction, Cases, erased}
 use Rattle.e_book.specs.HasSpelling.{is_plain}
-use Rattle.e_read.specs.declared.kept.Kept.{Kept}
+use Rattle.e_cert.specs.declared.kept.Kept.{Kept}
 use Rattle.e_read.specs.Filled.{behind_next, filled}
 
 pub erased_filled : (s : Script) (ks : List Kept) → erased (filled s ks).0 ≡ erased s

@@ -10,8 +10,9 @@ use Rattle.e_clause.specs.declared.cert.By.{By}
 use Rattle.e_clause.specs.declared.cert.Cert.{Cert}
 use Rattle.e_deriv.specs.Script.{Script, Cite, Hence, Make, Apply, Claim, Superposed, Qed, Contradiction, Cases}
 use Rattle.e_deriv.proofs.Scripts.{scripts, steps_script-append}
-use Rattle.e_read.specs.declared.kept.Kept.{Kept}
-use Rattle.e_read.specs.Filled.{first_cert, next_certs, next_against, behind_next, filled}
+use Rattle.e_cert.specs.declared.kept.Kept.{Kept}
+use Rattle.e_cert.specs.Owed.{first_cert}
+use Rattle.e_read.specs.Filled.{next_certs, next_against, behind_next, filled}
 
 pub filled-Cite : (by : By) (rest : Script) (ks : List Kept) → filled (Cite by rest) ks ≡ (Cite by (filled rest ks).0, (filled rest ks).1)
 unfolding filled

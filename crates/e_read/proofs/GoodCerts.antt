@@ -1,46 +1,40 @@
 -- With certificates of one version, a script that is filled has such certificates.
-use Rattle.std.proofs.Common.{◌≡◌, Bool, true, List, [], ◌∷◌, refl}
+use Rattle.std.proofs.Common.{◌≡◌, true, List, [], ◌∷◌, refl}
 use Rattle.std.specs.List.{list_all}
 use Rattle.std.specs.Option.{option_map_or}
 use Rattle.std.proofs.lemmas.Bool.{and_parts, and_from}
 use Rattle.e_clause.specs.declared.cert.Cert.{Cert}
 use Rattle.e_deriv.specs.Script.{Script, Cite, Hence, Make, Apply, Claim, Superposed, Qed, Contradiction, Cases}
 use Rattle.e_deriv.specs.Versions.{has_certs_of}
-use Rattle.e_read.specs.declared.kept.Kept.{Kept}
-use Rattle.e_read.specs.declared.kept.Kept.TheVariants as kept
-use Rattle.e_read.specs.Filled.{first_cert, next_certs, next_against, behind_next, filled}
+use Rattle.e_cert.proofs.GoodKept.{is_good_kept, AreGood}
+use Rattle.e_cert.specs.declared.kept.Kept.{Kept}
+use Rattle.e_cert.specs.declared.kept.Kept.TheVariants as kept
+use Rattle.e_cert.specs.Owed.{first_cert}
+use Rattle.e_read.specs.Filled.{next_certs, next_against, behind_next, filled}
 use Rattle.e_clause.specs.declared.cert.Version.{Version}
 use Rattle.e_clause.specs.Versions.{is_cert_of, is_against_of}
 
 module _ (v : Version) where
-  -- what was read below a line is of the version
-  abbrev pub is_good_kept : Kept → Bool
-  is_good_kept (kept.Certs cs) = list_all (is_cert_of v) cs
-  is_good_kept (kept.Against a) = is_against_of v a
-
-  abbrev pub AreGood : List Kept → Type 0
-  AreGood ks = list_all is_good_kept ks ≡ true
-
   first_good : (cs : List Cert) → list_all (is_cert_of v) cs ≡ true → option_map_or (is_cert_of v) (first_cert cs) true ≡ true
   first_good [] h = refl
   first_good (c ∷ cs) h = (and_parts (is_cert_of v c) (list_all (is_cert_of v) cs) h).0
 
-  certs_good : (ks : List Kept) → AreGood ks → list_all (is_cert_of v) (next_certs ks) ≡ true
+  certs_good : (ks : List Kept) → AreGood v ks → list_all (is_cert_of v) (next_certs ks) ≡ true
   certs_good [] h = refl
-  certs_good (kept.Certs cs ∷ ks) h = (and_parts (list_all (is_cert_of v) cs) (list_all is_good_kept ks) h).0
+  certs_good (kept.Certs cs ∷ ks) h = (and_parts (list_all (is_cert_of v) cs) (list_all (is_good_kept v) ks) h).0
   certs_good (kept.Against a ∷ ks) h = refl
 
-  against_good : (ks : List Kept) → AreGood ks → option_map_or (is_against_of v) (next_against ks) true ≡ true
+  against_good : (ks : List Kept) → AreGood v ks → option_map_or (is_against_of v) (next_against ks) true ≡ true
   against_good [] h = refl
   against_good (kept.Certs cs ∷ ks) h = refl
-  against_good (kept.Against a ∷ ks) h = (and_parts (is_against_of v a) (list_all is_good_kept ks) h).0
+  against_good (kept.Against a ∷ ks) h = (and_parts (is_against_of v a) (list_all (is_good_kept v) ks) h).0
 
-  behind_good : (ks : List Kept) → AreGood ks → AreGood (behind_next ks)
+  behind_good : (ks : List Kept) → AreGood v ks → AreGood v (behind_next ks)
   behind_good [] h = refl
-  behind_good (k ∷ ks) h = (and_parts (is_good_kept k) (list_all is_good_kept ks) h).1
+  behind_good (k ∷ ks) h = (and_parts (is_good_kept v k) (list_all (is_good_kept v) ks) h).1
 
   -- with good certificates the script has good ones, and good ones are left
-  pub filled_good : (d : Script) (ks : List Kept) → AreGood ks → (has_certs_of v (filled d ks).0 ≡ true) × AreGood (filled d ks).1
+  pub filled_good : (d : Script) (ks : List Kept) → AreGood v ks → (has_certs_of v (filled d ks).0 ≡ true) × AreGood v (filled d ks).1
   unfolding has_certs_of filled
   filled_good (Cite by rest) ks h = filled_good rest ks h
   filled_good (Hence lit cert rest) ks h =

@@ -21,23 +21,24 @@ use Rattle.e_book.specs.Scope.{lit_in, let_in}
 use Rattle.e_book.specs.Superposes.{superpose_in}
 use Rattle.e_book.proofs.InScope.{bind_ok, ok_is, read_ok}
 use Rattle.e_book.proofs.Choices.{passed}
-use Rattle.e_read.specs.declared.owed.Due.{Due}
-use Rattle.e_read.specs.declared.owed.Due.TheVariants as due
-use Rattle.e_read.specs.declared.owed.Owed.{Owed}
-use Rattle.e_read.specs.declared.kept.Kept.{Kept}
+use Rattle.e_cert.specs.declared.owed.Due.{Due}
+use Rattle.e_cert.specs.declared.owed.Due.TheVariants as due
+use Rattle.e_cert.specs.declared.owed.Owed.{Owed}
+use Rattle.e_cert.specs.declared.kept.Kept.{Kept}
 use Rattle.e_read.specs.declared.reading.Reading.{Reading}
 use Rattle.e_read.specs.Strict.{is_apart}
 use Rattle.e_read.specs.Needs.{one_each, needs_of_use, needs_at_qed, due_of}
 use Rattle.e_read.specs.Text.{owes_nothing, at_start, owed_by, gone_on, taken, Derived, Last, derived, garbled_at, finished, or_on, is_end, piece_from}
 use Rattle.e_read.proofs.Bridge.{Answer, derives, no_last, garbled_ok, derived_is, goes_on}
 use Rattle.e_read.proofs.TakenLines.{Stepped, line_taken, either}
-use Rattle.e_read.proofs.GoodCerts.{is_good_kept, AreGood, filled_good}
-use Rattle.e_read.proofs.GoodMarks.{GoodDue, GoodOwed, strict_good, settled_good}
+use Rattle.e_cert.proofs.GoodKept.{is_good_kept, AreGood}
+use Rattle.e_read.proofs.GoodCerts.{filled_good}
+use Rattle.e_cert.proofs.GoodMarks.{GoodDue, GoodOwed, strict_good, settled_good}
 use Rattle.e_clause.specs.declared.cert.Version.{Version}
 use Rattle.e_deriv.specs.Versions.{has_certs_of}
 use Rattle.e_deriv.specs.Written.{has_good_certs}
 use Rattle.e_deriv.proofs.Versions.{good_of_version}
-use Rattle.e_read.specs.Marks.{mark_is_of}
+use Rattle.e_cert.specs.Marks.{mark_is_of}
 
 some_is : (x y : Entry) → Some x ≡ Some y → x ≡ y
 some_is x y e = cc

@@ -6,8 +6,6 @@ pub mod Consequences
 pub mod Rooms
 pub mod GoalSorts
 pub mod GoodCerts
-pub mod MarkLits
-pub mod GoodMarks
 pub mod GoodReadings
 pub mod MadeNames
 pub mod Ends

@@ -5,7 +5,7 @@ use Rattle.e_text.specs.declared.line.LineFault.{LineFault}
 use Rattle.e_book.specs.Headed.{Headed}
 use Rattle.e_book.specs.Entry.{Entry}
 use Rattle.e_book.specs.declared.draft.Draft.{Draft}
-use Rattle.e_read.specs.declared.kept.Kept.{Kept}
+use Rattle.e_cert.specs.declared.kept.Kept.{Kept}
 use Rattle.e_read.specs.declared.reading.Reading.{Reading}
 use Rattle.e_read.specs.declared.reader.Turn.{Turn}
 use Rattle.e_read.specs.declared.reader.Turn.TheVariants as turns

@@ -19,13 +19,15 @@ use Rattle.e_book.specs.Book.{line_step}
 use Rattle.e_book.specs.Canonical.{line_of}
 use Rattle.e_book.proofs.InScope.{bind_ok, ok_is}
 use Rattle.e_book.proofs.Choices.{passed}
-use Rattle.e_read.specs.declared.mark.Mark.{Mark}
-use Rattle.e_read.specs.declared.owed.Owed.{Owed}
-use Rattle.e_read.specs.declared.kept.Kept.{Kept}
+use Rattle.e_cert.specs.declared.mark.Mark.{Mark}
+use Rattle.e_cert.specs.declared.owed.Owed.{Owed}
+use Rattle.e_cert.specs.declared.kept.Kept.{Kept}
 use Rattle.e_read.specs.declared.reading.Reading.{Reading}
-use Rattle.e_read.specs.Marks.{mark_is_of}
-use Rattle.e_read.specs.Strict.{is_strict, strict_of, strict_form, strict_mark, is_apart}
-use Rattle.e_read.specs.Owed.{marked, settled}
+use Rattle.e_cert.specs.Marks.{mark_is_of}
+use Rattle.e_line.specs.Strict.{is_strict, strict_of, strict_form}
+use Rattle.e_cert.specs.Strict.{strict_mark}
+use Rattle.e_read.specs.Strict.{is_apart}
+use Rattle.e_cert.specs.Owed.{marked, settled}
 use Rattle.e_read.specs.Laws.{begins_with_bar}
 use Rattle.e_read.specs.Text.{owes_nothing, with_mark, certified, owed_by, gone_on, all_settled, with_form, stepped, is_bar, worded, is_lf_end, spelled, taken}
 

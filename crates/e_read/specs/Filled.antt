@@ -5,12 +5,9 @@ use Rattle.e_clause.specs.declared.cert.Against.{Against}
 use Rattle.e_deriv.specs.declared.block.Step.{Step}
 use Rattle.e_deriv.specs.declared.block.Close.{Close}
 use Rattle.e_deriv.specs.Script.{step_script, close_script, Script, Cite, Hence, Make, Apply, Claim, Superposed, Qed, Contradiction, Cases}
-use Rattle.e_read.specs.declared.kept.Kept.{Kept}
-use Rattle.e_read.specs.declared.kept.Kept.TheVariants.{Certs, Against as OfContradiction}
-
-abbrev pub first_cert : List Cert → Option Cert
-first_cert [] = None
-first_cert (c ∷ cs) = Some c
+use Rattle.e_cert.specs.Owed.{first_cert}
+use Rattle.e_cert.specs.declared.kept.Kept.{Kept}
+use Rattle.e_cert.specs.declared.kept.Kept.TheVariants.{Certs, Against as OfContradiction}
 
 abbrev pub certs_of : Kept → List Cert
 certs_of (Certs cs) = cs

@@ -23,8 +23,8 @@ use Rattle.e_book.specs.Blocks.{made_in}
 use Rattle.e_book.specs.Scope.{scope_of_names, lit_in, let_in, qed_in}
 use Rattle.e_book.specs.Superposes.{superpose_in}
 use Rattle.e_book.specs.Applies.{apply_in}
-use Rattle.e_read.specs.declared.owed.Due.{Due}
-use Rattle.e_read.specs.declared.owed.Due.TheVariants as due
+use Rattle.e_cert.specs.declared.owed.Due.{Due}
+use Rattle.e_cert.specs.declared.owed.Due.TheVariants as due
 
 -- what a block shows that a claim or a superposition began; a block of a split has the goal of the block that it closes
 abbrev pub shown_inside : Opened → Option (List Lit) → Option (List Lit)

@@ -23,10 +23,10 @@ use Rattle.e_book.specs.Scope.{FewNames}
 use Rattle.e_book.specs.Steps.{begin, step, no_names, count_names, FitsScope}
 use Rattle.e_book.specs.Grammar.{last_line}
 use Rattle.e_book.specs.Book.{is_done}
-use Rattle.e_read.specs.declared.mark.Mark.{Mark}
-use Rattle.e_read.specs.declared.owed.Due.TheVariants as due
-use Rattle.e_read.specs.declared.owed.Owed.{Owed}
-use Rattle.e_read.specs.declared.kept.Kept.{Kept}
+use Rattle.e_cert.specs.declared.mark.Mark.{Mark}
+use Rattle.e_cert.specs.declared.owed.Due.TheVariants as due
+use Rattle.e_cert.specs.declared.owed.Owed.{Owed}
+use Rattle.e_cert.specs.declared.kept.Kept.{Kept}
 use Rattle.e_read.specs.declared.reading.Reading.{Reading}
 use Rattle.e_read.specs.declared.reader.Piece.{Piece as PieceRead}
 use Rattle.e_read.specs.declared.reader.Piece.TheVariants as read
@@ -34,9 +34,11 @@ use Rattle.e_read.specs.declared.reader.Turn.{Turn}
 use Rattle.e_read.specs.declared.reader.Turn.TheVariants as turns
 use Rattle.e_read.specs.declared.reader.TextFault.{TextFault}
 use Rattle.e_read.specs.declared.reader.TextFault.TheVariants as faults
-use Rattle.e_read.specs.Marks.{mark_is_of}
-use Rattle.e_read.specs.Strict.{strict_form, strict_mark, is_apart}
-use Rattle.e_read.specs.Owed.{marked, settled}
+use Rattle.e_cert.specs.Marks.{mark_is_of}
+use Rattle.e_line.specs.Strict.{strict_form}
+use Rattle.e_cert.specs.Strict.{strict_mark}
+use Rattle.e_read.specs.Strict.{is_apart}
+use Rattle.e_cert.specs.Owed.{marked, settled}
 use Rattle.e_read.specs.Needs.{due_of}
 use Rattle.e_read.specs.Filled.{filled}
 

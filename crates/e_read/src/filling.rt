@@ -1,9 +1,11 @@
 //! A script with certificates at its lines.
 ghost use Rattle.std.specs.Prelude.{◌≡◌, IfOk, OnOk};
 ghost use Rattle.e_deriv.specs.Script.{script_of};
-ghost use Rattle.e_read.specs.Filled.{behind_next, next_certs, next_against, first_cert, Fills, FillsStep, FillsClose};
+ghost use Rattle.e_cert.specs.Owed.{first_cert};
+ghost use Rattle.e_read.specs.Filled.{behind_next, next_certs, next_against, Fills, FillsStep, FillsClose};
 
-use crate::kept::{Certs, Kept, Queue};
+use crate::kept::Queue;
+use e_cert::{Certs, Kept};
 use e_clause::{Against, Cert};
 use e_deriv::{Block, Close, Step, copy_by, copy_construction, copy_lits};
 use e_literal::{Items, copy};

@@ -5,17 +5,12 @@
 mod filling;
 mod kept;
 mod laws;
-mod mark;
-mod marks;
 mod needs;
-mod owed;
 mod reader;
 mod reading;
 mod strict;
 
-pub use kept::{Certs, Kept, KeptLines, Rows};
+pub use kept::KeptLines;
 pub use laws::{derivations_are_of_books, garbled_line_is_first};
-pub use mark::{Mark, RawRow};
-pub use owed::{Due, OpenSums, OpenTransfer, Owed};
 pub use reader::{Piece, TextFault, read};
 pub use reading::Reading;

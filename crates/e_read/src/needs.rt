@@ -18,12 +18,11 @@ ghost use Rattle.e_read.specs.Needs;
 ghost use Rattle.e_read.specs.Text.{FitsDraft};
 ghost use Rattle.e_read.specs.Needs.{open_goal, one_each, needs_in, due_of};
 
-use crate::kept::Certs;
-use crate::owed::Due;
 use e_book::{
     Draft, Form, Kind, Opened, Outer, RawApply, Theorems, Trouble, apply_in, let_in, lit_in,
     qed_in, scope_of_names, superpose_in,
 };
+use e_cert::{Certs, Due};
 use e_literal::{Items, Lit, Map, NOTHING, Obj, Scope, Sort, grown, next_objects};
 use e_text::Name;
 use e_theorem::{Statement, UseFault, all_renamed, use_of};

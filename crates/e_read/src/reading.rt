@@ -14,13 +14,13 @@ ghost use Rattle.e_read.specs.Text.{owes_nothing, at_start, with_mark, certified
 
 use crate::filling::fill;
 use crate::kept::KeptLines;
-use crate::mark::{Mark, mark_is_of};
 use crate::needs::due_of;
-use crate::owed::{Due, Owed};
-use crate::strict::{is_apart, strict_mark, strict_of};
+use crate::strict::is_apart;
 use e_book::{Draft, Form, Kind, Place, Theorem, Theorems, Trouble, collected};
+use e_cert::{Due, Mark, Owed, mark_is_of, strict_mark};
 use e_clause::Version;
 use e_deriv::Names;
+use e_line::strict_of;
 use e_literal::Items;
 use e_text::{Line, LineEnd, is};
 use e_words::put_number;

@@ -33,8 +33,8 @@ use Rattle.e_book.specs.Book.{is_last}
 use Rattle.e_book.specs.Steps.{terms_after, counted_from, resumed, closed_inside, closed, shut}
 use Rattle.e_book.specs.Canonical.{line_of, claim_form, superpose_form, cases_form, else_form, end_form}
 use Rattle.e_book.proofs.InScope.{bind_ok, ok_is, read_ok}
-use Rattle.e_read.specs.declared.kept.Kept.{Kept}
-use Rattle.e_read.specs.declared.kept.Kept.TheVariants.{Certs}
+use Rattle.e_cert.specs.declared.kept.Kept.{Kept}
+use Rattle.e_cert.specs.declared.kept.Kept.TheVariants.{Certs}
 use Rattle.e_read.specs.Needs.{shown_inside, claimed as shown_around, goal_or}
 use Rattle.e_spell.specs.Certificates.{certs_lines}
 use Rattle.e_roundtrip.proofs.FormedLines.{CopyFormed}

@@ -20,19 +20,19 @@ use Rattle.e_book.specs.Fits.{is_diagram_lit}
 use Rattle.e_book.specs.Canonical.{raw_of, name_of_object, rule_name}
 use Rattle.e_book.proofs.Lookups.{InOrder, objects_named}
 use Rattle.e_book.proofs.LitLookups.{lit_number_again, lit_named, diagram_is_good, diagram_is_raw}
-use Rattle.e_read.specs.declared.mark.Mark.TheVariants as marks
-use Rattle.e_read.specs.declared.owed.Due.{Due}
-use Rattle.e_read.specs.declared.owed.Due.TheVariants as due
-use Rattle.e_read.specs.declared.owed.Owed.{Owed}
-use Rattle.e_read.specs.declared.kept.Kept.{Kept}
-use Rattle.e_read.specs.declared.kept.Kept.TheVariants as kept
-use Rattle.e_read.specs.Owed.{certificate, transfer_put, part_put, marked, settled}
+use Rattle.e_cert.specs.declared.mark.Mark.TheVariants as marks
+use Rattle.e_cert.specs.declared.owed.Due.{Due}
+use Rattle.e_cert.specs.declared.owed.Due.TheVariants as due
+use Rattle.e_cert.specs.declared.owed.Owed.{Owed}
+use Rattle.e_cert.specs.declared.kept.Kept.{Kept}
+use Rattle.e_cert.specs.declared.kept.Kept.TheVariants as kept
+use Rattle.e_cert.specs.Owed.{certificate, transfer_put, part_put, marked, settled}
 use Rattle.e_read.specs.Needs.{one_each}
 use Rattle.e_spell.specs.Certificates.{part_lines, cert_lines, against_lines}
 use Rattle.e_roundtrip.proofs.Feeding.{Fed, owing, Ends, Puts, puts_append, GoodSums, metric_fed, GoodPart, part_fed}
 use Rattle.e_clause.specs.declared.cert.Version.{Version}
 use Rattle.e_clause.specs.Versions.{is_cert_of, is_against_of}
-use Rattle.e_read.proofs.GoodCerts.{AreGood}
+use Rattle.e_cert.proofs.GoodKept.{AreGood}
 use Rattle.e_roundtrip.proofs.VersionLines.{LinesOf, lines_append, metric_of, part_of, parts_of}
 use Rattle.e_roundtrip.proofs.TransfersAgain.{GoodTransfer, part_way, rule_titled, transfer_again}
 

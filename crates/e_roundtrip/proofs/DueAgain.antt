@@ -30,7 +30,7 @@ use Rattle.e_book.proofs.Building.{GoodLet}
 use Rattle.e_book.proofs.Built.{of_sorts_length, let_number_again}
 use Rattle.e_book.proofs.Superposed.{GoodSuperpose, superpose_number_again}
 use Rattle.e_book.proofs.Applied.{GoodApply, apply_number_again}
-use Rattle.e_read.specs.Strict.{are_direct}
+use Rattle.e_line.specs.Strict.{are_direct}
 use Rattle.e_read.specs.Needs.{open_goal, one_each, needs_in, needs_of_use as needs_of_line, needs_at_qed, due_of}
 use Rattle.e_roundtrip.proofs.RowsAgain.{lit_direct}
 

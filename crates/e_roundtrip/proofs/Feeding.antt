@@ -16,15 +16,15 @@ use Rattle.e_deriv.specs.declared.names.Names.{Names}
 use Rattle.e_book.specs.declared.fault.Kind.TheVariants.{Malformed}
 use Rattle.e_book.specs.Reading.{◌>>=◌}
 use Rattle.e_book.proofs.Lookups.{InOrder}
-use Rattle.e_read.specs.declared.mark.Mark.{Mark}
-use Rattle.e_read.specs.declared.mark.Mark.TheVariants as marks
-use Rattle.e_read.specs.declared.owed.OpenSums.{OpenSums}
-use Rattle.e_read.specs.declared.owed.OpenSums.TheVariants as sums
-use Rattle.e_read.specs.declared.owed.Due.{Due}
-use Rattle.e_read.specs.declared.owed.Due.TheVariants as due
-use Rattle.e_read.specs.declared.owed.Owed.{Owed}
-use Rattle.e_read.specs.Marks.{may_differ, mark_words}
-use Rattle.e_read.specs.Owed.{with_row, row_put, sum_begun, sums_ended, part_put, metric_put, takes_metric, ended, marked}
+use Rattle.e_cert.specs.declared.mark.Mark.{Mark}
+use Rattle.e_cert.specs.declared.mark.Mark.TheVariants as marks
+use Rattle.e_cert.specs.declared.owed.OpenSums.{OpenSums}
+use Rattle.e_cert.specs.declared.owed.OpenSums.TheVariants as sums
+use Rattle.e_cert.specs.declared.owed.Due.{Due}
+use Rattle.e_cert.specs.declared.owed.Due.TheVariants as due
+use Rattle.e_cert.specs.declared.owed.Owed.{Owed}
+use Rattle.e_cert.specs.Marks.{may_differ, mark_words}
+use Rattle.e_cert.specs.Owed.{with_row, row_put, sum_begun, sums_ended, part_put, metric_put, takes_metric, ended, marked}
 use Rattle.e_spell.specs.Certificates.{row_line, sum_lines, sums_lines, metric_lines, part_lines}
 use Rattle.e_roundtrip.proofs.MarksAgain.{MarkNamed}
 use Rattle.e_roundtrip.proofs.RowsAgain.{raw_row, row_spelled, GoodName, row_in_again, row_named_again}

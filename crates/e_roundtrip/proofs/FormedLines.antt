@@ -33,7 +33,7 @@ use Rattle.e_book.specs.Scope.{scope_of_names}
 use Rattle.e_book.specs.Headed.{Headed, stated_by, theorem_of}
 use Rattle.e_book.proofs.InScope.{bind_ok, ok_is, read_ok}
 use Rattle.e_book.proofs.Building.{named_scope}
-use Rattle.e_read.specs.Filled.{first_cert}
+use Rattle.e_cert.specs.Owed.{first_cert}
 use Rattle.e_read.specs.Needs.{needs_in}
 use Rattle.e_roundtrip.specs.Formed.{cert_formed, certs_formed, against_formed, formed_beside, is_formed}
 use Rattle.e_roundtrip.proofs.CertifiedFormed.{then_lines}

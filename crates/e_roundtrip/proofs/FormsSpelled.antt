@@ -36,7 +36,7 @@ use Rattle.e_book.proofs.Citations.{counted}
 use Rattle.e_book.proofs.InScope.{bind_ok, ok_is, read_ok}
 use Rattle.e_book.proofs.Building.{placed_behind}
 use Rattle.e_book.proofs.Uses.{found_title}
-use Rattle.e_read.specs.Strict.{is_direct, are_direct}
+use Rattle.e_line.specs.Strict.{is_direct, are_direct}
 use Rattle.e_roundtrip.proofs.NamesSpelled.{keeps_all, used_named, number_named, object_named}
 use Rattle.e_roundtrip.proofs.LitsRead.{Signed, AllSigned}
 use Rattle.e_roundtrip.proofs.LitsSpelled.{each_back, canonical, diagram_canonical, lit_named, lits_named}

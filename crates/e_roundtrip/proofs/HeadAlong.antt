@@ -26,9 +26,10 @@ use Rattle.e_book.proofs.Respelled.{GoodForm, as_read}
 use Rattle.e_book.proofs.Declared.{Runs}
 use Rattle.e_book.proofs.InScope.{bind_ok, ok_is}
 use Rattle.e_book.proofs.Choices.{passed}
-use Rattle.e_read.specs.declared.owed.Due.TheVariants as due
-use Rattle.e_read.specs.declared.kept.Kept.{Kept}
-use Rattle.e_read.specs.Strict.{is_strict, ends_with, is_apart}
+use Rattle.e_cert.specs.declared.owed.Due.TheVariants as due
+use Rattle.e_cert.specs.declared.kept.Kept.{Kept}
+use Rattle.e_line.specs.Strict.{is_strict}
+use Rattle.e_read.specs.Strict.{ends_with, is_apart}
 use Rattle.e_read.specs.Needs.{due_of}
 use Rattle.e_roundtrip.proofs.RowsAgain.{lit_direct}
 use Rattle.e_roundtrip.proofs.CertsPut.{nothing_kept}

@@ -26,8 +26,9 @@ use Rattle.e_book.specs.Canonical.{line_of, given_form, show_form, head_forms, g
 use Rattle.e_book.specs.DraftViews.{statement_of_draft}
 use Rattle.e_book.proofs.Answered.{untaken}
 use Rattle.e_book.proofs.InScope.{bind_ok, ok_is, read_ok}
-use Rattle.e_read.specs.declared.kept.Kept.{Kept}
-use Rattle.e_read.specs.Strict.{is_direct, are_direct, ends_with}
+use Rattle.e_cert.specs.declared.kept.Kept.{Kept}
+use Rattle.e_line.specs.Strict.{is_direct, are_direct}
+use Rattle.e_read.specs.Strict.{ends_with}
 use Rattle.e_roundtrip.proofs.NamesSpelled.{Keeps, keeps_all}
 use Rattle.e_roundtrip.proofs.LitsRead.{AllSigned}
 use Rattle.e_roundtrip.proofs.LitsSpelled.{canonical, lit_named}

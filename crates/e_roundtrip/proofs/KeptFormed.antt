@@ -31,18 +31,18 @@ use Rattle.e_book.specs.LineLimits.{few_monos}
 use Rattle.e_book.specs.Scope.{scope_of_names, lit_in, term_in}
 use Rattle.e_book.proofs.InScope.{bind_ok, ok_is, read_ok, term_in_scope, lit_in_scope}
 use Rattle.e_book.proofs.Choices.{passed}
-use Rattle.e_read.specs.declared.mark.RawRow.{RawRow}
-use Rattle.e_read.specs.declared.mark.RawRow.TheVariants as rows
-use Rattle.e_read.specs.declared.owed.OpenSums.{OpenSums}
-use Rattle.e_read.specs.declared.owed.OpenSums.TheVariants as sums
-use Rattle.e_read.specs.declared.owed.OpenTransfer.{OpenTransfer}
-use Rattle.e_read.specs.declared.owed.Due.{Due}
-use Rattle.e_read.specs.declared.owed.Due.TheVariants as due
-use Rattle.e_read.specs.declared.kept.Kept.{Kept}
-use Rattle.e_read.specs.declared.kept.Kept.TheVariants as kept
-use Rattle.e_read.specs.Marks.{may_differ}
-use Rattle.e_read.specs.Owed.{most_rows, fact_in, row_in, with_row, row_put, sum_begun, differs_put, sums_ended, has_more, certificate, transfer_put, part_put, metric_put, kept_of}
-use Rattle.e_read.proofs.GoodMarks.{RowSaid, good_row}
+use Rattle.e_cert.specs.declared.mark.RawRow.{RawRow}
+use Rattle.e_cert.specs.declared.mark.RawRow.TheVariants as rows
+use Rattle.e_cert.specs.declared.owed.OpenSums.{OpenSums}
+use Rattle.e_cert.specs.declared.owed.OpenSums.TheVariants as sums
+use Rattle.e_cert.specs.declared.owed.OpenTransfer.{OpenTransfer}
+use Rattle.e_cert.specs.declared.owed.Due.{Due}
+use Rattle.e_cert.specs.declared.owed.Due.TheVariants as due
+use Rattle.e_cert.specs.declared.kept.Kept.{Kept}
+use Rattle.e_cert.specs.declared.kept.Kept.TheVariants as kept
+use Rattle.e_cert.specs.Marks.{may_differ}
+use Rattle.e_cert.specs.Owed.{most_rows, fact_in, row_in, with_row, row_put, sum_begun, differs_put, sums_ended, has_more, certificate, transfer_put, part_put, metric_put, kept_of}
+use Rattle.e_cert.proofs.GoodMarks.{RowSaid, good_row}
 use Rattle.e_roundtrip.specs.Formed.{sum_formed, names_difference, difference_formed, sums_formed, part_formed, has_parts, cert_formed, certs_formed, against_formed}
 use Rattle.e_roundtrip.proofs.CertifiedFormed.{on_found}
 

@@ -14,12 +14,12 @@ use Rattle.e_book.specs.Headed.{Headed}
 use Rattle.e_book.specs.Entry.{Entry}
 use Rattle.e_book.specs.Scope.{lit_in}
 use Rattle.e_book.proofs.InScope.{bind_ok}
-use Rattle.e_read.specs.declared.mark.Mark.{Mark}
-use Rattle.e_read.specs.declared.mark.Mark.TheVariants as marks
-use Rattle.e_read.specs.declared.owed.Due.TheVariants as due
-use Rattle.e_read.specs.declared.owed.Owed.{Owed}
+use Rattle.e_cert.specs.declared.mark.Mark.{Mark}
+use Rattle.e_cert.specs.declared.mark.Mark.TheVariants as marks
+use Rattle.e_cert.specs.declared.owed.Due.TheVariants as due
+use Rattle.e_cert.specs.declared.owed.Owed.{Owed}
 use Rattle.e_read.specs.declared.reading.Reading.{Reading}
-use Rattle.e_read.specs.Owed.{row_in, row_put, differs_put, clash_put, sums_behind, due_behind, marked}
+use Rattle.e_cert.specs.Owed.{row_in, row_put, differs_put, clash_put, sums_behind, due_behind, marked}
 use Rattle.e_read.specs.Text.{Last, owes_nothing, at_start, is_lf_end, taken, garbled_at, finished, or_on, is_last_line, last_line_of, is_end, piece_from}
 use Rattle.e_read.proofs.Bridge.{Answer, no_last, garbled_ok}
 use Rattle.e_read.proofs.TakenLines.{line_taken, either}

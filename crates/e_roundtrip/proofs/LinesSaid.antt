@@ -33,11 +33,12 @@ use Rattle.e_book.specs.Canonical.{line_of, head_forms}
 use Rattle.e_book.proofs.Answered.{passes}
 use Rattle.e_book.proofs.InScope.{bind_ok, ok_is, read_ok}
 use Rattle.e_book.proofs.Keeps.{no_title}
-use Rattle.e_read.specs.declared.owed.Due.{Due}
-use Rattle.e_read.specs.declared.owed.Due.TheVariants as due
-use Rattle.e_read.specs.declared.kept.Kept.{Kept}
-use Rattle.e_read.specs.declared.kept.Kept.TheVariants as kept
-use Rattle.e_read.specs.Strict.{are_direct, is_strict, is_apart}
+use Rattle.e_cert.specs.declared.owed.Due.{Due}
+use Rattle.e_cert.specs.declared.owed.Due.TheVariants as due
+use Rattle.e_cert.specs.declared.kept.Kept.{Kept}
+use Rattle.e_cert.specs.declared.kept.Kept.TheVariants as kept
+use Rattle.e_line.specs.Strict.{are_direct, is_strict}
+use Rattle.e_read.specs.Strict.{is_apart}
 use Rattle.e_read.specs.Needs.{one_each, needs_of_use, needs_at_qed, due_of}
 use Rattle.e_roundtrip.specs.Formed.{certs_formed}
 use Rattle.e_roundtrip.proofs.KeptFormed.{DueFormed, KeptIsFormed}

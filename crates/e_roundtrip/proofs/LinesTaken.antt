@@ -23,16 +23,17 @@ use Rattle.e_book.proofs.Pieces.{alike, first_alike}
 use Rattle.e_book.proofs.LetsAgain.{LetNamed, as_read as let_as_read}
 use Rattle.e_book.proofs.Respelled.{GoodForm, as_read, form_again}
 use Rattle.e_book.proofs.LineWords.{words_again}
-use Rattle.e_read.specs.declared.mark.Mark.{Mark}
-use Rattle.e_read.specs.declared.owed.Due.{Due}
-use Rattle.e_read.specs.declared.owed.Owed.{Owed}
-use Rattle.e_read.specs.declared.kept.Kept.{Kept}
+use Rattle.e_cert.specs.declared.mark.Mark.{Mark}
+use Rattle.e_cert.specs.declared.owed.Due.{Due}
+use Rattle.e_cert.specs.declared.owed.Owed.{Owed}
+use Rattle.e_cert.specs.declared.kept.Kept.{Kept}
 use Rattle.e_read.specs.declared.reading.Reading.{Reading}
 use Rattle.e_clause.specs.declared.cert.Version.{Version}
-use Rattle.e_read.specs.Marks.{mark_line, mark_is_of}
-use Rattle.e_read.proofs.GoodCerts.{is_good_kept, AreGood}
-use Rattle.e_read.specs.Strict.{is_strict, strict_of, strict_form, is_apart}
-use Rattle.e_read.specs.Owed.{marked, settled}
+use Rattle.e_cert.specs.Marks.{mark_line, mark_is_of}
+use Rattle.e_cert.proofs.GoodKept.{is_good_kept, AreGood}
+use Rattle.e_line.specs.Strict.{is_strict, strict_of, strict_form}
+use Rattle.e_read.specs.Strict.{is_apart}
+use Rattle.e_cert.specs.Owed.{marked, settled}
 use Rattle.e_read.specs.Needs.{due_of}
 use Rattle.e_read.specs.Text.{certified, with_mark, owed_by, with_form, stepped, worded}
 use Rattle.e_roundtrip.proofs.MarksAgain.{MarkNamed, mark_tokens_again, strict_mark_again}

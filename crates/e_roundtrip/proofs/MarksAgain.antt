@@ -27,12 +27,13 @@ use Rattle.e_book.proofs.NamesAgain.{titled, names_again}
 use Rattle.e_book.proofs.SumsAgain.{TermNamed, term_again, term_tokens}
 use Rattle.e_book.proofs.LitsAgain.{LitNamed, lit_again, diagram_again, lit_tokens}
 use Rattle.e_book.proofs.LetsAgain.{names_tokens}
-use Rattle.e_read.specs.declared.mark.RawRow.{RawRow}
-use Rattle.e_read.specs.declared.mark.RawRow.TheVariants as rows
-use Rattle.e_read.specs.declared.mark.Mark.{Mark}
-use Rattle.e_read.specs.declared.mark.Mark.TheVariants as marks
-use Rattle.e_read.specs.Marks.{size_of, multiplier_of, place_of, fact_row_of, fact_mark_of, row_named, row_of, may_differ, differs_of, transfer_of, row_mark_of, mark_named, mark_of, row_words, mark_words, mark_line}
-use Rattle.e_read.specs.Strict.{is_direct, is_strict_row, is_strict_mark, strict_mark}
+use Rattle.e_cert.specs.declared.mark.RawRow.{RawRow}
+use Rattle.e_cert.specs.declared.mark.RawRow.TheVariants as rows
+use Rattle.e_cert.specs.declared.mark.Mark.{Mark}
+use Rattle.e_cert.specs.declared.mark.Mark.TheVariants as marks
+use Rattle.e_cert.specs.Marks.{size_of, multiplier_of, place_of, fact_row_of, fact_mark_of, row_named, row_of, may_differ, differs_of, transfer_of, row_mark_of, mark_named, mark_of, row_words, mark_words, mark_line}
+use Rattle.e_line.specs.Strict.{is_direct}
+use Rattle.e_cert.specs.Strict.{is_strict_row, is_strict_mark, strict_mark}
 
 -- ---- what is known of the lines of certificates
 

@@ -35,20 +35,20 @@ use Rattle.e_book.proofs.InScope.{bind_ok, ok_is, read_ok, lit_in_scope}
 use Rattle.e_book.proofs.Choices.{either, passed}
 use Rattle.e_book.proofs.Citations.{good_args}
 use Rattle.e_book.proofs.SaidForms.{lit_plain}
-use Rattle.e_read.specs.declared.mark.Mark.{Mark}
-use Rattle.e_read.specs.declared.mark.Mark.TheVariants as marks
-use Rattle.e_read.specs.declared.owed.OpenSums.{OpenSums}
-use Rattle.e_read.specs.declared.owed.OpenSums.TheVariants as sums
-use Rattle.e_read.specs.declared.owed.OpenTransfer.{OpenTransfer}
-use Rattle.e_read.specs.declared.owed.Due.{Due}
-use Rattle.e_read.specs.declared.owed.Due.TheVariants as due
-use Rattle.e_read.specs.declared.owed.Owed.{Owed}
-use Rattle.e_read.specs.declared.kept.Kept.{Kept}
-use Rattle.e_read.specs.declared.kept.Kept.TheVariants as kept
-use Rattle.e_read.specs.Marks.{sized, size_of, multiplier_of, row_of, may_differ, bare, differs_of, transfer_of, row_mark_of, mark_named, mark_of, mark_line, place_of as place_in, fact_mark_of}
-use Rattle.e_read.specs.Strict.{is_strict_mark, strict_mark}
-use Rattle.e_read.specs.Owed.{has_more, certificate, row_in, row_put, sum_begun, differs_put, sums_ended, transfer_put, part_put, metric_put, takes_metric, clash_put, transfer_rule, count_others, transfer_at, transfer_in, transfer_begun, ended, sums_behind, due_behind, marked, kept_of, settled}
-use Rattle.e_read.proofs.GoodMarks.{MarkSaid, strict_said}
+use Rattle.e_cert.specs.declared.mark.Mark.{Mark}
+use Rattle.e_cert.specs.declared.mark.Mark.TheVariants as marks
+use Rattle.e_cert.specs.declared.owed.OpenSums.{OpenSums}
+use Rattle.e_cert.specs.declared.owed.OpenSums.TheVariants as sums
+use Rattle.e_cert.specs.declared.owed.OpenTransfer.{OpenTransfer}
+use Rattle.e_cert.specs.declared.owed.Due.{Due}
+use Rattle.e_cert.specs.declared.owed.Due.TheVariants as due
+use Rattle.e_cert.specs.declared.owed.Owed.{Owed}
+use Rattle.e_cert.specs.declared.kept.Kept.{Kept}
+use Rattle.e_cert.specs.declared.kept.Kept.TheVariants as kept
+use Rattle.e_cert.specs.Marks.{sized, size_of, multiplier_of, row_of, may_differ, bare, differs_of, transfer_of, row_mark_of, mark_named, mark_of, mark_line, place_of as place_in, fact_mark_of}
+use Rattle.e_cert.specs.Strict.{is_strict_mark, strict_mark}
+use Rattle.e_cert.specs.Owed.{has_more, certificate, row_in, row_put, sum_begun, differs_put, sums_ended, transfer_put, part_put, metric_put, takes_metric, clash_put, transfer_rule, count_others, transfer_at, transfer_in, transfer_begun, ended, sums_behind, due_behind, marked, kept_of, settled}
+use Rattle.e_cert.proofs.GoodMarks.{MarkSaid, strict_said}
 use Rattle.e_roundtrip.specs.Formed.{against_formed}
 use Rattle.e_roundtrip.proofs.MarksRead.{MarkSigned, mark_signed}
 use Rattle.e_roundtrip.proofs.OwedSpelled.{due_at_first}

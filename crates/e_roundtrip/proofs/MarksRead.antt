@@ -9,13 +9,13 @@ use Rattle.e_book.specs.Literals.{is_diagram_raw}
 use Rattle.e_book.proofs.InScope.{bind_ok, ok_is, read_ok}
 use Rattle.e_book.proofs.SaidLits.{diagram_said}
 use Rattle.e_book.proofs.Choices.{passed}
-use Rattle.e_read.specs.declared.mark.RawRow.{RawRow}
-use Rattle.e_read.specs.declared.mark.RawRow.TheVariants as rows
-use Rattle.e_read.specs.declared.mark.Mark.{Mark}
-use Rattle.e_read.specs.declared.mark.Mark.TheVariants as marks
-use Rattle.e_read.specs.Marks.{mark_of, mark_line}
-use Rattle.e_read.specs.Strict.{is_strict_row, is_strict_mark, strict_mark}
-use Rattle.e_read.proofs.MarkLits.{OfRow, OfMark, mark_lit}
+use Rattle.e_cert.specs.declared.mark.RawRow.{RawRow}
+use Rattle.e_cert.specs.declared.mark.RawRow.TheVariants as rows
+use Rattle.e_cert.specs.declared.mark.Mark.{Mark}
+use Rattle.e_cert.specs.declared.mark.Mark.TheVariants as marks
+use Rattle.e_cert.specs.Marks.{mark_of, mark_line}
+use Rattle.e_cert.specs.Strict.{is_strict_row, is_strict_mark, strict_mark}
+use Rattle.e_cert.proofs.MarkLits.{OfRow, OfMark, mark_lit}
 use Rattle.e_roundtrip.proofs.LitsRead.{Signed, lit_signed}
 use Rattle.e_roundtrip.proofs.LitsSpelled.{Canonical, canonical, diagram_canonical}
 

@@ -33,21 +33,21 @@ use Rattle.e_book.specs.LineLimits.{few_monos}
 use Rattle.e_book.specs.Canonical.{lit_words, term_words, raw_of, rule_name, name_of_object}
 use Rattle.e_book.proofs.InScope.{bind_ok, ok_is, read_ok}
 use Rattle.e_book.proofs.Choices.{passed}
-use Rattle.e_read.specs.declared.mark.RawRow.{RawRow}
-use Rattle.e_read.specs.declared.mark.RawRow.TheVariants as rows
-use Rattle.e_read.specs.declared.mark.Mark.{Mark}
-use Rattle.e_read.specs.declared.mark.Mark.TheVariants as marks
-use Rattle.e_read.specs.declared.owed.OpenSums.{OpenSums}
-use Rattle.e_read.specs.declared.owed.OpenSums.TheVariants as sums
-use Rattle.e_read.specs.declared.owed.OpenTransfer.{OpenTransfer}
-use Rattle.e_read.specs.declared.owed.Due.{Due}
-use Rattle.e_read.specs.declared.owed.Due.TheVariants as due
-use Rattle.e_read.specs.declared.owed.Owed.{Owed}
-use Rattle.e_read.specs.declared.kept.Kept.{Kept}
-use Rattle.e_read.specs.declared.kept.Kept.TheVariants as kept
-use Rattle.e_read.specs.Marks.{mark_words, mark_line}
-use Rattle.e_read.specs.Marks as reading
-use Rattle.e_read.specs.Owed.{most_rows, fact_in, row_in, with_row, row_put, sum_begun, differs_put, sums_ended, has_more, certificate, transfer_put, part_put, metric_put, takes_metric, clash_put, transfer_rule, count_others, transfer_at, transfer_in, transfer_begun, ended, sums_behind, due_behind, marked, kept_of, settled}
+use Rattle.e_cert.specs.declared.mark.RawRow.{RawRow}
+use Rattle.e_cert.specs.declared.mark.RawRow.TheVariants as rows
+use Rattle.e_cert.specs.declared.mark.Mark.{Mark}
+use Rattle.e_cert.specs.declared.mark.Mark.TheVariants as marks
+use Rattle.e_cert.specs.declared.owed.OpenSums.{OpenSums}
+use Rattle.e_cert.specs.declared.owed.OpenSums.TheVariants as sums
+use Rattle.e_cert.specs.declared.owed.OpenTransfer.{OpenTransfer}
+use Rattle.e_cert.specs.declared.owed.Due.{Due}
+use Rattle.e_cert.specs.declared.owed.Due.TheVariants as due
+use Rattle.e_cert.specs.declared.owed.Owed.{Owed}
+use Rattle.e_cert.specs.declared.kept.Kept.{Kept}
+use Rattle.e_cert.specs.declared.kept.Kept.TheVariants as kept
+use Rattle.e_cert.specs.Marks.{mark_words, mark_line}
+use Rattle.e_cert.specs.Marks as reading
+use Rattle.e_cert.specs.Owed.{most_rows, fact_in, row_in, with_row, row_put, sum_begun, differs_put, sums_ended, has_more, certificate, transfer_put, part_put, metric_put, takes_metric, clash_put, transfer_rule, count_others, transfer_at, transfer_in, transfer_begun, ended, sums_behind, due_behind, marked, kept_of, settled}
 use Rattle.e_spell.specs.Certificates.{row_words, row_line, sum_lines, metric_lines, part_lines, transfer_lines, cert_lines, certs_lines, against_lines, contradiction_lines}
 use Rattle.e_roundtrip.proofs.NamesSpelled.{keeps_all}
 use Rattle.e_roundtrip.proofs.LitsSpelled.{term_named, lit_named}

@@ -54,11 +54,11 @@ use Rattle.e_book.proofs.Citations.{by_fits}
 use Rattle.e_book.proofs.Building.{let_fits, superpose_fits, qed_fits}
 use Rattle.e_book.proofs.Uses.{earlier, use_fits}
 use Rattle.e_book.proofs.KeptBlocks.{lits_within}
-use Rattle.e_read.specs.declared.owed.Due.{Due}
-use Rattle.e_read.specs.declared.owed.Due.TheVariants as due
-use Rattle.e_read.specs.declared.kept.Kept.{Kept}
-use Rattle.e_read.specs.declared.kept.Kept.TheVariants as kept
-use Rattle.e_read.specs.Strict.{is_direct, are_direct}
+use Rattle.e_cert.specs.declared.owed.Due.{Due}
+use Rattle.e_cert.specs.declared.owed.Due.TheVariants as due
+use Rattle.e_cert.specs.declared.kept.Kept.{Kept}
+use Rattle.e_cert.specs.declared.kept.Kept.TheVariants as kept
+use Rattle.e_line.specs.Strict.{is_direct, are_direct}
 use Rattle.e_read.specs.Needs.{shown_inside, claimed as shown_around, goal_or, open_goal, one_each, needs_in, needs_of_use, needs_at_qed, due_of}
 use Rattle.e_spell.specs.Certificates.{certs_lines, contradiction_lines}
 use Rattle.e_roundtrip.specs.Formed.{certs_formed, against_formed}

@@ -32,13 +32,14 @@ use Rattle.e_book.specs.Canonical.{line_of, head_forms, end_form, names_of_proof
 use Rattle.e_book.proofs.InScope.{bind_ok, ok_is, read_ok}
 use Rattle.e_book.proofs.Building.{declared_scope}
 use Rattle.e_book.proofs.Choices.{passed}
-use Rattle.e_read.specs.declared.owed.Due.{Due}
-use Rattle.e_read.specs.declared.owed.Due.TheVariants as due
-use Rattle.e_read.specs.declared.owed.Owed.{Owed}
-use Rattle.e_read.specs.declared.kept.Kept.{Kept}
+use Rattle.e_cert.specs.declared.owed.Due.{Due}
+use Rattle.e_cert.specs.declared.owed.Due.TheVariants as due
+use Rattle.e_cert.specs.declared.owed.Owed.{Owed}
+use Rattle.e_cert.specs.declared.kept.Kept.{Kept}
 use Rattle.e_read.specs.declared.reading.Reading.{Reading}
-use Rattle.e_read.specs.Marks.{mark_line}
-use Rattle.e_read.specs.Strict.{is_strict, is_apart}
+use Rattle.e_cert.specs.Marks.{mark_line}
+use Rattle.e_line.specs.Strict.{is_strict}
+use Rattle.e_read.specs.Strict.{is_apart}
 use Rattle.e_read.specs.Needs.{due_of}
 use Rattle.e_read.specs.Filled.{filled}
 use Rattle.e_read.specs.Text.{spelled, Derived, Last, owes_nothing, at_start, owed_by, gone_on, worded, is_lf_end, taken, derived, garbled_at, is_finished, finished, or_on, is_end, piece_from}

@@ -18,11 +18,11 @@ use Rattle.e_book.proofs.SumsAgain.{TermNamed}
 use Rattle.e_book.proofs.Lookups.{InOrder, number_again, named_at}
 use Rattle.e_book.proofs.LitLookups.{lit_number_again, lit_named, TermWithin, two, three}
 use Rattle.e_book.proofs.ShortLits.{few_again}
-use Rattle.e_read.specs.declared.mark.RawRow.{RawRow}
-use Rattle.e_read.specs.declared.mark.RawRow.TheVariants as rows
-use Rattle.e_read.specs.Marks.{row_words}
-use Rattle.e_read.specs.Strict.{is_direct}
-use Rattle.e_read.specs.Owed.{row_in}
+use Rattle.e_cert.specs.declared.mark.RawRow.{RawRow}
+use Rattle.e_cert.specs.declared.mark.RawRow.TheVariants as rows
+use Rattle.e_cert.specs.Marks.{row_words}
+use Rattle.e_line.specs.Strict.{is_direct}
+use Rattle.e_cert.specs.Owed.{row_in}
 use Rattle.e_spell.specs.Certificates.{row_words as spelled_row}
 use Rattle.e_roundtrip.proofs.MarksAgain.{RowNamed}
 

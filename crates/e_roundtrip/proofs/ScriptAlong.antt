@@ -47,8 +47,8 @@ use Rattle.e_book.proofs.Applied.{apply_named}
 use Rattle.e_book.proofs.FittingScripts.{line_fits}
 use Rattle.e_book.proofs.ScriptParts.{steps_of, close_of, same_script, at_least, deep_at_least}
 use Rattle.e_book.proofs.LinesRead.{Inside, proving, splitting, behind, deep, copied, resume, second, applied_behind, step_cite, step_hence, step_let, step_apply, step_claim, step_superpose, step_cases, step_else, step_qed, step_contradiction, claim_closed, superpose_closed, first_closed, second_closed}
-use Rattle.e_read.specs.declared.owed.Due.TheVariants as due
-use Rattle.e_read.specs.declared.kept.Kept.TheVariants as kept
+use Rattle.e_cert.specs.declared.owed.Due.TheVariants as due
+use Rattle.e_cert.specs.declared.kept.Kept.TheVariants as kept
 use Rattle.e_read.specs.Needs.{one_each, due_of}
 use Rattle.e_spell.specs.Certificates.{cert_lines, against_lines}
 use Rattle.e_spell.specs.Spelling.{script_lines}

@@ -20,9 +20,10 @@ use Rattle.e_deriv.specs.PlainStep.{PlainStep, Cited, Inferred, Made, Applied, C
 use Rattle.e_book.specs.Scope.{scope_of_names}
 use Rattle.e_book.specs.Headed.{Headed, theorem_of}
 use Rattle.e_book.specs.Canonical.{line_of, by_form, hence_form, let_form, apply_form, claim_form, superpose_form, cases_form, else_form, qed_form, contradiction_form}
-use Rattle.e_read.specs.declared.kept.Kept.{Kept}
-use Rattle.e_read.specs.declared.kept.Kept.TheVariants.{Certs, Against}
-use Rattle.e_read.specs.Filled.{first_cert, filled}
+use Rattle.e_cert.specs.declared.kept.Kept.{Kept}
+use Rattle.e_cert.specs.declared.kept.Kept.TheVariants.{Certs, Against}
+use Rattle.e_cert.specs.Owed.{first_cert}
+use Rattle.e_read.specs.Filled.{filled}
 use Rattle.e_spell.specs.Certificates.{certs_lines, contradiction_lines}
 use Rattle.e_spell.specs.Spelling.{script_lines}
 use Rattle.e_roundtrip.specs.Formed.{certs_formed, against_formed}

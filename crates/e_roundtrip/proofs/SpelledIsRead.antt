@@ -36,11 +36,11 @@ use Rattle.e_book.proofs.LinesRead.{Inside, proving}
 use Rattle.e_book.proofs.ScriptParts.{steps_of, close_of, same_script}
 use Rattle.e_book.proofs.ScriptRead.{Ready}
 use Rattle.e_book.proofs.CanonicalRead.{stating_forms, run_statement, started, begins}
-use Rattle.e_read.specs.declared.owed.Due.TheVariants as due
-use Rattle.e_read.specs.declared.kept.Kept.{Kept}
+use Rattle.e_cert.specs.declared.owed.Due.TheVariants as due
+use Rattle.e_cert.specs.declared.kept.Kept.{Kept}
 use Rattle.e_read.specs.declared.reading.Reading.{Reading}
 use Rattle.e_read.specs.Filled.{filled}
-use Rattle.e_read.specs.Owed.{settled}
+use Rattle.e_cert.specs.Owed.{settled}
 use Rattle.e_read.specs.Needs.{due_of}
 use Rattle.e_read.specs.Text.{stepped as line_stepped, spelled, with_form, Derived, owes_nothing, at_start, worded, taken, derived, finished, is_end, piece_from}
 use Rattle.e_spell.specs.Spelling.{script_lines}
@@ -57,7 +57,7 @@ use Rattle.e_clause.specs.declared.cert.Against.{Against}
 use Rattle.e_clause.specs.Versions.{is_cert_of, is_against_of}
 use Rattle.e_deriv.specs.Versions.{has_certs_of}
 use Rattle.e_deriv.specs.Script.{Cite, Hence, Make, Apply, Claim, Superposed, Qed, Contradiction, Cases}
-use Rattle.e_read.proofs.GoodCerts.{is_good_kept, AreGood}
+use Rattle.e_cert.proofs.GoodKept.{is_good_kept, AreGood}
 use Rattle.e_roundtrip.proofs.LinesTaken.{strict_form_again, no_bar, AllTaken, Stands, Along, along_append, form_leads}
 use Rattle.e_roundtrip.proofs.Standing.{Stood}
 use Rattle.e_roundtrip.proofs.ScriptAlong.{script_spelled}

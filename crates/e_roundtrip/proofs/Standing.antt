@@ -24,9 +24,10 @@ use Rattle.e_book.proofs.Respelled.{GoodForm, as_read}
 use Rattle.e_book.proofs.LinesRead.{Inside, proving}
 use Rattle.e_book.proofs.ScriptParts.{steps_of, close_of}
 use Rattle.e_book.proofs.ScriptRead.{Ready}
-use Rattle.e_read.specs.declared.owed.Due.{Due}
-use Rattle.e_read.specs.declared.kept.Kept.{Kept}
-use Rattle.e_read.specs.Strict.{is_strict, is_apart}
+use Rattle.e_cert.specs.declared.owed.Due.{Due}
+use Rattle.e_cert.specs.declared.kept.Kept.{Kept}
+use Rattle.e_line.specs.Strict.{is_strict}
+use Rattle.e_read.specs.Strict.{is_apart}
 use Rattle.e_read.specs.Needs.{open_goal, due_of}
 use Rattle.e_spell.specs.Spelling.{script_lines}
 use Rattle.e_roundtrip.specs.Formed.{certs_formed, formed_beside, is_formed}

@@ -25,8 +25,8 @@ use Rattle.e_book.specs.Scope.{scope_of_names, objects_as, args_in, variables_of
 use Rattle.e_book.specs.Canonical.{name_of_object, rule_name}
 use Rattle.e_book.proofs.Lookups.{InOrder, objects_again}
 use Rattle.e_book.proofs.RuleNames.{title_again, rule_name_is}
-use Rattle.e_read.specs.declared.owed.OpenTransfer.{OpenTransfer}
-use Rattle.e_read.specs.Owed.{transfer_rule, transfer_at, transfer_in}
+use Rattle.e_cert.specs.declared.owed.OpenTransfer.{OpenTransfer}
+use Rattle.e_cert.specs.Owed.{transfer_rule, transfer_at, transfer_in}
 use Rattle.e_roundtrip.proofs.Feeding.{GoodPart}
 
 -- ---- the row of the rule

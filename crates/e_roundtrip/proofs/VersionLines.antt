@@ -18,9 +18,9 @@ use Rattle.e_deriv.specs.declared.names.Names.{Names}
 use Rattle.e_book.specs.declared.fault.Kind.{Kind}
 use Rattle.e_book.proofs.Lookups.{InOrder}
 use Rattle.e_book.proofs.InScope.{ok_is}
-use Rattle.e_read.specs.declared.mark.Mark.{Mark}
-use Rattle.e_read.specs.declared.mark.Mark.TheVariants as marks
-use Rattle.e_read.specs.Marks.{mark_of, mark_words, row_is_of, mark_is_of}
+use Rattle.e_cert.specs.declared.mark.Mark.{Mark}
+use Rattle.e_cert.specs.declared.mark.Mark.TheVariants as marks
+use Rattle.e_cert.specs.Marks.{mark_of, mark_words, row_is_of, mark_is_of}
 use Rattle.e_spell.specs.Certificates.{row_line, sum_lines, sums_lines, metric_lines, part_lines}
 use Rattle.e_roundtrip.proofs.MarksAgain.{MarkNamed, mark_again}
 use Rattle.e_roundtrip.proofs.RowsAgain.{raw_row, row_spelled, row_named_again}

@@ -1,6 +1,6 @@
 use Rattle.std.proofs.Common.{◌≡◌, ◌≤◌, ◌+◌, drop}
-use Rattle.e_read.specs.Owed.{count_others}
-use Rattle.e_read.proofs.owed.count_others.Given as goal
+use Rattle.e_cert.specs.Owed.{count_others}
+use Rattle.e_cert.proofs.owed.count_others.Given as goal
 
 abbrev pub invariant-loop-lit : goal.invariant-loop-lit
 invariant-loop-lit l = record {

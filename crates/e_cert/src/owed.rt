@@ -4,7 +4,7 @@ ghost use Rattle.e_clause.specs.Instance.{number_of_rule};
 ghost use Rattle.e_clause.specs.declared.cert.Part.TheVariants as parts;
 ghost use Rattle.e_book.specs.Reading.{Gives};
 ghost use Rattle.e_book.specs.Scope.{FewNames};
-ghost use Rattle.e_read.specs.Owed.{fact_in, row_in, with_row, row_put, sum_begun, differs_put, sums_ended, has_more, transfer_put, part_put, metric_put, takes_metric, clash_put, transfer_rule, count_others, transfer_at, transfer_in, transfer_begun, ended, marked, kept_of, settled};
+ghost use Rattle.e_cert.specs.Owed.{fact_in, row_in, with_row, row_put, sum_begun, differs_put, sums_ended, has_more, transfer_put, part_put, metric_put, takes_metric, clash_put, transfer_rule, count_others, transfer_at, transfer_in, transfer_begun, ended, marked, kept_of, settled};
 
 use crate::kept::{Certs, Kept, Rows};
 use crate::mark::{Mark, RawRow};
@@ -492,7 +492,7 @@ impl Owed {
 
     /// What is owed behind a line of a certificate.
     #[tactic(auto, unfolding(crate::specs::Owed::marked))]
-    pub(crate) fn marked(self, alloc: Global, mark: &Mark) -> Result<Owed, Trouble>
+    pub fn marked(self, alloc: Global, mark: &Mark) -> Result<Owed, Trouble>
         requires { FewNames self.names }
         ensures value { Gives (λ o. o) result (marked self mark.now) }
         ensures names { IfOk result (λ o. o.names ≡ self.names) }
@@ -623,7 +623,7 @@ impl Owed {
 
     /// What was read for the line, where nothing is owed any more.
     #[tactic(auto, unfolding(crate::specs::Owed::settled))]
-    pub(crate) fn settled(self) -> Result<Option<Kept>, Trouble>
+    pub fn settled(self) -> Result<Option<Kept>, Trouble>
         requires { FewNames self.names }
         ensures { Gives (λ k. k) result (settled self) }
     {

@@ -12,10 +12,10 @@ use Rattle.e_book.specs.Reading.{◌>>=◌, title_at, end_at, names_of}
 use Rattle.e_book.specs.Sums.{term_of}
 use Rattle.e_book.specs.Literals.{lit_of, diagram_lit_of}
 use Rattle.e_book.specs.Canonical.{term_words, lit_words}
-use Rattle.e_read.specs.declared.mark.RawRow.{RawRow}
-use Rattle.e_read.specs.declared.mark.RawRow.TheVariants as rows
-use Rattle.e_read.specs.declared.mark.Mark.{Mark}
-use Rattle.e_read.specs.declared.mark.Mark.TheVariants as marks
+use Rattle.e_cert.specs.declared.mark.RawRow.{RawRow}
+use Rattle.e_cert.specs.declared.mark.RawRow.TheVariants as rows
+use Rattle.e_cert.specs.declared.mark.Mark.{Mark}
+use Rattle.e_cert.specs.declared.mark.Mark.TheVariants as marks
 
 -- ---- multipliers
 

@@ -1,7 +1,7 @@
 //! The lines of certificates, told from their words by spelling alone.
 ghost use Rattle.std.specs.Prelude.{◌≡◌};
 ghost use Rattle.e_book.specs.Reading.{texts, Gives};
-ghost use Rattle.e_read.specs.Marks.{size_of, multiplier_of, place_of, fact_row_of, bare_row, row_named, row_of, may_differ, bare, differs_of, transfer_of, fact_mark_of, row_mark_of, mark_named, mark_of, row_is_of, mark_is_of};
+ghost use Rattle.e_cert.specs.Marks.{size_of, multiplier_of, place_of, fact_row_of, bare_row, row_named, row_of, may_differ, bare, differs_of, transfer_of, fact_mark_of, row_mark_of, mark_named, mark_of, row_is_of, mark_is_of};
 ghost use Rattle.e_clause.specs.Versions.{by_literals, by_places};
 
 use e_book::{Kind, RawLit, RawTerm, Trouble, Words, diagram_lit_of, lit_of, names_of, term_of};
@@ -300,7 +300,7 @@ fn row_is_of(version: Version, row: &RawRow) -> bool
 }
 
 /// Whether the line has a form in this version.
-pub(crate) fn mark_is_of(version: Version, mark: &Mark) -> bool
+pub fn mark_is_of(version: Version, mark: &Mark) -> bool
     ensures { result ≡ mark_is_of version mark.now }
 {
     match mark {

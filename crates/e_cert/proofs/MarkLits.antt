@@ -12,11 +12,11 @@ use Rattle.e_book.specs.Sums.{term_of}
 use Rattle.e_book.specs.Literals.{lit_of, diagram_lit_of}
 use Rattle.e_book.proofs.InScope.{bind_ok, ok_is, read_ok}
 use Rattle.e_book.proofs.Choices.{either, passed}
-use Rattle.e_read.specs.declared.mark.RawRow.{RawRow}
-use Rattle.e_read.specs.declared.mark.RawRow.TheVariants as rows
-use Rattle.e_read.specs.declared.mark.Mark.{Mark}
-use Rattle.e_read.specs.declared.mark.Mark.TheVariants as marks
-use Rattle.e_read.specs.Marks.{multiplier_of, placed, place_of, fact_row_of, bare_row, row_named, row_of, may_differ, bare, differs_of, transfer_of, fact_mark_of, row_mark_of, mark_named, mark_of}
+use Rattle.e_cert.specs.declared.mark.RawRow.{RawRow}
+use Rattle.e_cert.specs.declared.mark.RawRow.TheVariants as rows
+use Rattle.e_cert.specs.declared.mark.Mark.{Mark}
+use Rattle.e_cert.specs.declared.mark.Mark.TheVariants as marks
+use Rattle.e_cert.specs.Marks.{multiplier_of, placed, place_of, fact_row_of, bare_row, row_named, row_of, may_differ, bare, differs_of, transfer_of, fact_mark_of, row_mark_of, mark_named, mark_of}
 
 -- what is said of a row's literal, where the row is a fact; a place has 32 bits
 abbrev pub OfRow : (RawLit → Type 0) → RawRow → Type 0

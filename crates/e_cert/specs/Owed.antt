@@ -23,18 +23,18 @@ use Rattle.e_book.specs.declared.literal.RawLit.{RawLit}
 use Rattle.e_book.specs.Reading.{◌>>=◌, or_malformed}
 use Rattle.e_book.specs.Scope.{lit_in, term_in, args_in, variables_of, right_count}
 use Rattle.e_book.specs.LineLimits.{few_monos}
-use Rattle.e_read.specs.declared.mark.RawRow.{RawRow}
-use Rattle.e_read.specs.declared.mark.RawRow.TheVariants as rows
-use Rattle.e_read.specs.declared.mark.Mark.{Mark}
-use Rattle.e_read.specs.declared.mark.Mark.TheVariants as marks
-use Rattle.e_read.specs.declared.owed.OpenSums.{OpenSums}
-use Rattle.e_read.specs.declared.owed.OpenSums.TheVariants as sums
-use Rattle.e_read.specs.declared.owed.OpenTransfer.{OpenTransfer}
-use Rattle.e_read.specs.declared.owed.Due.{Due}
-use Rattle.e_read.specs.declared.owed.Due.TheVariants as due
-use Rattle.e_read.specs.declared.owed.Owed.{Owed}
-use Rattle.e_read.specs.declared.kept.Kept.{Kept}
-use Rattle.e_read.specs.declared.kept.Kept.TheVariants as kept
+use Rattle.e_cert.specs.declared.mark.RawRow.{RawRow}
+use Rattle.e_cert.specs.declared.mark.RawRow.TheVariants as rows
+use Rattle.e_cert.specs.declared.mark.Mark.{Mark}
+use Rattle.e_cert.specs.declared.mark.Mark.TheVariants as marks
+use Rattle.e_cert.specs.declared.owed.OpenSums.{OpenSums}
+use Rattle.e_cert.specs.declared.owed.OpenSums.TheVariants as sums
+use Rattle.e_cert.specs.declared.owed.OpenTransfer.{OpenTransfer}
+use Rattle.e_cert.specs.declared.owed.Due.{Due}
+use Rattle.e_cert.specs.declared.owed.Due.TheVariants as due
+use Rattle.e_cert.specs.declared.owed.Owed.{Owed}
+use Rattle.e_cert.specs.declared.kept.Kept.{Kept}
+use Rattle.e_cert.specs.declared.kept.Kept.TheVariants as kept
 
 -- ---- sums
 
@@ -185,3 +185,8 @@ kept_of (due.Contradiction (Some a)) = Ok (Some (kept.Against a))
 
 unfoldable pub settled : Owed → Result (Option Kept) Kind
 settled o = ended o o.sums >>= λ e. kept_of e.due
+
+-- the first of a line's certificates
+abbrev pub first_cert : List Cert → Option Cert
+first_cert [] = None
+first_cert (c ∷ cs) = Some c

@@ -2,7 +2,7 @@
 ghost use Rattle.std.specs.Prelude.{◌≡◌, ◌++◌, ◌∷◌, [], codes, decimal, OnOk};
 ghost use Rattle.e_text.specs.Tokens.{spaced};
 ghost use Rattle.e_book.specs.Canonical.{term_words};
-ghost use Rattle.e_read.specs.Marks.{row_words, mark_words, mark_line};
+ghost use Rattle.e_cert.specs.Marks.{row_words, mark_words, mark_line};
 
 use crate::mark::{Mark, RawRow};
 use e_book::RawTerm;

@@ -1,0 +1,3 @@
+pub mod GoodKept
+pub mod MarkLits
+pub mod GoodMarks

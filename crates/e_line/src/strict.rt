@@ -1,0 +1,83 @@
+//! Lines that are spelled as their form is.
+ghost use Rattle.std.specs.Prelude.{◌≡◌, is_some, IfOk};
+ghost use Rattle.std.specs.List.{list_all};
+ghost use Rattle.e_book.specs.Canonical.{line_of};
+ghost use Rattle.e_book.specs.Reading.{texts, Gives};
+ghost use Rattle.e_line.specs.Strict.{is_less, is_direct, are_direct, is_strict, strict_of};
+
+use crate::lines::put_form;
+use e_book::{Form, Kind, RawAtom, RawLit, Trouble, form_of};
+use e_text::Name;
+use std::alloc::{AllocError, Global};
+use std::mem;
+
+fn is_less(atom: &RawAtom) -> bool
+    ensures { result ≡ is_less atom.now }
+{
+    matches!(atom, RawAtom::SumsLess(_, _))
+}
+
+/// Whether the literal is no negation of a sum being less: that is written with the sides exchanged.
+pub fn is_direct(lit: &RawLit) -> bool
+    ensures { result ≡ is_direct lit.now }
+{
+    !(lit.neg && is_less(&lit.atom))
+}
+
+fn are_direct(lits: &[RawLit]) -> bool
+    ensures { result ≡ are_direct lits.now }
+{
+    lits.iter().all(|lit| is_direct(lit))
+}
+
+fn have_no_blank(args: &[Option<Name>]) -> bool
+    ensures { result ≡ list_all is_some args.now }
+{
+    args.iter().all(|argument| argument.is_some())
+}
+
+/// Whether the literals are direct, one on a given or show line, and no argument is a blank.
+fn is_strict(form: &Form) -> bool
+    ensures { result ≡ is_strict form.now }
+{
+    match form {
+        Form::Given(lits) => lits.len() == 1 && are_direct(lits.items()),
+        Form::Show(lits) => lits.len() == 1 && are_direct(lits.items()),
+        Form::Hence(lit) => is_direct(lit),
+        Form::Apply(raw) => have_no_blank(raw.args.items()),
+        Form::Claim(lits) => are_direct(lits.items()),
+        Form::Superpose(raw) => are_direct(raw.shown.items()),
+        Form::Cases(lit) => is_direct(lit),
+        _ => true,
+    }
+}
+
+/// The line of a form, made in room for so many bytes.
+fn line_of(alloc: Global, form: &Form, room: usize) -> Result<Vec<u8>, AllocError>
+    ensures { IfOk result (λ line. line.items ≡ line_of form.now) }
+{
+    let mut line = Vec::with_capacity(alloc, room)?;
+    put_form(&mut line, form)?;
+    Ok(line)
+}
+
+/// The form of a line of these words that is spelled as this form is.
+#[tactic(auto, unfolding(crate::specs::Strict::strict_of))]
+pub fn strict_of(alloc: Global, line: &[u8], words: &[&[u8]]) -> Result<Form, Trouble>
+    ensures { Gives (λ f. f) result (strict_of line.now (texts words.now)) }
+{
+    let form = form_of(alloc, words)?;
+    let again = match line_of(alloc, &form, line.len()) {
+        Ok(again) => again,
+        Err(error) => {
+            mem::drop(form);
+            return Err(error.into());
+        }
+    };
+    if is_strict(&form) && line == again.as_slice() {
+        Ok(form)
+    } else {
+        mem::drop(form);
+        Err(Trouble::Fault(Kind::Malformed))
+    }
+}
