@@ -294,7 +294,8 @@ def check_language(top):
     listed = re.search(r"Reserved words, which are no names: `([^`]*)`", text)
     if not listed or sorted(listed.group(1).split()) != sorted(reserved_words(top)):
         yield page, line_of(text, "Reserved words"), "the reserved words of the code are others"
-    code = read(top / "crates/e_book/src/limits.rt") + read(top / "crates/e_book/src/sum.rt")
+    places = ("e_book/src/limits", "e_line/src/limits", "e_line/src/sum", "e_names/src/meanings")
+    code = "".join(read(top / f"crates/{place}.rt") for place in places)
     limits = dict(re.findall(r"const MAX_(\w+): \w+ = ([\d_]+);", code))
     for number, cells in cells_of(text):
         name = cells[0].strip("`").upper()

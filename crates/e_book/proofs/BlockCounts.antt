@@ -5,15 +5,15 @@ use Rattle.e_literal.specs.declared.literal.Lit.{Lit}
 use Rattle.e_deriv.specs.declared.names.Names.{Names}
 use Rattle.e_deriv.specs.Script.{Script, size}
 use Rattle.e_deriv.specs.PlainStep.{PlainStep, Cited, Inferred, Made, Applied, Claimed, Copied, all_before}
-use Rattle.e_book.specs.declared.fault.Kind.{Kind}
+use Rattle.e_line.specs.declared.fault.Kind.{Kind}
 use Rattle.e_book.specs.declared.blocks.Outer.{Outer}
 use Rattle.e_book.specs.declared.blocks.Opened.{Opened}
 use Rattle.e_book.specs.declared.blocks.Opened.TheVariants as opened
-use Rattle.e_book.specs.declared.form.Form.{Form}
+use Rattle.e_line.specs.declared.form.Form.{Form}
 use Rattle.e_book.specs.declared.draft.Draft.{Draft}
-use Rattle.e_book.specs.Headed.{Headed}
-use Rattle.e_book.specs.Limits.{most_steps, most_facts, most_terms, count_monomials}
-use Rattle.e_book.specs.Scope.{scope_of_names}
+use Rattle.e_names.specs.Headed.{Headed}
+use Rattle.e_line.specs.Limits.{most_steps, most_facts, most_terms, count_monomials}
+use Rattle.e_names.specs.Scope.{scope_of_names}
 use Rattle.e_book.specs.Blocks.{is_claim, has_claim, made_in}
 use Rattle.e_book.specs.LineLimits.{FewNamed}
 use Rattle.e_book.specs.Open.{Head, Proving, has_goal, made_inside}

@@ -7,31 +7,31 @@ use Rattle.e_literal.specs.Literal.{negation}
 use Rattle.e_deriv.specs.declared.names.Names.{Names}
 use Rattle.e_deriv.specs.Script.{Script, Qed, Cases, size}
 use Rattle.e_deriv.specs.PlainStep.{PlainStep, Claimed, Copied, all_before}
-use Rattle.e_book.specs.declared.fault.Kind.{Kind}
-use Rattle.e_book.specs.declared.fault.What.TheVariants as limits
-use Rattle.e_book.specs.declared.literal.RawLit.{RawLit}
+use Rattle.e_line.specs.declared.fault.Kind.{Kind}
+use Rattle.e_line.specs.declared.fault.What.TheVariants as limits
+use Rattle.e_line.specs.declared.literal.RawLit.{RawLit}
 use Rattle.e_book.specs.declared.blocks.Outer.{Outer}
 use Rattle.e_book.specs.declared.blocks.Opened.{Opened}
 use Rattle.e_book.specs.declared.blocks.Opened.TheVariants as opened
-use Rattle.e_book.specs.declared.form.Form.{Form}
-use Rattle.e_book.specs.declared.form.Form.TheVariants as forms
+use Rattle.e_line.specs.declared.form.Form.{Form}
+use Rattle.e_line.specs.declared.form.Form.TheVariants as forms
 use Rattle.e_book.specs.declared.steps.CloseLine.{CloseLine}
 use Rattle.e_book.specs.declared.steps.CloseLine.TheVariants as closes
 use Rattle.e_book.specs.declared.draft.Draft.{Draft}
 use Rattle.e_book.specs.declared.draft.Place.TheVariants as places
-use Rattle.e_book.specs.Reading.{◌>>=◌}
-use Rattle.e_book.specs.Headed.{Headed}
-use Rattle.e_book.specs.Limits.{most_steps, most_depth, most_facts, most_terms, most_blanks, within, monomials, count_monomials}
+use Rattle.e_line.specs.Reading.{◌>>=◌}
+use Rattle.e_names.specs.Headed.{Headed}
+use Rattle.e_line.specs.Limits.{most_steps, most_depth, most_facts, most_terms, most_blanks, within, monomials, count_monomials}
 use Rattle.e_book.specs.Blocks.{made_in}
-use Rattle.e_book.specs.Scope.{scope_of_names, qed_in}
+use Rattle.e_names.specs.Scope.{scope_of_names, qed_in}
 use Rattle.e_book.specs.LineLimits.{FewNamed}
 use Rattle.e_book.specs.Steps.{begun_with, begun_terms, terms_after, counted_from, resumed, closed_inside, closed, shut, concluded}
 use Rattle.e_book.specs.DraftViews.{entry_of_draft, script_of_close}
 use Rattle.e_book.specs.Open.{Open, Proving, Splitting, Proved, Ended, after_inner_close, after_close}
 use Rattle.e_book.specs.Counts.{names_after, given_by, lines_first, count_lines, lines_around, literals_on, blanks_on}
 use Rattle.e_book.specs.Grammar.{goes_on}
-use Rattle.e_book.proofs.InScope.{read_ok}
-use Rattle.e_book.proofs.ShortLits.{count_first}
+use Rattle.e_line.proofs.Bound.{read_ok}
+use Rattle.e_names.proofs.ShortLits.{count_first}
 use Rattle.e_book.proofs.KeptBlocks.{size_split, one_line}
 use Rattle.e_book.proofs.ParserState.{opener_of, around_of, head_of, Counted, context_in, OuterTied, OutersTied, BlockTied, BlockOf, Alike, tied_there}
 use Rattle.e_book.proofs.LimitTests.{blank_tests, literal_tests, fact_tests, depth_tests, all_tests, kept, then_limits, test, test_in, test_within, pass_le, pass_objects, pass_literals, pass_rest, pass_all, both, by_counts}

@@ -13,39 +13,40 @@ use Rattle.e_construct.proofs.Given.{gives_plain}
 use Rattle.e_deriv.specs.declared.names.Names.{Names}
 use Rattle.e_deriv.specs.Naming.{named}
 use Rattle.e_deriv.specs.PlainStep.{PlainStep, Cited, Inferred, Made, Applied}
-use Rattle.e_book.specs.declared.fault.Kind.{Kind}
-use Rattle.e_book.specs.declared.fault.What.TheVariants as limits
-use Rattle.e_book.specs.declared.literal.RawLit.{RawLit}
-use Rattle.e_book.specs.declared.literal.RawAtom.{RawAtom}
-use Rattle.e_book.specs.declared.literal.RawAtom.TheVariants as rawatoms
-use Rattle.e_book.specs.declared.lets.RawLet.{RawLet}
-use Rattle.e_book.specs.declared.superposes.RawSuperpose.{RawSuperpose}
-use Rattle.e_book.specs.declared.applies.RawApply.{RawApply}
+use Rattle.e_line.specs.declared.fault.Kind.{Kind}
+use Rattle.e_line.specs.declared.fault.What.TheVariants as limits
+use Rattle.e_line.specs.declared.literal.RawLit.{RawLit}
+use Rattle.e_line.specs.declared.literal.RawAtom.{RawAtom}
+use Rattle.e_line.specs.declared.literal.RawAtom.TheVariants as rawatoms
+use Rattle.e_line.specs.declared.lets.RawLet.{RawLet}
+use Rattle.e_line.specs.declared.superposes.RawSuperpose.{RawSuperpose}
+use Rattle.e_line.specs.declared.applies.RawApply.{RawApply}
 use Rattle.e_book.specs.declared.blocks.Opened.{Opened}
 use Rattle.e_book.specs.declared.blocks.Opened.TheVariants as opened
-use Rattle.e_book.specs.declared.form.Form.{Form}
-use Rattle.e_book.specs.declared.form.Form.TheVariants as forms
+use Rattle.e_line.specs.declared.form.Form.{Form}
+use Rattle.e_line.specs.declared.form.Form.TheVariants as forms
 use Rattle.e_book.specs.declared.draft.Draft.{Draft}
 use Rattle.e_book.specs.declared.draft.Place.TheVariants as places
-use Rattle.e_book.specs.Reading.{◌>>=◌}
-use Rattle.e_book.specs.Headed.{Headed, place_in, theorem_of}
-use Rattle.e_book.specs.Limits.{most_steps, most_depth, most_facts, most_terms, most_blanks, within, monomials, count_monomials}
-use Rattle.e_book.specs.Literals.{is_diagram_raw}
-use Rattle.e_book.specs.Scope.{scope_of_names, right_count, object_as, fresh, lit_in, lits_in, by_in, let_in}
-use Rattle.e_book.specs.Superposes.{superpose_in}
-use Rattle.e_book.specs.Applies.{count_blanks, known_place, entry_in, entries_in, apply_in}
-use Rattle.e_book.specs.LineLimits.{FewNamed, are_short, are_small, count_monos, few_monos, few_objects}
+use Rattle.e_line.specs.Reading.{◌>>=◌}
+use Rattle.e_names.specs.Headed.{Headed, place_in, theorem_of}
+use Rattle.e_line.specs.Limits.{most_steps, most_depth, most_facts, most_terms, most_blanks, within, monomials, count_monomials}
+use Rattle.e_line.specs.Literals.{is_diagram_raw}
+use Rattle.e_names.specs.Scope.{scope_of_names, right_count, object_as, fresh, lit_in, lits_in, by_in, let_in}
+use Rattle.e_names.specs.Superposes.{superpose_in}
+use Rattle.e_names.specs.Applies.{count_blanks, known_place, entry_in, entries_in, apply_in}
+use Rattle.e_line.specs.LineLimits.{are_short, are_small, count_monos, few_monos}
+use Rattle.e_book.specs.LineLimits.{FewNamed, few_objects}
 use Rattle.e_book.specs.Steps.{begun_with, begun_terms, terms_behind, terms_after, with_terms, with_step, built, used_by, applied, outer_of, interrupted, deeper, claimed, superposed, split, cited, inferred}
 use Rattle.e_book.specs.Open.{Open, Proving, ByClaim, BySuperposition, ByCase}
 use Rattle.e_book.specs.Counts.{lines_of, lines_first, literals_on, blanks_on}
 use Rattle.e_book.specs.Grammar.{one_more, inner_block, goes_on}
-use Rattle.e_book.proofs.InScope.{bind_ok, ok_is, read_ok}
-use Rattle.e_book.proofs.ShortLits.{count_first}
-use Rattle.e_book.proofs.WellRead.{no_monomials}
+use Rattle.e_line.proofs.Bound.{bind_ok, ok_is, read_ok}
+use Rattle.e_names.proofs.ShortLits.{count_first}
+use Rattle.e_names.proofs.WellRead.{no_monomials}
 use Rattle.e_book.proofs.KeptSums.{one_count}
 use Rattle.e_book.proofs.GoodLines.{plain_count}
-use Rattle.e_book.proofs.SaidForms.{by_plain}
-use Rattle.e_book.proofs.Building.{let_fits}
+use Rattle.e_names.proofs.SaidForms.{by_plain}
+use Rattle.e_names.proofs.Building.{let_fits}
 use Rattle.e_book.proofs.ParserState.{opener_of, around_of, head_of, Counted, context_in, OuterTied, BlockOf, Alike, tied_there}
 use Rattle.e_book.proofs.LimitTests.{blank_tests, literal_tests, fact_tests, depth_tests, step_tests, all_tests, kept, then_limits, test, test_in, pass_le, pass_objects, test_objects, test_monos, pass_literals, pass_terms, pass_rest, both}
 use Rattle.e_book.proofs.BlockCounts.{lines_more, counted_more, counted_with, block_limits, step_block}

@@ -11,44 +11,46 @@ use Rattle.e_literal.specs.Literal.{all_in_scope}
 use Rattle.e_literal.specs.WellFormed.{is_well_formed}
 use Rattle.e_deriv.specs.declared.names.Names.{Names}
 use Rattle.e_deriv.specs.Script.{Script}
-use Rattle.e_book.specs.declared.literal.RawLit.{RawLit}
-use Rattle.e_book.specs.declared.literal.RawAtom.{RawAtom}
-use Rattle.e_book.specs.declared.literal.RawAtom.TheVariants as raw
-use Rattle.e_book.specs.declared.form.Form.{Form}
-use Rattle.e_book.specs.declared.form.Form.TheVariants as forms
-use Rattle.e_book.specs.declared.items.RawLine.TheVariants.{Plain}
-use Rattle.e_book.specs.declared.known.Known.{Known}
+use Rattle.e_line.specs.declared.literal.RawLit.{RawLit}
+use Rattle.e_line.specs.declared.literal.RawAtom.{RawAtom}
+use Rattle.e_line.specs.declared.literal.RawAtom.TheVariants as raw
+use Rattle.e_line.specs.declared.form.Form.{Form}
+use Rattle.e_line.specs.declared.form.Form.TheVariants as forms
+use Rattle.e_line.specs.declared.items.RawLine.TheVariants.{Plain}
+use Rattle.e_names.specs.declared.known.Known.{Known}
 use Rattle.e_book.specs.declared.draft.Place.TheVariants.{Done}
 use Rattle.e_book.specs.declared.draft.Draft.{Draft}
 use Rattle.e_book.specs.declared.coming.Coming.{Coming}
 use Rattle.e_literal.specs.declared.object.Sort.TheVariants.{Point, Line, Circle}
-use Rattle.e_book.specs.Limits.{most_theorems}
-use Rattle.e_book.specs.Headed.{Headed, is_known}
-use Rattle.e_book.specs.Titled.{defines, are_notions}
-use Rattle.e_book.specs.Scope.{scope_of_names, lit_in}
-use Rattle.e_book.specs.Forms.{form_named, form_of}
-use Rattle.e_book.specs.Fits.{NamesDiffer}
+use Rattle.e_line.specs.Limits.{most_theorems}
+use Rattle.e_names.specs.Headed.{Headed, is_known}
+use Rattle.e_names.specs.Titled.{defines, are_notions}
+use Rattle.e_names.specs.Scope.{scope_of_names, lit_in}
+use Rattle.e_line.specs.Forms.{form_named, form_of}
+use Rattle.e_names.specs.Fits.{NamesDiffer}
 use Rattle.e_book.specs.DraftViews.{entry_of_draft}
 use Rattle.e_book.specs.Entry.{Entry}
-use Rattle.e_book.specs.Canonical.{raw_of, sum_words, sums_words, signed_words, lit_words, lits_words, form_words, script_forms, names_of_proof, forms_of}
-use Rattle.e_book.specs.Canonical.{line_of as written_line}
-use Rattle.e_book.specs.HasSpelling.{AreNames, HasSpelling}
+use Rattle.e_names.specs.Canonical.{raw_of}
+use Rattle.e_line.specs.Canonical.{sum_words, sums_words, signed_words, lit_words, lits_words, form_words, line_of as written_line}
+use Rattle.e_book.specs.Canonical.{script_forms, names_of_proof, forms_of}
+use Rattle.e_line.specs.HasSpelling.{AreNames}
+use Rattle.e_book.specs.HasSpelling.{HasSpelling}
 use Rattle.e_book.specs.Laws.{Shows}
 use Rattle.e_book.specs.Steps.{begun, begin, step}
 use Rattle.e_book.specs.Book.{is_last}
-use Rattle.e_book.specs.Items.{is_as, begins_item, has_item, line_named, line_of}
+use Rattle.e_line.specs.Items.{is_as, begins_item, has_item, line_named, line_of}
 use Rattle.e_book.specs.Grammar.{Rest}
 use Rattle.e_book.specs.Definitions.{BookItem, OfTheorem, Answer}
 use Rattle.e_book.specs.Definitions as grammar
 use Rattle.e_book.specs.inner.Machine as machine
 use Rattle.e_book.specs.inner.Machine.{coming, begins_theorem, goes_on, line_step, item_from}
-use Rattle.e_book.proofs.SumsAgain.{is_mono_word, mono_word_differs, Begins, sum_begins, name_word}
-use Rattle.e_book.proofs.LitsAgain.{AtomNamed, LitNamed, LitsNamed, split_again}
-use Rattle.e_book.proofs.SuperposesAgain.{lits_behind}
-use Rattle.e_book.proofs.Respelled.{GoodForm, as_read, form_again}
+use Rattle.e_line.proofs.SumsAgain.{is_mono_word, mono_word_differs, Begins, sum_begins, name_word}
+use Rattle.e_line.proofs.LitsAgain.{AtomNamed, LitNamed, LitsNamed, split_again}
+use Rattle.e_line.proofs.SuperposesAgain.{lits_behind}
+use Rattle.e_line.proofs.Respelled.{GoodForm, as_read, form_again}
 use Rattle.e_book.proofs.LineWords.{words_again, not_skipped}
-use Rattle.e_book.proofs.Lookups.{in_order}
-use Rattle.e_book.proofs.LitLookups.{lit_number_again}
+use Rattle.e_names.proofs.Lookups.{in_order}
+use Rattle.e_names.proofs.LitLookups.{lit_number_again}
 use Rattle.e_book.proofs.Declared.{Runs, runs_append}
 use Rattle.e_book.proofs.LinesRead.{Inside, proving}
 use Rattle.e_book.proofs.ScriptParts.{same_script}

@@ -17,29 +17,31 @@ use Rattle.e_deriv.specs.Naming.{first_names}
 use Rattle.e_deriv.specs.Script.{Script}
 use Rattle.e_deriv.specs.Goal.{Goal, goal_of_statement, facts_of_statement}
 use Rattle.e_deriv.specs.Lines.{lines}
-use Rattle.e_book.specs.declared.fault.BookFault.{BookFault}
-use Rattle.e_book.specs.declared.form.Form.{Form}
-use Rattle.e_book.specs.declared.form.Form.TheVariants as forms
+use Rattle.e_line.specs.declared.fault.BookFault.{BookFault}
+use Rattle.e_line.specs.declared.form.Form.{Form}
+use Rattle.e_line.specs.declared.form.Form.TheVariants as forms
 use Rattle.e_book.specs.declared.draft.Place.TheVariants.{Closed, Done}
 use Rattle.e_book.specs.declared.draft.Draft.{Draft}
-use Rattle.e_book.specs.Headed.{Headed, stated_by}
-use Rattle.e_book.specs.Scope.{scope_of_names}
+use Rattle.e_names.specs.Headed.{Headed, stated_by}
+use Rattle.e_names.specs.Scope.{scope_of_names}
 use Rattle.e_book.specs.Steps.{closed, stepped, step, begun}
 use Rattle.e_book.specs.DraftViews.{entry_of_draft}
 use Rattle.e_book.specs.Entry.{Entry}
 use Rattle.e_book.specs.Fits.{few_facts, few_terms}
 use Rattle.e_book.specs.Book.{line_step, is_done, read_from}
-use Rattle.e_book.specs.Fits.{count_monomials}
-use Rattle.e_book.specs.Canonical.{form_words, line_of, given_form, show_form, declare_form, made_form, grouped, declared_objects, made_objects, given_forms, shown_forms, head_forms, script_forms, names_of_proof, forms_of}
+use Rattle.e_line.specs.Limits.{count_monomials}
+use Rattle.e_line.specs.Canonical.{form_words, line_of}
+use Rattle.e_names.specs.Canonical.{given_form, show_form}
+use Rattle.e_book.specs.Canonical.{declare_form, made_form, grouped, declared_objects, made_objects, given_forms, shown_forms, head_forms, script_forms, names_of_proof, forms_of}
 use Rattle.e_book.specs.HasSpelling.{HasSpelling}
 use Rattle.e_book.specs.Laws.{Shows}
-use Rattle.e_book.proofs.Respelled.{GoodForm, as_read, form_again}
+use Rattle.e_line.proofs.Respelled.{GoodForm, as_read, form_again}
 use Rattle.e_book.proofs.LineWords.{words_again, not_skipped}
-use Rattle.e_book.proofs.Lookups.{InOrder, in_order}
+use Rattle.e_names.proofs.Lookups.{InOrder, in_order}
 use Rattle.e_book.proofs.Declared.{form_step, Runs, runs_append, Few, run_from, all_first}
-use Rattle.e_book.proofs.Building.{declared_scope}
-use Rattle.e_book.proofs.Growing.{first_in_order, lit_of_first}
-use Rattle.e_book.proofs.PlainLits.{Plain}
+use Rattle.e_names.proofs.Building.{declared_scope}
+use Rattle.e_names.proofs.Growing.{first_in_order, lit_of_first}
+use Rattle.e_names.proofs.PlainLits.{Plain}
 use Rattle.e_book.proofs.FittingScripts.{line_fits}
 use Rattle.e_book.proofs.HeadRead.{declaring, declared_lines, given_draft, making, made_lines, showing, run_title, run_all_given, run_all_shown}
 use Rattle.e_book.proofs.LinesRead.{Inside, proving, Closes}

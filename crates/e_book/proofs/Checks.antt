@@ -12,8 +12,10 @@ use Rattle.e_construct.specs.Lines.{pieces}
 use Rattle.e_theorem.specs.declared.statement.Statement.{Statement}
 use Rattle.e_deriv.specs.declared.names.Names.{Names}
 use Rattle.e_deriv.specs.Script.{Script, Make, Qed}
-use Rattle.e_book.specs.Scope.{construction}
-use Rattle.e_book.specs.Canonical.{line_of, given_form, let_form, given_forms, shown_forms, script_forms}
+use Rattle.e_names.specs.Scope.{construction}
+use Rattle.e_line.specs.Canonical.{line_of}
+use Rattle.e_names.specs.Canonical.{given_form, let_form}
+use Rattle.e_book.specs.Canonical.{given_forms, shown_forms, script_forms}
 
 -- points a and b, line L
 abbrev names : Names

@@ -14,52 +14,53 @@ use Rattle.e_text.specs.Tokens.{tokens_of}
 use Rattle.e_theorem.specs.Notions.{as_stated, means_something}
 use Rattle.e_deriv.specs.declared.names.Names.{Names}
 use Rattle.e_deriv.specs.Fitting.{is_small, is_small_statement, all_objects}
-use Rattle.e_book.specs.declared.fault.Kind.{Kind}
-use Rattle.e_book.specs.declared.fault.What.TheVariants as limits
-use Rattle.e_book.specs.declared.fault.BookFault.{BookFault}
-use Rattle.e_book.specs.declared.literal.RawLit.{RawLit}
-use Rattle.e_book.specs.declared.form.Form.{Form}
-use Rattle.e_book.specs.declared.form.Form.TheVariants as forms
-use Rattle.e_book.specs.declared.items.RawItem.{RawItem}
-use Rattle.e_book.specs.declared.items.Listing.{Listing}
-use Rattle.e_book.specs.declared.items.Listing.TheVariants as listings
-use Rattle.e_book.specs.declared.items.RawLine.{RawLine}
-use Rattle.e_book.specs.declared.items.RawLine.TheVariants.{Plain, Define, Listed}
-use Rattle.e_book.specs.declared.known.Known.{Known}
+use Rattle.e_line.specs.declared.fault.Kind.{Kind}
+use Rattle.e_line.specs.declared.fault.What.TheVariants as limits
+use Rattle.e_line.specs.declared.fault.BookFault.{BookFault}
+use Rattle.e_line.specs.declared.literal.RawLit.{RawLit}
+use Rattle.e_line.specs.declared.form.Form.{Form}
+use Rattle.e_line.specs.declared.form.Form.TheVariants as forms
+use Rattle.e_line.specs.declared.items.RawItem.{RawItem}
+use Rattle.e_line.specs.declared.items.Listing.{Listing}
+use Rattle.e_line.specs.declared.items.Listing.TheVariants as listings
+use Rattle.e_line.specs.declared.items.RawLine.{RawLine}
+use Rattle.e_line.specs.declared.items.RawLine.TheVariants.{Plain, Define, Listed}
+use Rattle.e_names.specs.declared.known.Known.{Known}
 use Rattle.e_book.specs.declared.draft.Place.{Place}
 use Rattle.e_book.specs.declared.draft.Place.TheVariants as places
 use Rattle.e_book.specs.declared.draft.Draft.{Draft}
 use Rattle.e_book.specs.declared.coming.Coming.{Coming}
-use Rattle.e_book.specs.Reading.{◌>>=◌, with_front}
-use Rattle.e_book.specs.Headed.{Headed, is_known}
-use Rattle.e_book.specs.Taken.{is_taken}
-use Rattle.e_book.specs.Titled.{defines, are_notions}
-use Rattle.e_book.specs.Limits.{most_notions, most_expanded, within}
-use Rattle.e_book.specs.Scope.{scope_of_names, right_count, lit_in, lits_in}
-use Rattle.e_book.specs.LineLimits.{few_monos}
-use Rattle.e_book.specs.Canonical.{raw_of}
+use Rattle.e_line.specs.Reading.{◌>>=◌, with_front}
+use Rattle.e_names.specs.Headed.{Headed, is_known}
+use Rattle.e_names.specs.Taken.{is_taken}
+use Rattle.e_names.specs.Titled.{defines, are_notions}
+use Rattle.e_line.specs.Limits.{most_notions, most_expanded, within}
+use Rattle.e_names.specs.Scope.{scope_of_names, right_count, lit_in, lits_in}
+use Rattle.e_line.specs.LineLimits.{few_monos}
+use Rattle.e_names.specs.Canonical.{raw_of}
 use Rattle.e_book.specs.DraftViews.{entry_of_draft}
 use Rattle.e_book.specs.Steps.{allowed, declared, declares, shows, begun, begin, step}
 use Rattle.e_book.specs.Book.{is_last}
-use Rattle.e_book.specs.Items.{line_of, listing_form, is_show}
-use Rattle.e_book.specs.Meanings.{items_in}
+use Rattle.e_line.specs.Items.{line_of, listing_form, is_show}
+use Rattle.e_names.specs.Meanings.{items_in}
 use Rattle.e_book.specs.Grammar.{Rest, is_skipped, put_at}
 use Rattle.e_book.specs.Definitions.{BookItem, OfTheorem, OfNotion, Answer, has_notion_title, IsGood}
 use Rattle.e_book.specs.inner.Machine as machine
 use Rattle.e_book.specs.inner.Machine.{names_there, is_ready, written, coming, begins_theorem, begins_definition, is_showing, defines_on, with_draft, goes_on, lists, line_step, notion_of_draft, item_of, item_from, is_done}
-use Rattle.e_book.proofs.InScope.{bind_ok, ok_is, read_ok, each_length}
-use Rattle.e_book.proofs.FreshTitles.{neither, was_free}
+use Rattle.e_line.proofs.Bound.{bind_ok, ok_is, read_ok, each_length}
+use Rattle.e_names.proofs.FreshTitles.{neither, was_free}
 use Rattle.e_book.proofs.Drafts.{HeadOf, Body, Good}
 use Rattle.e_book.proofs.StatementLines.{IsStating}
 use Rattle.e_book.proofs.ComingTied.{stating_declares, stating_shows}
-use Rattle.e_book.proofs.Citations.{counted}
+use Rattle.e_names.proofs.Citations.{counted}
 use Rattle.e_book.proofs.Keeps.{keeps, keeps_begin, good_begun}
 use Rattle.e_book.proofs.ReadSpelled.{Spelled, spelled_next, spelled_begin, done_spelled}
 use Rattle.e_book.proofs.SameTitle.{same_title, title_begun}
-use Rattle.e_book.proofs.SaidForms.{Said, form_said}
-use Rattle.e_book.proofs.SaidLits.{LitsSaid}
-use Rattle.e_book.proofs.ItemsWritten.{ItemsSaid, items_said, items_some}
-use Rattle.e_book.proofs.LinesByWord.{ListingSaid, LineSaid, line_read_as}
+use Rattle.e_names.proofs.SaidForms.{Said, form_said}
+use Rattle.e_line.proofs.SaidLits.{LitsSaid}
+use Rattle.e_line.proofs.SaidItems.{ItemsSaid}
+use Rattle.e_names.proofs.ItemsWritten.{items_said, items_some}
+use Rattle.e_line.proofs.LinesByWord.{ListingSaid, LineSaid, line_read_as}
 
 -- ---- what is known
 

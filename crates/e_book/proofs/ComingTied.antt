@@ -5,51 +5,51 @@ use Rattle.e_literal.specs.declared.object.Sort.{Sort}
 use Rattle.e_literal.specs.declared.literal.Lit.{Lit}
 use Rattle.e_deriv.specs.declared.names.Names.{Names}
 use Rattle.e_text.specs.Tokens.{tokens_of}
-use Rattle.e_book.specs.declared.fault.Kind.{Kind}
-use Rattle.e_book.specs.declared.fault.Kind.TheVariants.{Malformed, NameTaken, Limit}
-use Rattle.e_book.specs.declared.fault.What.TheVariants as limits
-use Rattle.e_book.specs.declared.literal.RawLit.{RawLit}
-use Rattle.e_book.specs.declared.form.Form.{Form}
-use Rattle.e_book.specs.declared.form.Form.TheVariants as forms
-use Rattle.e_book.specs.declared.items.RawItem.{RawItem}
-use Rattle.e_book.specs.declared.items.Listing.{Listing}
-use Rattle.e_book.specs.declared.items.Listing.TheVariants as listings
-use Rattle.e_book.specs.declared.items.RawLine.{RawLine}
-use Rattle.e_book.specs.declared.items.RawLine.TheVariants.{Plain, Define, Listed}
-use Rattle.e_book.specs.declared.known.Known.{Known}
+use Rattle.e_line.specs.declared.fault.Kind.{Kind}
+use Rattle.e_line.specs.declared.fault.Kind.TheVariants.{Malformed, NameTaken, Limit}
+use Rattle.e_line.specs.declared.fault.What.TheVariants as limits
+use Rattle.e_line.specs.declared.literal.RawLit.{RawLit}
+use Rattle.e_line.specs.declared.form.Form.{Form}
+use Rattle.e_line.specs.declared.form.Form.TheVariants as forms
+use Rattle.e_line.specs.declared.items.RawItem.{RawItem}
+use Rattle.e_line.specs.declared.items.Listing.{Listing}
+use Rattle.e_line.specs.declared.items.Listing.TheVariants as listings
+use Rattle.e_line.specs.declared.items.RawLine.{RawLine}
+use Rattle.e_line.specs.declared.items.RawLine.TheVariants.{Plain, Define, Listed}
+use Rattle.e_names.specs.declared.known.Known.{Known}
 use Rattle.e_book.specs.declared.draft.Place.{Place}
 use Rattle.e_book.specs.declared.draft.Place.TheVariants as places
 use Rattle.e_book.specs.declared.draft.Draft.{Draft}
 use Rattle.e_book.specs.declared.coming.Coming.{Coming as Held}
-use Rattle.e_book.specs.Reading.{◌>>=◌, with_front}
-use Rattle.e_book.specs.Headed.{Headed}
-use Rattle.e_book.specs.Taken.{is_taken}
-use Rattle.e_book.specs.Titled.{are_notions}
-use Rattle.e_book.specs.Limits.{most_notions, most_expanded, within}
-use Rattle.e_book.specs.LineLimits.{few_monos, FewNamed}
-use Rattle.e_book.specs.Scope.{right_count, fresh, lits_in}
-use Rattle.e_book.specs.Superposes.{placed_in, superpose_in}
-use Rattle.e_book.specs.Canonical.{raw_of}
+use Rattle.e_line.specs.Reading.{◌>>=◌, with_front}
+use Rattle.e_names.specs.Headed.{Headed}
+use Rattle.e_names.specs.Taken.{is_taken}
+use Rattle.e_names.specs.Titled.{are_notions}
+use Rattle.e_line.specs.Limits.{most_notions, most_expanded, within}
+use Rattle.e_line.specs.LineLimits.{few_monos}
+use Rattle.e_book.specs.LineLimits.{FewNamed}
+use Rattle.e_names.specs.Scope.{right_count, fresh, lits_in}
+use Rattle.e_names.specs.Superposes.{placed_in, superpose_in}
+use Rattle.e_names.specs.Canonical.{raw_of}
 use Rattle.e_book.specs.Steps.{allowed, declares, shows, begun, begin, stepped, step}
-use Rattle.e_book.specs.Items.{line_of, listing_form, is_show}
-use Rattle.e_book.specs.Meanings.{items_in}
+use Rattle.e_line.specs.Items.{line_of, listing_form, is_show}
+use Rattle.e_names.specs.Meanings.{items_in}
 use Rattle.e_book.specs.Open.{Head, Open, Stating, Proving, BySuperposition}
 use Rattle.e_book.specs.Counts.{context_at, limits_kept, all_kept}
-use Rattle.e_book.specs.Grammar.{nothing_said, begins, with_new, none_given, none_made, at_its_place, states, goes_on as goes_on_there, next, line_after, is_empty}
+use Rattle.e_book.specs.Grammar.{nothing_said, begins, with_new, none_given, none_made, at_its_place, states, goes_on as goes_on_there, next, line_after, is_empty, Rest, is_skipped, put_at}
 use Rattle.e_book.specs.Definitions.{BookItem, Coming, InTheorem, InDefinition, Defined, has_notion_title, first_line, says_more, still_defined, ends_definition, plain_line, written_out, counted, listed_line, next_line, line_said, Answer, OfTheorem, OfNotion, whole, whole_or, item_from}
-use Rattle.e_book.specs.Grammar.{Rest, is_skipped, put_at}
-use Rattle.e_book.specs.Faults.{at_line}
+use Rattle.e_line.specs.Faults.{at_line}
 use Rattle.e_book.specs.Book.{is_last}
 use Rattle.e_book.specs.DraftViews.{statement_of_draft, entry_of_draft}
 use Rattle.e_book.specs.inner.Machine as machine
 use Rattle.e_book.specs.inner.Machine.{names_at_place, head_names, written, coming, begins_theorem, begins_definition, is_showing, defines_on, with_draft, goes_on, lists, line_step, notion_of_draft, item_of}
-use Rattle.e_book.proofs.InScope.{bind_ok, ok_is, read_ok}
+use Rattle.e_line.proofs.Bound.{bind_ok, ok_is, read_ok}
 use Rattle.e_book.proofs.LimitTests.{by_test, then_limits}
 use Rattle.e_book.proofs.ParserState.{around_of, head_of, open_there, open_of, BlockOf, UnprovedOf, Stands, Body, Tied, Alike}
 use Rattle.e_book.proofs.StatementLines.{IsStating, may_give}
 use Rattle.e_book.proofs.GrammarRead.{HasItems, items_read, step_alike, begin_alike}
-use Rattle.e_book.proofs.ItemsWritten.{items_some}
-use Rattle.e_book.proofs.LinesByWord.{LineSaid, line_read_as}
+use Rattle.e_names.proofs.ItemsWritten.{items_some}
+use Rattle.e_line.proofs.LinesByWord.{LineSaid, line_read_as}
 
 -- ---- what the parser holds is what has been said
 

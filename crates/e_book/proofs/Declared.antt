@@ -1,9 +1,7 @@
 -- The lines that declare objects or made ones, one name after another.
-use Rattle.std.proofs.Common.{◌≡◌, ℕ, zero, suc, ◌+◌, ◌<◌, ◌≤◌, Bool, true, false, cond, ltb, ◌||◌, List, [], ◌∷◌, ◌++◌, length, take, map, Option, Some, None, Result, Ok, Err, refl, sym, ap, subst, ◌∙◌, arith, append_assoc, length-append, length-take-le}
-use Rattle.std.specs.Str.{bytes_eq}
+use Rattle.std.proofs.Common.{◌≡◌, ℕ, zero, suc, ◌+◌, ◌<◌, ◌≤◌, Bool, true, false, cond, ltb, List, [], ◌∷◌, ◌++◌, length, take, map, Option, Some, None, Result, Ok, refl, sym, ap, subst, ◌∙◌, arith, append_assoc, length-append, length-take-le}
 use Rattle.std.proofs.lemmas.Bool.{le-ltb, lt-ltb}
 use Rattle.std.proofs.lemmas.List.{append-nil, take_all}
-use mathlib.Core.Bool.{or-false}
 use Rattle.e_text.specs.Names.{is_name}
 use Rattle.e_literal.specs.declared.object.Sort.{Sort}
 use Rattle.e_literal.specs.declared.object.Sort.TheVariants.{Point, Line, Circle}
@@ -13,23 +11,24 @@ use Rattle.e_literal.specs.Scopes.{same_sort, with_one, grown, next_objects}
 use Rattle.e_literal.proofs.Sorts.{same_sort_is}
 use Rattle.e_literal.proofs.Growing.{count_one}
 use Rattle.e_deriv.specs.declared.names.Names.{Names}
-use Rattle.e_book.specs.declared.fault.Kind.{Kind}
-use Rattle.e_book.specs.declared.fault.Kind.TheVariants.{NameTaken}
-use Rattle.e_book.specs.declared.form.Form.{Form}
+use Rattle.e_line.specs.declared.fault.Kind.{Kind}
+use Rattle.e_line.specs.declared.form.Form.{Form}
 use Rattle.e_book.specs.declared.draft.Draft.{Draft}
-use Rattle.e_book.specs.Reading.{◌>>=◌}
-use Rattle.e_book.specs.Limits.{most_of, what_of, within}
-use Rattle.e_book.specs.Headed.{Headed}
-use Rattle.e_deriv.specs.Naming.{names_of_sort, with_names, first_names}
-use Rattle.e_book.specs.Scope.{scope_of_names, has, is_taken, fresh}
+use Rattle.e_line.specs.Reading.{◌>>=◌}
+use Rattle.e_line.specs.Limits.{most_of, what_of, within}
+use Rattle.e_names.specs.Headed.{Headed}
+use Rattle.e_deriv.specs.Naming.{names_of_sort, first_names}
+use Rattle.e_names.specs.Scope.{scope_of_names, fresh}
 use Rattle.e_book.specs.Steps.{declared, step, begin}
 use Rattle.e_book.specs.Book.{is_done}
-use Rattle.e_book.specs.Canonical.{name_at, Group, group, grouped_before, grouped}
-use Rattle.e_book.specs.HasSpelling.{AreNames}
-use Rattle.e_book.proofs.Differ.{apart_at, has_not_in_front, not_before}
-use Rattle.e_book.proofs.Building.{grows}
-use Rattle.e_book.proofs.Respelled.{GoodForm, as_read}
-use Rattle.e_book.proofs.Lookups.{InOrder, named_at}
+use Rattle.e_names.specs.Canonical.{name_at}
+use Rattle.e_book.specs.Canonical.{Group, group, grouped_before, grouped}
+use Rattle.e_line.specs.HasSpelling.{AreNames}
+use Rattle.e_names.proofs.Differ.{apart_at, has_not_in_front, not_before}
+use Rattle.e_names.proofs.Building.{grows}
+use Rattle.e_line.proofs.Respelled.{GoodForm, as_read}
+use Rattle.e_names.proofs.Lookups.{InOrder, named_at}
+use Rattle.e_names.proofs.NewNames.{same_fresh, plus, Free}
 
 -- a form at its place: the first of a theorem, or one more
 abbrev pub form_step : List Headed → Option Draft → Form → Result Draft Kind
@@ -45,58 +44,7 @@ pub runs_append : (known : List Headed) (s m u : Option Draft) (fs gs : List For
 runs_append known s m u [] gs a b = subst (λ (x : Option Draft). Runs known x gs u) (sym a) b
 runs_append known s m u (f ∷ fs) gs a b = (a.0, a.1, a.2, a.3, runs_append known (Some a.0) m u fs gs a.4 b)
 
--- with one name more
-abbrev pub plus : Names → Sort → List ℕ → Names
-plus ns sort name = with_names ns sort (names_of_sort ns sort ++ name ∷ [])
-
--- no object has this name
-abbrev pub Free : Names → List ℕ → Type 0
-Free ns n = (has ns.points n ≡ false) × (has ns.lines n ≡ false) × (has ns.circles n ≡ false)
-
 -- ---- a name on a line of its own, or on the next line
-
-or_assoc : (a b c : Bool) → (a || (b || c)) ≡ ((a || b) || c)
-or_assoc true b c = refl
-or_assoc false b c = refl
-
-has_push : (xs : List (List ℕ)) (n m : List ℕ) → has (xs ++ n ∷ []) m ≡ (has xs m || bytes_eq n m)
-has_push [] n m = or-false (bytes_eq n m)
-has_push (x ∷ xs) n m = ap (λ b. bytes_eq x m || b) (has_push xs n m) ∙ or_assoc (bytes_eq x m) (has xs m) (bytes_eq n m)
-
-in_points : (p l c q s : Bool) → (p || (l || (c || (q || s)))) ≡ ((p || q) || (l || (c || s)))
-in_points true l c q s = refl
-in_points false true c true s = refl
-in_points false true c false s = refl
-in_points false false true true s = refl
-in_points false false true false s = refl
-in_points false false false q s = refl
-
-in_lines : (p l c q s : Bool) → (p || (l || (c || (q || s)))) ≡ (p || ((l || q) || (c || s)))
-in_lines true l c q s = refl
-in_lines false true c q s = refl
-in_lines false false true true s = refl
-in_lines false false true false s = refl
-in_lines false false false q s = refl
-
-in_circles : (p l c q s : Bool) → (p || (l || (c || (q || s)))) ≡ (p || (l || ((c || q) || s)))
-in_circles p l c q s = ap (λ b. p || (l || b)) (or_assoc c q s)
-
-same_taken : (ns : Names) (sort : Sort) (name : List ℕ) (seen : List (List ℕ)) (m : List ℕ) → is_taken ns (name ∷ seen) m ≡ is_taken (plus ns sort name) seen m
-same_taken ns Point name seen m =
-    in_points (has ns.points m) (has ns.lines m) (has ns.circles m) (bytes_eq name m) (has seen m) ∙ ap (λ b. b || (has ns.lines m || (has ns.circles m || has seen m))) (sym (has_push ns.points name m))
-same_taken ns Line name seen m =
-    in_lines (has ns.points m) (has ns.lines m) (has ns.circles m) (bytes_eq name m) (has seen m) ∙ ap (λ b. has ns.points m || (b || (has ns.circles m || has seen m))) (sym (has_push ns.lines name m))
-same_taken ns Circle name seen m =
-    in_circles (has ns.points m) (has ns.lines m) (has ns.circles m) (bytes_eq name m) (has seen m) ∙ ap (λ b. has ns.points m || (has ns.lines m || (b || has seen m))) (sym (has_push ns.circles name m))
-
-abbrev taken_or : Bool → Result (Unit {0}) Kind → Result (Unit {0}) Kind
-taken_or b r = cond b (Err NameTaken) r
-
-pub same_fresh : (ns : Names) (sort : Sort) (name : List ℕ) (seen more : List (List ℕ)) → fresh ns (name ∷ seen) more ≡ fresh (plus ns sort name) seen more
-same_fresh ns sort name seen [] = refl
-same_fresh ns sort name seen (m ∷ more) =
-    ap (λ (b : Bool). taken_or b (fresh ns (name ∷ (seen ++ m ∷ [])) more)) (same_taken ns sort name seen m)
-    ∙ ap (λ (r : Result (Unit {0}) Kind). taken_or (is_taken (plus ns sort name) seen m) r) (same_fresh ns sort name (seen ++ m ∷ []) more)
 
 fresh_joined : (ns : Names) (sort : Sort) (name : List ℕ) (more : List (List ℕ)) → Free ns name → fresh ns [] (name ∷ more) ≡ fresh (plus ns sort name) [] more
 fresh_joined ns sort name more f =

@@ -15,12 +15,12 @@ use Rattle.e_book.specs.declared.blocks.Outer.{Outer}
 use Rattle.e_book.specs.declared.draft.Place.{Place}
 use Rattle.e_book.specs.declared.draft.Place.TheVariants.{Declaring, Giving, Making, Showing, Proving, Splitting, Closed, Done}
 use Rattle.e_book.specs.declared.draft.Draft.{Draft}
-use Rattle.e_book.specs.Limits.{most_steps, most_facts, most_terms, count_monomials}
-use Rattle.e_book.specs.Headed.{Headed, is_known, stated_by}
-use Rattle.e_book.specs.Scope.{scope_of_names}
+use Rattle.e_line.specs.Limits.{most_steps, most_facts, most_terms, count_monomials}
+use Rattle.e_names.specs.Headed.{Headed, is_known, stated_by}
+use Rattle.e_names.specs.Scope.{scope_of_names}
 use Rattle.e_book.specs.LineLimits.{FewNamed}
 use Rattle.e_book.specs.DraftViews.{script_of_close, statement_of_draft}
-use Rattle.e_book.specs.Fits.{NamesDiffer}
+use Rattle.e_names.specs.Fits.{NamesDiffer}
 use Rattle.e_book.proofs.FittingScripts.{Spot, spot, ScriptFits}
 use Rattle.e_book.proofs.OpenBlocks.{Open}
 

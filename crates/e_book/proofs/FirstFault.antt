@@ -4,13 +4,12 @@ use Rattle.std.specs.Prelude.{◌⊎◌}
 use Rattle.e_text.specs.Tokens.{tokens_of}
 use Rattle.e_text.specs.Lines.{Seen}
 use Rattle.e_text.specs.declared.line.LineFault.{LineFault}
-use Rattle.e_book.specs.declared.fault.Kind.{Kind}
-use Rattle.e_book.specs.declared.fault.BookFault.{BookFault}
-use Rattle.e_book.specs.declared.fault.BookFault.TheVariants as faults
-use Rattle.e_book.specs.Reading.{◌>>=◌}
-use Rattle.e_book.specs.declared.known.Known.{Known}
-use Rattle.e_book.specs.Grammar.{is_skipped}
-use Rattle.e_book.specs.Grammar.{Rest}
+use Rattle.e_line.specs.declared.fault.Kind.{Kind}
+use Rattle.e_line.specs.declared.fault.BookFault.{BookFault}
+use Rattle.e_line.specs.declared.fault.BookFault.TheVariants as faults
+use Rattle.e_line.specs.Reading.{◌>>=◌}
+use Rattle.e_names.specs.declared.known.Known.{Known}
+use Rattle.e_book.specs.Grammar.{is_skipped, Rest}
 use Rattle.e_book.specs.Definitions.{BookItem, Coming, Answer, whole, whole_or, at_end, put_there, line_said, item_from}
 use Rattle.e_book.specs.FirstFault.{Leaves, IsFaulty, BreaksAt, IsFirst}
 

@@ -25,18 +25,18 @@ use Rattle.e_deriv.specs.Parts.{rest_of, inner_of, args_of}
 use Rattle.e_deriv.specs.Goal.{Goal, goal_of, goal_of_statement, facts_of_statement}
 use Rattle.e_deriv.specs.Lines.{Line, lines, theorem_at, proof_lines}
 use Rattle.e_deriv.specs.Fitting.{all_objects, is_small, is_small_statement, LitsFit, IsFitting}
-use Rattle.e_book.specs.declared.fault.What.TheVariants as limits
-use Rattle.e_book.specs.Reading.{◌>>=◌}
-use Rattle.e_book.specs.Limits.{most_of, within, count_monomials}
-use Rattle.e_book.specs.Headed.{Headed, headed, stated_by}
-use Rattle.e_book.specs.Scope.{scope_of_names}
+use Rattle.e_line.specs.declared.fault.What.TheVariants as limits
+use Rattle.e_line.specs.Reading.{◌>>=◌}
+use Rattle.e_line.specs.Limits.{most_of, within, count_monomials}
+use Rattle.e_names.specs.Headed.{Headed, headed, stated_by}
+use Rattle.e_names.specs.Scope.{scope_of_names}
 use Rattle.e_book.specs.LineLimits.{FewNamed, few_objects}
 use Rattle.e_book.specs.Entry.{Entry}
 use Rattle.e_book.specs.Fits.{NewNamesFit, Fits}
 use Rattle.e_book.specs.Book.{read_from}
 use Rattle.e_book.proofs.Answered.{within_ok, answered, pair}
-use Rattle.e_book.proofs.InScope.{bind_ok}
-use Rattle.e_book.proofs.Building.{named_scope, declared_scope}
+use Rattle.e_line.proofs.Bound.{bind_ok}
+use Rattle.e_names.proofs.Building.{named_scope, declared_scope}
 use Rattle.e_book.proofs.GoodLines.{GoodFacts, GoodGoal, two_good, all_joined, lines_good}
 use Rattle.e_book.proofs.Keeps.{reading_fits}
 

@@ -29,12 +29,13 @@ use Rattle.e_deriv.specs.Lines.{Line, lines, theorem_at}
 use Rattle.e_deriv.specs.Steps.{is_citation}
 use Rattle.e_deriv.specs.Fitting.{form_fits}
 use Rattle.e_deriv.specs.Naming.{named}
-use Rattle.e_book.specs.Limits.{most_depth, most_facts, most_terms, most_blanks, monomials, count_monomials}
-use Rattle.e_book.specs.Scope.{scope_of_names, fresh}
-use Rattle.e_book.specs.Applies.{count_blanks}
+use Rattle.e_line.specs.Limits.{most_depth, most_facts, most_terms, most_blanks, monomials, count_monomials}
+use Rattle.e_names.specs.Scope.{scope_of_names, fresh}
+use Rattle.e_names.specs.Applies.{count_blanks}
 use Rattle.e_book.specs.LineLimits.{few_objects}
-use Rattle.e_book.specs.Fits.{NewNamesFit, few_facts, few_terms, few_blanks, is_diagram_lit, has_good_literals}
-use Rattle.e_book.proofs.Building.{GoodLet, named_scope}
+use Rattle.e_names.specs.Fits.{is_diagram_lit}
+use Rattle.e_book.specs.Fits.{NewNamesFit, few_facts, few_terms, few_blanks, has_good_literals}
+use Rattle.e_names.proofs.Building.{GoodLet, named_scope}
 
 -- where a line stands: the earlier theorems, the names in scope, and how many literals are facts and how many monomials they have, repeats counted
 pub record Spot : Type 0 where

@@ -43,12 +43,13 @@ use Rattle.e_deriv.specs.Goal.{Goal, are_for, goal_with}
 use Rattle.e_deriv.specs.Lines.{Line, lines, theorem_at}
 use Rattle.e_deriv.specs.Steps.{are_over, is_citation}
 use Rattle.e_deriv.specs.Fitting.{LitsFit}
-use Rattle.e_book.specs.Limits.{most_terms, monomials, count_monomials}
-use Rattle.e_book.specs.Fits.{is_diagram_lit, has_good_literals, few_terms}
+use Rattle.e_line.specs.Limits.{most_terms, monomials, count_monomials}
+use Rattle.e_names.specs.Fits.{is_diagram_lit}
+use Rattle.e_book.specs.Fits.{has_good_literals, few_terms}
 use Rattle.e_book.proofs.FittingScripts.{line_fits}
-use Rattle.e_book.proofs.ShortLits.{count_first}
-use Rattle.e_book.proofs.LitLookups.{diagram_is_good}
-use Rattle.e_book.proofs.WellRead.{no_monomials}
+use Rattle.e_names.proofs.ShortLits.{count_first}
+use Rattle.e_names.proofs.LitLookups.{diagram_is_good}
+use Rattle.e_names.proofs.WellRead.{no_monomials}
 use Rattle.e_book.proofs.Renaming.{renamed_good, made_moved}
 
 -- ---- facts

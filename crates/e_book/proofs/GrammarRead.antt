@@ -2,41 +2,41 @@
 use Rattle.std.proofs.Common.{◌≡◌, ℕ, ◌+◌, ◌<◌, Bool, true, false, cond, leb, List, [], ◌∷◌, length, map, Option, Some, None, Result, Ok, Err, refl, sym, ap, subst, ◌∙◌, arith}
 use Rattle.e_deriv.specs.declared.names.Names.{Names}
 use Rattle.e_text.specs.Tokens.{tokens_of}
-use Rattle.e_book.specs.declared.fault.Kind.{Kind}
-use Rattle.e_book.specs.declared.fault.Kind.TheVariants.{Malformed, NameTaken}
-use Rattle.e_book.specs.declared.fault.What.TheVariants as limits
-use Rattle.e_book.specs.declared.fault.BookFault.{BookFault}
-use Rattle.e_book.specs.declared.form.Form.{Form}
-use Rattle.e_book.specs.declared.form.Form.TheVariants as forms
+use Rattle.e_line.specs.declared.fault.Kind.{Kind}
+use Rattle.e_line.specs.declared.fault.Kind.TheVariants.{Malformed, NameTaken}
+use Rattle.e_line.specs.declared.fault.What.TheVariants as limits
+use Rattle.e_line.specs.declared.fault.BookFault.{BookFault}
+use Rattle.e_line.specs.declared.form.Form.{Form}
+use Rattle.e_line.specs.declared.form.Form.TheVariants as forms
 use Rattle.e_book.specs.declared.steps.CloseLine.TheVariants as closes
 use Rattle.e_book.specs.declared.draft.Draft.{Draft}
 use Rattle.e_book.specs.declared.draft.Place.{Place}
 use Rattle.e_book.specs.declared.draft.Place.TheVariants as places
-use Rattle.e_book.specs.Faults.{at_line}
-use Rattle.e_book.specs.Reading.{◌>>=◌, names_of, not_empty, some_names}
-use Rattle.e_book.specs.Literals.{is_diagram_raw}
-use Rattle.e_book.specs.Forms.{form_of}
-use Rattle.e_book.specs.Headed.{Headed, is_known}
-use Rattle.e_book.specs.Limits.{most_theorems, within}
+use Rattle.e_line.specs.Faults.{at_line}
+use Rattle.e_line.specs.Reading.{◌>>=◌, names_of, not_empty, some_names}
+use Rattle.e_line.specs.Literals.{is_diagram_raw}
+use Rattle.e_line.specs.Forms.{form_of}
+use Rattle.e_names.specs.Headed.{Headed, is_known}
+use Rattle.e_line.specs.Limits.{most_theorems, within}
 use Rattle.e_book.specs.DraftViews.{entry_of_draft}
 use Rattle.e_book.specs.Entry.{Entry}
 use Rattle.e_book.specs.LineLimits.{FewNamed}
 use Rattle.e_book.specs.Steps.{allowed, built, applied, claimed, superposed, split, cited, inferred, concluded, shut, stepped, step, begin, begun}
 use Rattle.e_book.specs.Open.{Open, Stating, Proving}
-use Rattle.e_book.specs.Grammar.{Rest, nothing_said, begins, goes_on, next, line_after, line_read, ended, or_more}
+use Rattle.e_book.specs.Grammar.{Rest, nothing_said, begins, goes_on, next, line_after, line_read, ended, or_more, is_skipped, put_at}
 use Rattle.e_book.specs.Grammar as grammar
-use Rattle.e_book.specs.Canonical.{forms_of, line_of}
+use Rattle.e_line.specs.Canonical.{line_of}
+use Rattle.e_book.specs.Canonical.{forms_of}
 use Rattle.e_book.specs.HasSpelling.{HasSpelling}
 use Rattle.e_book.specs.Laws.{Shows}
-use Rattle.e_book.specs.Grammar.{is_skipped, put_at}
 use Rattle.e_book.specs.Book.{line_step, is_last, is_done}
 use Rattle.e_book.specs.Book as parser
-use Rattle.e_book.proofs.InScope.{bind_ok, ok_is, read_ok}
+use Rattle.e_line.proofs.Bound.{bind_ok, ok_is, read_ok}
 use Rattle.e_book.proofs.CanonicalRead.{canonical_lines_read}
 use Rattle.e_book.proofs.ReadSpelled.{read_is_spelled}
-use Rattle.e_book.proofs.FormsByWord.{OfEachForm, form_by_word}
-use Rattle.e_book.proofs.SaidForms.{some_lits_said}
-use Rattle.e_book.proofs.SaidLits.{diagram_said}
+use Rattle.e_line.proofs.FormsByWord.{OfEachForm, form_by_word}
+use Rattle.e_names.proofs.SaidForms.{some_lits_said}
+use Rattle.e_line.proofs.SaidLits.{diagram_said}
 use Rattle.e_book.proofs.ParserState.{around_of, head_of, open_there, open_of, BlockOf, UnprovedOf, Stands, Body, Tied, Alike, tied_there}
 use Rattle.e_book.proofs.LimitTests.{kept, then_limits, test, both_read}
 use Rattle.e_book.proofs.BlockLines.{by_alike, hence_alike, let_alike, apply_alike, claim_alike, superpose_alike, cases_alike}

@@ -7,27 +7,27 @@ use Rattle.e_literal.specs.declared.object.Sort.{Sort}
 use Rattle.e_literal.specs.declared.literal.Lit.{Lit}
 use Rattle.e_deriv.specs.declared.names.Names.{Names}
 use Rattle.e_deriv.specs.Naming.{names_of_sort}
-use Rattle.e_book.specs.declared.fault.Kind.{Kind}
-use Rattle.e_book.specs.declared.form.Form.TheVariants as forms
+use Rattle.e_line.specs.declared.fault.Kind.{Kind}
+use Rattle.e_line.specs.declared.form.Form.TheVariants as forms
 use Rattle.e_book.specs.declared.steps.CloseLine.TheVariants as closes
 use Rattle.e_book.specs.declared.draft.Place.{Place}
 use Rattle.e_book.specs.declared.draft.Place.TheVariants.{Declaring, Giving, Making, Showing}
 use Rattle.e_book.specs.declared.draft.Draft.{Draft}
-use Rattle.e_book.specs.Reading.{◌>>=◌}
-use Rattle.e_book.specs.Limits.{most_of, most_theorems, most_facts, most_terms}
-use Rattle.e_book.specs.Headed.{Headed, is_known}
-use Rattle.e_book.specs.LineLimits.{count_monos}
+use Rattle.e_line.specs.Reading.{◌>>=◌}
+use Rattle.e_line.specs.Limits.{most_of, most_theorems, most_facts, most_terms, monomials, count_monomials}
+use Rattle.e_names.specs.Headed.{Headed, is_known}
+use Rattle.e_line.specs.LineLimits.{count_monos}
 use Rattle.e_book.specs.Steps.{with_terms, allowed, declared, stepped, step, begin, begun, no_names}
-use Rattle.e_book.specs.Fits.{monomials, count_monomials}
 use Rattle.e_book.specs.Book.{is_done}
-use Rattle.e_book.specs.Canonical.{raw_of, given_form, show_form}
-use Rattle.e_book.specs.HasSpelling.{AreNames}
-use Rattle.e_book.proofs.Respelled.{GoodForm}
-use Rattle.e_book.proofs.Lookups.{InOrder}
-use Rattle.e_book.proofs.LitLookups.{lit_number_again, lit_named}
-use Rattle.e_book.proofs.PlainLits.{Plain, PlainLit, plain_first}
-use Rattle.e_book.proofs.ShortLits.{few_again, count_again, count_more, count_first}
-use Rattle.e_book.proofs.Declared.{Runs, LinesOfNames, Free, plus, declared_one, declared_joined}
+use Rattle.e_names.specs.Canonical.{raw_of, given_form, show_form}
+use Rattle.e_line.specs.HasSpelling.{AreNames}
+use Rattle.e_line.proofs.Respelled.{GoodForm}
+use Rattle.e_names.proofs.Lookups.{InOrder}
+use Rattle.e_names.proofs.LitLookups.{lit_number_again, lit_named}
+use Rattle.e_names.proofs.PlainLits.{Plain, PlainLit, plain_first}
+use Rattle.e_names.proofs.ShortLits.{few_again, count_again, count_more, count_first}
+use Rattle.e_names.proofs.NewNames.{Free, plus}
+use Rattle.e_book.proofs.Declared.{Runs, LinesOfNames, declared_one, declared_joined}
 
 -- a draft before the word proof
 abbrev pub stating : List ℕ → Names → List Sort → List Lit → List Sort → List Lit → ℕ → ℕ → Place → Draft

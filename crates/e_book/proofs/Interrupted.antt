@@ -9,14 +9,14 @@ use Rattle.e_book.specs.declared.blocks.Outer.{Outer}
 use Rattle.e_book.specs.declared.blocks.Opened.{Opened}
 use Rattle.e_book.specs.declared.blocks.Opened.TheVariants as opened
 use Rattle.e_book.specs.declared.draft.Draft.{Draft}
-use Rattle.e_book.specs.declared.fault.Kind.{Kind}
-use Rattle.e_book.specs.declared.fault.What.TheVariants as limits
-use Rattle.e_book.specs.declared.fault.Trouble.{Trouble}
+use Rattle.e_line.specs.declared.fault.Kind.{Kind}
+use Rattle.e_line.specs.declared.fault.What.TheVariants as limits
+use Rattle.e_line.specs.declared.fault.Trouble.{Trouble}
 use Rattle.e_book.specs.declared.steps.CloseLine.{CloseLine}
 use Rattle.e_book.specs.declared.steps.CloseLine.TheVariants as closes
-use Rattle.e_book.specs.Reading.{◌>>=◌, Fails, Moves}
+use Rattle.e_line.specs.Reading.{◌>>=◌, Fails, Moves}
 use Rattle.e_book.specs.DraftViews.{script_of_close}
-use Rattle.e_book.specs.Limits.{most_facts, most_depth, within}
+use Rattle.e_line.specs.Limits.{most_facts, most_depth, within}
 use Rattle.e_book.specs.Steps.{terms_after, counted_from, resumed, closed_inside, closed, ClosesInside, FitsOuter, FitsScope}
 
 -- a test finds something in a list whichever way it goes

@@ -4,12 +4,12 @@ use Rattle.std.specs.Prelude.{IfOk, IfSome}
 use Rattle.std.specs.List.{list_all}
 use Rattle.e_text.specs.Lines.{Ahead}
 use Rattle.e_deriv.specs.Fitting.{is_small_statement}
-use Rattle.e_book.specs.declared.fault.BookFault.{BookFault}
-use Rattle.e_book.specs.declared.known.Known.{Known}
+use Rattle.e_line.specs.declared.fault.BookFault.{BookFault}
+use Rattle.e_names.specs.declared.known.Known.{Known}
 use Rattle.e_book.specs.declared.item.Item.{Item}
 use Rattle.e_book.specs.declared.item.Item.TheVariants as items
-use Rattle.e_book.specs.Headed.{stated_by}
-use Rattle.e_book.specs.Titled.{Titled, are_notions}
+use Rattle.e_names.specs.Headed.{stated_by}
+use Rattle.e_names.specs.Titled.{Titled, are_notions}
 use Rattle.e_book.specs.Entry.{Entry, entry_of}
 use Rattle.e_book.specs.HasSpelling.{HasSpelling}
 use Rattle.e_book.specs.Grammar.{Rest}

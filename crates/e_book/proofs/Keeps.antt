@@ -20,37 +20,40 @@ use Rattle.e_deriv.specs.PlainStep.{PlainStep, all_before}
 use Rattle.e_deriv.specs.Goal.{goal_of_statement, facts_of_statement}
 use Rattle.e_deriv.specs.Lines.{lines}
 use Rattle.e_deriv.specs.Naming.{names_of_sort, with_names}
-use Rattle.e_book.specs.declared.fault.BookFault.{BookFault}
-use Rattle.e_book.specs.declared.fault.What.TheVariants as limits
-use Rattle.e_book.specs.declared.literal.RawLit.{RawLit}
-use Rattle.e_book.specs.declared.lets.RawLet.{RawLet}
-use Rattle.e_book.specs.declared.superposes.RawSuperpose.{RawSuperpose}
-use Rattle.e_book.specs.declared.applies.RawApply.{RawApply}
+use Rattle.e_line.specs.declared.fault.BookFault.{BookFault}
+use Rattle.e_line.specs.declared.fault.What.TheVariants as limits
+use Rattle.e_line.specs.declared.literal.RawLit.{RawLit}
+use Rattle.e_line.specs.declared.lets.RawLet.{RawLet}
+use Rattle.e_line.specs.declared.superposes.RawSuperpose.{RawSuperpose}
+use Rattle.e_line.specs.declared.applies.RawApply.{RawApply}
 use Rattle.e_book.specs.declared.blocks.Outer.{Outer}
-use Rattle.e_book.specs.declared.form.Form.{Form}
-use Rattle.e_book.specs.declared.form.Form.TheVariants as forms
+use Rattle.e_line.specs.declared.form.Form.{Form}
+use Rattle.e_line.specs.declared.form.Form.TheVariants as forms
 use Rattle.e_book.specs.declared.draft.Place.{Place}
 use Rattle.e_book.specs.declared.draft.Place.TheVariants.{Declaring, Giving, Making, Showing, Proving, Splitting, Closed, Done}
 use Rattle.e_book.specs.declared.draft.Draft.{Draft}
-use Rattle.e_book.specs.Reading.{◌>>=◌, with_front}
-use Rattle.e_book.specs.Limits.{most_theorems, most_of, most_facts, what_of, within, count_monomials}
-use Rattle.e_book.specs.Headed.{Headed, is_known, stated_by}
-use Rattle.e_book.specs.Scope.{scope_of_names, fresh, lit_in, lits_in}
-use Rattle.e_book.specs.Forms.{form_of}
-use Rattle.e_book.specs.LineLimits.{count_monos, few_monos, FewNamed}
+use Rattle.e_line.specs.Reading.{◌>>=◌, with_front}
+use Rattle.e_line.specs.Limits.{most_theorems, most_of, most_facts, what_of, within, count_monomials}
+use Rattle.e_names.specs.Headed.{Headed, is_known, stated_by}
+use Rattle.e_names.specs.Scope.{scope_of_names, fresh, lit_in, lits_in}
+use Rattle.e_line.specs.Forms.{form_of}
+use Rattle.e_line.specs.LineLimits.{count_monos, few_monos}
+use Rattle.e_book.specs.LineLimits.{FewNamed}
 use Rattle.e_book.specs.Steps.{with_terms, allowed, declared, stepped, step, begin, begun}
 use Rattle.e_book.specs.DraftViews.{script_of_close, entry_of_draft, statement_of_draft}
 use Rattle.e_book.specs.Entry.{Entry}
-use Rattle.e_book.specs.Fits.{NamesDiffer, few_facts, few_terms, Fits}
+use Rattle.e_names.specs.Fits.{NamesDiffer}
+use Rattle.e_book.specs.Fits.{few_facts, few_terms, Fits}
 use Rattle.e_book.specs.Grammar.{is_skipped, put_at}
 use Rattle.e_book.specs.Book.{line_step, is_last, is_done, read_from}
 use Rattle.e_book.proofs.Answered.{within_ok, passes, untaken, put_ok, answered, pair, first_is, skip_or, Answer}
-use Rattle.e_book.proofs.InScope.{bind_ok, ok_is, read_ok, each_length}
-use Rattle.e_book.proofs.SaidForms.{Said, form_said}
-use Rattle.e_book.proofs.WellRead.{good_lits, lits_count}
-use Rattle.e_book.proofs.KeptSums.{few_ok, terms_added, monomials-append}
-use Rattle.e_book.proofs.Distinct.{still_differ}
-use Rattle.e_book.proofs.Building.{declared_scope}
+use Rattle.e_line.proofs.Bound.{bind_ok, ok_is, read_ok, each_length}
+use Rattle.e_names.proofs.SaidForms.{Said, form_said}
+use Rattle.e_names.proofs.WellRead.{good_lits, lits_count}
+use Rattle.e_names.proofs.FewSums.{few_ok}
+use Rattle.e_book.proofs.KeptSums.{terms_added, monomials-append}
+use Rattle.e_names.proofs.Distinct.{still_differ}
+use Rattle.e_names.proofs.Building.{declared_scope}
 use Rattle.e_book.proofs.FittingScripts.{Spot, spot, line_fits}
 use Rattle.e_book.proofs.OpenBlocks.{Open, open_first}
 use Rattle.e_book.proofs.Drafts.{HeadOf, start, NoProof, NoProofOf, OpenOf, ShutOf, Body, Good}

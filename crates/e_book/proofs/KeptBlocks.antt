@@ -15,40 +15,43 @@ use Rattle.e_deriv.specs.declared.names.Names.{Names}
 use Rattle.e_deriv.specs.Script.{Script, Cases, size}
 use Rattle.e_deriv.specs.PlainStep.{PlainStep, Cited, Inferred, Made, Applied, Claimed, Copied, all_before}
 use Rattle.e_deriv.specs.Naming.{named}
-use Rattle.e_book.specs.declared.fault.Kind.{Kind}
-use Rattle.e_book.specs.declared.fault.What.TheVariants as limits
-use Rattle.e_book.specs.declared.literal.RawLit.{RawLit}
-use Rattle.e_book.specs.declared.lets.RawLet.{RawLet}
-use Rattle.e_book.specs.declared.superposes.RawSuperpose.{RawSuperpose}
-use Rattle.e_book.specs.declared.applies.RawApply.{RawApply}
+use Rattle.e_line.specs.declared.fault.Kind.{Kind}
+use Rattle.e_line.specs.declared.fault.What.TheVariants as limits
+use Rattle.e_line.specs.declared.literal.RawLit.{RawLit}
+use Rattle.e_line.specs.declared.lets.RawLet.{RawLet}
+use Rattle.e_line.specs.declared.superposes.RawSuperpose.{RawSuperpose}
+use Rattle.e_line.specs.declared.applies.RawApply.{RawApply}
 use Rattle.e_book.specs.declared.blocks.Outer.{Outer}
 use Rattle.e_book.specs.declared.blocks.Opened.{Opened}
 use Rattle.e_book.specs.declared.blocks.Opened.TheVariants as opened
-use Rattle.e_book.specs.declared.form.Form.TheVariants as forms
+use Rattle.e_line.specs.declared.form.Form.TheVariants as forms
 use Rattle.e_book.specs.declared.steps.CloseLine.{CloseLine}
 use Rattle.e_book.specs.declared.steps.CloseLine.TheVariants as closes
 use Rattle.e_book.specs.declared.draft.Place.{Place}
 use Rattle.e_book.specs.declared.draft.Place.TheVariants.{Proving, Splitting, Closed}
 use Rattle.e_book.specs.declared.draft.Draft.{Draft}
-use Rattle.e_book.specs.Reading.{◌>>=◌}
-use Rattle.e_book.specs.Limits.{most_steps, most_depth, most_facts, most_terms, most_blanks, within, monomials, count_monomials}
-use Rattle.e_book.specs.Headed.{Headed, stated_by, theorem_of}
+use Rattle.e_line.specs.Reading.{◌>>=◌}
+use Rattle.e_line.specs.Limits.{most_steps, most_depth, most_facts, most_terms, most_blanks, within, monomials, count_monomials}
+use Rattle.e_names.specs.Headed.{Headed, stated_by, theorem_of}
 use Rattle.e_book.specs.Blocks.{is_claim, has_claim, made_in}
-use Rattle.e_book.specs.Scope.{scope_of_names, lit_in, lits_in, by_in, let_in, qed_in}
-use Rattle.e_book.specs.Superposes.{superpose_in}
-use Rattle.e_book.specs.Applies.{count_blanks, apply_in}
-use Rattle.e_book.specs.LineLimits.{count_monos, few_monos, few_objects}
+use Rattle.e_names.specs.Scope.{scope_of_names, lit_in, lits_in, by_in, let_in, qed_in}
+use Rattle.e_names.specs.Superposes.{superpose_in}
+use Rattle.e_names.specs.Applies.{count_blanks, apply_in}
+use Rattle.e_line.specs.LineLimits.{count_monos, few_monos}
+use Rattle.e_book.specs.LineLimits.{few_objects}
 use Rattle.e_book.specs.Steps.{terms_after, with_terms, with_step, built, used_by, applied, outer_of, deeper, claimed, superposed, split, counted_from, resumed, closed_inside, closed, shut, stepped}
 use Rattle.e_book.specs.DraftViews.{script_of_close}
 use Rattle.e_book.proofs.Answered.{within_ok}
-use Rattle.e_book.proofs.InScope.{bind_ok, ok_is, read_ok, lit_in_scope, each_all}
-use Rattle.e_book.proofs.SaidLits.{LitsSaid}
-use Rattle.e_book.proofs.SaidForms.{Said, by_plain}
-use Rattle.e_book.proofs.WellRead.{good_lits}
-use Rattle.e_book.proofs.KeptSums.{FewMonos, few_ok, terms_added, terms_within, one_lit, one_count}
-use Rattle.e_book.proofs.Citations.{by_fits}
-use Rattle.e_book.proofs.Building.{let_fits, superpose_fits, qed_fits}
-use Rattle.e_book.proofs.Uses.{GoodUse, earlier, use_fits}
+use Rattle.e_line.proofs.Bound.{bind_ok, ok_is, read_ok}
+use Rattle.e_names.proofs.InScope.{lit_in_scope, each_all}
+use Rattle.e_line.proofs.SaidLits.{LitsSaid}
+use Rattle.e_names.proofs.SaidForms.{Said, by_plain}
+use Rattle.e_names.proofs.WellRead.{good_lits}
+use Rattle.e_names.proofs.FewSums.{FewMonos, few_ok, one_lit}
+use Rattle.e_book.proofs.KeptSums.{terms_added, terms_within, one_count}
+use Rattle.e_names.proofs.Citations.{by_fits}
+use Rattle.e_names.proofs.Building.{let_fits, superpose_fits, qed_fits}
+use Rattle.e_names.proofs.Uses.{GoodUse, earlier, use_fits}
 use Rattle.e_book.proofs.FittingScripts.{Spot, spot, with_lit, ScriptFits, ShownFit, CopyFits, UseFits, SplitFits, fits_cited, fits_inferred, fits_made, fits_applied, fits_claimed, fits_copied, fits_qed, fits_contradiction, fits_split}
 use Rattle.e_book.proofs.OpenBlocks.{StepsFit, begun_by, OpenedFits, spot_of, first_spot, level, OuterFits, OutersFit, count_lines, lines_first, lines_around, Open, level_is, size_is, open_more, open_inner, open_again}
 use Rattle.e_book.proofs.Drafts.{HeadOf, start, OpenOf, Body, Good}

@@ -1,35 +1,21 @@
 -- What is known of literals that are read within the limits of sums.
-use Rattle.std.proofs.Common.{◌≡◌, ℕ, ◌+◌, ◌≤◌, Bool, true, false, List, [], ◌∷◌, ◌++◌, Ok, refl, ap, ◌∙◌, arith}
+use Rattle.std.proofs.Common.{◌≡◌, ℕ, ◌+◌, ◌≤◌, List, [], ◌∷◌, ◌++◌, Ok, ap, ◌∙◌, arith}
 use Rattle.std.proofs.lemmas.List.Sums.{sum_by-append}
 use Rattle.e_literal.specs.declared.literal.Lit.{Lit}
 use Rattle.e_deriv.specs.declared.names.Names.{Names}
-use Rattle.e_book.specs.declared.fault.What.{What}
-use Rattle.e_book.specs.declared.fault.What.TheVariants as limits
-use Rattle.e_book.specs.declared.literal.RawLit.{RawLit}
+use Rattle.e_line.specs.declared.fault.What.TheVariants as limits
+use Rattle.e_line.specs.declared.literal.RawLit.{RawLit}
 use Rattle.e_book.specs.declared.draft.Draft.{Draft}
-use Rattle.e_book.specs.Reading.{◌>>=◌}
-use Rattle.e_book.specs.Limits.{most_terms, within, monomials, count_monomials}
-use Rattle.e_book.specs.Scope.{lit_in, lits_in}
-use Rattle.e_book.specs.LineLimits.{are_short, are_small, count_monos, or_limit, few_monos}
+use Rattle.e_line.specs.Reading.{◌>>=◌}
+use Rattle.e_line.specs.Limits.{most_terms, within, monomials, count_monomials}
+use Rattle.e_names.specs.Scope.{lit_in}
+use Rattle.e_line.specs.LineLimits.{count_monos, few_monos}
 use Rattle.e_book.specs.Steps.{terms_behind, terms_after, with_terms}
 use Rattle.e_book.proofs.Answered.{within_ok}
-use Rattle.e_book.proofs.InScope.{bind_ok, ok_is, read_ok}
-use Rattle.e_book.proofs.ShortLits.{count_first}
-use Rattle.e_book.proofs.WellRead.{lits_count}
-
-limited : (b : Bool) (what : What) (u : Unit {0}) → or_limit b what ≡ Ok u → b ≡ true
-limited true what u e = refl
-limited false what u e = absurd cc
-
-pub record FewMonos (raws : List RawLit) : Type 0 where
-  pub short : are_short raws ≡ true
-  pub small : are_small raws ≡ true
-
-pub few_ok : (raws : List RawLit) (u : Unit {0}) → few_monos raws ≡ Ok u → FewMonos raws
-unfolding few_monos
-few_ok raws u e =
-    let a = bind_ok (or_limit (are_short raws) limits.Monomials) (λ short. or_limit (are_small raws) limits.Coefficient) u e in
-    record { short = limited (are_short raws) limits.Monomials a.0 a.1; small = limited (are_small raws) limits.Coefficient u a.2 }
+use Rattle.e_line.proofs.Bound.{bind_ok, ok_is, read_ok}
+use Rattle.e_names.proofs.ShortLits.{count_first}
+use Rattle.e_names.proofs.WellRead.{lits_count}
+use Rattle.e_names.proofs.FewSums.{one_lit, few_ok, FewMonos}
 
 -- what with_terms adds
 pub record TermsAdded (d e : Draft) (raws : List RawLit) : Type 0 where
@@ -53,9 +39,6 @@ terms_within n m ls h =
     let k = n + count_monomials ls in
     let w = bind_ok (within k most_terms limits.Terms) (λ few. read_ok k) m h in
     (within_ok k most_terms limits.Terms w.0 w.1, ok_is k m w.2)
-
-pub one_lit : (ns : Names) (r : RawLit) (l : Lit) → lit_in ns r ≡ Ok l → lits_in ns (r ∷ []) ≡ Ok (l ∷ [])
-one_lit ns r l e = rw e refl
 
 -- one literal is read with its monomials
 pub one_count : (ns : Names) (r : RawLit) (l : Lit) → lit_in ns r ≡ Ok l → count_monos (r ∷ []) ≡ monomials l.atom

@@ -3,21 +3,22 @@ use Rattle.std.proofs.Common.{◌≡◌, ℕ, ◌≤◌, arith, Bool, true, fals
 use Rattle.std.proofs.lemmas.Bool.{cases_lt, lt-ltb, le-ltb, lt-leb, le-leb}
 use Rattle.e_literal.specs.declared.object.Sort.TheVariants as sorts
 use Rattle.e_deriv.specs.declared.names.Names.{Names}
-use Rattle.e_book.specs.declared.fault.Kind.{Kind}
-use Rattle.e_book.specs.declared.fault.Kind.TheVariants.{Malformed, Limit}
-use Rattle.e_book.specs.declared.fault.What.{What}
-use Rattle.e_book.specs.declared.fault.What.TheVariants as limits
-use Rattle.e_book.specs.declared.literal.RawLit.{RawLit}
-use Rattle.e_book.specs.declared.form.Form.{Form}
+use Rattle.e_line.specs.declared.fault.Kind.{Kind}
+use Rattle.e_line.specs.declared.fault.Kind.TheVariants.{Malformed, Limit}
+use Rattle.e_line.specs.declared.fault.What.{What}
+use Rattle.e_line.specs.declared.fault.What.TheVariants as limits
+use Rattle.e_line.specs.declared.literal.RawLit.{RawLit}
+use Rattle.e_line.specs.declared.form.Form.{Form}
 use Rattle.e_book.specs.declared.draft.Draft.{Draft}
-use Rattle.e_book.specs.Reading.{◌>>=◌}
-use Rattle.e_book.specs.Headed.{Headed}
-use Rattle.e_book.specs.Limits.{most_of, most_steps, most_depth, most_facts, most_terms, most_blanks, within}
-use Rattle.e_book.specs.LineLimits.{are_short, are_small, or_limit, few_monos, few_objects, FewNamed}
+use Rattle.e_line.specs.Reading.{◌>>=◌}
+use Rattle.e_names.specs.Headed.{Headed}
+use Rattle.e_line.specs.Limits.{most_of, most_steps, most_depth, most_facts, most_terms, most_blanks, within}
+use Rattle.e_line.specs.LineLimits.{are_short, are_small, or_limit, few_monos}
+use Rattle.e_book.specs.LineLimits.{few_objects, FewNamed}
 use Rattle.e_book.specs.Open.{Open}
 use Rattle.e_book.specs.Counts.{LineContext, literals_on, blanks_on, limits_at, limits_kept, all_kept}
 use Rattle.e_book.specs.Grammar.{at_its_place}
-use Rattle.e_book.proofs.InScope.{read_ok}
+use Rattle.e_line.proofs.Bound.{read_ok}
 use Rattle.e_book.proofs.ParserState.{Counted, Alike}
 
 -- ---- the list of limits, by numbers

@@ -4,15 +4,15 @@ use Rattle.std.specs.Prelude.{codes}
 use Rattle.e_text.specs.Tokens.{tokens_of, AreTokens}
 use Rattle.e_text.proofs.TokenWords.{tokens_of-joined, is_token-title}
 use Rattle.e_literal.specs.declared.object.Sort.TheVariants as sorts
-use Rattle.e_book.specs.declared.form.Form.{Form}
-use Rattle.e_book.specs.declared.form.Form.TheVariants as forms
-use Rattle.e_book.specs.Canonical.{lit_words, form_words, line_of}
+use Rattle.e_line.specs.declared.form.Form.{Form}
+use Rattle.e_line.specs.declared.form.Form.TheVariants as forms
+use Rattle.e_line.specs.Canonical.{lit_words, form_words, line_of}
 use Rattle.e_book.specs.Grammar.{is_skipped}
-use Rattle.e_book.proofs.LetsAgain.{names_tokens, append_tokens, let_tokens}
-use Rattle.e_book.proofs.LitsAgain.{lit_tokens, lits_tokens}
-use Rattle.e_book.proofs.SuperposesAgain.{superpose_tokens}
-use Rattle.e_book.proofs.AppliesAgain.{apply_tokens}
-use Rattle.e_book.proofs.Respelled.{GoodForm}
+use Rattle.e_line.proofs.LetsAgain.{names_tokens, append_tokens, let_tokens}
+use Rattle.e_line.proofs.LitsAgain.{lit_tokens, lits_tokens}
+use Rattle.e_line.proofs.SuperposesAgain.{superpose_tokens}
+use Rattle.e_line.proofs.AppliesAgain.{apply_tokens}
+use Rattle.e_line.proofs.Respelled.{GoodForm}
 
 -- ---- the words of forms are tokens
 

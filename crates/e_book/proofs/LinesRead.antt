@@ -26,26 +26,27 @@ use Rattle.e_book.specs.declared.steps.CloseLine.{CloseLine}
 use Rattle.e_book.specs.declared.steps.CloseLine.TheVariants as closes
 use Rattle.e_book.specs.declared.draft.Place.TheVariants.{Proving, Splitting}
 use Rattle.e_book.specs.declared.draft.Draft.{Draft}
-use Rattle.e_book.specs.Limits.{most_steps, most_depth, most_facts, most_terms, most_blanks, monomials, count_monomials}
+use Rattle.e_line.specs.Limits.{most_steps, most_depth, most_facts, most_terms, most_blanks, monomials, count_monomials}
 use Rattle.e_book.specs.Blocks.{made_in}
-use Rattle.e_book.specs.Headed.{Headed, theorem_of}
-use Rattle.e_book.specs.Applies.{count_blanks}
-use Rattle.e_book.specs.Scope.{scope_of_names, object_as, objects_of_sorts, qed_in}
-use Rattle.e_book.specs.LineLimits.{count_monos, few_objects}
+use Rattle.e_names.specs.Headed.{Headed, theorem_of}
+use Rattle.e_names.specs.Applies.{count_blanks}
+use Rattle.e_names.specs.Scope.{scope_of_names, object_as, objects_of_sorts, qed_in}
+use Rattle.e_line.specs.LineLimits.{count_monos}
+use Rattle.e_book.specs.LineLimits.{few_objects}
 use Rattle.e_book.specs.Steps.{with_step, with_terms, built, used_by, applied, deeper, claimed, superposed, split, counted_from, resumed, closed, shut, stepped, step}
 use Rattle.e_book.specs.DraftViews.{script_of_close}
-use Rattle.e_book.specs.Fits.{is_diagram_lit}
-use Rattle.e_book.specs.Canonical.{raw_of, name_of_object, by_form, hence_form, let_form, apply_form, claim_form, superpose_form, cases_form, else_form, qed_form, contradiction_form}
-use Rattle.e_book.proofs.Respelled.{as_read}
-use Rattle.e_book.proofs.Lookups.{InOrder, object_again}
-use Rattle.e_book.proofs.LitLookups.{lit_number_again}
-use Rattle.e_book.proofs.ShortLits.{few_again, all_few_again, count_again}
-use Rattle.e_book.proofs.PlainLits.{Plain, PlainLit, lits_number_again}
-use Rattle.e_book.proofs.Cited.{by_number_again}
-use Rattle.e_book.proofs.Building.{GoodLet}
-use Rattle.e_book.proofs.Built.{of_sorts_length, let_number_again}
-use Rattle.e_book.proofs.Superposed.{GoodSuperpose, superpose_number_again}
-use Rattle.e_book.proofs.Applied.{GoodApply, apply_number_again}
+use Rattle.e_names.specs.Fits.{is_diagram_lit}
+use Rattle.e_names.specs.Canonical.{raw_of, name_of_object, by_form, hence_form, let_form, apply_form, claim_form, superpose_form, cases_form, else_form, qed_form, contradiction_form}
+use Rattle.e_line.proofs.Respelled.{as_read}
+use Rattle.e_names.proofs.Lookups.{InOrder, object_again}
+use Rattle.e_names.proofs.LitLookups.{lit_number_again}
+use Rattle.e_names.proofs.ShortLits.{few_again, all_few_again, count_again}
+use Rattle.e_names.proofs.PlainLits.{Plain, PlainLit, lits_number_again}
+use Rattle.e_names.proofs.Cited.{by_number_again}
+use Rattle.e_names.proofs.Building.{GoodLet}
+use Rattle.e_names.proofs.Built.{of_sorts_length, let_number_again}
+use Rattle.e_names.proofs.Superposed.{GoodSuperpose, superpose_number_again}
+use Rattle.e_names.proofs.Applied.{GoodApply, apply_number_again}
 
 -- where a line of a proof stands: the open block, and the blocks around it
 pub record Inside : Type 0 where

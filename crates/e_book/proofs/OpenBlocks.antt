@@ -7,7 +7,7 @@ use Rattle.e_deriv.specs.PlainStep.{PlainStep, Cited, Inferred, Made, Applied, C
 use Rattle.e_book.specs.declared.blocks.Outer.{Outer}
 use Rattle.e_book.specs.declared.blocks.Opened.{Opened}
 use Rattle.e_book.specs.declared.blocks.Opened.TheVariants as opened
-use Rattle.e_book.specs.Limits.{most_depth}
+use Rattle.e_line.specs.Limits.{most_depth}
 use Rattle.e_book.specs.Blocks.{made_in}
 use Rattle.e_book.proofs.FittingScripts.{Spot, spot, with_copies, with_lit, ScriptFits, ShownFit, CopyFits, SplitFits}
 

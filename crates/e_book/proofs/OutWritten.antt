@@ -2,26 +2,26 @@
 use Rattle.std.proofs.Common.{◌≡◌, ℕ, List, [], ◌++◌, map, Result, Ok, sym, ap, subst, ◌∙◌, arith}
 use Rattle.e_literal.specs.declared.literal.Lit.{Lit}
 use Rattle.e_deriv.specs.declared.names.Names.{Names}
-use Rattle.e_book.specs.declared.fault.Kind.{Kind}
-use Rattle.e_book.specs.declared.fault.Trouble.{Trouble}
-use Rattle.e_book.specs.declared.literal.RawLit.{RawLit}
-use Rattle.e_book.specs.declared.form.Form.{Form}
-use Rattle.e_book.specs.declared.items.RawItem.{RawItem}
-use Rattle.e_book.specs.declared.items.Listing.{Listing}
+use Rattle.e_line.specs.declared.fault.Kind.{Kind}
+use Rattle.e_line.specs.declared.fault.Trouble.{Trouble}
+use Rattle.e_line.specs.declared.literal.RawLit.{RawLit}
+use Rattle.e_line.specs.declared.form.Form.{Form}
+use Rattle.e_line.specs.declared.items.RawItem.{RawItem}
+use Rattle.e_line.specs.declared.items.Listing.{Listing}
 use Rattle.e_book.specs.declared.draft.Place.{Place}
 use Rattle.e_book.specs.declared.draft.Place.TheVariants as places
 use Rattle.e_book.specs.declared.draft.Draft.{Draft}
-use Rattle.e_book.specs.Reading.{Fails}
-use Rattle.e_book.specs.Titled.{Titled}
-use Rattle.e_book.specs.Canonical.{raw_of}
+use Rattle.e_line.specs.Reading.{Fails}
+use Rattle.e_names.specs.Titled.{Titled}
+use Rattle.e_names.specs.Canonical.{raw_of}
 use Rattle.e_book.specs.LineLimits.{FewNamed}
-use Rattle.e_book.specs.Scope.{FewNames}
+use Rattle.e_names.specs.Scope.{FewNames}
 use Rattle.e_book.specs.Steps.{FitsScope}
-use Rattle.e_book.specs.Items.{listing_form}
-use Rattle.e_book.specs.Meanings.{items_in}
-use Rattle.e_book.specs.inner.Written.{Writes}
+use Rattle.e_line.specs.Items.{listing_form}
+use Rattle.e_names.specs.Meanings.{items_in}
+use Rattle.e_names.specs.inner.Written.{Writes}
 use Rattle.e_book.specs.inner.Machine.{names_at_place, names_there, is_ready, written}
-use Rattle.e_book.proofs.ItemsWritten.{fails_on}
+use Rattle.e_names.proofs.ItemsWritten.{fails_on}
 
 enough : (ns : Names) → FewNamed ns → FewNames ns
 enough ns f = record { points = omega (arith, f.points); lines = omega (arith, f.lines); circles = omega (arith, f.circles) }

@@ -4,22 +4,22 @@ use Rattle.e_literal.specs.declared.literal.Lit.{Lit}
 use Rattle.e_deriv.specs.declared.names.Names.{Names}
 use Rattle.e_deriv.specs.Script.{size}
 use Rattle.e_deriv.specs.PlainStep.{PlainStep, all_before}
-use Rattle.e_book.specs.declared.fault.Kind.{Kind}
+use Rattle.e_line.specs.declared.fault.Kind.{Kind}
 use Rattle.e_book.specs.declared.blocks.Outer.{Outer}
 use Rattle.e_book.specs.declared.blocks.Opened.{Opened}
 use Rattle.e_book.specs.declared.blocks.Opened.TheVariants as opened
 use Rattle.e_book.specs.declared.draft.Draft.{Draft}
 use Rattle.e_book.specs.declared.draft.Place.{Place}
 use Rattle.e_book.specs.declared.draft.Place.TheVariants as places
-use Rattle.e_book.specs.Headed.{Headed}
-use Rattle.e_book.specs.Limits.{most_steps, most_depth, most_facts, most_terms, count_monomials}
+use Rattle.e_names.specs.Headed.{Headed}
+use Rattle.e_line.specs.Limits.{most_steps, most_depth, most_facts, most_terms, count_monomials}
 use Rattle.e_book.specs.LineLimits.{FewNamed}
 use Rattle.e_book.specs.Steps.{FitsOuter}
 use Rattle.e_book.specs.DraftViews.{statement_of_draft, entry_of_draft, script_of_close}
 use Rattle.e_book.specs.Open.{Head, Opener, ByClaim, BySuperposition, ByCase, ByElse, Enclosing, Open, Stating, Proving, Splitting, Proved, Ended}
 use Rattle.e_book.specs.Counts.{LineContext, after_steps, first_context, count_lines, lines_around}
 use Rattle.e_book.specs.Grammar.{is_empty}
-use Rattle.e_book.proofs.InScope.{read_ok}
+use Rattle.e_line.proofs.Bound.{read_ok}
 
 -- ---- what has been said
 

@@ -20,46 +20,49 @@ use Rattle.e_deriv.specs.declared.names.Names.{Names}
 use Rattle.e_deriv.specs.PlainStep.{PlainStep, Cited, Inferred, Made, Applied, Claimed, Copied, all_before}
 use Rattle.e_deriv.specs.Naming.{names_of_sort, with_names, named, declared_names}
 use Rattle.e_deriv.specs.Script.{Script}
-use Rattle.e_book.specs.declared.fault.Kind.{Kind}
-use Rattle.e_book.specs.declared.fault.BookFault.{BookFault}
-use Rattle.e_book.specs.declared.fault.What.TheVariants as limits
-use Rattle.e_book.specs.declared.literal.RawLit.{RawLit}
-use Rattle.e_book.specs.declared.lets.RawLet.{RawLet}
-use Rattle.e_book.specs.declared.superposes.RawSuperpose.{RawSuperpose}
-use Rattle.e_book.specs.declared.applies.RawApply.{RawApply}
+use Rattle.e_line.specs.declared.fault.Kind.{Kind}
+use Rattle.e_line.specs.declared.fault.BookFault.{BookFault}
+use Rattle.e_line.specs.declared.fault.What.TheVariants as limits
+use Rattle.e_line.specs.declared.literal.RawLit.{RawLit}
+use Rattle.e_line.specs.declared.lets.RawLet.{RawLet}
+use Rattle.e_line.specs.declared.superposes.RawSuperpose.{RawSuperpose}
+use Rattle.e_line.specs.declared.applies.RawApply.{RawApply}
 use Rattle.e_book.specs.declared.blocks.Outer.{Outer}
 use Rattle.e_book.specs.declared.blocks.Opened.{Opened}
 use Rattle.e_book.specs.declared.blocks.Opened.TheVariants as opened
-use Rattle.e_book.specs.declared.form.Form.{Form}
-use Rattle.e_book.specs.declared.form.Form.TheVariants as forms
+use Rattle.e_line.specs.declared.form.Form.{Form}
+use Rattle.e_line.specs.declared.form.Form.TheVariants as forms
 use Rattle.e_book.specs.declared.steps.CloseLine.{CloseLine}
 use Rattle.e_book.specs.declared.steps.CloseLine.TheVariants as closes
 use Rattle.e_book.specs.declared.draft.Place.{Place}
 use Rattle.e_book.specs.declared.draft.Place.TheVariants.{Declaring, Giving, Making, Showing, Proving, Splitting, Closed, Done}
 use Rattle.e_book.specs.declared.draft.Draft.{Draft}
-use Rattle.e_book.specs.Reading.{◌>>=◌, with_front}
-use Rattle.e_book.specs.Limits.{most_theorems, most_of, most_steps, most_depth, most_facts, most_blanks, what_of, within, monomials}
+use Rattle.e_line.specs.Reading.{◌>>=◌, with_front}
+use Rattle.e_line.specs.Limits.{most_theorems, most_of, most_steps, most_depth, most_facts, most_blanks, what_of, within, monomials}
 use Rattle.e_book.specs.Blocks.{made_in}
-use Rattle.e_book.specs.Superposes.{placed_in, superpose_in}
-use Rattle.e_book.specs.Headed.{Headed, is_known, theorem_of, title_at, place_in}
-use Rattle.e_book.specs.Scope.{scope_of_names, fresh, lit_in, lits_in, by_in, let_in, qed_in}
-use Rattle.e_book.specs.Applies.{count_blanks, apply_in}
-use Rattle.e_book.specs.Forms.{form_of}
-use Rattle.e_book.specs.LineLimits.{count_monos, few_monos, few_objects}
+use Rattle.e_names.specs.Superposes.{placed_in, superpose_in}
+use Rattle.e_names.specs.Headed.{Headed, is_known, theorem_of, title_at, place_in}
+use Rattle.e_names.specs.Scope.{scope_of_names, fresh, lit_in, lits_in, by_in, let_in, qed_in}
+use Rattle.e_names.specs.Applies.{count_blanks, apply_in}
+use Rattle.e_line.specs.Forms.{form_of}
+use Rattle.e_line.specs.LineLimits.{count_monos, few_monos}
+use Rattle.e_book.specs.LineLimits.{few_objects}
 use Rattle.e_book.specs.Steps.{terms_after, with_terms, allowed, declared, with_step, built, used_by, applied, interrupted, deeper, claimed, superposed, split, counted_from, resumed, closed_inside, closed, shut, stepped, step, begin, begun}
 use Rattle.e_book.specs.DraftViews.{script_of_close, statement_of_draft, entry_of_draft}
 use Rattle.e_book.specs.Entry.{Entry}
 use Rattle.e_book.specs.Grammar.{is_skipped, put_at}
 use Rattle.e_book.specs.Book.{line_step, is_last, is_done, read_from}
 use Rattle.e_book.specs.Fits.{Fits}
-use Rattle.e_book.specs.HasSpelling.{HasSpelling, AreNames, is_plain, is_place, is_named_by_title, names_theorems}
+use Rattle.e_line.specs.HasSpelling.{AreNames}
+use Rattle.e_names.specs.HasSpelling.{is_place, is_named_by_title}
+use Rattle.e_book.specs.HasSpelling.{HasSpelling, is_plain, names_theorems}
 use Rattle.e_book.proofs.Answered.{within_ok, passes, untaken, put_ok, answered, pair, first_is, skip_or, Answer}
-use Rattle.e_book.proofs.InScope.{bind_ok, ok_is, read_ok, each_length}
+use Rattle.e_line.proofs.Bound.{bind_ok, ok_is, read_ok, each_length}
 use Rattle.e_book.proofs.Drafts.{Good}
 use Rattle.e_book.proofs.Keeps.{reading_fits, fits_read, no_title}
-use Rattle.e_book.proofs.SaidForms.{Said, form_said}
+use Rattle.e_names.proofs.SaidForms.{Said, form_said}
 use Rattle.e_book.proofs.KeptSums.{terms_added}
-use Rattle.e_book.proofs.Uses.{GoodUse, use_fits, found_title}
+use Rattle.e_names.proofs.Uses.{GoodUse, use_fits, found_title}
 
 -- ---- names
 

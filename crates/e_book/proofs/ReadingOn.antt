@@ -5,18 +5,18 @@ use Rattle.std.proofs.lemmas.List.{append-nil}
 use Rattle.e_text.specs.Tokens.{tokens_of}
 use Rattle.e_text.specs.Lines.{Seen, HaveNoFault}
 use Rattle.e_text.specs.declared.line.LineFault.{LineFault}
-use Rattle.e_book.specs.declared.fault.Kind.{Kind}
-use Rattle.e_book.specs.declared.fault.Kind.TheVariants as kinds
-use Rattle.e_book.specs.declared.fault.Trouble.{Trouble}
-use Rattle.e_book.specs.declared.fault.Trouble.TheVariants as troubles
-use Rattle.e_book.specs.declared.fault.BookFault.{BookFault}
-use Rattle.e_book.specs.declared.fault.BookFault.TheVariants as faults
+use Rattle.e_line.specs.declared.fault.Kind.{Kind}
+use Rattle.e_line.specs.declared.fault.Kind.TheVariants as kinds
+use Rattle.e_line.specs.declared.fault.Trouble.{Trouble}
+use Rattle.e_line.specs.declared.fault.Trouble.TheVariants as troubles
+use Rattle.e_line.specs.declared.fault.BookFault.{BookFault}
+use Rattle.e_line.specs.declared.fault.BookFault.TheVariants as faults
 use Rattle.e_book.specs.declared.coming.Coming.{Coming}
 use Rattle.e_book.specs.declared.item.Item.{Item}
-use Rattle.e_book.specs.Faults.{trouble_at, line_fault}
-use Rattle.e_book.specs.Reading.{Fails, ◌>>=◌}
-use Rattle.e_book.specs.declared.known.Known.{Known}
-use Rattle.e_book.specs.Titled.{are_notions}
+use Rattle.e_line.specs.Faults.{trouble_at, line_fault}
+use Rattle.e_line.specs.Reading.{Fails, ◌>>=◌}
+use Rattle.e_names.specs.declared.known.Known.{Known}
+use Rattle.e_names.specs.Titled.{are_notions}
 use Rattle.e_book.specs.Grammar.{is_skipped, put_at, BookFails}
 use Rattle.e_book.specs.Definitions.{BookItem, IsGoodItem, view_of}
 use Rattle.e_book.specs.inner.Machine.{line_step, is_done, item_of, at_end, item_from, IsBegun, TakesWords, TakesLine, ReadsOn, end_of}

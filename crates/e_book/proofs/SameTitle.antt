@@ -9,33 +9,34 @@ use Rattle.e_construct.specs.Superposing as superposing
 use Rattle.e_deriv.specs.PlainStep.{PlainStep, Cited, Inferred, Made, Applied, Claimed, Copied, all_before}
 use Rattle.e_deriv.specs.Script.{Script}
 use Rattle.e_deriv.specs.Naming.{named}
-use Rattle.e_book.specs.declared.fault.Kind.{Kind}
-use Rattle.e_book.specs.declared.fault.What.TheVariants as limits
-use Rattle.e_book.specs.declared.literal.RawLit.{RawLit}
-use Rattle.e_book.specs.declared.lets.RawLet.{RawLet}
-use Rattle.e_book.specs.declared.superposes.RawSuperpose.{RawSuperpose}
-use Rattle.e_book.specs.declared.applies.RawApply.{RawApply}
+use Rattle.e_line.specs.declared.fault.Kind.{Kind}
+use Rattle.e_line.specs.declared.fault.What.TheVariants as limits
+use Rattle.e_line.specs.declared.literal.RawLit.{RawLit}
+use Rattle.e_line.specs.declared.lets.RawLet.{RawLet}
+use Rattle.e_line.specs.declared.superposes.RawSuperpose.{RawSuperpose}
+use Rattle.e_line.specs.declared.applies.RawApply.{RawApply}
 use Rattle.e_book.specs.declared.blocks.Outer.{Outer}
 use Rattle.e_book.specs.declared.blocks.Opened.{Opened}
 use Rattle.e_book.specs.declared.blocks.Opened.TheVariants as opened
-use Rattle.e_book.specs.declared.form.Form.{Form}
-use Rattle.e_book.specs.declared.form.Form.TheVariants as forms
+use Rattle.e_line.specs.declared.form.Form.{Form}
+use Rattle.e_line.specs.declared.form.Form.TheVariants as forms
 use Rattle.e_book.specs.declared.steps.CloseLine.{CloseLine}
 use Rattle.e_book.specs.declared.steps.CloseLine.TheVariants as closes
 use Rattle.e_book.specs.declared.draft.Place.TheVariants.{Giving}
 use Rattle.e_book.specs.declared.draft.Draft.{Draft}
-use Rattle.e_book.specs.Reading.{◌>>=◌, with_front}
-use Rattle.e_book.specs.Limits.{most_theorems, most_steps, most_depth, most_facts, most_blanks, within}
-use Rattle.e_book.specs.Headed.{Headed, is_known, theorem_of}
+use Rattle.e_line.specs.Reading.{◌>>=◌, with_front}
+use Rattle.e_line.specs.Limits.{most_theorems, most_steps, most_depth, most_facts, most_blanks, within}
+use Rattle.e_names.specs.Headed.{Headed, is_known, theorem_of}
 use Rattle.e_book.specs.DraftViews.{script_of_close}
 use Rattle.e_book.specs.Blocks.{made_in}
-use Rattle.e_book.specs.Superposes.{superpose_in}
-use Rattle.e_book.specs.Applies.{count_blanks, apply_in}
-use Rattle.e_book.specs.Scope.{scope_of_names, lit_in, lits_in, by_in, let_in, qed_in}
-use Rattle.e_book.specs.LineLimits.{few_monos, few_objects}
+use Rattle.e_names.specs.Superposes.{superpose_in}
+use Rattle.e_names.specs.Applies.{count_blanks, apply_in}
+use Rattle.e_names.specs.Scope.{scope_of_names, lit_in, lits_in, by_in, let_in, qed_in}
+use Rattle.e_line.specs.LineLimits.{few_monos}
+use Rattle.e_book.specs.LineLimits.{few_objects}
 use Rattle.e_book.specs.Steps.{declared, terms_behind, terms_after, with_step, with_terms, built, used_by, applied, deeper, claimed, superposed, split, counted_from, resumed, closed_inside, closed, shut, supposes, shows, cited, inferred, concluded, makes, declares, stepped, step, begin, begun, allowed}
 use Rattle.e_book.proofs.Answered.{passes, untaken}
-use Rattle.e_book.proofs.InScope.{bind_ok, ok_is, read_ok}
+use Rattle.e_line.proofs.Bound.{bind_ok, ok_is, read_ok}
 
 abbrev Same : List ℕ → Result Draft Kind → Type 0
 Same title (Ok e) = e.title ≡ title

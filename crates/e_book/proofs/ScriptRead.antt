@@ -31,27 +31,31 @@ use Rattle.e_book.specs.declared.blocks.Opened.TheVariants as opened
 use Rattle.e_book.specs.declared.steps.CloseLine.{CloseLine}
 use Rattle.e_book.specs.declared.steps.CloseLine.TheVariants as closes
 use Rattle.e_book.specs.declared.draft.Draft.{Draft}
-use Rattle.e_book.specs.Limits.{most_steps, most_depth, most_facts, most_terms, most_blanks, monomials, count_monomials}
+use Rattle.e_line.specs.Limits.{most_steps, most_depth, most_facts, most_terms, most_blanks, monomials, count_monomials}
 use Rattle.e_book.specs.Blocks.{made_in}
-use Rattle.e_book.specs.Headed.{Headed, stated_by, theorem_of}
-use Rattle.e_book.specs.Scope.{scope_of_names}
-use Rattle.e_book.specs.Applies.{count_blanks}
+use Rattle.e_names.specs.Headed.{Headed, stated_by, theorem_of}
+use Rattle.e_names.specs.Scope.{scope_of_names}
+use Rattle.e_names.specs.Applies.{count_blanks}
 use Rattle.e_book.specs.LineLimits.{few_objects}
 use Rattle.e_book.specs.Steps.{closed}
 use Rattle.e_book.specs.Book.{is_done}
-use Rattle.e_book.specs.Fits.{NewNamesFit, few_facts, few_terms, few_blanks, is_diagram_lit, has_good_literals}
-use Rattle.e_book.specs.Canonical.{script_forms, else_form}
-use Rattle.e_book.specs.HasSpelling.{AreNames, is_plain, is_named_by_title, names_theorems}
-use Rattle.e_book.proofs.Lookups.{InOrder, objects_named}
-use Rattle.e_book.proofs.LitLookups.{lit_named}
-use Rattle.e_book.proofs.PlainLits.{Plain, PlainLit, lits_named}
-use Rattle.e_book.proofs.Cited.{by_good}
+use Rattle.e_names.specs.Fits.{is_diagram_lit}
+use Rattle.e_book.specs.Fits.{NewNamesFit, few_facts, few_terms, few_blanks, has_good_literals}
+use Rattle.e_names.specs.Canonical.{else_form}
+use Rattle.e_book.specs.Canonical.{script_forms}
+use Rattle.e_line.specs.HasSpelling.{AreNames}
+use Rattle.e_names.specs.HasSpelling.{is_named_by_title}
+use Rattle.e_book.specs.HasSpelling.{is_plain, names_theorems}
+use Rattle.e_names.proofs.Lookups.{InOrder, objects_named}
+use Rattle.e_names.proofs.LitLookups.{lit_named}
+use Rattle.e_names.proofs.PlainLits.{Plain, PlainLit, lits_named}
+use Rattle.e_names.proofs.Cited.{by_good}
 use Rattle.e_book.proofs.Declared.{Runs, runs_append}
-use Rattle.e_book.proofs.Building.{GoodLet, named_scope}
-use Rattle.e_book.proofs.Growing.{named_in_order}
-use Rattle.e_book.proofs.Built.{of_sorts_in_scope, let_named}
-use Rattle.e_book.proofs.Superposed.{GoodSuperpose, superpose_named}
-use Rattle.e_book.proofs.Applied.{GoodApply, apply_named}
+use Rattle.e_names.proofs.Building.{GoodLet, named_scope}
+use Rattle.e_names.proofs.Growing.{named_in_order}
+use Rattle.e_names.proofs.Built.{of_sorts_in_scope, let_named}
+use Rattle.e_names.proofs.Superposed.{GoodSuperpose, superpose_named}
+use Rattle.e_names.proofs.Applied.{GoodApply, apply_named}
 use Rattle.e_book.proofs.FittingScripts.{line_fits}
 use Rattle.e_book.proofs.ScriptParts.{steps_of, close_of, same_script, at_least, deep_at_least}
 use Rattle.e_book.proofs.LinesRead.{Inside, proving, splitting, behind, deep, written, copied, resume, second, applied_behind, step_cite, step_hence, step_let, step_apply, step_claim, step_superpose, step_cases, step_else, step_qed, step_contradiction, claim_closed, superpose_closed, first_closed, second_closed}

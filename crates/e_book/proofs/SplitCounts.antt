@@ -2,16 +2,16 @@
 use Rattle.std.proofs.Common.{◌≡◌, ℕ, ◌+◌, ◌≤◌, [], ◌∷◌, length, Ok, arith}
 use Rattle.e_literal.specs.declared.literal.Lit.{Lit}
 use Rattle.e_deriv.specs.declared.names.Names.{Names}
-use Rattle.e_book.specs.declared.fault.What.TheVariants as limits
-use Rattle.e_book.specs.declared.literal.RawLit.{RawLit}
-use Rattle.e_book.specs.Limits.{most_terms, monomials, within}
-use Rattle.e_book.specs.Literals.{monos_of}
-use Rattle.e_book.specs.Scope.{lit_in}
-use Rattle.e_book.specs.LineLimits.{count_monos}
+use Rattle.e_line.specs.declared.fault.What.TheVariants as limits
+use Rattle.e_line.specs.declared.literal.RawLit.{RawLit}
+use Rattle.e_line.specs.Limits.{most_terms, monomials, within}
+use Rattle.e_line.specs.Literals.{monos_of}
+use Rattle.e_names.specs.Scope.{lit_in}
+use Rattle.e_line.specs.LineLimits.{count_monos}
 use Rattle.e_book.specs.Steps.{terms_behind}
 use Rattle.e_book.proofs.Answered.{within_ok}
-use Rattle.e_book.proofs.InScope.{bind_ok, read_ok}
-use Rattle.e_book.proofs.WellRead.{lit_count}
+use Rattle.e_line.proofs.Bound.{bind_ok, read_ok}
+use Rattle.e_names.proofs.WellRead.{lit_count}
 
 one_count : (r : RawLit) → count_monos (r ∷ []) ≡ length (monos_of r.atom)
 one_count r = omega arith

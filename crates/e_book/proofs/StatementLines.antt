@@ -9,27 +9,28 @@ use Rattle.e_theorem.specs.Statements.{stated}
 use Rattle.e_deriv.specs.declared.names.Names.{Names}
 use Rattle.e_deriv.specs.PlainStep.{PlainStep}
 use Rattle.e_deriv.specs.Naming.{names_of_sort, declared_names}
-use Rattle.e_book.specs.declared.fault.Kind.{Kind}
-use Rattle.e_book.specs.declared.fault.Kind.TheVariants.{Malformed}
-use Rattle.e_book.specs.declared.fault.What.TheVariants as limits
-use Rattle.e_book.specs.declared.literal.RawLit.{RawLit}
+use Rattle.e_line.specs.declared.fault.Kind.{Kind}
+use Rattle.e_line.specs.declared.fault.Kind.TheVariants.{Malformed}
+use Rattle.e_line.specs.declared.fault.What.TheVariants as limits
+use Rattle.e_line.specs.declared.literal.RawLit.{RawLit}
 use Rattle.e_book.specs.declared.blocks.Outer.{Outer}
-use Rattle.e_book.specs.declared.form.Form.TheVariants as forms
+use Rattle.e_line.specs.declared.form.Form.TheVariants as forms
 use Rattle.e_book.specs.declared.draft.Draft.{Draft}
 use Rattle.e_book.specs.declared.draft.Place.{Place}
 use Rattle.e_book.specs.declared.draft.Place.TheVariants as places
-use Rattle.e_book.specs.Reading.{◌>>=◌}
-use Rattle.e_book.specs.Headed.{Headed}
-use Rattle.e_book.specs.Limits.{most_of, most_steps, most_depth, most_facts, most_terms, what_of, within, count_monomials}
-use Rattle.e_book.specs.Scope.{fresh, lit_in, lits_in}
-use Rattle.e_book.specs.LineLimits.{FewNamed, count_monos, few_monos}
+use Rattle.e_line.specs.Reading.{◌>>=◌}
+use Rattle.e_names.specs.Headed.{Headed}
+use Rattle.e_line.specs.Limits.{most_of, most_steps, most_depth, most_facts, most_terms, what_of, within, count_monomials}
+use Rattle.e_names.specs.Scope.{fresh, lit_in, lits_in}
+use Rattle.e_line.specs.LineLimits.{count_monos, few_monos}
+use Rattle.e_book.specs.LineLimits.{FewNamed}
 use Rattle.e_book.specs.Steps.{allowed, declared, with_terms, declares, supposes, makes, shows, proof_begun}
 use Rattle.e_book.specs.DraftViews.{statement_of_draft}
 use Rattle.e_book.specs.Open.{Open, Stating, Proving}
 use Rattle.e_book.specs.Counts.{LineContext}
 use Rattle.e_book.specs.Grammar.{is_empty, none_made, none_given, with_new, states}
-use Rattle.e_book.proofs.InScope.{read_ok, each_length}
-use Rattle.e_book.proofs.WellRead.{lits_count}
+use Rattle.e_line.proofs.Bound.{read_ok, each_length}
+use Rattle.e_names.proofs.WellRead.{lits_count}
 use Rattle.e_book.proofs.KeptSums.{monomials-append}
 use Rattle.e_book.proofs.Keeps.{few_named}
 use Rattle.e_book.proofs.ParserState.{around_of, head_of, Counted, context_in, BlockTied, UnprovedOf, Stands, Alike, tied_there}

@@ -1,16 +1,16 @@
 -- The literals of a script: certificates and blanks are no part of them, and with good certificates it is written well.
-use Rattle.std.proofs.Common.{◌≡◌, refl, ap, ap₂, Bool, true, ◌&&◌, true≢false, sym}
+use Rattle.std.proofs.Common.{◌≡◌, refl, ap, ap₂, Bool, true, ◌&&◌}
 use Rattle.std.specs.Option.{option_map_or}
 use Rattle.std.specs.List.{list_all}
 use Rattle.std.proofs.lemmas.Bool.{and_from, and_parts}
-use Rattle.e_literal.specs.declared.literal.Atom.{Atom}
-use Rattle.e_literal.specs.declared.literal.Atom.TheVariants.{MagEq, MagLt}
-use Rattle.e_literal.specs.WellFormed.{is_well_formed_atom, is_well_formed}
+use Rattle.e_literal.specs.WellFormed.{is_well_formed}
 use Rattle.e_clause.specs.Written.{is_writable_cert}
 use Rattle.e_deriv.specs.Script.{Script, Cite, Hence, Make, Apply, Claim, Superposed, Qed, Contradiction, Cases, erased}
 use Rattle.e_deriv.specs.Parts.{filled_by, rest_of, inner_of}
 use Rattle.e_deriv.specs.Written.{has_good_certs, is_written_well}
-use Rattle.e_book.specs.Fits.{is_diagram_atom, is_diagram_lit, has_good_literals}
+use Rattle.e_names.specs.Fits.{is_diagram_lit}
+use Rattle.e_book.specs.Fits.{has_good_literals}
+use Rattle.e_names.proofs.Diagrams.{good_diagram}
 
 -- ---- certificates and blanks are no part of the literals
 
@@ -45,12 +45,6 @@ filled_literals (Cases lit first second) f =
     ap₂ {A = Bool} {B = Bool} (λ a b. is_well_formed lit && (a && b)) (filled_literals first (inner_of f)) (filled_literals second (rest_of f))
 
 -- ---- good literals and good certificates
-
--- a diagram atom has no sums
-pub good_diagram : (a : Atom) → is_diagram_atom a ≡ true → is_well_formed_atom a ≡ true
-good_diagram (MagEq x y) h = absurd (true≢false (sym h))
-good_diagram (MagLt x y) h = absurd (true≢false (sym h))
-good_diagram a h = refl
 
 pub written_well : (d : Script) → has_good_literals d ≡ true → has_good_certs d ≡ true → is_written_well d ≡ true
 unfolding has_good_literals has_good_certs is_written_well

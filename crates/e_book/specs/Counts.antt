@@ -11,17 +11,17 @@ use Rattle.e_deriv.specs.declared.names.Names.{Names}
 use Rattle.e_deriv.specs.Naming.{named, declared_names}
 use Rattle.e_deriv.specs.Script.{size}
 use Rattle.e_deriv.specs.PlainStep.{PlainStep, Cited, Inferred, Made, Applied, Claimed, Copied}
-use Rattle.e_book.specs.declared.fault.Kind.{Kind}
-use Rattle.e_book.specs.declared.fault.Kind.TheVariants.{Limit}
-use Rattle.e_book.specs.declared.fault.What.{What}
-use Rattle.e_book.specs.declared.fault.What.TheVariants as limits
-use Rattle.e_book.specs.declared.literal.RawLit.{RawLit}
-use Rattle.e_book.specs.declared.form.Form.{Form}
-use Rattle.e_book.specs.declared.form.Form.TheVariants as forms
-use Rattle.e_book.specs.Headed.{Headed, theorem_of}
-use Rattle.e_book.specs.Scope.{scope_of_names}
-use Rattle.e_book.specs.Limits.{most_of, most_steps, most_depth, most_facts, most_terms, most_blanks, count_monomials}
-use Rattle.e_book.specs.LineLimits.{are_short, are_small}
+use Rattle.e_line.specs.declared.fault.Kind.{Kind}
+use Rattle.e_line.specs.declared.fault.Kind.TheVariants.{Limit}
+use Rattle.e_line.specs.declared.fault.What.{What}
+use Rattle.e_line.specs.declared.fault.What.TheVariants as limits
+use Rattle.e_line.specs.declared.literal.RawLit.{RawLit}
+use Rattle.e_line.specs.declared.form.Form.{Form}
+use Rattle.e_line.specs.declared.form.Form.TheVariants as forms
+use Rattle.e_names.specs.Headed.{Headed, theorem_of}
+use Rattle.e_names.specs.Scope.{scope_of_names}
+use Rattle.e_line.specs.Limits.{most_of, most_steps, most_depth, most_facts, most_terms, most_blanks, count_monomials}
+use Rattle.e_line.specs.LineLimits.{are_short, are_small}
 use Rattle.e_book.specs.Open.{Head, Opener, ByClaim, BySuperposition, ByCase, ByElse, Enclosing, Open, Stating, Proving, Splitting, Proved, Ended}
 
 -- ---- names and facts on the path to a place

@@ -7,31 +7,31 @@ use Rattle.e_theorem.specs.Statements.{stated}
 use Rattle.e_deriv.specs.declared.names.Names.{Names}
 use Rattle.e_deriv.specs.Script.{script_of}
 use Rattle.e_deriv.specs.Fitting.{is_small_statement, IsFitting}
-use Rattle.e_book.specs.declared.fault.Kind.{Kind}
-use Rattle.e_book.specs.declared.fault.Kind.TheVariants.{Malformed, NameTaken}
-use Rattle.e_book.specs.declared.fault.What.TheVariants as limits
-use Rattle.e_book.specs.declared.fault.BookFault.{BookFault}
-use Rattle.e_book.specs.declared.fault.BookFault.TheVariants as faults
-use Rattle.e_book.specs.declared.form.Form.{Form}
-use Rattle.e_book.specs.declared.form.Form.TheVariants as forms
-use Rattle.e_book.specs.declared.items.RawItem.{RawItem}
-use Rattle.e_book.specs.declared.items.Listing.{Listing}
-use Rattle.e_book.specs.declared.items.RawLine.{RawLine}
-use Rattle.e_book.specs.declared.items.RawLine.TheVariants.{Plain, Define, Listed}
+use Rattle.e_line.specs.declared.fault.Kind.{Kind}
+use Rattle.e_line.specs.declared.fault.Kind.TheVariants.{Malformed, NameTaken}
+use Rattle.e_line.specs.declared.fault.What.TheVariants as limits
+use Rattle.e_line.specs.declared.fault.BookFault.{BookFault}
+use Rattle.e_line.specs.declared.fault.BookFault.TheVariants as faults
+use Rattle.e_line.specs.declared.form.Form.{Form}
+use Rattle.e_line.specs.declared.form.Form.TheVariants as forms
+use Rattle.e_line.specs.declared.items.RawItem.{RawItem}
+use Rattle.e_line.specs.declared.items.Listing.{Listing}
+use Rattle.e_line.specs.declared.items.RawLine.{RawLine}
+use Rattle.e_line.specs.declared.items.RawLine.TheVariants.{Plain, Define, Listed}
 use Rattle.e_book.specs.declared.item.Item.{Item}
 use Rattle.e_book.specs.declared.item.Item.TheVariants as items
-use Rattle.e_book.specs.declared.known.Known.{Known}
-use Rattle.e_book.specs.Reading.{◌>>=◌}
-use Rattle.e_book.specs.Faults.{line_fault}
-use Rattle.e_book.specs.Headed.{stated_by}
-use Rattle.e_book.specs.Taken.{is_taken}
-use Rattle.e_book.specs.Titled.{Titled, titled, defines, is_notion}
-use Rattle.e_book.specs.Limits.{most_notions, most_expanded}
-use Rattle.e_book.specs.Canonical.{raw_of}
+use Rattle.e_names.specs.declared.known.Known.{Known}
+use Rattle.e_line.specs.Reading.{◌>>=◌}
+use Rattle.e_line.specs.Faults.{line_fault}
+use Rattle.e_names.specs.Headed.{stated_by}
+use Rattle.e_names.specs.Taken.{is_taken}
+use Rattle.e_names.specs.Titled.{Titled, titled, defines, is_notion}
+use Rattle.e_line.specs.Limits.{most_notions, most_expanded}
+use Rattle.e_names.specs.Canonical.{raw_of}
 use Rattle.e_book.specs.Entry.{Entry, entry_of}
 use Rattle.e_book.specs.HasSpelling.{HasSpelling}
-use Rattle.e_book.specs.Items.{line_of, listing_form, is_show}
-use Rattle.e_book.specs.Meanings.{items_in}
+use Rattle.e_line.specs.Items.{line_of, listing_form, is_show}
+use Rattle.e_names.specs.Meanings.{items_in}
 use Rattle.e_book.specs.Open.{Head, Open, Stating}
 use Rattle.e_book.specs.Counts.{context_at, all_kept}
 use Rattle.e_book.specs.Grammar.{Rest, nothing_said, begins, is_empty, next, line_after, ended, is_skipped, put_at, BookFails}

@@ -3,12 +3,11 @@ use Rattle.std.specs.Prelude.{◌≡◌, ◌⊎◌, ℕ, true, false, [], ◌∷
 use Rattle.e_text.specs.Tokens.{tokens_of}
 use Rattle.e_text.specs.Lines.{Seen}
 use Rattle.e_text.specs.declared.line.LineFault.{LineFault}
-use Rattle.e_book.specs.declared.fault.BookFault.{BookFault}
-use Rattle.e_book.specs.declared.fault.BookFault.TheVariants as faults
-use Rattle.e_book.specs.Faults.{line_fault}
-use Rattle.e_book.specs.declared.known.Known.{Known}
-use Rattle.e_book.specs.Grammar.{is_skipped}
-use Rattle.e_book.specs.Grammar.{Rest}
+use Rattle.e_line.specs.declared.fault.BookFault.{BookFault}
+use Rattle.e_line.specs.declared.fault.BookFault.TheVariants as faults
+use Rattle.e_line.specs.Faults.{line_fault}
+use Rattle.e_names.specs.declared.known.Known.{Known}
+use Rattle.e_book.specs.Grammar.{is_skipped, Rest}
 use Rattle.e_book.specs.Definitions.{Coming, whole, put_there, line_said}
 
 -- these lines are taken one after another, from this on, and leave that

@@ -1,11 +1,8 @@
 -- What a theorem that is read is known to be: its objects are in scope, its names are theirs, it is within the limits.
-use Rattle.std.specs.Prelude.{◌≡◌, ℕ, ◌+◌, ◌≤◌, List, [], ◌∷◌, length, nat_le, Bool, true, false, not, ◌&&◌, IsTrue, Ok}
+use Rattle.std.specs.Prelude.{◌≡◌, ℕ, ◌+◌, ◌≤◌, List, [], length, nat_le, Bool, true, false, ◌&&◌, IsTrue, Ok}
 use Rattle.std.specs.List.{list_all}
 use Rattle.e_literal.specs.declared.object.Scope.{Scope}
 use Rattle.e_literal.specs.declared.object.Sort.TheVariants.{Point, Line, Circle}
-use Rattle.e_literal.specs.declared.literal.Atom.{Atom}
-use Rattle.e_literal.specs.declared.literal.Atom.TheVariants as atoms
-use Rattle.e_literal.specs.declared.literal.Lit.{Lit}
 use Rattle.e_literal.specs.Literal.{all_in_scope}
 use Rattle.e_literal.specs.WellFormed.{is_well_formed}
 use Rattle.e_literal.specs.Scopes.{grown}
@@ -18,32 +15,13 @@ use Rattle.e_deriv.specs.Script.{Script, Cite, Hence, Make, Apply, Claim, Superp
 use Rattle.e_deriv.specs.Lines.{theorem_at, proof_lines}
 use Rattle.e_deriv.specs.Naming.{named, declared_names}
 use Rattle.e_deriv.specs.Fitting.{all_objects, form_fits}
-use Rattle.e_book.specs.Limits.{most_of, most_steps, most_depth, most_facts, most_terms, most_blanks}
-pub use Rattle.e_book.specs.Limits.{monomials, count_monomials}
-use Rattle.e_book.specs.Headed.{Headed, is_known, stated_by}
-pub use Rattle.e_book.specs.Scope.{scope_of_names}
-use Rattle.e_book.specs.Scope.{has, fresh}
-use Rattle.e_book.specs.Applies.{count_blanks}
+use Rattle.e_line.specs.Limits.{most_of, most_steps, most_depth, most_facts, most_terms, most_blanks, monomials, count_monomials}
+use Rattle.e_names.specs.Headed.{Headed, is_known, stated_by}
+use Rattle.e_names.specs.Scope.{scope_of_names, fresh}
+use Rattle.e_names.specs.Applies.{count_blanks}
 use Rattle.e_book.specs.LineLimits.{few_objects}
 use Rattle.e_book.specs.Entry.{Entry}
-
--- no two of the names are equal
-abbrev pub are_distinct : List (List ℕ) → Bool
-are_distinct [] = true
-are_distinct (n ∷ ns) = not (has ns n) && are_distinct ns
-
--- no name of the second list is in the first
-abbrev pub are_apart : List (List ℕ) → List (List ℕ) → Bool
-are_apart ms ns = list_all (λ n. not (has ms n)) ns
-
--- no two objects have one name
-pub record NamesDiffer (ns : Names) : Type 0 where
-  pub points : are_distinct ns.points ≡ true
-  pub lines : are_distinct ns.lines ≡ true
-  pub circles : are_distinct ns.circles ≡ true
-  pub points_lines : are_apart ns.points ns.lines ≡ true
-  pub points_circles : are_apart ns.points ns.circles ≡ true
-  pub lines_circles : are_apart ns.lines ns.circles ≡ true
+use Rattle.e_names.specs.Fits.{NamesDiffer, is_diagram_lit}
 
 -- at each construction, use of an earlier theorem and superposition none of the new names is in scope and no two are equal, there
 -- is one for each new object, and with them not too many objects are in scope
@@ -87,15 +65,6 @@ few_facts before n s (Qed objects certs) = true
 few_facts before n s (Contradiction against) = true
 few_facts before n s (Cases lit first second) =
     nat_le (n + 1) most_facts && (few_facts before (n + 1) s first && few_facts before (n + 1) s second)
-
--- an atom of diagrams or of equal objects
-abbrev pub is_diagram_atom : Atom → Bool
-is_diagram_atom (atoms.MagEq x y) = false
-is_diagram_atom (atoms.MagLt x y) = false
-is_diagram_atom a = true
-
-abbrev pub is_diagram_lit : Lit → Bool
-is_diagram_lit l = is_diagram_atom l.atom
 
 -- the literals of a script are well formed, and no citation speaks of magnitudes
 unfoldable pub has_good_literals : Script → Bool

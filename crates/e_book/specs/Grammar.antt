@@ -9,22 +9,22 @@ use Rattle.e_deriv.specs.PlainStep.{PlainStep, Cited, Inferred, Made, Applied}
 use Rattle.e_text.specs.Tokens.{tokens_of}
 use Rattle.e_text.specs.Lines.{Seen, Ahead}
 use Rattle.e_text.specs.declared.line.LineFault.{LineFault}
-use Rattle.e_book.specs.declared.fault.Kind.{Kind}
-use Rattle.e_book.specs.declared.fault.Kind.TheVariants.{Malformed, NameTaken}
-use Rattle.e_book.specs.declared.fault.What.TheVariants as limits
-use Rattle.e_book.specs.declared.fault.BookFault.{BookFault}
-use Rattle.e_book.specs.declared.fault.BookFault.TheVariants as faults
-use Rattle.e_book.specs.declared.form.Form.{Form}
-use Rattle.e_book.specs.declared.form.Form.TheVariants as forms
-use Rattle.e_book.specs.Reading.{◌>>=◌}
-use Rattle.e_book.specs.Faults.{at_line, line_fault}
-use Rattle.e_book.specs.Headed.{Headed, is_known}
+use Rattle.e_line.specs.declared.fault.Kind.{Kind}
+use Rattle.e_line.specs.declared.fault.Kind.TheVariants.{Malformed, NameTaken}
+use Rattle.e_line.specs.declared.fault.What.TheVariants as limits
+use Rattle.e_line.specs.declared.fault.BookFault.{BookFault}
+use Rattle.e_line.specs.declared.fault.BookFault.TheVariants as faults
+use Rattle.e_line.specs.declared.form.Form.{Form}
+use Rattle.e_line.specs.declared.form.Form.TheVariants as forms
+use Rattle.e_line.specs.Reading.{◌>>=◌}
+use Rattle.e_line.specs.Faults.{at_line, line_fault}
+use Rattle.e_names.specs.Headed.{Headed, is_known}
 use Rattle.e_book.specs.Entry.{Entry}
-use Rattle.e_book.specs.Forms.{form_of}
-use Rattle.e_book.specs.Limits.{most_theorems}
-use Rattle.e_book.specs.Scope.{fresh, lit_in, lits_in, by_in, let_in, qed_in}
-use Rattle.e_book.specs.Superposes.{superpose_in}
-use Rattle.e_book.specs.Applies.{apply_in}
+use Rattle.e_line.specs.Forms.{form_of}
+use Rattle.e_line.specs.Limits.{most_theorems}
+use Rattle.e_names.specs.Scope.{fresh, lit_in, lits_in, by_in, let_in, qed_in}
+use Rattle.e_names.specs.Superposes.{superpose_in}
+use Rattle.e_names.specs.Applies.{apply_in}
 use Rattle.e_book.specs.Open.{Head, Opener, ByClaim, BySuperposition, ByCase, Enclosing, Open, Stating, Proving, Splitting, Proved, Ended, made_inside, after_close}
 use Rattle.e_book.specs.Counts.{context_at, limits_kept, all_kept}
 

@@ -1,15 +1,14 @@
 -- What a theorem is that canonical lines can spell.
-use Rattle.std.specs.Prelude.{◌≡◌, ℕ, ◌<◌, Bool, true, false, ◌&&◌, ◌==◌, List, [], length, nat_lt, Option, None, Some}
-use Rattle.std.specs.List.{list_all, AllByRecursion}
+use Rattle.std.specs.Prelude.{◌≡◌, ◌<◌, Bool, true, false, ◌&&◌, List, [], length, nat_lt, None, Some}
+use Rattle.std.specs.List.{list_all}
 use Rattle.e_text.specs.Names.{is_name, is_title}
 use Rattle.e_deriv.specs.Script.{Script, Cite, Hence, Make, Apply, Claim, Superposed, Qed, Contradiction, Cases}
-use Rattle.e_book.specs.Limits.{most_theorems}
-use Rattle.e_book.specs.Headed.{Headed, place_in, title_at}
+use Rattle.e_line.specs.Limits.{most_theorems}
+use Rattle.e_names.specs.Headed.{Headed}
 use Rattle.e_book.specs.Entry.{Entry}
 use Rattle.e_book.specs.Fits.{Fits}
-
-abbrev pub AreNames : List (List ℕ) → Type 0
-AreNames names = AllByRecursion (λ n. is_name n ≡ true) names
+use Rattle.e_line.specs.HasSpelling.{AreNames}
+use Rattle.e_names.specs.HasSpelling.{is_named_by_title}
 
 -- no line has a certificate, new objects have names, and inner blocks show something
 unfoldable pub is_plain : Script → Bool
@@ -29,15 +28,6 @@ is_plain (Qed objects certs) = false
 is_plain (Contradiction None) = true
 is_plain (Contradiction (Some against)) = false
 is_plain (Cases lit first second) = is_plain first && is_plain second
-
--- a place, if it is found, is this one
-abbrev pub is_place : ℕ → Option ℕ → Bool
-is_place k None = false
-is_place k (Some i) = i == k
-
--- the theorem at a place has a title, and is the first with it
-abbrev pub is_named_by_title : List Headed → ℕ → Bool
-is_named_by_title known k = is_title (title_at known k) && is_place k (place_in known (title_at known k))
 
 -- the earlier theorems that a script uses can be named by their titles
 unfoldable pub names_theorems : List Headed → Script → Bool

@@ -6,16 +6,19 @@ use Rattle.e_literal.specs.declared.literal.Lit.{Lit}
 use Rattle.e_literal.specs.Literal.{all_in_scope}
 use Rattle.e_literal.specs.WellFormed.{is_well_formed}
 use Rattle.e_deriv.specs.declared.names.Names.{Names}
-use Rattle.e_book.specs.declared.fault.BookFault.{BookFault}
-use Rattle.e_book.specs.declared.known.Known.{Known}
-use Rattle.e_book.specs.Titled.{Titled, defines, are_notions}
+use Rattle.e_line.specs.declared.fault.BookFault.{BookFault}
+use Rattle.e_names.specs.declared.known.Known.{Known}
+use Rattle.e_names.specs.Titled.{Titled, defines, are_notions}
 use Rattle.e_book.specs.Entry.{Entry}
 use Rattle.e_book.specs.Definitions.{OfTheorem, OfNotion, item_from, IsGood}
 use Rattle.e_book.specs.FirstFault.{BreaksAt, IsFirst}
-use Rattle.e_book.specs.Scope.{scope_of_names, lit_in}
-use Rattle.e_book.specs.Fits.{NamesDiffer}
-use Rattle.e_book.specs.Canonical.{raw_of, forms_of, line_of}
-use Rattle.e_book.specs.HasSpelling.{AreNames, HasSpelling}
+use Rattle.e_names.specs.Scope.{scope_of_names, lit_in}
+use Rattle.e_names.specs.Fits.{NamesDiffer}
+use Rattle.e_names.specs.Canonical.{raw_of}
+use Rattle.e_line.specs.Canonical.{line_of}
+use Rattle.e_book.specs.Canonical.{forms_of}
+use Rattle.e_line.specs.HasSpelling.{AreNames}
+use Rattle.e_book.specs.HasSpelling.{HasSpelling}
 
 -- the lines ahead begin with these texts, whatever their numbers and ends, and the rest follows
 abbrev pub Shows : List (Result Seen LineFault) → List (List ℕ) → List (Result Seen LineFault) → Type 0

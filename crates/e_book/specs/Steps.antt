@@ -10,35 +10,36 @@ use Rattle.e_deriv.specs.declared.names.Names.{Names}
 use Rattle.e_deriv.specs.Naming.{names_of_sort, with_names, named, declared_names}
 use Rattle.e_deriv.specs.PlainStep.{PlainStep, Cited, Inferred, Made, Applied, Claimed, Copied, all_before}
 use Rattle.e_deriv.specs.Script.{Script}
-use Rattle.e_book.specs.declared.fault.Kind.{Kind}
-use Rattle.e_book.specs.declared.fault.Kind.TheVariants.{Malformed, NameTaken}
-use Rattle.e_book.specs.declared.fault.What.TheVariants as limits
-use Rattle.e_book.specs.declared.literal.RawLit.{RawLit}
-use Rattle.e_book.specs.declared.lets.RawLet.{RawLet}
-use Rattle.e_book.specs.declared.superposes.RawSuperpose.{RawSuperpose}
-use Rattle.e_book.specs.declared.applies.RawApply.{RawApply}
+use Rattle.e_line.specs.declared.fault.Kind.{Kind}
+use Rattle.e_line.specs.declared.fault.Kind.TheVariants.{Malformed, NameTaken}
+use Rattle.e_line.specs.declared.fault.What.TheVariants as limits
+use Rattle.e_line.specs.declared.literal.RawLit.{RawLit}
+use Rattle.e_line.specs.declared.lets.RawLet.{RawLet}
+use Rattle.e_line.specs.declared.superposes.RawSuperpose.{RawSuperpose}
+use Rattle.e_line.specs.declared.applies.RawApply.{RawApply}
 use Rattle.e_book.specs.declared.blocks.Outer.{Outer}
 use Rattle.e_book.specs.declared.blocks.Opened.{Opened}
 use Rattle.e_book.specs.declared.blocks.Opened.TheVariants as opened
-use Rattle.e_book.specs.declared.form.Form.{Form}
-use Rattle.e_book.specs.declared.form.Form.TheVariants as forms
+use Rattle.e_line.specs.declared.form.Form.{Form}
+use Rattle.e_line.specs.declared.form.Form.TheVariants as forms
 use Rattle.e_book.specs.declared.steps.CloseLine.{CloseLine}
 use Rattle.e_book.specs.declared.steps.CloseLine.TheVariants as closes
 use Rattle.e_book.specs.declared.draft.Place.{Place}
 use Rattle.e_book.specs.declared.draft.Place.TheVariants.{Declaring, Giving, Making, Showing, Proving, Splitting, Closed, Done}
 use Rattle.e_book.specs.declared.draft.Draft.{Draft}
 use Rattle.e_book.specs.declared.inner.Around.{Around}
-use Rattle.e_book.specs.declared.fault.Trouble.{Trouble}
-use Rattle.e_book.specs.Reading.{◌>>=◌, with_front, Fails}
-use Rattle.e_book.specs.Limits.{most_theorems, most_of, most_steps, most_depth, most_facts, most_terms, most_blanks, what_of, within, monomials, count_monomials}
+use Rattle.e_line.specs.declared.fault.Trouble.{Trouble}
+use Rattle.e_line.specs.Reading.{◌>>=◌, with_front, Fails}
+use Rattle.e_line.specs.Limits.{most_theorems, most_of, most_steps, most_depth, most_facts, most_terms, most_blanks, what_of, within, monomials, count_monomials}
 use Rattle.e_theorem.specs.Statements.{stated}
-use Rattle.e_book.specs.Headed.{Headed, is_known, theorem_of}
+use Rattle.e_names.specs.Headed.{Headed, is_known, theorem_of}
 use Rattle.e_book.specs.DraftViews.{statement_of_draft, script_of_close}
-use Rattle.e_book.specs.LineLimits.{few_objects, count_monos, few_monos, FewNamed}
+use Rattle.e_line.specs.LineLimits.{count_monos, few_monos}
+use Rattle.e_book.specs.LineLimits.{few_objects, FewNamed}
 use Rattle.e_book.specs.Blocks.{made_in}
-use Rattle.e_book.specs.Superposes.{superpose_in}
-use Rattle.e_book.specs.Scope.{scope_of_names, fresh, lit_in, lits_in, by_in, let_in, qed_in}
-use Rattle.e_book.specs.Applies.{count_blanks, apply_in}
+use Rattle.e_names.specs.Superposes.{superpose_in}
+use Rattle.e_names.specs.Scope.{scope_of_names, fresh, lit_in, lits_in, by_in, let_in, qed_in}
+use Rattle.e_names.specs.Applies.{count_blanks, apply_in}
 
 -- which lines may come at a place
 abbrev pub allowed : Place → Form → Bool

@@ -2,16 +2,16 @@
 ghost use Rattle.std.specs.Prelude.{◌≡◌, ◌<◌, ◌^◌, length, None, IfOk, OnOk, IfSome, OnSome, IsTrue};
 ghost use Rattle.std.specs.List.{list_all};
 ghost use Rattle.e_deriv.specs.Fitting.{is_small_statement};
-ghost use Rattle.e_book.specs.Headed.{stated_by};
-ghost use Rattle.e_book.specs.Titled.{are_notions};
+ghost use Rattle.e_names.specs.Headed.{stated_by};
+ghost use Rattle.e_names.specs.Titled.{are_notions};
 ghost use Rattle.e_book.specs.Grammar.{last_line};
 ghost use Rattle.e_book.specs.Definitions.{item_from, BookReads, IsGoodItem, IsFittingItem};
 ghost use Rattle.e_book.specs.inner.Machine as machine;
 
-use crate::fault::BookFault;
 use crate::item::Item;
-use crate::known::Known;
 use crate::reading::Reading;
+use e_line::BookFault;
+use e_names::Known;
 use e_text::Lines;
 use std::alloc::Global;
 use std::mem;

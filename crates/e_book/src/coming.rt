@@ -1,26 +1,20 @@
 //! A theorem or a definition while its lines come.
 ghost use Rattle.std.specs.Prelude.{◌≡◌, ◌≤◌, ◌+◌, [], IfOk, OnOk, IsTrue};
-ghost use Rattle.e_book.specs.Reading.{Gives, Moves};
-ghost use Rattle.e_book.specs.Limits.{most_expanded};
-ghost use Rattle.e_book.specs.Titled.{are_notions};
-ghost use Rattle.e_book.specs.Items.{listing_form, superpose_form, is_show};
-ghost use Rattle.e_book.specs.Scope.{right_count};
+ghost use Rattle.e_line.specs.Reading.{Gives, Moves};
+ghost use Rattle.e_line.specs.Limits.{most_expanded};
+ghost use Rattle.e_names.specs.Titled.{are_notions};
+ghost use Rattle.e_line.specs.Items.{listing_form, superpose_form, is_show};
+ghost use Rattle.e_names.specs.Scope.{right_count};
 ghost use Rattle.e_book.specs.Definitions.{has_notion_title, OfNotion, view_of};
 ghost use Rattle.e_book.specs.Steps.{allowed, FitsScope};
 ghost use Rattle.e_book.specs.inner.Machine.{FitsComing, is_ready, written, begins, begins_theorem, begins_definition, step, goes_on, defines_on, lists, item_of, notion_of_draft};
 
 use crate::draft::{Draft, Place, allowed};
-use crate::fault::{Kind, Trouble, What};
-use crate::form::Form;
 use crate::item::Item;
-use crate::items::{Listing, RawItem, RawLine};
-use crate::known::Known;
-use crate::limits::{MAX_EXPANDED, MAX_NOTIONS, within};
-use crate::literal::RawLit;
-use crate::meanings::put_items;
-use crate::scope::fresh;
-use crate::superposes::{RawSuperpose, placed_in};
+use crate::limits::MAX_NOTIONS;
+use e_line::{Form, Kind, Listing, RawItem, RawLine, RawLit, RawSuperpose, Trouble, What, within};
 use e_literal::Items;
+use e_names::{Known, MAX_EXPANDED, fresh, placed_in, put_items};
 use e_text::{Name, Title};
 use e_theorem::Notion;
 use std::alloc::{AllocError, Global};

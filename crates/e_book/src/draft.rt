@@ -1,29 +1,27 @@
 //! A theorem while its lines come.
 ghost use Rattle.std.specs.Prelude.{◌≡◌, ◌≤◌, ◌<◌, ◌+◌, ◌^◌, ◌++◌, length, replicate, IfOk, OnOk, Ok, Err};
-ghost use Rattle.e_book.specs.Reading.{Gives, Moves};
+ghost use Rattle.e_line.specs.Reading.{Gives, Moves};
 ghost use Rattle.e_construct.specs.Construct.{gives_of_construction};
-ghost use Rattle.e_book.specs.Scope.{names_of_sort, with_names};
+ghost use Rattle.e_names.specs.Scope.{names_of_sort, with_names};
 ghost use Rattle.e_deriv.specs.Naming.{named};
 ghost use Rattle.e_book.specs.LineLimits.{few_objects, FewNamed};
 ghost use Rattle.e_book.specs.Steps.{allowed, declared, no_names, count_names};
 
-use crate::applies::{Application, RawApply, apply_in, count_blanks};
 use crate::blocks::Outers;
-use crate::fault::{Kind, Trouble, What};
-use crate::form::Form;
-use crate::lets::RawLet;
 use crate::limits::{
-    MAX_BLANKS, MAX_FACTS, MAX_STEPS, MAX_THEOREMS, few_monos, few_objects, most_of, terms_of,
-    terms_with, what_of, within,
+    MAX_BLANKS, MAX_FACTS, MAX_STEPS, MAX_THEOREMS, few_objects, most_of, terms_of, terms_with,
+    what_of,
 };
-use crate::literal::RawLit;
-use crate::scope::{by_in, fresh, let_in, lit_in, put_lits, put_names, scope_of_names};
 use crate::steps::{CloseLine, Steps};
 use crate::theorem::Theorem;
-use crate::theorems::Theorems;
 use e_construct::Construction;
 use e_deriv::{Names, Step};
+use e_line::{Form, Kind, RawApply, RawLet, RawLit, Trouble, What, few_monos, within};
 use e_literal::{Items, Lit, NOTHING, Scope, Sort, grown};
+use e_names::{
+    Application, Theorems, apply_in, by_in, count_blanks, fresh, let_in, lit_in, put_lits,
+    put_names, scope_of_names,
+};
 use e_text::{Name, Title};
 use e_theorem::Statement;
 use std::alloc::{AllocError, Global};
@@ -158,7 +156,7 @@ impl Draft {
     ghost use Rattle.e_deriv.specs.Naming.{named};
     ghost use Rattle.e_deriv.specs.PlainStep.{plain_step};
     ghost use Rattle.e_theorem.specs.Statements.{stated};
-    ghost use Rattle.e_book.specs.Limits.{most_theorems};
+    ghost use Rattle.e_line.specs.Limits.{most_theorems};
     ghost use Rattle.e_book.specs.LineLimits.{few_objects};
     ghost use Rattle.e_book.specs.Steps.{FitsScope, begin, begun, step, stepped, declares, supposes, makes, shows, proof_begun, cited, inferred, with_step, with_terms, built, used_by, applied};
     ghost use Rattle.e_book.specs.DraftViews.{entry_of_draft};

@@ -1,23 +1,20 @@
 //! Blocks inside a theorem while its lines come: what begins one, and what closes it.
 ghost use Rattle.std.specs.Prelude.{◌≡◌, ◌≤◌, ◌+◌, ◌++◌, ◌∷◌, [], length, IfOk, OnOk, Ok, Err};
-ghost use Rattle.e_book.specs.Reading.{Gives, Moves};
+ghost use Rattle.e_line.specs.Reading.{Gives, Moves};
 ghost use Rattle.e_deriv.specs.Naming.{named};
 ghost use Rattle.e_book.specs.LineLimits.{few_objects, FewNamed};
 
 use crate::blocks::{Closed, Opened, Outer};
 use crate::draft::{Draft, Place};
-use crate::fault::{Kind, Trouble, What};
 use crate::limits::{
-    MAX_DEPTH, MAX_FACTS, MAX_STEPS, facts_of, few_monos, few_objects, monomials, terms_of,
-    terms_with, within,
+    MAX_DEPTH, MAX_FACTS, MAX_STEPS, facts_of, few_objects, monomials, terms_of, terms_with,
 };
-use crate::literal::RawLit;
-use crate::scope::{lit_in, put_lits, put_names, qed_in, scope_of_names};
 use crate::steps::{CloseLine, Steps};
-use crate::superposes::{Placement, RawSuperpose, superpose_in};
 use e_construct::Superpose;
 use e_deriv::{Names, Step};
+use e_line::{Kind, RawLit, RawSuperpose, Trouble, What, few_monos, within};
 use e_literal::{Items, Lit, Sort};
+use e_names::{Placement, lit_in, put_lits, put_names, qed_in, scope_of_names, superpose_in};
 use e_text::Name;
 use std::alloc::{AllocError, Global};
 use std::{mem, slice};
@@ -52,7 +49,7 @@ fn names_with(alloc: Global, names: &Names, sorts: &[Sort], new: &[Name]) -> Res
 impl Draft {
     ghost use Rattle.e_deriv.specs.Naming.{named};
     ghost use Rattle.e_deriv.specs.PlainStep.{plain_step, Claimed, Copied, all_before};
-    ghost use Rattle.e_book.specs.Limits.{most_depth, most_terms};
+    ghost use Rattle.e_line.specs.Limits.{most_depth, most_terms};
     ghost use Rattle.e_book.specs.LineLimits.{few_objects};
     ghost use Rattle.e_book.specs.Steps.{FitsScope, FitsOuter, HasRoom, ClosesInside, concluded, with_terms, room_inside, interrupted, begun_with, begun_terms, claimed, superposed, copies_begun, split, outer_with, resumed, second_begun, closed, shut};
     ghost use Rattle.e_book.specs.Blocks.{made_in};

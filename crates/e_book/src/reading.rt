@@ -2,19 +2,17 @@
 ghost use Rattle.std.specs.Prelude.{◌≡◌, ◌<◌, ◌^◌, length, None, IfOk, OnOk, IfSome, OnSome, IsTrue};
 ghost use Rattle.e_text.specs.Lines.{seen};
 ghost use Rattle.e_text.specs.Tokens.{tokens_of};
-ghost use Rattle.e_book.specs.Reading.{texts, Gives};
+ghost use Rattle.e_line.specs.Reading.{texts, Gives};
 ghost use Rattle.e_book.specs.Grammar.{starts_with_hash, is_skipped, last_line};
-ghost use Rattle.e_book.specs.Titled.{are_notions};
+ghost use Rattle.e_names.specs.Titled.{are_notions};
 ghost use Rattle.e_book.specs.Definitions.{IsGoodItem};
 ghost use Rattle.e_book.specs.inner.Machine.{FitsComing, line_step, is_done, IsBegun, TakesWords, TakesLine, ReadsOn, end_of};
 
 use crate::coming::Coming;
 use crate::draft::Place;
-use crate::fault::{BookFault, Trouble, of_line};
 use crate::item::Item;
-use crate::items::line_of;
-use crate::known::Known;
-use crate::words::collected;
+use e_line::{BookFault, Trouble, collected, line_of, of_line};
+use e_names::Known;
 use e_text::{Line, Lines};
 use std::alloc::Global;
 use std::mem;

@@ -2,16 +2,16 @@
 use Rattle.std.proofs.Common.{◌≡◌, ◌∙◌, ℕ, ◌^◌, cond, true, ltb, List, [], ◌∷◌, length, Option, Some, None, Result, Ok, Err, sym, ap, subst}
 use Rattle.std.specs.Prelude.{codes, ◌==◌}
 use Rattle.std.specs.Str.{bytes_eq}
-use Rattle.e_book.specs.declared.fault.Kind.{Kind}
-use Rattle.e_book.specs.declared.fault.Kind.TheVariants.{Malformed}
-use Rattle.e_book.specs.declared.literal.RawLit.{RawLit}
-use Rattle.e_book.specs.declared.sum.RawTerm.{RawTerm}
-use Rattle.e_book.specs.Reading.{◌>>=◌, title_at, end_at, names_of}
+use Rattle.e_line.specs.declared.fault.Kind.{Kind}
+use Rattle.e_line.specs.declared.fault.Kind.TheVariants.{Malformed}
+use Rattle.e_line.specs.declared.literal.RawLit.{RawLit}
+use Rattle.e_line.specs.declared.sum.RawTerm.{RawTerm}
+use Rattle.e_line.specs.Reading.{◌>>=◌, title_at, end_at, names_of}
 use Rattle.e_text.specs.Numerals.{number_of}
-use Rattle.e_book.specs.Sums.{term_of}
-use Rattle.e_book.specs.Literals.{lit_of, diagram_lit_of}
-use Rattle.e_book.proofs.InScope.{bind_ok, ok_is, read_ok}
-use Rattle.e_book.proofs.Choices.{either, passed}
+use Rattle.e_line.specs.Sums.{term_of}
+use Rattle.e_line.specs.Literals.{lit_of, diagram_lit_of}
+use Rattle.e_line.proofs.Bound.{bind_ok, ok_is, read_ok}
+use Rattle.e_line.proofs.Choices.{either, passed}
 use Rattle.e_cert.specs.declared.mark.RawRow.{RawRow}
 use Rattle.e_cert.specs.declared.mark.RawRow.TheVariants as rows
 use Rattle.e_cert.specs.declared.mark.Mark.{Mark}

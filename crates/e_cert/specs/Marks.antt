@@ -6,12 +6,12 @@ use Rattle.e_text.specs.Tokens.{joined}
 use Rattle.e_text.specs.Numerals.{number_of}
 use Rattle.e_clause.specs.declared.cert.Version.{Version}
 use Rattle.e_clause.specs.Versions.{by_literals, by_places}
-use Rattle.e_book.specs.declared.fault.Kind.{Kind}
-use Rattle.e_book.specs.declared.fault.Kind.TheVariants.{Malformed}
-use Rattle.e_book.specs.Reading.{◌>>=◌, title_at, end_at, names_of}
-use Rattle.e_book.specs.Sums.{term_of}
-use Rattle.e_book.specs.Literals.{lit_of, diagram_lit_of}
-use Rattle.e_book.specs.Canonical.{term_words, lit_words}
+use Rattle.e_line.specs.declared.fault.Kind.{Kind}
+use Rattle.e_line.specs.declared.fault.Kind.TheVariants.{Malformed}
+use Rattle.e_line.specs.Reading.{◌>>=◌, title_at, end_at, names_of}
+use Rattle.e_line.specs.Sums.{term_of}
+use Rattle.e_line.specs.Literals.{lit_of, diagram_lit_of}
+use Rattle.e_line.specs.Canonical.{term_words, lit_words}
 use Rattle.e_cert.specs.declared.mark.RawRow.{RawRow}
 use Rattle.e_cert.specs.declared.mark.RawRow.TheVariants as rows
 use Rattle.e_cert.specs.declared.mark.Mark.{Mark}

@@ -17,12 +17,12 @@ use Rattle.e_clause.specs.Instance.{Inst, number_of_rule}
 use Rattle.e_clause.specs.Sigs.{sig_of}
 use Rattle.e_clause.specs.RuleKinds.{is_transfer}
 use Rattle.e_deriv.specs.declared.names.Names.{Names}
-use Rattle.e_book.specs.declared.fault.Kind.{Kind}
-use Rattle.e_book.specs.declared.fault.Kind.TheVariants.{Malformed}
-use Rattle.e_book.specs.declared.literal.RawLit.{RawLit}
-use Rattle.e_book.specs.Reading.{◌>>=◌, or_malformed}
-use Rattle.e_book.specs.Scope.{lit_in, term_in, args_in, variables_of, right_count}
-use Rattle.e_book.specs.LineLimits.{few_monos}
+use Rattle.e_line.specs.declared.fault.Kind.{Kind}
+use Rattle.e_line.specs.declared.fault.Kind.TheVariants.{Malformed}
+use Rattle.e_line.specs.declared.literal.RawLit.{RawLit}
+use Rattle.e_line.specs.Reading.{◌>>=◌, or_malformed}
+use Rattle.e_names.specs.Scope.{lit_in, term_in, args_in, variables_of, right_count}
+use Rattle.e_line.specs.LineLimits.{few_monos}
 use Rattle.e_cert.specs.declared.mark.RawRow.{RawRow}
 use Rattle.e_cert.specs.declared.mark.RawRow.TheVariants as rows
 use Rattle.e_cert.specs.declared.mark.Mark.{Mark}

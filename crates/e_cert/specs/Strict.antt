@@ -1,9 +1,9 @@
 -- Lines of certificates that are spelled as their form is.
 use Rattle.std.specs.Prelude.{ℕ, Bool, true, ◌&&◌, List, Result, Ok, Err, if◌then◌else◌}
 use Rattle.std.specs.Str.{bytes_eq}
-use Rattle.e_book.specs.declared.fault.Kind.{Kind}
-use Rattle.e_book.specs.declared.fault.Kind.TheVariants.{Malformed}
-use Rattle.e_book.specs.Reading.{◌>>=◌}
+use Rattle.e_line.specs.declared.fault.Kind.{Kind}
+use Rattle.e_line.specs.declared.fault.Kind.TheVariants.{Malformed}
+use Rattle.e_line.specs.Reading.{◌>>=◌}
 use Rattle.e_cert.specs.declared.mark.RawRow.{RawRow}
 use Rattle.e_cert.specs.declared.mark.RawRow.TheVariants as rows
 use Rattle.e_cert.specs.declared.mark.Mark.{Mark}

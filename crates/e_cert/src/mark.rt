@@ -1,11 +1,11 @@
 //! The lines of certificates, told from their words by spelling alone.
 ghost use Rattle.std.specs.Prelude.{◌≡◌};
-ghost use Rattle.e_book.specs.Reading.{texts, Gives};
+ghost use Rattle.e_line.specs.Reading.{texts, Gives};
 ghost use Rattle.e_cert.specs.Marks.{size_of, multiplier_of, place_of, fact_row_of, bare_row, row_named, row_of, may_differ, bare, differs_of, transfer_of, fact_mark_of, row_mark_of, mark_named, mark_of, row_is_of, mark_is_of};
 ghost use Rattle.e_clause.specs.Versions.{by_literals, by_places};
 
-use e_book::{Kind, RawLit, RawTerm, Trouble, Words, diagram_lit_of, lit_of, names_of, term_of};
 use e_clause::Version;
+use e_line::{Kind, RawLit, RawTerm, Trouble, Words, diagram_lit_of, lit_of, names_of, term_of};
 use e_literal::Items;
 use e_text::{Name, Title, is, number};
 use std::alloc::Global;
@@ -199,7 +199,7 @@ fn differs_of(alloc: Global, words: &[&[u8]]) -> Result<Mark, Trouble>
 }
 
 /// A rule, and the names of its arguments.
-#[tactic(auto, unfolding(crate::specs::Marks::transfer_of, e_book::specs::Reading::title_at, e_book::specs::Reading::word_at))]
+#[tactic(auto, unfolding(crate::specs::Marks::transfer_of, e_line::specs::Reading::title_at, e_line::specs::Reading::word_at))]
 fn transfer_of(alloc: Global, words: &[&[u8]]) -> Result<Mark, Trouble>
     ensures { Gives (λ m. m) result (transfer_of (texts words.now)) }
 {

@@ -1,12 +1,11 @@
 //! The line of each form of certificate, spelled with the names that it has.
 ghost use Rattle.std.specs.Prelude.{◌≡◌, ◌++◌, ◌∷◌, [], codes, decimal, OnOk};
 ghost use Rattle.e_text.specs.Tokens.{spaced};
-ghost use Rattle.e_book.specs.Canonical.{term_words};
+ghost use Rattle.e_line.specs.Canonical.{term_words};
 ghost use Rattle.e_cert.specs.Marks.{row_words, mark_words, mark_line};
 
 use crate::mark::{Mark, RawRow};
-use e_book::RawTerm;
-use e_line::{put_literal, put_term};
+use e_line::{RawTerm, put_literal, put_term};
 use e_words::{put, put_names, put_number};
 use std::alloc::AllocError;
 

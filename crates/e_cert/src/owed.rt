@@ -2,18 +2,19 @@
 ghost use Rattle.std.specs.Prelude.{◌≡◌, ◌+◌, ◌++◌, ◌∷◌, [], length, IfOk, Some, None};
 ghost use Rattle.e_clause.specs.Instance.{number_of_rule};
 ghost use Rattle.e_clause.specs.declared.cert.Part.TheVariants as parts;
-ghost use Rattle.e_book.specs.Reading.{Gives};
-ghost use Rattle.e_book.specs.Scope.{FewNames};
+ghost use Rattle.e_line.specs.Reading.{Gives};
+ghost use Rattle.e_names.specs.Scope.{FewNames};
 ghost use Rattle.e_cert.specs.Owed.{fact_in, row_in, with_row, row_put, sum_begun, differs_put, sums_ended, has_more, transfer_put, part_put, metric_put, takes_metric, clash_put, transfer_rule, count_others, transfer_at, transfer_in, transfer_begun, ended, marked, kept_of, settled};
 
 use crate::kept::{Certs, Kept, Rows};
 use crate::mark::{Mark, RawRow};
-use e_book::{Kind, RawLit, Trouble, args_in, few_monos, lit_in, term_in};
 use e_clause::{
     Against, Cert, InstanceFault, MetricCert, Part, RowName, Rule, Sums, TransferCert, instance,
 };
 use e_deriv::Names;
+use e_line::{Kind, RawLit, Trouble, few_monos};
 use e_literal::{Items, Lit, Obj, same};
+use e_names::{args_in, lit_in, term_in};
 use e_text::{Name, Title};
 use std::alloc::Global;
 use std::{mem, slice};

@@ -1,14 +1,13 @@
 //! Lines of certificates that are spelled as their form is.
 ghost use Rattle.std.specs.Prelude.{◌≡◌, IfOk};
-ghost use Rattle.e_book.specs.Reading.{texts, Gives};
+ghost use Rattle.e_line.specs.Reading.{texts, Gives};
 ghost use Rattle.e_cert.specs.Marks.{mark_line};
 ghost use Rattle.e_line.specs.Strict.{is_direct};
 ghost use Rattle.e_cert.specs.Strict.{is_strict_row, is_strict_mark, strict_mark};
 
 use crate::mark::{Mark, RawRow, mark_of};
 use crate::marks::put_mark;
-use e_book::{Kind, Trouble};
-use e_line::is_direct;
+use e_line::{Kind, Trouble, is_direct};
 use std::alloc::{AllocError, Global};
 use std::mem;
 

@@ -1,8 +1,8 @@
 -- What is written of a plan is what is written of its text.
 use Rattle.std.proofs.Common.{◌≡◌, ℕ, ◌+◌, ◌<◌, ◌^◌, List, length, Result, Ok, Err, ap, sym, ◌∙◌, arith}
 use Rattle.e_text.proofs.WholeLines.{length-lines_of}
-use Rattle.e_book.specs.declared.fault.BookFault.{BookFault}
-use Rattle.e_book.specs.Reading.{◌>>=◌}
+use Rattle.e_line.specs.declared.fault.BookFault.{BookFault}
+use Rattle.e_line.specs.Reading.{◌>>=◌}
 use Rattle.e_book.specs.Grammar.{BookFails}
 use Rattle.e_drawing.specs.declared.plan.Plan.{Plan}
 use Rattle.e_drawing.specs.declared.drawing.Drawing.{Drawing}

@@ -9,12 +9,12 @@ use Rattle.e_figure.specs.declared.figure.Point.{Point}
 use Rattle.e_figure.specs.declared.figure.Straight.{Straight}
 use Rattle.e_figure.specs.declared.figure.Round.{Round}
 use Rattle.e_figure.specs.Figure.{with_point, with_line, with_circle}
-use Rattle.e_book.specs.Limits.{most_of, what_of, within}
-use Rattle.e_book.specs.Reading.{◌>>=◌}
-use Rattle.e_book.specs.Scope.{fresh}
+use Rattle.e_line.specs.Limits.{most_of, what_of, within}
+use Rattle.e_line.specs.Reading.{◌>>=◌}
+use Rattle.e_names.specs.Scope.{fresh}
 use Rattle.e_book.specs.LineLimits.{FewNamed}
 use Rattle.e_book.specs.Steps.{declared}
-use Rattle.e_book.proofs.InScope.{bind_ok, ok_is}
+use Rattle.e_line.proofs.Bound.{bind_ok, ok_is}
 use Rattle.e_drawing.specs.declared.plan.Plan.{Plan}
 use Rattle.e_drawing.specs.Plans.{FitsPlan}
 

@@ -3,16 +3,16 @@ use Rattle.std.proofs.Common.{◌≡◌, ℕ, Bool, true, false, cond, List, [],
 use Rattle.e_text.specs.Tokens.{tokens_of}
 use Rattle.e_text.specs.Lines.{Seen, HaveNoFault}
 use Rattle.e_text.specs.declared.line.LineFault.{LineFault}
-use Rattle.e_book.specs.declared.fault.Kind.{Kind}
-use Rattle.e_book.specs.declared.fault.Kind.TheVariants as kinds
-use Rattle.e_book.specs.declared.fault.Trouble.{Trouble}
-use Rattle.e_book.specs.declared.fault.Trouble.TheVariants as troubles
-use Rattle.e_book.specs.declared.fault.BookFault.{BookFault}
-use Rattle.e_book.specs.declared.fault.BookFault.TheVariants as faults
-use Rattle.e_book.specs.Faults.{trouble_at, line_fault}
-use Rattle.e_book.specs.Reading.{◌>>=◌, Fails}
+use Rattle.e_line.specs.declared.fault.Kind.{Kind}
+use Rattle.e_line.specs.declared.fault.Kind.TheVariants as kinds
+use Rattle.e_line.specs.declared.fault.Trouble.{Trouble}
+use Rattle.e_line.specs.declared.fault.Trouble.TheVariants as troubles
+use Rattle.e_line.specs.declared.fault.BookFault.{BookFault}
+use Rattle.e_line.specs.declared.fault.BookFault.TheVariants as faults
+use Rattle.e_line.specs.Faults.{trouble_at, line_fault}
+use Rattle.e_line.specs.Reading.{◌>>=◌, Fails}
 use Rattle.e_book.specs.Grammar.{is_skipped, put_at, BookFails}
-use Rattle.e_book.proofs.InScope.{bind_ok}
+use Rattle.e_line.proofs.Bound.{bind_ok}
 use Rattle.e_drawing.specs.declared.plan.Plan.{Plan}
 use Rattle.e_drawing.specs.Texts.{words_step, at_end, plan_from, PlanIs, TakesLine}
 

@@ -3,10 +3,11 @@ use Rattle.std.specs.Prelude.{◌≡◌, ℕ, List, [], ◌∷◌, ◌++◌, fla
 use Rattle.e_literal.specs.declared.literal.Lit.{Lit}
 use Rattle.e_deriv.specs.declared.names.Names.{Names}
 use Rattle.e_text.specs.Tokens.{spaced}
-use Rattle.e_book.specs.declared.fault.BookFault.{BookFault}
-use Rattle.e_book.specs.Canonical.{lit_words, raw_of}
+use Rattle.e_line.specs.declared.fault.BookFault.{BookFault}
+use Rattle.e_line.specs.Canonical.{lit_words}
+use Rattle.e_names.specs.Canonical.{raw_of}
 use Rattle.e_book.specs.Grammar.{BookFails}
-use Rattle.e_book.specs.Reading.{◌>>=◌}
+use Rattle.e_line.specs.Reading.{◌>>=◌}
 use Rattle.e_figure.specs.Figure.{FigureView}
 use Rattle.e_figure.specs.Truth.{is_true}
 use Rattle.e_figure.specs.Cite.{is_refuted}

@@ -4,10 +4,10 @@ use Rattle.std.specs.Str.{bytes_eq}
 use Rattle.e_figure.specs.declared.figure.Straight.{Straight}
 use Rattle.e_figure.specs.declared.figure.Round.{Round}
 use Rattle.e_figure.specs.Figure.{has_direction, has_inside}
-use Rattle.e_book.specs.declared.fault.Kind.{Kind}
-use Rattle.e_book.specs.declared.fault.Kind.TheVariants.{Malformed}
-use Rattle.e_book.specs.Reading.{◌>>=◌, name_at, end_at}
-use Rattle.e_book.specs.Literals.{diagram_lits_of}
+use Rattle.e_line.specs.declared.fault.Kind.{Kind}
+use Rattle.e_line.specs.declared.fault.Kind.TheVariants.{Malformed}
+use Rattle.e_line.specs.Reading.{◌>>=◌, name_at, end_at}
+use Rattle.e_line.specs.Literals.{diagram_lits_of}
 use Rattle.e_drawing.specs.declared.raw.RawLine.{RawLine}
 use Rattle.e_drawing.specs.declared.raw.RawLine.TheVariants as raw
 use Rattle.e_drawing.specs.Numbers.{coordinate_at, square_at}

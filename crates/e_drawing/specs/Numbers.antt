@@ -1,9 +1,9 @@
 -- The numbers of a figure text.
 use Rattle.std.specs.Prelude.{ℕ, ◌+◌, ◌&&◌, ◌==◌, nat_lt, min, List, [], ◌∷◌, ℤ, pos, neg_ℤ, Result, Ok, Err, if◌then◌else◌}
 use Rattle.e_text.specs.Numerals.{is_numeral, value_from}
-use Rattle.e_book.specs.declared.fault.Kind.{Kind}
-use Rattle.e_book.specs.declared.fault.Kind.TheVariants.{Malformed}
-use Rattle.e_book.specs.Reading.{◌>>=◌, word_at}
+use Rattle.e_line.specs.declared.fault.Kind.{Kind}
+use Rattle.e_line.specs.declared.fault.Kind.TheVariants.{Malformed}
+use Rattle.e_line.specs.Reading.{◌>>=◌, word_at}
 
 -- the largest size of a coordinate, and of a number of a direction
 abbrev pub most_size : ℕ

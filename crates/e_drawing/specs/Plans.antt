@@ -5,13 +5,14 @@ use Rattle.e_figure.specs.declared.figure.Point.{Point}
 use Rattle.e_figure.specs.declared.figure.Straight.{Straight}
 use Rattle.e_figure.specs.declared.figure.Round.{Round}
 use Rattle.e_figure.specs.Figure.{view_of, scope_of, is_small_point, is_small_line, is_small_circle, with_point, with_line, with_circle}
-use Rattle.e_book.specs.declared.fault.Kind.{Kind}
-use Rattle.e_book.specs.declared.fault.Kind.TheVariants.{Malformed}
-use Rattle.e_book.specs.declared.fault.What.TheVariants as limits
-use Rattle.e_book.specs.declared.literal.RawLit.{RawLit}
-use Rattle.e_book.specs.Reading.{◌>>=◌, with_front}
-use Rattle.e_book.specs.Scope.{lits_in, scope_of_names}
-use Rattle.e_book.specs.LineLimits.{or_limit, FewNamed}
+use Rattle.e_line.specs.declared.fault.Kind.{Kind}
+use Rattle.e_line.specs.declared.fault.Kind.TheVariants.{Malformed}
+use Rattle.e_line.specs.declared.fault.What.TheVariants as limits
+use Rattle.e_line.specs.declared.literal.RawLit.{RawLit}
+use Rattle.e_line.specs.Reading.{◌>>=◌, with_front}
+use Rattle.e_names.specs.Scope.{lits_in, scope_of_names}
+use Rattle.e_line.specs.LineLimits.{or_limit}
+use Rattle.e_book.specs.LineLimits.{FewNamed}
 use Rattle.e_book.specs.Steps.{declared, no_names}
 use Rattle.e_drawing.specs.declared.raw.RawLine.{RawLine}
 use Rattle.e_drawing.specs.declared.raw.RawLine.TheVariants as raw

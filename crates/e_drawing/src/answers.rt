@@ -3,11 +3,11 @@ ghost use Rattle.std.specs.Prelude.{◌≡◌, ◌++◌, flat_map, length, OnOk}
 ghost use Rattle.e_drawing.specs.Answers.{given_word, shown_word, answer_line, given_line, shown_line, figure_line, answered};
 
 use crate::plan::Plan;
-use e_book::raw_of;
 use e_deriv::Names;
 use e_figure::{Figure, holds, refutes};
 use e_line::put_literal;
 use e_literal::Lit;
+use e_names::raw_of;
 use e_words::{end_line, put_number};
 use std::alloc::{AllocError, Global};
 use std::mem;

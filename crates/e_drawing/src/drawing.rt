@@ -7,7 +7,7 @@ ghost use Rattle.e_drawing.specs.Texts.{plan_of, PlanIs};
 use crate::answers::put_answers;
 use crate::plan::Plan;
 use crate::reading::read_plan;
-use e_book::BookFault;
+use e_line::BookFault;
 use e_text::Lines;
 use std::alloc::{AllocError, Global};
 use std::mem;

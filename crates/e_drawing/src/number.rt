@@ -1,10 +1,10 @@
 //! The numbers of a figure text, by their words.
 ghost use Rattle.std.specs.Prelude.{◌≡◌, ◌≤◌, true};
 ghost use Rattle.e_text.specs.Numerals.{is_numeral};
-ghost use Rattle.e_book.specs.Reading.{Gives, Reads};
+ghost use Rattle.e_line.specs.Reading.{Gives, Reads};
 ghost use Rattle.e_drawing.specs.Numbers.{most_size, most_square, value_to, unsigned_of, negative_of, coordinate_of, square_of, coordinate_at, square_at};
 
-use e_book::{Kind, Trouble, Words};
+use e_line::{Kind, Trouble, Words};
 use e_text::{number, numeral};
 
 /// The largest size of a coordinate, and of a number of a direction.

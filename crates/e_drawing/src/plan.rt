@@ -1,18 +1,20 @@
 //! A figure while its lines come.
 ghost use Rattle.std.specs.Prelude.{◌≡◌, OnOk, IsTrue};
-ghost use Rattle.e_book.specs.Reading.{Gives, Moves};
-ghost use Rattle.e_book.specs.LineLimits.{or_limit};
-ghost use Rattle.e_book.specs.declared.fault.What.TheVariants as limits;
+ghost use Rattle.e_line.specs.Reading.{Gives, Moves};
+ghost use Rattle.e_line.specs.LineLimits.{or_limit};
+ghost use Rattle.e_line.specs.declared.fault.What.TheVariants as limits;
 ghost use Rattle.e_figure.specs.Figure.{has_direction, has_inside};
 ghost use Rattle.e_drawing.specs.Plans.{allowed, FitsPlan};
 ghost use Rattle.e_drawing.specs.Plans as plans;
 ghost use Rattle.e_drawing.specs.inner.Good.{IsGoodLine};
 
 use crate::raw::RawLine;
-use e_book::{Kind, RawLit, Trouble, What, declare, no_names, put_lits};
+use e_book::{declare, no_names};
 use e_deriv::Names;
 use e_figure::{Figure, Point, Round, Straight, is_small_circle, is_small_line, is_small_point};
+use e_line::{Kind, RawLit, Trouble, What};
 use e_literal::{Items, Lit, Sort};
+use e_names::put_lits;
 use e_text::Name;
 use std::alloc::Global;
 use std::slice;

@@ -1,12 +1,12 @@
 //! The lines of a figure text, told from their words by spelling alone.
 ghost use Rattle.std.specs.Prelude.{IfOk};
-ghost use Rattle.e_book.specs.Reading.{texts, Gives};
+ghost use Rattle.e_line.specs.Reading.{texts, Gives};
 ghost use Rattle.e_drawing.specs.inner.Good.{IsGoodLine};
 ghost use Rattle.e_drawing.specs.Lines.{point_of, straight_of, round_of, alone, line_named, line_of};
 
 use crate::number::{coordinate, square};
-use e_book::{Kind, RawLit, Trouble, Words, diagram_lits_of};
 use e_figure::{Point, Round, Straight, has_direction, has_inside};
+use e_line::{Kind, RawLit, Trouble, Words, diagram_lits_of};
 use e_literal::Items;
 use e_text::{Name, is};
 use std::alloc::Global;

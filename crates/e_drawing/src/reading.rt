@@ -3,13 +3,14 @@ ghost use Rattle.std.specs.Prelude.{◌≡◌, ◌<◌, ◌^◌, OnOk};
 ghost use Rattle.e_text.specs.Lines.{seen};
 ghost use Rattle.e_text.specs.Tokens.{tokens_of};
 ghost use Rattle.e_book.specs.Grammar.{last_line};
-ghost use Rattle.e_book.specs.Reading.{texts, Moves};
+ghost use Rattle.e_line.specs.Reading.{texts, Moves};
 ghost use Rattle.e_drawing.specs.Plans.{FitsPlan};
 ghost use Rattle.e_drawing.specs.Texts.{at_end, words_step, plan_from, PlanIs, TakesLine};
 
 use crate::plan::Plan;
 use crate::raw::line_of;
-use e_book::{BookFault, Trouble, collected, is_skipped, of_line};
+use e_book::is_skipped;
+use e_line::{BookFault, Trouble, collected, of_line};
 use e_text::{Line, Lines};
 use std::alloc::Global;
 use std::mem;

@@ -3,10 +3,10 @@ use Rattle.std.proofs.Common.{◌≡◌, inl, inr, ℕ, zero, suc, ◌+◌, ◌<
 use Rattle.e_clause.specs.declared.cert.Version.{Version}
 use Rattle.e_theorem.specs.Statements.{stated}
 use Rattle.e_deriv.specs.Certified.{is_certified, derivation_lines, verdict}
-use Rattle.e_book.specs.Reading.{◌>>=◌}
-use Rattle.e_book.specs.Headed.{Headed, stated_by}
+use Rattle.e_line.specs.Reading.{◌>>=◌}
+use Rattle.e_names.specs.Headed.{Headed, stated_by}
 use Rattle.e_book.specs.Entry.{Entry}
-use Rattle.e_book.proofs.InScope.{bind_ok}
+use Rattle.e_line.proofs.Bound.{bind_ok}
 use Rattle.e_read.specs.declared.reading.Reading.{Reading}
 use Rattle.e_read.specs.Text.{Piece, Derived, Last, at_start, taken, garbled_at, finished, or_on, is_end, piece_from}
 use Rattle.e_read.proofs.TakenLines.{either}

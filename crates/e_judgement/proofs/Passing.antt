@@ -6,7 +6,7 @@ use Rattle.e_text.specs.Lines.{Seen, Ahead}
 use Rattle.e_clause.specs.declared.cert.Version.{Version}
 use Rattle.e_theorem.specs.Statements.{stated}
 use Rattle.e_deriv.specs.Fitting.{is_small_statement}
-use Rattle.e_book.specs.Headed.{Headed, stated_by}
+use Rattle.e_names.specs.Headed.{Headed, stated_by}
 use Rattle.e_book.specs.Entry.{Entry}
 use Rattle.e_book.specs.Grammar.{last_line}
 use Rattle.e_book.proofs.Fitting.{one_more_stated}

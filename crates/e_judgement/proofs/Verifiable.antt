@@ -9,7 +9,7 @@ use Rattle.e_theorem.specs.Statements.{stated}
 use Rattle.e_deriv.specs.Script.{erased}
 use Rattle.e_deriv.specs.Goal.{facts_of_statement, goal_of_statement}
 use Rattle.e_deriv.specs.Fitting.{is_small_statement, IsFitting}
-use Rattle.e_book.specs.Headed.{Headed, stated_by}
+use Rattle.e_names.specs.Headed.{Headed, stated_by}
 use Rattle.e_book.specs.Entry.{Entry}
 use Rattle.e_book.specs.HasSpelling.{HasSpelling}
 use Rattle.e_book.proofs.Fitting.{fitting}

@@ -8,7 +8,7 @@ use Rattle.e_clause.specs.declared.cert.Version.{Version}
 use Rattle.e_clause.specs.declared.cert.Version.TheVariants.{One, Two}
 use Rattle.e_theorem.specs.Statements.{stated}
 use Rattle.e_deriv.specs.Certified.{Certified, verdict}
-use Rattle.e_book.specs.Headed.{Headed, headed, stated_by}
+use Rattle.e_names.specs.Headed.{Headed, headed, stated_by}
 use Rattle.e_book.specs.Entry.{Entry}
 use Rattle.e_read.specs.Text.{at_start, piece_from, Derived, Last, is_lf_end}
 use Rattle.e_judgement.specs.declared.judgement.Judgement.{Judgement}

@@ -2,14 +2,15 @@
 ghost use Rattle.std.specs.Prelude.{◌≡◌, ◌≤◌, ◌^◌, ◌++◌, ◌∷◌, [], false, length, IfOk, OnOk};
 ghost use Rattle.e_text.specs.Lines.{seen};
 ghost use Rattle.e_book.specs.Grammar.{last_line};
-ghost use Rattle.e_book.specs.Headed.{headed, is_known};
+ghost use Rattle.e_names.specs.Headed.{headed, is_known};
 ghost use Rattle.e_judgement.specs.Judged.{head_of, is_head, version_of, JudgesText, IsJudged};
 ghost use Rattle.e_judgement.specs.Steps.{Begins};
 
 use crate::judgement::Judgement;
 use crate::next::{NextItem, next_item};
-use e_book::{Theorem, Theorems};
+use e_book::Theorem;
 use e_clause::Version;
+use e_names::Theorems;
 use e_text::{Line, LineEnd, Lines};
 use std::alloc::{AllocError, Global};
 use std::mem;

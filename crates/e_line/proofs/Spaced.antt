@@ -3,8 +3,8 @@ use Rattle.std.proofs.Common.{◌≡◌, ℕ, ◌+◌, ◌<◌, add-one, List, [
 use Rattle.std.proofs.lemmas.List.{append-nil}
 use Rattle.e_text.specs.Tokens.{spaced}
 use Rattle.e_words.proofs.Spaced.{spaced_append}
-use Rattle.e_book.specs.declared.literal.RawLit.{RawLit}
-use Rattle.e_book.specs.Canonical.{lit_words, more_words, lits_words}
+use Rattle.e_line.specs.declared.literal.RawLit.{RawLit}
+use Rattle.e_line.specs.Canonical.{lit_words, more_words, lits_words}
 
 -- words are written, and then more words
 pub after : (a b c : List ℕ) (xs ys : List (List ℕ)) → b ≡ a ++ spaced xs → c ≡ b ++ spaced ys → c ≡ a ++ spaced (xs ++ ys)

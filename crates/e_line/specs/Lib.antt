@@ -1,1 +1,14 @@
+pub mod Reading
+pub mod Limits
+pub mod Sums
+pub mod Literals
+pub mod Lets
+pub mod Superposes
+pub mod Forms
+pub mod LineLimits
+pub mod Applies
+pub mod Faults
+pub mod Canonical
+pub mod HasSpelling
+pub mod Items
 pub mod Strict

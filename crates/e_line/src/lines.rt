@@ -2,12 +2,15 @@
 ghost use Rattle.std.specs.Prelude.{◌≡◌, ◌++◌, ◌∷◌, [], codes, map, OnOk};
 ghost use Rattle.e_text.specs.Tokens.{spaced};
 ghost use Rattle.e_construct.specs.Views.{piece_view};
-ghost use Rattle.e_book.specs.declared.form.Form.TheVariants as forms;
-ghost use Rattle.e_book.specs.Superposes.{superpose_pieces};
-ghost use Rattle.e_book.specs.Canonical.{lit_words, lits_words, filled, line_pieces, avoid_words, argument_word, made_words, line_of};
+ghost use Rattle.e_line.specs.declared.form.Form.TheVariants as forms;
+ghost use Rattle.e_line.specs.Superposes.{superpose_pieces};
+ghost use Rattle.e_line.specs.Canonical.{lit_words, lits_words, filled, line_pieces, avoid_words, argument_word, made_words, line_of};
 
+use crate::form::Form;
+use crate::literal::RawLit;
 use crate::literals::{put_literal, put_literals};
-use e_book::{Form, RawLit, sort_word, superposition_pieces};
+use crate::superposes::superposition_pieces;
+use crate::words::sort_word;
 use e_construct::{Piece, Shape, pieces};
 use e_text::Name;
 use e_words::{put, put_names};

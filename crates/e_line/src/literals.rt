@@ -1,9 +1,10 @@
 //! Terms, sums and literals, with the names that they have.
 ghost use Rattle.std.specs.Prelude.{◌≡◌, ◌++◌, ◌∷◌, [], true, OnOk};
 ghost use Rattle.e_text.specs.Tokens.{spaced};
-ghost use Rattle.e_book.specs.Canonical.{term_words, mono_words, more_monos, sum_words, sums_words, atom_words, not_words, lit_words, more_words, lits_words};
+ghost use Rattle.e_line.specs.Canonical.{term_words, mono_words, more_monos, sum_words, sums_words, atom_words, not_words, lit_words, more_words, lits_words};
 
-use e_book::{RawAtom, RawLit, RawMono, RawTerm};
+use crate::literal::{RawAtom, RawLit};
+use crate::sum::{RawMono, RawTerm};
 use e_text::Name;
 use e_words::{put, put_coefficient, put_four, put_three};
 use std::alloc::AllocError;

@@ -1,12 +1,14 @@
 //! Lines that are spelled as their form is.
 ghost use Rattle.std.specs.Prelude.{◌≡◌, is_some, IfOk};
 ghost use Rattle.std.specs.List.{list_all};
-ghost use Rattle.e_book.specs.Canonical.{line_of};
-ghost use Rattle.e_book.specs.Reading.{texts, Gives};
+ghost use Rattle.e_line.specs.Canonical.{line_of};
+ghost use Rattle.e_line.specs.Reading.{texts, Gives};
 ghost use Rattle.e_line.specs.Strict.{is_less, is_direct, are_direct, is_strict, strict_of};
 
+use crate::fault::{Kind, Trouble};
+use crate::form::{Form, form_of};
 use crate::lines::put_form;
-use e_book::{Form, Kind, RawAtom, RawLit, Trouble, form_of};
+use crate::literal::{RawAtom, RawLit};
 use e_text::Name;
 use std::alloc::{AllocError, Global};
 use std::mem;

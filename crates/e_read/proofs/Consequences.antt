@@ -8,7 +8,7 @@ use Rattle.e_clause.specs.declared.cert.Version.{Version}
 use Rattle.e_deriv.specs.Script.{Script, erased, script_of}
 use Rattle.e_deriv.specs.Versions.{has_certs_of}
 use Rattle.e_deriv.specs.Fitting.{is_small_statement}
-use Rattle.e_book.specs.Headed.{Headed}
+use Rattle.e_names.specs.Headed.{Headed}
 use Rattle.e_book.specs.Entry.{Entry, entry_of}
 use Rattle.e_book.specs.HasSpelling.{HasSpelling}
 use Rattle.e_book.proofs.Answered.{answered, pair}

@@ -10,8 +10,8 @@ use Rattle.e_book.specs.declared.blocks.Outer.{Outer}
 use Rattle.e_book.specs.declared.blocks.Opened.{Opened}
 use Rattle.e_book.specs.declared.blocks.Opened.TheVariants as opened
 use Rattle.e_book.specs.Blocks.{is_claim, has_claim, made_in}
-use Rattle.e_book.specs.Scope.{scope_of_names, qed_in}
-use Rattle.e_book.proofs.Building.{qed_fits}
+use Rattle.e_names.specs.Scope.{scope_of_names, qed_in}
+use Rattle.e_names.proofs.Building.{qed_fits}
 use Rattle.e_read.specs.Needs.{shown_inside, claimed}
 
 pub qed_sorts : (ns : Names) (sorts : List Sort) (names : List (List ℕ)) (os : List Obj) → qed_in ns sorts names ≡ Ok os → map (λ (o : Obj). o.sort) os ≡ sorts

@@ -7,20 +7,20 @@ use Rattle.e_literal.specs.declared.literal.Lit.{Lit}
 use Rattle.e_literal.proofs.Booleans.{all_both}
 use Rattle.e_construct.specs.Construct.{needs_of_construction}
 use Rattle.e_construct.specs.Superposing as superposing
-use Rattle.e_book.specs.declared.fault.Kind.{Kind}
-use Rattle.e_book.specs.declared.form.Form.{Form}
-use Rattle.e_book.specs.declared.form.Form.TheVariants as forms
+use Rattle.e_line.specs.declared.fault.Kind.{Kind}
+use Rattle.e_line.specs.declared.form.Form.{Form}
+use Rattle.e_line.specs.declared.form.Form.TheVariants as forms
 use Rattle.e_book.specs.declared.draft.Draft.{Draft}
-use Rattle.e_book.specs.Reading.{◌>>=◌}
-use Rattle.e_book.specs.Headed.{Headed}
+use Rattle.e_line.specs.Reading.{◌>>=◌}
+use Rattle.e_names.specs.Headed.{Headed}
 use Rattle.e_book.specs.DraftViews.{entry_of_draft}
 use Rattle.e_book.specs.Entry.{Entry}
 use Rattle.e_book.specs.Book.{is_done}
 use Rattle.e_book.specs.Steps.{begin, step}
-use Rattle.e_book.specs.Scope.{lit_in, let_in}
-use Rattle.e_book.specs.Superposes.{superpose_in}
-use Rattle.e_book.proofs.InScope.{bind_ok, ok_is, read_ok}
-use Rattle.e_book.proofs.Choices.{passed}
+use Rattle.e_names.specs.Scope.{lit_in, let_in}
+use Rattle.e_names.specs.Superposes.{superpose_in}
+use Rattle.e_line.proofs.Bound.{bind_ok, ok_is, read_ok}
+use Rattle.e_line.proofs.Choices.{passed}
 use Rattle.e_cert.specs.declared.owed.Due.{Due}
 use Rattle.e_cert.specs.declared.owed.Due.TheVariants as due
 use Rattle.e_cert.specs.declared.owed.Owed.{Owed}

@@ -2,7 +2,7 @@
 use Rattle.std.proofs.Common.{◌≡◌, ℕ, false, true, List, [], ◌∷◌, Option, Some, None, Result, Ok, Err, refl, sym, ap, subst, ◌∙◌}
 use Rattle.e_text.specs.Lines.{Seen, fault_line}
 use Rattle.e_text.specs.declared.line.LineFault.{LineFault}
-use Rattle.e_book.specs.Headed.{Headed}
+use Rattle.e_names.specs.Headed.{Headed}
 use Rattle.e_book.specs.Entry.{Entry}
 use Rattle.e_book.specs.declared.draft.Draft.{Draft}
 use Rattle.e_cert.specs.declared.kept.Kept.{Kept}

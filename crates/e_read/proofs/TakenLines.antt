@@ -6,19 +6,19 @@ use Rattle.std.specs.Option.{option_to_list}
 use Rattle.std.proofs.lemmas.Bool.{eqb-true}
 use Rattle.e_text.specs.Tokens.{tokens_of}
 use Rattle.e_text.specs.Lines.{Seen}
-use Rattle.e_book.specs.declared.fault.Kind.{Kind}
-use Rattle.e_book.specs.declared.fault.Kind.TheVariants.{Malformed}
-use Rattle.e_book.specs.declared.form.Form.{Form}
+use Rattle.e_line.specs.declared.fault.Kind.{Kind}
+use Rattle.e_line.specs.declared.fault.Kind.TheVariants.{Malformed}
+use Rattle.e_line.specs.declared.form.Form.{Form}
 use Rattle.e_book.specs.declared.draft.Draft.{Draft}
-use Rattle.e_book.specs.Reading.{◌>>=◌}
-use Rattle.e_book.specs.Forms.{form_of, form_named}
-use Rattle.e_book.specs.Headed.{Headed}
+use Rattle.e_line.specs.Reading.{◌>>=◌}
+use Rattle.e_line.specs.Forms.{form_of, form_named}
+use Rattle.e_names.specs.Headed.{Headed}
 use Rattle.e_book.specs.Steps.{begin, step}
 use Rattle.e_book.specs.Grammar.{starts_with_hash, is_skipped}
 use Rattle.e_book.specs.Book.{line_step}
-use Rattle.e_book.specs.Canonical.{line_of}
-use Rattle.e_book.proofs.InScope.{bind_ok, ok_is}
-use Rattle.e_book.proofs.Choices.{passed}
+use Rattle.e_line.specs.Canonical.{line_of}
+use Rattle.e_line.proofs.Bound.{bind_ok, ok_is}
+use Rattle.e_line.proofs.Choices.{passed}
 use Rattle.e_cert.specs.declared.mark.Mark.{Mark}
 use Rattle.e_cert.specs.declared.owed.Owed.{Owed}
 use Rattle.e_cert.specs.declared.kept.Kept.{Kept}

@@ -4,7 +4,7 @@ use Rattle.e_text.specs.Tokens.{tokens_of}
 use Rattle.e_text.specs.Lines.{Seen}
 use Rattle.e_clause.specs.declared.cert.Version.{Version}
 use Rattle.e_text.specs.declared.line.LineFault.{LineFault}
-use Rattle.e_book.specs.Headed.{Headed}
+use Rattle.e_names.specs.Headed.{Headed}
 use Rattle.e_book.specs.Entry.{Entry}
 use Rattle.e_book.specs.Grammar.{read_from}
 use Rattle.e_read.specs.Text.{Derived, is_bar, at_start, piece_from, bare}

@@ -8,21 +8,21 @@ use Rattle.e_construct.specs.Construct.{needs_of_construction}
 use Rattle.e_construct.specs.Superposing as superposing
 use Rattle.e_theorem.specs.Statements.{stated}
 use Rattle.e_deriv.specs.Goal.{Goal, goal_of, goal_of_statement, goal_with}
-use Rattle.e_book.specs.declared.fault.Kind.{Kind}
+use Rattle.e_line.specs.declared.fault.Kind.{Kind}
 use Rattle.e_book.specs.declared.blocks.Outer.{Outer}
 use Rattle.e_book.specs.declared.blocks.Opened.{Opened}
 use Rattle.e_book.specs.declared.blocks.Opened.TheVariants as opened
-use Rattle.e_book.specs.declared.applies.RawApply.{RawApply}
-use Rattle.e_book.specs.declared.form.Form.{Form}
-use Rattle.e_book.specs.declared.form.Form.TheVariants as forms
+use Rattle.e_line.specs.declared.applies.RawApply.{RawApply}
+use Rattle.e_line.specs.declared.form.Form.{Form}
+use Rattle.e_line.specs.declared.form.Form.TheVariants as forms
 use Rattle.e_book.specs.declared.draft.Draft.{Draft}
-use Rattle.e_book.specs.Reading.{◌>>=◌, each, or_malformed}
-use Rattle.e_book.specs.Headed.{Headed, theorem_of}
+use Rattle.e_line.specs.Reading.{◌>>=◌, each, or_malformed}
+use Rattle.e_names.specs.Headed.{Headed, theorem_of}
 use Rattle.e_book.specs.DraftViews.{statement_of_draft}
 use Rattle.e_book.specs.Blocks.{made_in}
-use Rattle.e_book.specs.Scope.{scope_of_names, lit_in, let_in, qed_in}
-use Rattle.e_book.specs.Superposes.{superpose_in}
-use Rattle.e_book.specs.Applies.{apply_in}
+use Rattle.e_names.specs.Scope.{scope_of_names, lit_in, let_in, qed_in}
+use Rattle.e_names.specs.Superposes.{superpose_in}
+use Rattle.e_names.specs.Applies.{apply_in}
 use Rattle.e_cert.specs.declared.owed.Due.{Due}
 use Rattle.e_cert.specs.declared.owed.Due.TheVariants as due
 

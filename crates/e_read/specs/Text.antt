@@ -10,16 +10,16 @@ use Rattle.e_text.specs.declared.line.LineEnd.TheVariants as ends
 use Rattle.e_text.specs.declared.line.LineFault.{LineFault}
 use Rattle.e_clause.specs.declared.cert.Version.{Version}
 use Rattle.e_deriv.specs.Script.{erased}
-use Rattle.e_book.specs.declared.fault.Kind.{Kind}
-use Rattle.e_book.specs.declared.fault.Kind.TheVariants.{Malformed}
-use Rattle.e_book.specs.declared.form.Form.{Form}
+use Rattle.e_line.specs.declared.fault.Kind.{Kind}
+use Rattle.e_line.specs.declared.fault.Kind.TheVariants.{Malformed}
+use Rattle.e_line.specs.declared.form.Form.{Form}
 use Rattle.e_book.specs.declared.draft.Draft.{Draft}
 use Rattle.e_book.specs.declared.theorem.Theorem.{Theorem}
-use Rattle.e_book.specs.Reading.{◌>>=◌}
-use Rattle.e_book.specs.Headed.{Headed}
+use Rattle.e_line.specs.Reading.{◌>>=◌}
+use Rattle.e_names.specs.Headed.{Headed}
 use Rattle.e_book.specs.DraftViews.{entry_of_draft}
 use Rattle.e_book.specs.Entry.{Entry, entry_of}
-use Rattle.e_book.specs.Scope.{FewNames}
+use Rattle.e_names.specs.Scope.{FewNames}
 use Rattle.e_book.specs.Steps.{begin, step, no_names, count_names, FitsScope}
 use Rattle.e_book.specs.Grammar.{last_line}
 use Rattle.e_book.specs.Book.{is_done}

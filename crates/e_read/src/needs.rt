@@ -9,21 +9,20 @@ ghost use Rattle.e_deriv.specs.Fitting.{is_small_statement};
 ghost use Rattle.e_deriv.specs.Goal;
 ghost use Rattle.e_deriv.specs.Goal.{goal_of_statement};
 ghost use Rattle.e_book.specs.DraftViews.{statement_of_draft};
-ghost use Rattle.e_book.specs.Limits.{most_theorems};
-ghost use Rattle.e_book.specs.Headed.{stated_by};
-ghost use Rattle.e_book.specs.Reading.{Gives, each, or_malformed};
+ghost use Rattle.e_line.specs.Limits.{most_theorems};
+ghost use Rattle.e_names.specs.Headed.{stated_by};
+ghost use Rattle.e_line.specs.Reading.{Gives, each, or_malformed};
 ghost use Rattle.e_book.specs.Blocks.{made_in};
 ghost use Rattle.e_book.specs.Steps.{FitsScope};
 ghost use Rattle.e_read.specs.Needs;
 ghost use Rattle.e_read.specs.Text.{FitsDraft};
 ghost use Rattle.e_read.specs.Needs.{open_goal, one_each, needs_in, due_of};
 
-use e_book::{
-    Draft, Form, Kind, Opened, Outer, RawApply, Theorems, Trouble, apply_in, let_in, lit_in,
-    qed_in, scope_of_names, superpose_in,
-};
+use e_book::{Draft, Opened, Outer};
 use e_cert::{Certs, Due};
+use e_line::{Form, Kind, RawApply, Trouble};
 use e_literal::{Items, Lit, Map, NOTHING, Obj, Scope, Sort, grown, next_objects};
+use e_names::{Theorems, apply_in, let_in, lit_in, qed_in, scope_of_names, superpose_in};
 use e_text::Name;
 use e_theorem::{Statement, UseFault, all_renamed, use_of};
 use std::alloc::{AllocError, Global};

@@ -2,7 +2,8 @@
 ghost use Rattle.std.specs.Prelude.{◌≡◌};
 ghost use Rattle.e_read.specs.Strict.{ends_with, is_apart};
 
-use e_book::{Draft, Form};
+use e_book::Draft;
+use e_line::Form;
 use e_literal::{Sort, is_same_sort};
 
 /// Whether the last of these objects has this sort.

@@ -7,9 +7,9 @@ use Rattle.e_theorem.specs.Statements.{stated}
 use Rattle.e_deriv.specs.Script.{Script}
 use Rattle.e_deriv.specs.Lines.{Line, first_failure}
 use Rattle.e_deriv.specs.Certified.{is_certified, derivation_lines, verdict}
-use Rattle.e_book.specs.Headed.{Headed, headed, stated_by}
+use Rattle.e_names.specs.Headed.{Headed, headed, stated_by}
 use Rattle.e_book.specs.Entry.{Entry}
-use Rattle.e_book.proofs.Differ.{same_bytes}
+use Rattle.e_line.proofs.Bound.{same_bytes}
 use Rattle.e_read.specs.Text.{piece_from, last_line_of}
 use Rattle.e_spell.specs.Spelling.{spelled_lines}
 use Rattle.e_roundtrip.specs.Spelled.{ShowsEnded}

@@ -6,10 +6,12 @@ use Rattle.e_clause.specs.declared.cert.Version.{Version}
 use Rattle.e_theorem.specs.Statements.{stated}
 use Rattle.e_deriv.specs.Script.{Script, erased}
 use Rattle.e_deriv.specs.Goal.{goal_of_statement, facts_of_statement}
-use Rattle.e_book.specs.Headed.{Headed}
+use Rattle.e_names.specs.Headed.{Headed}
 use Rattle.e_book.specs.Entry.{Entry}
-use Rattle.e_book.specs.Canonical.{line_of, head_forms, end_form, names_of_proof}
-use Rattle.e_book.proofs.Lookups.{in_order}
+use Rattle.e_line.specs.Canonical.{line_of}
+use Rattle.e_names.specs.Canonical.{end_form}
+use Rattle.e_book.specs.Canonical.{head_forms, names_of_proof}
+use Rattle.e_names.proofs.Lookups.{in_order}
 use Rattle.e_book.proofs.CanonicalRead.{started, begins}
 use Rattle.e_spell.specs.Spelling.{script_lines, spelled_lines}
 use Rattle.e_roundtrip.specs.Spelled.{CanBeSpelled}

@@ -13,8 +13,8 @@ use Rattle.e_deriv.specs.Script.{Script, Contradiction}
 use Rattle.e_deriv.specs.Goal.{Goal, goal_of, goal_of_statement}
 use Rattle.e_deriv.specs.Steps.{are_over}
 use Rattle.e_deriv.specs.PlainStep.{PlainStep, Claimed, Copied, all_before}
-use Rattle.e_book.specs.declared.fault.Kind.{Kind}
-use Rattle.e_book.specs.declared.fault.What.TheVariants as limits
+use Rattle.e_line.specs.declared.fault.Kind.{Kind}
+use Rattle.e_line.specs.declared.fault.What.TheVariants as limits
 use Rattle.e_book.specs.declared.blocks.Outer.{Outer}
 use Rattle.e_book.specs.declared.blocks.Opened.{Opened}
 use Rattle.e_book.specs.declared.blocks.Opened.TheVariants as opened
@@ -23,16 +23,17 @@ use Rattle.e_book.specs.declared.steps.CloseLine.TheVariants as closes
 use Rattle.e_book.specs.declared.draft.Place.{Place}
 use Rattle.e_book.specs.declared.draft.Place.TheVariants.{Proving, Splitting, Closed, Done}
 use Rattle.e_book.specs.declared.draft.Draft.{Draft}
-use Rattle.e_book.specs.Reading.{◌>>=◌}
-use Rattle.e_book.specs.Limits.{within, most_steps, most_facts, monomials}
-use Rattle.e_book.specs.Scope.{scope_of_names}
-use Rattle.e_book.specs.Headed.{Headed}
+use Rattle.e_line.specs.Reading.{◌>>=◌}
+use Rattle.e_line.specs.Limits.{within, most_steps, most_facts, monomials}
+use Rattle.e_names.specs.Scope.{scope_of_names}
+use Rattle.e_names.specs.Headed.{Headed}
 use Rattle.e_book.specs.DraftViews.{statement_of_draft, script_of_close}
 use Rattle.e_book.specs.Entry.{Entry}
 use Rattle.e_book.specs.Book.{is_last}
 use Rattle.e_book.specs.Steps.{terms_after, counted_from, resumed, closed_inside, closed, shut}
-use Rattle.e_book.specs.Canonical.{line_of, claim_form, superpose_form, cases_form, else_form, end_form}
-use Rattle.e_book.proofs.InScope.{bind_ok, ok_is, read_ok}
+use Rattle.e_line.specs.Canonical.{line_of}
+use Rattle.e_names.specs.Canonical.{claim_form, superpose_form, cases_form, else_form, end_form}
+use Rattle.e_line.proofs.Bound.{bind_ok, ok_is, read_ok}
 use Rattle.e_cert.specs.declared.kept.Kept.{Kept}
 use Rattle.e_cert.specs.declared.kept.Kept.TheVariants.{Certs}
 use Rattle.e_read.specs.Needs.{shown_inside, claimed as shown_around, goal_or}

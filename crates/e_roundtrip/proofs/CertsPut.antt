@@ -14,12 +14,12 @@ use Rattle.e_clause.specs.declared.cert.Cert.TheVariants.{Plain, Transfer}
 use Rattle.e_clause.specs.declared.cert.Against.{Against}
 use Rattle.e_clause.specs.declared.cert.Against.TheVariants as against
 use Rattle.e_deriv.specs.declared.names.Names.{Names}
-use Rattle.e_book.specs.declared.fault.Kind.{Kind}
-use Rattle.e_book.specs.Scope.{scope_of_names}
-use Rattle.e_book.specs.Fits.{is_diagram_lit}
-use Rattle.e_book.specs.Canonical.{raw_of, name_of_object, rule_name}
-use Rattle.e_book.proofs.Lookups.{InOrder, objects_named}
-use Rattle.e_book.proofs.LitLookups.{lit_number_again, lit_named, diagram_is_good, diagram_is_raw}
+use Rattle.e_line.specs.declared.fault.Kind.{Kind}
+use Rattle.e_names.specs.Scope.{scope_of_names}
+use Rattle.e_names.specs.Fits.{is_diagram_lit}
+use Rattle.e_names.specs.Canonical.{raw_of, name_of_object, rule_name}
+use Rattle.e_names.proofs.Lookups.{InOrder, objects_named}
+use Rattle.e_names.proofs.LitLookups.{lit_number_again, lit_named, diagram_is_good, diagram_is_raw}
 use Rattle.e_cert.specs.declared.mark.Mark.TheVariants as marks
 use Rattle.e_cert.specs.declared.owed.Due.{Due}
 use Rattle.e_cert.specs.declared.owed.Due.TheVariants as due

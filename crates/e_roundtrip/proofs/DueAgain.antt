@@ -17,19 +17,19 @@ use Rattle.e_deriv.specs.declared.names.Names.{Names}
 use Rattle.e_deriv.specs.Goal.{Goal, goal_with}
 use Rattle.e_deriv.specs.Parts.{written, has_no_blank}
 use Rattle.e_book.specs.declared.draft.Draft.{Draft}
-use Rattle.e_book.specs.Reading.{each, or_malformed}
-use Rattle.e_book.specs.Headed.{Headed, theorem_of}
+use Rattle.e_line.specs.Reading.{each, or_malformed}
+use Rattle.e_names.specs.Headed.{Headed, theorem_of}
 use Rattle.e_book.specs.Blocks.{made_in}
-use Rattle.e_book.specs.Scope.{scope_of_names, qed_in}
-use Rattle.e_book.specs.Canonical.{raw_of, name_of_object, argument_name, hence_form, let_form, apply_form, superpose_form, qed_form}
-use Rattle.e_book.proofs.Respelled.{as_read}
-use Rattle.e_book.proofs.Lookups.{InOrder}
-use Rattle.e_book.proofs.LitLookups.{lit_number_again}
-use Rattle.e_book.proofs.PlainLits.{PlainLit}
-use Rattle.e_book.proofs.Building.{GoodLet}
-use Rattle.e_book.proofs.Built.{of_sorts_length, let_number_again}
-use Rattle.e_book.proofs.Superposed.{GoodSuperpose, superpose_number_again}
-use Rattle.e_book.proofs.Applied.{GoodApply, apply_number_again}
+use Rattle.e_names.specs.Scope.{scope_of_names, qed_in}
+use Rattle.e_names.specs.Canonical.{raw_of, name_of_object, argument_name, hence_form, let_form, apply_form, superpose_form, qed_form}
+use Rattle.e_line.proofs.Respelled.{as_read}
+use Rattle.e_names.proofs.Lookups.{InOrder}
+use Rattle.e_names.proofs.LitLookups.{lit_number_again}
+use Rattle.e_names.proofs.PlainLits.{PlainLit}
+use Rattle.e_names.proofs.Building.{GoodLet}
+use Rattle.e_names.proofs.Built.{of_sorts_length, let_number_again}
+use Rattle.e_names.proofs.Superposed.{GoodSuperpose, superpose_number_again}
+use Rattle.e_names.proofs.Applied.{GoodApply, apply_number_again}
 use Rattle.e_line.specs.Strict.{are_direct}
 use Rattle.e_read.specs.Needs.{open_goal, one_each, needs_in, needs_of_use as needs_of_line, needs_at_qed, due_of}
 use Rattle.e_roundtrip.proofs.RowsAgain.{lit_direct}

@@ -13,9 +13,9 @@ use Rattle.e_clause.specs.declared.cert.Part.{Part}
 use Rattle.e_clause.specs.declared.cert.Part.TheVariants as parts
 use Rattle.e_clause.specs.Sum.{is_nonzero_bounded}
 use Rattle.e_deriv.specs.declared.names.Names.{Names}
-use Rattle.e_book.specs.declared.fault.Kind.TheVariants.{Malformed}
-use Rattle.e_book.specs.Reading.{◌>>=◌}
-use Rattle.e_book.proofs.Lookups.{InOrder}
+use Rattle.e_line.specs.declared.fault.Kind.TheVariants.{Malformed}
+use Rattle.e_line.specs.Reading.{◌>>=◌}
+use Rattle.e_names.proofs.Lookups.{InOrder}
 use Rattle.e_cert.specs.declared.mark.Mark.{Mark}
 use Rattle.e_cert.specs.declared.mark.Mark.TheVariants as marks
 use Rattle.e_cert.specs.declared.owed.OpenSums.{OpenSums}

@@ -14,11 +14,12 @@ use Rattle.e_deriv.specs.Naming.{named}
 use Rattle.e_deriv.specs.Script.{Script, Cite, Hence, Make, Apply, Claim, Superposed, Qed, Contradiction, Cases, size, depth}
 use Rattle.e_deriv.specs.Lines.{theorem_at}
 use Rattle.e_deriv.specs.Parts.{rest_of, inner_of, args_of, filled_in, filled_by}
-use Rattle.e_book.specs.Limits.{most_facts, most_terms, most_blanks, monomials, count_monomials}
-use Rattle.e_book.specs.Applies.{count_blanks}
-use Rattle.e_book.specs.Headed.{Headed}
+use Rattle.e_line.specs.Limits.{most_facts, most_terms, most_blanks, monomials, count_monomials}
+use Rattle.e_names.specs.Applies.{count_blanks}
+use Rattle.e_names.specs.Headed.{Headed}
 use Rattle.e_book.specs.Fits.{NewNamesFit, few_facts, few_terms, few_blanks}
-use Rattle.e_book.specs.HasSpelling.{is_plain, is_named_by_title, names_theorems}
+use Rattle.e_names.specs.HasSpelling.{is_named_by_title}
+use Rattle.e_book.specs.HasSpelling.{is_plain, names_theorems}
 
 -- ---- two tests, each as good as another
 

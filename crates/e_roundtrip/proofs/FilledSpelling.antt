@@ -7,8 +7,8 @@ use Rattle.e_deriv.specs.Script.{Script, size, depth, erased}
 use Rattle.e_deriv.specs.Goal.{goal_of_statement, facts_of_statement}
 use Rattle.e_deriv.specs.Parts.{filled_by}
 use Rattle.e_deriv.specs.Certified.{Certified}
-use Rattle.e_book.specs.Limits.{most_steps, most_depth, count_monomials}
-use Rattle.e_book.specs.Headed.{Headed, stated_by}
+use Rattle.e_line.specs.Limits.{most_steps, most_depth, count_monomials}
+use Rattle.e_names.specs.Headed.{Headed, stated_by}
 use Rattle.e_book.specs.Entry.{Entry}
 use Rattle.e_book.specs.Fits.{Fits, NewNamesFit, few_facts, few_terms, few_blanks, has_good_literals}
 use Rattle.e_book.specs.HasSpelling.{is_plain, names_theorems}

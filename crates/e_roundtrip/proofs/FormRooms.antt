@@ -21,12 +21,13 @@ use Rattle.e_construct.specs.Shapes.{shape_row}
 use Rattle.e_construct.specs.Construct.{row_of_construction, sorts_of, made_by_row, gives_of_avoided, gives_of_construction}
 use Rattle.e_construct.specs.Lines.{Piece, New, Argument, Word, pieces}
 use Rattle.e_deriv.specs.declared.names.Names.{Names}
-use Rattle.e_book.specs.Limits.{most_facts, most_terms, count_monomials}
-use Rattle.e_book.specs.Superposes.{superpose_pieces}
-use Rattle.e_book.specs.Headed.{Headed, title_at}
-use Rattle.e_book.specs.Canonical.{filled, avoid_words, argument_word, argument_name, made_words, lit_words, lits_words, name_at, name_of_object, raw_of, rule_name, placed_names, line_of, by_form, hence_form, let_form, apply_form, claim_form, superpose_form, qed_form, contradiction_form, cases_form, else_form, end_form}
-use Rattle.e_book.specs.HasSpelling.{AreNames}
-use Rattle.e_book.proofs.Lookups.{InOrder}
+use Rattle.e_line.specs.Limits.{most_facts, most_terms, count_monomials}
+use Rattle.e_line.specs.Superposes.{superpose_pieces}
+use Rattle.e_names.specs.Headed.{Headed, title_at}
+use Rattle.e_line.specs.Canonical.{filled, avoid_words, argument_word, made_words, lit_words, lits_words, line_of}
+use Rattle.e_names.specs.Canonical.{argument_name, name_at, name_of_object, raw_of, rule_name, placed_names, by_form, hence_form, let_form, apply_form, claim_form, superpose_form, qed_form, contradiction_form, cases_form, else_form, end_form}
+use Rattle.e_line.specs.HasSpelling.{AreNames}
+use Rattle.e_names.proofs.Lookups.{InOrder}
 use Rattle.e_roundtrip.proofs.Rooms.{is_short, short_name, short_title, Room, room_none, room_more, room_word, room_append, room_line, IsShortLine}
 use Rattle.e_roundtrip.proofs.LitRooms.{short_at, short_object, room_objects, room_one, room_lits}
 use Rattle.e_roundtrip.proofs.RuleRooms.{short_rule}

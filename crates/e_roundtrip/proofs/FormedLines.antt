@@ -28,11 +28,11 @@ use Rattle.e_deriv.specs.Lines.{Line, line, lines}
 use Rattle.e_deriv.specs.Parts.{written, has_no_blank}
 use Rattle.e_deriv.specs.Steps.{are_over, is_citation, is_applied, fits, needs}
 use Rattle.e_deriv.specs.Certified.{certs_of}
-use Rattle.e_book.specs.Reading.{◌>>=◌, each, or_malformed}
-use Rattle.e_book.specs.Scope.{scope_of_names}
-use Rattle.e_book.specs.Headed.{Headed, stated_by, theorem_of}
-use Rattle.e_book.proofs.InScope.{bind_ok, ok_is, read_ok}
-use Rattle.e_book.proofs.Building.{named_scope}
+use Rattle.e_line.specs.Reading.{◌>>=◌, each, or_malformed}
+use Rattle.e_names.specs.Scope.{scope_of_names}
+use Rattle.e_names.specs.Headed.{Headed, stated_by, theorem_of}
+use Rattle.e_line.proofs.Bound.{bind_ok, ok_is, read_ok}
+use Rattle.e_names.proofs.Building.{named_scope}
 use Rattle.e_cert.specs.Owed.{first_cert}
 use Rattle.e_read.specs.Needs.{needs_in}
 use Rattle.e_roundtrip.specs.Formed.{cert_formed, certs_formed, against_formed, formed_beside, is_formed}

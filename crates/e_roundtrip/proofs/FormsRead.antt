@@ -1,19 +1,19 @@
 -- What the spelling of a line says of its form.
 use Rattle.std.proofs.Common.{◌≡◌, ℕ, ◌<◌, true, List, [], ◌∷◌, length, take, drop, Ok, subst, arith}
-use Rattle.e_book.specs.declared.literal.RawLit.{RawLit}
-use Rattle.e_book.specs.declared.superposes.RawSuperpose.{RawSuperpose}
-use Rattle.e_book.specs.declared.form.Form.{Form}
-use Rattle.e_book.specs.declared.form.Form.TheVariants as forms
-use Rattle.e_book.specs.Reading.{◌>>=◌, names_of, not_empty, some_names}
-use Rattle.e_book.specs.Literals.{is_diagram_raw, lits_of}
-use Rattle.e_book.specs.Superposes.{superpose_pieces, head_of, superpose_of}
-use Rattle.e_book.specs.Lets.{are_words_of, new_words, argument_words}
-use Rattle.e_book.specs.Forms.{form_of}
-use Rattle.e_book.proofs.InScope.{bind_ok, ok_is, read_ok}
-use Rattle.e_book.proofs.Choices.{passed}
-use Rattle.e_book.proofs.FormsByWord.{OfEachForm, form_by_word}
-use Rattle.e_book.proofs.SaidLits.{diagram_said}
-use Rattle.e_book.proofs.SaidForms.{superpose_said}
+use Rattle.e_line.specs.declared.literal.RawLit.{RawLit}
+use Rattle.e_line.specs.declared.superposes.RawSuperpose.{RawSuperpose}
+use Rattle.e_line.specs.declared.form.Form.{Form}
+use Rattle.e_line.specs.declared.form.Form.TheVariants as forms
+use Rattle.e_line.specs.Reading.{◌>>=◌, names_of, not_empty, some_names}
+use Rattle.e_line.specs.Literals.{is_diagram_raw, lits_of}
+use Rattle.e_line.specs.Superposes.{superpose_pieces, head_of, superpose_of}
+use Rattle.e_line.specs.Lets.{are_words_of, new_words, argument_words}
+use Rattle.e_line.specs.Forms.{form_of}
+use Rattle.e_line.proofs.Bound.{bind_ok, ok_is, read_ok}
+use Rattle.e_line.proofs.Choices.{passed}
+use Rattle.e_line.proofs.FormsByWord.{OfEachForm, form_by_word}
+use Rattle.e_line.proofs.SaidLits.{diagram_said}
+use Rattle.e_names.proofs.SaidForms.{superpose_said}
 use Rattle.e_roundtrip.proofs.LitsRead.{Signed, AllSigned, lit_signed, lits_signed}
 use Rattle.e_roundtrip.proofs.LinePieces.{OneLine, let_line}
 

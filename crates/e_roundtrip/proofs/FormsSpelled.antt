@@ -18,24 +18,25 @@ use Rattle.e_construct.specs.declared.superpose.Superpose.{Superpose}
 use Rattle.e_construct.specs.Construct.{fits_construction, sorts_made}
 use Rattle.e_construct.specs.Lines.{Piece, pieces, takes}
 use Rattle.e_deriv.specs.declared.names.Names.{Names}
-use Rattle.e_book.specs.declared.fault.Kind.{Kind}
-use Rattle.e_book.specs.declared.fault.Kind.TheVariants.{UnknownName}
-use Rattle.e_book.specs.declared.literal.RawLit.{RawLit}
-use Rattle.e_book.specs.declared.lets.RawLet.{RawLet}
-use Rattle.e_book.specs.declared.superposes.RawSuperpose.{RawSuperpose}
-use Rattle.e_book.specs.declared.applies.RawApply.{RawApply}
-use Rattle.e_book.specs.declared.form.Form.TheVariants as forms
-use Rattle.e_book.specs.Reading.{◌>>=◌, each}
-use Rattle.e_book.specs.Headed.{Headed, theorem_of, place_in}
-use Rattle.e_book.specs.Literals.{is_diagram_raw}
-use Rattle.e_book.specs.Superposes.{placed_in, superpose_in}
-use Rattle.e_book.specs.Scope.{scope_of_names, used, fresh, lit_in, lits_in, object_as, known_rule, variables_of, right_count, args_in, by_in, right_sort, arguments_in, construction, first_fitting, let_in, objects_of_sorts, qed_in}
-use Rattle.e_book.specs.Applies.{known_place, entry_in, entries_in, apply_in}
-use Rattle.e_book.specs.Canonical.{name_of_object, line_pieces, line_of, placed_names, by_form, hence_form, let_form, argument_name, apply_form, claim_form, superpose_form, cases_form, qed_form}
-use Rattle.e_book.proofs.Citations.{counted}
-use Rattle.e_book.proofs.InScope.{bind_ok, ok_is, read_ok}
-use Rattle.e_book.proofs.Building.{placed_behind}
-use Rattle.e_book.proofs.Uses.{found_title}
+use Rattle.e_line.specs.declared.fault.Kind.{Kind}
+use Rattle.e_line.specs.declared.fault.Kind.TheVariants.{UnknownName}
+use Rattle.e_line.specs.declared.literal.RawLit.{RawLit}
+use Rattle.e_line.specs.declared.lets.RawLet.{RawLet}
+use Rattle.e_line.specs.declared.superposes.RawSuperpose.{RawSuperpose}
+use Rattle.e_line.specs.declared.applies.RawApply.{RawApply}
+use Rattle.e_line.specs.declared.form.Form.TheVariants as forms
+use Rattle.e_line.specs.Reading.{◌>>=◌, each}
+use Rattle.e_names.specs.Headed.{Headed, theorem_of, place_in}
+use Rattle.e_line.specs.Literals.{is_diagram_raw}
+use Rattle.e_names.specs.Superposes.{placed_in, superpose_in}
+use Rattle.e_names.specs.Scope.{scope_of_names, used, fresh, lit_in, lits_in, object_as, known_rule, variables_of, right_count, args_in, by_in, right_sort, arguments_in, construction, first_fitting, let_in, objects_of_sorts, qed_in}
+use Rattle.e_names.specs.Applies.{known_place, entry_in, entries_in, apply_in}
+use Rattle.e_names.specs.Canonical.{name_of_object, placed_names, by_form, hence_form, let_form, argument_name, apply_form, claim_form, superpose_form, cases_form, qed_form}
+use Rattle.e_line.specs.Canonical.{line_pieces, line_of}
+use Rattle.e_names.proofs.Citations.{counted}
+use Rattle.e_line.proofs.Bound.{bind_ok, ok_is, read_ok}
+use Rattle.e_names.proofs.Building.{placed_behind}
+use Rattle.e_names.proofs.Uses.{found_title}
 use Rattle.e_line.specs.Strict.{is_direct, are_direct}
 use Rattle.e_roundtrip.proofs.NamesSpelled.{keeps_all, used_named, number_named, object_named}
 use Rattle.e_roundtrip.proofs.LitsRead.{Signed, AllSigned}

@@ -12,8 +12,9 @@ use Rattle.e_literal.proofs.Sorts.{same_sort_self}
 use Rattle.e_literal.proofs.Growing.{count_one}
 use Rattle.e_deriv.specs.declared.names.Names.{Names}
 use Rattle.e_deriv.specs.Naming.{names_of_sort, with_names}
-use Rattle.e_book.specs.Scope.{scope_of_names}
-use Rattle.e_book.specs.Canonical.{nameless, name_at, name_of_object, Group, group, grouped_before, grouped}
+use Rattle.e_names.specs.Scope.{scope_of_names}
+use Rattle.e_names.specs.Canonical.{nameless, name_at, name_of_object}
+use Rattle.e_book.specs.Canonical.{Group, group, grouped_before, grouped}
 use Rattle.e_read.specs.Strict.{ends_with}
 use Rattle.e_roundtrip.proofs.NamesSpelled.{Holds, Keeps}
 

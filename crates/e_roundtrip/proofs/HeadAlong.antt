@@ -7,25 +7,27 @@ use Rattle.e_literal.specs.declared.literal.Lit.{Lit}
 use Rattle.e_literal.specs.Scopes.{same_sort}
 use Rattle.e_deriv.specs.declared.names.Names.{Names}
 use Rattle.e_theorem.specs.declared.statement.Statement.{Statement}
-use Rattle.e_book.specs.declared.fault.Kind.{Kind}
-use Rattle.e_book.specs.declared.literal.RawLit.{RawLit}
-use Rattle.e_book.specs.declared.form.Form.{Form}
-use Rattle.e_book.specs.declared.form.Form.TheVariants as forms
+use Rattle.e_line.specs.declared.fault.Kind.{Kind}
+use Rattle.e_line.specs.declared.literal.RawLit.{RawLit}
+use Rattle.e_line.specs.declared.form.Form.{Form}
+use Rattle.e_line.specs.declared.form.Form.TheVariants as forms
 use Rattle.e_book.specs.declared.draft.Draft.{Draft}
 use Rattle.e_book.specs.declared.draft.Place.TheVariants.{Giving, Making, Showing}
-use Rattle.e_book.specs.declared.fault.What.TheVariants as limits
-use Rattle.e_book.specs.Reading.{◌>>=◌, with_front}
-use Rattle.e_book.specs.Limits.{within, most_facts}
-use Rattle.e_book.specs.Headed.{Headed}
-use Rattle.e_book.specs.Scope.{lits_in}
-use Rattle.e_book.specs.LineLimits.{few_monos}
+use Rattle.e_line.specs.declared.fault.What.TheVariants as limits
+use Rattle.e_line.specs.Reading.{◌>>=◌, with_front}
+use Rattle.e_line.specs.Limits.{within, most_facts}
+use Rattle.e_names.specs.Headed.{Headed}
+use Rattle.e_names.specs.Scope.{lits_in}
+use Rattle.e_line.specs.LineLimits.{few_monos}
 use Rattle.e_book.specs.Steps.{terms_behind, with_terms, allowed, declared, declares, supposes, makes, shows, proof_begun, stepped, step}
 use Rattle.e_book.specs.Book.{is_done}
-use Rattle.e_book.specs.Canonical.{line_of, Group, group, grouped_before, grouped, name_of_object, declare_form, made_form, given_form, show_form, declared_objects, made_objects, given_forms, shown_forms}
-use Rattle.e_book.proofs.Respelled.{GoodForm, as_read}
+use Rattle.e_line.specs.Canonical.{line_of}
+use Rattle.e_names.specs.Canonical.{name_of_object, given_form, show_form}
+use Rattle.e_book.specs.Canonical.{Group, group, grouped_before, grouped, declare_form, made_form, declared_objects, made_objects, given_forms, shown_forms}
+use Rattle.e_line.proofs.Respelled.{GoodForm, as_read}
 use Rattle.e_book.proofs.Declared.{Runs}
-use Rattle.e_book.proofs.InScope.{bind_ok, ok_is}
-use Rattle.e_book.proofs.Choices.{passed}
+use Rattle.e_line.proofs.Bound.{bind_ok, ok_is}
+use Rattle.e_line.proofs.Choices.{passed}
 use Rattle.e_cert.specs.declared.owed.Due.TheVariants as due
 use Rattle.e_cert.specs.declared.kept.Kept.{Kept}
 use Rattle.e_line.specs.Strict.{is_strict}

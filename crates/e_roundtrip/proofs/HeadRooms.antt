@@ -16,13 +16,15 @@ use Rattle.e_literal.proofs.Growing.{total_grown}
 use Rattle.e_theorem.specs.declared.statement.Statement.{Statement}
 use Rattle.e_theorem.specs.Statements.{stated}
 use Rattle.e_deriv.specs.declared.names.Names.{Names}
-use Rattle.e_book.specs.declared.form.Form.{Form}
-use Rattle.e_book.specs.declared.form.Form.TheVariants as forms
-use Rattle.e_book.specs.Headed.{Headed}
+use Rattle.e_line.specs.declared.form.Form.{Form}
+use Rattle.e_line.specs.declared.form.Form.TheVariants as forms
+use Rattle.e_names.specs.Headed.{Headed}
 use Rattle.e_book.specs.Entry.{Entry}
-use Rattle.e_book.specs.Canonical.{Group, group, grouped_before, grouped, lit_words, raw_of, sort_word, name_of_object, line_of, given_form, show_form, declare_form, made_form, declared_objects, made_objects, given_forms, shown_forms, head_forms}
+use Rattle.e_line.specs.Canonical.{lit_words, sort_word, line_of}
+use Rattle.e_names.specs.Canonical.{raw_of, name_of_object, given_form, show_form}
+use Rattle.e_book.specs.Canonical.{Group, group, grouped_before, grouped, declare_form, made_form, declared_objects, made_objects, given_forms, shown_forms, head_forms}
 use Rattle.e_book.specs.HasSpelling.{HasSpelling}
-use Rattle.e_book.proofs.Lookups.{InOrder, in_order}
+use Rattle.e_names.proofs.Lookups.{InOrder, in_order}
 use Rattle.e_roundtrip.proofs.Rooms.{is_short, short_title, Room, room_none, room_word, room_append, room_line, IsShortLine}
 use Rattle.e_roundtrip.proofs.LitRooms.{short_object, room_one}
 use Rattle.e_roundtrip.proofs.FormRooms.{AllWords, room_words}

@@ -10,10 +10,11 @@ use Rattle.e_literal.specs.Scopes.{nothing, grown, next_objects}
 use Rattle.e_literal.proofs.Growing.{grown-append}
 use Rattle.e_deriv.specs.declared.names.Names.{Names}
 use Rattle.e_deriv.specs.Naming.{names_of_sort, with_names}
-use Rattle.e_book.specs.declared.form.Form.{Form}
-use Rattle.e_book.specs.declared.form.Form.TheVariants as forms
-use Rattle.e_book.specs.Scope.{scope_of_names}
-use Rattle.e_book.specs.Canonical.{group, grouped, declare_form, made_form, given_form, show_form}
+use Rattle.e_line.specs.declared.form.Form.{Form}
+use Rattle.e_line.specs.declared.form.Form.TheVariants as forms
+use Rattle.e_names.specs.Scope.{scope_of_names}
+use Rattle.e_names.specs.Canonical.{given_form, show_form}
+use Rattle.e_book.specs.Canonical.{group, grouped, declare_form, made_form}
 use Rattle.e_read.specs.Strict.{ends_with}
 use Rattle.e_roundtrip.proofs.NamesSpelled.{Keeps}
 use Rattle.e_roundtrip.proofs.Groups.{more_groups, count_is, scope_more, keeps_before, keeps_new}

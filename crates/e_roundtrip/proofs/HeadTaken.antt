@@ -8,24 +8,26 @@ use Rattle.e_literal.specs.declared.literal.Lit.{Lit}
 use Rattle.e_deriv.specs.declared.names.Names.{Names}
 use Rattle.e_deriv.specs.Naming.{names_of_sort}
 use Rattle.e_deriv.specs.PlainStep.{PlainStep}
-use Rattle.e_book.specs.declared.fault.What.TheVariants as limits
-use Rattle.e_book.specs.declared.literal.RawLit.{RawLit}
-use Rattle.e_book.specs.declared.form.Form.{Form}
-use Rattle.e_book.specs.declared.form.Form.TheVariants as forms
+use Rattle.e_line.specs.declared.fault.What.TheVariants as limits
+use Rattle.e_line.specs.declared.literal.RawLit.{RawLit}
+use Rattle.e_line.specs.declared.form.Form.{Form}
+use Rattle.e_line.specs.declared.form.Form.TheVariants as forms
 use Rattle.e_book.specs.declared.blocks.Outer.{Outer}
 use Rattle.e_book.specs.declared.draft.Place.{Place}
 use Rattle.e_book.specs.declared.draft.Place.TheVariants.{Declaring, Giving, Making, Showing, Proving, Splitting, Closed, Done}
 use Rattle.e_book.specs.declared.draft.Draft.{Draft}
-use Rattle.e_book.specs.Reading.{◌>>=◌, with_front}
-use Rattle.e_book.specs.Limits.{most_of, what_of, within, most_facts, most_theorems}
-use Rattle.e_book.specs.Headed.{Headed, is_known}
-use Rattle.e_book.specs.Scope.{fresh, lit_in, lits_in}
-use Rattle.e_book.specs.LineLimits.{few_monos}
+use Rattle.e_line.specs.Reading.{◌>>=◌, with_front}
+use Rattle.e_line.specs.Limits.{most_of, what_of, within, most_facts, most_theorems}
+use Rattle.e_names.specs.Headed.{Headed, is_known}
+use Rattle.e_names.specs.Scope.{fresh, lit_in, lits_in}
+use Rattle.e_line.specs.LineLimits.{few_monos}
 use Rattle.e_book.specs.Steps.{allowed, declared, terms_behind, with_terms, stepped, begun, begin}
-use Rattle.e_book.specs.Canonical.{line_of, given_form, show_form, head_forms, given_forms, shown_forms}
+use Rattle.e_line.specs.Canonical.{line_of}
+use Rattle.e_names.specs.Canonical.{given_form, show_form}
+use Rattle.e_book.specs.Canonical.{head_forms, given_forms, shown_forms}
 use Rattle.e_book.specs.DraftViews.{statement_of_draft}
 use Rattle.e_book.proofs.Answered.{untaken}
-use Rattle.e_book.proofs.InScope.{bind_ok, ok_is, read_ok}
+use Rattle.e_line.proofs.Bound.{bind_ok, ok_is, read_ok}
 use Rattle.e_cert.specs.declared.kept.Kept.{Kept}
 use Rattle.e_line.specs.Strict.{is_direct, are_direct}
 use Rattle.e_read.specs.Strict.{ends_with}

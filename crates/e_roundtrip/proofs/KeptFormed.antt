@@ -25,12 +25,13 @@ use Rattle.e_clause.specs.Sum.{is_nonzero_bounded, is_limited_sum}
 use Rattle.e_clause.specs.MetricCertificate.{row_name_in, sum_in}
 use Rattle.e_clause.specs.Written.{is_writable_name, is_writable_sum}
 use Rattle.e_deriv.specs.declared.names.Names.{Names}
-use Rattle.e_book.specs.declared.fault.Kind.TheVariants.{Malformed}
-use Rattle.e_book.specs.Reading.{◌>>=◌}
-use Rattle.e_book.specs.LineLimits.{few_monos}
-use Rattle.e_book.specs.Scope.{scope_of_names, lit_in, term_in}
-use Rattle.e_book.proofs.InScope.{bind_ok, ok_is, read_ok, term_in_scope, lit_in_scope}
-use Rattle.e_book.proofs.Choices.{passed}
+use Rattle.e_line.specs.declared.fault.Kind.TheVariants.{Malformed}
+use Rattle.e_line.specs.Reading.{◌>>=◌}
+use Rattle.e_line.specs.LineLimits.{few_monos}
+use Rattle.e_names.specs.Scope.{scope_of_names, lit_in, term_in}
+use Rattle.e_line.proofs.Bound.{bind_ok, ok_is, read_ok}
+use Rattle.e_names.proofs.InScope.{term_in_scope, lit_in_scope}
+use Rattle.e_line.proofs.Choices.{passed}
 use Rattle.e_cert.specs.declared.mark.RawRow.{RawRow}
 use Rattle.e_cert.specs.declared.mark.RawRow.TheVariants as rows
 use Rattle.e_cert.specs.declared.owed.OpenSums.{OpenSums}

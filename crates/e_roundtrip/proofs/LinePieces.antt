@@ -8,12 +8,12 @@ use Rattle.std.proofs.lemmas.Slice.Eq.{bytes_eq-Decides}
 use Rattle.e_text.specs.Names.{is_name}
 use Rattle.e_construct.specs.declared.construction.Shape.{Shape}
 use Rattle.e_construct.specs.Lines.{Piece, New, Argument, Word, pieces, all_shapes, may_avoid}
-use Rattle.e_book.specs.declared.lets.RawLet.{RawLet}
-use Rattle.e_book.specs.Reading.{◌>>=◌, cut_at, names_of}
-use Rattle.e_book.specs.Lets.{are_words_of, new_words, argument_words, is_line_of, shapes_of, avoided_of, let_named, let_of}
-use Rattle.e_book.specs.Canonical.{line_pieces}
-use Rattle.e_book.proofs.InScope.{bind_ok, ok_is, read_ok}
-use Rattle.e_book.proofs.Pieces.{is_own_word, own_words, own_words_of, similar}
+use Rattle.e_line.specs.declared.lets.RawLet.{RawLet}
+use Rattle.e_line.specs.Reading.{◌>>=◌, cut_at, names_of}
+use Rattle.e_line.specs.Lets.{are_words_of, new_words, argument_words, is_line_of, shapes_of, avoided_of, let_named, let_of}
+use Rattle.e_line.specs.Canonical.{line_pieces}
+use Rattle.e_line.proofs.Bound.{bind_ok, ok_is, read_ok}
+use Rattle.e_line.proofs.Pieces.{is_own_word, own_words, own_words_of, similar}
 
 -- ---- pieces that have words in common
 

@@ -8,16 +8,16 @@ use Rattle.e_literal.specs.declared.literal.Lit.{Lit}
 use Rattle.e_construct.specs.Construct.{needs_of_construction}
 use Rattle.e_construct.specs.Superposing as superposing
 use Rattle.e_deriv.specs.declared.names.Names.{Names}
-use Rattle.e_book.specs.declared.literal.RawLit.{RawLit}
-use Rattle.e_book.specs.declared.lets.RawLet.{RawLet}
-use Rattle.e_book.specs.declared.applies.RawApply.{RawApply}
-use Rattle.e_book.specs.declared.superposes.RawSuperpose.{RawSuperpose}
-use Rattle.e_book.specs.declared.form.Form.{Form}
-use Rattle.e_book.specs.declared.form.Form.TheVariants as forms
+use Rattle.e_line.specs.declared.literal.RawLit.{RawLit}
+use Rattle.e_line.specs.declared.lets.RawLet.{RawLet}
+use Rattle.e_line.specs.declared.applies.RawApply.{RawApply}
+use Rattle.e_line.specs.declared.superposes.RawSuperpose.{RawSuperpose}
+use Rattle.e_line.specs.declared.form.Form.{Form}
+use Rattle.e_line.specs.declared.form.Form.TheVariants as forms
 use Rattle.e_book.specs.declared.draft.Place.{Place}
 use Rattle.e_book.specs.declared.draft.Place.TheVariants.{Declaring, Giving, Making, Showing, Proving, Splitting, Closed, Done}
 use Rattle.e_book.specs.declared.draft.Draft.{Draft}
-use Rattle.e_book.specs.Headed.{Headed}
+use Rattle.e_names.specs.Headed.{Headed}
 use Rattle.e_book.specs.Entry.{Entry}
 use Rattle.e_clause.specs.declared.cert.Sums.TheVariants.{One}
 use Rattle.e_clause.specs.declared.cert.RowName.TheVariants.{Goal}
@@ -25,13 +25,14 @@ use Rattle.e_clause.specs.declared.cert.Part.TheVariants.{Fact as FactPart}
 use Rattle.e_clause.specs.declared.cert.Cert.{Cert}
 use Rattle.e_clause.specs.declared.cert.Cert.TheVariants.{Plain}
 use Rattle.e_clause.specs.declared.cert.Against.TheVariants as against
-use Rattle.e_book.specs.Scope.{scope_of_names, lit_in, let_in}
-use Rattle.e_book.specs.Superposes.{superpose_in}
+use Rattle.e_names.specs.Scope.{scope_of_names, lit_in, let_in}
+use Rattle.e_names.specs.Superposes.{superpose_in}
 use Rattle.e_book.specs.Book.{is_last}
 use Rattle.e_book.specs.Steps.{allowed, stepped, step}
-use Rattle.e_book.specs.Canonical.{line_of, head_forms}
+use Rattle.e_line.specs.Canonical.{line_of}
+use Rattle.e_book.specs.Canonical.{head_forms}
 use Rattle.e_book.proofs.Answered.{passes}
-use Rattle.e_book.proofs.InScope.{bind_ok, ok_is, read_ok}
+use Rattle.e_line.proofs.Bound.{bind_ok, ok_is, read_ok}
 use Rattle.e_book.proofs.Keeps.{no_title}
 use Rattle.e_cert.specs.declared.owed.Due.{Due}
 use Rattle.e_cert.specs.declared.owed.Due.TheVariants as due

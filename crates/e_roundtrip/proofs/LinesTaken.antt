@@ -10,18 +10,18 @@ use Rattle.e_text.specs.Tokens.{tokens_of, joined}
 use Rattle.e_literal.specs.declared.object.Sort.TheVariants as sorts
 use Rattle.e_construct.specs.declared.construction.Shape.{Shape}
 use Rattle.e_construct.specs.Lines.{Piece, pieces}
-use Rattle.e_book.specs.declared.lets.RawLet.{RawLet}
-use Rattle.e_book.specs.declared.form.Form.{Form}
-use Rattle.e_book.specs.declared.form.Form.TheVariants as forms
+use Rattle.e_line.specs.declared.lets.RawLet.{RawLet}
+use Rattle.e_line.specs.declared.form.Form.{Form}
+use Rattle.e_line.specs.declared.form.Form.TheVariants as forms
 use Rattle.e_book.specs.declared.draft.Draft.{Draft}
-use Rattle.e_book.specs.Headed.{Headed}
+use Rattle.e_names.specs.Headed.{Headed}
 use Rattle.e_book.specs.Steps.{step}
 use Rattle.e_book.specs.Book.{is_done}
-use Rattle.e_book.specs.Canonical.{filled, line_pieces, avoid_words, let_words, form_words, line_of}
-use Rattle.e_book.proofs.Differ.{same_bytes}
-use Rattle.e_book.proofs.Pieces.{alike, first_alike}
-use Rattle.e_book.proofs.LetsAgain.{LetNamed, as_read as let_as_read}
-use Rattle.e_book.proofs.Respelled.{GoodForm, as_read, form_again}
+use Rattle.e_line.specs.Canonical.{filled, line_pieces, avoid_words, let_words, form_words, line_of}
+use Rattle.e_line.proofs.Bound.{same_bytes}
+use Rattle.e_line.proofs.Pieces.{alike, first_alike}
+use Rattle.e_line.proofs.LetsAgain.{LetNamed, as_read as let_as_read}
+use Rattle.e_line.proofs.Respelled.{GoodForm, as_read, form_again}
 use Rattle.e_book.proofs.LineWords.{words_again}
 use Rattle.e_cert.specs.declared.mark.Mark.{Mark}
 use Rattle.e_cert.specs.declared.owed.Due.{Due}

@@ -17,12 +17,13 @@ use Rattle.e_literal.specs.Literal.{kind_of_term, kind_of_sums}
 use Rattle.e_literal.specs.WellFormed.{same_kind, is_bounded_coefficient, is_well_formed_atom, is_well_formed}
 use Rattle.e_deriv.specs.declared.names.Names.{Names}
 use Rattle.e_deriv.specs.Naming.{names_of_sort}
-use Rattle.e_book.specs.Limits.{monomials, count_monomials}
-use Rattle.e_book.specs.Canonical.{term_words, coefficient_words, mono_words, more_monos, sum_words, sums_words, atom_words, lit_words, more_words, lits_words, name_at, name_of_object, raw_term, raw_mono, raw_sum, raw_atom, raw_signed, raw_of}
-use Rattle.e_book.specs.HasSpelling.{AreNames}
-use Rattle.e_book.proofs.Lookups.{InOrder}
-use Rattle.e_book.proofs.GoodSums.{is_good_mono, AreGood, good_sums}
-use Rattle.e_book.proofs.ShortLits.{count_first}
+use Rattle.e_line.specs.Limits.{monomials, count_monomials}
+use Rattle.e_line.specs.Canonical.{term_words, coefficient_words, mono_words, more_monos, sum_words, sums_words, atom_words, lit_words, more_words, lits_words}
+use Rattle.e_names.specs.Canonical.{name_at, name_of_object, raw_term, raw_mono, raw_sum, raw_atom, raw_signed, raw_of}
+use Rattle.e_line.specs.HasSpelling.{AreNames}
+use Rattle.e_names.proofs.Lookups.{InOrder}
+use Rattle.e_names.proofs.GoodSums.{is_good_mono, AreGood, good_sums}
+use Rattle.e_names.proofs.ShortLits.{count_first}
 use Rattle.e_roundtrip.proofs.Rooms.{is_short, short_name, short_number, Room, room_none, room_more, room_word, room_append}
 
 -- ---- names of objects

@@ -4,17 +4,17 @@ use Rattle.std.specs.Prelude.{codes}
 use Rattle.std.specs.List.{slice_split, position_or_len, AllByRecursion}
 use Rattle.std.specs.Str.{bytes_eq}
 use Rattle.std.proofs.lemmas.Option.{same_Some}
-use Rattle.e_book.specs.declared.fault.Kind.{Kind}
-use Rattle.e_book.specs.declared.fault.Kind.TheVariants.{Malformed}
-use Rattle.e_book.specs.declared.sum.RawMono.{RawMono}
-use Rattle.e_book.specs.declared.literal.RawLit.{RawLit}
-use Rattle.e_book.specs.declared.literal.RawAtom.{RawAtom}
-use Rattle.e_book.specs.declared.literal.RawAtom.TheVariants as raw
-use Rattle.e_book.specs.Reading.{◌>>=◌, or_malformed}
-use Rattle.e_book.specs.Literals.{sign_of, is_sign, object_of, sums_of, equal_sides, sides_of, negation_of, sign_first, compared, signed, lit_of, is_semicolon, lits_of}
-use Rattle.e_book.proofs.InScope.{bind_ok, ok_is, read_ok}
-use Rattle.e_book.proofs.LitsByWord.{OfEachRelation, lit_by_word}
-use Rattle.e_book.proofs.SaidLits.{each_said}
+use Rattle.e_line.specs.declared.fault.Kind.{Kind}
+use Rattle.e_line.specs.declared.fault.Kind.TheVariants.{Malformed}
+use Rattle.e_line.specs.declared.sum.RawMono.{RawMono}
+use Rattle.e_line.specs.declared.literal.RawLit.{RawLit}
+use Rattle.e_line.specs.declared.literal.RawAtom.{RawAtom}
+use Rattle.e_line.specs.declared.literal.RawAtom.TheVariants as raw
+use Rattle.e_line.specs.Reading.{◌>>=◌, or_malformed}
+use Rattle.e_line.specs.Literals.{sign_of, is_sign, object_of, sums_of, equal_sides, sides_of, negation_of, sign_first, compared, signed, lit_of, is_semicolon, lits_of}
+use Rattle.e_line.proofs.Bound.{bind_ok, ok_is, read_ok}
+use Rattle.e_line.proofs.LitsByWord.{OfEachRelation, lit_by_word}
+use Rattle.e_line.proofs.SaidLits.{each_said}
 
 abbrev pub is_at_most : RawAtom → Bool
 is_at_most (raw.SumsAtMost x y) = true

@@ -14,19 +14,19 @@ use Rattle.e_literal.specs.declared.literal.Lit.{Lit}
 use Rattle.e_literal.specs.Literal.{obj}
 use Rattle.e_literal.specs.WellFormed.{same_kind}
 use Rattle.e_deriv.specs.declared.names.Names.{Names}
-use Rattle.e_book.specs.declared.fault.Kind.{Kind}
-use Rattle.e_book.specs.declared.fault.Kind.TheVariants.{WrongSort}
-use Rattle.e_book.specs.declared.sum.RawTerm.{RawTerm}
-use Rattle.e_book.specs.declared.sum.RawTerm.TheVariants as rawterms
-use Rattle.e_book.specs.declared.sum.RawMono.{RawMono}
-use Rattle.e_book.specs.declared.literal.RawLit.{RawLit}
-use Rattle.e_book.specs.declared.literal.RawAtom.{RawAtom}
-use Rattle.e_book.specs.declared.literal.RawAtom.TheVariants as raw
-use Rattle.e_book.specs.Reading.{◌>>=◌, each}
-use Rattle.e_book.specs.Literals.{signed, is_diagram_raw}
-use Rattle.e_book.specs.Scope.{used, number_of, on_sort, line_meets, meets_from, equal_at, term_in, kind_of_raw, first_kind, mono_in, sums_in, atom_in, negated_in, lit_in, lits_in}
-use Rattle.e_book.specs.Canonical.{name_at, name_of_object, raw_term, raw_mono, raw_sum, raw_atom, raw_signed, raw_of}
-use Rattle.e_book.proofs.InScope.{bind_ok, ok_is, read_ok}
+use Rattle.e_line.specs.declared.fault.Kind.{Kind}
+use Rattle.e_line.specs.declared.fault.Kind.TheVariants.{WrongSort}
+use Rattle.e_line.specs.declared.sum.RawTerm.{RawTerm}
+use Rattle.e_line.specs.declared.sum.RawTerm.TheVariants as rawterms
+use Rattle.e_line.specs.declared.sum.RawMono.{RawMono}
+use Rattle.e_line.specs.declared.literal.RawLit.{RawLit}
+use Rattle.e_line.specs.declared.literal.RawAtom.{RawAtom}
+use Rattle.e_line.specs.declared.literal.RawAtom.TheVariants as raw
+use Rattle.e_line.specs.Reading.{◌>>=◌, each}
+use Rattle.e_line.specs.Literals.{signed, is_diagram_raw}
+use Rattle.e_names.specs.Scope.{used, number_of, on_sort, line_meets, meets_from, equal_at, term_in, kind_of_raw, first_kind, mono_in, sums_in, atom_in, negated_in, lit_in, lits_in}
+use Rattle.e_names.specs.Canonical.{name_at, name_of_object, raw_term, raw_mono, raw_sum, raw_atom, raw_signed, raw_of}
+use Rattle.e_line.proofs.Bound.{bind_ok, ok_is, read_ok}
 use Rattle.e_line.specs.Strict.{is_less, is_direct, are_direct}
 use Rattle.e_roundtrip.proofs.NamesSpelled.{Keeps, used_named, number_named}
 use Rattle.e_roundtrip.proofs.LitsRead.{is_at_most, Signed, AllSigned}

@@ -12,21 +12,21 @@ use Rattle.e_text.specs.Tokens.{is_blank, has_bytes, is_token, tokens_of, AreTok
 use Rattle.e_text.proofs.NumeralWords.{is_numeral-decimal, number_of-decimal, is_token-numeral}
 use Rattle.e_text.proofs.TokenWords.{tokens_of-joined, is_token-title}
 use Rattle.e_clause.specs.Sum.{is_nonzero_bounded}
-use Rattle.e_book.specs.declared.sum.RawMono.{RawMono}
-use Rattle.e_book.specs.declared.sum.RawTerm.{RawTerm}
-use Rattle.e_book.specs.declared.sum.RawTerm.TheVariants as rawterms
-use Rattle.e_book.specs.declared.literal.RawAtom.{RawAtom}
-use Rattle.e_book.specs.declared.literal.RawAtom.TheVariants as raw
-use Rattle.e_book.specs.declared.literal.RawLit.{RawLit}
-use Rattle.e_book.specs.Canonical.{term_words, coefficient_words, mono_words, more_monos, sum_words, sums_words, signed_words, lit_words}
-use Rattle.e_book.specs.Reading.{◌>>=◌, title_at, word_at, end_at}
-use Rattle.e_book.specs.Literals.{lit_of, is_diagram_raw}
-use Rattle.e_book.specs.HasSpelling.{AreNames}
-use Rattle.e_book.proofs.Differ.{same_bytes}
-use Rattle.e_book.proofs.NamesAgain.{titled, names_again}
-use Rattle.e_book.proofs.SumsAgain.{TermNamed, term_again, term_tokens}
-use Rattle.e_book.proofs.LitsAgain.{LitNamed, lit_again, diagram_again, lit_tokens}
-use Rattle.e_book.proofs.LetsAgain.{names_tokens}
+use Rattle.e_line.specs.declared.sum.RawMono.{RawMono}
+use Rattle.e_line.specs.declared.sum.RawTerm.{RawTerm}
+use Rattle.e_line.specs.declared.sum.RawTerm.TheVariants as rawterms
+use Rattle.e_line.specs.declared.literal.RawAtom.{RawAtom}
+use Rattle.e_line.specs.declared.literal.RawAtom.TheVariants as raw
+use Rattle.e_line.specs.declared.literal.RawLit.{RawLit}
+use Rattle.e_line.specs.Canonical.{term_words, coefficient_words, mono_words, more_monos, sum_words, sums_words, signed_words, lit_words}
+use Rattle.e_line.specs.Reading.{◌>>=◌, title_at, word_at, end_at}
+use Rattle.e_line.specs.Literals.{lit_of, is_diagram_raw}
+use Rattle.e_line.specs.HasSpelling.{AreNames}
+use Rattle.e_line.proofs.Bound.{same_bytes}
+use Rattle.e_line.proofs.NamesAgain.{titled, names_again}
+use Rattle.e_line.proofs.SumsAgain.{TermNamed, term_again, term_tokens}
+use Rattle.e_line.proofs.LitsAgain.{LitNamed, lit_again, diagram_again, lit_tokens}
+use Rattle.e_line.proofs.LetsAgain.{names_tokens}
 use Rattle.e_cert.specs.declared.mark.RawRow.{RawRow}
 use Rattle.e_cert.specs.declared.mark.RawRow.TheVariants as rows
 use Rattle.e_cert.specs.declared.mark.Mark.{Mark}

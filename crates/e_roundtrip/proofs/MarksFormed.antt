@@ -25,16 +25,17 @@ use Rattle.e_clause.specs.Sigs.{sig_of}
 use Rattle.e_clause.specs.RuleKinds.{is_transfer}
 use Rattle.e_clause.specs.Sum.{is_nonzero_bounded}
 use Rattle.e_deriv.specs.declared.names.Names.{Names}
-use Rattle.e_book.specs.declared.fault.Kind.{Kind}
-use Rattle.e_book.specs.declared.fault.Kind.TheVariants.{Malformed}
-use Rattle.e_book.specs.Reading.{◌>>=◌, or_malformed, title_at, names_of, end_at}
-use Rattle.e_book.specs.Literals.{diagram_lit_of}
-use Rattle.e_book.specs.Scope.{scope_of_names, lit_in, args_in, variables_of, right_count}
-use Rattle.e_book.specs.Fits.{is_diagram_atom}
-use Rattle.e_book.proofs.InScope.{bind_ok, ok_is, read_ok, lit_in_scope}
-use Rattle.e_book.proofs.Choices.{either, passed}
-use Rattle.e_book.proofs.Citations.{good_args}
-use Rattle.e_book.proofs.SaidForms.{lit_plain}
+use Rattle.e_line.specs.declared.fault.Kind.{Kind}
+use Rattle.e_line.specs.declared.fault.Kind.TheVariants.{Malformed}
+use Rattle.e_line.specs.Reading.{◌>>=◌, or_malformed, title_at, names_of, end_at}
+use Rattle.e_line.specs.Literals.{diagram_lit_of}
+use Rattle.e_names.specs.Scope.{scope_of_names, lit_in, args_in, variables_of, right_count}
+use Rattle.e_names.specs.Fits.{is_diagram_atom}
+use Rattle.e_line.proofs.Bound.{bind_ok, ok_is, read_ok}
+use Rattle.e_names.proofs.InScope.{lit_in_scope}
+use Rattle.e_line.proofs.Choices.{either, passed}
+use Rattle.e_names.proofs.Citations.{good_args}
+use Rattle.e_names.proofs.SaidForms.{lit_plain}
 use Rattle.e_cert.specs.declared.mark.Mark.{Mark}
 use Rattle.e_cert.specs.declared.mark.Mark.TheVariants as marks
 use Rattle.e_cert.specs.declared.owed.OpenSums.{OpenSums}

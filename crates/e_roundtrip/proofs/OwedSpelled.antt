@@ -23,16 +23,17 @@ use Rattle.e_clause.specs.Instance.{Inst, number_of_rule}
 use Rattle.e_clause.specs.Sigs.{sig_of}
 use Rattle.e_clause.specs.RuleKinds.{is_transfer}
 use Rattle.e_deriv.specs.declared.names.Names.{Names}
-use Rattle.e_book.specs.declared.fault.Kind.{Kind}
-use Rattle.e_book.specs.declared.fault.Kind.TheVariants.{Malformed}
-use Rattle.e_book.specs.declared.sum.RawTerm.{RawTerm}
-use Rattle.e_book.specs.declared.literal.RawLit.{RawLit}
-use Rattle.e_book.specs.Reading.{◌>>=◌, or_malformed}
-use Rattle.e_book.specs.Scope.{lit_in, term_in, args_in, variables_of, right_count}
-use Rattle.e_book.specs.LineLimits.{few_monos}
-use Rattle.e_book.specs.Canonical.{lit_words, term_words, raw_of, rule_name, name_of_object}
-use Rattle.e_book.proofs.InScope.{bind_ok, ok_is, read_ok}
-use Rattle.e_book.proofs.Choices.{passed}
+use Rattle.e_line.specs.declared.fault.Kind.{Kind}
+use Rattle.e_line.specs.declared.fault.Kind.TheVariants.{Malformed}
+use Rattle.e_line.specs.declared.sum.RawTerm.{RawTerm}
+use Rattle.e_line.specs.declared.literal.RawLit.{RawLit}
+use Rattle.e_line.specs.Reading.{◌>>=◌, or_malformed}
+use Rattle.e_names.specs.Scope.{lit_in, term_in, args_in, variables_of, right_count}
+use Rattle.e_line.specs.LineLimits.{few_monos}
+use Rattle.e_line.specs.Canonical.{lit_words, term_words}
+use Rattle.e_names.specs.Canonical.{raw_of, rule_name, name_of_object}
+use Rattle.e_line.proofs.Bound.{bind_ok, ok_is, read_ok}
+use Rattle.e_line.proofs.Choices.{passed}
 use Rattle.e_cert.specs.declared.mark.RawRow.{RawRow}
 use Rattle.e_cert.specs.declared.mark.RawRow.TheVariants as rows
 use Rattle.e_cert.specs.declared.mark.Mark.{Mark}

@@ -22,14 +22,14 @@ use Rattle.e_deriv.specs.Naming.{named}
 use Rattle.e_deriv.specs.Goal.{Goal, goal_with}
 use Rattle.e_deriv.specs.Parts.{written}
 use Rattle.e_deriv.specs.PlainStep.{PlainStep, Cited, Inferred, Made, Applied}
-use Rattle.e_book.specs.declared.fault.Kind.{Kind}
-use Rattle.e_book.specs.declared.fault.What.TheVariants as limits
-use Rattle.e_book.specs.declared.literal.RawLit.{RawLit}
-use Rattle.e_book.specs.declared.lets.RawLet.{RawLet}
-use Rattle.e_book.specs.declared.applies.RawApply.{RawApply}
-use Rattle.e_book.specs.declared.superposes.RawSuperpose.{RawSuperpose}
-use Rattle.e_book.specs.declared.form.Form.{Form}
-use Rattle.e_book.specs.declared.form.Form.TheVariants as forms
+use Rattle.e_line.specs.declared.fault.Kind.{Kind}
+use Rattle.e_line.specs.declared.fault.What.TheVariants as limits
+use Rattle.e_line.specs.declared.literal.RawLit.{RawLit}
+use Rattle.e_line.specs.declared.lets.RawLet.{RawLet}
+use Rattle.e_line.specs.declared.applies.RawApply.{RawApply}
+use Rattle.e_line.specs.declared.superposes.RawSuperpose.{RawSuperpose}
+use Rattle.e_line.specs.declared.form.Form.{Form}
+use Rattle.e_line.specs.declared.form.Form.TheVariants as forms
 use Rattle.e_book.specs.declared.blocks.Outer.{Outer}
 use Rattle.e_book.specs.declared.blocks.Opened.{Opened}
 use Rattle.e_book.specs.declared.blocks.Opened.TheVariants as opened
@@ -37,22 +37,25 @@ use Rattle.e_book.specs.declared.steps.CloseLine.TheVariants as closes
 use Rattle.e_book.specs.declared.draft.Place.{Place}
 use Rattle.e_book.specs.declared.draft.Place.TheVariants.{Proving, Splitting}
 use Rattle.e_book.specs.declared.draft.Draft.{Draft}
-use Rattle.e_book.specs.Reading.{◌>>=◌}
-use Rattle.e_book.specs.Limits.{within, most_steps, most_depth, most_facts, most_blanks}
-use Rattle.e_book.specs.Headed.{Headed, stated_by, theorem_of}
+use Rattle.e_line.specs.Reading.{◌>>=◌}
+use Rattle.e_line.specs.Limits.{within, most_steps, most_depth, most_facts, most_blanks}
+use Rattle.e_names.specs.Headed.{Headed, stated_by, theorem_of}
 use Rattle.e_book.specs.DraftViews.{statement_of_draft, script_of_close}
 use Rattle.e_book.specs.Blocks.{is_claim, has_claim, made_in}
-use Rattle.e_book.specs.Scope.{scope_of_names, lit_in, lits_in, by_in, let_in, qed_in}
-use Rattle.e_book.specs.Superposes.{superpose_in}
-use Rattle.e_book.specs.Applies.{count_blanks, apply_in}
+use Rattle.e_names.specs.Scope.{scope_of_names, lit_in, lits_in, by_in, let_in, qed_in}
+use Rattle.e_names.specs.Superposes.{superpose_in}
+use Rattle.e_names.specs.Applies.{count_blanks, apply_in}
 use Rattle.e_book.specs.Book.{is_last}
-use Rattle.e_book.specs.LineLimits.{few_objects, few_monos}
+use Rattle.e_line.specs.LineLimits.{few_monos}
+use Rattle.e_book.specs.LineLimits.{few_objects}
 use Rattle.e_book.specs.Steps.{with_step, terms_behind, terms_after, with_terms, built, used_by, applied, outer_of, interrupted, deeper, claimed, superposed, split, shut, stepped}
-use Rattle.e_book.specs.Canonical.{line_of, by_form, hence_form, let_form, apply_form, claim_form, superpose_form, cases_form, qed_form, contradiction_form}
-use Rattle.e_book.proofs.InScope.{bind_ok, ok_is, read_ok, lit_in_scope}
-use Rattle.e_book.proofs.Citations.{by_fits}
-use Rattle.e_book.proofs.Building.{let_fits, superpose_fits, qed_fits}
-use Rattle.e_book.proofs.Uses.{earlier, use_fits}
+use Rattle.e_line.specs.Canonical.{line_of}
+use Rattle.e_names.specs.Canonical.{by_form, hence_form, let_form, apply_form, claim_form, superpose_form, cases_form, qed_form, contradiction_form}
+use Rattle.e_line.proofs.Bound.{bind_ok, ok_is, read_ok}
+use Rattle.e_names.proofs.InScope.{lit_in_scope}
+use Rattle.e_names.proofs.Citations.{by_fits}
+use Rattle.e_names.proofs.Building.{let_fits, superpose_fits, qed_fits}
+use Rattle.e_names.proofs.Uses.{earlier, use_fits}
 use Rattle.e_book.proofs.KeptBlocks.{lits_within}
 use Rattle.e_cert.specs.declared.owed.Due.{Due}
 use Rattle.e_cert.specs.declared.owed.Due.TheVariants as due

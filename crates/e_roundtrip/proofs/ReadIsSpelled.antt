@@ -17,21 +17,23 @@ use Rattle.e_theorem.specs.Statements.{stated}
 use Rattle.e_deriv.specs.declared.names.Names.{Names}
 use Rattle.e_deriv.specs.Goal.{goal_of_statement, facts_of_statement}
 use Rattle.e_deriv.specs.Lines.{lines as lines_from}
-use Rattle.e_book.specs.declared.form.Form.{Form}
+use Rattle.e_line.specs.declared.form.Form.{Form}
 use Rattle.e_book.specs.declared.draft.Place.{Place}
 use Rattle.e_book.specs.declared.draft.Place.TheVariants.{Done}
 use Rattle.e_book.specs.declared.draft.Draft.{Draft}
-use Rattle.e_book.specs.Reading.{◌>>=◌}
-use Rattle.e_book.specs.Scope.{scope_of_names}
-use Rattle.e_book.specs.Headed.{Headed, stated_by}
+use Rattle.e_line.specs.Reading.{◌>>=◌}
+use Rattle.e_names.specs.Scope.{scope_of_names}
+use Rattle.e_names.specs.Headed.{Headed, stated_by}
 use Rattle.e_book.specs.DraftViews.{entry_of_draft}
 use Rattle.e_book.specs.Entry.{Entry}
 use Rattle.e_book.specs.Book.{is_last, is_done}
 use Rattle.e_book.specs.Steps.{begin, step}
-use Rattle.e_book.specs.Canonical.{line_of, head_forms, end_form, names_of_proof}
-use Rattle.e_book.proofs.InScope.{bind_ok, ok_is, read_ok}
-use Rattle.e_book.proofs.Building.{declared_scope}
-use Rattle.e_book.proofs.Choices.{passed}
+use Rattle.e_line.specs.Canonical.{line_of}
+use Rattle.e_names.specs.Canonical.{end_form}
+use Rattle.e_book.specs.Canonical.{head_forms, names_of_proof}
+use Rattle.e_line.proofs.Bound.{bind_ok, ok_is, read_ok}
+use Rattle.e_names.proofs.Building.{declared_scope}
+use Rattle.e_line.proofs.Choices.{passed}
 use Rattle.e_cert.specs.declared.owed.Due.{Due}
 use Rattle.e_cert.specs.declared.owed.Due.TheVariants as due
 use Rattle.e_cert.specs.declared.owed.Owed.{Owed}

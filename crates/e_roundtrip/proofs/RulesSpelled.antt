@@ -14,10 +14,10 @@ use Rattle.e_clause.specs.Rows.{Row}
 use Rattle.e_clause.specs.Table.{table}
 use Rattle.e_clause.specs.Instance.{number_of_rule}
 use Rattle.e_deriv.specs.declared.names.Names.{Names}
-use Rattle.e_book.specs.Reading.{◌>>=◌}
-use Rattle.e_book.specs.Scope.{object_as, objects_as, args_in}
-use Rattle.e_book.specs.Canonical.{name_of_object, rule_name}
-use Rattle.e_book.proofs.InScope.{bind_ok, ok_is, read_ok}
+use Rattle.e_line.specs.Reading.{◌>>=◌}
+use Rattle.e_names.specs.Scope.{object_as, objects_as, args_in}
+use Rattle.e_names.specs.Canonical.{name_of_object, rule_name}
+use Rattle.e_line.proofs.Bound.{bind_ok, ok_is, read_ok}
 use Rattle.e_roundtrip.proofs.NamesSpelled.{Keeps, object_named}
 use Rattle.e_roundtrip.proofs.LitsSpelled.{each_back}
 

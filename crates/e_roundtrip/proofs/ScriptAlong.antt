@@ -29,21 +29,23 @@ use Rattle.e_deriv.specs.Steps.{is_citation}
 use Rattle.e_book.specs.declared.blocks.Opened.TheVariants as opened
 use Rattle.e_book.specs.declared.steps.CloseLine.TheVariants as closes
 use Rattle.e_book.specs.declared.draft.Draft.{Draft}
-use Rattle.e_book.specs.Limits.{most_facts, most_terms, monomials}
+use Rattle.e_line.specs.Limits.{most_facts, most_terms, monomials}
 use Rattle.e_book.specs.Blocks.{made_in}
-use Rattle.e_book.specs.Headed.{Headed, stated_by, theorem_of}
-use Rattle.e_book.specs.Scope.{scope_of_names}
-use Rattle.e_book.specs.Fits.{few_facts, few_terms, is_diagram_lit, has_good_literals, NewNamesFit}
-use Rattle.e_book.specs.Canonical.{line_of, by_form, hence_form, let_form, apply_form, claim_form, superpose_form, qed_form, contradiction_form, cases_form, else_form}
+use Rattle.e_names.specs.Headed.{Headed, stated_by, theorem_of}
+use Rattle.e_names.specs.Scope.{scope_of_names}
+use Rattle.e_names.specs.Fits.{is_diagram_lit}
+use Rattle.e_book.specs.Fits.{few_facts, few_terms, has_good_literals, NewNamesFit}
+use Rattle.e_line.specs.Canonical.{line_of}
+use Rattle.e_names.specs.Canonical.{by_form, hence_form, let_form, apply_form, claim_form, superpose_form, qed_form, contradiction_form, cases_form, else_form}
 use Rattle.e_book.specs.HasSpelling.{is_plain}
-use Rattle.e_book.proofs.Lookups.{objects_named}
-use Rattle.e_book.proofs.LitLookups.{lit_named}
-use Rattle.e_book.proofs.PlainLits.{PlainLit, lits_named}
-use Rattle.e_book.proofs.Cited.{by_good}
-use Rattle.e_book.proofs.Building.{named_scope}
-use Rattle.e_book.proofs.Built.{of_sorts_in_scope, let_named}
-use Rattle.e_book.proofs.Superposed.{superpose_named}
-use Rattle.e_book.proofs.Applied.{apply_named}
+use Rattle.e_names.proofs.Lookups.{objects_named}
+use Rattle.e_names.proofs.LitLookups.{lit_named}
+use Rattle.e_names.proofs.PlainLits.{PlainLit, lits_named}
+use Rattle.e_names.proofs.Cited.{by_good}
+use Rattle.e_names.proofs.Building.{named_scope}
+use Rattle.e_names.proofs.Built.{of_sorts_in_scope, let_named}
+use Rattle.e_names.proofs.Superposed.{superpose_named}
+use Rattle.e_names.proofs.Applied.{apply_named}
 use Rattle.e_book.proofs.FittingScripts.{line_fits}
 use Rattle.e_book.proofs.ScriptParts.{steps_of, close_of, same_script, at_least, deep_at_least}
 use Rattle.e_book.proofs.LinesRead.{Inside, proving, splitting, behind, deep, copied, resume, second, applied_behind, step_cite, step_hence, step_let, step_apply, step_claim, step_superpose, step_cases, step_else, step_qed, step_contradiction, claim_closed, superpose_closed, first_closed, second_closed}

@@ -33,14 +33,17 @@ use Rattle.e_deriv.specs.Parts.{written as written_args}
 use Rattle.e_roundtrip.specs.Formed.{is_formed}
 use Rattle.e_book.specs.declared.blocks.Opened.TheVariants as opened
 use Rattle.e_book.specs.declared.draft.Draft.{Draft}
-use Rattle.e_book.specs.Limits.{most_facts}
-use Rattle.e_book.specs.Headed.{Headed, stated_by, theorem_of, title_at}
-use Rattle.e_book.specs.Scope.{scope_of_names}
-use Rattle.e_book.specs.Fits.{few_facts, is_diagram_lit, has_good_literals, NewNamesFit}
-use Rattle.e_book.specs.Canonical.{line_of, else_form}
-use Rattle.e_book.specs.HasSpelling.{is_plain, is_named_by_title, names_theorems}
-use Rattle.e_book.proofs.LitLookups.{diagram_is_good}
-use Rattle.e_book.proofs.Built.{of_sorts_length}
+use Rattle.e_line.specs.Limits.{most_facts}
+use Rattle.e_names.specs.Headed.{Headed, stated_by, theorem_of, title_at}
+use Rattle.e_names.specs.Scope.{scope_of_names}
+use Rattle.e_names.specs.Fits.{is_diagram_lit}
+use Rattle.e_book.specs.Fits.{few_facts, has_good_literals, NewNamesFit}
+use Rattle.e_line.specs.Canonical.{line_of}
+use Rattle.e_names.specs.Canonical.{else_form}
+use Rattle.e_names.specs.HasSpelling.{is_named_by_title}
+use Rattle.e_book.specs.HasSpelling.{is_plain, names_theorems}
+use Rattle.e_names.proofs.LitLookups.{diagram_is_good}
+use Rattle.e_names.proofs.Built.{of_sorts_length}
 use Rattle.e_book.proofs.LinesRead.{Inside, behind, deep, copied, resume, second, applied_behind}
 use Rattle.e_spell.specs.Certificates.{certs_lines}
 use Rattle.e_spell.specs.Spelling.{script_lines}

@@ -17,9 +17,10 @@ use Rattle.e_deriv.specs.Script.{Script, Qed, Contradiction, Cases}
 use Rattle.e_deriv.specs.Goal.{Goal, goal_of, are_for, goal_with}
 use Rattle.e_deriv.specs.Steps.{are_over, is_citation}
 use Rattle.e_deriv.specs.PlainStep.{PlainStep, Cited, Inferred, Made, Applied, Claimed, Copied, before, all_before}
-use Rattle.e_book.specs.Scope.{scope_of_names}
-use Rattle.e_book.specs.Headed.{Headed, theorem_of}
-use Rattle.e_book.specs.Canonical.{line_of, by_form, hence_form, let_form, apply_form, claim_form, superpose_form, cases_form, else_form, qed_form, contradiction_form}
+use Rattle.e_names.specs.Scope.{scope_of_names}
+use Rattle.e_names.specs.Headed.{Headed, theorem_of}
+use Rattle.e_line.specs.Canonical.{line_of}
+use Rattle.e_names.specs.Canonical.{by_form, hence_form, let_form, apply_form, claim_form, superpose_form, cases_form, else_form, qed_form, contradiction_form}
 use Rattle.e_cert.specs.declared.kept.Kept.{Kept}
 use Rattle.e_cert.specs.declared.kept.Kept.TheVariants.{Certs, Against}
 use Rattle.e_cert.specs.Owed.{first_cert}

@@ -4,7 +4,7 @@ use Rattle.e_text.specs.Lines.{Seen, end_bytes, text_of_lines}
 use Rattle.e_text.specs.declared.line.LineEnd.{LineEnd}
 use Rattle.e_text.specs.declared.line.LineFault.{LineFault}
 use Rattle.e_clause.specs.declared.cert.Version.{Version}
-use Rattle.e_book.specs.Headed.{Headed}
+use Rattle.e_names.specs.Headed.{Headed}
 use Rattle.e_book.specs.Entry.{Entry}
 use Rattle.e_book.specs.Canonical.{text_of}
 use Rattle.e_read.specs.Text.{at_start, piece_from}

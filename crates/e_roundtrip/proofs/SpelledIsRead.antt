@@ -12,24 +12,27 @@ use Rattle.e_literal.specs.declared.literal.Lit.{Lit}
 use Rattle.e_literal.specs.Use.{scope_of}
 use Rattle.e_literal.proofs.Growing.{sorts_next}
 use Rattle.e_theorem.specs.Statements.{stated}
-use Rattle.e_deriv.specs.Script.{Script, erased}
+use Rattle.e_deriv.specs.Script.{Script, erased, Cite, Hence, Make, Apply, Claim, Superposed, Qed, Contradiction, Cases}
 use Rattle.e_deriv.specs.Goal.{Goal, goal_of_statement, facts_of_statement}
 use Rattle.e_deriv.specs.Lines.{lines}
-use Rattle.e_book.specs.declared.form.Form.TheVariants as forms
+use Rattle.e_line.specs.declared.form.Form.TheVariants as forms
 use Rattle.e_book.specs.declared.draft.Place.TheVariants.{Closed, Done}
 use Rattle.e_book.specs.declared.draft.Draft.{Draft}
-use Rattle.e_book.specs.Headed.{Headed, stated_by}
-use Rattle.e_book.specs.Scope.{scope_of_names}
+use Rattle.e_names.specs.Headed.{Headed, stated_by}
+use Rattle.e_names.specs.Scope.{scope_of_names}
 use Rattle.e_book.specs.Steps.{begin, begun, closed, stepped, step}
 use Rattle.e_book.specs.Entry.{Entry}
-use Rattle.e_book.specs.Fits.{few_facts, few_terms, count_monomials}
+use Rattle.e_line.specs.Limits.{count_monomials}
+use Rattle.e_book.specs.Fits.{few_facts, few_terms}
 use Rattle.e_book.specs.Book.{is_done}
-use Rattle.e_book.specs.Canonical.{line_of, end_form, names_of_proof}
+use Rattle.e_line.specs.Canonical.{line_of}
+use Rattle.e_names.specs.Canonical.{end_form}
+use Rattle.e_book.specs.Canonical.{names_of_proof}
 use Rattle.e_book.specs.HasSpelling.{HasSpelling}
 use Rattle.e_book.proofs.LineWords.{words_again}
-use Rattle.e_book.proofs.Lookups.{InOrder, in_order}
-use Rattle.e_book.proofs.Building.{declared_scope}
-use Rattle.e_book.proofs.Growing.{first_in_order}
+use Rattle.e_names.proofs.Lookups.{InOrder, in_order}
+use Rattle.e_names.proofs.Building.{declared_scope}
+use Rattle.e_names.proofs.Growing.{first_in_order}
 use Rattle.e_book.proofs.FittingScripts.{line_fits}
 use Rattle.e_book.proofs.HeadRead.{run_title}
 use Rattle.e_book.proofs.LinesRead.{Inside, proving}
@@ -56,7 +59,6 @@ use Rattle.e_clause.specs.declared.cert.Cert.{Cert}
 use Rattle.e_clause.specs.declared.cert.Against.{Against}
 use Rattle.e_clause.specs.Versions.{is_cert_of, is_against_of}
 use Rattle.e_deriv.specs.Versions.{has_certs_of}
-use Rattle.e_deriv.specs.Script.{Cite, Hence, Make, Apply, Claim, Superposed, Qed, Contradiction, Cases}
 use Rattle.e_cert.proofs.GoodKept.{is_good_kept, AreGood}
 use Rattle.e_roundtrip.proofs.LinesTaken.{strict_form_again, no_bar, AllTaken, Stands, Along, along_append, form_leads}
 use Rattle.e_roundtrip.proofs.Standing.{Stood}

@@ -13,14 +13,14 @@ use Rattle.e_deriv.specs.Goal.{Goal}
 use Rattle.e_deriv.specs.Lines.{Line, lines}
 use Rattle.e_deriv.specs.Steps.{fits, needs}
 use Rattle.e_deriv.specs.Certified.{certs_of, certified_beside, is_certified}
-use Rattle.e_book.specs.declared.form.Form.{Form}
+use Rattle.e_line.specs.declared.form.Form.{Form}
 use Rattle.e_book.specs.declared.draft.Draft.{Draft}
-use Rattle.e_book.specs.Headed.{Headed, stated_by}
-use Rattle.e_book.specs.Scope.{scope_of_names}
+use Rattle.e_names.specs.Headed.{Headed, stated_by}
+use Rattle.e_names.specs.Scope.{scope_of_names}
 use Rattle.e_book.specs.Steps.{closed, step}
 use Rattle.e_book.specs.Book.{is_done}
-use Rattle.e_book.specs.Canonical.{line_of}
-use Rattle.e_book.proofs.Respelled.{GoodForm, as_read}
+use Rattle.e_line.specs.Canonical.{line_of}
+use Rattle.e_line.proofs.Respelled.{GoodForm, as_read}
 use Rattle.e_book.proofs.LinesRead.{Inside, proving}
 use Rattle.e_book.proofs.ScriptParts.{steps_of, close_of}
 use Rattle.e_book.proofs.ScriptRead.{Ready}

@@ -37,10 +37,11 @@ use Rattle.e_deriv.specs.Script.{Script, Cite, Hence, Make, Apply, Claim, Superp
 use Rattle.e_deriv.specs.Goal.{Goal, goal_of}
 use Rattle.e_deriv.specs.Lines.{theorem_at}
 use Rattle.e_deriv.specs.Versions.{has_certs_of}
-use Rattle.e_book.specs.Limits.{most_facts, most_terms, most_blanks, monomials, count_monomials}
-use Rattle.e_book.specs.Applies.{count_blanks}
-use Rattle.e_book.specs.Fits.{is_diagram_atom, is_diagram_lit, has_good_literals, few_facts, few_terms, few_blanks}
-use Rattle.e_book.proofs.ShortLits.{count_first}
+use Rattle.e_line.specs.Limits.{most_facts, most_terms, most_blanks, monomials, count_monomials}
+use Rattle.e_names.specs.Applies.{count_blanks}
+use Rattle.e_names.specs.Fits.{is_diagram_atom, is_diagram_lit}
+use Rattle.e_book.specs.Fits.{has_good_literals, few_facts, few_terms, few_blanks}
+use Rattle.e_names.proofs.ShortLits.{count_first}
 use Rattle.e_roundtrip.proofs.Filled.{both_same}
 use Rattle.e_trim.specs.Trimmed.{obj_at, image_of, lit_at, row_at, sum_at, sums_at, part_at, cert_at, against_at, form_at, superpose_at, args_at, joins_at, is_kept, wants, trimmed_from}
 

@@ -19,18 +19,18 @@ use Rattle.e_deriv.specs.Naming.{with_names, named}
 use Rattle.e_deriv.specs.Script.{Script, Cite, Hence, Make, Apply, Claim, Superposed, Qed, Contradiction, Cases, erased}
 use Rattle.e_deriv.specs.Goal.{Goal, goal_of}
 use Rattle.e_deriv.specs.Lines.{theorem_at}
-use Rattle.e_book.specs.declared.fault.Kind.{Kind}
-use Rattle.e_book.specs.declared.fault.Kind.TheVariants.{NameTaken}
-use Rattle.e_book.specs.declared.fault.What.{What}
-use Rattle.e_book.specs.declared.fault.What.TheVariants as limits
-use Rattle.e_book.specs.Limits.{most_of, within}
+use Rattle.e_line.specs.declared.fault.Kind.{Kind}
+use Rattle.e_line.specs.declared.fault.Kind.TheVariants.{NameTaken}
+use Rattle.e_line.specs.declared.fault.What.{What}
+use Rattle.e_line.specs.declared.fault.What.TheVariants as limits
+use Rattle.e_line.specs.Limits.{most_of, within}
 use Rattle.e_book.specs.LineLimits.{few_objects}
-use Rattle.e_book.specs.Reading.{◌>>=◌}
-use Rattle.e_book.specs.Scope.{has, is_taken, fresh}
+use Rattle.e_line.specs.Reading.{◌>>=◌}
+use Rattle.e_names.specs.Scope.{has, is_taken, fresh}
 use Rattle.e_book.specs.Fits.{NewNamesFit}
 use Rattle.e_book.proofs.Answered.{within_ok}
-use Rattle.e_book.proofs.Distinct.{passed, untaken}
-use Rattle.e_book.proofs.InScope.{bind_ok}
+use Rattle.e_names.proofs.Distinct.{passed, untaken}
+use Rattle.e_line.proofs.Bound.{bind_ok}
 use Rattle.e_trim.specs.Trimmed.{joins_at, is_kept, wants, trimmed_from}
 
 -- ---- fewer names

@@ -27,11 +27,12 @@ use Rattle.e_deriv.specs.Certified.{Certified}
 use Rattle.e_deriv.specs.Fitting.{all_objects, is_small, is_small_statement}
 use Rattle.e_deriv.specs.Versions.{has_certs_of}
 use Rattle.e_deriv.proofs.Versions.{good_of_version}
-use Rattle.e_book.specs.Limits.{count_monomials}
-use Rattle.e_book.specs.Headed.{Headed, stated_by}
+use Rattle.e_line.specs.Limits.{count_monomials}
+use Rattle.e_names.specs.Headed.{Headed, stated_by}
 use Rattle.e_book.specs.Entry.{Entry}
 use Rattle.e_book.specs.Fits.{Fits, has_good_literals}
-use Rattle.e_book.specs.HasSpelling.{HasSpelling, is_plain, names_theorems, is_named_by_title}
+use Rattle.e_names.specs.HasSpelling.{is_named_by_title}
+use Rattle.e_book.specs.HasSpelling.{HasSpelling, is_plain, names_theorems}
 use Rattle.e_book.proofs.Fitting.{small_statement}
 use Rattle.e_book.proofs.WrittenScripts.{erased_literals, written_well}
 use Rattle.e_read.specs.Text.{at_start, piece_from}

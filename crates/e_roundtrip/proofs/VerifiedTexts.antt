@@ -13,7 +13,7 @@ use Rattle.e_clause.specs.declared.cert.Version.TheVariants.{One, Two}
 use Rattle.e_theorem.specs.Statements.{stated}
 use Rattle.e_deriv.specs.Script.{Script}
 use Rattle.e_deriv.proofs.Agreement.{proof_of_certified}
-use Rattle.e_book.specs.Headed.{Headed, headed, stated_by}
+use Rattle.e_names.specs.Headed.{Headed, headed, stated_by}
 use Rattle.e_book.specs.Entry.{Entry}
 use Rattle.e_read.specs.Text.{is_lf_end, last_line_of}
 use Rattle.e_spell.specs.Spelling.{spelled, spelled_lines}

@@ -15,9 +15,9 @@ use Rattle.e_clause.specs.declared.cert.Part.{Part}
 use Rattle.e_clause.specs.declared.cert.Part.TheVariants as parts
 use Rattle.e_clause.specs.Versions.{by_literals, by_places, is_name_of, is_sum_of, are_sums_of, is_part_of}
 use Rattle.e_deriv.specs.declared.names.Names.{Names}
-use Rattle.e_book.specs.declared.fault.Kind.{Kind}
-use Rattle.e_book.proofs.Lookups.{InOrder}
-use Rattle.e_book.proofs.InScope.{ok_is}
+use Rattle.e_line.specs.declared.fault.Kind.{Kind}
+use Rattle.e_names.proofs.Lookups.{InOrder}
+use Rattle.e_line.proofs.Bound.{ok_is}
 use Rattle.e_cert.specs.declared.mark.Mark.{Mark}
 use Rattle.e_cert.specs.declared.mark.Mark.TheVariants as marks
 use Rattle.e_cert.specs.Marks.{mark_of, mark_words, row_is_of, mark_is_of}

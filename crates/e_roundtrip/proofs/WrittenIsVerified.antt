@@ -8,9 +8,9 @@ use Rattle.std.proofs.lemmas.List.{append-nil}
 use Rattle.e_text.specs.Lines.{Bounds, Spot, AreShort, lf_text, numbered}
 use Rattle.e_text.proofs.WrittenLines.{lines_of-lf_text}
 use Rattle.e_deriv.specs.Script.{Script}
-use Rattle.e_book.specs.Headed.{Headed, headed}
+use Rattle.e_names.specs.Headed.{Headed, headed}
 use Rattle.e_book.specs.Entry.{Entry}
-use Rattle.e_book.specs.Limits.{most_theorems}
+use Rattle.e_line.specs.Limits.{most_theorems}
 use Rattle.e_book.specs.Canonical.{text_of}
 use Rattle.e_read.specs.Text.{last_line_of}
 use Rattle.e_spell.specs.Spelling.{spelled_lines}

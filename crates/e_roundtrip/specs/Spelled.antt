@@ -7,7 +7,7 @@ use Rattle.e_clause.specs.declared.cert.Version.{Version}
 use Rattle.e_theorem.specs.Statements.{stated}
 use Rattle.e_deriv.specs.Script.{Script, erased}
 use Rattle.e_deriv.specs.Versions.{has_certs_of}
-use Rattle.e_book.specs.Headed.{Headed, stated_by}
+use Rattle.e_names.specs.Headed.{Headed, stated_by}
 use Rattle.e_book.specs.Entry.{Entry}
 use Rattle.e_book.specs.HasSpelling.{HasSpelling}
 use Rattle.e_roundtrip.specs.Formed.{Formed}

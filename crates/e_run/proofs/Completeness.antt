@@ -16,8 +16,8 @@ use Rattle.e_deriv.specs.Steps.{needs_as_written}
 use Rattle.e_theorem.specs.WideChoice.{SomeChoiceIsWide}
 use Rattle.e_literal.specs.Use.{Stated}
 use Rattle.e_deriv.specs.Refused.{SomeIsWide, IsWideAt, IsTooWide}
-use Rattle.e_book.specs.declared.known.Known.{Known}
-use Rattle.e_book.specs.Headed.{Headed, stated_by}
+use Rattle.e_names.specs.declared.known.Known.{Known}
+use Rattle.e_names.specs.Headed.{Headed, stated_by}
 use Rattle.e_book.specs.Entry.{Entry}
 use Rattle.e_run.specs.Outcome.{Rest, BookOutcome, IsOutcomeOf, Begins, StopsAt, RefusedAt, HasWide, lines_of_book}
 use Rattle.e_run.specs.Outcome as outcome

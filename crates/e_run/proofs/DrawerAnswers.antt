@@ -3,11 +3,11 @@ use Rattle.std.proofs.Common.{◌≡◌, ◌⊎◌, inl, inr, ℕ, ◌+◌, ◌�
 use Rattle.e_text.specs.Lines.{Seen}
 use Rattle.e_text.specs.declared.line.LineFault.{LineFault}
 use Rattle.e_text.proofs.WholeLines.{lines_of-take}
-use Rattle.e_book.specs.declared.fault.BookFault.{BookFault}
-use Rattle.e_book.specs.declared.fault.BookFault.TheVariants as faults
-use Rattle.e_book.specs.Reading.{◌>>=◌}
+use Rattle.e_line.specs.declared.fault.BookFault.{BookFault}
+use Rattle.e_line.specs.declared.fault.BookFault.TheVariants as faults
+use Rattle.e_line.specs.Reading.{◌>>=◌}
 use Rattle.e_book.specs.Grammar.{BookFails}
-use Rattle.e_book.proofs.InScope.{bind_ok}
+use Rattle.e_line.proofs.Bound.{bind_ok}
 use Rattle.e_drawing.specs.Plans.{no_plan}
 use Rattle.e_drawing.specs.Texts.{lines_of_text, plan_from}
 use Rattle.e_drawing.specs.Answers.{answered, drawn_of}

@@ -5,11 +5,11 @@ use Rattle.std.proofs.Math.Seq.{take-append-add}
 use Rattle.e_io.specs.Bytes.{Grew, GrewByFront}
 use Rattle.e_io.proofs.Growth.{grown, grown-nothing}
 use Rattle.e_theorem.specs.Statements.{stated}
-use Rattle.e_book.specs.Headed.{Headed, stated_by}
+use Rattle.e_names.specs.Headed.{Headed, stated_by}
 use Rattle.e_book.specs.Entry.{Entry}
-use Rattle.e_book.specs.declared.known.Known.{Known}
-use Rattle.e_book.specs.Taken.{nothing_known}
-use Rattle.e_book.specs.Titled.{Titled}
+use Rattle.e_names.specs.declared.known.Known.{Known}
+use Rattle.e_names.specs.Taken.{nothing_known}
+use Rattle.e_names.specs.Titled.{Titled}
 use Rattle.e_book.specs.Definitions.{OfTheorem, OfNotion, item_from}
 use Rattle.e_deriv.specs.Script.{size}
 use Rattle.e_deriv.specs.Naming.{names_lines, declared_names}

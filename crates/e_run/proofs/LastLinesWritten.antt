@@ -9,8 +9,8 @@ use Rattle.e_run.specs.declared.status.Status.{Status}
 use Rattle.e_run.specs.declared.status.Status.TheVariants as status
 use Rattle.e_run.specs.declared.blocks.BookResult.{BookResult}
 use Rattle.e_run.specs.declared.blocks.BookResult.TheVariants.{All, Stopped, Faulty}
-use Rattle.e_book.specs.declared.known.Known.{Known}
-use Rattle.e_book.specs.Taken.{nothing_known}
+use Rattle.e_names.specs.declared.known.Known.{Known}
+use Rattle.e_names.specs.Taken.{nothing_known}
 use Rattle.e_run.specs.Outcome.{Rest, lines_of_book}
 use Rattle.e_run.specs.Outcome as outcome
 use Rattle.e_run.specs.LastLines.{head_line, no_memory_line, read_fault_line}

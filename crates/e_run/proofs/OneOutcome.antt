@@ -6,12 +6,12 @@ use Rattle.e_deriv.specs.declared.stop.Wanted.{Wanted}
 use Rattle.e_deriv.specs.declared.names.Names.{Names}
 use Rattle.e_deriv.specs.Naming.{names_lines, declared_names}
 use Rattle.e_deriv.proofs.Stops.{one_stop, no_stop_of_licensed}
-use Rattle.e_book.specs.declared.fault.BookFault.{BookFault}
-use Rattle.e_book.specs.Headed.{Headed, stated_by}
+use Rattle.e_line.specs.declared.fault.BookFault.{BookFault}
+use Rattle.e_names.specs.Headed.{Headed, stated_by}
 use Rattle.e_book.specs.Entry.{Entry}
-use Rattle.e_book.specs.declared.known.Known.{Known}
-use Rattle.e_book.specs.Taken.{nothing_known}
-use Rattle.e_book.specs.Titled.{Titled}
+use Rattle.e_names.specs.declared.known.Known.{Known}
+use Rattle.e_names.specs.Taken.{nothing_known}
+use Rattle.e_names.specs.Titled.{Titled}
 use Rattle.e_book.specs.Definitions.{BookItem, OfTheorem, OfNotion, item_from}
 use Rattle.e_run.specs.Outcome.{Rest, and_theorem, and_notion, IsLicensed, Defines, AreDefined, Takes, BookOutcome, Accepted, Unlicensed, Faulty, StopsAt, OutcomeAt, IsOutcome, end_line_number}
 use Rattle.e_run.proofs.WholeBook.{same_found}

@@ -14,7 +14,7 @@ use Rattle.e_literal.proofs.Booleans.{and_left, and_right}
 use Rattle.e_theorem.specs.Statements.{stated}
 use Rattle.e_deriv.specs.declared.names.Names.{Names}
 use Rattle.e_deriv.specs.Fitting.{is_small_statement}
-use Rattle.e_book.specs.Headed.{Headed, titles, stated_by, theorem_of}
+use Rattle.e_names.specs.Headed.{Headed, titles, stated_by, theorem_of}
 use Rattle.e_book.specs.Canonical.{text_of}
 use Rattle.e_suggest.specs.Suggestions.{AreFirstChoices, SomeArgsAreTooWide}
 use Rattle.e_run.specs.declared.suggestions.Listed.{Listed}

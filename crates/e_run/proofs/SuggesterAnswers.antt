@@ -20,18 +20,18 @@ use Rattle.e_literal.specs.Use.{Stated, scope_of}
 use Rattle.e_deriv.specs.Script.{Script, size}
 use Rattle.e_deriv.specs.Goal.{goal_of_statement, facts_of_statement}
 use Rattle.e_deriv.specs.Fitting.{is_small_statement}
-use Rattle.e_book.specs.declared.fault.BookFault.{BookFault}
-use Rattle.e_book.specs.Headed.{Headed, is_known, stated_by}
+use Rattle.e_line.specs.declared.fault.BookFault.{BookFault}
+use Rattle.e_names.specs.Headed.{Headed, is_known, stated_by}
 use Rattle.e_book.specs.Entry.{Entry}
-use Rattle.e_book.specs.declared.fault.BookFault.TheVariants as faults
+use Rattle.e_line.specs.declared.fault.BookFault.TheVariants as faults
 use Rattle.e_book.specs.Canonical.{text_of}
-use Rattle.e_book.specs.declared.known.Known.{Known}
-use Rattle.e_book.specs.Titled.{Titled, is_notion}
-use Rattle.e_book.specs.Taken.{nothing_known}
+use Rattle.e_names.specs.declared.known.Known.{Known}
+use Rattle.e_names.specs.Titled.{Titled, is_notion}
+use Rattle.e_names.specs.Taken.{nothing_known}
 use Rattle.e_book.specs.Definitions.{BookItem, OfTheorem, OfNotion, item_from}
 use Rattle.e_book.specs.Grammar.{BookFails}
 use Rattle.e_book.proofs.Fitting.{one_more_stated}
-use Rattle.e_book.proofs.NotionsBeside.{one_more_notion}
+use Rattle.e_names.proofs.NotionsBeside.{one_more_notion}
 use Rattle.e_prove.proofs.StopsInLists.{at_less}
 use Rattle.e_suggest.specs.Suggestions.{SomeArgsAreTooWide}
 use Rattle.e_prove.specs.Places.{IsPlace}

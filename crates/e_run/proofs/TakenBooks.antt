@@ -4,17 +4,17 @@ use Rattle.std.specs.Prelude.{IfOk, IfSome, IfNone}
 use Rattle.e_book.specs.declared.coming.Coming.{Coming}
 use Rattle.e_book.specs.declared.reading.Reading.{Reading}
 use Rattle.e_book.specs.declared.item.Item.{Item}
-use Rattle.e_book.specs.declared.known.Known.{Known}
-use Rattle.e_book.specs.declared.fault.BookFault.{BookFault}
-use Rattle.e_book.specs.declared.fault.BookFault.TheVariants as faults
-use Rattle.e_book.specs.Taken.{nothing_known}
-use Rattle.e_book.specs.Titled.{Titled, is_notion, are_notions}
+use Rattle.e_names.specs.declared.known.Known.{Known}
+use Rattle.e_line.specs.declared.fault.BookFault.{BookFault}
+use Rattle.e_line.specs.declared.fault.BookFault.TheVariants as faults
+use Rattle.e_names.specs.Taken.{nothing_known}
+use Rattle.e_names.specs.Titled.{Titled, is_notion, are_notions}
 use Rattle.e_book.specs.Definitions.{BookItem, view_of, item_from}
 use Rattle.e_book.specs.inner.Machine.{FitsComing, IsBegun, ReadsOn}
 use Rattle.e_book.specs.inner.Machine as machine
 use Rattle.e_book.proofs.ComingTied.{items_read_alike}
 use Rattle.e_book.proofs.ReadingOn.{begun_first}
-use Rattle.e_book.proofs.NotionsBeside.{one_more_notion}
+use Rattle.e_names.proofs.NotionsBeside.{one_more_notion}
 use Rattle.e_run.specs.declared.book.Book.{Book}
 use Rattle.e_run.specs.declared.blocks.BookResult.TheVariants.{Faulty}
 use Rattle.e_run.specs.declared.blocks.BookResult.{BookResult}

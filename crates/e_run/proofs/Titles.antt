@@ -8,37 +8,37 @@ use Rattle.std.proofs.lemmas.Slice.Eq.{bytes_eq-Decides}
 use Rattle.e_text.specs.Tokens.{tokens_of}
 use Rattle.e_literal.specs.declared.object.Sort.{Sort}
 use Rattle.e_literal.specs.declared.object.Sort.TheVariants.{Point, Line, Circle}
-use Rattle.e_book.specs.declared.fault.Kind.{Kind}
-use Rattle.e_book.specs.declared.fault.Kind.TheVariants.{Malformed, NameTaken}
-use Rattle.e_book.specs.declared.fault.BookFault.{BookFault}
-use Rattle.e_book.specs.declared.form.Form.{Form}
-use Rattle.e_book.specs.declared.form.Form.TheVariants as forms
-use Rattle.e_book.specs.declared.fault.What.TheVariants as limits
-use Rattle.e_book.specs.declared.items.RawItem.{RawItem}
-use Rattle.e_book.specs.declared.items.Listing.{Listing}
-use Rattle.e_book.specs.declared.items.Listing.TheVariants as listings
-use Rattle.e_book.specs.declared.items.RawLine.{RawLine}
-use Rattle.e_book.specs.declared.items.RawLine.TheVariants.{Plain, Define, Listed}
-use Rattle.e_book.specs.declared.known.Known.{Known}
-use Rattle.e_book.specs.Reading.{◌>>=◌, word_at, title_at, end_at, cut_at, names_of, some_names}
-use Rattle.e_book.specs.Literals.{lit_of, diagram_lit_of, lits_of}
-use Rattle.e_book.specs.Superposes.{superpose_of}
-use Rattle.e_book.specs.Lets.{let_of}
-use Rattle.e_book.specs.Applies.{apply_of}
-use Rattle.e_book.specs.Forms.{declare_of, sort_of, made_of, by_of, theorem_of, bare, form_named}
-use Rattle.e_book.specs.Headed.{Headed}
+use Rattle.e_line.specs.declared.fault.Kind.{Kind}
+use Rattle.e_line.specs.declared.fault.Kind.TheVariants.{Malformed, NameTaken}
+use Rattle.e_line.specs.declared.fault.BookFault.{BookFault}
+use Rattle.e_line.specs.declared.form.Form.{Form}
+use Rattle.e_line.specs.declared.form.Form.TheVariants as forms
+use Rattle.e_line.specs.declared.fault.What.TheVariants as limits
+use Rattle.e_line.specs.declared.items.RawItem.{RawItem}
+use Rattle.e_line.specs.declared.items.Listing.{Listing}
+use Rattle.e_line.specs.declared.items.Listing.TheVariants as listings
+use Rattle.e_line.specs.declared.items.RawLine.{RawLine}
+use Rattle.e_line.specs.declared.items.RawLine.TheVariants.{Plain, Define, Listed}
+use Rattle.e_names.specs.declared.known.Known.{Known}
+use Rattle.e_line.specs.Reading.{◌>>=◌, word_at, title_at, end_at, cut_at, names_of, some_names}
+use Rattle.e_line.specs.Literals.{lit_of, diagram_lit_of, lits_of}
+use Rattle.e_line.specs.Superposes.{superpose_of}
+use Rattle.e_line.specs.Lets.{let_of}
+use Rattle.e_line.specs.Applies.{apply_of}
+use Rattle.e_line.specs.Forms.{declare_of, sort_of, made_of, by_of, theorem_of, bare, form_named}
+use Rattle.e_names.specs.Headed.{Headed}
 use Rattle.e_book.specs.Entry.{Entry}
-use Rattle.e_book.specs.Taken.{nothing_known, is_taken}
-use Rattle.e_book.specs.Titled.{Titled}
-use Rattle.e_book.specs.Limits.{most_notions, most_expanded}
-use Rattle.e_book.specs.Items.{has_item, items_of, define_of, placing_of, listed, line_named, line_of, is_show}
+use Rattle.e_names.specs.Taken.{nothing_known, is_taken}
+use Rattle.e_names.specs.Titled.{Titled}
+use Rattle.e_line.specs.Limits.{most_notions, most_expanded}
+use Rattle.e_line.specs.Items.{has_item, items_of, define_of, placing_of, listed, line_named, line_of, is_show}
 use Rattle.e_book.specs.Open.{Open, Head, Stating, Proving, Splitting, Proved, Ended}
 use Rattle.e_book.specs.Counts.{all_kept, limits_kept}
 use Rattle.e_book.specs.Grammar.{begins, nothing_said, is_empty, next, line_after, ended, is_skipped, put_at}
 use Rattle.e_book.specs.Definitions.{BookItem, OfTheorem, OfNotion, Coming, InTheorem, InDefinition, Defined, has_notion_title, first_line, says_more, still_defined, meant, ends_definition, plain_line, written_out, counted, listed_line, next_line, line_said, whole, whole_or, item_from}
-use Rattle.e_book.proofs.InScope.{bind_ok, ok_is, read_ok}
-use Rattle.e_book.proofs.Choices.{either, passed, of_reading}
-use Rattle.e_book.proofs.FreshTitles.{was_free}
+use Rattle.e_line.proofs.Bound.{bind_ok, ok_is, read_ok}
+use Rattle.e_line.proofs.Choices.{either, passed, of_reading}
+use Rattle.e_names.proofs.FreshTitles.{was_free}
 use Rattle.e_run.specs.Outcome.{Rest, and_theorem, and_notion, Defines, Takes, Accepted, IsOutcome, end_line_number}
 use Rattle.e_run.proofs.WholeBook.{at_end_found, by_found, by_none, by_skip}
 use Rattle.e_run.proofs.VerifiedText.{known_grows}

@@ -3,7 +3,7 @@ use Rattle.std.proofs.Common.{◌≡◌, inl, inr, ℕ, ◌≤◌, List, [], Opt
 use Rattle.e_io.specs.Bytes.{Grew}
 use Rattle.e_text.proofs.WholeLines.{lines_of-take}
 use Rattle.e_deriv.specs.declared.stop.Stop.TheVariants as stops
-use Rattle.e_book.specs.declared.known.Known.{Known}
+use Rattle.e_names.specs.declared.known.Known.{Known}
 use Rattle.e_generate.specs.Generated.{generated_text}
 use Rattle.e_judgement.specs.declared.judgement.Judgement.TheVariants as judgements
 use Rattle.e_judgement.specs.Judged.{JudgesText}

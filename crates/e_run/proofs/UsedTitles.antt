@@ -4,7 +4,7 @@ use Rattle.std.specs.Prelude.{slice_get}
 use Rattle.std.proofs.lemmas.Grind.{common_steps}
 use Rattle.std.proofs.lemmas.List.{get_or_past, length-map}
 use Rattle.std.proofs.lemmas.Option.{get_or_from_slice_get}
-use Rattle.e_book.specs.Headed.{Headed, titles, title_at}
+use Rattle.e_names.specs.Headed.{Headed, titles, title_at}
 
 pub title_found : (known : List Headed) (k : ℕ) (title : List ℕ) → slice_get (titles known) k ≡ Some title → title_at known k ≡ title
 title_found known k title e = get_or_from_slice_get (titles known) k title [] e

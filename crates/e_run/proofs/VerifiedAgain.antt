@@ -6,7 +6,7 @@ use Rattle.e_clause.specs.declared.cert.Version.{Version}
 use Rattle.e_clause.specs.declared.cert.Version.TheVariants.{One, Two}
 use Rattle.e_deriv.specs.Script.{Script, erased}
 use Rattle.e_deriv.specs.Fitting.{is_small_statement}
-use Rattle.e_book.specs.Headed.{Headed, headed, stated_by}
+use Rattle.e_names.specs.Headed.{Headed, headed, stated_by}
 use Rattle.e_book.specs.Entry.{Entry}
 use Rattle.e_book.proofs.Fitting.{small_statement, one_more_stated}
 use Rattle.e_spell.specs.Spelling.{spelled}

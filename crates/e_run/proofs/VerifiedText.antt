@@ -3,13 +3,13 @@ use Rattle.std.proofs.Common.{◌≡◌, true, ℕ, suc, ◌+◌, List, [], ◌�
 use Rattle.e_clause.specs.declared.cert.Version.TheVariants.{One}
 use Rattle.e_deriv.specs.Script.{Script}
 use Rattle.e_theorem.specs.Statements.{stated}
-use Rattle.e_book.specs.Headed.{Headed, headed, stated_by}
-use Rattle.e_book.specs.declared.known.Known.{Known}
+use Rattle.e_names.specs.Headed.{Headed, headed, stated_by}
+use Rattle.e_names.specs.declared.known.Known.{Known}
 use Rattle.e_book.specs.Entry.{Entry}
 use Rattle.e_book.specs.HasSpelling.{HasSpelling}
-use Rattle.e_book.specs.Taken.{nothing_known}
-use Rattle.e_book.specs.Titled.{Titled, are_notions}
-use Rattle.e_book.proofs.NotionsBeside.{one_more_notion}
+use Rattle.e_names.specs.Taken.{nothing_known}
+use Rattle.e_names.specs.Titled.{Titled, are_notions}
+use Rattle.e_names.proofs.NotionsBeside.{one_more_notion}
 use Rattle.e_book.proofs.ItemsRead.{spelled_grammar, notions_grammar}
 use Rattle.e_roundtrip.proofs.CertifiedFormed.{certified_formed}
 use Rattle.e_roundtrip.proofs.FilledSpelling.{filled_has_spelling}

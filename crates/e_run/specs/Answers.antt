@@ -13,8 +13,8 @@ use Rattle.e_deriv.specs.Proves.{IsProof}
 use Rattle.e_deriv.specs.Certified.{Certified}
 use Rattle.e_deriv.specs.Written.{is_written_well}
 use Rattle.e_deriv.specs.Versions.{has_certs_of}
-use Rattle.e_book.specs.declared.known.Known.{Known}
-use Rattle.e_book.specs.Headed.{Headed, stated_by}
+use Rattle.e_names.specs.declared.known.Known.{Known}
+use Rattle.e_names.specs.Headed.{Headed, stated_by}
 use Rattle.e_book.specs.Entry.{Entry}
 use Rattle.e_spell.specs.Spelling.{spelled, unlicensed_text, too_wide_text}
 use Rattle.e_judgement.specs.declared.judgement.Judgement.TheVariants as judgements

@@ -1,7 +1,7 @@
 -- What the command `figure` answers to a figure text, and what it writes.
 use Rattle.std.specs.Prelude.{◌≡◌, ◌⊎◌, ℕ, Bool, true, false, List, Option, Some, Result, Ok, Err}
-use Rattle.e_book.specs.declared.fault.BookFault.{BookFault}
-use Rattle.e_book.specs.declared.fault.BookFault.TheVariants as faults
+use Rattle.e_line.specs.declared.fault.BookFault.{BookFault}
+use Rattle.e_line.specs.declared.fault.BookFault.TheVariants as faults
 use Rattle.e_drawing.specs.Answers.{drawn_of}
 use Rattle.e_run.specs.declared.status.Status.{Status}
 use Rattle.e_run.specs.declared.status.Status.TheVariants as status

@@ -1,9 +1,9 @@
 -- The last lines of each answer.
 use Rattle.std.specs.Prelude.{ℕ, List, ◌++◌, Bool, if◌then◌else◌, codes, decimal}
-use Rattle.e_book.specs.declared.fault.BookFault.{BookFault}
-use Rattle.e_book.specs.declared.fault.BookFault.TheVariants as faults
-use Rattle.e_book.specs.declared.fault.What.{What}
-use Rattle.e_book.specs.declared.fault.What.TheVariants as limits
+use Rattle.e_line.specs.declared.fault.BookFault.{BookFault}
+use Rattle.e_line.specs.declared.fault.BookFault.TheVariants as faults
+use Rattle.e_line.specs.declared.fault.What.{What}
+use Rattle.e_line.specs.declared.fault.What.TheVariants as limits
 
 -- the line that comes before the blocks
 abbrev pub head_line : List ℕ

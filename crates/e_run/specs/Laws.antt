@@ -1,6 +1,6 @@
 -- A book has one outcome, and what is answered at a refusal and at a line that is too wide is its own.
 use Rattle.std.specs.Prelude.{◌≡◌, ℕ, List, Option}
-use Rattle.e_book.specs.declared.known.Known.{Known}
+use Rattle.e_names.specs.declared.known.Known.{Known}
 use Rattle.e_book.specs.Entry.{Entry}
 use Rattle.e_literal.specs.declared.object.Term.{Term}
 use Rattle.e_deriv.specs.declared.stop.Wanted.{Wanted}

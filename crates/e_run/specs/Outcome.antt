@@ -11,12 +11,12 @@ use Rattle.e_deriv.specs.Lines.{Line, proof_lines}
 use Rattle.e_deriv.specs.Naming.{names_lines, declared_names}
 use Rattle.e_deriv.specs.Licensed.{AllLicensed, IsContext, IsFirstUnlicensed}
 use Rattle.e_deriv.specs.Refused.{IsRefused, IsWideLine, IsTooWideAt}
-use Rattle.e_book.specs.declared.fault.BookFault.{BookFault}
-use Rattle.e_book.specs.Headed.{Headed, headed, stated_by}
+use Rattle.e_line.specs.declared.fault.BookFault.{BookFault}
+use Rattle.e_names.specs.Headed.{Headed, headed, stated_by}
 use Rattle.e_book.specs.Entry.{Entry}
-use Rattle.e_book.specs.declared.known.Known.{Known}
-use Rattle.e_book.specs.Taken.{nothing_known}
-use Rattle.e_book.specs.Titled.{Titled}
+use Rattle.e_names.specs.declared.known.Known.{Known}
+use Rattle.e_names.specs.Taken.{nothing_known}
+use Rattle.e_names.specs.Titled.{Titled}
 use Rattle.e_book.specs.Definitions.{OfTheorem, OfNotion, item_from}
 
 -- the remaining lines, cut off after the first that has a fault

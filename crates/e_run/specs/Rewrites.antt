@@ -3,7 +3,7 @@ use Rattle.std.specs.Prelude.{◌≡◌, ◌⊎◌, ℕ, ◌+◌, ◌<◌, ◌�
 use Rattle.e_clause.specs.declared.cert.Version.{Version}
 use Rattle.e_clause.specs.declared.cert.Version.TheVariants.{One, Two}
 use Rattle.e_theorem.specs.Statements.{stated}
-use Rattle.e_book.specs.Headed.{Headed, stated_by, title_at}
+use Rattle.e_names.specs.Headed.{Headed, stated_by, title_at}
 use Rattle.e_book.specs.Entry.{Entry}
 use Rattle.e_spell.specs.Spelling.{spelled}
 use Rattle.e_verify.specs.Numbered.{derivation_with_places}

@@ -14,12 +14,13 @@ use Rattle.e_deriv.specs.Lines.{Line}
 use Rattle.e_deriv.specs.Naming.{names_lines, declared_names}
 use Rattle.e_deriv.specs.Licensed.{IsContext}
 use Rattle.e_deriv.specs.Refused.{IsWideLine}
-use Rattle.e_book.specs.declared.fault.BookFault.{BookFault}
-use Rattle.e_book.specs.Headed.{Headed, is_known, stated_by}
+use Rattle.e_line.specs.declared.fault.BookFault.{BookFault}
+use Rattle.e_names.specs.Headed.{Headed, is_known, stated_by}
 use Rattle.e_book.specs.Entry.{Entry}
-use Rattle.e_book.specs.declared.known.Known.{Known}
+use Rattle.e_names.specs.declared.known.Known.{Known}
 use Rattle.e_book.specs.Definitions.{item_from}
-use Rattle.e_book.specs.Canonical.{name_of_object, text_of}
+use Rattle.e_names.specs.Canonical.{name_of_object}
+use Rattle.e_book.specs.Canonical.{text_of}
 use Rattle.e_spell.specs.Spelling.{unlicensed_text, too_wide_text}
 use Rattle.e_suggest.specs.Suggestions.{AreFirstChoices, SomeArgsAreTooWide}
 use Rattle.e_run.specs.declared.status.Status.{Status}

@@ -2,7 +2,7 @@
 use Rattle.std.specs.Prelude.{◌≡◌, ℕ, ◌≤◌, List, [], ◌++◌, length, Option, Some, None, Ok}
 use Rattle.e_io.specs.Bytes.{Grew}
 use Rattle.e_text.specs.Lines.{IsClosed, IsOpen}
-use Rattle.e_book.specs.declared.known.Known.{Known}
+use Rattle.e_names.specs.declared.known.Known.{Known}
 use Rattle.e_book.specs.Definitions.{BookItem, item_from}
 use Rattle.e_run.specs.LastLines.{read_fault_line}
 use Rattle.e_run.specs.Outcome.{Rest, Begins, end_line_number, lines_of_book}

@@ -1,7 +1,7 @@
 -- What the command `trial` answers: the generated book is checked, and what `check` would write of it is verified, within one call.
 use Rattle.std.specs.Prelude.{◌≡◌, ℕ, List, [], Option}
 use Rattle.e_deriv.specs.declared.names.Names.{Names}
-use Rattle.e_book.specs.declared.known.Known.{Known}
+use Rattle.e_names.specs.declared.known.Known.{Known}
 use Rattle.e_spell.specs.Spelling.{unlicensed_text, too_wide_text}
 use Rattle.e_generate.specs.Generated.{generated_text}
 use Rattle.e_judgement.specs.declared.judgement.Judgement.TheVariants as judgements
@@ -10,8 +10,7 @@ use Rattle.e_run.specs.declared.status.Status.{Status}
 use Rattle.e_run.specs.declared.status.Status.TheVariants as status
 use Rattle.e_run.specs.LastLines.{tried_line, fault_line, accepted_line, no_memory_line}
 use Rattle.e_run.specs.Wrote.{Wrote}
-use Rattle.e_run.specs.Outcome.{Rest, BookOutcome, Begins, IsOutcomeOf, lines_of_book}
-use Rattle.e_run.specs.Outcome.{Accepted as AcceptedBook, Faulty as FaultyBook}
+use Rattle.e_run.specs.Outcome.{Rest, BookOutcome, Begins, IsOutcomeOf, lines_of_book, Accepted as AcceptedBook, Faulty as FaultyBook}
 use Rattle.e_run.specs.Answers.{Derived, AllDerived, OutputUpTo, OutcomeAfter, Refuses, Widens, IsAnswer, theorems_of, steps_of}
 
 -- a book of these lines is accepted with these numbers of theorems and steps, and then `check` writes this

@@ -3,7 +3,7 @@
 ghost use Rattle.std.specs.Prelude.{◌≡◌, ◌≤◌, ◌<◌, ◌^◌, ◌++◌, ℕ, List, [], Option, Some, None, Ok, false, IfOk, IfNone, IsErrOf};
 ghost use Rattle.e_io.specs.Bytes.{Rose};
 ghost use Rattle.e_book.specs.Grammar.{last_line};
-ghost use Rattle.e_book.specs.Titled.{defines};
+ghost use Rattle.e_names.specs.Titled.{defines};
 ghost use Rattle.e_book.specs.Definitions.{OfTheorem, view_of, item_from, IsGoodItem};
 ghost use Rattle.e_book.specs.Entry.{entry_of};
 ghost use Rattle.e_book.specs.HasSpelling.{HasSpelling};
@@ -13,9 +13,10 @@ ghost use Rattle.e_run.specs.inner.Progress.{History, IsBook, Reaches, Handles, 
 ghost use Rattle.e_run.specs.declared.blocks.RunError.{RunError};
 
 use crate::blocks::{BookResult, RunError, block, faulty, keep, stopped};
-use e_book::{Item, Known, Reading, Theorem};
+use e_book::{Item, Reading, Theorem};
 use e_deriv::size;
 use e_io::{Sink, write_all};
+use e_names::Known;
 use e_text::Lines;
 use std::alloc::Global;
 use std::mem;

@@ -10,9 +10,9 @@ use crate::checker::close;
 use crate::input::{InputFault, MOST_BYTES, read_text};
 use crate::output::fault;
 use crate::status::Status;
-use e_book::BookFault;
 use e_drawing::draw;
 use e_io::{Sink, Source};
+use e_line::BookFault;
 use std::alloc::Global;
 
 /// Whether the fault is want of memory, which says nothing of the text.

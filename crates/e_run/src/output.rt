@@ -2,7 +2,7 @@
 ghost use Rattle.std.specs.Prelude.{◌≡◌, ◌++◌, [], IfOk, OnOk, codes, decimal};
 ghost use Rattle.e_run.specs.LastLines.{accepted_line, tried_line, verified_line, bad_line, garbled_line, listed_line, suggested_line, fault_line, fault_words, faulty_line, what_word};
 
-use e_book::{BookFault, What};
+use e_line::{BookFault, What};
 use e_text::Title;
 use itoa::Buffer;
 use std::alloc::{AllocError, Global};

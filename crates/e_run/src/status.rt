@@ -2,8 +2,8 @@
 ghost use Rattle.std.specs.Prelude.{◌≡◌};
 ghost use Rattle.e_run.specs.Answers.{exit_of};
 
-use e_book::BookFault;
 use e_deriv::Wanted;
+use e_line::BookFault;
 use e_literal::Values;
 use e_text::Title;
 

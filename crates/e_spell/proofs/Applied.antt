@@ -9,7 +9,7 @@ use Rattle.e_theorem.specs.Statements.{stated}
 use Rattle.e_deriv.specs.declared.names.Names.{Names}
 use Rattle.e_deriv.specs.Naming.{named}
 use Rattle.e_deriv.specs.Lines.{no_statement}
-use Rattle.e_book.specs.Headed.{Headed, titles, statements, stated_by, title_at, theorem_of}
+use Rattle.e_names.specs.Headed.{Headed, titles, statements, stated_by, title_at, theorem_of}
 
 pub title_found : (known : List Headed) (k : ℕ) (title : List ℕ) → slice_get (titles known) k ≡ Some title → title_at known k ≡ title
 title_found known k title e = get_or_from_slice_get (titles known) k title [] e

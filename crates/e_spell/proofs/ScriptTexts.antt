@@ -14,9 +14,11 @@ use Rattle.e_deriv.specs.declared.block.Step.{Step}
 use Rattle.e_deriv.specs.Script.{Script, Qed, Contradiction, Cases, steps_script}
 use Rattle.e_deriv.specs.PlainStep.{PlainStep, Cited, Inferred, Made, Applied, Claimed, Copied, plain_step, before}
 use Rattle.e_deriv.proofs.Scripts.{scripts, plain_steps, step_script-plain}
-use Rattle.e_book.specs.declared.form.Form.{Form}
-use Rattle.e_book.specs.Headed.{Headed, theorem_of}
-use Rattle.e_book.specs.Canonical.{line_of, hence_form, let_form, apply_form, claim_form, superpose_form, cases_form, else_form, qed_form, contradiction_form, text_of}
+use Rattle.e_line.specs.declared.form.Form.{Form}
+use Rattle.e_names.specs.Headed.{Headed, theorem_of}
+use Rattle.e_line.specs.Canonical.{line_of}
+use Rattle.e_names.specs.Canonical.{hence_form, let_form, apply_form, claim_form, superpose_form, cases_form, else_form, qed_form, contradiction_form}
+use Rattle.e_book.specs.Canonical.{text_of}
 use Rattle.e_spell.specs.Certificates.{certs_lines}
 use Rattle.e_spell.specs.Spelling.{script_lines}
 use Rattle.e_spell.specs.inner.Parts.{form_text, certs_text, superposition_text, script_text, step_text, steps_text, names_behind, names_after, qed_text, contradicted_text, split_text}

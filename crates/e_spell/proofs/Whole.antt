@@ -6,12 +6,14 @@ use Rattle.e_literal.specs.declared.literal.Lit.{Lit}
 use Rattle.e_deriv.specs.declared.names.Names.{Names}
 use Rattle.e_deriv.specs.Script.{Script}
 use Rattle.e_theorem.specs.declared.statement.Statement.{Statement}
-use Rattle.e_book.specs.declared.form.Form.{Form}
-use Rattle.e_book.specs.declared.form.Form.TheVariants as forms
-use Rattle.e_book.specs.Headed.{Headed}
+use Rattle.e_line.specs.declared.form.Form.{Form}
+use Rattle.e_line.specs.declared.form.Form.TheVariants as forms
+use Rattle.e_names.specs.Headed.{Headed}
 use Rattle.e_book.specs.Entry.{Entry}
 use Rattle.e_text.specs.Tokens.{spaced}
-use Rattle.e_book.specs.Canonical.{line_of, lit_words, raw_of, given_form, show_form, grouped, declare_form, made_form, declared_objects, made_objects, given_forms, shown_forms, head_forms, names_of_proof, end_form, text_of}
+use Rattle.e_line.specs.Canonical.{line_of, lit_words}
+use Rattle.e_names.specs.Canonical.{raw_of, given_form, show_form, end_form}
+use Rattle.e_book.specs.Canonical.{grouped, declare_form, made_form, declared_objects, made_objects, given_forms, shown_forms, head_forms, names_of_proof, text_of}
 use Rattle.e_spell.specs.declared.declarations.Role.TheVariants.{Declared, Made}
 use Rattle.e_spell.specs.Spelling.{script_lines, spelled}
 use Rattle.e_spell.specs.inner.Parts.{lits_text, script_text, proof_text, objects_text, title_text, statement_text, head_text, theorem_text}

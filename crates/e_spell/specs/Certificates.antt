@@ -17,7 +17,8 @@ use Rattle.e_clause.specs.declared.cert.Against.TheVariants.{Clash, Metric as Me
 use Rattle.e_deriv.specs.declared.names.Names.{Names}
 use Rattle.e_literal.specs.declared.object.Term.{Term}
 use Rattle.e_text.specs.Tokens.{joined}
-use Rattle.e_book.specs.Canonical.{term_words, raw_term, lit_words, raw_of, rule_name, name_of_object}
+use Rattle.e_line.specs.Canonical.{term_words, lit_words}
+use Rattle.e_names.specs.Canonical.{raw_term, raw_of, rule_name, name_of_object}
 
 -- ---- rows
 

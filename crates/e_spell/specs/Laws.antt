@@ -2,9 +2,10 @@
 use Rattle.std.specs.Prelude.{◌≡◌, ℕ, Bool, true, not, ◌==◌, List, [], ◌∷◌, map, filter}
 use Rattle.e_deriv.specs.Script.{Script, erased}
 use Rattle.e_deriv.specs.Parts.{filled_by}
-use Rattle.e_book.specs.Headed.{Headed}
+use Rattle.e_names.specs.Headed.{Headed}
 use Rattle.e_book.specs.Entry.{Entry}
-use Rattle.e_book.specs.Canonical.{line_of, forms_of}
+use Rattle.e_line.specs.Canonical.{line_of}
+use Rattle.e_book.specs.Canonical.{forms_of}
 use Rattle.e_spell.specs.Spelling.{spelled_lines}
 
 -- a certificate's line begins with `|`

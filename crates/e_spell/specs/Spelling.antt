@@ -12,10 +12,12 @@ use Rattle.e_construct.specs.Construct.{sorts_made}
 use Rattle.e_construct.specs.Superposing as superposing
 use Rattle.e_deriv.specs.Naming.{named}
 use Rattle.e_deriv.specs.Script.{Script, Cite, Hence, Make, Apply, Claim, Superposed, Qed, Contradiction, Cases}
-use Rattle.e_book.specs.Headed.{Headed, theorem_of}
+use Rattle.e_names.specs.Headed.{Headed, theorem_of}
 use Rattle.e_book.specs.Entry.{Entry}
 use Rattle.e_text.specs.Tokens.{joined}
-use Rattle.e_book.specs.Canonical.{line_of, lit_words, raw_of, by_form, hence_form, let_form, apply_form, claim_form, superpose_form, qed_form, contradiction_form, cases_form, else_form, end_form, head_forms, names_of_proof, text_of}
+use Rattle.e_line.specs.Canonical.{line_of, lit_words}
+use Rattle.e_names.specs.Canonical.{raw_of, by_form, hence_form, let_form, apply_form, claim_form, superpose_form, qed_form, contradiction_form, cases_form, else_form, end_form}
+use Rattle.e_book.specs.Canonical.{head_forms, names_of_proof, text_of}
 use Rattle.e_spell.specs.Certificates.{named_term, certs_lines, contradiction_lines}
 
 -- each line of a derivation, and below it one certificate for each literal that it needs, or that of a contradiction, where

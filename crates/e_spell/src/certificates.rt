@@ -2,7 +2,8 @@
 ghost use Rattle.std.specs.Prelude.{◌≡◌, ◌++◌, ◌∷◌, [], codes, decimal, OnOk};
 ghost use Rattle.std.specs.Option.{option_to_list};
 ghost use Rattle.e_text.specs.Tokens.{spaced};
-ghost use Rattle.e_book.specs.Canonical.{lit_words, raw_of};
+ghost use Rattle.e_line.specs.Canonical.{lit_words};
+ghost use Rattle.e_names.specs.Canonical.{raw_of};
 ghost use Rattle.e_spell.specs.Certificates.{named_term, row_words};
 ghost use Rattle.e_spell.specs.inner.Parts.{place_text, row_text, sum_text, rows_text, differs_text, sums_text, metric_text, part_text, parts_text, instance_text, transfer_text, cert_text, certs_text, against_text, contradiction_text};
 

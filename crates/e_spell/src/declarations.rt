@@ -6,8 +6,8 @@ ghost use Rattle.e_spell.specs.inner.Counts.{Below, AtMostMore, scope_of_counts}
 ghost use Rattle.e_spell.specs.inner.Parts.{role_words, opening, closing, objects_text};
 
 use crate::literals::name_of;
-use e_book::sort_word;
 use e_deriv::Names;
+use e_line::sort_word;
 use e_literal::{Sort, is_same_sort};
 use e_words::{end_line, put};
 use std::alloc::AllocError;

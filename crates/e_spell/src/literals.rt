@@ -4,15 +4,16 @@ ghost use Rattle.e_literal.specs.declared.object.Sort.TheVariants.{Point, Line};
 ghost use Rattle.e_literal.specs.Literal.{obj};
 ghost use Rattle.e_text.specs.Tokens.{spaced};
 ghost use Rattle.e_deriv.specs.Naming.{names_of_sort};
-ghost use Rattle.e_book.specs.Canonical.{lit_words, raw_of, name_at, name_of_object, argument_name, placed_names};
+ghost use Rattle.e_line.specs.Canonical.{lit_words};
+ghost use Rattle.e_names.specs.Canonical.{raw_of, name_at, name_of_object, argument_name, placed_names};
 ghost use Rattle.e_spell.specs.Certificates.{named_term};
 ghost use Rattle.e_spell.specs.inner.Parts.{lit_text, lits_text};
 
-use e_book::{name_at, name_of_object, raw_of, raw_term};
 use e_construct::Superpose;
 use e_deriv::Names;
 use e_line::put_said;
 use e_literal::{Items, Lit, Obj, Sort, Term};
+use e_names::{name_at, name_of_object, raw_of, raw_term};
 use e_text::Name;
 use e_words::{end_line, put};
 use std::alloc::{AllocError, Global};

@@ -3,7 +3,7 @@ ghost use Rattle.std.specs.Prelude.{◌≡◌, ◌++◌, map, OnOk};
 ghost use Rattle.std.specs.Option.{option_to_list};
 ghost use Rattle.e_deriv.specs.PlainStep.{plain_step};
 ghost use Rattle.e_deriv.specs.Script.{script_of, close_script};
-ghost use Rattle.e_book.specs.Canonical.{hence_form, let_form, apply_form};
+ghost use Rattle.e_names.specs.Canonical.{hence_form, let_form, apply_form};
 ghost use Rattle.e_spell.specs.inner.Parts.{form_text, certs_text, superposition_text, qed_text, step_text, steps_text, names_after, script_text, contradicted_text, proof_text};
 
 use crate::certificates::{put_against_of, put_cert_of, put_certs};
@@ -12,11 +12,11 @@ use crate::scope::{name_new, with_copies};
 use crate::steps::{
     put_application, put_citation, put_claim, put_conclusion, put_construction, put_superposition,
 };
-use e_book::Theorems;
 use e_clause::{Against, Cert};
 use e_construct::{Construction, Superpose};
 use e_deriv::{Block, Close, Names, Step};
 use e_literal::{Lit, Obj};
+use e_names::Theorems;
 use e_text::Name;
 use e_words::put_line;
 use std::alloc::{AllocError, Global};

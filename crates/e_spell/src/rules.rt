@@ -1,6 +1,6 @@
 //! The names of rules.
 ghost use Rattle.std.specs.Prelude.{◌≡◌, ◌++◌, ◌∷◌, OnOk};
-ghost use Rattle.e_book.specs.Canonical.{rule_name};
+ghost use Rattle.e_names.specs.Canonical.{rule_name};
 
 use e_clause::Rule;
 use e_words::put;

@@ -3,15 +3,15 @@ ghost use Rattle.std.specs.Prelude.{◌≡◌, take, IfOk, OnOk};
 ghost use Rattle.e_construct.specs.Superposing.{sorts_copied};
 ghost use Rattle.e_deriv.specs.Naming.{first_names, named};
 ghost use Rattle.e_deriv.specs.PlainStep.{plain_step};
-ghost use Rattle.e_book.specs.Headed.{theorem_of};
+ghost use Rattle.e_names.specs.Headed.{theorem_of};
 ghost use Rattle.e_spell.specs.inner.Counts.{scope_of_counts};
 ghost use Rattle.e_spell.specs.inner.Parts.{names_behind};
 
 use crate::declarations::Counts;
-use e_book::Theorems;
 use e_construct::Superpose;
 use e_deriv::{Names, Step};
 use e_literal::{Items, Sort};
+use e_names::Theorems;
 use e_text::Name;
 use std::alloc::{AllocError, Global};
 use std::mem;

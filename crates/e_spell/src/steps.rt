@@ -1,18 +1,19 @@
 //! The lines of steps and closes, without certificates.
 ghost use Rattle.std.specs.Prelude.{◌≡◌, ◌++◌, OnOk};
-ghost use Rattle.e_book.specs.declared.form.Form.TheVariants as forms;
-ghost use Rattle.e_book.specs.Headed.{title_at};
-ghost use Rattle.e_book.specs.Canonical.{line_of, by_form, let_form, apply_form, claim_form, qed_form};
+ghost use Rattle.e_line.specs.declared.form.Form.TheVariants as forms;
+ghost use Rattle.e_names.specs.Headed.{title_at};
+ghost use Rattle.e_line.specs.Canonical.{line_of};
+ghost use Rattle.e_names.specs.Canonical.{by_form, let_form, apply_form, claim_form, qed_form};
 ghost use Rattle.e_spell.specs.inner.Parts.{form_text, superposition_text};
 
 use crate::literals::{names_of_arguments, names_of_objects, placed_names};
 use crate::rules::rule_name;
-use e_book::{Theorems, raw_lits, raw_of};
 use e_clause::By;
 use e_construct::{Construction, Superpose};
 use e_deriv::Names;
 use e_line::{put_apply, put_by, put_let, put_named, put_stated, put_superpose};
 use e_literal::{Lit, Obj};
+use e_names::{Theorems, raw_lits, raw_of};
 use e_text::Name;
 use e_words::end_line;
 use std::alloc::{AllocError, Global};

@@ -8,8 +8,9 @@ ghost use Rattle.e_spell.specs.Spelling.{spelled};
 use crate::head::put_head;
 use crate::proof::put_proof;
 use crate::scope::first_names;
-use e_book::{Theorem, Theorems};
+use e_book::Theorem;
 use e_deriv::Block;
+use e_names::Theorems;
 use std::alloc::{AllocError, Global};
 use std::mem;
 

@@ -3,38 +3,38 @@ use Rattle.std.specs.Prelude.{◌≡◌, ℕ, ◌+◌, ◌≤◌, Bool, true, fa
 use Rattle.e_text.specs.Tokens.{tokens_of}
 use Rattle.e_text.specs.Lines.{Seen, HaveNoFault}
 use Rattle.e_deriv.specs.declared.names.Names.{Names}
-use Rattle.e_book.specs.declared.fault.Kind.{Kind}
-use Rattle.e_book.specs.declared.fault.Kind.TheVariants.{Malformed, NameTaken}
-use Rattle.e_book.specs.declared.fault.What.TheVariants as limits
-use Rattle.e_book.specs.declared.fault.BookFault.{BookFault}
-use Rattle.e_book.specs.declared.fault.BookFault.TheVariants as faults
-use Rattle.e_book.specs.declared.form.Form.{Form}
-use Rattle.e_book.specs.declared.form.Form.TheVariants as forms
-use Rattle.e_book.specs.declared.items.RawItem.{RawItem}
-use Rattle.e_book.specs.declared.items.Listing.{Listing}
-use Rattle.e_book.specs.declared.items.Listing.TheVariants as listings
-use Rattle.e_book.specs.declared.items.RawLine.{RawLine}
-use Rattle.e_book.specs.declared.items.RawLine.TheVariants.{Plain, Define, Listed}
+use Rattle.e_line.specs.declared.fault.Kind.{Kind}
+use Rattle.e_line.specs.declared.fault.Kind.TheVariants.{Malformed, NameTaken}
+use Rattle.e_line.specs.declared.fault.What.TheVariants as limits
+use Rattle.e_line.specs.declared.fault.BookFault.{BookFault}
+use Rattle.e_line.specs.declared.fault.BookFault.TheVariants as faults
+use Rattle.e_line.specs.declared.form.Form.{Form}
+use Rattle.e_line.specs.declared.form.Form.TheVariants as forms
+use Rattle.e_line.specs.declared.items.RawItem.{RawItem}
+use Rattle.e_line.specs.declared.items.Listing.{Listing}
+use Rattle.e_line.specs.declared.items.Listing.TheVariants as listings
+use Rattle.e_line.specs.declared.items.RawLine.{RawLine}
+use Rattle.e_line.specs.declared.items.RawLine.TheVariants.{Plain, Define, Listed}
 use Rattle.e_book.specs.declared.item.Item.{Item}
-use Rattle.e_book.specs.declared.known.Known.{Known}
+use Rattle.e_names.specs.declared.known.Known.{Known}
 use Rattle.e_book.specs.declared.draft.Place.{Place}
 use Rattle.e_book.specs.declared.draft.Place.TheVariants.{Showing, Proving, Done}
 use Rattle.e_book.specs.declared.draft.Draft.{Draft}
 use Rattle.e_book.specs.declared.coming.Coming.{Coming}
-use Rattle.e_book.specs.Reading.{◌>>=◌}
-use Rattle.e_book.specs.Faults.{line_fault}
-use Rattle.e_book.specs.Taken.{is_taken}
-use Rattle.e_book.specs.Titled.{Titled, titled}
-use Rattle.e_book.specs.Limits.{most_theorems, most_notions, most_expanded, within}
-use Rattle.e_book.specs.Scope.{right_count, fresh}
-use Rattle.e_book.specs.Superposes.{placed_in}
-use Rattle.e_book.specs.Canonical.{raw_of}
+use Rattle.e_line.specs.Reading.{◌>>=◌}
+use Rattle.e_line.specs.Faults.{line_fault}
+use Rattle.e_names.specs.Taken.{is_taken}
+use Rattle.e_names.specs.Titled.{Titled, titled}
+use Rattle.e_line.specs.Limits.{most_theorems, most_notions, most_expanded, within}
+use Rattle.e_names.specs.Scope.{right_count, fresh}
+use Rattle.e_names.specs.Superposes.{placed_in}
+use Rattle.e_names.specs.Canonical.{raw_of}
 use Rattle.e_book.specs.Steps.{allowed, declares, shows, begun, begin, FitsScope}
 use Rattle.e_book.specs.Steps as steps
 use Rattle.e_book.specs.Book.{is_last}
 use Rattle.e_book.specs.DraftViews.{entry_of_draft}
-use Rattle.e_book.specs.Items.{line_of, listing_form, is_show}
-use Rattle.e_book.specs.Meanings.{items_in}
+use Rattle.e_line.specs.Items.{line_of, listing_form, is_show}
+use Rattle.e_names.specs.Meanings.{items_in}
 use Rattle.e_book.specs.Grammar.{Rest, is_skipped, put_at, BookFails}
 use Rattle.e_book.specs.Definitions.{BookItem, OfTheorem, OfNotion, Answer, has_notion_title, view_of}
 

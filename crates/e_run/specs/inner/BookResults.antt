@@ -3,8 +3,8 @@ use Rattle.std.specs.Prelude.{◌≡◌, ◌⊎◌, ℕ, ◌≤◌, List, [], le
 use Rattle.e_io.specs.Bytes.{Grew, GrewByFront}
 use Rattle.e_deriv.specs.declared.stop.Stop.{Stop}
 use Rattle.e_deriv.specs.declared.stop.Stop.TheVariants as stops
-use Rattle.e_book.specs.declared.fault.BookFault.{BookFault}
-use Rattle.e_book.specs.declared.fault.BookFault.TheVariants as faults
+use Rattle.e_line.specs.declared.fault.BookFault.{BookFault}
+use Rattle.e_line.specs.declared.fault.BookFault.TheVariants as faults
 use Rattle.e_run.specs.declared.blocks.BookResult.{BookResult}
 use Rattle.e_run.specs.declared.blocks.BookResult.TheVariants.{All, Stopped, Faulty}
 use Rattle.e_run.specs.declared.blocks.RunError.{RunError}
@@ -13,7 +13,7 @@ use Rattle.e_spell.specs.Spelling.{stop_text, IsStop}
 use Rattle.e_run.specs.declared.status.Status.{Status}
 use Rattle.e_run.specs.declared.status.Status.TheVariants as status
 use Rattle.e_run.specs.LastLines.{accepted_line, fault_line}
-use Rattle.e_book.specs.declared.known.Known.{Known}
+use Rattle.e_names.specs.declared.known.Known.{Known}
 use Rattle.e_run.specs.Outcome.{Rest, Begins, IsFront}
 use Rattle.e_run.specs.Outcome as outcome
 use Rattle.e_run.specs.Answers.{Derived, AllDerived, OutcomeAfter, Refuses, Widens, theorems_of, steps_of, blocks_of}

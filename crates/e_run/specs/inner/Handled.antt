@@ -1,7 +1,7 @@
 -- The blocks of a source, before the last lines are written.
 use Rattle.std.specs.Prelude.{ℕ, List, [], Option, Result}
 use Rattle.e_io.specs.Bytes.{Grew}
-use Rattle.e_book.specs.declared.known.Known.{Known}
+use Rattle.e_names.specs.declared.known.Known.{Known}
 use Rattle.e_run.specs.declared.blocks.BookResult.{BookResult}
 use Rattle.e_run.specs.declared.blocks.RunError.{RunError}
 use Rattle.e_run.specs.Outcome.{Rest, Begins, end_line_number, lines_of_book}

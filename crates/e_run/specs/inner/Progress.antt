@@ -5,11 +5,11 @@ use Rattle.e_io.specs.Bytes.{Grew}
 use Rattle.e_text.specs.Lines.{Ahead, HaveNoFault, IsClosed}
 use Rattle.e_deriv.specs.Fitting.{is_small_statement}
 use Rattle.e_book.specs.declared.coming.Coming.{Coming}
-use Rattle.e_book.specs.declared.known.Known.{Known}
-use Rattle.e_book.specs.declared.fault.BookFault.TheVariants.{Unended}
-use Rattle.e_book.specs.Headed.{stated_by}
-use Rattle.e_book.specs.Taken.{nothing_known}
-use Rattle.e_book.specs.Titled.{are_notions}
+use Rattle.e_names.specs.declared.known.Known.{Known}
+use Rattle.e_line.specs.declared.fault.BookFault.TheVariants.{Unended}
+use Rattle.e_names.specs.Headed.{stated_by}
+use Rattle.e_names.specs.Taken.{nothing_known}
+use Rattle.e_names.specs.Titled.{are_notions}
 use Rattle.e_book.specs.Grammar.{last_line}
 use Rattle.e_book.specs.inner.Machine.{FitsComing, item_from, IsBegun}
 use Rattle.e_run.specs.declared.book.Book.{Book}

@@ -6,7 +6,7 @@ use Rattle.e_clause.specs.declared.cert.Version.TheVariants.{One, Two}
 use Rattle.e_theorem.specs.Statements.{stated}
 use Rattle.e_deriv.specs.Script.{Script}
 use Rattle.e_deriv.specs.Versions.{has_certs_of}
-use Rattle.e_book.specs.Headed.{Headed, stated_by, is_known}
+use Rattle.e_names.specs.Headed.{Headed, stated_by, is_known}
 use Rattle.e_book.specs.Entry.{Entry}
 use Rattle.e_verify.specs.Numbered.{derivation_with_places}
 use Rattle.e_verify.specs.Verdicts.{IsVerifiable}

@@ -10,10 +10,10 @@ use Rattle.e_deriv.specs.declared.stop.Stop.{Stop}
 use Rattle.e_deriv.specs.declared.stop.Stop.TheVariants as stops
 use Rattle.e_deriv.specs.declared.stop.Wanted.TheVariants.{Match}
 use Rattle.e_deriv.specs.Fitting.{is_small_statement}
-use Rattle.e_book.specs.Headed.{Headed, is_known, stated_by}
+use Rattle.e_names.specs.Headed.{Headed, is_known, stated_by}
 use Rattle.e_book.specs.Entry.{Entry}
-use Rattle.e_book.specs.declared.known.Known.{Known}
-use Rattle.e_book.specs.Titled.{are_notions}
+use Rattle.e_names.specs.declared.known.Known.{Known}
+use Rattle.e_names.specs.Titled.{are_notions}
 use Rattle.e_book.specs.Definitions.{BookItem, OfTheorem, item_from}
 use Rattle.e_book.specs.Canonical.{text_of}
 use Rattle.e_spell.specs.Spelling.{too_wide_text, stop_text, IsStop}

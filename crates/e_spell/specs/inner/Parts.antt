@@ -28,11 +28,13 @@ use Rattle.e_deriv.specs.Script.{Script}
 use Rattle.e_deriv.specs.PlainStep.{PlainStep, Cited, Inferred, Made as MadeStep, Applied, Claimed, Copied}
 use Rattle.e_deriv.specs.declared.stop.Wanted.{Wanted}
 use Rattle.e_theorem.specs.declared.statement.Statement.{Statement}
-use Rattle.e_book.specs.declared.form.Form.{Form}
-use Rattle.e_book.specs.Headed.{Headed, theorem_of}
+use Rattle.e_line.specs.declared.form.Form.{Form}
+use Rattle.e_names.specs.Headed.{Headed, theorem_of}
 use Rattle.e_book.specs.Entry.{Entry}
 use Rattle.e_text.specs.Tokens.{spaced}
-use Rattle.e_book.specs.Canonical.{lit_words, raw_of, rule_name, name_of_object, sort_word, line_of, by_form, hence_form, let_form, apply_form, claim_form, superpose_form, cases_form, else_form, qed_form, contradiction_form, end_form, declared_objects, made_objects, names_of_proof, text_of}
+use Rattle.e_line.specs.Canonical.{lit_words, sort_word, line_of}
+use Rattle.e_names.specs.Canonical.{raw_of, rule_name, name_of_object, by_form, hence_form, let_form, apply_form, claim_form, superpose_form, cases_form, else_form, qed_form, contradiction_form, end_form}
+use Rattle.e_book.specs.Canonical.{declared_objects, made_objects, names_of_proof, text_of}
 use Rattle.e_spell.specs.declared.declarations.Role.{Role}
 use Rattle.e_spell.specs.declared.declarations.Role.TheVariants.{Declared, Made}
 use Rattle.e_spell.specs.Certificates.{named_term, row_words}

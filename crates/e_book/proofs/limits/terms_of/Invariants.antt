@@ -1,5 +1,5 @@
 use Rattle.std.proofs.Common.{◌≡◌, ◌+◌, ◌≤◌, drop}
-use Rattle.e_book.specs.Limits.{most_terms, count_monomials}
+use Rattle.e_line.specs.Limits.{most_terms, count_monomials}
 use Rattle.e_book.proofs.limits.terms_of.Given as goal
 
 abbrev pub invariant-loop-lit : goal.invariant-loop-lit

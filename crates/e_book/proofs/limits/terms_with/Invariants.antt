@@ -1,6 +1,6 @@
 use Rattle.std.proofs.Common.{◌≡◌, ◌+◌, ◌≤◌, drop}
-use Rattle.e_book.specs.Limits.{most_terms}
-use Rattle.e_book.specs.LineLimits.{count_monos}
+use Rattle.e_line.specs.Limits.{most_terms}
+use Rattle.e_line.specs.LineLimits.{count_monos}
 use Rattle.e_book.proofs.limits.terms_with.Given as goal
 
 abbrev pub invariant-loop-lit : goal.invariant-loop-lit

@@ -1,6 +1,6 @@
 use Rattle.std.proofs.Common.{ℕ, List, sym, ap, subst, ◌∙◌}
 use Rattle.e_text.specs.Lines.{seen}
-use Rattle.e_book.specs.Reading.{Fails}
+use Rattle.e_line.specs.Reading.{Fails}
 use Rattle.e_book.specs.Grammar.{is_skipped}
 use Rattle.e_drawing.specs.Texts.{words_step}
 use Rattle.e_drawing.proofs.PlanLines.{takes_skipped, takes_words, takes_trouble}

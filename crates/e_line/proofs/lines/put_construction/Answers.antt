@@ -1,4 +1,4 @@
-use Rattle.e_book.specs.Canonical.{filled, line_pieces, avoid_words}
+use Rattle.e_line.specs.Canonical.{filled, line_pieces, avoid_words}
 use Rattle.e_line.proofs.Spaced.{after}
 use Rattle.e_line.proofs.lines.put_construction.Goals as goal
 

@@ -1,8 +1,8 @@
 use Rattle.std.proofs.Common.{◌++◌, List, ap, ◌∙◌}
 use Rattle.std.proofs.lemmas.List.{take_rest}
 use Rattle.e_text.specs.Tokens.{spaced}
-use Rattle.e_book.specs.declared.literal.RawLit.{RawLit}
-use Rattle.e_book.specs.Canonical.{more_words}
+use Rattle.e_line.specs.declared.literal.RawLit.{RawLit}
+use Rattle.e_line.specs.Canonical.{more_words}
 use Rattle.e_line.proofs.Spaced.{first_after}
 use Rattle.e_line.proofs.literals.put_literals.Goals as goal
 

@@ -1,5 +1,5 @@
 use Rattle.std.proofs.Common.{◌∷◌}
-use Rattle.e_book.specs.Canonical.{sum_words}
+use Rattle.e_line.specs.Canonical.{sum_words}
 use Rattle.e_line.proofs.Spaced.{after}
 use Rattle.e_line.proofs.literals.put_sums.Goals as goal
 

@@ -2,7 +2,7 @@ use Rattle.std.proofs.Common.{◌≡◌, Ok, List, map, ap, subst, ◌∙◌}
 use Rattle.e_literal.specs.declared.object.Obj.{Obj}
 use Rattle.e_literal.specs.declared.object.Sort.{Sort}
 use Rattle.e_book.specs.Blocks.{made_in}
-use Rattle.e_book.specs.Scope.{qed_in}
+use Rattle.e_names.specs.Scope.{qed_in}
 use Rattle.e_read.proofs.GoalSorts.{qed_sorts}
 use Rattle.e_read.proofs.needs.needs_at_qed.Goals as goal
 

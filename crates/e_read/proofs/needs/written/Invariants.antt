@@ -1,5 +1,5 @@
 use Rattle.std.proofs.Common.{◌≡◌, drop}
-use Rattle.e_book.specs.Reading.{with_front, each, or_malformed}
+use Rattle.e_line.specs.Reading.{with_front, each, or_malformed}
 use Rattle.e_read.proofs.needs.written.Given as goal
 
 abbrev pub invariant-loop-entry : goal.invariant-loop-entry

@@ -1,5 +1,5 @@
 use Rattle.std.proofs.Common.{◌≡◌, ℕ, ◌+◌, ◌∙◌, length, arith, refl, sym, ap, subst, Option, None, Ok, Some}
-use Rattle.e_book.specs.declared.known.Known.{Known}
+use Rattle.e_names.specs.declared.known.Known.{Known}
 use Rattle.e_book.specs.Definitions.{item_from, view_of}
 use Rattle.e_book.specs.Grammar.{last_line, BookFails}
 use Rattle.e_run.specs.declared.trial.Answer.{Answer}

@@ -1,4 +1,4 @@
-use Rattle.e_book.specs.Titled.{titled}
+use Rattle.e_names.specs.Titled.{titled}
 use Rattle.e_run.proofs.SuggesterAnswers.{notion_passes}
 use Rattle.e_run.proofs.suggester.pass_item.Goals as goal
 

@@ -1,9 +1,9 @@
 use Rattle.std.proofs.Common.{◌∙◌, sym}
 use Rattle.e_deriv.specs.Script.{script_of}
 use Rattle.e_book.specs.Entry.{entry_of}
-use Rattle.e_book.specs.Headed.{is_known}
-use Rattle.e_book.specs.Titled.{defines}
-use Rattle.e_book.proofs.FreshTitles.{both}
+use Rattle.e_names.specs.Headed.{is_known}
+use Rattle.e_names.specs.Titled.{defines}
+use Rattle.e_names.proofs.FreshTitles.{both}
 use Rattle.e_run.proofs.SuggesterAnswers.{titled_passes, stopped_passes, licensed_passes}
 use Rattle.e_run.proofs.suggester.pass_theorem.Goals as goal
 

@@ -1,5 +1,6 @@
 use Rattle.std.proofs.Common.{◌≡◌, ◌++◌, map, drop}
-use Rattle.e_book.specs.Canonical.{argument_word, name_of_object}
+use Rattle.e_line.specs.Canonical.{argument_word}
+use Rattle.e_names.specs.Canonical.{name_of_object}
 use Rattle.e_run.proofs.suggestions.names_of_choice.Given as goal
 
 abbrev pub invariant-loop-object : goal.invariant-loop-object

@@ -1,5 +1,5 @@
 use Rattle.std.proofs.Common.{◌≡◌, ◌++◌, map, drop}
-use Rattle.e_book.specs.Canonical.{argument_name}
+use Rattle.e_names.specs.Canonical.{argument_name}
 use Rattle.e_spell.proofs.literals.names_of_arguments.Given as goal
 
 abbrev pub invariant-loop-argument : goal.invariant-loop-argument

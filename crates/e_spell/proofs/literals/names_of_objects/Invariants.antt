@@ -1,5 +1,5 @@
 use Rattle.std.proofs.Common.{◌≡◌, ◌++◌, map, drop}
-use Rattle.e_book.specs.Canonical.{name_of_object}
+use Rattle.e_names.specs.Canonical.{name_of_object}
 use Rattle.e_spell.proofs.literals.names_of_objects.Given as goal
 
 abbrev pub invariant-loop-object : goal.invariant-loop-object

@@ -1,6 +1,6 @@
 use Rattle.std.proofs.Common.{◌≡◌, ◌++◌, drop, map}
 use Rattle.e_text.specs.Tokens.{spaced}
-use Rattle.e_book.specs.Canonical.{name_of_object}
+use Rattle.e_names.specs.Canonical.{name_of_object}
 use Rattle.e_spell.proofs.literals.put_objects.Given as goal
 
 abbrev pub invariant-loop-object : goal.invariant-loop-object

@@ -1,7 +1,7 @@
 use Rattle.std.proofs.Common.{Result, subst, arith}
 use Rattle.e_book.specs.declared.draft.Draft.{Draft}
-use Rattle.e_book.specs.declared.fault.Kind.{Kind}
-use Rattle.e_book.specs.Reading.{Moves}
+use Rattle.e_line.specs.declared.fault.Kind.{Kind}
+use Rattle.e_line.specs.Reading.{Moves}
 use Rattle.e_book.proofs.Copies.{superposed_is}
 use Rattle.e_book.proofs.draft.Draft.superpose.Goals as goal
 

@@ -1,5 +1,5 @@
 use Rattle.std.proofs.Common.{sym, ◌∙◌}
-use Rattle.e_book.specs.Reading.{texts}
+use Rattle.e_line.specs.Reading.{texts}
 use Rattle.e_book.specs.inner.Machine.{line_step}
 use Rattle.e_book.proofs.ReadingOn.{fails_at}
 use Rattle.e_book.proofs.reading.Reading.take_words.Goals as goal

@@ -1,9 +1,9 @@
 use Rattle.std.proofs.Common.{[], ◌∷◌, length, length-append, ap, arith}
-use Rattle.e_book.specs.declared.known.Known.{Known}
-use Rattle.e_book.specs.Headed.{headed, is_known}
-use Rattle.e_book.specs.Titled.{defines}
+use Rattle.e_names.specs.declared.known.Known.{Known}
+use Rattle.e_names.specs.Headed.{headed, is_known}
+use Rattle.e_names.specs.Titled.{defines}
 use Rattle.e_book.specs.Entry.{entry_of}
-use Rattle.e_book.proofs.FreshTitles.{both}
+use Rattle.e_names.proofs.FreshTitles.{both}
 use Rattle.e_book.proofs.Fitting.{fitting, small_statement, one_more_stated}
 use Rattle.e_book.proofs.ReadingOn.{begun_first}
 use Rattle.e_run.specs.Answers.{Derived}

@@ -1,4 +1,4 @@
-use Rattle.e_book.specs.Titled.{titled}
+use Rattle.e_names.specs.Titled.{titled}
 use Rattle.e_run.proofs.History.{breaks_off, notion_taken}
 use Rattle.e_run.proofs.TakenBooks.{with_notion}
 use Rattle.e_run.proofs.book.Book.handle_item.Goals as goal

@@ -1,7 +1,0 @@
-use Rattle.std.proofs.Common.{◌≡◌, drop}
-use Rattle.e_book.specs.Reading.{each, with_front}
-use Rattle.e_book.specs.Scope.{used}
-use Rattle.e_book.proofs.scope.objects_used.Given as goal
-
-abbrev pub invariant-loop-name : goal.invariant-loop-name
-invariant-loop-name l = with_front l.found (each (used l.names) (drop l.name-index l.of)) ≡ each (used l.names) l.of

@@ -1,0 +1,29 @@
+-- Faults with their lines.
+use Rattle.std.specs.Prelude.{ℕ}
+use Rattle.e_text.specs.declared.line.LineFault.{LineFault}
+use Rattle.e_text.specs.declared.line.LineFault.TheVariants as lines
+use Rattle.e_line.specs.declared.fault.Kind.{Kind}
+use Rattle.e_line.specs.declared.fault.Kind.TheVariants as kinds
+use Rattle.e_line.specs.declared.fault.What.TheVariants as limits
+use Rattle.e_line.specs.declared.fault.Trouble.{Trouble}
+use Rattle.e_line.specs.declared.fault.Trouble.TheVariants as troubles
+use Rattle.e_line.specs.declared.fault.BookFault.{BookFault}
+use Rattle.e_line.specs.declared.fault.BookFault.TheVariants as faults
+
+abbrev pub at_line : ℕ → Kind → BookFault
+at_line line kinds.Malformed = faults.Malformed line
+at_line line kinds.UnknownName = faults.UnknownName line
+at_line line kinds.NameTaken = faults.NameTaken line
+at_line line kinds.WrongSort = faults.WrongSort line
+at_line line (kinds.Limit what) = faults.Limit line what
+at_line line kinds.Unended = faults.Unended line
+
+abbrev pub trouble_at : ℕ → Trouble → BookFault
+trouble_at line troubles.NoMemory = faults.NoMemory
+trouble_at line (troubles.Fault kind) = at_line line kind
+
+-- what is wrong with the bytes of a line
+abbrev pub line_fault : LineFault → BookFault
+line_fault (lines.Bytes line) = faults.Limit line limits.Bytes
+line_fault (lines.LineBytes line) = faults.Limit line limits.LineBytes
+line_fault (lines.NotAscii line) = faults.Malformed line

@@ -1,0 +1,72 @@
+//! The use of an earlier theorem, by its words.
+ghost use Rattle.std.specs.Prelude.{◌<◌};
+ghost use Rattle.e_line.specs.Reading.{texts, Gives};
+ghost use Rattle.e_line.specs.Applies.{argument_of, arguments_of, made_names, apply_of};
+
+use crate::fault::{Kind, Trouble};
+use crate::words::{cut, some_names};
+use e_literal::Items;
+use e_text::{Name, Title, is};
+use std::alloc::Global;
+
+/// The use of an earlier theorem with its names as they are spelled, from left to right.
+#[derive(Drop)]
+pub struct RawApply {
+    pub title: Title,
+    /// The names of the arguments, and blanks.
+    pub args: Items<Option<Name>>,
+    /// The names of the made objects.
+    pub new: Items<Name>,
+}
+
+/// An argument: a name, or a blank.
+fn argument_of(word: &[u8]) -> Result<Option<Name>, Trouble>
+    ensures { Gives (λ a. a) result (argument_of word.now) }
+{
+    if is(word, b"_") {
+        return Ok(None);
+    }
+    match Name::read(word) {
+        Some(name) => Ok(Some(name)),
+        None => Err(Trouble::Fault(Kind::Malformed)),
+    }
+}
+
+fn arguments_of(alloc: Global, words: &[&[u8]]) -> Result<Items<Option<Name>>, Trouble>
+    ensures { Gives (λ a. a) result (arguments_of (texts words.now)) }
+{
+    let mut args = Items::empty(alloc);
+    for word in words {
+        let argument = argument_of(word)?;
+        args.push(argument)?;
+    }
+    Ok(args)
+}
+
+/// The words behind `as`, at least one name.
+fn made_names(alloc: Global, making: bool, words: &[&[u8]]) -> Result<Items<Name>, Trouble>
+    ensures { Gives (λ n. n) result (made_names making (texts words.now)) }
+{
+    if making {
+        some_names(alloc, words)
+    } else {
+        Ok(Items::empty(alloc))
+    }
+}
+
+/// What stands behind `apply`: a title, arguments, and perhaps `as` with names behind it.
+#[tactic(auto, unfolding(crate::specs::Applies::apply_of, crate::specs::Reading::title_at, crate::specs::Reading::word_at))]
+pub(crate) fn apply_of(alloc: Global, words: &[&[u8]]) -> Result<RawApply, Trouble>
+    ensures { Gives (λ a. a) result (apply_of (texts words.now)) }
+{
+    let [title, rest @ ..] = words else {
+        return Err(Trouble::Fault(Kind::Malformed));
+    };
+    let Some(title) = Title::read(title) else {
+        return Err(Trouble::Fault(Kind::Malformed));
+    };
+    let (args, new, making) = cut(rest, b"as");
+    let args = arguments_of(alloc, args)?;
+    let new = made_names(alloc, making, new)?;
+    Ok(RawApply { title, args, new })
+}

@@ -1,0 +1,160 @@
+//! Why a book is refused.
+ghost use Rattle.std.specs.Prelude.{◌≡◌, ◌<◌, ◌^◌};
+ghost use Rattle.e_line.specs.declared.fault.Trouble.TheVariants.{NoMemory};
+ghost use Rattle.e_line.specs.Faults.{line_fault};
+ghost use Rattle.e_text.specs.Lines.{fault_line};
+
+use e_text::LineFault;
+use std::alloc::{AllocError, AllocFailed};
+use thiserror::Error;
+
+/// What is wrong with a line.
+#[derive(Clone, Copy, PartialEq, Eq)]
+pub enum Kind {
+    Malformed,
+    UnknownName,
+    NameTaken,
+    WrongSort,
+    Limit(What),
+    Unended,
+}
+
+/// What a limit counts.
+#[derive(Clone, Copy, Debug, PartialEq, Eq)]
+pub enum What {
+    /// Bytes of the book, at most 4,194,304.
+    Bytes,
+    /// Bytes of a line without its end, at most 1,600.
+    LineBytes,
+    /// Theorems of a book, at most 500.
+    Theorems,
+    /// Points in scope, at most 40.
+    Points,
+    /// Lines in scope, at most 24.
+    Lines,
+    /// Circles in scope, at most 16.
+    Circles,
+    /// Step and close lines of a theorem, at most 1,024.
+    Steps,
+    /// Blocks one inside the other, at most 32.
+    Depth,
+    /// Literals that are facts, repeats counted, at most 2,048.
+    Facts,
+    /// Monomials of a literal, at most 32.
+    Monomials,
+    /// A coefficient, at most 1,000,000.
+    Coefficient,
+    /// Monomials of the facts, at most 1,024.
+    Terms,
+    /// Blanks of a line, at most 6.
+    Blanks,
+    /// Definitions of a book, at most 200.
+    Notions,
+    /// Literals that items stand for, in one theorem or one definition, at most 4,096.
+    Expanded,
+    /// A number of a figure: at most 1,000,000 in size, and a square at most 10^12.
+    Number,
+}
+
+/// What is wrong with a line, or want of memory.
+#[derive(Drop)]
+pub enum Trouble {
+    NoMemory,
+    Fault(Kind),
+}
+
+impl From<AllocError> for Trouble {
+    ghost from_gives = { λ _ e. e ≡ NoMemory };
+
+    fn from(_e: AllocError) -> Trouble {
+        Trouble::NoMemory
+    }
+}
+
+impl<T: Drop> From<AllocFailed<T>> for Trouble {
+    ghost from_gives = { λ _ e. e ≡ NoMemory };
+
+    fn from(_e: AllocFailed<T>) -> Trouble {
+        Trouble::NoMemory
+    }
+}
+
+/// What is wrong with a book, and at which line; or want of memory.
+#[derive(Clone, Copy, Debug, PartialEq, Eq, Error)]
+pub enum BookFault {
+    /// The line has no form at its place, or a wrong number of names.
+    #[error("line {line} has no form here")]
+    Malformed { line: u32 },
+    /// A name that is not in scope, or a rule, a theorem or a definition that there is not.
+    #[error("line {line} uses an unknown name")]
+    UnknownName { line: u32 },
+    /// A new name that is in scope, or new twice on its line; a title that an earlier theorem or
+    /// definition has.
+    #[error("line {line} gives a name that is taken")]
+    NameTaken { line: u32 },
+    /// An object of another sort than its place wants.
+    #[error("line {line} has an object of a wrong sort")]
+    WrongSort { line: u32 },
+    #[error("line {line} passes the limit on {what:?}")]
+    Limit { line: u32, what: What },
+    /// The text ends inside a theorem or a definition; the line is the one behind the last.
+    #[error("the text ends inside a theorem or a definition, at line {line}")]
+    Unended { line: u32 },
+    #[error("out of memory")]
+    NoMemory,
+}
+
+impl From<AllocError> for BookFault {
+    ghost use Rattle.std.specs.Prelude.{◌≡◌};
+    ghost use Rattle.e_line.specs.declared.fault.BookFault.TheVariants as book;
+
+    ghost from_gives = { λ _ e. e ≡ book.NoMemory };
+
+    fn from(_e: AllocError) -> BookFault {
+        BookFault::NoMemory
+    }
+}
+
+impl Kind {
+    ghost use Rattle.e_line.specs.Faults.{at_line};
+
+    /// The fault, at a line.
+    pub fn at(self, line: u32) -> BookFault
+        ensures { result ≡ at_line line self }
+    {
+        match self {
+            Kind::Malformed => BookFault::Malformed { line },
+            Kind::UnknownName => BookFault::UnknownName { line },
+            Kind::NameTaken => BookFault::NameTaken { line },
+            Kind::WrongSort => BookFault::WrongSort { line },
+            Kind::Limit(what) => BookFault::Limit { line, what },
+            Kind::Unended => BookFault::Unended { line },
+        }
+    }
+}
+
+impl Trouble {
+    ghost use Rattle.e_line.specs.Faults.{trouble_at};
+
+    /// The same, at a line.
+    pub fn at(self, line: u32) -> BookFault
+        ensures { result ≡ trouble_at line self }
+    {
+        match self {
+            Trouble::NoMemory => BookFault::NoMemory,
+            Trouble::Fault(kind) => kind.at(line),
+        }
+    }
+}
+
+/// What a fault of a line's bytes is for a book.
+pub fn of_line(fault: LineFault) -> BookFault
+    requires { fault_line fault < 2 ^ 32 }
+    ensures { result ≡ line_fault fault }
+{
+    match fault {
+        LineFault::Bytes { line } => Kind::Limit(What::Bytes).at(line as u32),
+        LineFault::LineBytes { line } => Kind::Limit(What::LineBytes).at(line as u32),
+        LineFault::NotAscii { line } => Kind::Malformed.at(line as u32),
+    }
+}

@@ -1,0 +1,215 @@
+//! The lines of a book, told from their words by spelling alone: those of theorems, with items among their literals,
+//! and the first line of a definition.
+ghost use Rattle.std.specs.Prelude.{◌≡◌, ◌&&◌, [], ◌∷◌};
+ghost use Rattle.std.specs.Str.{bytes_eq};
+ghost use Rattle.e_line.specs.Reading.{texts, Gives, Moves, with_front};
+ghost use Rattle.e_line.specs.Items.{as_of, item_of, items_of, begins_item, has_item, define_of, placing_of, listed, line_named, line_of};
+
+use crate::fault::{Kind, Trouble};
+use crate::form::{Form, form_of};
+use crate::lets::{are_words_of, names_at};
+use crate::literal::{RawLit, lit_of};
+use crate::superposes::{parted, superposition_pieces};
+use crate::words::{Words, names_of, place_of};
+use e_literal::Items;
+use e_text::{Name, Title, is};
+use std::alloc::Global;
+use std::mem;
+
+/// A defined notion of names, as they are spelled.
+#[derive(Drop)]
+pub struct RawAs {
+    pub title: Title,
+    pub args: Items<Name>,
+}
+
+/// What stands between two semicolons.
+#[derive(Drop)]
+pub enum RawItem {
+    Literal(RawLit),
+    /// `as TITLE NAMES`
+    As(RawAs),
+}
+
+/// A line that takes literals, before these.
+#[derive(Drop)]
+pub enum Listing {
+    Given,
+    Show,
+    Claim,
+    /// `superpose`, with the names of the triangle and the place, and the new names.
+    Superpose { args: Items<Name>, new: Items<Name> },
+}
+
+/// A line of a book.
+#[derive(Drop)]
+pub enum RawLine {
+    /// A line without items.
+    Plain(Form),
+    /// `define TITLE`
+    Define(Title),
+    /// A line that takes literals, with an item among them.
+    Listed(Listing, Items<RawItem>),
+}
+
+/// What stands behind `as` in a list of literals: a title and names.
+#[tactic(auto, unfolding(crate::specs::Items::as_of, crate::specs::Reading::title_at, crate::specs::Reading::word_at))]
+fn as_of(alloc: Global, words: &[&[u8]]) -> Result<RawAs, Trouble>
+    ensures { Gives (λ a. a) result (as_of (texts words.now)) }
+{
+    let [title, rest @ ..] = words else {
+        return Err(Trouble::Fault(Kind::Malformed));
+    };
+    let Some(title) = Title::read(title) else {
+        return Err(Trouble::Fault(Kind::Malformed));
+    };
+    let args = names_of(alloc, rest)?;
+    Ok(RawAs { title, args })
+}
+
+/// A literal, or a notion of names.
+#[tactic(auto, unfolding(crate::specs::Items::item_of))]
+fn item_of(alloc: Global, words: &[&[u8]]) -> Result<RawItem, Trouble>
+    ensures { Gives (λ i. i) result (item_of (texts words.now)) }
+{
+    match words {
+        [] => Err(Trouble::Fault(Kind::Malformed)),
+        [word, rest @ ..] => {
+            if is(word, b"as") {
+                return Ok(RawItem::As(as_of(alloc, rest)?));
+            }
+            Ok(RawItem::Literal(lit_of(alloc, words)?))
+        }
+    }
+}
+
+/// One or more of them with semicolons between them, put last.
+fn put_items_of(alloc: Global, words: &[&[u8]], items: &mut Items<RawItem>) -> Result<(), Trouble>
+    ensures { Moves result items.new (with_front items.old (items_of (texts words.now))) }
+{
+    let mut at = 0;
+    while at <= words.len() {
+        let end = at + place_of(&words[at..], b";");
+        let item = item_of(alloc, &words[at..end])?;
+        items.push(item)?;
+        at = end + 1;
+    }
+    Ok(())
+}
+
+/// One or more of them with semicolons between them.
+#[tactic(auto, using(crate::proofs::Loops::from_none))]
+fn items_of(alloc: Global, words: &[&[u8]]) -> Result<Items<RawItem>, Trouble>
+    ensures { Gives (λ i. i) result (items_of (texts words.now)) }
+{
+    let mut items = Items::empty(alloc);
+    put_items_of(alloc, words, &mut items)?;
+    Ok(items)
+}
+
+fn begins_item(words: &[&[u8]]) -> bool
+    ensures { result ≡ begins_item (texts words.now) }
+{
+    match words {
+        [] => false,
+        [word, ..] => is(word, b"as"),
+    }
+}
+
+/// Whether an item stands among the literals.
+fn has_item(words: &[&[u8]]) -> bool
+    ensures { result ≡ has_item (texts words.now) }
+{
+    let mut at = 0;
+    while at <= words.len() {
+        let end = at + place_of(&words[at..], b";");
+        if begins_item(&words[at..end]) {
+            return true;
+        }
+        at = end + 1;
+    }
+    false
+}
+
+#[tactic(auto, unfolding(crate::specs::Items::define_of))]
+fn define_of(mut words: Words) -> Result<RawLine, Trouble>
+    ensures { Gives (λ l. l) result (define_of words.entry) }
+{
+    let title = words.title()?;
+    words.end()?;
+    Ok(RawLine::Define(title))
+}
+
+/// The words of a superposition up to `show`.
+#[tactic(auto, unfolding(crate::specs::Items::placing_of))]
+fn placing_of(alloc: Global, head: &[&[u8]]) -> Result<Listing, Trouble>
+    ensures { Gives (λ l. l) result (placing_of (texts head.now)) }
+{
+    if !are_words_of(superposition_pieces(), head) {
+        return Err(Trouble::Fault(Kind::Malformed));
+    }
+    let new = names_at(alloc, true, superposition_pieces(), head)?;
+    let args = names_at(alloc, false, superposition_pieces(), head)?;
+    Ok(Listing::Superpose { args, new })
+}
+
+#[tactic(auto, unfolding(crate::specs::Items::listed))]
+fn listed(alloc: Global, line: Listing, words: &[&[u8]]) -> Result<RawLine, Trouble>
+    ensures { Gives (λ l. l) result (listed line (texts words.now)) }
+{
+    let items = match items_of(alloc, words) {
+        Ok(items) => items,
+        Err(trouble) => {
+            mem::drop(line);
+            return Err(trouble);
+        }
+    };
+    Ok(RawLine::Listed(line, items))
+}
+
+/// Whether it is a line of this first word, with an item among its literals.
+fn lists(word: &[u8], name: &[u8], literals: &[&[u8]]) -> bool
+    ensures { result ≡ (bytes_eq word.now name.now && has_item (texts literals.now)) }
+{
+    is(word, name) && has_item(literals)
+}
+
+#[tactic(auto, unfolding(crate::specs::Items::line_named, crate::specs::Forms::form_of))]
+fn line_named(
+    alloc: Global,
+    word: &[u8],
+    rest: &[&[u8]],
+    words: &[&[u8]],
+) -> Result<RawLine, Trouble>
+    requires { texts words.now ≡ word.now ∷ texts rest.now }
+    ensures { Gives (λ l. l) result (line_named word.now (texts rest.now)) }
+{
+    if is(word, b"define") {
+        return define_of(Words::new(rest));
+    }
+    if lists(word, b"given", rest) {
+        return listed(alloc, Listing::Given, rest);
+    }
+    if lists(word, b"show", rest) {
+        return listed(alloc, Listing::Show, rest);
+    }
+    if lists(word, b"claim", rest) {
+        return listed(alloc, Listing::Claim, rest);
+    }
+    let (head, behind) = parted(rest);
+    if lists(word, b"superpose", behind) {
+        return listed(alloc, placing_of(alloc, head)?, behind);
+    }
+    Ok(RawLine::Plain(form_of(alloc, words)?))
+}
+
+/// A line of a book, by its words alone.
+#[tactic(auto, unfolding(crate::specs::Items::line_of))]
+pub fn line_of(alloc: Global, words: &[&[u8]]) -> Result<RawLine, Trouble>
+    ensures { Gives (λ l. l) result (line_of (texts words.now)) }
+{
+    match words {
+        [] => Err(Trouble::Fault(Kind::Malformed)),
+        [word, rest @ ..] => line_named(alloc, word, rest, words),
+    }
+}

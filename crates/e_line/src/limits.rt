@@ -1,0 +1,81 @@
+//! How large a literal may be.
+ghost use Rattle.std.specs.Prelude.{◌≡◌, ◌+◌, length, nat_le};
+ghost use Rattle.std.specs.List.{list_all};
+ghost use Rattle.e_line.specs.Reading.{Gives};
+ghost use Rattle.e_line.specs.Literals.{monos_of};
+ghost use Rattle.e_line.specs.Limits.{most_coefficient, within};
+ghost use Rattle.e_line.specs.LineLimits.{are_short, are_small, few_monos};
+
+use crate::fault::{Kind, Trouble, What};
+use crate::literal::{RawAtom, RawLit};
+use crate::sum::{MAX_COEFFICIENT, RawMono};
+
+/// How many monomials a literal may have, as it is written.
+pub const MAX_MONOMIALS: usize = 32;
+
+/// At most so many, or the limit.
+pub fn within(count: usize, most: usize, what: What) -> Result<(), Trouble>
+    ensures { Gives (λ u. u) result (within count most what) }
+{
+    if count > most {
+        return Err(Trouble::Fault(Kind::Limit(what)));
+    }
+    Ok(())
+}
+
+/// How many monomials a literal has.
+pub fn count_of(lit: &RawLit) -> usize
+    ensures { result ≡ length (monos_of lit.now.atom) }
+{
+    match &lit.atom {
+        RawAtom::SumsEqual(x, y) => x.items().len() + y.items().len(),
+        RawAtom::SumsLess(x, y) => x.items().len() + y.items().len(),
+        RawAtom::SumsAtMost(x, y) => x.items().len() + y.items().len(),
+        _ => 0,
+    }
+}
+
+fn is_small_sum(monos: &[RawMono]) -> bool
+    ensures { result ≡ list_all (λ m. nat_le m.coeff most_coefficient) monos.now }
+{
+    monos.iter().all(|m| m.coeff <= MAX_COEFFICIENT)
+}
+
+fn is_small(lit: &RawLit) -> bool
+    ensures { result ≡ list_all (λ m. nat_le m.coeff most_coefficient) (monos_of lit.now.atom) }
+{
+    match &lit.atom {
+        RawAtom::SumsEqual(x, y) => is_small_sum(x.items()) && is_small_sum(y.items()),
+        RawAtom::SumsLess(x, y) => is_small_sum(x.items()) && is_small_sum(y.items()),
+        RawAtom::SumsAtMost(x, y) => is_small_sum(x.items()) && is_small_sum(y.items()),
+        _ => true,
+    }
+}
+
+/// Whether no literal has more monomials than it may.
+fn are_short(lits: &[RawLit]) -> bool
+    ensures { result ≡ are_short lits.now }
+{
+    lits.iter().all(|lit| count_of(lit) <= MAX_MONOMIALS)
+}
+
+/// Whether no coefficient is larger than it may be.
+fn are_small(lits: &[RawLit]) -> bool
+    ensures { result ≡ are_small lits.now }
+{
+    lits.iter().all(|lit| is_small(lit))
+}
+
+/// The limits of each literal: of its monomials, and then of the coefficients of all.
+#[tactic(auto, unfolding(crate::specs::LineLimits::few_monos))]
+pub fn few_monos(lits: &[RawLit]) -> Result<(), Trouble>
+    ensures { Gives (λ u. u) result (few_monos lits.now) }
+{
+    if !are_short(lits) {
+        return Err(Trouble::Fault(Kind::Limit(What::Monomials)));
+    }
+    if !are_small(lits) {
+        return Err(Trouble::Fault(Kind::Limit(What::Coefficient)));
+    }
+    Ok(())
+}

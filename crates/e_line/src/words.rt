@@ -1,0 +1,184 @@
+//! The words of a line that are still to be read.
+ghost use Rattle.std.specs.Prelude.{◌≡◌, ◌<◌, ◌≤◌, IsTrue, if◌then◌else◌, List, length, IfOk, [], ◌∷◌, ◌==◌};
+ghost use Rattle.std.specs.Iterator.{YieldsFirst};
+ghost use Rattle.e_text.specs.Tokens.{tokens_of};
+ghost use Rattle.std.specs.List.{position_or_len};
+ghost use Rattle.std.specs.Str.{bytes_eq};
+ghost use Rattle.e_line.specs.Canonical.{sort_word};
+ghost use Rattle.e_line.specs.Reading.{cut_at, texts, Gives, Reads, word_at, name_at, title_at, end_at, names_of, some_names, two_names, three_names};
+
+use crate::fault::{Kind, Trouble};
+use e_literal::{Items, Sort};
+use e_text::{Name, Title, is, tokens};
+use std::alloc::{AllocError, Global};
+use std::marker::Model;
+
+/// The word of the lines that declare or make objects of this sort.
+pub fn sort_word(sort: Sort) -> &'static [u8]
+    ensures { result.now ≡ sort_word sort }
+{
+    match sort {
+        Sort::Point => b"points",
+        Sort::Line => b"lines",
+        Sort::Circle => b"circles",
+    }
+}
+
+/// The tokens of a line, kept in room for as many as the line can have. It fails only for want of memory.
+pub fn collected(alloc: Global, line: &[u8]) -> Result<Vec<&[u8]>, AllocError>
+    ensures { IfOk result (λ v. texts v.items ≡ tokens_of line.now) }
+{
+    let mut words = Vec::with_capacity(alloc, line.len() / 2 + 1)?;
+    for word in tokens(line) {
+        words.push(word)?;
+    }
+    Ok(words)
+}
+
+/// Where a word stands first, or the number of words.
+pub fn place_of(words: &[&[u8]], word: &[u8]) -> usize
+    ensures place { result ≡ position_or_len (λ w. bytes_eq w word.now) (texts words.now) }
+    ensures within { result ≤ length words.now }
+{
+    for (i, other) in words.iter().enumerate() {
+        if is(other, word) {
+            return i;
+        }
+    }
+    words.len()
+}
+
+/// The words before a word, those behind it, and whether it is there.
+pub fn cut<'b, 'a>(words: &'b [&'a [u8]], word: &[u8]) -> (&'b [&'a [u8]], &'b [&'a [u8]], bool)
+    ensures cut { cut_at word.now (texts words.now) ≡ (texts result.0.now, texts result.1.now, result.2) }
+    ensures shorter { IsTrue result.2 → length result.1.now < length words.now }
+{
+    let end = place_of(words, word);
+    let (part, rest) = words.split_at(end);
+    match rest {
+        [] => (part, rest, false),
+        [_, after @ ..] => (part, after, true),
+    }
+}
+
+/// Words that are names.
+pub fn names_of(alloc: Global, words: &[&[u8]]) -> Result<Items<Name>, Trouble>
+    ensures { Gives (λ n. n) result (names_of (texts words.now)) }
+{
+    let mut names = Items::empty(alloc);
+    for word in words {
+        match Name::read(word) {
+            Some(name) => names.push(name)?,
+            None => return Err(Trouble::Fault(Kind::Malformed)),
+        }
+    }
+    Ok(names)
+}
+
+/// At least one word, each a name.
+#[tactic(auto, unfolding(crate::specs::Reading::some_names))]
+pub(crate) fn some_names(alloc: Global, words: &[&[u8]]) -> Result<Items<Name>, Trouble>
+    ensures { Gives (λ n. n) result (some_names (texts words.now)) }
+{
+    let names = names_of(alloc, words)?;
+    if names.is_empty() {
+        return Err(Trouble::Fault(Kind::Malformed));
+    }
+    Ok(names)
+}
+
+/// The words of a line that are still to be read, seen as their texts.
+#[derive(Drop)]
+pub struct Words<'b, 'a> {
+    rest: &'b [&'a [u8]],
+}
+
+impl<'b, 'a> Model for Words<'b, 'a> {
+    ghost use Rattle.std.specs.Prelude.{List, ℕ};
+    ghost use Rattle.e_line.specs.Reading.{texts};
+
+    ghost Value = { List (List ℕ) };
+
+    ghost view = { λ w. texts w.rest.now };
+}
+
+impl<'b, 'a> Words<'b, 'a> {
+    pub fn new(words: &'b [&'a [u8]]) -> Self
+        ensures { result ≡ texts words.now }
+    {
+        Words { rest: words }
+    }
+
+    /// The next word.
+    #[tactic(auto, unfolding(crate::specs::Reading::word_at))]
+    pub fn word(&mut self) -> Result<&'a [u8], Trouble>
+        ensures { Reads (λ w. w.now) result self.new (word_at self.old) }
+    {
+        match self.rest {
+            [] => Err(Trouble::Fault(Kind::Malformed)),
+            [word, rest @ ..] => {
+                self.rest = rest;
+                Ok(*word)
+            }
+        }
+    }
+
+    /// The next word, a name.
+    #[tactic(auto, unfolding(crate::specs::Reading::name_at))]
+    pub fn name(&mut self) -> Result<Name, Trouble>
+        ensures { Reads (λ n. n) result self.new (name_at self.old) }
+    {
+        match Name::read(self.word()?) {
+            Some(name) => Ok(name),
+            None => Err(Trouble::Fault(Kind::Malformed)),
+        }
+    }
+
+    /// The next word, a title.
+    #[tactic(auto, unfolding(crate::specs::Reading::title_at))]
+    pub fn title(&mut self) -> Result<Title, Trouble>
+        ensures { Reads (λ n. n) result self.new (title_at self.old) }
+    {
+        match Title::read(self.word()?) {
+            Some(title) => Ok(title),
+            None => Err(Trouble::Fault(Kind::Malformed)),
+        }
+    }
+
+    /// No word is left.
+    #[tactic(auto, unfolding(crate::specs::Reading::end_at))]
+    pub fn end(&self) -> Result<(), Trouble>
+        ensures { Gives (λ u. u) result (end_at self.now) }
+    {
+        if self.rest.is_empty() {
+            Ok(())
+        } else {
+            Err(Trouble::Fault(Kind::Malformed))
+        }
+    }
+}
+
+/// All the words are two names.
+#[tactic(auto, unfolding(crate::specs::Reading::two_names))]
+pub(crate) fn two_names(words: &[&[u8]]) -> Result<(Name, Name), Trouble>
+    ensures { Gives (λ p. (p.0, p.1)) result (two_names (texts words.now)) }
+{
+    let mut words = Words::new(words);
+    let first = words.name()?;
+    let second = words.name()?;
+    words.end()?;
+    Ok((first, second))
+}
+
+/// All the words are three names.
+#[tactic(auto, unfolding(crate::specs::Reading::three_names))]
+pub(crate) fn three_names(words: &[&[u8]]) -> Result<(Name, Name, Name), Trouble>
+    ensures { Gives (λ p. (p.0, p.1, p.2)) result (three_names (texts words.now)) }
+{
+    let mut words = Words::new(words);
+    let first = words.name()?;
+    let second = words.name()?;
+    let third = words.name()?;
+    words.end()?;
+    Ok((first, second, third))
+}

@@ -1,0 +1,64 @@
+-- Names that are free.
+use Rattle.std.proofs.Common.{◌≡◌, ℕ, ◌+◌, Bool, true, false, cond, ◌||◌, List, [], ◌∷◌, ◌++◌, Result, Err, refl, sym, ap, ◌∙◌}
+use Rattle.std.specs.Str.{bytes_eq}
+use mathlib.Core.Bool.{or-false}
+use Rattle.e_literal.specs.declared.object.Sort.{Sort}
+use Rattle.e_literal.specs.declared.object.Sort.TheVariants.{Point, Line, Circle}
+use Rattle.e_deriv.specs.declared.names.Names.{Names}
+use Rattle.e_line.specs.declared.fault.Kind.{Kind}
+use Rattle.e_line.specs.declared.fault.Kind.TheVariants.{NameTaken}
+use Rattle.e_deriv.specs.Naming.{names_of_sort, with_names}
+use Rattle.e_names.specs.Scope.{has, is_taken, fresh}
+
+-- with one name more
+abbrev pub plus : Names → Sort → List ℕ → Names
+plus ns sort name = with_names ns sort (names_of_sort ns sort ++ name ∷ [])
+
+-- no object has this name
+abbrev pub Free : Names → List ℕ → Type 0
+Free ns n = (has ns.points n ≡ false) × (has ns.lines n ≡ false) × (has ns.circles n ≡ false)
+
+-- ---- a name on a line of its own, or on the next line
+
+or_assoc : (a b c : Bool) → (a || (b || c)) ≡ ((a || b) || c)
+or_assoc true b c = refl
+or_assoc false b c = refl
+
+has_push : (xs : List (List ℕ)) (n m : List ℕ) → has (xs ++ n ∷ []) m ≡ (has xs m || bytes_eq n m)
+has_push [] n m = or-false (bytes_eq n m)
+has_push (x ∷ xs) n m = ap (λ b. bytes_eq x m || b) (has_push xs n m) ∙ or_assoc (bytes_eq x m) (has xs m) (bytes_eq n m)
+
+in_points : (p l c q s : Bool) → (p || (l || (c || (q || s)))) ≡ ((p || q) || (l || (c || s)))
+in_points true l c q s = refl
+in_points false true c true s = refl
+in_points false true c false s = refl
+in_points false false true true s = refl
+in_points false false true false s = refl
+in_points false false false q s = refl
+
+in_lines : (p l c q s : Bool) → (p || (l || (c || (q || s)))) ≡ (p || ((l || q) || (c || s)))
+in_lines true l c q s = refl
+in_lines false true c q s = refl
+in_lines false false true true s = refl
+in_lines false false true false s = refl
+in_lines false false false q s = refl
+
+in_circles : (p l c q s : Bool) → (p || (l || (c || (q || s)))) ≡ (p || (l || ((c || q) || s)))
+in_circles p l c q s = ap (λ b. p || (l || b)) (or_assoc c q s)
+
+same_taken : (ns : Names) (sort : Sort) (name : List ℕ) (seen : List (List ℕ)) (m : List ℕ) → is_taken ns (name ∷ seen) m ≡ is_taken (plus ns sort name) seen m
+same_taken ns Point name seen m =
+    in_points (has ns.points m) (has ns.lines m) (has ns.circles m) (bytes_eq name m) (has seen m) ∙ ap (λ b. b || (has ns.lines m || (has ns.circles m || has seen m))) (sym (has_push ns.points name m))
+same_taken ns Line name seen m =
+    in_lines (has ns.points m) (has ns.lines m) (has ns.circles m) (bytes_eq name m) (has seen m) ∙ ap (λ b. has ns.points m || (b || (has ns.circles m || has seen m))) (sym (has_push ns.lines name m))
+same_taken ns Circle name seen m =
+    in_circles (has ns.points m) (has ns.lines m) (has ns.circles m) (bytes_eq name m) (has seen m) ∙ ap (λ b. has ns.points m || (has ns.lines m || (b || has seen m))) (sym (has_push ns.circles name m))
+
+abbrev taken_or : Bool → Result (Unit {0}) Kind → Result (Unit {0}) Kind
+taken_or b r = cond b (Err NameTaken) r
+
+pub same_fresh : (ns : Names) (sort : Sort) (name : List ℕ) (seen more : List (List ℕ)) → fresh ns (name ∷ seen) more ≡ fresh (plus ns sort name) seen more
+same_fresh ns sort name seen [] = refl
+same_fresh ns sort name seen (m ∷ more) =
+    ap (λ (b : Bool). taken_or b (fresh ns (name ∷ (seen ++ m ∷ [])) more)) (same_taken ns sort name seen m)
+    ∙ ap (λ (r : Result (Unit {0}) Kind). taken_or (is_taken (plus ns sort name) seen m) r) (same_fresh ns sort name (seen ++ m ∷ []) more)

@@ -1,0 +1,11 @@
+pub mod Superposes
+pub mod Headed
+pub mod Titled
+pub mod Taken
+pub mod Scope
+pub mod Applies
+pub mod Fits
+pub mod Canonical
+pub mod HasSpelling
+pub mod Meanings
+pub mod inner

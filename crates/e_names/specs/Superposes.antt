@@ -1,0 +1,37 @@
+-- Superpositions, with the objects of their names.
+use Rattle.std.specs.Prelude.{ℕ, List, [], ◌∷◌, Result, Ok, Err}
+use Rattle.e_literal.specs.declared.object.Sort.TheVariants as sorts
+use Rattle.e_literal.specs.declared.literal.Lit.{Lit}
+use Rattle.e_construct.specs.declared.superpose.Superpose.{Superpose}
+use Rattle.e_deriv.specs.declared.names.Names.{Names}
+use Rattle.e_line.specs.declared.fault.Kind.{Kind}
+use Rattle.e_line.specs.declared.fault.Kind.TheVariants.{Malformed}
+use Rattle.e_line.specs.declared.superposes.RawSuperpose.{RawSuperpose}
+use Rattle.e_line.specs.Reading.{◌>>=◌}
+use Rattle.e_names.specs.Scope.{number_of, fresh, lits_in}
+
+-- the superposition of these points and lines
+abbrev pub superpose : (a b c d g h K L : ℕ) → Superpose
+superpose a b c d g h K L = record { points = a ∷ b ∷ c ∷ d ∷ g ∷ h ∷ []; lines = K ∷ L ∷ [] }
+
+-- the triangle and its line, then the place and its line, as they stand there
+unfoldable pub placed_in : Names → List (List ℕ) → Result Superpose Kind
+placed_in ns (a ∷ b ∷ c ∷ k ∷ d ∷ g ∷ h ∷ l ∷ []) = do
+  na ← number_of ns sorts.Point a
+  nb ← number_of ns sorts.Point b
+  nc ← number_of ns sorts.Point c
+  nk ← number_of ns sorts.Line k
+  nd ← number_of ns sorts.Point d
+  ng ← number_of ns sorts.Point g
+  nh ← number_of ns sorts.Point h
+  nl ← number_of ns sorts.Line l
+  Ok (superpose na nb nc nd ng nh nk nl)
+placed_in ns _ = Err Malformed
+
+-- the objects, then the new names, then the literals, in which the new names are not in scope yet
+unfoldable pub superpose_in : Names → RawSuperpose → Result (Superpose × List Lit) Kind
+superpose_in ns raw = do
+  form ← placed_in ns raw.args
+  free ← fresh ns [] raw.new
+  ls ← lits_in ns raw.shown
+  Ok (form, ls)

@@ -1,0 +1,443 @@
+//! Names looked up among the objects in scope.
+ghost use Rattle.std.specs.Prelude.{◌≡◌, ◌≤◌, ◌<◌, ◌^◌, ◌+◌, List, [], length, OnOk};
+ghost use Rattle.e_deriv.specs.Naming.{named};
+ghost use Rattle.e_clause.specs.Instance;
+ghost use Rattle.e_clause.specs.Sigs.{sig_of};
+ghost use Rattle.std.specs.List.{list_any};
+ghost use Rattle.e_construct.specs.Lines;
+ghost use Rattle.e_line.specs.Reading.{Gives, Moves, each, with_front};
+ghost use Rattle.e_names.specs.Scope.{object_in, object_of, used, number_at, number_of, on_sort, line_meets, meets_from, equal_at, atom_in, negated_in, lit_in, lits_in, object_as, objects_as, is_taken, fresh, args_in, by_in, known_rule, FewNames, scope_of_names, arguments_in, first_fitting, let_in, objects_of_sorts, qed_in};
+
+use crate::terms::{Sides, sums_in};
+use e_clause::{By, Rule, Sig};
+use e_construct::{Construction, Shape, takes};
+use e_deriv::Names;
+use e_line::{Kind, RawAtom, RawLet, RawLit, Trouble};
+use e_literal::{Atom, Items, Lit, Obj, Scope, Sort, is_same_sort};
+use e_text::{Name, Title, contains, place_of};
+use std::alloc::{AllocError, Global};
+
+/// How many objects of each sort have names.
+pub fn scope_of_names(names: &Names) -> Scope
+    requires { FewNames names.now }
+    ensures { result ≡ scope_of_names names.now }
+{
+    Scope {
+        points: names.points.len() as u16,
+        lines: names.lines.len() as u16,
+        circles: names.circles.len() as u16,
+    }
+}
+
+/// New names, each behind those of its sort.
+pub fn put_names(names: &mut Names, sorts: &[Sort], new: &[Name]) -> Result<(), AllocError>
+    ensures { OnOk result (names.new ≡ named names.old sorts.now new.now) }
+{
+    for (sort, name) in sorts.iter().zip(new) {
+        names.push(*sort, *name)?;
+    }
+    Ok(())
+}
+
+fn object_in(names: &Names, sort: Sort, name: Name) -> Option<Obj>
+    requires { FewNames names.now }
+    ensures { result ≡ object_in names.now sort name }
+{
+    match place_of(names.of_sort(sort), name) {
+        Some(i) => Some(Obj {
+            sort,
+            num: i as u16,
+        }),
+        None => None,
+    }
+}
+
+fn object_of(names: &Names, name: Name) -> Option<Obj>
+    requires { FewNames names.now }
+    ensures { result ≡ object_of names.now name }
+{
+    if let Some(point) = object_in(names, Sort::Point, name) {
+        return Some(point);
+    }
+    if let Some(line) = object_in(names, Sort::Line, name) {
+        return Some(line);
+    }
+    object_in(names, Sort::Circle, name)
+}
+
+fn used(names: &Names, name: Name) -> Result<Obj, Trouble>
+    requires { FewNames names.now }
+    ensures { Gives (λ o. o) result (used names.now name) }
+{
+    match object_of(names, name) {
+        Some(object) => Ok(object),
+        None => Err(Trouble::Fault(Kind::UnknownName)),
+    }
+}
+
+/// The number of the object of this sort.
+#[tactic(auto, unfolding(crate::specs::Scope::number_of))]
+pub(crate) fn number_of(names: &Names, sort: Sort, name: Name) -> Result<u16, Trouble>
+    requires { FewNames names.now }
+    ensures { Gives (λ n. n) result (number_of names.now sort name) }
+{
+    let object = used(names, name)?;
+    if is_same_sort(object.sort, sort) {
+        Ok(object.num)
+    } else {
+        Err(Trouble::Fault(Kind::WrongSort))
+    }
+}
+
+fn on_object(point: u16, object: Obj) -> Result<Atom, Trouble>
+    ensures { Gives (λ a. a) result (on_sort point object.sort object.num) }
+{
+    match object.sort {
+        Sort::Point => Err(Trouble::Fault(Kind::WrongSort)),
+        Sort::Line => Ok(Atom::On(point, object.num)),
+        Sort::Circle => Ok(Atom::OnC(point, object.num)),
+    }
+}
+
+fn line_meets(line: u16, object: Obj) -> Result<Atom, Trouble>
+    ensures { Gives (λ a. a) result (line_meets line object.sort object.num) }
+{
+    match object.sort {
+        Sort::Point => Err(Trouble::Fault(Kind::WrongSort)),
+        Sort::Line => Ok(Atom::MeetLL(line, object.num)),
+        Sort::Circle => Ok(Atom::MeetLC(line, object.num)),
+    }
+}
+
+/// What meets the first object: behind a line a line or a circle, behind a circle a circle.
+fn meets_from(names: &Names, first: Obj, second: Name) -> Result<Atom, Trouble>
+    requires { FewNames names.now }
+    ensures { Gives (λ a. a) result (meets_from names.now first.sort first.num second) }
+{
+    match first.sort {
+        Sort::Point => Err(Trouble::Fault(Kind::WrongSort)),
+        Sort::Line => {
+            let object = used(names, second)?;
+            line_meets(first.num, object)
+        }
+        Sort::Circle => {
+            let circle = number_of(names, Sort::Circle, second)?;
+            Ok(Atom::MeetCC(first.num, circle))
+        }
+    }
+}
+
+fn equal_at(sort: Sort, first: u16, second: u16) -> Atom
+    ensures { result ≡ equal_at sort first second }
+{
+    match sort {
+        Sort::Point => Atom::EqP(first, second),
+        Sort::Line => Atom::EqL(first, second),
+        Sort::Circle => Atom::EqC(first, second),
+    }
+}
+
+#[tactic(auto, unfolding(crate::specs::Scope::atom_in))]
+fn atom_in(alloc: Global, names: &Names, atom: &RawAtom) -> Result<Atom, Trouble>
+    requires { FewNames names.now }
+    ensures { Gives (λ a. a) result (atom_in names.now atom.now) }
+{
+    match atom {
+        RawAtom::On(x, y) => {
+            let point = number_of(names, Sort::Point, *x)?;
+            let object = used(names, *y)?;
+            on_object(point, object)
+        }
+        RawAtom::Inside(x, y) => {
+            let point = number_of(names, Sort::Point, *x)?;
+            let circle = number_of(names, Sort::Circle, *y)?;
+            Ok(Atom::Inside(point, circle))
+        }
+        RawAtom::Center(x, y) => {
+            let point = number_of(names, Sort::Point, *x)?;
+            let circle = number_of(names, Sort::Circle, *y)?;
+            Ok(Atom::Center(point, circle))
+        }
+        RawAtom::Between(x, y, z) => {
+            let first = number_of(names, Sort::Point, *x)?;
+            let middle = number_of(names, Sort::Point, *y)?;
+            let last = number_of(names, Sort::Point, *z)?;
+            Ok(Atom::Between(first, middle, last))
+        }
+        RawAtom::Same(x, y, z) => {
+            let first = number_of(names, Sort::Point, *x)?;
+            let second = number_of(names, Sort::Point, *y)?;
+            let line = number_of(names, Sort::Line, *z)?;
+            Ok(Atom::Same(first, second, line))
+        }
+        RawAtom::Meets(x, y) => {
+            let first = used(names, *x)?;
+            meets_from(names, first, *y)
+        }
+        RawAtom::Equal(x, y) => {
+            let first = used(names, *x)?;
+            let second = number_of(names, first.sort, *y)?;
+            Ok(equal_at(first.sort, first.num, second))
+        }
+        RawAtom::SumsEqual(x, y) => {
+            let Sides { left, right } = sums_in(alloc, names, x.items(), y.items())?;
+            Ok(Atom::MagEq(left, right))
+        }
+        RawAtom::SumsLess(x, y) => {
+            let Sides { left, right } = sums_in(alloc, names, x.items(), y.items())?;
+            Ok(Atom::MagLt(left, right))
+        }
+        RawAtom::SumsAtMost(x, y) => {
+            let Sides { left, right } = sums_in(alloc, names, x.items(), y.items())?;
+            Ok(Atom::MagLt(right, left))
+        }
+    }
+}
+
+/// Whether it is a negation: a sum at most another is the negation of the other being less.
+fn negated_in(atom: &RawAtom, neg: bool) -> bool
+    ensures { result ≡ negated_in atom.now neg }
+{
+    match atom {
+        RawAtom::SumsAtMost(_, _) => !neg,
+        _ => neg,
+    }
+}
+
+/// The literal with the objects that its names stand for; the leftmost fault.
+#[tactic(auto, unfolding(crate::specs::Scope::lit_in))]
+pub fn lit_in(alloc: Global, names: &Names, lit: &RawLit) -> Result<Lit, Trouble>
+    requires { FewNames names.now }
+    ensures { Gives (λ l. l) result (lit_in names.now lit.now) }
+{
+    let atom = atom_in(alloc, names, &lit.atom)?;
+    let neg = negated_in(&lit.atom, lit.neg);
+    Ok(Lit { neg, atom })
+}
+
+/// Puts the literals with their objects last; the leftmost fault.
+pub fn put_lits(
+    alloc: Global,
+    names: &Names,
+    raw: &[RawLit],
+    lits: &mut Items<Lit>,
+) -> Result<(), Trouble>
+    requires { FewNames names.now }
+    ensures value { Moves result lits.new (with_front lits.old (lits_in names.now raw.now)) }
+    ensures count { OnOk result (length lits.new ≡ length lits.old + length raw.now) }
+{
+    for lit in raw {
+        let lit = lit_in(alloc, names, lit)?;
+        lits.push(lit)?;
+    }
+    Ok(())
+}
+
+#[tactic(auto, unfolding(crate::specs::Scope::object_as))]
+pub(crate) fn object_as(names: &Names, sort: Sort, name: Name) -> Result<Obj, Trouble>
+    requires { FewNames names.now }
+    ensures { Gives (λ o. o) result (object_as names.now sort name) }
+{
+    let num = number_of(names, sort, name)?;
+    Ok(Obj { sort, num })
+}
+
+fn objects_as(alloc: Global, names: &Names, sort: Sort, of: &[Name]) -> Result<Items<Obj>, Trouble>
+    requires { FewNames names.now }
+    ensures { Gives (λ l. l) result (objects_as names.now sort of.now) }
+{
+    let mut found = Items::empty(alloc);
+    for name in of {
+        let object = object_as(names, sort, *name)?;
+        found.push(object)?;
+    }
+    Ok(found)
+}
+
+fn is_taken(names: &Names, earlier: &[Name], name: Name) -> bool
+    ensures { result ≡ is_taken names.now earlier.now name }
+{
+    contains(names.points.items(), name)
+        || contains(names.lines.items(), name)
+        || contains(names.circles.items(), name)
+        || contains(earlier, name)
+}
+
+/// No name is taken, and none is new twice.
+pub fn fresh(names: &Names, new: &[Name]) -> Result<(), Trouble>
+    ensures { Gives (λ u. u) result (fresh names.now [] new.now) }
+{
+    for (i, name) in new.iter().enumerate() {
+        if is_taken(names, &new[..i], *name) {
+            return Err(Trouble::Fault(Kind::NameTaken));
+        }
+    }
+    Ok(())
+}
+
+/// The rule of diagrams and equality with this name.
+fn known_rule(name: Title) -> Result<Rule, Trouble>
+    ensures { Gives (λ r. r) result (known_rule (Instance.number_of_rule name)) }
+{
+    let Some(rule) = Rule::named(name.bytes()) else {
+        return Err(Trouble::Fault(Kind::UnknownName));
+    };
+    if rule.is_transfer() {
+        return Err(Trouble::Fault(Kind::UnknownName));
+    }
+    Ok(rule)
+}
+
+/// An object for each variable of a rule: points, then lines, then circles.
+#[tactic(auto, unfolding(crate::specs::Scope::args_in))]
+pub fn args_in(alloc: Global, names: &Names, sig: Sig, args: &[Name]) -> Result<Items<Obj>, Trouble>
+    requires names { FewNames names.now }
+    requires count { length args.now ≡ sig.points + sig.lines + sig.circles }
+    ensures { Gives (λ l. l) result (args_in names.now sig args.now) }
+{
+    let (points, rest) = args.split_at(usize::from(sig.points));
+    let (lines, circles) = rest.split_at(usize::from(sig.lines));
+    let mut objects = objects_as(alloc, names, Sort::Point, points)?;
+    let lines = objects_as(alloc, names, Sort::Line, lines)?;
+    let circles = objects_as(alloc, names, Sort::Circle, circles)?;
+    objects.append(lines.items())?;
+    objects.append(circles.items())?;
+    Ok(objects)
+}
+
+/// A citation: the rule, then how many names it has, then the names, then the literal.
+#[tactic(auto, unfolding(crate::specs::Scope::by_in))]
+pub fn by_in(
+    alloc: Global,
+    names: &Names,
+    rule: Title,
+    args: &[Name],
+    lit: &RawLit,
+) -> Result<By, Trouble>
+    requires { FewNames names.now }
+    ensures { Gives (λ b. b) result (by_in names.now rule args.now lit.now) }
+{
+    let rule = known_rule(rule)?;
+    let sig = rule.sig();
+    let count = usize::from(sig.points) + usize::from(sig.lines) + usize::from(sig.circles);
+    if args.len() != count {
+        return Err(Trouble::Fault(Kind::Malformed));
+    }
+    let args = args_in(alloc, names, sig, args)?;
+    let lit = lit_in(alloc, names, lit)?;
+    Ok(By { rule, args, lit })
+}
+
+/// The arguments of a construction: each has a sort that one of the shapes takes behind the earlier arguments.
+fn arguments_in(
+    alloc: Global,
+    names: &Names,
+    shapes: &[Shape],
+    of: &[Name],
+) -> Result<Items<Obj>, Trouble>
+    requires { FewNames names.now }
+    ensures { Gives (λ l. l) result (arguments_in names.now shapes.now [] of.now) }
+{
+    let mut found = Items::empty(alloc);
+    for name in of {
+        let object = used(names, *name)?;
+        found.push(object)?;
+        if !is_taken_by(shapes, found.items()) {
+            return Err(Trouble::Fault(Kind::WrongSort));
+        }
+    }
+    Ok(found)
+}
+
+/// Whether one of the shapes takes the objects as its first arguments.
+fn is_taken_by(shapes: &[Shape], objects: &[Obj]) -> bool
+    ensures { result ≡ list_any (λ s. Lines.takes s objects.now) shapes.now }
+{
+    shapes.iter().any(|shape| takes(*shape, objects))
+}
+
+fn objects_used(alloc: Global, names: &Names, of: &[Name]) -> Result<Items<Obj>, Trouble>
+    requires { FewNames names.now }
+    ensures { Gives (λ l. l) result (each (used names.now) of.now) }
+{
+    let mut found = Items::empty(alloc);
+    for name in of {
+        let object = used(names, *name)?;
+        found.push(object)?;
+    }
+    Ok(found)
+}
+
+/// The construction of the first of the shapes that fits.
+fn first_fitting(
+    scope: Scope,
+    args: Items<Obj>,
+    avoid: Items<Obj>,
+    shapes: &[Shape],
+) -> Result<Construction, Trouble>
+    ensures { Gives (λ f. f) result (first_fitting scope args avoid shapes.now) }
+{
+    let mut form = Construction {
+        shape: Shape::Free,
+        args,
+        avoid,
+    };
+    for shape in shapes {
+        form.shape = *shape;
+        if form.fits(scope) {
+            return Ok(form);
+        }
+    }
+    Err(Trouble::Fault(Kind::Malformed))
+}
+
+/// A construction: its new names, then its arguments, then what it avoids.
+#[tactic(auto, unfolding(crate::specs::Scope::let_in))]
+pub fn let_in(alloc: Global, names: &Names, raw: &RawLet) -> Result<Construction, Trouble>
+    requires { FewNames names.now }
+    ensures { Gives (λ f. f) result (let_in names.now raw.now) }
+{
+    fresh(names, raw.new.items())?;
+    let args = arguments_in(alloc, names, raw.shapes.items(), raw.args.items())?;
+    let avoid = objects_used(alloc, names, raw.avoid.items())?;
+    let form = first_fitting(scope_of_names(names), args, avoid, raw.shapes.items())?;
+    if raw.new.len() != form.made().len() {
+        return Err(Trouble::Fault(Kind::Malformed));
+    }
+    Ok(form)
+}
+
+/// An object for each sort.
+pub(crate) fn objects_of_sorts(
+    alloc: Global,
+    names: &Names,
+    sorts: &[Sort],
+    of: &[Name],
+) -> Result<Items<Obj>, Trouble>
+    requires { FewNames names.now }
+    ensures { Gives (λ l. l) result (objects_of_sorts names.now sorts.now of.now) }
+{
+    let mut found = Items::empty(alloc);
+    for (sort, name) in sorts.iter().zip(of) {
+        let object = object_as(names, *sort, *name)?;
+        found.push(object)?;
+    }
+    Ok(found)
+}
+
+/// The objects behind `qed`: as many as there are made ones, and then each of its sort.
+#[tactic(auto, unfolding(crate::specs::Scope::qed_in))]
+pub fn qed_in(
+    alloc: Global,
+    names: &Names,
+    made: &[Sort],
+    of: &[Name],
+) -> Result<Items<Obj>, Trouble>
+    requires { FewNames names.now }
+    ensures { Gives (λ l. l) result (qed_in names.now made.now of.now) }
+{
+    if of.len() != made.len() {
+        return Err(Trouble::Fault(Kind::Malformed));
+    }
+    objects_of_sorts(alloc, names, made, of)
+}
