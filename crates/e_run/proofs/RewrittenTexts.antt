@@ -21,7 +21,7 @@ use Rattle.e_judgement.specs.Judged.{Rest, with_theorem, ReadsNext, IsCertified,
 use Rattle.e_judgement.specs.Steps.{IsNext, version_at, Begins as Starts}
 use Rattle.e_judgement.proofs.Passing.{passes_more}
 use Rattle.e_judgement.proofs.OneJudgement.{one_behind_head}
-use Rattle.e_roundtrip.proofs.VerifiedTexts.{verified_is_written}
+use Rattle.e_roundtrip.proofs.Texts.VerifiedTexts.{verified_is_written}
 use Rattle.e_run.specs.declared.command.Job.{Job}
 use Rattle.e_run.specs.declared.command.Job.TheVariants.{Upgrade, Trim, Uses}
 use Rattle.e_run.specs.declared.status.Status.{Status}

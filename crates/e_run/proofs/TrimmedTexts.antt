@@ -13,7 +13,7 @@ use Rattle.e_trim.specs.Trimmed.{trimmed}
 use Rattle.e_judgement.specs.declared.judgement.Judgement.TheVariants.{Verified}
 use Rattle.e_judgement.specs.Judged.{Rest, ReadsNext, IsCertified, lines_of_text}
 use Rattle.e_roundtrip.specs.Written.{CanBeVerified}
-use Rattle.e_roundtrip.proofs.TrimmedSpelling.{trimmed_can_be_verified}
+use Rattle.e_roundtrip.proofs.Trimmed.TrimmedSpelling.{trimmed_can_be_verified}
 use Rattle.e_run.specs.declared.command.Job.TheVariants.{Trim}
 use Rattle.e_run.specs.LastLines.{accepted_line}
 use Rattle.e_run.specs.Answers.{IsVerifiedText}

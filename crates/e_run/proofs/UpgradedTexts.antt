@@ -19,8 +19,8 @@ use Rattle.e_verify.proofs.placing.NumberedLines.{numbered_certified, numbered_e
 use Rattle.e_judgement.specs.declared.judgement.Judgement.TheVariants.{Verified}
 use Rattle.e_judgement.specs.Judged.{Rest, ReadsNext, IsCertified, lines_of_text}
 use Rattle.e_roundtrip.specs.Written.{CanBeVerified}
-use Rattle.e_roundtrip.proofs.CertifiedFormed.{certified_formed}
-use Rattle.e_roundtrip.proofs.ReadIsSpelled.{read_is_formed_so}
+use Rattle.e_roundtrip.proofs.Formed.CertifiedFormed.{certified_formed}
+use Rattle.e_roundtrip.proofs.Texts.ReadIsSpelled.{read_is_formed_so}
 use Rattle.e_run.specs.declared.command.Job.TheVariants.{Upgrade}
 use Rattle.e_run.specs.LastLines.{accepted_line}
 use Rattle.e_run.specs.Answers.{IsVerifiedText}

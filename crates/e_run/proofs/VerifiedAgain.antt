@@ -14,8 +14,8 @@ use Rattle.e_judgement.specs.declared.judgement.Judgement.TheVariants.{Verified,
 use Rattle.e_judgement.specs.Judged.{Rest, with_theorem, ReadsNext, IsCertified, Passes, Closes, JudgedBehind, number_of, version_of, lines_of_text, JudgesText}
 use Rattle.e_roundtrip.specs.Written as texts
 use Rattle.e_roundtrip.specs.Written.{CanBeVerified, AllCanBeVerified}
-use Rattle.e_roundtrip.proofs.ReadIsSpelled.{read_is_formed_so}
-use Rattle.e_roundtrip.proofs.WrittenIsVerified.{written_is_verified}
+use Rattle.e_roundtrip.proofs.Texts.ReadIsSpelled.{read_is_formed_so}
+use Rattle.e_roundtrip.proofs.Texts.WrittenIsVerified.{written_is_verified}
 use Rattle.e_run.specs.declared.command.Job.{Job}
 use Rattle.e_run.specs.declared.command.Job.TheVariants.{Upgrade, Trim, Uses}
 use Rattle.e_run.specs.Answers.{IsVerifiedText}

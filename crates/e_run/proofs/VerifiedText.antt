@@ -11,11 +11,11 @@ use Rattle.e_names.specs.Taken.{nothing_known}
 use Rattle.e_names.specs.Titled.{Titled, are_notions}
 use Rattle.e_names.proofs.NotionsBeside.{one_more_notion}
 use Rattle.e_book.proofs.ItemsRead.{spelled_grammar, notions_grammar}
-use Rattle.e_roundtrip.proofs.CertifiedFormed.{certified_formed}
-use Rattle.e_roundtrip.proofs.FilledSpelling.{filled_has_spelling}
+use Rattle.e_roundtrip.proofs.Formed.CertifiedFormed.{certified_formed}
+use Rattle.e_roundtrip.proofs.Formed.FilledSpelling.{filled_has_spelling}
 use Rattle.e_roundtrip.specs.Written as texts
 use Rattle.e_roundtrip.specs.Written.{CanBeVerified, AllCanBeVerified}
-use Rattle.e_roundtrip.proofs.WrittenIsVerified.{written_is_verified}
+use Rattle.e_roundtrip.proofs.Texts.WrittenIsVerified.{written_is_verified}
 use Rattle.e_judgement.specs.declared.judgement.Judgement.TheVariants.{Verified}
 use Rattle.e_judgement.specs.Judged.{JudgesText}
 use Rattle.e_run.specs.LastLines.{accepted_line}

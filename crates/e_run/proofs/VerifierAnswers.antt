@@ -7,7 +7,7 @@ use Rattle.e_judgement.specs.declared.judgement.Judgement.TheVariants as judgeme
 use Rattle.e_judgement.specs.Judged.{JudgesText}
 use Rattle.e_judgement.proofs.OneJudgement.{one_judgement}
 use Rattle.e_roundtrip.specs.Written.{SpellsProofs}
-use Rattle.e_roundtrip.proofs.VerifiedTexts.{verified_is_written}
+use Rattle.e_roundtrip.proofs.Texts.VerifiedTexts.{verified_is_written}
 use Rattle.e_run.specs.declared.status.Status.{Status}
 use Rattle.e_run.specs.declared.status.Status.TheVariants as status
 use Rattle.e_run.specs.Outcome.{Rest, lines_of_book}

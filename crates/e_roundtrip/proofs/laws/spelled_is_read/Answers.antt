@@ -1,4 +1,4 @@
-use Rattle.e_roundtrip.proofs.SpelledIsRead.{spelled_is_read}
+use Rattle.e_roundtrip.proofs.Texts.SpelledIsRead.{spelled_is_read}
 use Rattle.e_roundtrip.proofs.laws.spelled_is_read.Goals as goal
 
 pub returns : goal.returns

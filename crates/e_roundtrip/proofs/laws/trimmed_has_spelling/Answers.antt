@@ -1,4 +1,4 @@
-use Rattle.e_roundtrip.proofs.TrimmedSpelling.{trimmed_has_spelling}
+use Rattle.e_roundtrip.proofs.Trimmed.TrimmedSpelling.{trimmed_has_spelling}
 use Rattle.e_roundtrip.proofs.laws.trimmed_has_spelling.Goals as goal
 
 pub returns : goal.returns

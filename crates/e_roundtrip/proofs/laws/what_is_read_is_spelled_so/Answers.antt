@@ -1,4 +1,4 @@
-use Rattle.e_roundtrip.proofs.ReadIsSpelled.{read_is_spelled_so}
+use Rattle.e_roundtrip.proofs.Texts.ReadIsSpelled.{read_is_spelled_so}
 use Rattle.e_roundtrip.proofs.laws.what_is_read_is_spelled_so.Goals as goal
 
 pub returns : goal.returns

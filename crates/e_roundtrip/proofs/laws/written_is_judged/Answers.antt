@@ -1,4 +1,4 @@
-use Rattle.e_roundtrip.proofs.WrittenIsVerified.{written_is_judged}
+use Rattle.e_roundtrip.proofs.Texts.WrittenIsVerified.{written_is_judged}
 use Rattle.e_roundtrip.proofs.laws.written_is_judged.Goals as goal
 
 pub returns : goal.returns

@@ -1,0 +1,7 @@
+-- What a derivation is that lines can spell: its form, its blanks filled, its names.
+pub mod Standing
+pub mod CertifiedFormed
+pub mod FormedLines
+pub mod Filled
+pub mod FilledForms
+pub mod FilledSpelling

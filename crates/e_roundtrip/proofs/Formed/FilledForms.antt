@@ -1,0 +1,110 @@
+-- The lines of a certified derivation fit without their certificates too, whatever facts stand before them.
+use Rattle.std.proofs.Common.{◌≡◌, ℕ, true, ltb, ◌&&◌, List, [], ◌∷◌, ◌++◌, length, Option, Some, None, refl, sym, true≢false}
+use Rattle.std.specs.List.{list_all}
+use Rattle.std.proofs.lemmas.Bool.{and_parts, and_from}
+use Rattle.e_literal.specs.declared.object.Sort.{Sort}
+use Rattle.e_literal.specs.declared.object.Obj.{Obj}
+use Rattle.e_literal.specs.declared.object.Scope.{Scope}
+use Rattle.e_literal.specs.declared.literal.Lit.{Lit}
+use Rattle.e_literal.specs.Literal.{negation, is_in_scope}
+use Rattle.e_literal.specs.Facts.{joined, joined_all}
+use Rattle.e_literal.specs.Scopes.{grown, same_sort, are_of_sorts}
+use Rattle.e_literal.specs.Use.{Stated, are_arguments, gives_of_use}
+use Rattle.e_literal.proofs.Booleans.{all_both}
+use Rattle.e_construct.specs.Construct.{sorts_made, gives_of_construction}
+use Rattle.e_construct.specs.Superposing as superposing
+use Rattle.e_theorem.specs.Choice.{fills, is_choice}
+use Rattle.e_theorem.specs.Pattern.{are_entries, is_pattern}
+use Rattle.e_deriv.specs.Script.{Script, Cite, Hence, Make, Apply, Claim, Superposed, Qed, Contradiction, Cases, erased}
+use Rattle.e_deriv.specs.Goal.{Goal, goal_of}
+use Rattle.e_deriv.specs.Parts.{rest_of, inner_of, args_of, written, has_no_blank}
+use Rattle.e_deriv.specs.Lines.{line, lines, theorem_at}
+use Rattle.e_deriv.specs.Steps.{is_applied}
+use Rattle.e_deriv.specs.Certified.{is_certified}
+use Rattle.e_book.proofs.FittingScripts.{line_fits}
+use Rattle.e_roundtrip.proofs.Formed.Standing.{first_of, both_of, one_certified}
+
+-- ---- arguments that are a pattern without blanks
+
+entries_of : (s : Scope) (sorts : List Sort) (pattern : List (Option Obj)) → has_no_blank pattern ≡ true → are_of_sorts s sorts (written pattern) ≡ true → are_entries s sorts pattern ≡ true
+entries_of s [] [] n h = refl
+entries_of s [] (None ∷ ps) n h = absurd (true≢false (sym n))
+entries_of s [] (Some o ∷ ps) n h = absurd (true≢false (sym h))
+entries_of s (sort ∷ sorts) [] n h = absurd (true≢false (sym h))
+entries_of s (sort ∷ sorts) (None ∷ ps) n h = absurd (true≢false (sym n))
+entries_of s (sort ∷ sorts) (Some o ∷ ps) n h =
+    let p = and_parts (same_sort sort o.sort) (is_in_scope s o && are_of_sorts s sorts (written ps)) h in
+    let q = and_parts (is_in_scope s o) (are_of_sorts s sorts (written ps)) p.1 in
+    and_from (same_sort sort o.sort) (is_in_scope s o && are_entries s sorts ps) p.0 (and_from (is_in_scope s o) (are_entries s sorts ps) q.0 (entries_of s sorts ps n q.1))
+
+-- an application that fits with its own arguments fits by its form
+applied_form : (before : List Stated) (theorem : ℕ) (s : Scope) (pattern : List (Option Obj)) → is_applied before theorem s pattern (written pattern) ≡ true → has_no_blank pattern ≡ true
+    → (ltb theorem (length before) && is_pattern (theorem_at before theorem) s pattern) ≡ true
+applied_form before theorem s pattern h n =
+    let t = theorem_at before theorem in
+    let p = and_parts (ltb theorem (length before)) (is_choice t s pattern (written pattern)) h in
+    let q = and_parts (fills pattern (written pattern)) (are_arguments t s (written pattern)) p.1 in
+    and_from (ltb theorem (length before)) (is_pattern t s pattern) p.0 (entries_of s t.declared pattern n q.1)
+
+-- ---- each line
+
+pub forms_of_certified : (before : List Stated) (d f : Script) (s : Scope) (facts others : List Lit) (goal : Goal) → list_all (is_certified before) (lines before d d s facts goal) ≡ true
+    → list_all (line_fits before) (lines before (erased d) f s others goal) ≡ true
+unfolding lines erased
+forms_of_certified before (Cite by rest) f s facts others goal h =
+    let x = line (Cite by rest) (Cite by rest) s facts goal in
+    let p = first_of (is_certified before) x (lines before rest rest s (joined facts by.lit) goal) h in
+    and_from _ _ (one_certified before x p.0).fitting (forms_of_certified before rest (rest_of f) s (joined facts by.lit) (joined others by.lit) goal p.1)
+forms_of_certified before (Hence lit cert rest) f s facts others goal h =
+    let x = line (Hence lit cert rest) (Hence lit cert rest) s facts goal in
+    let p = first_of (is_certified before) x (lines before rest rest s (joined facts lit) goal) h in
+    and_from _ _ (one_certified before x p.0).fitting (forms_of_certified before rest (rest_of f) s (joined facts lit) (joined others lit) goal p.1)
+forms_of_certified before (Make form names certs rest) f s facts others goal h =
+    let x = line (Make form names certs rest) (Make form names certs rest) s facts goal in
+    let g = gives_of_construction form s in
+    let p = first_of (is_certified before) x (lines before rest rest (grown s (sorts_made form)) (joined_all facts g) goal) h in
+    and_from _ _ (one_certified before x p.0).fitting (forms_of_certified before rest (rest_of f) (grown s (sorts_made form)) (joined_all facts g) (joined_all others g) goal p.1)
+forms_of_certified before (Apply theorem args names certs rest) f s facts others goal h =
+    let x = line (Apply theorem args names certs rest) (Apply theorem args names certs rest) s facts goal in
+    let t = theorem_at before theorem in
+    let after = joined_all facts (gives_of_use t (written args) s) in
+    let p = first_of (is_certified before) x (lines before rest rest (grown s t.made) after goal) h in
+    let one = one_certified before x p.0 in
+    and_from _ _ (applied_form before theorem s args one.fitting one.beside)
+    (forms_of_certified before rest (rest_of f) (grown s t.made) after (joined_all others (gives_of_use t (args_of f) s)) goal p.1)
+forms_of_certified before (Claim shown inner rest) f s facts others goal h =
+    let x = line (Claim shown inner rest) (Claim shown inner rest) s facts goal in
+    let inside = lines before inner inner s facts (goal_of shown) in
+    let behind = lines before rest rest s (joined_all facts shown) goal in
+    let p = first_of (is_certified before) x (inside ++ behind) h in
+    let q = both_of (is_certified before) inside behind p.1 in
+    and_from _ _ (one_certified before x p.0).fitting
+    (all_both (line_fits before) (lines before (erased inner) (inner_of f) s others (goal_of shown)) (lines before (erased rest) (rest_of f) s (joined_all others shown) goal)
+    (forms_of_certified before inner (inner_of f) s facts others (goal_of shown) q.0)
+    (forms_of_certified before rest (rest_of f) s (joined_all facts shown) (joined_all others shown) goal q.1))
+forms_of_certified before (Superposed form names shown certs inner rest) f s facts others goal h =
+    let x = line (Superposed form names shown certs inner rest) (Superposed form names shown certs inner rest) s facts goal in
+    let within = grown s superposing.sorts_copied in
+    let g = superposing.gives_of_superposition form s in
+    let inside = lines before inner inner within (joined_all facts g) (goal_of shown) in
+    let behind = lines before rest rest s (joined_all facts shown) goal in
+    let p = first_of (is_certified before) x (inside ++ behind) h in
+    let q = both_of (is_certified before) inside behind p.1 in
+    and_from _ _ (one_certified before x p.0).fitting
+    (all_both (line_fits before) (lines before (erased inner) (inner_of f) within (joined_all others g) (goal_of shown)) (lines before (erased rest) (rest_of f) s (joined_all others shown) goal)
+    (forms_of_certified before inner (inner_of f) within (joined_all facts g) (joined_all others g) (goal_of shown) q.0)
+    (forms_of_certified before rest (rest_of f) s (joined_all facts shown) (joined_all others shown) goal q.1))
+forms_of_certified before (Qed objects certs) f s facts others goal h =
+    let x = line (Qed objects certs) (Qed objects certs) s facts goal in
+    and_from _ _ (one_certified before x (first_of (is_certified before) x [] h).0).fitting refl
+forms_of_certified before (Contradiction against) f s facts others goal h = refl
+forms_of_certified before (Cases lit first second) f s facts others goal h =
+    let x = line (Cases lit first second) (Cases lit first second) s facts goal in
+    let one = lines before first first s (joined facts lit) goal in
+    let other = lines before second second s (joined facts (negation lit)) goal in
+    let p = first_of (is_certified before) x (one ++ other) h in
+    let q = both_of (is_certified before) one other p.1 in
+    and_from _ _ (one_certified before x p.0).fitting
+    (all_both (line_fits before) (lines before (erased first) (inner_of f) s (joined others lit) goal) (lines before (erased second) (rest_of f) s (joined others (negation lit)) goal)
+    (forms_of_certified before first (inner_of f) s (joined facts lit) (joined others lit) goal q.0)
+    (forms_of_certified before second (rest_of f) s (joined facts (negation lit)) (joined others (negation lit)) goal q.1))

@@ -1,0 +1,237 @@
+-- The lines of a statement are taken in the one spelling of a derivation.
+use Rattle.std.proofs.Common.{◌≡◌, ℕ, zero, suc, ◌+◌, Bool, true, false, cond, List, [], ◌∷◌, ◌++◌, length, map, replicate, Option, Some, None, Result, Ok, refl, sym, ap, subst, ◌∙◌, append_assoc}
+use Rattle.std.proofs.lemmas.List.{append-nil}
+use Rattle.e_literal.specs.declared.object.Sort.{Sort}
+use Rattle.e_literal.specs.declared.object.Obj.{Obj}
+use Rattle.e_literal.specs.declared.literal.Lit.{Lit}
+use Rattle.e_literal.specs.Scopes.{same_sort}
+use Rattle.e_deriv.specs.declared.names.Names.{Names}
+use Rattle.e_theorem.specs.declared.statement.Statement.{Statement}
+use Rattle.e_line.specs.declared.fault.Kind.{Kind}
+use Rattle.e_line.specs.declared.literal.RawLit.{RawLit}
+use Rattle.e_line.specs.declared.form.Form.{Form}
+use Rattle.e_line.specs.declared.form.Form.TheVariants as forms
+use Rattle.e_book.specs.declared.draft.Draft.{Draft}
+use Rattle.e_book.specs.declared.draft.Place.TheVariants.{Giving, Making, Showing}
+use Rattle.e_line.specs.declared.fault.What.TheVariants as limits
+use Rattle.e_line.specs.Reading.{◌>>=◌, with_front}
+use Rattle.e_line.specs.Limits.{within, most_facts}
+use Rattle.e_names.specs.Headed.{Headed}
+use Rattle.e_names.specs.Scope.{lits_in}
+use Rattle.e_line.specs.LineLimits.{few_monos}
+use Rattle.e_book.specs.Steps.{terms_behind, with_terms, allowed, declared, declares, supposes, makes, shows, proof_begun, stepped, step}
+use Rattle.e_book.specs.Book.{is_done}
+use Rattle.e_line.specs.Canonical.{line_of}
+use Rattle.e_names.specs.Canonical.{name_of_object, given_form, show_form}
+use Rattle.e_book.specs.Canonical.{Group, group, grouped_before, grouped, declare_form, made_form, declared_objects, made_objects, given_forms, shown_forms}
+use Rattle.e_line.proofs.Respelled.{GoodForm, as_read}
+use Rattle.e_book.proofs.Declared.{Runs}
+use Rattle.e_line.proofs.Bound.{bind_ok, ok_is}
+use Rattle.e_line.proofs.Choices.{passed}
+use Rattle.e_cert.specs.declared.owed.Due.TheVariants as due
+use Rattle.e_cert.specs.declared.kept.Kept.{Kept}
+use Rattle.e_line.specs.Strict.{is_strict}
+use Rattle.e_read.specs.Strict.{ends_with, is_apart}
+use Rattle.e_read.specs.Needs.{due_of}
+use Rattle.e_roundtrip.proofs.Certificates.RowsAgain.{lit_direct}
+use Rattle.e_roundtrip.proofs.Certificates.CertsPut.{nothing_kept}
+use Rattle.e_roundtrip.proofs.Blocks.LinesTaken.{Stands, Along}
+use Rattle.e_roundtrip.proofs.Formed.Standing.{then_along}
+
+-- ---- the forms of a statement
+
+-- lines of a statement, behind objects of these sorts that are declared and made: no line of objects goes on with the sort of the
+-- line before
+abbrev pub Heads : (declared made : List Sort) → List Form → Type 0
+Heads ds ms [] = Unit {0}
+Heads ds ms (forms.Declare sort ns ∷ fs) = (ends_with ds sort ≡ false) × Heads (ds ++ replicate (length ns) sort) ms fs
+Heads ds ms (forms.Made sort ns ∷ fs) = (ends_with ms sort ≡ false) × Heads ds (ms ++ replicate (length ns) sort) fs
+Heads ds ms (forms.Given ls ∷ fs) = (is_strict (forms.Given ls) ≡ true) × Heads ds ms fs
+Heads ds ms (forms.Show ls ∷ fs) = (is_strict (forms.Show ls) ≡ true) × Heads ds ms fs
+Heads ds ms (forms.Proof ∷ fs) = Heads ds ms fs
+Heads ds ms (f ∷ fs) = ⊥
+
+-- ---- what a line leaves of the sorts that came before
+
+record Sorts (d : Draft) (ds ms : List Sort) : Type 0 where
+  declared : d.declared ≡ ds
+  made : d.made ≡ ms
+
+same_sorts : (x y : Draft) (ds ms : List Sort) → (let ok : Draft → Result Draft Kind = λ d. Ok d in ok x ≡ ok y) → x.declared ≡ ds → x.made ≡ ms → Sorts y ds ms
+same_sorts x y ds ms e a b =
+    let is : x ≡ y = ok_is x y e in
+    record { declared = sym (ap (λ (d : Draft). d.declared) is) ∙ a; made = sym (ap (λ (d : Draft). d.made) is) ∙ b }
+
+declare_sorts : (known : List Headed) (d e : Draft) (sort : Sort) (ns : List (List ℕ)) → step known d (forms.Declare sort ns) ≡ Ok e → Sorts e (d.declared ++ replicate (length ns) sort) d.made
+unfolding step stepped
+declare_sorts known d e sort ns h =
+    let p = passed (allowed d.place (forms.Declare sort ns)) (declares d sort ns) e h in
+    let with_new : Names → Draft = λ names. record d { names = names; declared = d.declared ++ replicate (length ns) sort } in
+    let n = bind_ok (declared d.names sort ns) (λ names. Ok (with_new names)) e p.1 in
+    same_sorts (with_new n.0) e (d.declared ++ replicate (length ns) sort) d.made n.2 refl refl
+
+made_sorts : (known : List Headed) (d e : Draft) (sort : Sort) (ns : List (List ℕ)) → step known d (forms.Made sort ns) ≡ Ok e → Sorts e d.declared (d.made ++ replicate (length ns) sort)
+unfolding step stepped
+made_sorts known d e sort ns h =
+    let p = passed (allowed d.place (forms.Made sort ns)) (makes d sort ns) e h in
+    let with_new : Names → Draft = λ names. record d { names = names; made = d.made ++ replicate (length ns) sort; place = Making } in
+    let n = bind_ok (declared d.names sort ns) (λ names. Ok (with_new names)) e p.1 in
+    same_sorts (with_new n.0) e d.declared (d.made ++ replicate (length ns) sort) n.2 refl refl
+
+terms_sorts : (d e : Draft) (raws : List RawLit) → with_terms d raws ≡ Ok e → Sorts e d.declared d.made
+unfolding with_terms
+terms_sorts d e raws h =
+    let with_count : ℕ → Draft = λ n. record d { terms = n } in
+    let a = bind_ok (few_monos raws) (λ few. terms_behind d.terms raws >>= λ n. Ok (with_count n)) e h in
+    let b = bind_ok (terms_behind d.terms raws) (λ n. Ok (with_count n)) e a.2 in
+    same_sorts (with_count b.0) e d.declared d.made b.2 refl refl
+
+given_sorts : (known : List Headed) (d e : Draft) (raws : List RawLit) → step known d (forms.Given raws) ≡ Ok e → Sorts e d.declared d.made
+unfolding step stepped
+given_sorts known d e raws h =
+    let p = passed (allowed d.place (forms.Given raws)) (supposes d raws) e h in
+    let with_given : List Lit → Draft = λ ls. record d { given = ls; facts = d.facts + length raws; place = Giving } in
+    let a = bind_ok (with_front d.given (lits_in d.names raws)) (λ ls. within (d.facts + length raws) most_facts limits.Facts >>= λ few. with_terms (with_given ls) raws) e p.1 in
+    let b = bind_ok (within (d.facts + length raws) most_facts limits.Facts) (λ few. with_terms (with_given a.0) raws) e a.2 in
+    terms_sorts (with_given a.0) e raws b.2
+
+show_sorts : (known : List Headed) (d e : Draft) (raws : List RawLit) → step known d (forms.Show raws) ≡ Ok e → Sorts e d.declared d.made
+unfolding step stepped
+show_sorts known d e raws h =
+    let p = passed (allowed d.place (forms.Show raws)) (shows d raws) e h in
+    let with_shown : List Lit → Draft = λ ls. record d { shown = ls; place = Showing } in
+    let a = bind_ok (with_front d.shown (lits_in d.names raws)) (λ ls. few_monos raws >>= λ few. Ok (with_shown ls)) e p.1 in
+    let b = bind_ok (few_monos raws) (λ few. Ok (with_shown a.0)) e a.2 in
+    same_sorts (with_shown a.0) e d.declared d.made b.2 refl refl
+
+proof_sorts : (known : List Headed) (d e : Draft) → step known d forms.Proof ≡ Ok e → Sorts e d.declared d.made
+unfolding step stepped
+proof_sorts known d e h =
+    let p = passed (allowed d.place forms.Proof) (proof_begun d) e h in
+    same_sorts _ e d.declared d.made p.1 refl refl
+
+-- ---- the lines are taken
+
+plain_along : (known : List Headed) (d e last : Draft) (f : Form) (fs : List Form) → GoodForm f → is_strict (as_read f) ≡ true → is_apart d (as_read f) ≡ true → due_of known d (as_read f) ≡ Ok due.Nothing → step known d (as_read f) ≡ Ok e
+    → is_done e ≡ false → Along known e (map line_of fs) last [] → Along known d (map line_of (f ∷ fs)) last []
+plain_along known d e last f fs good strict apart owes steps going rest =
+    then_along known d e last f due.Nothing [] None (map line_of fs) [] (record { good = good; strict = strict; apart = apart; owes = owes; steps = steps; going = going; keeps = nothing_kept d.in_scope }) rest
+
+pub draft_is : (x y : Draft) → (let some : Draft → Option Draft = λ d. Some d in some x ≡ some y) → x ≡ y
+draft_is x y e = cc
+
+none_along : (known : List Headed) (d : Draft) → Along known d [] d []
+none_along known d = λ r ks of s. record { last = r; version = refl; taken = refl; stands = subst (λ (x : List Kept). Stands r d x) (sym (append-nil ks)) s }
+
+moved : (ds es ms ns : List Sort) (fs : List Form) → ds ≡ es → ms ≡ ns → Heads es ns fs → Heads ds ms fs
+moved ds es ms ns fs a b h = subst (λ (x : List Sort). Heads x ms fs) (sym a) (subst (λ (x : List Sort). Heads es x fs) (sym b) h)
+
+pub head_along : (known : List Headed) (d last : Draft) (fs : List Form) → Runs known (Some d) fs (Some last) → Heads d.declared d.made fs → Along known d (map line_of fs) last []
+unfolding due_of
+head_along known d last [] r h = subst (λ (e : Draft). Along known d [] e []) (draft_is d last r) (none_along known d)
+head_along known d last (forms.Declare sort ns ∷ fs) r h =
+    let s = declare_sorts known d r.0 sort ns r.2 in
+    plain_along known d r.0 last (forms.Declare sort ns) fs r.1 refl (rw h.0 refl) refl r.2 r.3 (head_along known r.0 last fs r.4 (moved r.0.declared (d.declared ++ replicate (length ns) sort) r.0.made d.made fs s.declared s.made h.1))
+head_along known d last (forms.Made sort ns ∷ fs) r h =
+    let s = made_sorts known d r.0 sort ns r.2 in
+    plain_along known d r.0 last (forms.Made sort ns) fs r.1 refl (rw h.0 refl) refl r.2 r.3 (head_along known r.0 last fs r.4 (moved r.0.declared d.declared r.0.made (d.made ++ replicate (length ns) sort) fs s.declared s.made h.1))
+head_along known d last (forms.Given ls ∷ fs) r h =
+    let s = given_sorts known d r.0 ls r.2 in
+    plain_along known d r.0 last (forms.Given ls) fs r.1 h.0 refl refl r.2 r.3 (head_along known r.0 last fs r.4 (moved r.0.declared d.declared r.0.made d.made fs s.declared s.made h.1))
+head_along known d last (forms.Show ls ∷ fs) r h =
+    let s = show_sorts known d r.0 ls r.2 in
+    plain_along known d r.0 last (forms.Show ls) fs r.1 h.0 refl refl r.2 r.3 (head_along known r.0 last fs r.4 (moved r.0.declared d.declared r.0.made d.made fs s.declared s.made h.1))
+head_along known d last (forms.Proof ∷ fs) r h =
+    let s = proof_sorts known d r.0 r.2 in
+    plain_along known d r.0 last forms.Proof fs r.1 refl refl refl r.2 r.3 (head_along known r.0 last fs r.4 (moved r.0.declared d.declared r.0.made d.made fs s.declared s.made h))
+head_along known d last (f ∷ fs) r h = absurd h
+
+-- ---- neighbouring lines of objects are of different sorts
+
+abbrev HasName : List (List ℕ) → Type 0
+HasName [] = ⊥
+HasName (n ∷ ns) = Unit {0}
+
+-- the next group is of another sort
+abbrev Behind : Sort → List Group → Type 0
+Behind sort [] = Unit {0}
+Behind sort (g ∷ gs) = same_sort sort g.sort ≡ false
+
+-- each group has a name, and two that are neighbours have different sorts
+abbrev Differ : List Group → Type 0
+Differ [] = Unit {0}
+Differ (g ∷ gs) = HasName g.names × Behind g.sort gs × Differ gs
+
+differ_by : (b : Bool) (sort : Sort) (name : List ℕ) (g : Group) (gs : List Group) → same_sort sort g.sort ≡ b → Differ (g ∷ gs) → Differ (cond b (group g.sort (name ∷ g.names) ∷ gs) (group sort (name ∷ []) ∷ g ∷ gs))
+differ_by true sort name g gs e h = (tt, h.1, h.2)
+differ_by false sort name g gs e h = (tt, e, h)
+
+differ_before : (sort : Sort) (name : List ℕ) (gs : List Group) → Differ gs → Differ (grouped_before sort name gs)
+differ_before sort name [] h = (tt, tt, tt)
+differ_before sort name (g ∷ gs) h = differ_by (same_sort sort g.sort) sort name g gs refl h
+
+groups_differ : (ns : Names) (os : List Obj) → Differ (grouped ns os)
+groups_differ ns [] = tt
+groups_differ ns (o ∷ os) = differ_before o.sort (name_of_object ns o) (grouped ns os) (groups_differ ns os)
+
+-- ---- the last sort
+
+last_behind : (xs : List Sort) (y : Sort) (ys : List Sort) (sort : Sort) → ends_with (xs ++ y ∷ ys) sort ≡ ends_with (y ∷ ys) sort
+last_behind [] y ys sort = refl
+last_behind (x ∷ []) y ys sort = refl
+last_behind (x ∷ z ∷ xs) y ys sort = last_behind (z ∷ xs) y ys sort
+
+last_of_many : (n : ℕ) (s sort : Sort) → ends_with (s ∷ replicate n s) sort ≡ same_sort s sort
+last_of_many zero s sort = refl
+last_of_many (suc n) s sort = last_of_many n s sort
+
+last_is : (xs : List Sort) (names : List (List ℕ)) (s sort : Sort) → HasName names → ends_with (xs ++ replicate (length names) s) sort ≡ same_sort s sort
+last_is xs [] s sort h = absurd h
+last_is xs (n ∷ names) s sort h = last_behind xs s (replicate (length names) s) sort ∙ last_of_many (length names) s sort
+
+-- no group goes on with the last sort
+abbrev Fresh : List Sort → List Group → Type 0
+Fresh ss [] = Unit {0}
+Fresh ss (g ∷ gs) = ends_with ss g.sort ≡ false
+
+fresh_behind : (ss : List Sort) (names : List (List ℕ)) (sort : Sort) (gs : List Group) → HasName names → Behind sort gs → Fresh (ss ++ replicate (length names) sort) gs
+fresh_behind ss names sort [] n b = tt
+fresh_behind ss names sort (g ∷ gs) n b = last_is ss names sort g.sort n ∙ b
+
+declared_heads : (ds ms : List Sort) (gs : List Group) (more : List Form) → Fresh ds gs → Differ gs → ((es : List Sort) → Heads es ms more) → Heads ds ms (map declare_form gs ++ more)
+declared_heads ds ms [] more f h rest = rest ds
+declared_heads ds ms (g ∷ gs) more f h rest = (f, declared_heads (ds ++ replicate (length g.names) g.sort) ms gs more (fresh_behind ds g.names g.sort gs h.0 h.1) h.2 rest)
+
+made_heads : (ds ms : List Sort) (gs : List Group) (more : List Form) → Fresh ms gs → Differ gs → ((es : List Sort) → Heads ds es more) → Heads ds ms (map made_form gs ++ more)
+made_heads ds ms [] more f h rest = rest ms
+made_heads ds ms (g ∷ gs) more f h rest = (f, made_heads ds (ms ++ replicate (length g.names) g.sort) gs more (fresh_behind ms g.names g.sort gs h.0 h.1) h.2 rest)
+
+-- ---- the whole
+
+given_heads : (ds ms : List Sort) (ns : Names) (ls : List Lit) (more : List Form) → Heads ds ms more → Heads ds ms (map (given_form ns) ls ++ more)
+given_heads ds ms ns [] more h = h
+given_heads ds ms ns (l ∷ ls) more h = (rw (lit_direct ns l) refl, given_heads ds ms ns ls more h)
+
+shown_heads : (ds ms : List Sort) (ns : Names) (ls : List Lit) (more : List Form) → Heads ds ms more → Heads ds ms (map (show_form ns) ls ++ more)
+shown_heads ds ms ns [] more h = h
+shown_heads ds ms ns (l ∷ ls) more h = (rw (lit_direct ns l) refl, shown_heads ds ms ns ls more h)
+
+first_fresh : (gs : List Group) → Fresh [] gs
+first_fresh [] = tt
+first_fresh (g ∷ gs) = refl
+
+shown_part : (ds : List Sort) (ns : Names) (t : Statement) → Heads ds [] (shown_forms ns t ++ forms.Proof ∷ [])
+shown_part ds ns t =
+    let gs = grouped ns (made_objects t) in
+    let shown = map (show_form ns) t.shown in
+    subst (λ (fs : List Form). Heads ds [] fs) (sym (append_assoc (map made_form gs) shown (forms.Proof ∷ [])))
+    (made_heads ds [] gs (shown ++ forms.Proof ∷ []) (first_fresh gs) (groups_differ ns (made_objects t)) (λ ms. shown_heads ds ms ns t.shown (forms.Proof ∷ []) tt))
+
+-- all lines of a statement behind its title
+pub statement_heads : (ns : Names) (t : Statement) → Heads [] [] (given_forms ns t ++ (shown_forms ns t ++ forms.Proof ∷ []))
+statement_heads ns t =
+    let gs = grouped ns (declared_objects t) in
+    let given = map (given_form ns) t.given in
+    let more = shown_forms ns t ++ forms.Proof ∷ [] in
+    subst (λ (fs : List Form). Heads [] [] fs) (sym (append_assoc (map declare_form gs) given more))
+    (declared_heads [] [] gs (given ++ more) (first_fresh gs) (groups_differ ns (declared_objects t)) (λ ds. given_heads ds [] ns t.given more (shown_part ds ns t)))

@@ -1,0 +1,9 @@
+-- How many bytes lines take: those of a spelling are short.
+pub mod Rooms
+pub mod LitRooms
+pub mod RuleRooms
+pub mod CertRooms
+pub mod FormRooms
+pub mod HeadRooms
+pub mod ScriptRooms
+pub mod BlockRooms

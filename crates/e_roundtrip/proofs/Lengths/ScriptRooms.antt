@@ -1,0 +1,252 @@
+-- The lines of a derivation are short.
+use Rattle.std.proofs.Common.{◌≡◌, ℕ, zero, suc, ◌+◌, ◌≤◌, true, leb, ◌&&◌, List, [], ◌∷◌, ◌++◌, length, map, Option, Some, None, is_some, refl, ap, arith}
+use Rattle.std.specs.List.{list_all, AllByRecursion}
+use Rattle.std.proofs.lemmas.Bool.{leb-true, and_parts}
+use Rattle.std.proofs.lemmas.List.{length-map}
+use Rattle.e_text.specs.Lines.{AreShort}
+use Rattle.e_text.specs.Names.{is_title}
+use Rattle.e_literal.specs.declared.object.Sort.{Sort}
+use Rattle.e_literal.specs.declared.object.Obj.{Obj}
+use Rattle.e_literal.specs.declared.literal.Lit.{Lit}
+use Rattle.e_literal.specs.Literal.{negation, is_in_scope, all_in_scope}
+use Rattle.e_literal.specs.WellFormed.{is_well_formed}
+use Rattle.e_literal.specs.Scopes.{grown}
+use Rattle.e_literal.specs.Facts.{joined, joined_all}
+use Rattle.e_literal.specs.Rename.{same_obj}
+use Rattle.e_literal.specs.Use.{Stated, are_arguments, gives_of_use, needs_of_use}
+use Rattle.e_clause.specs.declared.cert.Against.{Against}
+use Rattle.e_clause.specs.declared.cert.By.{By}
+use Rattle.e_clause.specs.declared.cert.Cert.{Cert}
+use Rattle.e_clause.specs.Instance.{Inst}
+use Rattle.e_clause.specs.RuleKinds.{is_diagram_rule}
+use Rattle.e_construct.specs.declared.construction.Construction.{Construction}
+use Rattle.e_construct.specs.declared.superpose.Superpose.{Superpose}
+use Rattle.e_construct.specs.Construct.{sorts_made, gives_of_construction, needs_of_construction}
+use Rattle.e_construct.specs.Superposing as superposing
+use Rattle.e_theorem.specs.Choice.{fills, is_choice}
+use Rattle.e_deriv.specs.PlainStep.{Cited, Claimed, Copied}
+use Rattle.e_deriv.specs.Script.{Script, Cite, Hence, Make, Apply, Claim, Superposed, Qed, Contradiction, Cases, size, erased}
+use Rattle.e_deriv.specs.Goal.{Goal, goal_of, goal_with}
+use Rattle.e_deriv.specs.Lines.{line, lines}
+use Rattle.e_deriv.specs.Naming.{named}
+use Rattle.e_deriv.specs.Parts.{written as written_args}
+use Rattle.e_roundtrip.specs.Formed.{is_formed}
+use Rattle.e_book.specs.declared.blocks.Opened.TheVariants as opened
+use Rattle.e_book.specs.declared.draft.Draft.{Draft}
+use Rattle.e_line.specs.Limits.{most_facts}
+use Rattle.e_names.specs.Headed.{Headed, stated_by, theorem_of, title_at}
+use Rattle.e_names.specs.Scope.{scope_of_names}
+use Rattle.e_names.specs.Fits.{is_diagram_lit}
+use Rattle.e_book.specs.Fits.{few_facts, has_good_literals, NewNamesFit}
+use Rattle.e_line.specs.Canonical.{line_of}
+use Rattle.e_names.specs.Canonical.{else_form}
+use Rattle.e_names.specs.HasSpelling.{is_named_by_title}
+use Rattle.e_book.specs.HasSpelling.{is_plain, names_theorems}
+use Rattle.e_names.proofs.LitLookups.{diagram_is_good}
+use Rattle.e_names.proofs.Built.{of_sorts_length}
+use Rattle.e_book.proofs.LinesRead.{Inside, behind, deep, copied, resume, second, applied_behind}
+use Rattle.e_spell.specs.Certificates.{certs_lines}
+use Rattle.e_spell.specs.Spelling.{script_lines}
+use Rattle.e_roundtrip.proofs.Certificates.CertsGood.{good_certs, good_against}
+use Rattle.e_book.proofs.ScriptRead.{list_names, inferred, constructed, apply_parts, claim_parts, copy_parts, opens, cases_parts}
+use Rattle.e_roundtrip.proofs.Formed.Standing.{Stood, first_of, one_formed}
+use Rattle.e_roundtrip.proofs.Blocks.ScriptAlong.{cite_next, hence_next, make_next, apply_next, claim_inside, claim_next, copy_formed, copy_inside, copy_next, cases_one, cases_two, no_hence, no_contradiction}
+use Rattle.e_roundtrip.proofs.Lengths.Rooms.{short_append}
+use Rattle.e_roundtrip.proofs.Lengths.RuleRooms.{few_cited}
+use Rattle.e_roundtrip.proofs.Lengths.CertRooms.{short_certs, short_against}
+use Rattle.e_roundtrip.proofs.Lengths.FormRooms.{short_by, short_hence, avoided_give, short_let, short_apply, short_claim, short_superpose, short_qed, short_contradiction, short_cases, short_else}
+use Rattle.e_roundtrip.proofs.Lengths.HeadRooms.{IsFew}
+
+-- ---- what is known
+
+-- each statement has few objects
+abbrev pub AllFew : List Headed → Type 0
+AllFew known = AllByRecursion (λ h. IsFew h.statement) known
+
+-- a theorem has few objects
+record FewAt (t : Stated) : Type 0 where
+  declared : length t.declared ≤ 80
+  made : length t.made ≤ 80
+
+-- each theorem that is known, or is past the last, has few objects
+few_at : (known : List Headed) (k : ℕ) → AllFew known → FewAt (theorem_of known k)
+few_at [] k h = record { declared = omega arith; made = omega arith }
+few_at (x ∷ known) zero h = record { declared = omega (arith, h.0); made = omega (arith, h.0) }
+few_at (x ∷ known) (suc k) h = few_at known k h.1
+
+-- ---- lines
+
+-- the lines of a script where these names are in scope
+abbrev AreShortLines : List Headed → Inside → Script → Type 0
+AreShortLines known i script = AreShort 262144 (script_lines known i.in_scope script)
+
+-- a choice has an object for each entry
+as_many : (xs : List (Option Obj)) (os : List Obj) → fills xs os ≡ true → length xs ≡ length os
+as_many [] [] h = refl
+as_many [] (o ∷ os) h = absurd cc
+as_many (None ∷ xs) [] h = absurd cc
+as_many (Some x ∷ xs) [] h = absurd cc
+as_many (None ∷ xs) (o ∷ os) h = ap suc (as_many xs os h)
+as_many (Some x ∷ xs) (o ∷ os) h = ap suc (as_many xs os (and_parts (same_obj x o) (fills xs os) h).1)
+
+-- a citation
+cite_short : (known : List Headed) (d : Draft) (i : Inside) (b : By) (rest : Script) (given : List Lit) (goal : Goal) → Stood known d i (Cite b rest) given goal → AreShortLines known i rest → AreShortLines known i (Cite b rest)
+unfolding erased script_lines lines has_good_literals
+cite_short known d i b rest given goal s more =
+    let before = stated_by known in
+    let sc = scope_of_names i.in_scope in
+    let here = line (Cite b rest) (Cite b rest) sc given goal in
+    let one = one_formed before here (first_of (is_formed before) here (lines before rest rest sc (joined given b.lit) goal) s.formed).0 in
+    let p = and_parts (is_diagram_rule b.rule) (list_all (is_in_scope sc) b.args && (all_in_scope sc b.lit && is_some (Inst b.rule b.args))) one.fitting in
+    let q = and_parts (list_all (is_in_scope sc) b.args) (all_in_scope sc b.lit && is_some (Inst b.rule b.args)) p.1 in
+    let r = and_parts (all_in_scope sc b.lit) (is_some (Inst b.rule b.args)) q.1 in
+    let good = (and_parts (is_diagram_lit b.lit) (has_good_literals (erased rest)) s.ready.good).0 in
+    (short_by i.in_scope b s.ready.order (diagram_is_good b.lit good) (few_cited b.rule b.args r.1), more)
+
+-- an inference with its certificate
+hence_short : (known : List Headed) (d : Draft) (i : Inside) (l : Lit) (c : Cert) (rest : Script) (given : List Lit) (goal : Goal) → Stood known d i (Hence l (Some c) rest) given goal → AreShortLines known i rest → AreShortLines known i (Hence l (Some c) rest)
+unfolding erased script_lines lines has_good_literals
+hence_short known d i l c rest given goal s more =
+    let before = stated_by known in
+    let ns = i.in_scope in
+    let sc = scope_of_names ns in
+    let here = line (Hence l (Some c) rest) (Hence l (Some c) rest) sc given goal in
+    let one = one_formed before here (first_of (is_formed before) here (lines before rest rest sc (joined given l) goal) s.formed).0 in
+    let good = (and_parts (is_well_formed l) (has_good_literals (erased rest)) s.ready.good).0 in
+    let certs = short_certs ns (l ∷ []) (c ∷ []) s.ready.order (good_certs ns (l ∷ []) (c ∷ []) one.certs) in
+    (short_hence ns l s.ready.order good, short_append (certs_lines ns (c ∷ [])) (script_lines known ns rest) certs more)
+
+-- a construction: what it avoids is bounded by the facts that it gives
+make_short : (known : List Headed) (d : Draft) (i : Inside) (form : Construction) (names : List (List ℕ)) (certs : List Cert) (rest : Script) (given : List Lit) (goal : Goal) → Stood known d i (Make form names certs rest) given goal
+    → AreShortLines known (constructed i form names) rest → AreShortLines known i (Make form names certs rest)
+unfolding erased script_lines lines is_plain few_facts
+make_short known d i form names certs rest given goal s more =
+    let before = stated_by known in
+    let r = s.ready in
+    let ns = i.in_scope in
+    let sc = scope_of_names ns in
+    let n = i.facts + length (gives_of_construction form sc) in
+    let here = line (Make form names certs rest) (Make form names certs rest) sc given goal in
+    let one = one_formed before here (first_of (is_formed before) here (lines before rest rest (grown sc (sorts_made form)) (joined_all given (gives_of_construction form sc)) goal) s.formed).0 in
+    let most = leb-true _ _ (and_parts (leb n most_facts) (few_facts before n (grown sc (sorts_made form)) (erased rest)) r.facts).0 in
+    let words = list_names names (and_parts (list_all _ names) (is_plain (erased rest)) r.plain).0 in
+    let own = short_certs ns (needs_of_construction form) certs r.order (good_certs ns (needs_of_construction form) certs one.certs) in
+    (short_let ns form names r.order words (omega (arith, most, avoided_give form sc)), short_append (certs_lines ns certs) (script_lines known (named ns (sorts_made form) names) rest) own more)
+
+-- the use of an earlier theorem
+apply_short : (known : List Headed) (d : Draft) (i : Inside) (theorem : ℕ) (args : List (Option Obj)) (names : List (List ℕ)) (certs : List Cert) (rest : Script) (given : List Lit) (goal : Goal) → AllFew known
+    → Stood known d i (Apply theorem args names certs rest) given goal → AreShortLines known (applied_behind i (theorem_of known theorem) theorem args names) rest → AreShortLines known i (Apply theorem args names certs rest)
+unfolding erased script_lines lines NewNamesFit names_theorems
+apply_short known d i theorem args names certs rest given goal k s more =
+    let before = stated_by known in
+    let r = s.ready in
+    let ns = i.in_scope in
+    let sc = scope_of_names ns in
+    let t = theorem_of known theorem in
+    let p = apply_parts known d i theorem args names (erased rest) given goal r in
+    let here = line (Apply theorem args names certs rest) (Apply theorem args names certs rest) sc given goal in
+    let one = one_formed before here (first_of (is_formed before) here (lines before rest rest (grown sc t.made) (joined_all given (gives_of_use t (written_args args) sc)) goal) s.formed).0 in
+    let choice = (and_parts _ (is_choice t sc args (written_args args)) one.fitting).1 in
+    let fit = and_parts (fills args (written_args args)) (are_arguments t sc (written_args args)) choice in
+    let count = of_sorts_length sc t.declared (written_args args) fit.1 in
+    let few = few_at known theorem k in
+    let title = (and_parts (is_title (title_at known theorem)) _ (and_parts (is_named_by_title known theorem) (names_theorems known (erased rest)) r.theorems).0).0 in
+    let wanted = needs_of_use t (written_args args) sc in
+    let own = short_certs ns wanted certs r.order (good_certs ns wanted certs one.certs) in (
+      short_apply known ns theorem args names r.order title p.named (omega (arith, as_many args (written_args args) fit.0, count, few.declared)) (omega (arith, r.new_names.1, few.made)),
+      short_append (certs_lines ns certs) (script_lines known (named ns t.made names) rest) own more,
+    )
+
+-- a claim
+claim_short : (known : List Headed) (d : Draft) (i : Inside) (shown : List Lit) (inner rest : Script) (given : List Lit) (goal : Goal) → Stood known d i (Claim shown inner rest) given goal
+    → AreShortLines known i inner → AreShortLines known i rest → AreShortLines known i (Claim shown inner rest)
+unfolding erased script_lines
+claim_short known d i shown inner rest given goal s inside more =
+    let ns = i.in_scope in
+    let p = claim_parts known d i shown (erased inner) (erased rest) given goal s.ready in
+    (short_claim ns shown s.ready.order p.plain.good (omega (arith, p.facts)) (omega (arith, p.terms)), short_append (script_lines known ns inner) (script_lines known ns rest) inside more)
+
+-- a superposition
+copy_short : (known : List Headed) (d : Draft) (i : Inside) (form : Superpose) (names : List (List ℕ)) (shown : List Lit) (certs : List Cert) (inner rest : Script) (given : List Lit) (goal : Goal)
+    → Stood known d i (Superposed form names shown certs inner rest) given goal → AreShortLines known (copied i form names shown) inner → AreShortLines known i rest → AreShortLines known i (Superposed form names shown certs inner rest)
+unfolding erased script_lines
+copy_short known d i form names shown certs inner rest given goal s inside more =
+    let ns = i.in_scope in
+    let p = copy_parts known d i form names shown (erased inner) (erased rest) given goal s.ready in
+    let wanted = superposing.needs_of_superposition form in
+    let c = (copy_formed known d i form names shown certs inner rest given goal s).2 in
+    let own = short_certs ns wanted certs s.ready.order (good_certs ns wanted certs c) in
+    let first = script_lines known (named ns superposing.sorts_copied names) inner in
+    let last = script_lines known ns rest in (
+      short_superpose ns form names shown s.ready.order p.good.named p.good.plain.good (omega (arith, p.facts)) (omega (arith, p.terms)),
+      short_append (certs_lines ns certs) (first ++ last) own (short_append first last inside more),
+    )
+
+-- the close line that shows the goal
+qed_short : (known : List Headed) (d : Draft) (i : Inside) (os : List Obj) (certs : List Cert) (given : List Lit) (goal : Goal) → Stood known d i (Qed os certs) given goal → length goal.made ≤ 80 → AreShortLines known i (Qed os certs)
+unfolding script_lines lines
+qed_short known d i os certs given goal s few =
+    let before = stated_by known in
+    let r = s.ready in
+    let ns = i.in_scope in
+    let sc = scope_of_names ns in
+    let here = line (Qed os certs) (Qed os certs) sc given goal in
+    let one = one_formed before here (first_of (is_formed before) here [] s.formed).0 in
+    let sorts : List Sort = map (λ o. o.sort) goal.made in
+    let count = of_sorts_length sc sorts os one.fitting in
+    let wanted = goal_with goal os in
+    (short_qed ns os r.order (omega (arith, few, count, length-map goal.made (λ o. o.sort))), short_certs ns wanted certs r.order (good_certs ns wanted certs one.certs))
+
+-- a contradiction
+contradiction_short : (known : List Headed) (d : Draft) (i : Inside) (a : Against) (given : List Lit) (goal : Goal) → Stood known d i (Contradiction (Some a)) given goal → AreShortLines known i (Contradiction (Some a))
+unfolding script_lines lines
+contradiction_short known d i a given goal s =
+    let before = stated_by known in
+    let ns = i.in_scope in
+    let here = line (Contradiction (Some a)) (Contradiction (Some a)) (scope_of_names ns) given goal in
+    let one = one_formed before here (first_of (is_formed before) here [] s.formed).0 in
+    (short_contradiction, short_against ns a s.ready.order (good_against ns a one.beside))
+
+-- a split
+cases_short : (known : List Headed) (d : Draft) (i : Inside) (l : Lit) (one two : Script) (given : List Lit) (goal : Goal) → Stood known d i (Cases l one two) given goal → AreShortLines known i one → AreShortLines known i two
+    → AreShortLines known i (Cases l one two)
+unfolding erased script_lines
+cases_short known d i l one two given goal s first second =
+    let ns = i.in_scope in
+    let p = cases_parts known d i l (erased one) (erased two) given goal s.ready in
+    (short_cases ns l s.ready.order p.plain.good, short_append (script_lines known ns one) (line_of else_form ∷ script_lines known ns two) first (short_else, second))
+
+-- ---- all lines
+
+-- each line of a script that stands there, and of its certificates
+pub short_script : (known : List Headed) (d : Draft) (i : Inside) (script : Script) (given : List Lit) (goal : Goal) → AllFew known → length goal.made ≤ 80 → Stood known d i script given goal → AreShortLines known i script
+short_script known d i (Cite b rest) given goal k m s =
+    cite_short known d i b rest given goal s (short_script known d (behind i (Cited b) 1) rest (joined given b.lit) goal k m (cite_next known d i b rest given goal s))
+short_script known d i (Hence l None rest) given goal k m s = absurd (no_hence known d i l rest given goal s)
+short_script known d i (Hence l (Some c) rest) given goal k m s =
+    hence_short known d i l c rest given goal s (short_script known d (inferred i l) rest (joined given l) goal k m (hence_next known d i l c rest given goal s))
+short_script known d i (Make form names certs rest) given goal k m s =
+    make_short known d i form names certs rest given goal s
+    (short_script known d (constructed i form names) rest (joined_all given (gives_of_construction form (scope_of_names i.in_scope))) goal k m (make_next known d i form names certs rest given goal s))
+short_script known d i (Apply theorem args names certs rest) given goal k m s =
+    let t = theorem_of known theorem in
+    apply_short known d i theorem args names certs rest given goal k s
+    (short_script known d (applied_behind i t theorem args names) rest (joined_all given (gives_of_use t (written_args args) (scope_of_names i.in_scope))) goal k m (apply_next known d i theorem args names certs rest given goal s))
+short_script known d i (Claim shown inner rest) given goal k m s =
+    let n = i.lines + 1 + size (erased inner) in
+    claim_short known d i shown inner rest given goal s
+    (short_script known d (deep i (opened.Claim shown) 0) inner given (goal_of shown) k (omega arith) (claim_inside known d i shown inner rest given goal s))
+    (short_script known d (resume i n (Claimed shown (erased inner)) shown) rest (joined_all given shown) goal k m (claim_next known d i n shown inner rest given goal refl s))
+short_script known d i (Superposed form names shown certs inner rest) given goal k m s =
+    let n = i.lines + 1 + size (erased inner) in
+    copy_short known d i form names shown certs inner rest given goal s
+    (short_script known d (copied i form names shown) inner (joined_all given (superposing.gives_of_superposition form (scope_of_names i.in_scope))) (goal_of shown) k (omega arith) (copy_inside known d i form names shown certs inner rest given goal s))
+    (short_script known d (resume i n (Copied form names shown [] (erased inner)) shown) rest (joined_all given shown) goal k m (copy_next known d i n form names shown certs inner rest given goal refl s))
+short_script known d i (Qed os certs) given goal k m s = qed_short known d i os certs given goal s m
+short_script known d i (Contradiction None) given goal k m s = absurd (no_contradiction known d i given goal s)
+short_script known d i (Contradiction (Some a)) given goal k m s = contradiction_short known d i a given goal s
+short_script known d i (Cases l one two) given goal k m s =
+    let n = i.lines + 1 + size (erased one) in
+    cases_short known d i l one two given goal s
+    (short_script known d (opens i l) one (joined given l) goal k m (cases_one known d i l one two given goal s))
+    (short_script known d (second i n l (erased one)) two (joined given (negation l)) goal k m (cases_two known d i n l one two given goal refl s))

@@ -1,0 +1,423 @@
+-- What is left of a script is within the limits: its literals, facts and monomials, blanks, certificates and depth.
+use Rattle.std.proofs.Common.{◌≡◌, ℕ, suc, ◌+◌, ◌≤◌, List, [], ◌∷◌, ◌++◌, map, length, refl, sym, ap, ◌∙◌, arith, Bool, true, false, ◌&&◌, cond, leb, Option, Some, None, ℤ, length-append}
+use Rattle.std.specs.Option.{option_map_or, option_map}
+use Rattle.std.specs.List.{list_all}
+use Rattle.std.proofs.lemmas.Bool.{and_parts, and_from, leb-true, le-leb}
+use Rattle.std.proofs.lemmas.List.{length-map, map-append}
+use Rattle.e_literal.specs.declared.object.Sort.{Sort}
+use Rattle.e_literal.specs.declared.object.Sort.TheVariants.{Point, Line, Circle}
+use Rattle.e_literal.specs.declared.object.Obj.{Obj}
+use Rattle.e_literal.specs.declared.object.Scope.{Scope}
+use Rattle.e_literal.specs.declared.literal.Lit.{Lit}
+use Rattle.e_literal.specs.declared.literal.Atom.{Atom}
+use Rattle.e_literal.specs.declared.literal.Atom.TheVariants as atoms
+use Rattle.e_literal.specs.Literal.{negation}
+use Rattle.e_literal.specs.Rename.{atom_at, mono_at, number_at}
+use Rattle.e_literal.specs.Facts.{joined, joined_all}
+use Rattle.e_literal.specs.Scopes.{grown, next_objects}
+use Rattle.e_literal.specs.Use.{Stated}
+use Rattle.e_literal.specs.WellFormed.{is_well_formed}
+use Rattle.e_literal.proofs.WithImages.{renamed_well_formed}
+use Rattle.e_clause.specs.declared.cert.Version.{Version}
+use Rattle.e_clause.specs.declared.cert.RowName.{RowName}
+use Rattle.e_clause.specs.declared.cert.RowName.TheVariants.{Fact}
+use Rattle.e_clause.specs.declared.cert.Sums.{Sums}
+use Rattle.e_clause.specs.declared.cert.Sums.TheVariants.{One, Two}
+use Rattle.e_clause.specs.declared.cert.Part.{Part}
+use Rattle.e_clause.specs.declared.cert.Part.TheVariants.{Fact as FactPart, Metric, FactAt as FactPartAt}
+use Rattle.e_clause.specs.declared.cert.Cert.{Cert}
+use Rattle.e_clause.specs.declared.cert.Cert.TheVariants.{Plain, Transfer}
+use Rattle.e_clause.specs.declared.cert.Against.{Against}
+use Rattle.e_clause.specs.declared.cert.Against.TheVariants.{Clash, Metric as MetricAgainst}
+use Rattle.e_clause.specs.Versions.{by_literals, is_name_of, is_sum_of, are_sums_of, is_part_of, is_cert_of, is_against_of}
+use Rattle.e_construct.specs.declared.construction.Construction.{Construction}
+use Rattle.e_construct.specs.Construct.{sorts_made, gives_of_construction, gives_of_avoided}
+use Rattle.e_construct.specs.Superposing as superposing
+use Rattle.e_deriv.specs.Script.{Script, Cite, Hence, Make, Apply, Claim, Superposed, Qed, Contradiction, Cases, erased, depth}
+use Rattle.e_deriv.specs.Goal.{Goal, goal_of}
+use Rattle.e_deriv.specs.Lines.{theorem_at}
+use Rattle.e_deriv.specs.Versions.{has_certs_of}
+use Rattle.e_line.specs.Limits.{most_facts, most_terms, most_blanks, monomials, count_monomials}
+use Rattle.e_names.specs.Applies.{count_blanks}
+use Rattle.e_names.specs.Fits.{is_diagram_atom, is_diagram_lit}
+use Rattle.e_book.specs.Fits.{has_good_literals, few_facts, few_terms, few_blanks}
+use Rattle.e_names.proofs.ShortLits.{count_first}
+use Rattle.e_roundtrip.proofs.Formed.Filled.{both_same}
+use Rattle.e_trim.specs.Trimmed.{obj_at, image_of, lit_at, row_at, sum_at, sums_at, part_at, cert_at, against_at, form_at, superpose_at, args_at, joins_at, is_kept, wants, trimmed_from}
+
+-- ---- tests
+
+-- whichever of the two is left
+pub either : (p : Script → Bool) (b : Bool) (x y : Script) → p x ≡ true → p y ≡ true → p (cond b x y) ≡ true
+either p true x y h k = h
+either p false x y h k = k
+
+-- where less is counted it is still few
+still_few : (m n most : ℕ) → m ≤ n → leb n most ≡ true → leb m most ≡ true
+still_few m n most le h = le-leb m most (omega (arith, le, leb-true n most h))
+
+-- ---- what is counted over the kept objects
+
+diagram_stays : (p l c : ℕ → ℕ) (a : Atom) → is_diagram_atom (atom_at p l c a) ≡ is_diagram_atom a
+diagram_stays p l c (atoms.MagEq x y) = refl
+diagram_stays p l c (atoms.MagLt x y) = refl
+diagram_stays p l c a = refl
+
+monos_stay : (p l c : ℕ → ℕ) (a : Atom) → monomials (atom_at p l c a) ≡ monomials a
+monos_stay p l c (atoms.MagEq x y) = ap length (sym (map-append (mono_at p) x y)) ∙ length-map (x ++ y) (mono_at p)
+monos_stay p l c (atoms.MagLt x y) = ap length (sym (map-append (mono_at p) x y)) ∙ length-map (x ++ y) (mono_at p)
+monos_stay p l c a = refl
+
+lit_monos : (kept : List Obj) (l : Lit) → monomials (lit_at kept l).atom ≡ monomials l.atom
+lit_monos kept l = monos_stay (number_at (image_of kept) Point) (number_at (image_of kept) Line) (number_at (image_of kept) Circle) l.atom
+
+lit_diagram : (kept : List Obj) (l : Lit) → is_diagram_lit (lit_at kept l) ≡ is_diagram_lit l
+lit_diagram kept l = diagram_stays (number_at (image_of kept) Point) (number_at (image_of kept) Line) (number_at (image_of kept) Circle) l.atom
+
+lits_monos : (kept : List Obj) (ls : List Lit) → count_monomials (map (lit_at kept) ls) ≡ count_monomials ls
+lits_monos kept [] = refl
+lits_monos kept (l ∷ ls) = omega (arith, count_first (lit_at kept l) (map (lit_at kept) ls), count_first l ls, lit_monos kept l, lits_monos kept ls)
+
+well_stay : (kept : List Obj) (ls : List Lit) → list_all is_well_formed (map (lit_at kept) ls) ≡ list_all is_well_formed ls
+well_stay kept [] = refl
+well_stay kept (l ∷ ls) = both_same _ _ _ _ (renamed_well_formed (image_of kept) l) (well_stay kept ls)
+
+same_sum : (a b c d : List Lit) → length a ≡ length c → length b ≡ length d → length (a ++ b) ≡ length (c ++ d)
+same_sum a b c d e f = omega (arith, length-append a b, length-append c d, e, f)
+
+avoided_count : (xs : List Sort) (s z : Scope) (os ps : List Obj) → length os ≡ length ps → length (gives_of_avoided (next_objects s xs) os) ≡ length (gives_of_avoided (next_objects z xs) ps)
+avoided_count [] s z os ps e = refl
+avoided_count (x ∷ xs) s z os ps e = length-map os _ ∙ e ∙ sym (length-map ps _)
+
+-- a construction gives as many literals
+gives_count : (kept : List Obj) (form : Construction) (s z : Scope) → length (gives_of_construction (form_at kept form) s) ≡ length (gives_of_construction form z)
+gives_count kept form s z =
+    same_sum _ _ _ _ (length-map _ _ ∙ sym (length-map _ _)) (avoided_count (sorts_made form) s z (map (obj_at kept) form.avoid) form.avoid (length-map form.avoid (obj_at kept)))
+
+blanks_stay : (kept : List Obj) (args : List (Option Obj)) → count_blanks (args_at kept args) ≡ count_blanks args
+blanks_stay kept [] = refl
+blanks_stay kept (None ∷ args) = ap suc (blanks_stay kept args)
+blanks_stay kept (Some o ∷ args) = blanks_stay kept args
+
+-- ---- literals
+
+pub literals_left : (before : List Stated) (d : Script) (kept : List Obj) (s : Scope) (facts : List Lit) (goal : Goal) → has_good_literals d ≡ true → has_good_literals (erased (trimmed_from before kept d s facts goal)) ≡ true
+unfolding trimmed_from erased has_good_literals
+literals_left before (Cite by rest) kept s facts goal h =
+    let p = and_parts _ (has_good_literals rest) h in
+    let r = literals_left before rest kept s (joined facts by.lit) goal p.1 in
+    either (λ x. has_good_literals (erased x)) (is_kept before (Cite by rest) s facts (wants before rest s (joined facts by.lit) goal)) _ _ (and_from _ _ (lit_diagram kept by.lit ∙ p.0) r) r
+literals_left before (Hence lit cert rest) kept s facts goal h =
+    let p = and_parts (is_well_formed lit) (has_good_literals rest) h in
+    let r = literals_left before rest kept s (joined facts lit) goal p.1 in
+    either (λ x. has_good_literals (erased x)) (is_kept before (Hence lit cert rest) s facts (wants before rest s (joined facts lit) goal)) _ _ (and_from _ _ (renamed_well_formed (image_of kept) lit ∙ p.0) r) r
+literals_left before (Make form names certs rest) kept s facts goal h =
+    let after = joined_all facts (gives_of_construction form s) in
+    either (λ x. has_good_literals (erased x)) (is_kept before (Make form names certs rest) s facts (wants before rest (grown s (sorts_made form)) after goal)) _ _
+    (literals_left before rest (kept ++ next_objects s (sorts_made form)) (grown s (sorts_made form)) after goal h)
+    (literals_left before rest kept (grown s (sorts_made form)) after goal h)
+literals_left before (Apply theorem args names certs rest) kept s facts goal h =
+    let here = Apply theorem args names certs rest in
+    let new = (theorem_at before theorem).made in
+    let after = joined_all facts (joins_at before here s) in
+    either (λ x. has_good_literals (erased x)) (is_kept before here s facts (wants before rest (grown s new) after goal)) _ _
+    (literals_left before rest (kept ++ next_objects s new) (grown s new) after goal h)
+    (literals_left before rest kept (grown s new) after goal h)
+literals_left before (Claim shown inner rest) kept s facts goal h =
+    let p = and_parts (list_all is_well_formed shown) (has_good_literals inner && has_good_literals rest) h in
+    let q = and_parts (has_good_literals inner) (has_good_literals rest) p.1 in
+    let r = literals_left before rest kept s (joined_all facts shown) goal q.1 in
+    either (λ x. has_good_literals (erased x)) (is_kept before (Claim shown inner rest) s facts (wants before rest s (joined_all facts shown) goal)) _ _
+    (and_from _ _ (well_stay kept shown ∙ p.0) (and_from _ _ (literals_left before inner kept s facts (goal_of shown) q.0) r)) r
+literals_left before (Superposed form names shown certs inner rest) kept s facts goal h =
+    let p = and_parts (list_all is_well_formed shown) (has_good_literals inner && has_good_literals rest) h in
+    let q = and_parts (has_good_literals inner) (has_good_literals rest) p.1 in
+    let r = literals_left before rest kept s (joined_all facts shown) goal q.1 in
+    let opened = joined_all facts (superposing.gives_of_superposition form s) in
+    either (λ x. has_good_literals (erased x)) (is_kept before (Superposed form names shown certs inner rest) s facts (wants before rest s (joined_all facts shown) goal)) _ _
+    (and_from _ _ (well_stay kept shown ∙ p.0) (and_from _ _ (literals_left before inner (kept ++ next_objects s superposing.sorts_copied) (grown s superposing.sorts_copied) opened (goal_of shown) q.0) r)) r
+literals_left before (Qed objects certs) kept s facts goal h = refl
+literals_left before (Contradiction against) kept s facts goal h = refl
+literals_left before (Cases lit first second) kept s facts goal h =
+    let p = and_parts (is_well_formed lit) (has_good_literals first && has_good_literals second) h in
+    let q = and_parts (has_good_literals first) (has_good_literals second) p.1 in
+    and_from _ _ (renamed_well_formed (image_of kept) lit ∙ p.0)
+    (and_from _ _ (literals_left before first kept s (joined facts lit) goal q.0) (literals_left before second kept s (joined facts (negation lit)) goal q.1))
+
+-- ---- facts: no more literals are facts before a line
+
+pub facts_left : (before : List Stated) (d : Script) (kept : List Obj) (s : Scope) (facts : List Lit) (goal : Goal) (m n : ℕ) (y z : Scope) → m ≤ n
+    → few_facts before n z (erased d) ≡ true → few_facts before m y (erased (trimmed_from before kept d s facts goal)) ≡ true
+unfolding trimmed_from erased few_facts
+facts_left before (Cite by rest) kept s facts goal m n y z le h =
+    let p = and_parts (leb (n + 1) most_facts) (few_facts before (n + 1) z (erased rest)) h in
+    either (λ x. few_facts before m y (erased x)) (is_kept before (Cite by rest) s facts (wants before rest s (joined facts by.lit) goal)) _ _
+    (and_from _ _ (still_few (m + 1) (n + 1) most_facts (omega (arith, le)) p.0) (facts_left before rest kept s (joined facts by.lit) goal (m + 1) (n + 1) y z (omega (arith, le)) p.1))
+    (facts_left before rest kept s (joined facts by.lit) goal m (n + 1) y z (omega (arith, le)) p.1)
+facts_left before (Hence lit cert rest) kept s facts goal m n y z le h =
+    let p = and_parts (leb (n + 1) most_facts) (few_facts before (n + 1) z (erased rest)) h in
+    either (λ x. few_facts before m y (erased x)) (is_kept before (Hence lit cert rest) s facts (wants before rest s (joined facts lit) goal)) _ _
+    (and_from _ _ (still_few (m + 1) (n + 1) most_facts (omega (arith, le)) p.0) (facts_left before rest kept s (joined facts lit) goal (m + 1) (n + 1) y z (omega (arith, le)) p.1))
+    (facts_left before rest kept s (joined facts lit) goal m (n + 1) y z (omega (arith, le)) p.1)
+facts_left before (Make form names certs rest) kept s facts goal m n y z le h =
+    let after = joined_all facts (gives_of_construction form s) in
+    let wide = grown s (sorts_made form) in
+    let many = n + length (gives_of_construction form z) in
+    let few = m + length (gives_of_construction (form_at kept form) y) in
+    let e = gives_count kept form y z in
+    let p = and_parts (leb many most_facts) (few_facts before many (grown z (sorts_made form)) (erased rest)) h in
+    either (λ x. few_facts before m y (erased x)) (is_kept before (Make form names certs rest) s facts (wants before rest wide after goal)) _ _
+    (and_from _ _ (still_few few many most_facts (omega (arith, le, e)) p.0) (facts_left before rest (kept ++ next_objects s (sorts_made form)) wide after goal few many (grown y (sorts_made form)) (grown z (sorts_made form)) (omega (arith, le, e)) p.1))
+    (facts_left before rest kept wide after goal m many y (grown z (sorts_made form)) (omega (arith, le)) p.1)
+facts_left before (Apply theorem args names certs rest) kept s facts goal m n y z le h =
+    let here = Apply theorem args names certs rest in
+    let t = theorem_at before theorem in
+    let after = joined_all facts (joins_at before here s) in
+    let wide = grown s t.made in
+    let many = n + length t.shown in
+    let p = and_parts (leb many most_facts) (few_facts before many (grown z t.made) (erased rest)) h in
+    either (λ x. few_facts before m y (erased x)) (is_kept before here s facts (wants before rest wide after goal)) _ _
+    (and_from _ _ (still_few (m + length t.shown) many most_facts (omega (arith, le)) p.0) (facts_left before rest (kept ++ next_objects s t.made) wide after goal (m + length t.shown) many (grown y t.made) (grown z t.made) (omega (arith, le)) p.1))
+    (facts_left before rest kept wide after goal m many y (grown z t.made) (omega (arith, le)) p.1)
+facts_left before (Claim shown inner rest) kept s facts goal m n y z le h =
+    let many = n + length shown in
+    let few = m + length (map (lit_at kept) shown) in
+    let e = length-map shown (lit_at kept) in
+    let p = and_parts (few_facts before n z (erased inner)) (leb many most_facts && few_facts before many z (erased rest)) h in
+    let q = and_parts (leb many most_facts) (few_facts before many z (erased rest)) p.1 in
+    either (λ x. few_facts before m y (erased x)) (is_kept before (Claim shown inner rest) s facts (wants before rest s (joined_all facts shown) goal)) _ _
+    (and_from _ _ (facts_left before inner kept s facts (goal_of shown) m n y z le p.0)
+    (and_from _ _ (still_few few many most_facts (omega (arith, le, e)) q.0) (facts_left before rest kept s (joined_all facts shown) goal few many y z (omega (arith, le, e)) q.1)))
+    (facts_left before rest kept s (joined_all facts shown) goal m many y z (omega (arith, le)) q.1)
+facts_left before (Superposed form names shown certs inner rest) kept s facts goal m n y z le h =
+    let opened = joined_all facts (superposing.gives_of_superposition form s) in
+    let given = n + length (superposing.gives_of_superposition form z) in
+    let less = m + length (superposing.gives_of_superposition (superpose_at kept form) y) in
+    let same : length (superposing.gives_of_superposition (superpose_at kept form) y) ≡ length (superposing.gives_of_superposition form z) = refl in
+    let many = n + length shown in
+    let few = m + length (map (lit_at kept) shown) in
+    let e = length-map shown (lit_at kept) in
+    let o = and_parts (leb given most_facts) (few_facts before given (grown z superposing.sorts_copied) (erased inner) && (leb many most_facts && few_facts before many z (erased rest))) h in
+    let p = and_parts (few_facts before given (grown z superposing.sorts_copied) (erased inner)) (leb many most_facts && few_facts before many z (erased rest)) o.1 in
+    let q = and_parts (leb many most_facts) (few_facts before many z (erased rest)) p.1 in
+    either (λ x. few_facts before m y (erased x)) (is_kept before (Superposed form names shown certs inner rest) s facts (wants before rest s (joined_all facts shown) goal)) _ _
+    (and_from _ _ (still_few less given most_facts (omega (arith, le, same)) o.0)
+    (and_from _ _
+    (facts_left before inner (kept ++ next_objects s superposing.sorts_copied) (grown s superposing.sorts_copied) opened (goal_of shown) less given (grown y superposing.sorts_copied) (grown z superposing.sorts_copied) (omega (arith, le, same)) p.0)
+    (and_from _ _ (still_few few many most_facts (omega (arith, le, e)) q.0) (facts_left before rest kept s (joined_all facts shown) goal few many y z (omega (arith, le, e)) q.1))))
+    (facts_left before rest kept s (joined_all facts shown) goal m many y z (omega (arith, le)) q.1)
+facts_left before (Qed objects certs) kept s facts goal m n y z le h = refl
+facts_left before (Contradiction against) kept s facts goal m n y z le h = refl
+facts_left before (Cases lit first second) kept s facts goal m n y z le h =
+    let p = and_parts (leb (n + 1) most_facts) (few_facts before (n + 1) z (erased first) && few_facts before (n + 1) z (erased second)) h in
+    let q = and_parts (few_facts before (n + 1) z (erased first)) (few_facts before (n + 1) z (erased second)) p.1 in
+    and_from _ _ (still_few (m + 1) (n + 1) most_facts (omega (arith, le)) p.0)
+    (and_from _ _ (facts_left before first kept s (joined facts lit) goal (m + 1) (n + 1) y z (omega (arith, le)) q.0)
+    (facts_left before second kept s (joined facts (negation lit)) goal (m + 1) (n + 1) y z (omega (arith, le)) q.1))
+
+-- ---- and they have no more monomials
+
+pub terms_left : (before : List Stated) (d : Script) (kept : List Obj) (s : Scope) (facts : List Lit) (goal : Goal) (m n : ℕ) (y z : Scope) → m ≤ n
+    → few_terms before n z (erased d) ≡ true → few_terms before m y (erased (trimmed_from before kept d s facts goal)) ≡ true
+unfolding trimmed_from erased few_terms
+terms_left before (Cite by rest) kept s facts goal m n y z le h =
+    let r = terms_left before rest kept s (joined facts by.lit) goal m n y z le h in
+    either (λ x. few_terms before m y (erased x)) (is_kept before (Cite by rest) s facts (wants before rest s (joined facts by.lit) goal)) _ _ r r
+terms_left before (Hence lit cert rest) kept s facts goal m n y z le h =
+    let many = n + monomials lit.atom in
+    let few = m + monomials (lit_at kept lit).atom in
+    let e = lit_monos kept lit in
+    let p = and_parts (leb many most_terms) (few_terms before many z (erased rest)) h in
+    either (λ x. few_terms before m y (erased x)) (is_kept before (Hence lit cert rest) s facts (wants before rest s (joined facts lit) goal)) _ _
+    (and_from _ _ (still_few few many most_terms (omega (arith, le, e)) p.0) (terms_left before rest kept s (joined facts lit) goal few many y z (omega (arith, le, e)) p.1))
+    (terms_left before rest kept s (joined facts lit) goal m many y z (omega (arith, le)) p.1)
+terms_left before (Make form names certs rest) kept s facts goal m n y z le h =
+    let after = joined_all facts (gives_of_construction form s) in
+    let wide = grown s (sorts_made form) in
+    either (λ x. few_terms before m y (erased x)) (is_kept before (Make form names certs rest) s facts (wants before rest wide after goal)) _ _
+    (terms_left before rest (kept ++ next_objects s (sorts_made form)) wide after goal m n (grown y (sorts_made form)) (grown z (sorts_made form)) le h)
+    (terms_left before rest kept wide after goal m n y (grown z (sorts_made form)) le h)
+terms_left before (Apply theorem args names certs rest) kept s facts goal m n y z le h =
+    let here = Apply theorem args names certs rest in
+    let t = theorem_at before theorem in
+    let after = joined_all facts (joins_at before here s) in
+    let wide = grown s t.made in
+    let many = n + count_monomials t.shown in
+    let few = m + count_monomials t.shown in
+    let p = and_parts (leb many most_terms) (few_terms before many (grown z t.made) (erased rest)) h in
+    either (λ x. few_terms before m y (erased x)) (is_kept before here s facts (wants before rest wide after goal)) _ _
+    (and_from _ _ (still_few few many most_terms (omega (arith, le)) p.0) (terms_left before rest (kept ++ next_objects s t.made) wide after goal few many (grown y t.made) (grown z t.made) (omega (arith, le)) p.1))
+    (terms_left before rest kept wide after goal m many y (grown z t.made) (omega (arith, le)) p.1)
+terms_left before (Claim shown inner rest) kept s facts goal m n y z le h =
+    let many = n + count_monomials shown in
+    let few = m + count_monomials (map (lit_at kept) shown) in
+    let e = lits_monos kept shown in
+    let p = and_parts (few_terms before n z (erased inner)) (leb many most_terms && few_terms before many z (erased rest)) h in
+    let q = and_parts (leb many most_terms) (few_terms before many z (erased rest)) p.1 in
+    either (λ x. few_terms before m y (erased x)) (is_kept before (Claim shown inner rest) s facts (wants before rest s (joined_all facts shown) goal)) _ _
+    (and_from _ _ (terms_left before inner kept s facts (goal_of shown) m n y z le p.0)
+    (and_from _ _ (still_few few many most_terms (omega (arith, le, e)) q.0) (terms_left before rest kept s (joined_all facts shown) goal few many y z (omega (arith, le, e)) q.1)))
+    (terms_left before rest kept s (joined_all facts shown) goal m many y z (omega (arith, le)) q.1)
+terms_left before (Superposed form names shown certs inner rest) kept s facts goal m n y z le h =
+    let opened = joined_all facts (superposing.gives_of_superposition form s) in
+    let given = n + count_monomials (superposing.gives_of_superposition form z) in
+    let less = m + count_monomials (superposing.gives_of_superposition (superpose_at kept form) y) in
+    let same : count_monomials (superposing.gives_of_superposition (superpose_at kept form) y) ≡ count_monomials (superposing.gives_of_superposition form z) = refl in
+    let many = n + count_monomials shown in
+    let few = m + count_monomials (map (lit_at kept) shown) in
+    let e = lits_monos kept shown in
+    let o = and_parts (leb given most_terms) (few_terms before given (grown z superposing.sorts_copied) (erased inner) && (leb many most_terms && few_terms before many z (erased rest))) h in
+    let p = and_parts (few_terms before given (grown z superposing.sorts_copied) (erased inner)) (leb many most_terms && few_terms before many z (erased rest)) o.1 in
+    let q = and_parts (leb many most_terms) (few_terms before many z (erased rest)) p.1 in
+    either (λ x. few_terms before m y (erased x)) (is_kept before (Superposed form names shown certs inner rest) s facts (wants before rest s (joined_all facts shown) goal)) _ _
+    (and_from _ _ (still_few less given most_terms (omega (arith, le, same)) o.0)
+    (and_from _ _
+    (terms_left before inner (kept ++ next_objects s superposing.sorts_copied) (grown s superposing.sorts_copied) opened (goal_of shown) less given (grown y superposing.sorts_copied) (grown z superposing.sorts_copied) (omega (arith, le, same)) p.0)
+    (and_from _ _ (still_few few many most_terms (omega (arith, le, e)) q.0) (terms_left before rest kept s (joined_all facts shown) goal few many y z (omega (arith, le, e)) q.1))))
+    (terms_left before rest kept s (joined_all facts shown) goal m many y z (omega (arith, le)) q.1)
+terms_left before (Qed objects certs) kept s facts goal m n y z le h = refl
+terms_left before (Contradiction against) kept s facts goal m n y z le h = refl
+terms_left before (Cases lit first second) kept s facts goal m n y z le h =
+    let many = n + monomials lit.atom in
+    let few = m + monomials (lit_at kept lit).atom in
+    let e = lit_monos kept lit in
+    let p = and_parts (leb many most_terms) (few_terms before many z (erased first) && few_terms before many z (erased second)) h in
+    let q = and_parts (few_terms before many z (erased first)) (few_terms before many z (erased second)) p.1 in
+    and_from _ _ (still_few few many most_terms (omega (arith, le, e)) p.0)
+    (and_from _ _ (terms_left before first kept s (joined facts lit) goal few many y z (omega (arith, le, e)) q.0)
+    (terms_left before second kept s (joined facts (negation lit)) goal few many y z (omega (arith, le, e)) q.1))
+
+-- ---- blanks
+
+pub blanks_left : (before : List Stated) (d : Script) (kept : List Obj) (s : Scope) (facts : List Lit) (goal : Goal) → few_blanks (erased d) ≡ true → few_blanks (erased (trimmed_from before kept d s facts goal)) ≡ true
+unfolding trimmed_from erased few_blanks
+blanks_left before (Cite by rest) kept s facts goal h =
+    let r = blanks_left before rest kept s (joined facts by.lit) goal h in
+    either (λ x. few_blanks (erased x)) (is_kept before (Cite by rest) s facts (wants before rest s (joined facts by.lit) goal)) _ _ r r
+blanks_left before (Hence lit cert rest) kept s facts goal h =
+    let r = blanks_left before rest kept s (joined facts lit) goal h in
+    either (λ x. few_blanks (erased x)) (is_kept before (Hence lit cert rest) s facts (wants before rest s (joined facts lit) goal)) _ _ r r
+blanks_left before (Make form names certs rest) kept s facts goal h =
+    let after = joined_all facts (gives_of_construction form s) in
+    either (λ x. few_blanks (erased x)) (is_kept before (Make form names certs rest) s facts (wants before rest (grown s (sorts_made form)) after goal)) _ _
+    (blanks_left before rest (kept ++ next_objects s (sorts_made form)) (grown s (sorts_made form)) after goal h)
+    (blanks_left before rest kept (grown s (sorts_made form)) after goal h)
+blanks_left before (Apply theorem args names certs rest) kept s facts goal h =
+    let here = Apply theorem args names certs rest in
+    let new = (theorem_at before theorem).made in
+    let after = joined_all facts (joins_at before here s) in
+    let p = and_parts (leb (count_blanks args) most_blanks) (few_blanks (erased rest)) h in
+    either (λ x. few_blanks (erased x)) (is_kept before here s facts (wants before rest (grown s new) after goal)) _ _
+    (and_from _ _ (ap (λ (k : ℕ). leb k most_blanks) (blanks_stay kept args) ∙ p.0) (blanks_left before rest (kept ++ next_objects s new) (grown s new) after goal p.1))
+    (blanks_left before rest kept (grown s new) after goal p.1)
+blanks_left before (Claim shown inner rest) kept s facts goal h =
+    let q = and_parts (few_blanks (erased inner)) (few_blanks (erased rest)) h in
+    let r = blanks_left before rest kept s (joined_all facts shown) goal q.1 in
+    either (λ x. few_blanks (erased x)) (is_kept before (Claim shown inner rest) s facts (wants before rest s (joined_all facts shown) goal)) _ _ (and_from _ _ (blanks_left before inner kept s facts (goal_of shown) q.0) r) r
+blanks_left before (Superposed form names shown certs inner rest) kept s facts goal h =
+    let q = and_parts (few_blanks (erased inner)) (few_blanks (erased rest)) h in
+    let r = blanks_left before rest kept s (joined_all facts shown) goal q.1 in
+    let opened = joined_all facts (superposing.gives_of_superposition form s) in
+    either (λ x. few_blanks (erased x)) (is_kept before (Superposed form names shown certs inner rest) s facts (wants before rest s (joined_all facts shown) goal)) _ _
+    (and_from _ _ (blanks_left before inner (kept ++ next_objects s superposing.sorts_copied) (grown s superposing.sorts_copied) opened (goal_of shown) q.0) r) r
+blanks_left before (Qed objects certs) kept s facts goal h = refl
+blanks_left before (Contradiction against) kept s facts goal h = refl
+blanks_left before (Cases lit first second) kept s facts goal h =
+    let q = and_parts (few_blanks (erased first)) (few_blanks (erased second)) h in
+    and_from _ _ (blanks_left before first kept s (joined facts lit) goal q.0) (blanks_left before second kept s (joined facts (negation lit)) goal q.1)
+
+-- ---- certificates
+
+module _ (v : Version) (kept : List Obj) where
+  name_stays : (n : RowName) → is_name_of v (row_at kept n) ≡ is_name_of v n
+  name_stays (Fact l) = ap (λ (b : Bool). by_literals v && b) (renamed_well_formed (image_of kept) l)
+  name_stays n = refl
+
+  sum_stays : (xs : List (ℤ × RowName)) → is_sum_of v (sum_at kept xs) ≡ is_sum_of v xs
+  sum_stays [] = refl
+  sum_stays (x ∷ xs) = both_same _ _ _ _ (name_stays x.1) (sum_stays xs)
+
+  sums_stay : (x : Sums) → are_sums_of v (sums_at kept x) ≡ are_sums_of v x
+  sums_stay (One sum) = sum_stays sum
+  sums_stay (Two differs above below) = both_same _ _ _ _ (name_stays differs) (both_same _ _ _ _ (sum_stays above) (sum_stays below))
+
+  part_stays : (p : Part) → is_part_of v (part_at kept p) ≡ is_part_of v p
+  part_stays FactPart = refl
+  part_stays (Metric m) = sums_stay m.sums
+  part_stays (FactPartAt k) = refl
+
+  parts_stay : (ps : List Part) → list_all (is_part_of v) (map (part_at kept) ps) ≡ list_all (is_part_of v) ps
+  parts_stay [] = refl
+  parts_stay (p ∷ ps) = both_same _ _ _ _ (part_stays p) (parts_stay ps)
+
+  cert_stays : (c : Cert) → is_cert_of v (cert_at kept c) ≡ is_cert_of v c
+  cert_stays (Plain p) = part_stays p
+  cert_stays (Transfer t) = parts_stay t.parts
+
+  certs_stay : (cs : List Cert) → list_all (is_cert_of v) (map (cert_at kept) cs) ≡ list_all (is_cert_of v) cs
+  certs_stay [] = refl
+  certs_stay (c ∷ cs) = both_same _ _ _ _ (cert_stays c) (certs_stay cs)
+
+  any_cert_stays : (c : Option Cert) → option_map_or (is_cert_of v) (option_map (cert_at kept) c) true ≡ option_map_or (is_cert_of v) c true
+  any_cert_stays None = refl
+  any_cert_stays (Some c) = cert_stays c
+
+  against_stays : (a : Option Against) → option_map_or (is_against_of v) (option_map (against_at kept) a) true ≡ option_map_or (is_against_of v) a true
+  against_stays None = refl
+  against_stays (Some (Clash l)) = refl
+  against_stays (Some (MetricAgainst m)) = sums_stay m.sums
+
+-- they stay of their version
+pub version_left : (v : Version) (before : List Stated) (d : Script) (kept : List Obj) (s : Scope) (facts : List Lit) (goal : Goal) → has_certs_of v d ≡ true → has_certs_of v (trimmed_from before kept d s facts goal) ≡ true
+unfolding trimmed_from has_certs_of
+version_left v before (Cite by rest) kept s facts goal h =
+    let r = version_left v before rest kept s (joined facts by.lit) goal h in
+    either (has_certs_of v) (is_kept before (Cite by rest) s facts (wants before rest s (joined facts by.lit) goal)) _ _ r r
+version_left v before (Hence lit cert rest) kept s facts goal h =
+    let p = and_parts (option_map_or (is_cert_of v) cert true) (has_certs_of v rest) h in
+    let r = version_left v before rest kept s (joined facts lit) goal p.1 in
+    either (has_certs_of v) (is_kept before (Hence lit cert rest) s facts (wants before rest s (joined facts lit) goal)) _ _ (and_from _ _ (any_cert_stays v kept cert ∙ p.0) r) r
+version_left v before (Make form names certs rest) kept s facts goal h =
+    let after = joined_all facts (gives_of_construction form s) in
+    let p = and_parts (list_all (is_cert_of v) certs) (has_certs_of v rest) h in
+    either (has_certs_of v) (is_kept before (Make form names certs rest) s facts (wants before rest (grown s (sorts_made form)) after goal)) _ _
+    (and_from _ _ (certs_stay v kept certs ∙ p.0) (version_left v before rest (kept ++ next_objects s (sorts_made form)) (grown s (sorts_made form)) after goal p.1))
+    (version_left v before rest kept (grown s (sorts_made form)) after goal p.1)
+version_left v before (Apply theorem args names certs rest) kept s facts goal h =
+    let here = Apply theorem args names certs rest in
+    let new = (theorem_at before theorem).made in
+    let after = joined_all facts (joins_at before here s) in
+    let p = and_parts (list_all (is_cert_of v) certs) (has_certs_of v rest) h in
+    either (has_certs_of v) (is_kept before here s facts (wants before rest (grown s new) after goal)) _ _
+    (and_from _ _ (certs_stay v kept certs ∙ p.0) (version_left v before rest (kept ++ next_objects s new) (grown s new) after goal p.1))
+    (version_left v before rest kept (grown s new) after goal p.1)
+version_left v before (Claim shown inner rest) kept s facts goal h =
+    let q = and_parts (has_certs_of v inner) (has_certs_of v rest) h in
+    let r = version_left v before rest kept s (joined_all facts shown) goal q.1 in
+    either (has_certs_of v) (is_kept before (Claim shown inner rest) s facts (wants before rest s (joined_all facts shown) goal)) _ _ (and_from _ _ (version_left v before inner kept s facts (goal_of shown) q.0) r) r
+version_left v before (Superposed form names shown certs inner rest) kept s facts goal h =
+    let p = and_parts (list_all (is_cert_of v) certs) (has_certs_of v inner && has_certs_of v rest) h in
+    let q = and_parts (has_certs_of v inner) (has_certs_of v rest) p.1 in
+    let r = version_left v before rest kept s (joined_all facts shown) goal q.1 in
+    let opened = joined_all facts (superposing.gives_of_superposition form s) in
+    either (has_certs_of v) (is_kept before (Superposed form names shown certs inner rest) s facts (wants before rest s (joined_all facts shown) goal)) _ _
+    (and_from _ _ (certs_stay v kept certs ∙ p.0) (and_from _ _ (version_left v before inner (kept ++ next_objects s superposing.sorts_copied) (grown s superposing.sorts_copied) opened (goal_of shown) q.0) r)) r
+version_left v before (Qed objects certs) kept s facts goal h = certs_stay v kept certs ∙ h
+version_left v before (Contradiction against) kept s facts goal h = against_stays v kept against ∙ h
+version_left v before (Cases lit first second) kept s facts goal h =
+    let q = and_parts (has_certs_of v first) (has_certs_of v second) h in
+    and_from _ _ (version_left v before first kept s (joined facts lit) goal q.0) (version_left v before second kept s (joined facts (negation lit)) goal q.1)
+
+-- ---- without certificates a script is as deep
+
+pub depth_erased : (d : Script) → depth (erased d) ≡ depth d
+unfolding depth erased
+depth_erased (Cite by rest) = depth_erased rest
+depth_erased (Hence lit cert rest) = depth_erased rest
+depth_erased (Make form names certs rest) = depth_erased rest
+depth_erased (Apply theorem args names certs rest) = depth_erased rest
+depth_erased (Claim shown inner rest) = rw (depth_erased inner, depth_erased rest) refl
+depth_erased (Superposed form names shown certs inner rest) = rw (depth_erased inner, depth_erased rest) refl
+depth_erased (Qed objects certs) = refl
+depth_erased (Contradiction against) = refl
+depth_erased (Cases lit first second) = rw (depth_erased first, depth_erased second) refl
