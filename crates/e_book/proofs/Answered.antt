@@ -4,13 +4,13 @@ use Rattle.std.specs.Prelude.{◌⊎◌}
 use Rattle.std.proofs.lemmas.Bool.{cases_lt, lt-ltb}
 use Rattle.e_text.specs.Lines.{Seen}
 use Rattle.e_text.specs.declared.line.LineFault.{LineFault}
-use Rattle.e_line.specs.declared.fault.Kind.{Kind}
-use Rattle.e_line.specs.declared.fault.Kind.TheVariants.{Malformed, NameTaken, Limit}
+use Rattle.e_line.specs.declared.fault.FaultKind.{FaultKind}
+use Rattle.e_line.specs.declared.fault.FaultKind.TheVariants.{Malformed, NameTaken, Limit}
 use Rattle.e_line.specs.declared.fault.BookFault.{BookFault}
 use Rattle.e_line.specs.declared.fault.What.{What}
-use Rattle.e_book.specs.declared.draft.Draft.{Draft}
+use Rattle.e_book.specs.declared.draft.TheoremParser.{TheoremParser}
 use Rattle.e_line.specs.Limits.{within}
-use Rattle.e_book.specs.Entry.{Entry}
+use Rattle.e_book.specs.TheoremViews.{TheoremView}
 use Rattle.e_book.specs.Grammar.{put_at}
 use Rattle.e_line.proofs.Bound.{read_ok}
 
@@ -27,32 +27,32 @@ within_ok n most what u e =
 
 -- ---- a test that was passed
 
-pub passes : (b : Bool) (x : Result Draft Kind) (y : Draft) → cond b x (Err Malformed) ≡ Ok y → (b ≡ true) × (x ≡ Ok y)
+pub passes : (b : Bool) (x : Result TheoremParser FaultKind) (y : TheoremParser) → cond b x (Err Malformed) ≡ Ok y → (b ≡ true) × (x ≡ Ok y)
 passes true x y e = (refl, e)
 passes false x y e = absurd cc
 
-pub untaken : (b : Bool) (x : Result Draft Kind) (y : Draft) → cond b (Err NameTaken) x ≡ Ok y → (b ≡ false) × (x ≡ Ok y)
+pub untaken : (b : Bool) (x : Result TheoremParser FaultKind) (y : TheoremParser) → cond b (Err NameTaken) x ≡ Ok y → (b ≡ false) × (x ≡ Ok y)
 untaken true x y e = absurd cc
 untaken false x y e = (refl, e)
 
 -- ---- an answer
 
-pub put_ok : (n : ℕ) (r : Result Draft Kind) (d : Draft) → put_at n r ≡ Ok d → r ≡ Ok d
+pub put_ok : (n : ℕ) (r : Result TheoremParser FaultKind) (d : TheoremParser) → put_at n r ≡ Ok d → r ≡ Ok d
 put_ok n (Ok x) d e = cc
 put_ok n (Err k) d e = absurd cc
 
 abbrev pub Answer : Type 0
-Answer = Option (Entry × List (Result Seen LineFault))
+Answer = Option (TheoremView × List (Result Seen LineFault))
 
 abbrev pub answered : Answer → Result Answer BookFault
 answered x = Ok x
 
-abbrev pub pair : Entry → List (Result Seen LineFault) → Answer
+abbrev pub pair : TheoremView → List (Result Seen LineFault) → Answer
 pair t rest = Some (t, rest)
 
-pub first_is : (t u : Entry) (ts us : List (Result Seen LineFault)) → answered (pair t ts) ≡ answered (pair u us) → t ≡ u
+pub first_is : (t u : TheoremView) (ts us : List (Result Seen LineFault)) → answered (pair t ts) ≡ answered (pair u us) → t ≡ u
 first_is t u ts us e = ap (λ (a : Answer). entry_in t a) (answer_is (pair t ts) (pair u us) e) where
-  entry_in : Entry → Answer → Entry
+  entry_in : TheoremView → Answer → TheoremView
   entry_in t None = t
   entry_in t (Some p) = p.0
 

@@ -5,13 +5,13 @@ use Rattle.e_literal.specs.declared.literal.Lit.{Lit}
 use Rattle.e_deriv.specs.declared.names.Names.{Names}
 use Rattle.e_deriv.specs.Script.{Script, size}
 use Rattle.e_deriv.specs.PlainStep.{PlainStep, Cited, Inferred, Made, Applied, Claimed, Copied, all_before}
-use Rattle.e_line.specs.declared.fault.Kind.{Kind}
-use Rattle.e_book.specs.declared.blocks.Outer.{Outer}
-use Rattle.e_book.specs.declared.blocks.Opened.{Opened}
-use Rattle.e_book.specs.declared.blocks.Opened.TheVariants as opened
-use Rattle.e_line.specs.declared.form.Form.{Form}
-use Rattle.e_book.specs.declared.draft.Draft.{Draft}
-use Rattle.e_names.specs.Headed.{Headed}
+use Rattle.e_line.specs.declared.fault.FaultKind.{FaultKind}
+use Rattle.e_book.specs.declared.blocks.OpenBlock.{OpenBlock}
+use Rattle.e_book.specs.declared.blocks.BlockKind.{BlockKind}
+use Rattle.e_book.specs.declared.blocks.BlockKind.TheVariants as opened
+use Rattle.e_line.specs.declared.raw_line.RawLine.{RawLine}
+use Rattle.e_book.specs.declared.draft.TheoremParser.{TheoremParser}
+use Rattle.e_names.specs.TitledStatements.{TitledStatement}
 use Rattle.e_line.specs.Limits.{most_steps, most_facts, most_terms, count_monomials}
 use Rattle.e_names.specs.Scope.{scope_of_names}
 use Rattle.e_book.specs.Blocks.{is_claim, has_claim, made_in}
@@ -24,7 +24,7 @@ use Rattle.e_book.proofs.LimitTests.{all_tests, kept, then_limits, by_counts}
 
 -- ---- lists of steps
 
-pub after_more : (known : List Headed) (at : LineContext) (ss : List PlainStep) (s : PlainStep) → after_steps known at (ss ++ s ∷ []) ≡ after_step known (after_steps known at ss) s
+pub after_more : (known : List TitledStatement) (at : LineContext) (ss : List PlainStep) (s : PlainStep) → after_steps known at (ss ++ s ∷ []) ≡ after_step known (after_steps known at ss) s
 after_more known at [] s = refl
 after_more known at (x ∷ ss) s = after_more known (after_step known at x) ss s
 
@@ -42,24 +42,24 @@ size_counted (Applied theorem args names certs ∷ ss) rest = let h = size_count
 size_counted (Claimed shown inner ∷ ss) rest = let h = size_counted ss rest in omega (arith, h)
 size_counted (Copied form names shown certs inner ∷ ss) rest = let h = size_counted ss rest in omega (arith, h)
 
-pub around_length : (os : List Outer) → length (around_of os) ≡ length os
+pub around_length : (os : List OpenBlock) → length (around_of os) ≡ length os
 around_length [] = refl
 around_length (o ∷ os) = let h = around_length os in omega (arith, h)
 
 -- the made objects of the goal of a block inside
-goal_by : (op : Opened) (b : Bool) (x made : List Sort) → x ≡ cond b [] made → cond (has_goal (opener_of op)) [] x ≡ cond (is_claim op || b) [] made
+goal_by : (op : BlockKind) (b : Bool) (x made : List Sort) → x ≡ cond b [] made → cond (has_goal (opener_of op)) [] x ≡ cond (is_claim op || b) [] made
 goal_by (opened.Claim shown) b x made e = refl
 goal_by (opened.Superpose form names shown) b x made e = refl
 goal_by (opened.First lit) b x made e = e
 goal_by (opened.Second lit first) b x made e = e
 
-pub goal_made : (os : List Outer) (made : List Sort) → made_inside (around_of os) made ≡ made_in os made
+pub goal_made : (os : List OpenBlock) (made : List Sort) → made_inside (around_of os) made ≡ made_in os made
 goal_made [] made = refl
 goal_made (o ∷ os) made = goal_by o.opened (has_claim os) (made_inside (around_of os) made) made (goal_made os made)
 
 -- ---- the counts after a step
 
-next_counted : (known : List Headed) (at : LineContext) (s : PlainStep) (ns ms : Names) (facts more terms sum : ℕ) → Counted ns facts terms at → names_after known ns s ≡ ms
+next_counted : (known : List TitledStatement) (at : LineContext) (s : PlainStep) (ns ms : Names) (facts more terms sum : ℕ) → Counted ns facts terms at → names_after known ns s ≡ ms
     → facts + length (given_by known (scope_of_names ns) s) ≡ more → terms + count_monomials (given_by known (scope_of_names ns) s) ≡ sum → Counted ms more sum (after_step known at s)
 next_counted known at s ns ms facts more terms sum c e f t =
     let same : given_by known (scope_of_names ns) s ≡ given_by known (scope_of_names at.names) s = ap (λ (x : Names). given_by known (scope_of_names x) s) c.names in
@@ -71,7 +71,7 @@ next_counted known at s ns ms facts more terms sum c e f t =
       terms = omega (arith, c.terms, t, m, monomials-append at.facts (given_by known (scope_of_names at.names) s));
     }
 
-pub counted_more : (known : List Headed) (h : Head) (os : List Outer) (ss : List PlainStep) (s : PlainStep) (ns ms : Names) (facts more terms sum : ℕ) → Counted ns facts terms (context_in known h os ss) → names_after known ns s ≡ ms
+pub counted_more : (known : List TitledStatement) (h : Head) (os : List OpenBlock) (ss : List PlainStep) (s : PlainStep) (ns ms : Names) (facts more terms sum : ℕ) → Counted ns facts terms (context_in known h os ss) → names_after known ns s ≡ ms
     → facts + length (given_by known (scope_of_names ns) s) ≡ more → terms + count_monomials (given_by known (scope_of_names ns) s) ≡ sum → Counted ms more sum (context_in known h os (ss ++ s ∷ []))
 counted_more known h os ss s ns ms facts more terms sum c e f t =
     subst (λ (at : LineContext). Counted ms more sum at) (sym (after_more known (first_context known h (around_of os)) ss s))
@@ -88,7 +88,7 @@ counted_with at ns ms there ls facts more terms sum c e f t = record {
 
 -- ---- the limits of a block, by its counts
 
-pub block_limits : (known : List Headed) (r : Result Draft Kind) (h : Head) (os : List Outer) (ss : List PlainStep) (f : Form) (ns : Names) (lines depth facts terms : ℕ) → Counted ns facts terms (context_in known h os ss)
+pub block_limits : (known : List TitledStatement) (r : Result TheoremParser FaultKind) (h : Head) (os : List OpenBlock) (ss : List PlainStep) (f : RawLine) (ns : Names) (lines depth facts terms : ℕ) → Counted ns facts terms (context_in known h os ss)
     → lines ≡ count_lines ss + lines_around (around_of os) → depth ≡ length os + 1
     → Alike known r (kept (all_tests (literals_on f) ns lines depth facts terms (blanks_on f)) (Proving h (around_of os) ss))
     → Alike known r (then_limits known f (Proving h (around_of os) ss))
@@ -97,7 +97,7 @@ block_limits known r h os ss f ns lines depth facts terms c e d a =
     (let n = around_length os in omega (arith, d, n)) a
 
 -- the block with one more step, within the limits
-pub step_block : (known : List Headed) (d : Draft) (s : PlainStep) (ns : Names) (facts terms : ℕ) → BlockOf known d → lines_of s ≡ 1 → Counted ns facts terms (context_in known (head_of d) d.outers (d.steps ++ s ∷ []))
+pub step_block : (known : List TitledStatement) (d : TheoremParser) (s : PlainStep) (ns : Names) (facts terms : ℕ) → BlockOf known d → lines_of s ≡ 1 → Counted ns facts terms (context_in known (head_of d) d.outers (d.steps ++ s ∷ []))
     → FewNamed ns → d.lines + 1 ≤ most_steps → facts ≤ most_facts → terms ≤ most_terms → BlockTied known (head_of d) d.outers (d.steps ++ s ∷ []) ns (d.lines + 1) facts terms
 step_block known d s ns facts terms t one c few short k m = record {
   counted = c;

@@ -14,24 +14,24 @@ use Rattle.e_deriv.specs.Script.{Script}
 use Rattle.e_line.specs.declared.literal.RawLit.{RawLit}
 use Rattle.e_line.specs.declared.literal.RawAtom.{RawAtom}
 use Rattle.e_line.specs.declared.literal.RawAtom.TheVariants as raw
-use Rattle.e_line.specs.declared.form.Form.{Form}
-use Rattle.e_line.specs.declared.form.Form.TheVariants as forms
-use Rattle.e_line.specs.declared.items.RawLine.TheVariants.{Plain}
+use Rattle.e_line.specs.declared.raw_line.RawLine.{RawLine}
+use Rattle.e_line.specs.declared.raw_line.RawLine.TheVariants as rawlines
+use Rattle.e_line.specs.declared.items.BookLine.TheVariants.{Plain}
 use Rattle.e_names.specs.declared.known.Known.{Known}
-use Rattle.e_book.specs.declared.draft.Place.TheVariants.{Done}
-use Rattle.e_book.specs.declared.draft.Draft.{Draft}
+use Rattle.e_book.specs.declared.draft.Section.TheVariants.{Done}
+use Rattle.e_book.specs.declared.draft.TheoremParser.{TheoremParser}
 use Rattle.e_book.specs.declared.coming.Coming.{Coming}
 use Rattle.e_literal.specs.declared.object.Sort.TheVariants.{Point, Line, Circle}
 use Rattle.e_line.specs.Limits.{most_theorems}
-use Rattle.e_names.specs.Headed.{Headed, is_known}
+use Rattle.e_names.specs.TitledStatements.{TitledStatement, is_known}
 use Rattle.e_names.specs.Titled.{defines, are_notions}
 use Rattle.e_names.specs.Scope.{scope_of_names, lit_in}
-use Rattle.e_line.specs.Forms.{form_named, form_of}
+use Rattle.e_line.specs.RawLines.{raw_line_named, raw_line_of}
 use Rattle.e_names.specs.Fits.{NamesDiffer}
 use Rattle.e_book.specs.DraftViews.{entry_of_draft}
-use Rattle.e_book.specs.Entry.{Entry}
+use Rattle.e_book.specs.TheoremViews.{TheoremView}
 use Rattle.e_names.specs.Canonical.{raw_of}
-use Rattle.e_line.specs.Canonical.{sum_words, sums_words, signed_words, lit_words, lits_words, form_words, line_of as written_line}
+use Rattle.e_line.specs.Canonical.{sum_words, sums_words, signed_words, lit_words, lits_words, raw_line_words, line_of as written_line}
 use Rattle.e_book.specs.Canonical.{script_forms, names_of_proof, forms_of}
 use Rattle.e_line.specs.HasSpelling.{AreNames}
 use Rattle.e_book.specs.HasSpelling.{HasSpelling}
@@ -108,53 +108,53 @@ lits_no_item (l ∷ ls) h = ap (list_any begins_item) (split_again l ls h.0 h.1)
 
 -- ---- canonical lines are lines without items
 
-form_named_again : (w : List ℕ) (ws : List (List ℕ)) (g : Form) → form_of (w ∷ ws) ≡ Ok g → form_named w ws ≡ Ok g
-unfolding form_of
+form_named_again : (w : List ℕ) (ws : List (List ℕ)) (g : RawLine) → raw_line_of (w ∷ ws) ≡ Ok g → raw_line_named w ws ≡ Ok g
+unfolding raw_line_of
 form_named_again w ws g h = h
 
-pub plain_again : (f : Form) → GoodForm f → line_of (form_words f) ≡ Ok (Plain (as_read f))
-unfolding line_of line_named form_of
-plain_again (forms.Given []) h = absurd h
-plain_again (forms.Given (l ∷ [])) h = rw (lits_no_item (l ∷ []) (h, tt), form_again (forms.Given (l ∷ [])) h) refl
-plain_again (forms.Given (l ∷ m ∷ ls)) h = absurd h
-plain_again (forms.Show []) h = absurd h
-plain_again (forms.Show (l ∷ [])) h = rw (lits_no_item (l ∷ []) (h, tt), form_again (forms.Show (l ∷ [])) h) refl
-plain_again (forms.Show (l ∷ m ∷ ls)) h = absurd h
-plain_again (forms.Claim ls) h = rw (lits_no_item ls h, form_again (forms.Claim ls) h) refl
-plain_again (forms.Superpose s) h = rw (lits_behind s h, lits_no_item s.shown h.shown, form_again (forms.Superpose s) h) refl
-plain_again (forms.Declare Point ns) h = rw (form_again (forms.Declare Point ns) h) refl
-plain_again (forms.Declare Line ns) h = rw (form_again (forms.Declare Line ns) h) refl
-plain_again (forms.Declare Circle ns) h = rw (form_again (forms.Declare Circle ns) h) refl
+pub plain_again : (f : RawLine) → GoodForm f → line_of (raw_line_words f) ≡ Ok (Plain (as_read f))
+unfolding line_of line_named raw_line_of
+plain_again (rawlines.Given []) h = absurd h
+plain_again (rawlines.Given (l ∷ [])) h = rw (lits_no_item (l ∷ []) (h, tt), form_again (rawlines.Given (l ∷ [])) h) refl
+plain_again (rawlines.Given (l ∷ m ∷ ls)) h = absurd h
+plain_again (rawlines.Show []) h = absurd h
+plain_again (rawlines.Show (l ∷ [])) h = rw (lits_no_item (l ∷ []) (h, tt), form_again (rawlines.Show (l ∷ [])) h) refl
+plain_again (rawlines.Show (l ∷ m ∷ ls)) h = absurd h
+plain_again (rawlines.Claim ls) h = rw (lits_no_item ls h, form_again (rawlines.Claim ls) h) refl
+plain_again (rawlines.Superpose s) h = rw (lits_behind s h, lits_no_item s.shown h.shown, form_again (rawlines.Superpose s) h) refl
+plain_again (rawlines.Declare Point ns) h = rw (form_again (rawlines.Declare Point ns) h) refl
+plain_again (rawlines.Declare Line ns) h = rw (form_again (rawlines.Declare Line ns) h) refl
+plain_again (rawlines.Declare Circle ns) h = rw (form_again (rawlines.Declare Circle ns) h) refl
 plain_again f h = rw (form_again f h) refl
 
 -- ---- line after line
 
 -- a theorem that comes without items
-abbrev theorem : Draft → Coming
+abbrev theorem : TheoremParser → Coming
 theorem d = coming false d
 
-next_taken : (known : Known) (d e : Draft) (f : Form) → GoodForm f → step known.theorems d (as_read f) ≡ Ok e → line_step known (Some (theorem d)) (form_words f) ≡ Ok (theorem e)
+next_taken : (known : Known) (d e : TheoremParser) (f : RawLine) → GoodForm f → step known.theorems d (as_read f) ≡ Ok e → line_step known (Some (theorem d)) (raw_line_words f) ≡ Ok (theorem e)
 unfolding line_step goes_on machine.step
 next_taken known d e f good h = rw (plain_again f good, h) refl
 
 abbrev found : BookItem → Rest → Answer
 found i rest = Ok (Some (i, rest))
 
-next_read : (known : Known) (last : ℕ) (d e : Draft) (l : Seen) (after : Rest) (f : Form) → l.bytes ≡ written_line f → GoodForm f → step known.theorems d (as_read f) ≡ Ok e
+next_read : (known : Known) (last : ℕ) (d e : TheoremParser) (l : Seen) (after : Rest) (f : RawLine) → l.bytes ≡ written_line f → GoodForm f → step known.theorems d (as_read f) ≡ Ok e
     → item_from known last (Some (theorem d)) (Ok l ∷ after) ≡ cond (is_last e.place) (found (OfTheorem (entry_of_draft e)) after) (item_from known last (Some (theorem e)) after)
 next_read known last d e l after f b good h =
-    let words : tokens_of l.bytes ≡ form_words f = ap tokens_of b ∙ words_again f good in
-    let next : line_step known (Some (theorem d)) (form_words f) ≡ Ok (theorem e) = next_taken known d e f good h in
+    let words : tokens_of l.bytes ≡ raw_line_words f = ap tokens_of b ∙ words_again f good in
+    let next : line_step known (Some (theorem d)) (raw_line_words f) ≡ Ok (theorem e) = next_taken known d e f good h in
     rw (words, not_skipped f, next) refl
 
-record Left (known : Known) (last : ℕ) (d u : Draft) (all : Rest) (gs : List Form) (rest : Rest) : Type 0 where
+record Left (known : Known) (last : ℕ) (d u : TheoremParser) (all : Rest) (gs : List RawLine) (rest : Rest) : Type 0 where
   ahead : Rest
   shown : Shows ahead (map written_line gs) rest
   same : item_from known last (Some (theorem d)) all ≡ item_from known last (Some (theorem u)) ahead
 
-reads_runs : (known : Known) (last : ℕ) (d u : Draft) (fs gs : List Form) (all rest : Rest) → Runs known.theorems (Some d) fs (Some u) → Shows all (map written_line (fs ++ gs)) rest → Left known last d u all gs rest
-reads_runs known last d u [] gs all rest r sh = record { ahead = all; shown = sh; same = ap (λ (x : Draft). item_from known last (Some (theorem x)) all) (some_is d u r) } where
-  some_is : (x y : Draft) → Some x ≡ Some y → x ≡ y
+reads_runs : (known : Known) (last : ℕ) (d u : TheoremParser) (fs gs : List RawLine) (all rest : Rest) → Runs known.theorems (Some d) fs (Some u) → Shows all (map written_line (fs ++ gs)) rest → Left known last d u all gs rest
+reads_runs known last d u [] gs all rest r sh = record { ahead = all; shown = sh; same = ap (λ (x : TheoremParser). item_from known last (Some (theorem x)) all) (some_is d u r) } where
+  some_is : (x y : TheoremParser) → Some x ≡ Some y → x ≡ y
   some_is x y e = cc
 reads_runs known last d u (f ∷ fs) gs [] rest r sh = absurd sh
 reads_runs known last d u (f ∷ fs) gs (Err x ∷ all) rest r sh = absurd sh
@@ -164,38 +164,38 @@ reads_runs known last d u (f ∷ fs) gs (Ok l ∷ all) rest r sh =
     let goes : cond (is_last r.0.place) (found (OfTheorem (entry_of_draft r.0)) all) (item_from known last (Some (theorem r.0)) all) ≡ item_from known last (Some (theorem r.0)) all = rw r.3 refl in
     record { ahead = more.ahead; shown = more.shown; same = here ∙ goes ∙ more.same }
 
-end_read : (known : Known) (number : ℕ) (t : Entry) (last : Inside) (all rest : Rest) → entry_of_draft (shut_draft t last) ≡ t → Shows all (written_line forms.End ∷ []) rest
+end_read : (known : Known) (number : ℕ) (t : TheoremView) (last : Inside) (all rest : Rest) → entry_of_draft (shut_draft t last) ≡ t → Shows all (written_line rawlines.End ∷ []) rest
     → item_from known number (Some (theorem (shut_draft t last))) all ≡ found (OfTheorem t) rest
 end_read known number t last [] rest same sh = absurd sh
 end_read known number t last (Err x ∷ all) rest same sh = absurd sh
 end_read known number t last (Ok l ∷ all) rest same sh =
     let d = shut_draft t last in
-    next_read known number d (record d { place = Done }) l all forms.End sh.0 tt (step_end known.theorems t last)
-    ∙ ap (λ (x : Entry). found (OfTheorem x) all) same ∙ ap (λ (ls : Rest). found (OfTheorem t) ls) sh.1
+    next_read known number d (record d { place = Done }) l all rawlines.End sh.0 tt (step_end known.theorems t last)
+    ∙ ap (λ (x : TheoremView). found (OfTheorem x) all) same ∙ ap (λ (ls : Rest). found (OfTheorem t) ls) sh.1
 
 -- the first line
-begins_is : (known : Known) (t : List ℕ) → machine.begins known (Plain (forms.Theorem t)) ≡ begins_theorem known (forms.Theorem t)
+begins_is : (known : Known) (t : List ℕ) → machine.begins known (Plain (rawlines.Theorem t)) ≡ begins_theorem known (rawlines.Theorem t)
 unfolding machine.begins
 begins_is known t = refl
 
-title_begins : (known : List Headed) (t : List ℕ) → is_known known t ≡ false → length known < most_theorems → begin known (forms.Theorem t) ≡ Ok (begun t)
+title_begins : (known : List TitledStatement) (t : List ℕ) → is_known known t ≡ false → length known < most_theorems → begin known (rawlines.Theorem t) ≡ Ok (begun t)
 unfolding begin
 title_begins known t new few =
     let room : ltb most_theorems (length known + 1) ≡ false = le-ltb _ _ (omega (arith, few)) in
     rw (new, room) refl
 
-begun_taken : (known : Known) (t : List ℕ) (e : Draft) → GoodForm (forms.Theorem t) → defines known.notions t ≡ false → begin known.theorems (forms.Theorem t) ≡ Ok e → line_step known None (form_words (forms.Theorem t)) ≡ Ok (theorem e)
+begun_taken : (known : Known) (t : List ℕ) (e : TheoremParser) → GoodForm (rawlines.Theorem t) → defines known.notions t ≡ false → begin known.theorems (rawlines.Theorem t) ≡ Ok e → line_step known None (raw_line_words (rawlines.Theorem t)) ≡ Ok (theorem e)
 unfolding line_step begins_theorem
-begun_taken known t e good free h = rw (plain_again (forms.Theorem t) good) (begins_is known t ∙ rw (free, h) refl)
+begun_taken known t e good free h = rw (plain_again (rawlines.Theorem t) good) (begins_is known t ∙ rw (free, h) refl)
 
-first_read : (known : Known) (last : ℕ) (t : List ℕ) (e : Draft) (l : Seen) (after : Rest) → l.bytes ≡ written_line (forms.Theorem t) → GoodForm (forms.Theorem t) → defines known.notions t ≡ false → begin known.theorems (forms.Theorem t) ≡ Ok e → is_last e.place ≡ false
+first_read : (known : Known) (last : ℕ) (t : List ℕ) (e : TheoremParser) (l : Seen) (after : Rest) → l.bytes ≡ written_line (rawlines.Theorem t) → GoodForm (rawlines.Theorem t) → defines known.notions t ≡ false → begin known.theorems (rawlines.Theorem t) ≡ Ok e → is_last e.place ≡ false
     → item_from known last None (Ok l ∷ after) ≡ item_from known last (Some (theorem e)) after
 first_read known last t e l after b good free h go =
-    let words : tokens_of l.bytes ≡ form_words (forms.Theorem t) = ap tokens_of b ∙ words_again (forms.Theorem t) good in
+    let words : tokens_of l.bytes ≡ raw_line_words (rawlines.Theorem t) = ap tokens_of b ∙ words_again (rawlines.Theorem t) good in
     let next = begun_taken known t e good free h in
-    rw (words, not_skipped (forms.Theorem t), next, go) refl
+    rw (words, not_skipped (rawlines.Theorem t), next, go) refl
 
-canonical_items : (known : Known) (last : ℕ) (t : Entry) (all rest : Rest) → HasSpelling known.theorems t → defines known.notions t.title ≡ false → Shows all (map written_line (forms_of known.theorems t)) rest
+canonical_items : (known : Known) (last : ℕ) (t : TheoremView) (all rest : Rest) → HasSpelling known.theorems t → defines known.notions t.title ≡ false → Shows all (map written_line (forms_of known.theorems t)) rest
     → item_from known last None all ≡ found (OfTheorem t) rest
 canonical_items known last t [] rest h free sh = absurd sh
 canonical_items known last t (Err x ∷ all) rest h free sh = absurd sh
@@ -209,13 +209,13 @@ canonical_items known last t (Ok l ∷ all) rest h free sh =
     let front = stating_forms t ++ script in
     let runs : Runs before (Some first) front (Some d) =
     runs_append before (Some first) (Some (proving (started t) (begins t))) (Some d) (stating_forms t) script (run_statement before t h o) (proof.runs d (closed_last t proof.last) refl) in
-    let whole : forms_of before t ≡ forms.Theorem t.title ∷ (front ++ forms.End ∷ []) = ap (λ (fs : List Form). forms.Theorem t.title ∷ fs) (sym (append_assoc (stating_forms t) script (forms.End ∷ []))) in
-    let shown : Shows (Ok l ∷ all) (map written_line (forms.Theorem t.title ∷ (front ++ forms.End ∷ []))) rest = subst (λ (fs : List Form). Shows (Ok l ∷ all) (map written_line fs) rest) whole sh in
-    let left = reads_runs known last first d front (forms.End ∷ []) all rest runs shown.1 in
+    let whole : forms_of before t ≡ rawlines.Theorem t.title ∷ (front ++ rawlines.End ∷ []) = ap (λ (fs : List RawLine). rawlines.Theorem t.title ∷ fs) (sym (append_assoc (stating_forms t) script (rawlines.End ∷ []))) in
+    let shown : Shows (Ok l ∷ all) (map written_line (rawlines.Theorem t.title ∷ (front ++ rawlines.End ∷ []))) rest = subst (λ (fs : List RawLine). Shows (Ok l ∷ all) (map written_line fs) rest) whole sh in
+    let left = reads_runs known last first d front (rawlines.End ∷ []) all rest runs shown.1 in
     first_read known last t.title first l all shown.0 h.title free (title_begins before t.title h.fits.new h.few_theorems) refl
     ∙ left.same ∙ end_read known last t proof.last left.ahead rest (ap (λ (s : Script). record t { script = s }) (same_script t.script h.script)) left.shown
 
 -- as the grammar reads them
-pub canonical_grammar : (known : Known) (last : ℕ) (t : Entry) (lines rest : Rest) → are_notions known.notions ≡ true → HasSpelling known.theorems t → defines known.notions t.title ≡ false → Shows lines (map written_line (forms_of known.theorems t)) rest
+pub canonical_grammar : (known : Known) (last : ℕ) (t : TheoremView) (lines rest : Rest) → are_notions known.notions ≡ true → HasSpelling known.theorems t → defines known.notions t.title ≡ false → Shows lines (map written_line (forms_of known.theorems t)) rest
     → grammar.item_from known last None lines ≡ Ok (Some (OfTheorem t, rest))
 canonical_grammar known last t lines rest all h free sh = sym (items_read_alike known last lines all) ∙ canonical_items known last t lines rest h free sh

@@ -18,19 +18,19 @@ use Rattle.e_deriv.specs.Script.{Script}
 use Rattle.e_deriv.specs.Goal.{Goal, goal_of_statement, facts_of_statement}
 use Rattle.e_deriv.specs.Lines.{lines}
 use Rattle.e_line.specs.declared.fault.BookFault.{BookFault}
-use Rattle.e_line.specs.declared.form.Form.{Form}
-use Rattle.e_line.specs.declared.form.Form.TheVariants as forms
-use Rattle.e_book.specs.declared.draft.Place.TheVariants.{Closed, Done}
-use Rattle.e_book.specs.declared.draft.Draft.{Draft}
-use Rattle.e_names.specs.Headed.{Headed, stated_by}
+use Rattle.e_line.specs.declared.raw_line.RawLine.{RawLine}
+use Rattle.e_line.specs.declared.raw_line.RawLine.TheVariants as rawlines
+use Rattle.e_book.specs.declared.draft.Section.TheVariants.{Closed, Done}
+use Rattle.e_book.specs.declared.draft.TheoremParser.{TheoremParser}
+use Rattle.e_names.specs.TitledStatements.{TitledStatement, stated_by}
 use Rattle.e_names.specs.Scope.{scope_of_names}
 use Rattle.e_book.specs.Steps.{closed, stepped, step, begun}
 use Rattle.e_book.specs.DraftViews.{entry_of_draft}
-use Rattle.e_book.specs.Entry.{Entry}
+use Rattle.e_book.specs.TheoremViews.{TheoremView}
 use Rattle.e_book.specs.Fits.{few_facts, few_terms}
 use Rattle.e_book.specs.Book.{line_step, is_done, read_from}
 use Rattle.e_line.specs.Limits.{count_monomials}
-use Rattle.e_line.specs.Canonical.{form_words, line_of}
+use Rattle.e_line.specs.Canonical.{raw_line_words, line_of}
 use Rattle.e_names.specs.Canonical.{given_form, show_form}
 use Rattle.e_book.specs.Canonical.{declare_form, made_form, grouped, declared_objects, made_objects, given_forms, shown_forms, head_forms, script_forms, names_of_proof, forms_of}
 use Rattle.e_book.specs.HasSpelling.{HasSpelling}
@@ -58,59 +58,59 @@ given_forms_of s ns (l ∷ ls) h =
     rw (lit_of_first s ns l p.0, given_forms_of s ns ls p.1) refl
 
 -- the draft behind the word proof
-abbrev pub started : Entry → Draft
+abbrev pub started : TheoremView → TheoremParser
 started t = showing t.title t.names t.statement.declared t.statement.given t.statement.made t.statement.shown
 
-abbrev pub begins : Entry → Inside
+abbrev pub begins : TheoremView → Inside
 begins t = record { outers = []; in_scope = names_of_proof t; steps = []; lines = 0; facts = length t.statement.given; terms = count_monomials t.statement.given }
 
-run_proof : (known : List Headed) (t : Entry) → Runs known (Some (started t)) (forms.Proof ∷ []) (Some (proving (started t) (begins t)))
+run_proof : (known : List TitledStatement) (t : TheoremView) → Runs known (Some (started t)) (rawlines.Proof ∷ []) (Some (proving (started t) (begins t)))
 unfolding step stepped
 run_proof known t = (proving (started t) (begins t), tt, refl, refl, refl)
 
 -- the lines behind the title
-abbrev pub stating_forms : Entry → List Form
-stating_forms t = given_forms t.names t.statement ++ (shown_forms t.names t.statement ++ forms.Proof ∷ [])
+abbrev pub stating_forms : TheoremView → List RawLine
+stating_forms t = given_forms t.names t.statement ++ (shown_forms t.names t.statement ++ rawlines.Proof ∷ [])
 
 -- the lines of the statement lead from the title to the draft that begins the proof
-pub run_statement : (known : List Headed) (t : Entry) → HasSpelling known t → InOrder t.names → Runs known (Some (begun t.title)) (stating_forms t) (Some (proving (started t) (begins t)))
+pub run_statement : (known : List TitledStatement) (t : TheoremView) → HasSpelling known t → InOrder t.names → Runs known (Some (begun t.title)) (stating_forms t) (Some (proving (started t) (begins t)))
 run_statement known t h o =
     let ns = t.names in
     let st = t.statement in
     let s : Scope = scope_of (stated t.statement) in
     let dn = first_names s ns in
     let few : Few ns = record { points = h.fits.points; lines = h.fits.lines; circles = h.fits.circles } in
-    let end : Option Draft = Some (proving (started t) (begins t)) in
-    let titled : Option Draft = Some (begun t.title) in
-    let declared : Option Draft = Some (declaring t.title dn st.declared) in
-    let given : Option Draft = Some (given_draft t.title dn st.declared st.given) in
-    let made : Option Draft = Some (making t.title st.declared st.given ns st.made) in
-    let f4 : List Form = forms.Proof ∷ [] in
-    let f3 : List Form = map made_form (grouped ns (made_objects st)) ++ map (show_form ns) st.shown in
-    let f2 : List Form = f3 ++ f4 in
-    let f1 : List Form = map declare_form (grouped ns (declared_objects st)) ++ map (given_form ns) st.given in
+    let end : Option TheoremParser = Some (proving (started t) (begins t)) in
+    let titled : Option TheoremParser = Some (begun t.title) in
+    let declared : Option TheoremParser = Some (declaring t.title dn st.declared) in
+    let given : Option TheoremParser = Some (given_draft t.title dn st.declared st.given) in
+    let made : Option TheoremParser = Some (making t.title st.declared st.given ns st.made) in
+    let f4 : List RawLine = rawlines.Proof ∷ [] in
+    let f3 : List RawLine = map made_form (grouped ns (made_objects st)) ++ map (show_form ns) st.shown in
+    let f2 : List RawLine = f3 ++ f4 in
+    let f1 : List RawLine = map declare_form (grouped ns (declared_objects st)) ++ map (given_form ns) st.given in
     let run_declared : Runs known titled (map declare_form (grouped ns (declared_objects st))) declared =
-    run_from known forms.Declare (declaring t.title) (declared_lines known t.title) ns nothing [] st.declared st.made o few h.fits.scope in
+    run_from known rawlines.Declare (declaring t.title) (declared_lines known t.title) ns nothing [] st.declared st.made o few h.fits.scope in
     let plain : Plain dn st.given = record { within = subst (λ (z : Scope). list_all (all_in_scope z) st.given ≡ true) (sym (declared_scope (stated st) ns h.fits.scope)) h.fits.given; good = h.fits.good_given } in
     let run_given : Runs known declared (map (given_form ns) st.given) given =
-    subst (λ (fs : List Form). Runs known declared fs given) (given_forms_of s ns st.given h.fits.given)
+    subst (λ (fs : List RawLine). Runs known declared fs given) (given_forms_of s ns st.given h.fits.given)
     (run_all_given known t.title dn st.declared st.given (first_in_order s ns o) plain h.fits.given_facts h.fits.given_terms) in
     let whole : first_names (grown s st.made) ns ≡ ns = ap (λ (z : Scope). first_names z ns) h.fits.scope ∙ all_first ns in
     let run_made : Runs known given (map made_form (grouped ns (made_objects st))) made =
     subst (λ (m : Names). Runs known given (map made_form (grouped ns (made_objects st))) (Some (making t.title st.declared st.given m st.made))) whole
-    (run_from known forms.Made (making t.title st.declared st.given) (made_lines known t.title st.declared st.given) ns s [] st.made [] o few h.fits.scope) in
+    (run_from known rawlines.Made (making t.title st.declared st.given) (made_lines known t.title st.declared st.given) ns s [] st.made [] o few h.fits.scope) in
     let run_shown : Runs known made (map (show_form ns) st.shown) (Some (started t)) = run_all_shown known t.title ns st.declared st.given st.made st.shown o (record { within = h.fits.shown; good = h.fits.good_shown }) h.some_shown in
     let stating : Runs known titled f1 given = runs_append known titled declared given (map declare_form (grouped ns (declared_objects st))) (map (given_form ns) st.given) run_declared run_given in
     let showing : Runs known given f3 (Some (started t)) = runs_append known given made (Some (started t)) (map made_form (grouped ns (made_objects st))) (map (show_form ns) st.shown) run_made run_shown in
     runs_append known titled given end f1 f2 stating (runs_append known given (Some (started t)) end f3 f4 showing (run_proof known t))
 
-run_head : (known : List Headed) (t : Entry) → HasSpelling known t → InOrder t.names → Runs known None (head_forms t) (Some (proving (started t) (begins t)))
+run_head : (known : List TitledStatement) (t : TheoremView) → HasSpelling known t → InOrder t.names → Runs known None (head_forms t) (Some (proving (started t) (begins t)))
 run_head known t h o =
-    runs_append known None (Some (begun t.title)) (Some (proving (started t) (begins t))) (forms.Theorem t.title ∷ []) (stating_forms t) (run_title known t.title h.title h.fits.new h.few_theorems) (run_statement known t h o)
+    runs_append known None (Some (begun t.title)) (Some (proving (started t) (begins t))) (rawlines.Theorem t.title ∷ []) (stating_forms t) (run_title known t.title h.title h.fits.new h.few_theorems) (run_statement known t h o)
 
 -- ---- the proof
 
-pub run_proof_lines : (known : List Headed) (t : Entry) → HasSpelling known t → InOrder t.names → Taken known (started t) (begins t) t.script
+pub run_proof_lines : (known : List TitledStatement) (t : TheoremView) → HasSpelling known t → InOrder t.names → Taken known (started t) (begins t) t.script
 run_proof_lines known t h o =
     let s : Scope = scope_of (stated t.statement) in
     let before = stated_by known in
@@ -133,31 +133,31 @@ run_proof_lines known t h o =
     })
 
 -- all lines but the last
-abbrev front : List Headed → Entry → List Form
+abbrev front : List TitledStatement → TheoremView → List RawLine
 front known t = head_forms t ++ script_forms known (names_of_proof t) t.script
 
 -- ---- the lines
 
 -- the forms are taken from lines that spell them
-line_taken : (known : List Headed) (s : Option Draft) (f : Form) → GoodForm f → line_step known s (form_words f) ≡ form_step known s (as_read f)
+line_taken : (known : List TitledStatement) (s : Option TheoremParser) (f : RawLine) → GoodForm f → line_step known s (raw_line_words f) ≡ form_step known s (as_read f)
 unfolding line_step
 line_taken known None f good = rw (form_again f good) refl
 line_taken known (Some d) f good = rw (form_again f good) refl
 
-record Left (known : List Headed) (last : ℕ) (s u : Option Draft) (all : List (Result Seen LineFault)) (gs : List Form) (rest : List (Result Seen LineFault)) : Type 0 where
+record Left (known : List TitledStatement) (last : ℕ) (s u : Option TheoremParser) (all : List (Result Seen LineFault)) (gs : List RawLine) (rest : List (Result Seen LineFault)) : Type 0 where
   ahead : List (Result Seen LineFault)
   shown : Shows ahead (map line_of gs) rest
   same : read_from known last s all ≡ read_from known last u ahead
 
-one_read : (known : List Headed) (last : ℕ) (s : Option Draft) (l : Seen) (after : List (Result Seen LineFault)) (f : Form) (e : Draft) → l.bytes ≡ line_of f → GoodForm f → form_step known s (as_read f) ≡ Ok e
+one_read : (known : List TitledStatement) (last : ℕ) (s : Option TheoremParser) (l : Seen) (after : List (Result Seen LineFault)) (f : RawLine) (e : TheoremParser) → l.bytes ≡ line_of f → GoodForm f → form_step known s (as_read f) ≡ Ok e
     → read_from known last s (Ok l ∷ after) ≡ cond (is_done e) (Ok (Some (entry_of_draft e, after))) (read_from known last (Some e) after)
 one_read known last s l after f e b good h =
-    let words : tokens_of l.bytes ≡ form_words f = ap tokens_of b ∙ words_again f good in
-    let next : line_step known s (form_words f) ≡ Ok e = line_taken known s f good ∙ h in
+    let words : tokens_of l.bytes ≡ raw_line_words f = ap tokens_of b ∙ words_again f good in
+    let next : line_step known s (raw_line_words f) ≡ Ok e = line_taken known s f good ∙ h in
     rw (words, not_skipped f, next) refl
 
-reads_runs : (known : List Headed) (last : ℕ) (s u : Option Draft) (fs gs : List Form) (all rest : List (Result Seen LineFault)) → Runs known s fs u → Shows all (map line_of (fs ++ gs)) rest → Left known last s u all gs rest
-reads_runs known last s u [] gs all rest r sh = record { ahead = all; shown = sh; same = ap (λ (x : Option Draft). read_from known last x all) r }
+reads_runs : (known : List TitledStatement) (last : ℕ) (s u : Option TheoremParser) (fs gs : List RawLine) (all rest : List (Result Seen LineFault)) → Runs known s fs u → Shows all (map line_of (fs ++ gs)) rest → Left known last s u all gs rest
+reads_runs known last s u [] gs all rest r sh = record { ahead = all; shown = sh; same = ap (λ (x : Option TheoremParser). read_from known last x all) r }
 reads_runs known last s u (f ∷ fs) gs [] rest r sh = absurd sh
 reads_runs known last s u (f ∷ fs) gs (Err x ∷ all) rest r sh = absurd sh
 reads_runs known last s u (f ∷ fs) gs (Ok l ∷ all) rest r sh =
@@ -166,33 +166,33 @@ reads_runs known last s u (f ∷ fs) gs (Ok l ∷ all) rest r sh =
     let goes : cond (is_done r.0) (Ok (Some (entry_of_draft r.0, all))) (read_from known last (Some r.0) all) ≡ read_from known last (Some r.0) all = rw r.3 refl in
     record { ahead = more.ahead; shown = more.shown; same = here ∙ goes ∙ more.same }
 
-abbrev answered : Entry → List (Result Seen LineFault) → Result (Option (Entry × List (Result Seen LineFault))) BookFault
+abbrev answered : TheoremView → List (Result Seen LineFault) → Result (Option (TheoremView × List (Result Seen LineFault))) BookFault
 answered t rest = Ok (Some (t, rest))
 
 -- ---- the whole
 
 -- the draft behind the last close line
-abbrev pub shut_draft : Entry → Inside → Draft
+abbrev pub shut_draft : TheoremView → Inside → TheoremParser
 shut_draft t last = record (proving (started t) last) { steps = steps_of t.script; outers = []; close = close_of t.script; place = Closed }
 
-pub closed_last : (t : Entry) (last : Inside) → closed (proving (started t) last) [] (steps_of t.script) (close_of t.script) ≡ Ok (shut_draft t last)
+pub closed_last : (t : TheoremView) (last : Inside) → closed (proving (started t) last) [] (steps_of t.script) (close_of t.script) ≡ Ok (shut_draft t last)
 unfolding closed
 closed_last t last = refl
 
-pub step_end : (known : List Headed) (t : Entry) (last : Inside) → step known (shut_draft t last) forms.End ≡ Ok (record (shut_draft t last) { place = Done })
+pub step_end : (known : List TitledStatement) (t : TheoremView) (last : Inside) → step known (shut_draft t last) rawlines.End ≡ Ok (record (shut_draft t last) { place = Done })
 unfolding step stepped
 step_end known t last = refl
 
-end_read : (known : List Headed) (number : ℕ) (t : Entry) (last : Inside) (all rest : List (Result Seen LineFault)) → Closes (steps_of t.script) (close_of t.script) t.script → Shows all (line_of forms.End ∷ []) rest
+end_read : (known : List TitledStatement) (number : ℕ) (t : TheoremView) (last : Inside) (all rest : List (Result Seen LineFault)) → Closes (steps_of t.script) (close_of t.script) t.script → Shows all (line_of rawlines.End ∷ []) rest
     → read_from known number (Some (shut_draft t last)) all ≡ answered t rest
 end_read known number t last [] rest same sh = absurd sh
 end_read known number t last (Err x ∷ all) rest same sh = absurd sh
 end_read known number t last (Ok l ∷ all) rest same sh =
     let d = shut_draft t last in
-    one_read known number (Some d) l all forms.End (record d { place = Done }) sh.0 tt (step_end known t last)
+    one_read known number (Some d) l all rawlines.End (record d { place = Done }) sh.0 tt (step_end known t last)
     ∙ ap (λ (s : Script). answered (record t { script = s }) all) same ∙ ap (λ (ls : List (Result Seen LineFault)). answered t ls) sh.1
 
-pub canonical_lines_read : (known : List Headed) (last : ℕ) (t : Entry) (all rest : List (Result Seen LineFault)) → HasSpelling known t → Shows all (map line_of (forms_of known t)) rest
+pub canonical_lines_read : (known : List TitledStatement) (last : ℕ) (t : TheoremView) (all rest : List (Result Seen LineFault)) → HasSpelling known t → Shows all (map line_of (forms_of known t)) rest
     → read_from known last None all ≡ Ok (Some (t, rest))
 canonical_lines_read known last t all rest h sh =
     let o = in_order t.names h.point_names h.line_names h.circle_names h.fits.differ in
@@ -200,7 +200,7 @@ canonical_lines_read known last t all rest h sh =
     let d = shut_draft t proof.last in
     let runs : Runs known None (front known t) (Some d) =
     runs_append known None (Some (proving (started t) (begins t))) (Some d) (head_forms t) (script_forms known (names_of_proof t) t.script) (run_head known t h o) (proof.runs d (closed_last t proof.last) refl) in
-    let whole : forms_of known t ≡ front known t ++ forms.End ∷ [] = sym (append_assoc (head_forms t) (script_forms known (names_of_proof t) t.script) (forms.End ∷ [])) in
-    let shown : Shows all (map line_of (front known t ++ forms.End ∷ [])) rest = subst (λ (fs : List Form). Shows all (map line_of fs) rest) whole sh in
-    let l = reads_runs known last None (Some d) (front known t) (forms.End ∷ []) all rest runs shown in
+    let whole : forms_of known t ≡ front known t ++ rawlines.End ∷ [] = sym (append_assoc (head_forms t) (script_forms known (names_of_proof t) t.script) (rawlines.End ∷ [])) in
+    let shown : Shows all (map line_of (front known t ++ rawlines.End ∷ [])) rest = subst (λ (fs : List RawLine). Shows all (map line_of fs) rest) whole sh in
+    let l = reads_runs known last None (Some d) (front known t) (rawlines.End ∷ []) all rest runs shown in
     l.same ∙ end_read known last t proof.last l.ahead rest (same_script t.script h.script) l.shown

@@ -14,24 +14,24 @@ use Rattle.e_text.specs.Tokens.{tokens_of}
 use Rattle.e_theorem.specs.Notions.{as_stated, means_something}
 use Rattle.e_deriv.specs.declared.names.Names.{Names}
 use Rattle.e_deriv.specs.Fitting.{is_small, is_small_statement, all_objects}
-use Rattle.e_line.specs.declared.fault.Kind.{Kind}
+use Rattle.e_line.specs.declared.fault.FaultKind.{FaultKind}
 use Rattle.e_line.specs.declared.fault.What.TheVariants as limits
 use Rattle.e_line.specs.declared.fault.BookFault.{BookFault}
 use Rattle.e_line.specs.declared.literal.RawLit.{RawLit}
-use Rattle.e_line.specs.declared.form.Form.{Form}
-use Rattle.e_line.specs.declared.form.Form.TheVariants as forms
+use Rattle.e_line.specs.declared.raw_line.RawLine.{RawLine}
+use Rattle.e_line.specs.declared.raw_line.RawLine.TheVariants as rawlines
 use Rattle.e_line.specs.declared.items.RawItem.{RawItem}
 use Rattle.e_line.specs.declared.items.Listing.{Listing}
 use Rattle.e_line.specs.declared.items.Listing.TheVariants as listings
-use Rattle.e_line.specs.declared.items.RawLine.{RawLine}
-use Rattle.e_line.specs.declared.items.RawLine.TheVariants.{Plain, Define, Listed}
+use Rattle.e_line.specs.declared.items.BookLine.{BookLine}
+use Rattle.e_line.specs.declared.items.BookLine.TheVariants.{Plain, Define, Listed}
 use Rattle.e_names.specs.declared.known.Known.{Known}
-use Rattle.e_book.specs.declared.draft.Place.{Place}
-use Rattle.e_book.specs.declared.draft.Place.TheVariants as places
-use Rattle.e_book.specs.declared.draft.Draft.{Draft}
+use Rattle.e_book.specs.declared.draft.Section.{Section}
+use Rattle.e_book.specs.declared.draft.Section.TheVariants as places
+use Rattle.e_book.specs.declared.draft.TheoremParser.{TheoremParser}
 use Rattle.e_book.specs.declared.coming.Coming.{Coming}
 use Rattle.e_line.specs.Reading.{◌>>=◌, with_front}
-use Rattle.e_names.specs.Headed.{Headed, is_known}
+use Rattle.e_names.specs.TitledStatements.{TitledStatement, is_known}
 use Rattle.e_names.specs.Taken.{is_taken}
 use Rattle.e_names.specs.Titled.{defines, are_notions}
 use Rattle.e_line.specs.Limits.{most_notions, most_expanded, within}
@@ -64,30 +64,30 @@ use Rattle.e_line.proofs.LinesByWord.{ListingSaid, LineSaid, line_read_as}
 
 -- ---- what is known
 
-record GoodTheorem (known : Known) (d : Draft) : Type 0 where
+record GoodTheorem (known : Known) (d : TheoremParser) : Type 0 where
   good : Good known.theorems d
   spelled : Spelled known.theorems d
   title : defines known.notions d.title ≡ false
 
 -- a definition is a statement so far; behind its last line only what it means counts
-abbrev StatesOf : List Headed → Place → Draft → Type 0
+abbrev StatesOf : List TitledStatement → Section → TheoremParser → Type 0
 StatesOf known places.Done d = Unit {0}
 StatesOf known p d = IsStating p × Body known p d
 
 -- it means something from its first shown line on
-abbrev MeansThere : Place → List Lit → Type 0
+abbrev MeansThere : Section → List Lit → Type 0
 MeansThere places.Showing ls = 0 < length ls
 MeansThere places.Done ls = 0 < length ls
 MeansThere p ls = Unit {0}
 
-record GoodDefinition (known : Known) (d : Draft) : Type 0 where
+record GoodDefinition (known : Known) (d : TheoremParser) : Type 0 where
   title : is_taken known d.title ≡ false
   head : HeadOf known.theorems d
   made : d.made ≡ []
   states : StatesOf known.theorems d.place d
   means : MeansThere d.place d.shown
 
-abbrev GoodBy : Known → Bool → Draft → Type 0
+abbrev GoodBy : Known → Bool → TheoremParser → Type 0
 GoodBy known true d = GoodDefinition known d
 GoodBy known false d = GoodTheorem known d
 
@@ -96,7 +96,7 @@ GoodComing known c = GoodBy known c.defines c.draft
 
 -- ---- a line of a theorem
 
-theorem_on : (known : Known) (d e : Draft) (f : Form) → GoodTheorem known d → Said f → step known.theorems d f ≡ Ok e → GoodTheorem known e
+theorem_on : (known : Known) (d e : TheoremParser) (f : RawLine) → GoodTheorem known d → Said f → step known.theorems d f ≡ Ok e → GoodTheorem known e
 theorem_on known d e f g s h = record {
   good = keeps known.theorems d e f g.good s h;
   spelled = spelled_next known.theorems d e f g.spelled s h;
@@ -105,32 +105,32 @@ theorem_on known d e f g s h = record {
 
 -- ---- a line of a definition
 
-good_there : (known : List Headed) (d : Draft) (p : Place) → d.place ≡ p → IsStating p → HeadOf known d → StatesOf known p d → Good known d
-good_there known d places.Declaring at st h s = record { head = h; body = subst (λ (q : Place). Body known q d) (sym at) s.1 }
-good_there known d places.Giving at st h s = record { head = h; body = subst (λ (q : Place). Body known q d) (sym at) s.1 }
-good_there known d places.Making at st h s = record { head = h; body = subst (λ (q : Place). Body known q d) (sym at) s.1 }
-good_there known d places.Showing at st h s = record { head = h; body = subst (λ (q : Place). Body known q d) (sym at) s.1 }
+good_there : (known : List TitledStatement) (d : TheoremParser) (p : Section) → d.place ≡ p → IsStating p → HeadOf known d → StatesOf known p d → Good known d
+good_there known d places.Declaring at st h s = record { head = h; body = subst (λ (q : Section). Body known q d) (sym at) s.1 }
+good_there known d places.Giving at st h s = record { head = h; body = subst (λ (q : Section). Body known q d) (sym at) s.1 }
+good_there known d places.Making at st h s = record { head = h; body = subst (λ (q : Section). Body known q d) (sym at) s.1 }
+good_there known d places.Showing at st h s = record { head = h; body = subst (λ (q : Section). Body known q d) (sym at) s.1 }
 good_there known d p at st h s = absurd st
 
-states_there : (known : List Headed) (d : Draft) (p : Place) → IsStating p → Body known p d → StatesOf known p d
+states_there : (known : List TitledStatement) (d : TheoremParser) (p : Section) → IsStating p → Body known p d → StatesOf known p d
 states_there known d places.Declaring st b = (tt, b)
 states_there known d places.Giving st b = (tt, b)
 states_there known d places.Making st b = (tt, b)
 states_there known d places.Showing st b = (tt, b)
 states_there known d p st b = absurd st
 
-declares_at : (p : Place) (sort : Sort) (new : List (List ℕ)) → allowed p (forms.Declare sort new) ≡ true → p ≡ places.Declaring
+declares_at : (p : Section) (sort : Sort) (new : List (List ℕ)) → allowed p (rawlines.Declare sort new) ≡ true → p ≡ places.Declaring
 declares_at places.Declaring sort new a = refl
 declares_at p sort new a = absurd cc
 
-shows_at : (p : Place) (raws : List RawLit) → allowed p (forms.Show raws) ≡ true → IsStating p
+shows_at : (p : Section) (raws : List RawLit) → allowed p (rawlines.Show raws) ≡ true → IsStating p
 shows_at places.Declaring raws a = tt
 shows_at places.Giving raws a = tt
 shows_at places.Making raws a = tt
 shows_at places.Showing raws a = tt
 shows_at p raws a = absurd cc
 
-definition_more : (known : Known) (d e : Draft) (f : Form) → GoodDefinition known d → IsStating d.place → IsStating e.place → e.made ≡ d.made → MeansThere e.place e.shown → Said f → step known.theorems d f ≡ Ok e → GoodDefinition known e
+definition_more : (known : Known) (d e : TheoremParser) (f : RawLine) → GoodDefinition known d → IsStating d.place → IsStating e.place → e.made ≡ d.made → MeansThere e.place e.shown → Said f → step known.theorems d f ≡ Ok e → GoodDefinition known e
 definition_more known d e f g at to made means s h =
     let good = keeps known.theorems d e f (good_there known.theorems d d.place refl at g.head g.states) s h in
     record {
@@ -141,55 +141,55 @@ definition_more known d e f g at to made means s h =
       means = means;
     }
 
-definition_declares : (known : Known) (d e : Draft) (sort : Sort) (new : List (List ℕ)) → GoodDefinition known d → Said (forms.Declare sort new) → defines_on d (forms.Declare sort new) ≡ Ok e → GoodDefinition known e
+definition_declares : (known : Known) (d e : TheoremParser) (sort : Sort) (new : List (List ℕ)) → GoodDefinition known d → Said (rawlines.Declare sort new) → defines_on d (rawlines.Declare sort new) ≡ Ok e → GoodDefinition known e
 unfolding defines_on
 definition_declares known d e sort new g s h =
-    let next : Names → Draft = λ names. record d { names = names; declared = d.declared ++ replicate (length new) sort } in
-    let r = bind_ok (right_count (allowed d.place (forms.Declare sort new))) (λ right. declares d sort new) e h in
+    let next : Names → TheoremParser = λ names. record d { names = names; declared = d.declared ++ replicate (length new) sort } in
+    let r = bind_ok (right_count (allowed d.place (rawlines.Declare sort new))) (λ right. declares d sort new) e h in
     let n = bind_ok (declared d.names sort new) (λ names. read_ok (next names)) e r.2 in
     let is : next n.0 ≡ e = ok_is (next n.0) e n.2 in
     let at : d.place ≡ places.Declaring = declares_at d.place sort new (counted _ r.0 r.1) in
-    let to : e.place ≡ places.Declaring = ap (λ (x : Draft). x.place) (sym is) ∙ at in
-    definition_more known d e (forms.Declare sort new) g (subst IsStating (sym at) tt) (subst IsStating (sym to) tt) (ap (λ (x : Draft). x.made) (sym is))
-    (subst (λ (p : Place). MeansThere p e.shown) (sym to) tt) s (sym (stating_declares known.theorems d sort new) ∙ h)
+    let to : e.place ≡ places.Declaring = ap (λ (x : TheoremParser). x.place) (sym is) ∙ at in
+    definition_more known d e (rawlines.Declare sort new) g (subst IsStating (sym at) tt) (subst IsStating (sym to) tt) (ap (λ (x : TheoremParser). x.made) (sym is))
+    (subst (λ (p : Section). MeansThere p e.shown) (sym to) tt) s (sym (stating_declares known.theorems d sort new) ∙ h)
 
-definition_shows : (known : Known) (d e : Draft) (raws : List RawLit) → GoodDefinition known d → Said (forms.Show raws) → defines_on d (forms.Show raws) ≡ Ok e → GoodDefinition known e
+definition_shows : (known : Known) (d e : TheoremParser) (raws : List RawLit) → GoodDefinition known d → Said (rawlines.Show raws) → defines_on d (rawlines.Show raws) ≡ Ok e → GoodDefinition known e
 unfolding defines_on
 definition_shows known d e raws g s h =
-    let then : List Lit → Draft = λ ls. record d { shown = ls; place = places.Showing } in
-    let r = bind_ok (right_count (allowed d.place (forms.Show raws))) (λ right. shows d raws) e h in
+    let then : List Lit → TheoremParser = λ ls. record d { shown = ls; place = places.Showing } in
+    let r = bind_ok (right_count (allowed d.place (rawlines.Show raws))) (λ right. shows d raws) e h in
     let all = bind_ok (with_front d.shown (lits_in d.names raws)) (λ ls. few_monos raws >>= λ few. read_ok (then ls)) e r.2 in
     let ls = bind_ok (lits_in d.names raws) (λ xs. read_ok (d.shown ++ xs)) all.0 all.1 in
     let f = bind_ok (few_monos raws) (λ few. read_ok (then all.0)) e all.2 in
     let is : then all.0 ≡ e = ok_is (then all.0) e f.2 in
-    let to : e.place ≡ places.Showing = ap (λ (x : Draft). x.place) (sym is) in
+    let to : e.place ≡ places.Showing = ap (λ (x : TheoremParser). x.place) (sym is) in
     let count : 0 < length all.0 = omega (arith, s.0, each_length (lit_in d.names) raws ls.0 ls.1, length-append d.shown ls.0, ap (λ (x : List Lit). length x) (ok_is (d.shown ++ ls.0) all.0 ls.2)) in
-    definition_more known d e (forms.Show raws) g (shows_at d.place raws (counted _ r.0 r.1)) (subst IsStating (sym to) tt) (ap (λ (x : Draft). x.made) (sym is))
-    (subst (λ (p : Place). MeansThere p e.shown) (sym to) (subst (λ (x : Draft). 0 < length x.shown) is count)) s (sym (stating_shows known.theorems d raws) ∙ h)
+    definition_more known d e (rawlines.Show raws) g (shows_at d.place raws (counted _ r.0 r.1)) (subst IsStating (sym to) tt) (ap (λ (x : TheoremParser). x.made) (sym is))
+    (subst (λ (p : Section). MeansThere p e.shown) (sym to) (subst (λ (x : TheoremParser). 0 < length x.shown) is count)) s (sym (stating_shows known.theorems d raws) ∙ h)
 
-showing_at : (p : Place) → is_showing p ≡ true → p ≡ places.Showing
+showing_at : (p : Section) → is_showing p ≡ true → p ≡ places.Showing
 showing_at places.Showing a = refl
 showing_at p a = absurd cc
 
-definition_ends : (known : Known) (d e : Draft) → GoodDefinition known d → defines_on d forms.End ≡ Ok e → GoodDefinition known e
+definition_ends : (known : Known) (d e : TheoremParser) → GoodDefinition known d → defines_on d rawlines.End ≡ Ok e → GoodDefinition known e
 unfolding defines_on
 definition_ends known d e g h =
-    let last : Draft = record d { place = places.Done } in
+    let last : TheoremParser = record d { place = places.Done } in
     let r = bind_ok (right_count (is_showing d.place)) (λ right. read_ok last) e h in
     let at : d.place ≡ places.Showing = showing_at d.place (counted _ r.0 r.1) in
-    let some : 0 < length d.shown = subst (λ (p : Place). MeansThere p d.shown) at g.means in
-    subst (λ (x : Draft). GoodDefinition known x) (ok_is last e r.2) (record { title = g.title; head = g.head; made = g.made; states = tt; means = some })
+    let some : 0 < length d.shown = subst (λ (p : Section). MeansThere p d.shown) at g.means in
+    subst (λ (x : TheoremParser). GoodDefinition known x) (ok_is last e r.2) (record { title = g.title; head = g.head; made = g.made; states = tt; means = some })
 
-definition_on : (known : Known) (d e : Draft) (f : Form) → GoodDefinition known d → Said f → defines_on d f ≡ Ok e → GoodDefinition known e
+definition_on : (known : Known) (d e : TheoremParser) (f : RawLine) → GoodDefinition known d → Said f → defines_on d f ≡ Ok e → GoodDefinition known e
 unfolding defines_on
-definition_on known d e (forms.Declare sort new) g s h = definition_declares known d e sort new g s h
-definition_on known d e (forms.Show raws) g s h = definition_shows known d e raws g s h
-definition_on known d e forms.End g s h = definition_ends known d e g h
+definition_on known d e (rawlines.Declare sort new) g s h = definition_declares known d e sort new g s h
+definition_on known d e (rawlines.Show raws) g s h = definition_shows known d e raws g s h
+definition_on known d e rawlines.End g s h = definition_ends known d e g h
 definition_on known d e f g s h = absurd cc
 
 -- ---- a line without items
 
-plain_by : (b : Bool) (known : Known) (c e : Coming) (f : Form) → c.defines ≡ b → GoodBy known b c.draft → Said f
+plain_by : (b : Bool) (known : Known) (c e : Coming) (f : RawLine) → c.defines ≡ b → GoodBy known b c.draft → Said f
     → cond b (defines_on c.draft f >>= λ d. Ok (with_draft c d)) (step known.theorems c.draft f >>= λ d. Ok (with_draft c d)) ≡ Ok e → GoodComing known e
 plain_by true known c e f t g s h =
     let d = bind_ok (defines_on c.draft f) (λ d. read_ok (with_draft c d)) e h in
@@ -198,32 +198,32 @@ plain_by false known c e f t g s h =
     let d = bind_ok (step known.theorems c.draft f) (λ d. read_ok (with_draft c d)) e h in
     subst (λ (x : Coming). GoodComing known x) (ok_is (with_draft c d.0) e d.2) (subst (λ (b : Bool). GoodBy known b d.0) (sym t) (theorem_on known c.draft d.0 f g s d.1))
 
-plain_kept : (known : Known) (c e : Coming) (f : Form) → GoodComing known c → Said f → goes_on known c f ≡ Ok e → GoodComing known e
+plain_kept : (known : Known) (c e : Coming) (f : RawLine) → GoodComing known c → Said f → goes_on known c f ≡ Ok e → GoodComing known e
 unfolding goes_on
 plain_kept known c e f g s h = plain_by c.defines known c e f refl g s h
 
 -- ---- a line with items
 
 -- what spelling would say of the line as it is written out
-out_said : (known : Known) (d : Draft) (line : Listing) (is : List RawItem) (w : Form × ℕ) → are_notions known.notions ≡ true → ListingSaid line → 0 < length is → ItemsSaid is → written known.notions d line is ≡ Ok w → Said w.0
+out_said : (known : Known) (d : TheoremParser) (line : Listing) (is : List RawItem) (w : RawLine × ℕ) → are_notions known.notions ≡ true → ListingSaid line → 0 < length is → ItemsSaid is → written known.notions d line is ≡ Ok w → Said w.0
 out_said known d line is w all head some said e =
     let ns = names_there d in
-    let out : List Lit × ℕ → Form × ℕ = λ p. (listing_form line (map (raw_of ns) p.0), p.1) in
+    let out : List Lit × ℕ → RawLine × ℕ = λ p. (listing_form line (map (raw_of ns) p.0), p.1) in
     let r = bind_ok (is_ready d line) (λ ready. items_in known.notions ns 0 is >>= λ p. read_ok (out p)) w e in
     let p = bind_ok (items_in known.notions ns 0 is) (λ p. read_ok (out p)) w r.2 in
-    subst (λ (x : Form × ℕ). Said x.0) (ok_is (out p.0) w p.2)
-    (form_of line (map (raw_of ns) p.0.0) head (items_some known.notions ns is p.0 all some p.1) (items_said known.notions ns 0 is p.0 all said p.1))
+    subst (λ (x : RawLine × ℕ). Said x.0) (ok_is (out p.0) w p.2)
+    (raw_line_of line (map (raw_of ns) p.0.0) head (items_some known.notions ns is p.0 all some p.1) (items_said known.notions ns 0 is p.0 all said p.1))
   where
-    form_of : (line : Listing) (raws : List RawLit) → ListingSaid line → 0 < length raws → LitsSaid raws → Said (listing_form line raws)
-    form_of listings.Given raws h n s = s
-    form_of listings.Show raws h n s = (n, s)
-    form_of listings.Claim raws h n s = (n, s)
-    form_of (listings.Superpose args new) raws h n s = (h.0, h.1, n, s)
+    raw_line_of : (line : Listing) (raws : List RawLit) → ListingSaid line → 0 < length raws → LitsSaid raws → Said (listing_form line raws)
+    raw_line_of listings.Given raws h n s = s
+    raw_line_of listings.Show raws h n s = (n, s)
+    raw_line_of listings.Claim raws h n s = (n, s)
+    raw_line_of (listings.Superpose args new) raws h n s = (h.0, h.1, n, s)
 
 listed_kept : (known : Known) (c e : Coming) (line : Listing) (is : List RawItem) → are_notions known.notions ≡ true → GoodComing known c → ListingSaid line → 0 < length is → ItemsSaid is → lists known c line is ≡ Ok e → GoodComing known e
 unfolding lists
 listed_kept known c e line is all g head some said h =
-    let add : (Form × ℕ) → Coming → Result Coming Kind = λ w x. within (x.expanded + w.1) most_expanded limits.Expanded >>= λ few. read_ok (record x { expanded = x.expanded + w.1 }) in
+    let add : (RawLine × ℕ) → Coming → Result Coming FaultKind = λ w x. within (x.expanded + w.1) most_expanded limits.Expanded >>= λ few. read_ok (record x { expanded = x.expanded + w.1 }) in
     let r = bind_ok (right_count (not c.defines || is_show line)) (λ right. written known.notions c.draft line is >>= λ w. goes_on known c w.0 >>= λ x. add w x) e h in
     let w = bind_ok (written known.notions c.draft line is) (λ w. goes_on known c w.0 >>= λ x. add w x) e r.2 in
     let x = bind_ok (goes_on known c w.0.0) (λ x. add w.0 x) e w.2 in
@@ -233,18 +233,18 @@ listed_kept known c e line is all g head some said h =
 
 -- ---- each line
 
-next_kept : (known : Known) (c e : Coming) (words : List (List ℕ)) (l : RawLine) → are_notions known.notions ≡ true → GoodComing known c → LineSaid words l → machine.step known c l ≡ Ok e → GoodComing known e
+next_kept : (known : Known) (c e : Coming) (words : List (List ℕ)) (l : BookLine) → are_notions known.notions ≡ true → GoodComing known c → LineSaid words l → machine.step known c l ≡ Ok e → GoodComing known e
 unfolding machine.step
 next_kept known c e words (Plain f) all g said h = plain_kept known c e f g (form_said words f said) h
 next_kept known c e words (Define t) all g said h = absurd cc
 next_kept known c e words (Listed line is) all g said h = listed_kept known c e line is all g said.0 said.1 said.2 h
 
-free_title : (known : Known) (f : Form) (d : Draft) → has_notion_title known.notions f ≡ false → begin known.theorems f ≡ Ok d → defines known.notions d.title ≡ false
+free_title : (known : Known) (f : RawLine) (d : TheoremParser) → has_notion_title known.notions f ≡ false → begin known.theorems f ≡ Ok d → defines known.notions d.title ≡ false
 unfolding begin
-free_title known (forms.Theorem t) d n b = ap (λ (x : List ℕ). defines known.notions x) (title_begun known.theorems t d b) ∙ n
+free_title known (rawlines.Theorem t) d n b = ap (λ (x : List ℕ). defines known.notions x) (title_begun known.theorems t d b) ∙ n
 free_title known f d n b = absurd cc
 
-first_theorem : (known : Known) (e : Coming) (f : Form) → Said f → begins_theorem known f ≡ Ok e → GoodComing known e
+first_theorem : (known : Known) (e : Coming) (f : RawLine) → Said f → begins_theorem known f ≡ Ok e → GoodComing known e
 unfolding begins_theorem
 first_theorem known e f s h =
     let n = was_free (has_notion_title known.notions f) (begin known.theorems f >>= λ d. Ok (coming false d)) e h in
@@ -260,7 +260,7 @@ first_definition known e t h =
     let good = good_begun known.theorems t (neither (is_known known.theorems t) (defines known.notions t) n.0).0 in
     subst (λ (x : Coming). GoodComing known x) (ok_is (coming true (begun t)) e w.2) (record { title = n.0; head = good.head; made = refl; states = (tt, good.body); means = tt })
 
-first_kept : (known : Known) (e : Coming) (words : List (List ℕ)) (l : RawLine) → LineSaid words l → machine.begins known l ≡ Ok e → GoodComing known e
+first_kept : (known : Known) (e : Coming) (words : List (List ℕ)) (l : BookLine) → LineSaid words l → machine.begins known l ≡ Ok e → GoodComing known e
 unfolding machine.begins
 first_kept known e words (Plain f) said h = first_theorem known e f (form_said words f said) h
 first_kept known e words (Define t) said h = first_definition known e t h
@@ -277,7 +277,7 @@ line_kept known (Some c) words e all g h = let l = bind_ok (line_of words) (λ l
 
 -- ---- what has come whole
 
-last_is : (p : Place) → is_last p ≡ true → p ≡ places.Done
+last_is : (p : Section) → is_last p ≡ true → p ≡ places.Done
 last_is places.Done a = refl
 last_is p a = absurd cc
 
@@ -288,10 +288,10 @@ each_shown p q (l ∷ ls) h k =
     let b = and_parts (q l) (list_all q ls) k in
     rw (a.0, b.0, each_shown p q ls a.1 b.1) refl
 
-definition_good : (known : Known) (d : Draft) → GoodDefinition known d → is_last d.place ≡ true → IsGood known (OfNotion (notion_of_draft d))
+definition_good : (known : Known) (d : TheoremParser) → GoodDefinition known d → is_last d.place ≡ true → IsGood known (OfNotion (notion_of_draft d))
 definition_good known d g a =
     let n = (notion_of_draft d).notion in
-    let some : 0 < length d.shown = subst (λ (p : Place). MeansThere p d.shown) (last_is d.place a) g.means in
+    let some : 0 < length d.shown = subst (λ (p : Section). MeansThere p d.shown) (last_is d.place a) g.means in
     let scope : grown nothing d.declared ≡ scope_of_names d.names = sym (ap (grown (grown nothing d.declared)) g.made) ∙ g.head.scope in
     let shown : list_all (all_in_scope (grown nothing d.declared)) d.shown ≡ true = subst (λ (s : Scope). list_all (all_in_scope s) d.shown ≡ true) (sym scope) g.head.shown in
     let states : is_statement (as_stated n) ≡ true = each_shown is_well_formed (all_in_scope (grown nothing d.declared)) d.shown g.head.good_shown shown in
@@ -303,7 +303,7 @@ definition_good known d g a =
     let statement : is_small_statement (as_stated n) ≡ true = and_from (is_statement (as_stated n)) (is_small (all_objects (as_stated n))) states small in
     (g.title, and_from (means_something n) (is_small_statement (as_stated n)) (lt-ltb 0 (length d.shown) some) statement)
 
-whole_by : (b : Bool) (known : Known) (d : Draft) → GoodBy known b d → is_last d.place ≡ true → IsGood known (cond b (OfNotion (notion_of_draft d)) (OfTheorem (entry_of_draft d)))
+whole_by : (b : Bool) (known : Known) (d : TheoremParser) → GoodBy known b d → is_last d.place ≡ true → IsGood known (cond b (OfNotion (notion_of_draft d)) (OfTheorem (entry_of_draft d)))
 whole_by true known d g a = definition_good known d g a
 whole_by false known d g a = (done_spelled known.theorems d g.good g.spelled a, g.title)
 
@@ -324,7 +324,7 @@ either_read : (b : Bool) (x y z : Answer) → cond b x y ≡ z → ((b ≡ true)
 either_read true x y z e = inl (refl, e)
 either_read false x y z e = inr (refl, e)
 
-put_ok : (n : ℕ) (r : Result Coming Kind) (c : Coming) → put_at n r ≡ Ok c → r ≡ Ok c
+put_ok : (n : ℕ) (r : Result Coming FaultKind) (c : Coming) → put_at n r ≡ Ok c → r ≡ Ok c
 put_ok n (Ok x) c e = cc
 put_ok n (Err k) c e = absurd cc
 

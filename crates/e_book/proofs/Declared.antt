@@ -11,12 +11,12 @@ use Rattle.e_literal.specs.Scopes.{same_sort, with_one, grown, next_objects}
 use Rattle.e_literal.proofs.Sorts.{same_sort_is}
 use Rattle.e_literal.proofs.Growing.{count_one}
 use Rattle.e_deriv.specs.declared.names.Names.{Names}
-use Rattle.e_line.specs.declared.fault.Kind.{Kind}
-use Rattle.e_line.specs.declared.form.Form.{Form}
-use Rattle.e_book.specs.declared.draft.Draft.{Draft}
+use Rattle.e_line.specs.declared.fault.FaultKind.{FaultKind}
+use Rattle.e_line.specs.declared.raw_line.RawLine.{RawLine}
+use Rattle.e_book.specs.declared.draft.TheoremParser.{TheoremParser}
 use Rattle.e_line.specs.Reading.{◌>>=◌}
 use Rattle.e_line.specs.Limits.{most_of, what_of, within}
-use Rattle.e_names.specs.Headed.{Headed}
+use Rattle.e_names.specs.TitledStatements.{TitledStatement}
 use Rattle.e_deriv.specs.Naming.{names_of_sort, first_names}
 use Rattle.e_names.specs.Scope.{scope_of_names, fresh}
 use Rattle.e_book.specs.Steps.{declared, step, begin}
@@ -31,17 +31,17 @@ use Rattle.e_names.proofs.Lookups.{InOrder, named_at}
 use Rattle.e_names.proofs.NewNames.{same_fresh, plus, Free}
 
 -- a form at its place: the first of a theorem, or one more
-abbrev pub form_step : List Headed → Option Draft → Form → Result Draft Kind
+abbrev pub form_step : List TitledStatement → Option TheoremParser → RawLine → Result TheoremParser FaultKind
 form_step known None f = begin known f
 form_step known (Some d) f = step known d f
 
 -- forms whose words are taken one after another
-abbrev pub Runs : List Headed → Option Draft → List Form → Option Draft → Type 0
+abbrev pub Runs : List TitledStatement → Option TheoremParser → List RawLine → Option TheoremParser → Type 0
 Runs known s [] u = s ≡ u
-Runs known s (f ∷ fs) u = (e : Draft) × GoodForm f × (form_step known s (as_read f) ≡ Ok e) × (is_done e ≡ false) × Runs known (Some e) fs u
+Runs known s (f ∷ fs) u = (e : TheoremParser) × GoodForm f × (form_step known s (as_read f) ≡ Ok e) × (is_done e ≡ false) × Runs known (Some e) fs u
 
-pub runs_append : (known : List Headed) (s m u : Option Draft) (fs gs : List Form) → Runs known s fs m → Runs known m gs u → Runs known s (fs ++ gs) u
-runs_append known s m u [] gs a b = subst (λ (x : Option Draft). Runs known x gs u) (sym a) b
+pub runs_append : (known : List TitledStatement) (s m u : Option TheoremParser) (fs gs : List RawLine) → Runs known s fs m → Runs known m gs u → Runs known s (fs ++ gs) u
+runs_append known s m u [] gs a b = subst (λ (x : Option TheoremParser). Runs known x gs u) (sym a) b
 runs_append known s m u (f ∷ fs) gs a b = (a.0, a.1, a.2, a.3, runs_append known (Some a.0) m u fs gs a.4 b)
 
 -- ---- a name on a line of its own, or on the next line
@@ -57,12 +57,12 @@ declared_one ns sort name f few =
     let room : ltb (most_of sort) (length (names_of_sort ns sort) + length (name ∷ [])) ≡ false = le-ltb _ _ (omega (arith, few)) in
     rw (f.0, f.1, f.2, room) refl
 
-abbrev answer : Result (Unit {0}) Kind → ℕ → Names → Sort → Result Names Kind
+abbrev answer : Result (Unit {0}) FaultKind → ℕ → Names → Sort → Result Names FaultKind
 answer f n new sort = f >>= λ free. within n (most_of sort) (what_of sort) >>= λ few. Ok new
 
-same_answer : (f g : Result (Unit {0}) Kind) (m n : ℕ) (v w : Names) (sort : Sort) → f ≡ g → m ≡ n → v ≡ w → answer f m v sort ≡ answer g n w sort
+same_answer : (f g : Result (Unit {0}) FaultKind) (m n : ℕ) (v w : Names) (sort : Sort) → f ≡ g → m ≡ n → v ≡ w → answer f m v sort ≡ answer g n w sort
 same_answer f g m n v w sort a b c =
-    ap (λ (x : Result (Unit {0}) Kind). answer x m v sort) a ∙ ap (λ (k : ℕ). answer g k v sort) b ∙ ap (λ (x : Names). answer g n x sort) c
+    ap (λ (x : Result (Unit {0}) FaultKind). answer x m v sort) a ∙ ap (λ (k : ℕ). answer g k v sort) b ∙ ap (λ (x : Names). answer g n x sort) c
 
 one_less : (xs more : List (List ℕ)) (name : List ℕ) → length xs + length (name ∷ more) ≡ length (xs ++ name ∷ []) + length more
 one_less xs more name = omega (arith, length-append xs (name ∷ []))
@@ -85,7 +85,7 @@ declared_joined ns Circle name more f =
 -- ---- lines of names
 
 -- a line with a name puts it behind those of its sort, and a line with more names does what a name and the others do
-pub record LinesOfNames (known : List Headed) (say : Sort → List (List ℕ) → Form) (at : Names → List Sort → Draft) : Type 0 where
+pub record LinesOfNames (known : List TitledStatement) (say : Sort → List (List ℕ) → RawLine) (at : Names → List Sort → TheoremParser) : Type 0 where
   pub good : (sort : Sort) (n : List ℕ) (more : List (List ℕ)) → AreNames (n ∷ more) → GoodForm (say sort (n ∷ more))
   pub said : (sort : Sort) (names : List (List ℕ)) → GoodForm (say sort names) → AreNames names
   pub read : (sort : Sort) (names : List (List ℕ)) → as_read (say sort names) ≡ say sort names
@@ -103,17 +103,17 @@ record Next (ns : Names) (sort : Sort) (name : List ℕ) : Type 0 where
   free : Free ns name
   few : length (names_of_sort ns sort) + 1 ≤ most_of sort
 
-abbrev pub says : (Sort → List (List ℕ) → Form) → Group → Form
+abbrev pub says : (Sort → List (List ℕ) → RawLine) → Group → RawLine
 says say g = say g.sort g.names
 
-alone : (known : List Headed) (say : Sort → List (List ℕ) → Form) (at : Names → List Sort → Draft) (l : LinesOfNames known say at) (ns : Names) (sorts : List Sort) (sort : Sort) (name : List ℕ) (fs : List Form) (u : Option Draft)
+alone : (known : List TitledStatement) (say : Sort → List (List ℕ) → RawLine) (at : Names → List Sort → TheoremParser) (l : LinesOfNames known say at) (ns : Names) (sorts : List Sort) (sort : Sort) (name : List ℕ) (fs : List RawLine) (u : Option TheoremParser)
     → Next ns sort name → Runs known (Some (at (plus ns sort name) (sorts ++ sort ∷ []))) fs u → Runs known (Some (at ns sorts)) (say sort (name ∷ []) ∷ fs) u
 alone known say at l ns sorts sort name fs u n r =
     let now = at (plus ns sort name) (sorts ++ sort ∷ []) in
     let taken : step known (at ns sorts) (as_read (say sort (name ∷ []))) ≡ Ok now = ap (step known (at ns sorts)) (l.read sort (name ∷ [])) ∙ l.one ns sorts sort name n.free n.few in
     (now, l.good sort name [] (n.named, tt), taken, l.going (plus ns sort name) (sorts ++ sort ∷ []), r)
 
-together : (known : List Headed) (say : Sort → List (List ℕ) → Form) (at : Names → List Sort → Draft) (l : LinesOfNames known say at) (ns : Names) (sorts : List Sort) (sort s : Sort) (name : List ℕ) (more : List (List ℕ)) (fs : List Form) (u : Option Draft)
+together : (known : List TitledStatement) (say : Sort → List (List ℕ) → RawLine) (at : Names → List Sort → TheoremParser) (l : LinesOfNames known say at) (ns : Names) (sorts : List Sort) (sort s : Sort) (name : List ℕ) (more : List (List ℕ)) (fs : List RawLine) (u : Option TheoremParser)
     → Next ns sort name → sort ≡ s → Runs known (Some (at (plus ns sort name) (sorts ++ sort ∷ []))) (say s more ∷ fs) u → Runs known (Some (at ns sorts)) (say s (name ∷ more) ∷ fs) u
 together known say at l ns sorts sort s name more fs u n e r =
     let now = at (plus ns sort name) (sorts ++ sort ∷ []) in
@@ -122,13 +122,13 @@ together known say at l ns sorts sort s name more fs u n e r =
     let taken : step known (at ns sorts) (as_read (say s (name ∷ more))) ≡ Ok r.0 = ap (step known (at ns sorts)) (l.read s (name ∷ more)) ∙ same ∙ ap (step known now) (sym (l.read s more)) ∙ r.2 in
     (r.0, l.good s name more (n.named, l.said s more r.1), taken, r.3, r.4)
 
-by_sort : (b : Bool) (known : List Headed) (say : Sort → List (List ℕ) → Form) (at : Names → List Sort → Draft) (l : LinesOfNames known say at) (ns : Names) (sorts : List Sort) (sort : Sort) (name : List ℕ) (g : Group) (gs : List Group) (u : Option Draft)
+by_sort : (b : Bool) (known : List TitledStatement) (say : Sort → List (List ℕ) → RawLine) (at : Names → List Sort → TheoremParser) (l : LinesOfNames known say at) (ns : Names) (sorts : List Sort) (sort : Sort) (name : List ℕ) (g : Group) (gs : List Group) (u : Option TheoremParser)
     → Next ns sort name → same_sort sort g.sort ≡ b → Runs known (Some (at (plus ns sort name) (sorts ++ sort ∷ []))) (map (says say) (g ∷ gs)) u
     → Runs known (Some (at ns sorts)) (map (says say) (cond b (group g.sort (name ∷ g.names) ∷ gs) (group sort (name ∷ []) ∷ g ∷ gs))) u
 by_sort true known say at l ns sorts sort name g gs u n e r = together known say at l ns sorts sort g.sort name g.names (map (says say) gs) u n (same_sort_is sort g.sort e) r
 by_sort false known say at l ns sorts sort name g gs u n e r = alone known say at l ns sorts sort name (map (says say) (g ∷ gs)) u n r
 
-run_before : (known : List Headed) (say : Sort → List (List ℕ) → Form) (at : Names → List Sort → Draft) (l : LinesOfNames known say at) (ns : Names) (sorts : List Sort) (sort : Sort) (name : List ℕ) (gs : List Group) (u : Option Draft)
+run_before : (known : List TitledStatement) (say : Sort → List (List ℕ) → RawLine) (at : Names → List Sort → TheoremParser) (l : LinesOfNames known say at) (ns : Names) (sorts : List Sort) (sort : Sort) (name : List ℕ) (gs : List Group) (u : Option TheoremParser)
     → Next ns sort name → Runs known (Some (at (plus ns sort name) (sorts ++ sort ∷ []))) (map (says say) gs) u → Runs known (Some (at ns sorts)) (map (says say) (grouped_before sort name gs)) u
 run_before known say at l ns sorts sort name [] u n r = alone known say at l ns sorts sort name [] u n r
 run_before known say at l ns sorts sort name (g ∷ gs) u n r = by_sort (same_sort sort g.sort) known say at l ns sorts sort name g gs u n refl r
@@ -174,7 +174,7 @@ next : (ns : Names) (s : Scope) (sort : Sort) → InOrder ns → Few ns → coun
 next ns s sort o f lt = record { named = named_at ns sort (count_of s sort) o (lt-ltb _ _ lt); free = free_next ns s sort o lt; few = room_next ns s sort f lt }
 
 -- the lines of the objects from some scope on, behind which more objects come
-pub run_from : (known : List Headed) (say : Sort → List (List ℕ) → Form) (at : Names → List Sort → Draft) (l : LinesOfNames known say at) (ns : Names) (s : Scope) (before more after : List Sort) → InOrder ns → Few ns
+pub run_from : (known : List TitledStatement) (say : Sort → List (List ℕ) → RawLine) (at : Names → List Sort → TheoremParser) (l : LinesOfNames known say at) (ns : Names) (s : Scope) (before more after : List Sort) → InOrder ns → Few ns
     → grown (grown s more) after ≡ scope_of_names ns → Runs known (Some (at (first_names s ns) before)) (map (says say) (grouped ns (next_objects s more))) (Some (at (first_names (grown s more) ns) (before ++ more)))
 run_from known say at l ns s before [] after o f e = ap (λ (x : List Sort). Some (at (first_names s ns) x)) (sym (append-nil before))
 run_from known say at l ns s before (sort ∷ more) after o f e =
@@ -184,7 +184,7 @@ run_from known say at l ns s before (sort ∷ more) after o f e =
     let lt : count_of s sort < count_of (scope_of_names ns) sort = omega (arith, first_grows, more_grows, final, count_one s sort) in
     let name : List ℕ = name_at (names_of_sort ns sort) (count_of s sort) in
     let gs : List Group = grouped ns (next_objects (with_one s sort) more) in
-    let u : Option Draft = Some (at (first_names (grown (with_one s sort) more) ns) (before ++ sort ∷ more)) in
+    let u : Option TheoremParser = Some (at (first_names (grown (with_one s sort) more) ns) (before ++ sort ∷ more)) in
     let rest = run_from known say at l ns (with_one s sort) (before ++ sort ∷ []) more after o f e in
     let last : Runs known (Some (at (first_names (with_one s sort) ns) (before ++ sort ∷ []))) (map (says say) gs) u =
     subst (λ (x : List Sort). Runs known (Some (at (first_names (with_one s sort) ns) (before ++ sort ∷ []))) (map (says say) gs) (Some (at (first_names (grown (with_one s sort) more) ns) x))) (append_assoc before (sort ∷ []) more) rest in

@@ -11,12 +11,12 @@ use Rattle.e_deriv.specs.declared.names.Names.{Names}
 use Rattle.e_deriv.specs.Script.{Script, size}
 use Rattle.e_deriv.specs.PlainStep.{PlainStep, all_before}
 use Rattle.e_deriv.specs.Naming.{declared_names}
-use Rattle.e_book.specs.declared.blocks.Outer.{Outer}
-use Rattle.e_book.specs.declared.draft.Place.{Place}
-use Rattle.e_book.specs.declared.draft.Place.TheVariants.{Declaring, Giving, Making, Showing, Proving, Splitting, Closed, Done}
-use Rattle.e_book.specs.declared.draft.Draft.{Draft}
+use Rattle.e_book.specs.declared.blocks.OpenBlock.{OpenBlock}
+use Rattle.e_book.specs.declared.draft.Section.{Section}
+use Rattle.e_book.specs.declared.draft.Section.TheVariants.{Declaring, Giving, Making, Showing, Proving, Splitting, Closed, Done}
+use Rattle.e_book.specs.declared.draft.TheoremParser.{TheoremParser}
 use Rattle.e_line.specs.Limits.{most_steps, most_facts, most_terms, count_monomials}
-use Rattle.e_names.specs.Headed.{Headed, is_known, stated_by}
+use Rattle.e_names.specs.TitledStatements.{TitledStatement, is_known, stated_by}
 use Rattle.e_names.specs.Scope.{scope_of_names}
 use Rattle.e_book.specs.LineLimits.{FewNamed}
 use Rattle.e_book.specs.DraftViews.{script_of_close, statement_of_draft}
@@ -25,7 +25,7 @@ use Rattle.e_book.proofs.FittingScripts.{Spot, spot, ScriptFits}
 use Rattle.e_book.proofs.OpenBlocks.{Open}
 
 -- the title, the names and the statement, so far
-pub record Head (known : List Headed) (title : List ℕ) (ns : Names) (declared : List Sort) (gs : List Lit) (made : List Sort) (ls : List Lit) : Type 0 where
+pub record Head (known : List TitledStatement) (title : List ℕ) (ns : Names) (declared : List Sort) (gs : List Lit) (made : List Sort) (ls : List Lit) : Type 0 where
   pub new : is_known known title ≡ false
   pub scope : grown (grown nothing declared) made ≡ scope_of_names ns
   pub differ : NamesDiffer ns
@@ -37,26 +37,26 @@ pub record Head (known : List Headed) (title : List ℕ) (ns : Names) (declared 
   pub few_given : length gs ≤ most_facts
   pub few_terms : count_monomials gs ≤ most_terms
 
-abbrev pub HeadOf : List Headed → Draft → Type 0
+abbrev pub HeadOf : List TitledStatement → TheoremParser → Type 0
 HeadOf known d = Head known d.title d.names d.declared d.given d.made d.shown
 
 -- where the first line of the proof stands
-abbrev pub start : List Headed → Draft → Spot
+abbrev pub start : List TitledStatement → TheoremParser → Spot
 start known d = spot (stated_by known) (declared_names (stated (statement_of_draft d)) d.names) (length d.given) (count_monomials d.given)
 
 -- no line of the proof has come
-pub record NoProof (gs : List Lit) (ss : List PlainStep) (os : List Outer) (n k m : ℕ) : Type 0 where
+pub record NoProof (gs : List Lit) (ss : List PlainStep) (os : List OpenBlock) (n k m : ℕ) : Type 0 where
   pub steps : ss ≡ []
   pub outers : os ≡ []
   pub lines : n ≡ 0
   pub facts : k ≡ length gs
   pub terms : m ≡ count_monomials gs
 
-abbrev pub NoProofOf : Draft → Type 0
+abbrev pub NoProofOf : TheoremParser → Type 0
 NoProofOf d = NoProof d.given d.steps d.outers d.lines d.facts d.terms
 
 -- lines of the proof may come
-abbrev pub OpenOf : List Headed → Draft → Type 0
+abbrev pub OpenOf : List TitledStatement → TheoremParser → Type 0
 OpenOf known d = Open (start known d) d.made d.outers d.steps (spot (stated_by known) d.in_scope d.facts d.terms) d.lines
 
 -- the proof is closed
@@ -64,11 +64,11 @@ pub record Shut (at : Spot) (made : List Sort) (script : Script) : Type 0 where
   pub fits : ScriptFits at made 0 script
   pub short : size script ≤ most_steps
 
-abbrev pub ShutOf : List Headed → Draft → Type 0
+abbrev pub ShutOf : List TitledStatement → TheoremParser → Type 0
 ShutOf known d = Shut (start known d) d.made (all_before d.steps (script_of_close d.close))
 
 -- what has come and what has not, at a place
-abbrev pub Body : List Headed → Place → Draft → Type 0
+abbrev pub Body : List TitledStatement → Section → TheoremParser → Type 0
 Body known Declaring d = (d.given ≡ []) × (d.made ≡ []) × (d.shown ≡ []) × NoProofOf d
 Body known Giving d = (d.made ≡ []) × (d.shown ≡ []) × NoProofOf d
 Body known Making d = (d.shown ≡ []) × NoProofOf d
@@ -78,6 +78,6 @@ Body known Splitting d = OpenOf known d
 Body known Closed d = ShutOf known d
 Body known Done d = ShutOf known d
 
-pub record Good (known : List Headed) (d : Draft) : Type 0 where
+pub record Good (known : List TitledStatement) (d : TheoremParser) : Type 0 where
   pub head : HeadOf known d
   pub body : Body known d.place d

@@ -4,7 +4,7 @@ use Rattle.std.specs.Prelude.{◌⊎◌}
 use Rattle.e_text.specs.Tokens.{tokens_of}
 use Rattle.e_text.specs.Lines.{Seen}
 use Rattle.e_text.specs.declared.line.LineFault.{LineFault}
-use Rattle.e_line.specs.declared.fault.Kind.{Kind}
+use Rattle.e_line.specs.declared.fault.FaultKind.{FaultKind}
 use Rattle.e_line.specs.declared.fault.BookFault.{BookFault}
 use Rattle.e_line.specs.declared.fault.BookFault.TheVariants as faults
 use Rattle.e_line.specs.Reading.{◌>>=◌}
@@ -53,7 +53,7 @@ unended : (last : ℕ) (o : Option Coming) (fault : BookFault) → at_end last o
 unended last None fault e = absurd cc
 unended last (Some n) fault e = (n, refl, cc)
 
-abbrev read_coming : Coming → Result Coming Kind
+abbrev read_coming : Coming → Result Coming FaultKind
 read_coming n = Ok n
 
 unfinished : (known : Known) (last : ℕ) (n : Coming) (ls : Rest) (fault : BookFault) (t : Option BookItem) → whole n ≡ t → whole_or t ls (item_from known last (Some n) ls) ≡ wrong fault
@@ -62,7 +62,7 @@ unfinished known last n ls fault None is e = (is, e)
 unfinished known last n ls fault (Some t) is e = absurd cc
 
 -- what a line made of it, where it ends in a fault
-went : (known : Known) (last : ℕ) (l : Seen) (ls : Rest) (r : Result Coming Kind) (fault : BookFault) → (put_there l.number r >>= λ n. behind known last ls n) ≡ wrong fault
+went : (known : Known) (last : ℕ) (l : Seen) (ls : Rest) (r : Result Coming FaultKind) (fault : BookFault) → (put_there l.number r >>= λ n. behind known last ls n) ≡ wrong fault
     → (put_there l.number r ≡ Err fault) ⊎ ((n : Coming) × (r ≡ read_coming n) × (whole n ≡ None) × (item_from known last (Some n) ls ≡ wrong fault))
 went known last l ls (Err k) fault e = inl cc
 went known last l ls (Ok n) fault e = let u = unfinished known last n ls fault (whole n) refl e in inr (n, refl, u.0, u.1)

@@ -28,10 +28,10 @@ use Rattle.e_deriv.specs.Fitting.{all_objects, is_small, is_small_statement, Lit
 use Rattle.e_line.specs.declared.fault.What.TheVariants as limits
 use Rattle.e_line.specs.Reading.{◌>>=◌}
 use Rattle.e_line.specs.Limits.{most_of, within, count_monomials}
-use Rattle.e_names.specs.Headed.{Headed, headed, stated_by}
+use Rattle.e_names.specs.TitledStatements.{TitledStatement, headed, stated_by}
 use Rattle.e_names.specs.Scope.{scope_of_names}
 use Rattle.e_book.specs.LineLimits.{FewNamed, few_objects}
-use Rattle.e_book.specs.Entry.{Entry}
+use Rattle.e_book.specs.TheoremViews.{TheoremView}
 use Rattle.e_book.specs.Fits.{NewNamesFit, Fits}
 use Rattle.e_book.specs.Book.{read_from}
 use Rattle.e_book.proofs.Answered.{within_ok, answered, pair}
@@ -110,7 +110,7 @@ record FewObjects (s : Scope) : Type 0 where
   lines : s.lines ≤ 1000
   circles : s.circles ≤ 1000
 
-few_of : (known : List Headed) (t : Entry) → Fits known t → FewObjects (all_objects (stated t.statement))
+few_of : (known : List TitledStatement) (t : TheoremView) → Fits known t → FewObjects (all_objects (stated t.statement))
 few_of known t f =
     let points : (all_objects (stated t.statement)).points ≡ length t.names.points = ap (λ (s : Scope). s.points) f.scope in
     let lines : (all_objects (stated t.statement)).lines ≡ length t.names.lines = ap (λ (s : Scope). s.lines) f.scope in
@@ -118,7 +118,7 @@ few_of known t f =
     record { points = omega (arith, points, f.points); lines = omega (arith, lines, f.lines); circles = omega (arith, circles, f.circles) }
 
 -- a theorem that fits states something
-pub small_statement : (known : List Headed) (t : Entry) → Fits known t → is_small_statement (stated t.statement) ≡ true
+pub small_statement : (known : List TitledStatement) (t : TheoremView) → Fits known t → is_small_statement (stated t.statement) ≡ true
 small_statement known t f =
     let st = stated t.statement in
     let n = few_of known t f in
@@ -129,7 +129,7 @@ small_statement known t f =
 -- ---- the whole
 
 -- the names that the proof begins with are few
-few_declared : (known : List Headed) (t : Entry) → Fits known t → FewNamed (declared_names (stated t.statement) t.names)
+few_declared : (known : List TitledStatement) (t : TheoremView) → Fits known t → FewNamed (declared_names (stated t.statement) t.names)
 few_declared known t f =
     let st = stated t.statement in
     let s = scope_of st in
@@ -146,7 +146,7 @@ few_declared known t f =
       circles = omega (arith, circles, all_circles, f.circles, grows s st.made sorts.Circle);
     }
 
-scopes_fit : (known : List Headed) (t : Entry) → Fits known t → list_all is_small_line (proof_lines (stated_by known) (stated t.statement) t.script t.script) ≡ true
+scopes_fit : (known : List TitledStatement) (t : TheoremView) → Fits known t → list_all is_small_line (proof_lines (stated_by known) (stated t.statement) t.script t.script) ≡ true
 scopes_fit known t f =
     let st = stated t.statement in
     let bs = stated_by known in
@@ -156,7 +156,7 @@ scopes_fit known t f =
 are_statements : (bs : List Stated) → list_all is_small_statement bs ≡ true → list_all is_statement bs ≡ true
 are_statements bs h = every is_small_statement is_statement (λ t k. (and_parts (is_statement t) (is_small (all_objects t)) k).0) bs h
 
-lits_fit : (known : List Headed) (t : Entry) → list_all is_small_statement (stated_by known) ≡ true → Fits known t → (filled : Script) → LitsFit (stated_by known) (proof_lines (stated_by known) (stated t.statement) t.script filled)
+lits_fit : (known : List TitledStatement) (t : TheoremView) → list_all is_small_statement (stated_by known) ≡ true → Fits known t → (filled : Script) → LitsFit (stated_by known) (proof_lines (stated_by known) (stated t.statement) t.script filled)
 lits_fit known t states f filled =
     let st = stated t.statement in
     let s = scope_of st in
@@ -167,7 +167,7 @@ lits_fit known t states f filled =
     f.given_terms f.terms f.good_script f.script
 
 -- a theorem that fits can be judged
-pub fitting : (known : List Headed) (t : Entry) → list_all is_small_statement (stated_by known) ≡ true → Fits known t → IsFitting (stated_by known) (stated t.statement) t.script
+pub fitting : (known : List TitledStatement) (t : TheoremView) → list_all is_small_statement (stated_by known) ≡ true → Fits known t → IsFitting (stated_by known) (stated t.statement) t.script
 fitting known t states f =
     let n = few_of known t f in
     record {
@@ -183,15 +183,15 @@ fitting known t states f =
     }
 
 -- and so can one that is read
-pub reading_fitting : (known : List Headed) (last : ℕ) (ahead rest : List (Result Seen LineFault)) (t : Entry) → list_all is_small_statement (stated_by known) ≡ true
+pub reading_fitting : (known : List TitledStatement) (last : ℕ) (ahead rest : List (Result Seen LineFault)) (t : TheoremView) → list_all is_small_statement (stated_by known) ≡ true
     → read_from known last None ahead ≡ answered (pair t rest) → IsFitting (stated_by known) (stated t.statement) t.script
 reading_fitting known last ahead rest t states e = fitting known t states (reading_fits known last None ahead rest t tt e)
 
-pub reading_states : (known : List Headed) (last : ℕ) (ahead rest : List (Result Seen LineFault)) (t : Entry) → read_from known last None ahead ≡ answered (pair t rest) → is_small_statement (stated t.statement) ≡ true
+pub reading_states : (known : List TitledStatement) (last : ℕ) (ahead rest : List (Result Seen LineFault)) (t : TheoremView) → read_from known last None ahead ≡ answered (pair t rest) → is_small_statement (stated t.statement) ≡ true
 reading_states known last ahead rest t e = small_statement known t (reading_fits known last None ahead rest t tt e)
 
 -- one more statement is known
-pub one_more_stated : (known : List Headed) (title : List ℕ) (t : Statement) → list_all is_small_statement (stated_by known) ≡ true → is_small_statement (stated t) ≡ true
+pub one_more_stated : (known : List TitledStatement) (title : List ℕ) (t : Statement) → list_all is_small_statement (stated_by known) ≡ true → is_small_statement (stated t) ≡ true
     → list_all is_small_statement (stated_by (known ++ headed title t ∷ [])) ≡ true
 one_more_stated [] title t h k = and_from _ _ k refl
 one_more_stated (x ∷ known) title t h k =

@@ -8,9 +8,9 @@ use Rattle.e_line.specs.declared.fault.BookFault.{BookFault}
 use Rattle.e_names.specs.declared.known.Known.{Known}
 use Rattle.e_book.specs.declared.item.Item.{Item}
 use Rattle.e_book.specs.declared.item.Item.TheVariants as items
-use Rattle.e_names.specs.Headed.{stated_by}
+use Rattle.e_names.specs.TitledStatements.{stated_by}
 use Rattle.e_names.specs.Titled.{Titled, are_notions}
-use Rattle.e_book.specs.Entry.{Entry, entry_of}
+use Rattle.e_book.specs.TheoremViews.{TheoremView, entry_of}
 use Rattle.e_book.specs.HasSpelling.{HasSpelling}
 use Rattle.e_book.specs.Grammar.{Rest}
 use Rattle.e_book.specs.Definitions.{OfTheorem, OfNotion, Answer, view_of, BookReads, IsGood, IsGoodItem, IsFittingItem, item_from}
@@ -41,7 +41,7 @@ items_fit known last lines (Err f) new small all h = tt
 
 -- ---- as the grammar reads it
 
-pub spelled_grammar : (known : Known) (last : ℕ) (t : Entry) (lines rest : Rest) → are_notions known.notions ≡ true → item_from known last None lines ≡ Ok (Some (OfTheorem t, rest)) → HasSpelling known.theorems t
+pub spelled_grammar : (known : Known) (last : ℕ) (t : TheoremView) (lines rest : Rest) → are_notions known.notions ≡ true → item_from known last None lines ≡ Ok (Some (OfTheorem t, rest)) → HasSpelling known.theorems t
 spelled_grammar known last t lines rest all e = (read_is_good known last (OfTheorem t) lines rest all (items_read_alike known last lines all ∙ e)).0
 
 pub notions_grammar : (known : Known) (last : ℕ) (n : Titled) (lines rest : Rest) → are_notions known.notions ≡ true → item_from known last None lines ≡ Ok (Some (OfNotion n, rest)) → IsGood known (OfNotion n)

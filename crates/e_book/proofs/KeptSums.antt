@@ -5,7 +5,7 @@ use Rattle.e_literal.specs.declared.literal.Lit.{Lit}
 use Rattle.e_deriv.specs.declared.names.Names.{Names}
 use Rattle.e_line.specs.declared.fault.What.TheVariants as limits
 use Rattle.e_line.specs.declared.literal.RawLit.{RawLit}
-use Rattle.e_book.specs.declared.draft.Draft.{Draft}
+use Rattle.e_book.specs.declared.draft.TheoremParser.{TheoremParser}
 use Rattle.e_line.specs.Reading.{◌>>=◌}
 use Rattle.e_line.specs.Limits.{most_terms, within, monomials, count_monomials}
 use Rattle.e_names.specs.Scope.{lit_in}
@@ -18,16 +18,16 @@ use Rattle.e_names.proofs.WellRead.{lits_count}
 use Rattle.e_names.proofs.FewSums.{one_lit, few_ok, FewMonos}
 
 -- what with_terms adds
-pub record TermsAdded (d e : Draft) (raws : List RawLit) : Type 0 where
+pub record TermsAdded (d e : TheoremParser) (raws : List RawLit) : Type 0 where
   pub few : FewMonos raws
   pub within : d.terms + count_monos raws ≤ most_terms
   pub is : record d { terms = d.terms + count_monos raws } ≡ e
 
-pub terms_added : (d e : Draft) (raws : List RawLit) → with_terms d raws ≡ Ok e → TermsAdded d e raws
+pub terms_added : (d e : TheoremParser) (raws : List RawLit) → with_terms d raws ≡ Ok e → TermsAdded d e raws
 unfolding with_terms
 terms_added d e raws h =
     let n = d.terms + count_monos raws in
-    let then : ℕ → Draft = λ n. record d { terms = n } in
+    let then : ℕ → TheoremParser = λ n. record d { terms = n } in
     let f = bind_ok (few_monos raws) (λ few. terms_behind d.terms raws >>= λ n. read_ok (then n)) e h in
     let t = bind_ok (terms_behind d.terms raws) (λ n. read_ok (then n)) e f.2 in
     let w = bind_ok (within n most_terms limits.Terms) (λ few. read_ok n) t.0 t.1 in

@@ -4,9 +4,9 @@ use Rattle.e_literal.specs.declared.object.Sort.{Sort}
 use Rattle.e_literal.specs.Use.{Stated}
 use Rattle.e_deriv.specs.Script.{Script, size}
 use Rattle.e_deriv.specs.PlainStep.{PlainStep, Cited, Inferred, Made, Applied, Claimed, Copied, before, all_before}
-use Rattle.e_book.specs.declared.blocks.Outer.{Outer}
-use Rattle.e_book.specs.declared.blocks.Opened.{Opened}
-use Rattle.e_book.specs.declared.blocks.Opened.TheVariants as opened
+use Rattle.e_book.specs.declared.blocks.OpenBlock.{OpenBlock}
+use Rattle.e_book.specs.declared.blocks.BlockKind.{BlockKind}
+use Rattle.e_book.specs.declared.blocks.BlockKind.TheVariants as opened
 use Rattle.e_line.specs.Limits.{most_depth}
 use Rattle.e_book.specs.Blocks.{made_in}
 use Rattle.e_book.proofs.FittingScripts.{Spot, spot, with_copies, with_lit, ScriptFits, ShownFit, CopyFits, SplitFits}
@@ -16,38 +16,38 @@ abbrev pub StepsFit : Spot → List Sort → ℕ → List PlainStep → Spot →
 StepsFit from sorts level ss to = (rest : Script) → ScriptFits to sorts level rest → ScriptFits from sorts level (all_before ss rest)
 
 -- where the first line of an inner block stands
-abbrev pub begun_by : Spot → Opened → Spot
+abbrev pub begun_by : Spot → BlockKind → Spot
 begun_by at (opened.Claim shown) = at
 begun_by at (opened.Superpose form names shown) = with_copies at form names
 begun_by at (opened.First lit) = with_lit at lit
 begun_by at (opened.Second lit first) = with_lit at lit
 
 -- what began an inner block fits where it stands, and so does a first block that is closed
-abbrev pub OpenedFits : Spot → List Sort → ℕ → Opened → Type 0
+abbrev pub OpenedFits : Spot → List Sort → ℕ → BlockKind → Type 0
 OpenedFits at sorts level (opened.Claim shown) = ShownFit at shown
 OpenedFits at sorts level (opened.Superpose form names shown) = CopyFits at form names × ShownFit at shown
 OpenedFits at sorts level (opened.First lit) = SplitFits at lit
 OpenedFits at sorts level (opened.Second lit first) = SplitFits at lit × ScriptFits (with_lit at lit) sorts (level + 1) first
 
 -- where a block is interrupted
-abbrev pub spot_of : List Stated → Outer → Spot
+abbrev pub spot_of : List Stated → OpenBlock → Spot
 spot_of before o = spot before o.in_scope o.facts o.terms
 
 -- where the first line of the block inside these stands
-abbrev pub first_spot : Spot → List Outer → Spot
+abbrev pub first_spot : Spot → List OpenBlock → Spot
 first_spot start [] = start
 first_spot start (o ∷ os) = begun_by (spot_of start.before o) o.opened
 
 -- inside how many blocks it is
-abbrev pub level : List Outer → ℕ
+abbrev pub level : List OpenBlock → ℕ
 level [] = 0
 level (o ∷ os) = level os + 1
 
-pub record OuterFits (start : Spot) (sorts : List Sort) (os : List Outer) (o : Outer) : Type 0 where
+pub record OuterFits (start : Spot) (sorts : List Sort) (os : List OpenBlock) (o : OpenBlock) : Type 0 where
   pub steps : StepsFit (first_spot start os) (made_in os sorts) (level os) o.steps (spot_of start.before o)
   pub opened : OpenedFits (spot_of start.before o) (made_in os sorts) (level os) o.opened
 
-abbrev pub OutersFit : Spot → List Sort → List Outer → Type 0
+abbrev pub OutersFit : Spot → List Sort → List OpenBlock → Type 0
 OutersFit start sorts [] = Unit {0}
 OutersFit start sorts (o ∷ os) = OuterFits start sorts os o × OutersFit start sorts os
 
@@ -65,19 +65,19 @@ count_lines [] = 0
 count_lines (s ∷ ss) = lines_of s + count_lines ss
 
 -- the lines of a first block that is closed
-abbrev pub lines_first : Opened → ℕ
+abbrev pub lines_first : BlockKind → ℕ
 lines_first (opened.Claim shown) = 0
 lines_first (opened.Superpose form names shown) = 0
 lines_first (opened.First lit) = 0
 lines_first (opened.Second lit first) = size first
 
 -- the lines of the blocks that are interrupted, with those that began the inner ones
-abbrev pub lines_around : List Outer → ℕ
+abbrev pub lines_around : List OpenBlock → ℕ
 lines_around [] = 0
 lines_around (o ∷ os) = 1 + lines_first o.opened + count_lines o.steps + lines_around os
 
 -- the open block, up to a line that stands here, with the blocks around it
-pub record Open (start : Spot) (sorts : List Sort) (os : List Outer) (ss : List PlainStep) (here : Spot) (n : ℕ) : Type 0 where
+pub record Open (start : Spot) (sorts : List Sort) (os : List OpenBlock) (ss : List PlainStep) (here : Spot) (n : ℕ) : Type 0 where
   pub steps : StepsFit (first_spot start os) (made_in os sorts) (level os) ss here
   pub outers : OutersFit start sorts os
   pub lines : n ≡ count_lines ss + lines_around os
@@ -85,7 +85,7 @@ pub record Open (start : Spot) (sorts : List Sort) (os : List Outer) (ss : List 
 
 -- ---- lists of steps
 
-pub level_is : (os : List Outer) → level os ≡ length os
+pub level_is : (os : List OpenBlock) → level os ≡ length os
 level_is [] = refl
 level_is (o ∷ os) = let h = level_is os in omega (arith, h)
 
@@ -118,7 +118,7 @@ pub open_first : (start : Spot) (sorts : List Sort) → Open start sorts [] [] s
 open_first start sorts = record { steps = λ rest fit. fit; outers = tt; lines = refl; shallow = omega arith }
 
 -- one more step
-pub open_more : (start : Spot) (sorts : List Sort) (os : List Outer) (ss : List PlainStep) (here to : Spot) (n : ℕ) (s : PlainStep) → Open start sorts os ss here n → lines_of s ≡ 1
+pub open_more : (start : Spot) (sorts : List Sort) (os : List OpenBlock) (ss : List PlainStep) (here to : Spot) (n : ℕ) (s : PlainStep) → Open start sorts os ss here n → lines_of s ≡ 1
     → ((rest : Script) → ScriptFits to (made_in os sorts) (level os) rest → ScriptFits here (made_in os sorts) (level os) (before s rest)) → Open start sorts os (ss ++ s ∷ []) to (n + 1)
 open_more start sorts os ss here to n s o one fit = record {
   steps = steps_more (first_spot start os) here to (made_in os sorts) (level os) ss s o.steps fit;
@@ -128,7 +128,7 @@ open_more start sorts os ss here to n s o one fit = record {
 }
 
 -- an inner block begins
-pub open_inner : (start : Spot) (sorts : List Sort) (os : List Outer) (o : Outer) (n : ℕ) → Open start sorts os o.steps (spot_of start.before o) n → OpenedFits (spot_of start.before o) (made_in os sorts) (level os) o.opened
+pub open_inner : (start : Spot) (sorts : List Sort) (os : List OpenBlock) (o : OpenBlock) (n : ℕ) → Open start sorts os o.steps (spot_of start.before o) n → OpenedFits (spot_of start.before o) (made_in os sorts) (level os) o.opened
     → lines_first o.opened ≡ 0 → level os + 2 ≤ most_depth → Open start sorts (o ∷ os) [] (begun_by (spot_of start.before o) o.opened) (n + 1)
 open_inner start sorts os o n open_ fit none deep = record {
   steps = λ rest r. r;
@@ -138,7 +138,7 @@ open_inner start sorts os o n open_ fit none deep = record {
 }
 
 -- an inner block is closed, and is a step of the block around it
-pub open_again : (start : Spot) (sorts : List Sort) (os : List Outer) (o : Outer) (to : Spot) (n : ℕ) (s : PlainStep) → StepsFit (first_spot start os) (made_in os sorts) (level os) o.steps (spot_of start.before o) → OutersFit start sorts os
+pub open_again : (start : Spot) (sorts : List Sort) (os : List OpenBlock) (o : OpenBlock) (to : Spot) (n : ℕ) (s : PlainStep) → StepsFit (first_spot start os) (made_in os sorts) (level os) o.steps (spot_of start.before o) → OutersFit start sorts os
     → level os + 1 ≤ most_depth
     → n ≡ lines_of s + count_lines o.steps + lines_around os
     → ((rest : Script) → ScriptFits to (made_in os sorts) (level os) rest → ScriptFits (spot_of start.before o) (made_in os sorts) (level os) (before s rest)) → Open start sorts os (o.steps ++ s ∷ []) to n

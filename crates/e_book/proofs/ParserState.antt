@@ -4,14 +4,14 @@ use Rattle.e_literal.specs.declared.literal.Lit.{Lit}
 use Rattle.e_deriv.specs.declared.names.Names.{Names}
 use Rattle.e_deriv.specs.Script.{size}
 use Rattle.e_deriv.specs.PlainStep.{PlainStep, all_before}
-use Rattle.e_line.specs.declared.fault.Kind.{Kind}
-use Rattle.e_book.specs.declared.blocks.Outer.{Outer}
-use Rattle.e_book.specs.declared.blocks.Opened.{Opened}
-use Rattle.e_book.specs.declared.blocks.Opened.TheVariants as opened
-use Rattle.e_book.specs.declared.draft.Draft.{Draft}
-use Rattle.e_book.specs.declared.draft.Place.{Place}
-use Rattle.e_book.specs.declared.draft.Place.TheVariants as places
-use Rattle.e_names.specs.Headed.{Headed}
+use Rattle.e_line.specs.declared.fault.FaultKind.{FaultKind}
+use Rattle.e_book.specs.declared.blocks.OpenBlock.{OpenBlock}
+use Rattle.e_book.specs.declared.blocks.BlockKind.{BlockKind}
+use Rattle.e_book.specs.declared.blocks.BlockKind.TheVariants as opened
+use Rattle.e_book.specs.declared.draft.TheoremParser.{TheoremParser}
+use Rattle.e_book.specs.declared.draft.Section.{Section}
+use Rattle.e_book.specs.declared.draft.Section.TheVariants as places
+use Rattle.e_names.specs.TitledStatements.{TitledStatement}
 use Rattle.e_line.specs.Limits.{most_steps, most_depth, most_facts, most_terms, count_monomials}
 use Rattle.e_book.specs.LineLimits.{FewNamed}
 use Rattle.e_book.specs.Steps.{FitsOuter}
@@ -23,27 +23,27 @@ use Rattle.e_line.proofs.Bound.{read_ok}
 
 -- ---- what has been said
 
-abbrev pub opener_of : Opened → Opener
+abbrev pub opener_of : BlockKind → Opener
 opener_of (opened.Claim shown) = ByClaim shown
 opener_of (opened.Superpose form names shown) = BySuperposition form names shown
 opener_of (opened.First lit) = ByCase lit
 opener_of (opened.Second lit first) = ByElse lit first
 
-abbrev pub around_of : List Outer → List Enclosing
+abbrev pub around_of : List OpenBlock → List Enclosing
 around_of [] = []
 around_of (o ∷ os) = record { steps = o.steps; opener = opener_of o.opened } ∷ around_of os
 
-abbrev pub head_of : Draft → Head
+abbrev pub head_of : TheoremParser → Head
 head_of d = record { title = d.title; names = d.names; statement = statement_of_draft d }
 
-abbrev pub open_there : Draft → Place → Open
+abbrev pub open_there : TheoremParser → Section → Open
 open_there d places.Proving = Proving (head_of d) (around_of d.outers) d.steps
 open_there d places.Splitting = Splitting (head_of d) (around_of d.outers)
 open_there d places.Closed = Proved (head_of d) (all_before d.steps (script_of_close d.close))
 open_there d places.Done = Ended (entry_of_draft d)
 open_there d place = Stating (head_of d)
 
-abbrev pub open_of : Draft → Open
+abbrev pub open_of : TheoremParser → Open
 open_of d = open_there d d.place
 
 -- ---- the counts
@@ -55,19 +55,19 @@ pub record Counted (ns : Names) (k m : ℕ) (at : LineContext) : Type 0 where
   pub terms : m ≡ count_monomials at.facts
 
 -- where the last line of a block stands, inside these
-abbrev pub context_in : List Headed → Head → List Outer → List PlainStep → LineContext
+abbrev pub context_in : List TitledStatement → Head → List OpenBlock → List PlainStep → LineContext
 context_in known h os ss = after_steps known (first_context known h (around_of os)) ss
 
-pub record OuterTied (known : List Headed) (h : Head) (os : List Outer) (o : Outer) : Type 0 where
+pub record OuterTied (known : List TitledStatement) (h : Head) (os : List OpenBlock) (o : OpenBlock) : Type 0 where
   pub counted : Counted o.in_scope o.facts o.terms (context_in known h os o.steps)
   pub few : FitsOuter o
 
-abbrev pub OutersTied : List Headed → Head → List Outer → Type 0
+abbrev pub OutersTied : List TitledStatement → Head → List OpenBlock → Type 0
 OutersTied known h [] = Unit {0}
 OutersTied known h (o ∷ os) = OuterTied known h os o × OutersTied known h os
 
 -- an open block with its counts, all within the limits
-pub record BlockTied (known : List Headed) (h : Head) (os : List Outer) (ss : List PlainStep) (ns : Names) (n k m : ℕ) : Type 0 where
+pub record BlockTied (known : List TitledStatement) (h : Head) (os : List OpenBlock) (ss : List PlainStep) (ns : Names) (n k m : ℕ) : Type 0 where
   pub counted : Counted ns k m (context_in known h os ss)
   pub few : FewNamed ns
   pub few_facts : k ≤ most_facts
@@ -77,11 +77,11 @@ pub record BlockTied (known : List Headed) (h : Head) (os : List Outer) (ss : Li
   pub outers : OutersTied known h os
   pub shallow : length os + 1 ≤ most_depth
 
-abbrev pub BlockOf : List Headed → Draft → Type 0
+abbrev pub BlockOf : List TitledStatement → TheoremParser → Type 0
 BlockOf known d = BlockTied known (head_of d) d.outers d.steps d.in_scope d.lines d.facts d.terms
 
 -- no line of the proof has come
-pub record Unproved (given : List Lit) (ss : List PlainStep) (os : List Outer) (n k m : ℕ) : Type 0 where
+pub record Unproved (given : List Lit) (ss : List PlainStep) (os : List OpenBlock) (n k m : ℕ) : Type 0 where
   pub steps : ss ≡ []
   pub outers : os ≡ []
   pub lines : n ≡ 0
@@ -90,36 +90,36 @@ pub record Unproved (given : List Lit) (ss : List PlainStep) (os : List Outer) (
   pub few_facts : k ≤ most_facts
   pub few_terms : m ≤ most_terms
 
-abbrev pub UnprovedOf : Draft → Type 0
+abbrev pub UnprovedOf : TheoremParser → Type 0
 UnprovedOf d = Unproved d.given d.steps d.outers d.lines d.facts d.terms
 
 -- which parts of the statement stand already
-abbrev pub Stands : Place → Draft → Type 0
+abbrev pub Stands : Section → TheoremParser → Type 0
 Stands places.Declaring d = (is_empty d.given ≡ true) × (is_empty d.made ≡ true) × (is_empty d.shown ≡ true)
 Stands places.Giving d = (is_empty d.given ≡ false) × (is_empty d.made ≡ true) × (is_empty d.shown ≡ true)
 Stands places.Making d = (is_empty d.made ≡ false) × (is_empty d.shown ≡ true)
 Stands places.Showing d = is_empty d.shown ≡ false
 Stands place d = Unit {0}
 
-abbrev pub Body : List Headed → Place → Draft → Type 0
+abbrev pub Body : List TitledStatement → Section → TheoremParser → Type 0
 Body known places.Proving d = BlockOf known d
 Body known places.Splitting d = (d.steps ≡ []) × BlockOf known d
 Body known places.Closed d = size (all_before d.steps (script_of_close d.close)) ≤ most_steps
 Body known places.Done d = size (all_before d.steps (script_of_close d.close)) ≤ most_steps
 Body known place d = Stands place d × UnprovedOf d
 
-pub record Tied (known : List Headed) (d : Draft) : Type 0 where
+pub record Tied (known : List TitledStatement) (d : TheoremParser) : Type 0 where
   pub names : FewNamed d.names
   pub body : Body known d.place d
 
 -- the parser's answer to a line, and the grammar's: one fault, or what the parser holds is what the lines have said
-abbrev pub Alike : List Headed → Result Draft Kind → Result Open Kind → Type 0
+abbrev pub Alike : List TitledStatement → Result TheoremParser FaultKind → Result Open FaultKind → Type 0
 Alike known (Ok e) (Ok n) = (open_of e ≡ n) × Tied known e
 Alike known (Ok e) (Err k) = ⊥
 Alike known (Err j) (Ok n) = ⊥
 Alike known (Err j) (Err k) = j ≡ k
 
 -- a draft at this place
-pub tied_there : (known : List Headed) (e : Draft) (n : Open) (p : Place) → e.place ≡ p → FewNamed e.names → Body known p e → open_there e p ≡ n → Alike known (read_ok e) (read_ok n)
+pub tied_there : (known : List TitledStatement) (e : TheoremParser) (n : Open) (p : Section) → e.place ≡ p → FewNamed e.names → Body known p e → open_there e p ≡ n → Alike known (read_ok e) (read_ok n)
 tied_there known e n p at few body is =
-    (ap (λ (q : Place). open_there e q) at ∙ is, record { names = few; body = subst (λ (q : Place). Body known q e) (sym at) body })
+    (ap (λ (q : Section). open_there e q) at ∙ is, record { names = few; body = subst (λ (q : Section). Body known q e) (sym at) body })

@@ -20,36 +20,36 @@ use Rattle.e_deriv.specs.declared.names.Names.{Names}
 use Rattle.e_deriv.specs.PlainStep.{PlainStep, Cited, Inferred, Made, Applied, Claimed, Copied, all_before}
 use Rattle.e_deriv.specs.Naming.{names_of_sort, with_names, named, declared_names}
 use Rattle.e_deriv.specs.Script.{Script}
-use Rattle.e_line.specs.declared.fault.Kind.{Kind}
+use Rattle.e_line.specs.declared.fault.FaultKind.{FaultKind}
 use Rattle.e_line.specs.declared.fault.BookFault.{BookFault}
 use Rattle.e_line.specs.declared.fault.What.TheVariants as limits
 use Rattle.e_line.specs.declared.literal.RawLit.{RawLit}
 use Rattle.e_line.specs.declared.lets.RawLet.{RawLet}
 use Rattle.e_line.specs.declared.superposes.RawSuperpose.{RawSuperpose}
 use Rattle.e_line.specs.declared.applies.RawApply.{RawApply}
-use Rattle.e_book.specs.declared.blocks.Outer.{Outer}
-use Rattle.e_book.specs.declared.blocks.Opened.{Opened}
-use Rattle.e_book.specs.declared.blocks.Opened.TheVariants as opened
-use Rattle.e_line.specs.declared.form.Form.{Form}
-use Rattle.e_line.specs.declared.form.Form.TheVariants as forms
+use Rattle.e_book.specs.declared.blocks.OpenBlock.{OpenBlock}
+use Rattle.e_book.specs.declared.blocks.BlockKind.{BlockKind}
+use Rattle.e_book.specs.declared.blocks.BlockKind.TheVariants as opened
+use Rattle.e_line.specs.declared.raw_line.RawLine.{RawLine}
+use Rattle.e_line.specs.declared.raw_line.RawLine.TheVariants as rawlines
 use Rattle.e_book.specs.declared.steps.CloseLine.{CloseLine}
 use Rattle.e_book.specs.declared.steps.CloseLine.TheVariants as closes
-use Rattle.e_book.specs.declared.draft.Place.{Place}
-use Rattle.e_book.specs.declared.draft.Place.TheVariants.{Declaring, Giving, Making, Showing, Proving, Splitting, Closed, Done}
-use Rattle.e_book.specs.declared.draft.Draft.{Draft}
+use Rattle.e_book.specs.declared.draft.Section.{Section}
+use Rattle.e_book.specs.declared.draft.Section.TheVariants.{Declaring, Giving, Making, Showing, Proving, Splitting, Closed, Done}
+use Rattle.e_book.specs.declared.draft.TheoremParser.{TheoremParser}
 use Rattle.e_line.specs.Reading.{◌>>=◌, with_front}
 use Rattle.e_line.specs.Limits.{most_theorems, most_of, most_steps, most_depth, most_facts, most_blanks, what_of, within, monomials}
 use Rattle.e_book.specs.Blocks.{made_in}
 use Rattle.e_names.specs.Superposes.{placed_in, superpose_in}
-use Rattle.e_names.specs.Headed.{Headed, is_known, theorem_of, title_at, place_in}
+use Rattle.e_names.specs.TitledStatements.{TitledStatement, is_known, theorem_of, title_at, place_in}
 use Rattle.e_names.specs.Scope.{scope_of_names, fresh, lit_in, lits_in, by_in, let_in, qed_in}
 use Rattle.e_names.specs.Applies.{count_blanks, apply_in}
-use Rattle.e_line.specs.Forms.{form_of}
+use Rattle.e_line.specs.RawLines.{raw_line_of}
 use Rattle.e_line.specs.LineLimits.{count_monos, few_monos}
 use Rattle.e_book.specs.LineLimits.{few_objects}
 use Rattle.e_book.specs.Steps.{terms_after, with_terms, allowed, declared, with_step, built, used_by, applied, interrupted, deeper, claimed, superposed, split, counted_from, resumed, closed_inside, closed, shut, stepped, step, begin, begun}
 use Rattle.e_book.specs.DraftViews.{script_of_close, statement_of_draft, entry_of_draft}
-use Rattle.e_book.specs.Entry.{Entry}
+use Rattle.e_book.specs.TheoremViews.{TheoremView}
 use Rattle.e_book.specs.Grammar.{is_skipped, put_at}
 use Rattle.e_book.specs.Book.{line_step, is_last, is_done, read_from}
 use Rattle.e_book.specs.Fits.{Fits}
@@ -83,10 +83,10 @@ naming_more ns Circle new g h = record { point_names = g.point_names; line_names
 -- ---- blocks that lines can spell
 
 -- the script has no certificate and so on, and the theorems that it uses can be named by their titles
-abbrev is_said : List Headed → Script → Bool
+abbrev is_said : List TitledStatement → Script → Bool
 is_said known x = is_plain x && names_theorems known x
 
-abbrev is_plain_step : List Headed → PlainStep → Bool
+abbrev is_plain_step : List TitledStatement → PlainStep → Bool
 is_plain_step known (Cited by) = true
 is_plain_step known (Inferred lit None) = true
 is_plain_step known (Inferred lit (Some cert)) = false
@@ -98,33 +98,33 @@ is_plain_step known (Claimed shown inner) = ltb 0 (length shown) && is_said know
 is_plain_step known (Copied form names shown [] inner) = list_all is_name names && (ltb 0 (length shown) && is_said known inner)
 is_plain_step known (Copied form names shown (c ∷ cs) inner) = false
 
-abbrev is_plain_close : List Headed → CloseLine → Bool
+abbrev is_plain_close : List TitledStatement → CloseLine → Bool
 is_plain_close known (closes.Qed objects) = true
 is_plain_close known closes.Contradiction = true
 is_plain_close known (closes.Cases lit first second) = is_said known first && is_said known second
 
-abbrev is_plain_opened : List Headed → Opened → Bool
+abbrev is_plain_opened : List TitledStatement → BlockKind → Bool
 is_plain_opened known (opened.Claim shown) = ltb 0 (length shown)
 is_plain_opened known (opened.Superpose form names shown) = list_all is_name names && ltb 0 (length shown)
 is_plain_opened known (opened.First lit) = true
 is_plain_opened known (opened.Second lit first) = is_said known first
 
-abbrev is_plain_outer : List Headed → Outer → Bool
+abbrev is_plain_outer : List TitledStatement → OpenBlock → Bool
 is_plain_outer known o = list_all (is_plain_step known) o.steps && is_plain_opened known o.opened
 
-record PlainBlocks (known : List Headed) (steps : List PlainStep) (outers : List Outer) (close : CloseLine) : Type 0 where
+record PlainBlocks (known : List TitledStatement) (steps : List PlainStep) (outers : List OpenBlock) (close : CloseLine) : Type 0 where
   inside : list_all (is_plain_step known) steps ≡ true
   around : list_all (is_plain_outer known) outers ≡ true
   shut : is_plain_close known close ≡ true
 
-one_more : (known : List Headed) (ss : List PlainStep) (s : PlainStep) → list_all (is_plain_step known) ss ≡ true → is_plain_step known s ≡ true → list_all (is_plain_step known) (ss ++ s ∷ []) ≡ true
+one_more : (known : List TitledStatement) (ss : List PlainStep) (s : PlainStep) → list_all (is_plain_step known) ss ≡ true → is_plain_step known s ≡ true → list_all (is_plain_step known) (ss ++ s ∷ []) ≡ true
 one_more known ss s h p = all_both (is_plain_step known) ss (s ∷ []) h (rw p refl)
 
 -- what is said of a script, in two parts
-Sayable : List Headed → Script → Type 0
+Sayable : List TitledStatement → Script → Type 0
 Sayable known x = (is_plain x ≡ true) × (names_theorems known x ≡ true)
 
-plain_close : (known : List Headed) (close : CloseLine) → is_plain_close known close ≡ true → Sayable known (script_of_close close)
+plain_close : (known : List TitledStatement) (close : CloseLine) → is_plain_close known close ≡ true → Sayable known (script_of_close close)
 unfolding Sayable is_plain names_theorems
 plain_close known (closes.Qed os) h = (refl, refl)
 plain_close known closes.Contradiction h = (refl, refl)
@@ -134,7 +134,7 @@ plain_close known (closes.Cases lit first second) h =
     let b = and_parts (is_plain second) (names_theorems known second) p.1 in
     (rw (a.0, b.0) refl, rw (a.1, b.1) refl)
 
-plain_steps : (known : List Headed) (ss : List PlainStep) (close : CloseLine) → list_all (is_plain_step known) ss ≡ true → is_plain_close known close ≡ true → Sayable known (all_before ss (script_of_close close))
+plain_steps : (known : List TitledStatement) (ss : List PlainStep) (close : CloseLine) → list_all (is_plain_step known) ss ≡ true → is_plain_close known close ≡ true → Sayable known (all_before ss (script_of_close close))
 unfolding Sayable is_plain names_theorems
 plain_steps known [] close h k = plain_close known close k
 plain_steps known (Cited by ∷ ss) close h k = plain_steps known ss close h k
@@ -166,14 +166,14 @@ plain_steps known (Copied form names shown [] inner ∷ ss) close h k =
     (and_from _ _ n.0 (and_from _ _ q.0 (and_from _ _ i.0 r.0)), and_from _ _ i.1 r.1)
 plain_steps known (Copied form names shown (c ∷ cs) inner ∷ ss) close h k = absurd cc
 
-plain_script : (known : List Headed) (ss : List PlainStep) (close : CloseLine) → list_all (is_plain_step known) ss ≡ true → is_plain_close known close ≡ true → is_said known (all_before ss (script_of_close close)) ≡ true
+plain_script : (known : List TitledStatement) (ss : List PlainStep) (close : CloseLine) → list_all (is_plain_step known) ss ≡ true → is_plain_close known close ≡ true → is_said known (all_before ss (script_of_close close)) ≡ true
 unfolding Sayable
 plain_script known ss close h k = let r = plain_steps known ss close h k in and_from _ _ r.0 r.1
 
 -- ---- what each line keeps
 
 -- from the first show line on there is a shown literal
-abbrev SomeShown : Place → List Lit → Type 0
+abbrev SomeShown : Section → List Lit → Type 0
 SomeShown Declaring shown = Unit {0}
 SomeShown Giving shown = Unit {0}
 SomeShown Making shown = Unit {0}
@@ -183,7 +183,7 @@ SomeShown Splitting shown = 0 < length shown
 SomeShown Closed shown = 0 < length shown
 SomeShown Done shown = 0 < length shown
 
-pub record Spelled (known : List Headed) (d : Draft) : Type 0 where
+pub record Spelled (known : List TitledStatement) (d : TheoremParser) : Type 0 where
   few : length known < most_theorems
   title : is_title d.title ≡ true
   naming : Naming d.names
@@ -198,71 +198,71 @@ declared_is ns sort new names e =
     let w = bind_ok (within (length (names_of_sort ns sort) + length new) (most_of sort) (what_of sort)) (λ few. read_ok now) names f.2 in
     ok_is now names w.2
 
-spelled_declare : (known : List Headed) (d e : Draft) (sort : Sort) (ns : List (List ℕ)) → Spelled known d → AreNames ns → stepped known d (forms.Declare sort ns) ≡ Ok e → Spelled known e
+spelled_declare : (known : List TitledStatement) (d e : TheoremParser) (sort : Sort) (ns : List (List ℕ)) → Spelled known d → AreNames ns → stepped known d (rawlines.Declare sort ns) ≡ Ok e → Spelled known e
 unfolding stepped
 spelled_declare known d e sort ns g said h =
-    let then : Names → Draft = λ names. record d { names = names; declared = d.declared ++ replicate (length ns) sort } in
+    let then : Names → TheoremParser = λ names. record d { names = names; declared = d.declared ++ replicate (length ns) sort } in
     let n = bind_ok (declared d.names sort ns) (λ names. read_ok (then names)) e h in
     let now = declared_is d.names sort ns n.0 n.1 in
-    subst (λ (y : Draft). Spelled known y) (ap then now ∙ ok_is (then n.0) e n.2)
+    subst (λ (y : TheoremParser). Spelled known y) (ap then now ∙ ok_is (then n.0) e n.2)
     (record { few = g.few; title = g.title; naming = naming_more d.names sort ns g.naming said; some = g.some; blocks = g.blocks })
 
 -- with another count of monomials
-counted : (known : List Headed) (d : Draft) (n : ℕ) → Spelled known d → Spelled known (record d { terms = n })
+counted : (known : List TitledStatement) (d : TheoremParser) (n : ℕ) → Spelled known d → Spelled known (record d { terms = n })
 counted known d n g = record { few = g.few; title = g.title; naming = g.naming; some = g.some; blocks = g.blocks }
 
-spelled_terms : (known : List Headed) (d e : Draft) (raws : List RawLit) → Spelled known d → with_terms d raws ≡ Ok e → Spelled known e
-spelled_terms known d e raws g h = let t = terms_added d e raws h in subst (λ (y : Draft). Spelled known y) t.is (counted known d (d.terms + count_monos raws) g)
+spelled_terms : (known : List TitledStatement) (d e : TheoremParser) (raws : List RawLit) → Spelled known d → with_terms d raws ≡ Ok e → Spelled known e
+spelled_terms known d e raws g h = let t = terms_added d e raws h in subst (λ (y : TheoremParser). Spelled known y) t.is (counted known d (d.terms + count_monos raws) g)
 
-spelled_given : (known : List Headed) (d e : Draft) (raws : List RawLit) → Spelled known d → stepped known d (forms.Given raws) ≡ Ok e → Spelled known e
+spelled_given : (known : List TitledStatement) (d e : TheoremParser) (raws : List RawLit) → Spelled known d → stepped known d (rawlines.Given raws) ≡ Ok e → Spelled known e
 unfolding stepped
 spelled_given known d e raws g h =
-    let then : List Lit → Draft = λ ls. record d { given = ls; facts = d.facts + length raws; place = Giving } in
+    let then : List Lit → TheoremParser = λ ls. record d { given = ls; facts = d.facts + length raws; place = Giving } in
     let all = bind_ok (with_front d.given (lits_in d.names raws)) (λ ls. within (d.facts + length raws) most_facts limits.Facts >>= λ few. with_terms (then ls) raws) e h in
     let w = bind_ok (within (d.facts + length raws) most_facts limits.Facts) (λ few. with_terms (then all.0) raws) e all.2 in
     spelled_terms known (then all.0) e raws (record { few = g.few; title = g.title; naming = g.naming; some = tt; blocks = g.blocks }) w.2
 
-spelled_made : (known : List Headed) (d e : Draft) (sort : Sort) (ns : List (List ℕ)) → Spelled known d → AreNames ns → stepped known d (forms.Made sort ns) ≡ Ok e → Spelled known e
+spelled_made : (known : List TitledStatement) (d e : TheoremParser) (sort : Sort) (ns : List (List ℕ)) → Spelled known d → AreNames ns → stepped known d (rawlines.Made sort ns) ≡ Ok e → Spelled known e
 unfolding stepped
 spelled_made known d e sort ns g said h =
-    let then : Names → Draft = λ names. record d { names = names; made = d.made ++ replicate (length ns) sort; place = Making } in
+    let then : Names → TheoremParser = λ names. record d { names = names; made = d.made ++ replicate (length ns) sort; place = Making } in
     let n = bind_ok (declared d.names sort ns) (λ names. read_ok (then names)) e h in
     let now = declared_is d.names sort ns n.0 n.1 in
-    subst (λ (y : Draft). Spelled known y) (ap then now ∙ ok_is (then n.0) e n.2)
+    subst (λ (y : TheoremParser). Spelled known y) (ap then now ∙ ok_is (then n.0) e n.2)
     (record { few = g.few; title = g.title; naming = naming_more d.names sort ns g.naming said; some = tt; blocks = g.blocks })
 
-spelled_shown : (known : List Headed) (d e : Draft) (raws : List RawLit) → Spelled known d → 0 < length raws → stepped known d (forms.Show raws) ≡ Ok e → Spelled known e
+spelled_shown : (known : List TitledStatement) (d e : TheoremParser) (raws : List RawLit) → Spelled known d → 0 < length raws → stepped known d (rawlines.Show raws) ≡ Ok e → Spelled known e
 unfolding stepped
 spelled_shown known d e raws g said h =
-    let then : List Lit → Draft = λ ls. record d { shown = ls; place = Showing } in
+    let then : List Lit → TheoremParser = λ ls. record d { shown = ls; place = Showing } in
     let all = bind_ok (with_front d.shown (lits_in d.names raws)) (λ ls. few_monos raws >>= λ few. read_ok (then ls)) e h in
     let ls = bind_ok (lits_in d.names raws) (λ xs. read_ok (d.shown ++ xs)) all.0 all.1 in
     let f = bind_ok (few_monos raws) (λ few. read_ok (then all.0)) e all.2 in
     let n = each_length (lit_in d.names) raws ls.0 ls.1 in
     let x-is : then (d.shown ++ ls.0) ≡ e = ap then (ok_is (d.shown ++ ls.0) all.0 ls.2) ∙ ok_is (then all.0) e f.2 in
-    subst (λ (y : Draft). Spelled known y) x-is (record { few = g.few; title = g.title; naming = g.naming; some = omega (arith, n, said, length-append d.shown ls.0); blocks = g.blocks })
+    subst (λ (y : TheoremParser). Spelled known y) x-is (record { few = g.few; title = g.title; naming = g.naming; some = omega (arith, n, said, length-append d.shown ls.0); blocks = g.blocks })
 
 -- with other names in scope, and with other counts, at a place behind the show lines
-moved : (known : List Headed) (d : Draft) (p : Place) (in_scope : Names) (lines facts terms : ℕ) → Spelled known d → SomeShown p d.shown
+moved : (known : List TitledStatement) (d : TheoremParser) (p : Section) (in_scope : Names) (lines facts terms : ℕ) → Spelled known d → SomeShown p d.shown
     → Spelled known (record d { in_scope = in_scope; lines = lines; facts = facts; terms = terms; place = p })
 moved known d p in_scope lines facts terms g some = record { few = g.few; title = g.title; naming = g.naming; some = some; blocks = g.blocks }
 
-spelled_step : (known : List Headed) (d e : Draft) (s : PlainStep) (n : ℕ) → Spelled known d → is_plain_step known s ≡ true → with_step d s n ≡ Ok e → Spelled known e
+spelled_step : (known : List TitledStatement) (d e : TheoremParser) (s : PlainStep) (n : ℕ) → Spelled known d → is_plain_step known s ≡ true → with_step d s n ≡ Ok e → Spelled known e
 unfolding with_step
 spelled_step known d e s n g p h =
-    let x : Draft = record d { lines = d.lines + 1; steps = d.steps ++ s ∷ []; facts = d.facts + n } in
+    let x : TheoremParser = record d { lines = d.lines + 1; steps = d.steps ++ s ∷ []; facts = d.facts + n } in
     let a = bind_ok (within (d.lines + 1) most_steps limits.Steps) (λ few. within (d.facts + n) most_facts limits.Facts >>= λ none. read_ok x) e h in
     let b = bind_ok (within (d.facts + n) most_facts limits.Facts) (λ none. read_ok x) e a.2 in
-    subst (λ (y : Draft). Spelled known y) (ok_is x e b.2)
+    subst (λ (y : TheoremParser). Spelled known y) (ok_is x e b.2)
     (record { few = g.few; title = g.title; naming = g.naming; some = g.some; blocks = record { inside = one_more known d.steps s g.blocks.inside p; around = g.blocks.around; shut = g.blocks.shut } })
 
-spelled_by : (known : List Headed) (d e : Draft) (r : List ℕ) (ns : List (List ℕ)) (l : RawLit) → Spelled known d → stepped known d (forms.By r ns l) ≡ Ok e → Spelled known e
+spelled_by : (known : List TitledStatement) (d e : TheoremParser) (r : List ℕ) (ns : List (List ℕ)) (l : RawLit) → Spelled known d → stepped known d (rawlines.By r ns l) ≡ Ok e → Spelled known e
 unfolding stepped
 spelled_by known d e r ns l g h =
     let b = bind_ok (by_in d.in_scope r ns l) (λ b. with_step d (Cited b) 1) e h in
     spelled_step known d e (Cited b.0) 1 g refl b.2
 
-spelled_hence : (known : List Headed) (d e : Draft) (l : RawLit) → Spelled known d → stepped known d (forms.Hence l) ≡ Ok e → Spelled known e
+spelled_hence : (known : List TitledStatement) (d e : TheoremParser) (l : RawLit) → Spelled known d → stepped known d (rawlines.Hence l) ≡ Ok e → Spelled known e
 unfolding stepped
 spelled_hence known d e l g h =
     let m = bind_ok (lit_in d.in_scope l) (λ m. with_step d (Inferred m None) 1 >>= λ x. with_terms x (l ∷ [])) e h in
@@ -273,21 +273,21 @@ names_listed : (ns : List (List ℕ)) → AreNames ns → list_all is_name ns �
 names_listed [] h = refl
 names_listed (n ∷ ns) h = rw (h.0, names_listed ns h.1) refl
 
-spelled_built : (known : List Headed) (d e : Draft) (l : RawLet) → Spelled known d → AreNames l.new → built d l ≡ Ok e → Spelled known e
+spelled_built : (known : List TitledStatement) (d e : TheoremParser) (l : RawLet) → Spelled known d → AreNames l.new → built d l ≡ Ok e → Spelled known e
 unfolding built
 spelled_built known d e l g said h =
     let after : Construction → Names = λ form. named d.in_scope (sorts_made form) l.new in
-    let then : Construction → Result Draft Kind = λ form. with_step (record d { in_scope = after form }) (Made form l.new []) (length (gives_of_construction form (scope_of_names d.in_scope))) in
+    let then : Construction → Result TheoremParser FaultKind = λ form. with_step (record d { in_scope = after form }) (Made form l.new []) (length (gives_of_construction form (scope_of_names d.in_scope))) in
     let f = bind_ok (let_in d.in_scope l) (λ form. few_objects (after form) >>= λ few. then form) e h in
     let w = bind_ok (few_objects (after f.0)) (λ few. then f.0) e f.2 in
     spelled_step known (record d { in_scope = after f.0 }) e (Made f.0 l.new []) (length (gives_of_construction f.0 (scope_of_names d.in_scope))) (moved known d d.place (after f.0) d.lines d.facts d.terms g g.some) (names_listed l.new said) w.2
 
-spelled_let : (known : List Headed) (d e : Draft) (l : RawLet) → Spelled known d → AreNames l.new → stepped known d (forms.Let l) ≡ Ok e → Spelled known e
+spelled_let : (known : List TitledStatement) (d e : TheoremParser) (l : RawLet) → Spelled known d → AreNames l.new → stepped known d (rawlines.Let l) ≡ Ok e → Spelled known e
 unfolding stepped
 spelled_let known d e l g said h = spelled_built known d e l g said h
 
 -- the theorem that is used can be named by its title
-by_title : (known : List Headed) (ns : Names) (raw : RawApply) (theorem : ℕ) (args : List (Option Obj)) → GoodUse known ns raw theorem args → is_title raw.title ≡ true → is_named_by_title known theorem ≡ true
+by_title : (known : List TitledStatement) (ns : Names) (raw : RawApply) (theorem : ℕ) (args : List (Option Obj)) → GoodUse known ns raw theorem args → is_title raw.title ≡ true → is_named_by_title known theorem ≡ true
 by_title known ns raw theorem args u h =
     let t = found_title known raw.title theorem u.place in
     let named_so : is_title (title_at known theorem) ≡ true = subst (λ (x : List ℕ). is_title x ≡ true) (sym t) h in
@@ -295,72 +295,72 @@ by_title known ns raw theorem args u h =
     let here : is_place theorem (place_in known (title_at known theorem)) ≡ true = ap (is_place theorem) there ∙ eqb_self theorem in
     and_from _ _ named_so here
 
-spelled_used : (known : List Headed) (d e : Draft) (raw : RawApply) (theorem : ℕ) (args : List (Option Obj)) → Spelled known d → AreNames raw.new → is_named_by_title known theorem ≡ true
+spelled_used : (known : List TitledStatement) (d e : TheoremParser) (raw : RawApply) (theorem : ℕ) (args : List (Option Obj)) → Spelled known d → AreNames raw.new → is_named_by_title known theorem ≡ true
     → used_by d (theorem_of known theorem) theorem args raw.new ≡ Ok e → Spelled known e
 unfolding used_by
 spelled_used known d e raw theorem args g names title h =
     let t = theorem_of known theorem in
     let after = named d.in_scope t.made raw.new in
     let s = Applied theorem args raw.new [] in
-    let x : Draft = record d { in_scope = after } in
-    let then : Draft → ℕ → Draft = λ v n. record v { terms = n } in
-    let last : Draft → ℕ → Result Draft Kind = λ v n. within (count_blanks args) most_blanks limits.Blanks >>= λ written. read_ok (then v n) in
+    let x : TheoremParser = record d { in_scope = after } in
+    let then : TheoremParser → ℕ → TheoremParser = λ v n. record v { terms = n } in
+    let last : TheoremParser → ℕ → Result TheoremParser FaultKind = λ v n. within (count_blanks args) most_blanks limits.Blanks >>= λ written. read_ok (then v n) in
     let b = bind_ok (few_objects after) (λ few. with_step x s (length t.shown) >>= λ v. terms_after v.terms t.shown >>= λ n. last v n) e h in
     let v = bind_ok (with_step x s (length t.shown)) (λ v. terms_after v.terms t.shown >>= λ n. last v n) e b.2 in
     let n = bind_ok (terms_after v.0.terms t.shown) (λ n. last v.0 n) e v.2 in
     let w = bind_ok (within (count_blanks args) most_blanks limits.Blanks) (λ written. read_ok (then v.0 n.0)) e n.2 in
     let y = spelled_step known x v.0 s (length t.shown) (moved known d d.place after d.lines d.facts d.terms g g.some) (and_from _ _ (names_listed raw.new names) title) v.1 in
-    subst (λ (y : Draft). Spelled known y) (ok_is (then v.0 n.0) e w.2) (counted known v.0 n.0 y)
+    subst (λ (y : TheoremParser). Spelled known y) (ok_is (then v.0 n.0) e w.2) (counted known v.0 n.0 y)
 
-spelled_applied : (known : List Headed) (d e : Draft) (raw : RawApply) → Spelled known d → (is_title raw.title ≡ true) × AreNames raw.new → applied known d raw ≡ Ok e → Spelled known e
+spelled_applied : (known : List TitledStatement) (d e : TheoremParser) (raw : RawApply) → Spelled known d → (is_title raw.title ≡ true) × AreNames raw.new → applied known d raw ≡ Ok e → Spelled known e
 unfolding applied
 spelled_applied known d e raw g said h =
     let a = bind_ok (apply_in known d.in_scope raw) (λ a. used_by d (theorem_of known a.0) a.0 a.1 raw.new) e h in
     spelled_used known d e raw a.0.0 a.0.1 g said.1 (by_title known d.in_scope raw a.0.0 a.0.1 (use_fits known d.in_scope raw a.0 a.1) said.0) a.2
 
-spelled_apply : (known : List Headed) (d e : Draft) (raw : RawApply) → Spelled known d → (is_title raw.title ≡ true) × AreNames raw.new → stepped known d (forms.Apply raw) ≡ Ok e → Spelled known e
+spelled_apply : (known : List TitledStatement) (d e : TheoremParser) (raw : RawApply) → Spelled known d → (is_title raw.title ≡ true) × AreNames raw.new → stepped known d (rawlines.Apply raw) ≡ Ok e → Spelled known e
 unfolding stepped
 spelled_apply known d e raw g said h = spelled_applied known d e raw g said h
 
-at_proof : (p : Place) (shown : List Lit) → allowed p forms.Proof ≡ true → SomeShown p shown → 0 < length shown
+at_proof : (p : Section) (shown : List Lit) → allowed p rawlines.Proof ≡ true → SomeShown p shown → 0 < length shown
 at_proof Showing shown a s = s
 at_proof p shown a s = absurd cc
 
-at_else : (p : Place) (shown : List Lit) → allowed p forms.Else ≡ true → SomeShown p shown → 0 < length shown
+at_else : (p : Section) (shown : List Lit) → allowed p rawlines.Else ≡ true → SomeShown p shown → 0 < length shown
 at_else Splitting shown a s = s
 at_else p shown a s = absurd cc
 
-at_qed : (p : Place) (shown : List Lit) (ns : List (List ℕ)) → allowed p (forms.Qed ns) ≡ true → SomeShown p shown → 0 < length shown
+at_qed : (p : Section) (shown : List Lit) (ns : List (List ℕ)) → allowed p (rawlines.Qed ns) ≡ true → SomeShown p shown → 0 < length shown
 at_qed Proving shown ns a s = s
 at_qed p shown ns a s = absurd cc
 
-at_contradiction : (p : Place) (shown : List Lit) → allowed p forms.Contradiction ≡ true → SomeShown p shown → 0 < length shown
+at_contradiction : (p : Section) (shown : List Lit) → allowed p rawlines.Contradiction ≡ true → SomeShown p shown → 0 < length shown
 at_contradiction Proving shown a s = s
 at_contradiction p shown a s = absurd cc
 
-at_close : (p : Place) (shown : List Lit) → allowed p forms.End ≡ true → SomeShown p shown → 0 < length shown
+at_close : (p : Section) (shown : List Lit) → allowed p rawlines.End ≡ true → SomeShown p shown → 0 < length shown
 at_close Closed shown a s = s
 at_close p shown a s = absurd cc
 
-spelled_proof : (known : List Headed) (d e : Draft) → Spelled known d → allowed d.place forms.Proof ≡ true → stepped known d forms.Proof ≡ Ok e → Spelled known e
+spelled_proof : (known : List TitledStatement) (d e : TheoremParser) → Spelled known d → allowed d.place rawlines.Proof ≡ true → stepped known d rawlines.Proof ≡ Ok e → Spelled known e
 unfolding stepped
 spelled_proof known d e g a h =
     let names = declared_names (stated (statement_of_draft d)) d.names in
-    subst (λ (y : Draft). Spelled known y) (ok_is (record d { in_scope = names; place = Proving }) e h) (moved known d Proving names d.lines d.facts d.terms g (at_proof d.place d.shown a g.some))
+    subst (λ (y : TheoremParser). Spelled known y) (ok_is (record d { in_scope = names; place = Proving }) e h) (moved known d Proving names d.lines d.facts d.terms g (at_proof d.place d.shown a g.some))
 
 -- ---- blocks inside blocks
 
-spelled_deeper : (known : List Headed) (d e : Draft) (o : Opened) (n : ℕ) → Spelled known d → is_plain_opened known o ≡ true → deeper d o n ≡ Ok e → Spelled known e
+spelled_deeper : (known : List TitledStatement) (d e : TheoremParser) (o : BlockKind) (n : ℕ) → Spelled known d → is_plain_opened known o ≡ true → deeper d o n ≡ Ok e → Spelled known e
 unfolding deeper
 spelled_deeper known d e o n g p h =
-    let x : Draft = interrupted d o n in
+    let x : TheoremParser = interrupted d o n in
     let a = bind_ok (within (d.lines + 1) most_steps limits.Steps) (λ few. within (length d.outers + 2) most_depth limits.Depth >>= λ shallow. within (d.facts + n) most_facts limits.Facts >>= λ none. read_ok x) e h in
     let b = bind_ok (within (length d.outers + 2) most_depth limits.Depth) (λ shallow. within (d.facts + n) most_facts limits.Facts >>= λ none. read_ok x) e a.2 in
     let c = bind_ok (within (d.facts + n) most_facts limits.Facts) (λ none. read_ok x) e b.2 in
-    subst (λ (y : Draft). Spelled known y) (ok_is x e c.2)
+    subst (λ (y : TheoremParser). Spelled known y) (ok_is x e c.2)
     (record { few = g.few; title = g.title; naming = g.naming; some = g.some; blocks = record { inside = refl; around = rw (g.blocks.inside, p, g.blocks.around) refl; shut = g.blocks.shut } })
 
-spelled_claim : (known : List Headed) (d e : Draft) (raws : List RawLit) → Spelled known d → 0 < length raws → stepped known d (forms.Claim raws) ≡ Ok e → Spelled known e
+spelled_claim : (known : List TitledStatement) (d e : TheoremParser) (raws : List RawLit) → Spelled known d → 0 < length raws → stepped known d (rawlines.Claim raws) ≡ Ok e → Spelled known e
 unfolding stepped claimed
 spelled_claim known d e raws g said h =
     let ls = bind_ok (lits_in d.in_scope raws) (λ ls. deeper d (opened.Claim ls) 0 >>= λ x. few_monos raws >>= λ few. read_ok x) e h in
@@ -368,7 +368,7 @@ spelled_claim known d e raws g said h =
     let f = bind_ok (few_monos raws) (λ few. read_ok x.0) e x.2 in
     let n = each_length (lit_in d.in_scope) raws ls.0 ls.1 in
     let some : ltb 0 (length ls.0) ≡ true = lt-ltb _ _ (omega (arith, n, said)) in
-    subst (λ (y : Draft). Spelled known y) (ok_is x.0 e f.2) (spelled_deeper known d x.0 (opened.Claim ls.0) 0 g some x.1)
+    subst (λ (y : TheoremParser). Spelled known y) (ok_is x.0 e f.2) (spelled_deeper known d x.0 (opened.Claim ls.0) 0 g some x.1)
 
 abbrev pair_of : Superpose → List Lit → Superpose × List Lit
 pair_of form ls = (form, ls)
@@ -382,12 +382,12 @@ shown_length ns raw p e =
     let l = bind_ok (lits_in ns raw.shown) (λ ls. read_ok (pair_of f.0 ls)) p w.2 in
     subst (λ (x : Superpose × List Lit). length x.1 ≡ length raw.shown) (ok_is (pair_of f.0 l.0) p l.2) (each_length (lit_in ns) raw.shown l.0 l.1)
 
-spelled_superpose : (known : List Headed) (d e : Draft) (raw : RawSuperpose) → Spelled known d → AreNames raw.new → 0 < length raw.shown → stepped known d (forms.Superpose raw) ≡ Ok e → Spelled known e
+spelled_superpose : (known : List TitledStatement) (d e : TheoremParser) (raw : RawSuperpose) → Spelled known d → AreNames raw.new → 0 < length raw.shown → stepped known d (rawlines.Superpose raw) ≡ Ok e → Spelled known e
 unfolding stepped superposed
 spelled_superpose known d e raw g names said h =
     let after = named d.in_scope superposing.sorts_copied raw.new in
     let gives : Superpose × List Lit → List Lit = λ p. superposing.gives_of_superposition p.0 (scope_of_names d.in_scope) in
-    let then : Draft → ℕ → Draft = λ x n. record x { in_scope = after; terms = n } in
+    let then : TheoremParser → ℕ → TheoremParser = λ x n. record x { in_scope = after; terms = n } in
     let p = bind_ok (superpose_in d.in_scope raw) (λ p. few_objects after >>= λ objects. deeper d (opened.Superpose p.0 raw.new p.1) (length (gives p)) >>= λ x. few_monos raw.shown >>= λ few. terms_after x.terms (gives p) >>= λ n. read_ok (then x n)) e h in
     let given = gives p.0 in
     let o = opened.Superpose p.0.0 raw.new p.0.1 in
@@ -397,24 +397,24 @@ spelled_superpose known d e raw g names said h =
     let n = bind_ok (terms_after x.0.terms given) (λ n. read_ok (then x.0 n)) e f.2 in
     let some : ltb 0 (length p.0.1) ≡ true = lt-ltb _ _ (omega (arith, shown_length d.in_scope raw p.0 p.1, said)) in
     let deep = spelled_deeper known d x.0 o (length given) g (rw (names_listed raw.new names, some) refl) x.1 in
-    subst (λ (y : Draft). Spelled known y) (ok_is (then x.0 n.0) e n.2) (moved known x.0 x.0.place after x.0.lines x.0.facts n.0 deep deep.some)
+    subst (λ (y : TheoremParser). Spelled known y) (ok_is (then x.0 n.0) e n.2) (moved known x.0 x.0.place after x.0.lines x.0.facts n.0 deep deep.some)
 
-spelled_split : (known : List Headed) (d e : Draft) (raw : RawLit) → Spelled known d → stepped known d (forms.Cases raw) ≡ Ok e → Spelled known e
+spelled_split : (known : List TitledStatement) (d e : TheoremParser) (raw : RawLit) → Spelled known d → stepped known d (rawlines.Cases raw) ≡ Ok e → Spelled known e
 unfolding stepped split
 spelled_split known d e raw g h =
     let l = bind_ok (lit_in d.in_scope raw) (λ l. deeper d (opened.First l) 1 >>= λ x. with_terms x (raw ∷ [])) e h in
     let x = bind_ok (deeper d (opened.First l.0) 1) (λ x. with_terms x (raw ∷ [])) e l.2 in
     spelled_terms known x.0 e (raw ∷ []) (spelled_deeper known d x.0 (opened.First l.0) 1 g refl x.1) x.2
 
-spelled_else : (known : List Headed) (d e : Draft) → Spelled known d → allowed d.place forms.Else ≡ true → stepped known d forms.Else ≡ Ok e → Spelled known e
+spelled_else : (known : List TitledStatement) (d e : TheoremParser) → Spelled known d → allowed d.place rawlines.Else ≡ true → stepped known d rawlines.Else ≡ Ok e → Spelled known e
 unfolding stepped
 spelled_else known d e g a h =
-    subst (λ (y : Draft). Spelled known y) (ok_is (record d { place = Proving }) e h) (moved known d Proving d.in_scope d.lines d.facts d.terms g (at_else d.place d.shown a g.some))
+    subst (λ (y : TheoremParser). Spelled known y) (ok_is (record d { place = Proving }) e h) (moved known d Proving d.in_scope d.lines d.facts d.terms g (at_else d.place d.shown a g.some))
 
 -- ---- closes
 
 -- what does not change where a block is closed
-record HeadSpelled (known : List Headed) (d : Draft) : Type 0 where
+record HeadSpelled (known : List TitledStatement) (d : TheoremParser) : Type 0 where
   few : length known < most_theorems
   title : is_title d.title ≡ true
   naming : Naming d.names
@@ -422,29 +422,29 @@ record HeadSpelled (known : List Headed) (d : Draft) : Type 0 where
   here : SomeShown d.place d.shown
   shut : is_plain_close known d.close ≡ true
 
-spelled_resumed : (known : List Headed) (d e : Draft) (o : Outer) (os : List Outer) (shown : List Lit) (s : PlainStep) → HeadSpelled known d → list_all (is_plain_step known) o.steps ≡ true → list_all (is_plain_outer known) os ≡ true → is_plain_step known s ≡ true
+spelled_resumed : (known : List TitledStatement) (d e : TheoremParser) (o : OpenBlock) (os : List OpenBlock) (shown : List Lit) (s : PlainStep) → HeadSpelled known d → list_all (is_plain_step known) o.steps ≡ true → list_all (is_plain_outer known) os ≡ true → is_plain_step known s ≡ true
     → resumed d o os shown s ≡ Ok e → Spelled known e
 unfolding resumed counted_from
 spelled_resumed known d e o os shown s g inside around p h =
-    let count : ℕ → Draft = λ n. record d { facts = o.facts + length shown; terms = n } in
-    let then : Draft → Draft = λ x. record x { steps = o.steps ++ s ∷ []; in_scope = o.in_scope; outers = os } in
+    let count : ℕ → TheoremParser = λ n. record d { facts = o.facts + length shown; terms = n } in
+    let then : TheoremParser → TheoremParser = λ x. record x { steps = o.steps ++ s ∷ []; in_scope = o.in_scope; outers = os } in
     let counting = within (o.facts + length shown) most_facts limits.Facts >>= λ few. terms_after o.terms shown >>= λ n. read_ok (count n) in
     let x = bind_ok counting (λ x. read_ok (then x)) e h in
     let f = bind_ok (within (o.facts + length shown) most_facts limits.Facts) (λ few. terms_after o.terms shown >>= λ n. read_ok (count n)) x.0 x.1 in
     let n = bind_ok (terms_after o.terms shown) (λ n. read_ok (count n)) x.0 f.2 in
-    subst (λ (y : Draft). Spelled known y) (ap then (ok_is (count n.0) x.0 n.2) ∙ ok_is (then x.0) e x.2)
+    subst (λ (y : TheoremParser). Spelled known y) (ap then (ok_is (count n.0) x.0 n.2) ∙ ok_is (then x.0) e x.2)
     (record { few = g.few; title = g.title; naming = g.naming; some = g.here; blocks = record { inside = one_more known o.steps s inside p; around = around; shut = g.shut } })
 
-abbrev shut_last : Draft → List PlainStep → CloseLine → Draft
+abbrev shut_last : TheoremParser → List PlainStep → CloseLine → TheoremParser
 shut_last d steps close = record d { steps = steps; outers = []; close = close; place = Closed }
 
 -- behind the first block of a split
-abbrev at_second : Draft → Outer → List Outer → Lit → Script → Draft
+abbrev at_second : TheoremParser → OpenBlock → List OpenBlock → Lit → Script → TheoremParser
 at_second d o os lit inner =
     record d { steps = []; in_scope = o.in_scope; facts = o.facts + 1; terms = o.terms + monomials lit.atom; outers = record o { opened = opened.Second lit inner } ∷ os; place = Splitting }
 
 -- a block is closed inside one that was interrupted; the second block of a split closes that one again
-spelled_inside : (known : List Headed) (d e : Draft) (o : Outer) (os : List Outer) (inner : Script) (by : Opened) → HeadSpelled known d → list_all (is_plain_step known) o.steps ≡ true → is_plain_opened known by ≡ true → list_all (is_plain_outer known) os ≡ true
+spelled_inside : (known : List TitledStatement) (d e : TheoremParser) (o : OpenBlock) (os : List OpenBlock) (inner : Script) (by : BlockKind) → HeadSpelled known d → list_all (is_plain_step known) o.steps ≡ true → is_plain_opened known by ≡ true → list_all (is_plain_outer known) os ≡ true
     → is_said known inner ≡ true → ((close : CloseLine) → is_plain_close known close ≡ true → closed d os o.steps close ≡ Ok e → Spelled known e)
     → closed_inside d o os inner (λ c. closed d os o.steps c) by ≡ Ok e → Spelled known e
 spelled_inside known d e o os inner (opened.Claim shown) g inside p around q again h = spelled_resumed known d e o os shown (Claimed shown inner) g inside around (rw (p, q) refl) h
@@ -452,62 +452,62 @@ spelled_inside known d e o os inner (opened.Superpose form names shown) g inside
     let n = and_parts (list_all is_name names) (ltb 0 (length shown)) p in
     spelled_resumed known d e o os shown (Copied form names shown [] inner) g inside around (rw (n.0, n.1, q) refl) h
 spelled_inside known d e o os inner (opened.First lit) g inside p around q again h =
-    subst (λ (y : Draft). Spelled known y) (ok_is (at_second d o os lit inner) e h)
+    subst (λ (y : TheoremParser). Spelled known y) (ok_is (at_second d o os lit inner) e h)
     (record { few = g.few; title = g.title; naming = g.naming; some = g.some; blocks = record { inside = refl; around = rw (inside, q, around) refl; shut = g.shut } })
 spelled_inside known d e o os inner (opened.Second lit first) g inside p around q again h = again (closes.Cases lit first inner) (rw (p, q) refl) h
 
-spelled_closed : (known : List Headed) (d e : Draft) (os : List Outer) (ss : List PlainStep) (close : CloseLine) → HeadSpelled known d → list_all (is_plain_outer known) os ≡ true → list_all (is_plain_step known) ss ≡ true → is_plain_close known close ≡ true
+spelled_closed : (known : List TitledStatement) (d e : TheoremParser) (os : List OpenBlock) (ss : List PlainStep) (close : CloseLine) → HeadSpelled known d → list_all (is_plain_outer known) os ≡ true → list_all (is_plain_step known) ss ≡ true → is_plain_close known close ≡ true
     → closed d os ss close ≡ Ok e → Spelled known e
 unfolding closed
 spelled_closed known d e [] ss close g around inside k h =
-    subst (λ (y : Draft). Spelled known y) (ok_is (shut_last d ss close) e h)
+    subst (λ (y : TheoremParser). Spelled known y) (ok_is (shut_last d ss close) e h)
     (record { few = g.few; title = g.title; naming = g.naming; some = g.some; blocks = record { inside = inside; around = refl; shut = k } })
 spelled_closed known d e (o ∷ os) ss close g around inside k h =
     let p = and_parts (is_plain_outer known o) (list_all (is_plain_outer known) os) around in
     let q = and_parts (list_all (is_plain_step known) o.steps) (is_plain_opened known o.opened) p.0 in
     spelled_inside known d e o os (all_before ss (script_of_close close)) o.opened g q.0 q.1 p.1 (plain_script known ss close inside k) (λ c kc hc. spelled_closed known d e os o.steps c g p.1 q.0 kc hc) h
 
-spelled_shut : (known : List Headed) (d e : Draft) (close : CloseLine) → Spelled known d → 0 < length d.shown → is_plain_close known close ≡ true → shut d close ≡ Ok e → Spelled known e
+spelled_shut : (known : List TitledStatement) (d e : TheoremParser) (close : CloseLine) → Spelled known d → 0 < length d.shown → is_plain_close known close ≡ true → shut d close ≡ Ok e → Spelled known e
 unfolding shut
 spelled_shut known d e close g some k h =
-    let x : Draft = record d { lines = d.lines + 1 } in
+    let x : TheoremParser = record d { lines = d.lines + 1 } in
     let w = bind_ok (within (d.lines + 1) most_steps limits.Steps) (λ few. closed x d.outers d.steps close) e h in
     spelled_closed known x e d.outers d.steps close (record { few = g.few; title = g.title; naming = g.naming; some = some; here = g.some; shut = g.blocks.shut }) g.blocks.around g.blocks.inside k w.2
 
-spelled_qed : (known : List Headed) (d e : Draft) (ns : List (List ℕ)) → Spelled known d → allowed d.place (forms.Qed ns) ≡ true → stepped known d (forms.Qed ns) ≡ Ok e → Spelled known e
+spelled_qed : (known : List TitledStatement) (d e : TheoremParser) (ns : List (List ℕ)) → Spelled known d → allowed d.place (rawlines.Qed ns) ≡ true → stepped known d (rawlines.Qed ns) ≡ Ok e → Spelled known e
 unfolding stepped
 spelled_qed known d e ns g a h =
     let os = bind_ok (qed_in d.in_scope (made_in d.outers d.made) ns) (λ os. shut d (closes.Qed os)) e h in
     spelled_shut known d e (closes.Qed os.0) g (at_qed d.place d.shown ns a g.some) refl os.2
 
-spelled_contradiction : (known : List Headed) (d e : Draft) → Spelled known d → allowed d.place forms.Contradiction ≡ true → stepped known d forms.Contradiction ≡ Ok e → Spelled known e
+spelled_contradiction : (known : List TitledStatement) (d e : TheoremParser) → Spelled known d → allowed d.place rawlines.Contradiction ≡ true → stepped known d rawlines.Contradiction ≡ Ok e → Spelled known e
 unfolding stepped
 spelled_contradiction known d e g a h = spelled_shut known d e closes.Contradiction g (at_contradiction d.place d.shown a g.some) refl h
 
-spelled_end : (known : List Headed) (d e : Draft) → Spelled known d → allowed d.place forms.End ≡ true → stepped known d forms.End ≡ Ok e → Spelled known e
+spelled_end : (known : List TitledStatement) (d e : TheoremParser) → Spelled known d → allowed d.place rawlines.End ≡ true → stepped known d rawlines.End ≡ Ok e → Spelled known e
 unfolding stepped
-spelled_end known d e g a h = subst (λ (y : Draft). Spelled known y) (ok_is (record d { place = Done }) e h) (moved known d Done d.in_scope d.lines d.facts d.terms g (at_close d.place d.shown a g.some))
+spelled_end known d e g a h = subst (λ (y : TheoremParser). Spelled known y) (ok_is (record d { place = Done }) e h) (moved known d Done d.in_scope d.lines d.facts d.terms g (at_close d.place d.shown a g.some))
 
-spelled_stepped : (known : List Headed) (d e : Draft) (f : Form) → Spelled known d → Said f → allowed d.place f ≡ true → stepped known d f ≡ Ok e → Spelled known e
-spelled_stepped known d e (forms.Theorem t) g s a h = absurd (no_title known d e t h)
-spelled_stepped known d e (forms.Declare sort ns) g s a h = spelled_declare known d e sort ns g s h
-spelled_stepped known d e (forms.Given raws) g s a h = spelled_given known d e raws g h
-spelled_stepped known d e (forms.Made sort ns) g s a h = spelled_made known d e sort ns g s h
-spelled_stepped known d e (forms.Show raws) g s a h = spelled_shown known d e raws g s.0 h
-spelled_stepped known d e forms.Proof g s a h = spelled_proof known d e g a h
-spelled_stepped known d e (forms.By r ns l) g s a h = spelled_by known d e r ns l g h
-spelled_stepped known d e (forms.Hence l) g s a h = spelled_hence known d e l g h
-spelled_stepped known d e (forms.Let l) g s a h = spelled_let known d e l g s h
-spelled_stepped known d e (forms.Apply raw) g s a h = spelled_apply known d e raw g s h
-spelled_stepped known d e (forms.Qed ns) g s a h = spelled_qed known d e ns g a h
-spelled_stepped known d e forms.Contradiction g s a h = spelled_contradiction known d e g a h
-spelled_stepped known d e (forms.Claim raws) g s a h = spelled_claim known d e raws g s.0 h
-spelled_stepped known d e (forms.Superpose raw) g s a h = spelled_superpose known d e raw g s.0 s.2 h
-spelled_stepped known d e (forms.Cases raw) g s a h = spelled_split known d e raw g h
-spelled_stepped known d e forms.Else g s a h = spelled_else known d e g a h
-spelled_stepped known d e forms.End g s a h = spelled_end known d e g a h
+spelled_stepped : (known : List TitledStatement) (d e : TheoremParser) (f : RawLine) → Spelled known d → Said f → allowed d.place f ≡ true → stepped known d f ≡ Ok e → Spelled known e
+spelled_stepped known d e (rawlines.Theorem t) g s a h = absurd (no_title known d e t h)
+spelled_stepped known d e (rawlines.Declare sort ns) g s a h = spelled_declare known d e sort ns g s h
+spelled_stepped known d e (rawlines.Given raws) g s a h = spelled_given known d e raws g h
+spelled_stepped known d e (rawlines.Made sort ns) g s a h = spelled_made known d e sort ns g s h
+spelled_stepped known d e (rawlines.Show raws) g s a h = spelled_shown known d e raws g s.0 h
+spelled_stepped known d e rawlines.Proof g s a h = spelled_proof known d e g a h
+spelled_stepped known d e (rawlines.By r ns l) g s a h = spelled_by known d e r ns l g h
+spelled_stepped known d e (rawlines.Hence l) g s a h = spelled_hence known d e l g h
+spelled_stepped known d e (rawlines.Let l) g s a h = spelled_let known d e l g s h
+spelled_stepped known d e (rawlines.Apply raw) g s a h = spelled_apply known d e raw g s h
+spelled_stepped known d e (rawlines.Qed ns) g s a h = spelled_qed known d e ns g a h
+spelled_stepped known d e rawlines.Contradiction g s a h = spelled_contradiction known d e g a h
+spelled_stepped known d e (rawlines.Claim raws) g s a h = spelled_claim known d e raws g s.0 h
+spelled_stepped known d e (rawlines.Superpose raw) g s a h = spelled_superpose known d e raw g s.0 s.2 h
+spelled_stepped known d e (rawlines.Cases raw) g s a h = spelled_split known d e raw g h
+spelled_stepped known d e rawlines.Else g s a h = spelled_else known d e g a h
+spelled_stepped known d e rawlines.End g s a h = spelled_end known d e g a h
 
-pub spelled_next : (known : List Headed) (d e : Draft) (f : Form) → Spelled known d → Said f → step known d f ≡ Ok e → Spelled known e
+pub spelled_next : (known : List TitledStatement) (d e : TheoremParser) (f : RawLine) → Spelled known d → Said f → step known d f ≡ Ok e → Spelled known e
 unfolding step
 spelled_next known d e f g s h = let p = passes (allowed d.place f) (stepped known d f) e h in spelled_stepped known d e f g s p.0 p.1
 
@@ -516,61 +516,61 @@ spelled_next known d e f g s h = let p = passes (allowed d.place f) (stepped kno
 no_names : Naming (record { points = []; lines = []; circles = [] })
 no_names = record { point_names = tt; line_names = tt; circle_names = tt }
 
-pub spelled_begin : (known : List Headed) (f : Form) (e : Draft) → Said f → begin known f ≡ Ok e → Spelled known e
+pub spelled_begin : (known : List TitledStatement) (f : RawLine) (e : TheoremParser) → Said f → begin known f ≡ Ok e → Spelled known e
 unfolding begin
-spelled_begin known (forms.Theorem t) e s h =
+spelled_begin known (rawlines.Theorem t) e s h =
     let n = untaken (is_known known t) (within (length known + 1) most_theorems limits.Theorems >>= λ few. read_ok (begun t)) e h in
     let w = bind_ok (within (length known + 1) most_theorems limits.Theorems) (λ few. read_ok (begun t)) e n.1 in
     let few = within_ok (length known + 1) most_theorems limits.Theorems w.0 w.1 in
-    subst (λ (y : Draft). Spelled known y) (ok_is (begun t) e w.2) (record { few = omega (arith, few); title = s; naming = no_names; some = tt; blocks = record { inside = refl; around = refl; shut = refl } })
+    subst (λ (y : TheoremParser). Spelled known y) (ok_is (begun t) e w.2) (record { few = omega (arith, few); title = s; naming = no_names; some = tt; blocks = record { inside = refl; around = refl; shut = refl } })
 spelled_begin known f e s h = absurd cc
 
 -- ---- the whole
 
-abbrev SpelledSoFar : List Headed → Option Draft → Type 0
+abbrev SpelledSoFar : List TitledStatement → Option TheoremParser → Type 0
 SpelledSoFar known None = Unit {0}
 SpelledSoFar known (Some d) = Spelled known d
 
-spelled_line : (known : List Headed) (draft : Option Draft) (words : List (List ℕ)) (e : Draft) → SpelledSoFar known draft → line_step known draft words ≡ Ok e → Spelled known e
+spelled_line : (known : List TitledStatement) (draft : Option TheoremParser) (words : List (List ℕ)) (e : TheoremParser) → SpelledSoFar known draft → line_step known draft words ≡ Ok e → Spelled known e
 unfolding line_step
-spelled_line known None words e g h = let f = bind_ok (form_of words) (λ f. begin known f) e h in spelled_begin known f.0 e (form_said words f.0 f.1) f.2
-spelled_line known (Some d) words e g h = let f = bind_ok (form_of words) (λ f. step known d f) e h in spelled_next known d e f.0 g (form_said words f.0 f.1) f.2
+spelled_line known None words e g h = let f = bind_ok (raw_line_of words) (λ f. begin known f) e h in spelled_begin known f.0 e (form_said words f.0 f.1) f.2
+spelled_line known (Some d) words e g h = let f = bind_ok (raw_line_of words) (λ f. step known d f) e h in spelled_next known d e f.0 g (form_said words f.0 f.1) f.2
 
 -- what is known of a theorem beside that it fits
-pub record Named (known : List Headed) (t : Entry) : Type 0 where
+pub record Named (known : List TitledStatement) (t : TheoremView) : Type 0 where
   few : length known < most_theorems
   title : is_title t.title ≡ true
   naming : Naming t.names
   some : 0 < length t.statement.shown
   said : is_said known t.script ≡ true
 
-at_last : (p : Place) (shown : List Lit) → is_last p ≡ true → SomeShown p shown → 0 < length shown
+at_last : (p : Section) (shown : List Lit) → is_last p ≡ true → SomeShown p shown → 0 < length shown
 at_last Done shown a s = s
 at_last p shown a s = absurd cc
 
-pub all_named : (known : List Headed) (d : Draft) → Spelled known d → is_done d ≡ true → Named known (entry_of_draft d)
+pub all_named : (known : List TitledStatement) (d : TheoremParser) → Spelled known d → is_done d ≡ true → Named known (entry_of_draft d)
 all_named known d g a = record { few = g.few; title = g.title; naming = g.naming; some = at_last d.place d.shown a g.some; said = plain_script known d.steps d.close g.blocks.inside g.blocks.shut }
 
-reading_names : (known : List Headed) (last : ℕ) (draft : Option Draft) (lines rest : List (Result Seen LineFault)) (t : Entry) → SpelledSoFar known draft → read_from known last draft lines ≡ answered (pair t rest) → Named known t
+reading_names : (known : List TitledStatement) (last : ℕ) (draft : Option TheoremParser) (lines rest : List (Result Seen LineFault)) (t : TheoremView) → SpelledSoFar known draft → read_from known last draft lines ≡ answered (pair t rest) → Named known t
 reading_names known last None [] rest t g e = absurd cc
 reading_names known last (Some d) [] rest t g e = absurd cc
 reading_names known last draft (Err f ∷ lines) rest t g e = absurd cc
 reading_names known last draft (Ok line ∷ lines) rest t g e =
     let words = tokens_of line.bytes in
-    let next : Result Draft BookFault = put_at line.number (line_step known draft words) in
-    let then : Draft → Result Answer BookFault = λ d. cond (is_done d) (answered (pair (entry_of_draft d) lines)) (read_from known last (Some d) lines) in
+    let next : Result TheoremParser BookFault = put_at line.number (line_step known draft words) in
+    let then : TheoremParser → Result Answer BookFault = λ d. cond (is_done d) (answered (pair (entry_of_draft d) lines)) (read_from known last (Some d) lines) in
     elim (skip_or (is_skipped words) (read_from known last draft lines) (next >>= then) (answered (pair t rest)) e) [
       | inl s ↦ reading_names known last draft lines rest t g s.1
       | inr s ↦
           let d = bind_ok next then (pair t rest) s.1 in
           let good = spelled_line known draft words d.0 g (put_ok line.number (line_step known draft words) d.0 d.1) in
           elim (skip_or (is_done d.0) (answered (pair (entry_of_draft d.0) lines)) (read_from known last (Some d.0) lines) (answered (pair t rest)) d.2) [
-            | inl q ↦ subst (λ (x : Entry). Named known x) (first_is (entry_of_draft d.0) t lines rest q.1) (all_named known d.0 good q.0)
+            | inl q ↦ subst (λ (x : TheoremView). Named known x) (first_is (entry_of_draft d.0) t lines rest q.1) (all_named known d.0 good q.0)
             | inr q ↦ reading_names known last (Some d.0) lines rest t good q.1
           ]
     ]
 
-has_spelling : (known : List Headed) (t : Entry) → Fits known t → Named known t → HasSpelling known t
+has_spelling : (known : List TitledStatement) (t : TheoremView) → Fits known t → Named known t → HasSpelling known t
 has_spelling known t f n =
     let s = and_parts (is_plain t.script) (names_theorems known t.script) n.said in
     record {
@@ -586,8 +586,8 @@ has_spelling known t f n =
     }
 
 -- a draft whose last line has come
-pub done_spelled : (known : List Headed) (d : Draft) → Good known d → Spelled known d → is_done d ≡ true → HasSpelling known (entry_of_draft d)
+pub done_spelled : (known : List TitledStatement) (d : TheoremParser) → Good known d → Spelled known d → is_done d ≡ true → HasSpelling known (entry_of_draft d)
 done_spelled known d good g a = has_spelling known (entry_of_draft d) (fits_read known d good a) (all_named known d g a)
 
-pub read_is_spelled : (known : List Headed) (last : ℕ) (t : Entry) (lines rest : List (Result Seen LineFault)) → read_from known last None lines ≡ Ok (Some (t, rest)) → HasSpelling known t
+pub read_is_spelled : (known : List TitledStatement) (last : ℕ) (t : TheoremView) (lines rest : List (Result Seen LineFault)) → read_from known last None lines ≡ Ok (Some (t, rest)) → HasSpelling known t
 read_is_spelled known last t lines rest e = has_spelling known t (reading_fits known last None lines rest t tt e) (reading_names known last None lines rest t tt e)

@@ -5,10 +5,10 @@ use Rattle.std.proofs.lemmas.List.{append-nil}
 use Rattle.e_text.specs.Tokens.{tokens_of}
 use Rattle.e_text.specs.Lines.{Seen, HaveNoFault}
 use Rattle.e_text.specs.declared.line.LineFault.{LineFault}
-use Rattle.e_line.specs.declared.fault.Kind.{Kind}
-use Rattle.e_line.specs.declared.fault.Kind.TheVariants as kinds
-use Rattle.e_line.specs.declared.fault.Trouble.{Trouble}
-use Rattle.e_line.specs.declared.fault.Trouble.TheVariants as troubles
+use Rattle.e_line.specs.declared.fault.FaultKind.{FaultKind}
+use Rattle.e_line.specs.declared.fault.FaultKind.TheVariants as kinds
+use Rattle.e_line.specs.declared.fault.LineError.{LineError}
+use Rattle.e_line.specs.declared.fault.LineError.TheVariants as troubles
 use Rattle.e_line.specs.declared.fault.BookFault.{BookFault}
 use Rattle.e_line.specs.declared.fault.BookFault.TheVariants as faults
 use Rattle.e_book.specs.declared.coming.Coming.{Coming}
@@ -63,7 +63,7 @@ worded known last old l more h =
 -- the words made this draft
 worded_as : (known : Known) (last : ℕ) (old : Option Coming) (l : Seen) (more : Rest) (d : Coming) → is_skipped (tokens_of l.bytes) ≡ false → line_step known old (tokens_of l.bytes) ≡ Ok d → item_from known last old (Ok l ∷ more) ≡ then_on known last more d
 worded_as known last old l more d h e =
-    worded known last old l more h ∙ ap (λ (r : Result Coming Kind). put_at l.number r >>= (λ x. then_on known last more x)) e
+    worded known last old l more h ∙ ap (λ (r : Result Coming FaultKind). put_at l.number r >>= (λ x. then_on known last more x)) e
 
 -- ---- faults
 
@@ -78,14 +78,14 @@ book_fails (faults.Limit line what) q h = h
 book_fails (faults.Unended line) q h = h
 
 -- a trouble, at its line
-pub fails_at : (n : ℕ) (trouble : Trouble) (r : Result Coming Kind) → Fails trouble r → BookFails (trouble_at n trouble) (put_at n r)
+pub fails_at : (n : ℕ) (trouble : LineError) (r : Result Coming FaultKind) → Fails trouble r → BookFails (trouble_at n trouble) (put_at n r)
 fails_at n troubles.NoMemory r h = tt
-fails_at n (troubles.Fault kinds.Malformed) r h = ap (λ (x : Result Coming Kind). put_at n x) h
-fails_at n (troubles.Fault kinds.UnknownName) r h = ap (λ (x : Result Coming Kind). put_at n x) h
-fails_at n (troubles.Fault kinds.NameTaken) r h = ap (λ (x : Result Coming Kind). put_at n x) h
-fails_at n (troubles.Fault kinds.WrongSort) r h = ap (λ (x : Result Coming Kind). put_at n x) h
-fails_at n (troubles.Fault (kinds.Limit what)) r h = ap (λ (x : Result Coming Kind). put_at n x) h
-fails_at n (troubles.Fault kinds.Unended) r h = ap (λ (x : Result Coming Kind). put_at n x) h
+fails_at n (troubles.Fault kinds.Malformed) r h = ap (λ (x : Result Coming FaultKind). put_at n x) h
+fails_at n (troubles.Fault kinds.UnknownName) r h = ap (λ (x : Result Coming FaultKind). put_at n x) h
+fails_at n (troubles.Fault kinds.NameTaken) r h = ap (λ (x : Result Coming FaultKind). put_at n x) h
+fails_at n (troubles.Fault kinds.WrongSort) r h = ap (λ (x : Result Coming FaultKind). put_at n x) h
+fails_at n (troubles.Fault (kinds.Limit what)) r h = ap (λ (x : Result Coming FaultKind). put_at n x) h
+fails_at n (troubles.Fault kinds.Unended) r h = ap (λ (x : Result Coming FaultKind). put_at n x) h
 
 -- what fails is not gone on with
 fails_on : (f : BookFault) (q : Result Coming BookFault) (then : Coming → Result Answer BookFault) → BookFails f q → BookFails f (q >>= then)

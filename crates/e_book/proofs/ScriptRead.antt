@@ -27,13 +27,13 @@ use Rattle.e_deriv.specs.Goal.{Goal, goal_of}
 use Rattle.e_deriv.specs.Lines.{Line, lines}
 use Rattle.e_deriv.specs.Parts.{written as written_args}
 use Rattle.e_deriv.specs.Steps.{are_over, is_citation}
-use Rattle.e_book.specs.declared.blocks.Opened.TheVariants as opened
+use Rattle.e_book.specs.declared.blocks.BlockKind.TheVariants as opened
 use Rattle.e_book.specs.declared.steps.CloseLine.{CloseLine}
 use Rattle.e_book.specs.declared.steps.CloseLine.TheVariants as closes
-use Rattle.e_book.specs.declared.draft.Draft.{Draft}
+use Rattle.e_book.specs.declared.draft.TheoremParser.{TheoremParser}
 use Rattle.e_line.specs.Limits.{most_steps, most_depth, most_facts, most_terms, most_blanks, monomials, count_monomials}
 use Rattle.e_book.specs.Blocks.{made_in}
-use Rattle.e_names.specs.Headed.{Headed, stated_by, theorem_of}
+use Rattle.e_names.specs.TitledStatements.{TitledStatement, stated_by, theorem_of}
 use Rattle.e_names.specs.Scope.{scope_of_names}
 use Rattle.e_names.specs.Applies.{count_blanks}
 use Rattle.e_book.specs.LineLimits.{few_objects}
@@ -68,12 +68,12 @@ pub list_names : (ns : List (List ℕ)) → list_all is_name ns ≡ true → Are
 list_names [] h = tt
 list_names (n ∷ ns) h = let p = and_parts (is_name n) (list_all is_name ns) h in (p.0, list_names ns p.1)
 
-pub both_fit : (known : List Headed) (xs ys : List Line) → list_all (line_fits (stated_by known)) (xs ++ ys) ≡ true → (list_all (line_fits (stated_by known)) xs ≡ true) × (list_all (line_fits (stated_by known)) ys ≡ true)
+pub both_fit : (known : List TitledStatement) (xs ys : List Line) → list_all (line_fits (stated_by known)) (xs ++ ys) ≡ true → (list_all (line_fits (stated_by known)) xs ≡ true) × (list_all (line_fits (stated_by known)) ys ≡ true)
 both_fit known xs ys h = let p = line_fits (stated_by known) in and_parts (list_all p xs) (list_all p ys) (sym (list_all-append p xs ys) ∙ h)
 
 -- ---- what is known of a script where its first line comes
 
-pub record Ready (known : List Headed) (d : Draft) (i : Inside) (script : Script) (given : List Lit) (goal : Goal) : Type 0 where
+pub record Ready (known : List TitledStatement) (d : TheoremParser) (i : Inside) (script : Script) (given : List Lit) (goal : Goal) : Type 0 where
   pub order : InOrder i.in_scope
   pub goal_sorts : sorts_of goal.made ≡ made_in i.outers d.made
   pub plain : is_plain script ≡ true
@@ -88,23 +88,23 @@ pub record Ready (known : List Headed) (d : Draft) (i : Inside) (script : Script
   pub terms : few_terms (stated_by known) i.terms (scope_of_names i.in_scope) script ≡ true
 
 -- its lines are taken, up to the line that closes its block, and what closing the block leaves
-pub record Taken (known : List Headed) (d : Draft) (i : Inside) (script : Script) : Type 0 where
+pub record Taken (known : List TitledStatement) (d : TheoremParser) (i : Inside) (script : Script) : Type 0 where
   pub last : Inside
   pub lines : last.lines ≡ i.lines + size script
-  pub runs : (e : Draft) → closed (proving d last) i.outers (i.steps ++ steps_of script) (close_of script) ≡ Ok e → is_done e ≡ false
+  pub runs : (e : TheoremParser) → closed (proving d last) i.outers (i.steps ++ steps_of script) (close_of script) ≡ Ok e → is_done e ≡ false
       → Runs known (Some (proving d i)) (script_forms known i.in_scope script) (Some e)
 
 -- one more step, and what comes behind it
-pub one_more : (d : Draft) (last i : Inside) (s : PlainStep) (rest : Script) (e : Draft) → closed (proving d last) i.outers (i.steps ++ s ∷ steps_of rest) (close_of rest) ≡ Ok e
+pub one_more : (d : TheoremParser) (last i : Inside) (s : PlainStep) (rest : Script) (e : TheoremParser) → closed (proving d last) i.outers (i.steps ++ s ∷ steps_of rest) (close_of rest) ≡ Ok e
     → closed (proving d last) i.outers ((i.steps ++ s ∷ []) ++ steps_of rest) (close_of rest) ≡ Ok e
 one_more d last i s rest e h = ap (λ (l : List PlainStep). closed (proving d last) i.outers l (close_of rest)) (append_assoc i.steps (s ∷ []) (steps_of rest)) ∙ h
 
-pub no_more : (d : Draft) (last i : Inside) (close : CloseLine) (e : Draft) → closed (proving d last) i.outers (i.steps ++ []) close ≡ Ok e → closed (proving d last) i.outers i.steps close ≡ Ok e
+pub no_more : (d : TheoremParser) (last i : Inside) (close : CloseLine) (e : TheoremParser) → closed (proving d last) i.outers (i.steps ++ []) close ≡ Ok e → closed (proving d last) i.outers i.steps close ≡ Ok e
 no_more d last i close e h = ap (λ (l : List PlainStep). closed (proving d last) i.outers l close) (sym (append-nil i.steps)) ∙ h
 
 -- ---- steps without a block inside
 
-pub cite_ready : (known : List Headed) (d : Draft) (i : Inside) (b : By) (rest : Script) (given : List Lit) (goal : Goal) → Ready known d i (Cite b rest) given goal → Ready known d (behind i (Cited b) 1) rest (joined given b.lit) goal
+pub cite_ready : (known : List TitledStatement) (d : TheoremParser) (i : Inside) (b : By) (rest : Script) (given : List Lit) (goal : Goal) → Ready known d i (Cite b rest) given goal → Ready known d (behind i (Cited b) 1) rest (joined given b.lit) goal
 unfolding is_plain lines NewNamesFit size depth has_good_literals few_facts few_terms names_theorems few_blanks
 cite_ready known d i b rest given goal r =
     let s = scope_of_names i.in_scope in
@@ -123,7 +123,7 @@ cite_ready known d i b rest given goal r =
       terms = r.terms;
     }
 
-cite_taken : (known : List Headed) (d : Draft) (i : Inside) (b : By) (rest : Script) (given : List Lit) (goal : Goal) → Ready known d i (Cite b rest) given goal → Taken known d (behind i (Cited b) 1) rest → Taken known d i (Cite b rest)
+cite_taken : (known : List TitledStatement) (d : TheoremParser) (i : Inside) (b : By) (rest : Script) (given : List Lit) (goal : Goal) → Ready known d i (Cite b rest) given goal → Taken known d (behind i (Cited b) 1) rest → Taken known d i (Cite b rest)
 unfolding script_forms lines size has_good_literals few_facts
 cite_taken known d i b rest given goal r t =
     let s = scope_of_names i.in_scope in
@@ -145,7 +145,7 @@ cite_taken known d i b rest given goal r t =
 abbrev pub inferred : Inside → Lit → Inside
 inferred i l = written (behind i (Inferred l None) 1) (monomials l.atom)
 
-pub hence_ready : (known : List Headed) (d : Draft) (i : Inside) (l : Lit) (rest : Script) (given : List Lit) (goal : Goal) → Ready known d i (Hence l None rest) given goal → Ready known d (inferred i l) rest (joined given l) goal
+pub hence_ready : (known : List TitledStatement) (d : TheoremParser) (i : Inside) (l : Lit) (rest : Script) (given : List Lit) (goal : Goal) → Ready known d i (Hence l None rest) given goal → Ready known d (inferred i l) rest (joined given l) goal
 unfolding is_plain lines NewNamesFit size depth has_good_literals few_facts few_terms names_theorems few_blanks
 hence_ready known d i l rest given goal r =
     let s = scope_of_names i.in_scope in
@@ -165,7 +165,7 @@ hence_ready known d i l rest given goal r =
       terms = (and_parts (leb n most_terms) (few_terms (stated_by known) n s rest) r.terms).1;
     }
 
-hence_taken : (known : List Headed) (d : Draft) (i : Inside) (l : Lit) (rest : Script) (given : List Lit) (goal : Goal) → Ready known d i (Hence l None rest) given goal → Taken known d (inferred i l) rest → Taken known d i (Hence l None rest)
+hence_taken : (known : List TitledStatement) (d : TheoremParser) (i : Inside) (l : Lit) (rest : Script) (given : List Lit) (goal : Goal) → Ready known d i (Hence l None rest) given goal → Taken known d (inferred i l) rest → Taken known d i (Hence l None rest)
 unfolding script_forms lines size has_good_literals few_facts few_terms names_theorems few_blanks
 hence_taken known d i l rest given goal r t =
     let s = scope_of_names i.in_scope in
@@ -192,7 +192,7 @@ gifts i form = length (gives_of_construction form (scope_of_names i.in_scope))
 abbrev pub constructed : Inside → Construction → List (List ℕ) → Inside
 constructed i form names = record (behind i (Made form names []) (gifts i form)) { in_scope = named i.in_scope (sorts_made form) names }
 
-pub make_good : (known : List Headed) (d : Draft) (i : Inside) (form : Construction) (names : List (List ℕ)) (rest : Script) (given : List Lit) (goal : Goal) → Ready known d i (Make form names [] rest) given goal → GoodLet i.in_scope form names
+pub make_good : (known : List TitledStatement) (d : TheoremParser) (i : Inside) (form : Construction) (names : List (List ℕ)) (rest : Script) (given : List Lit) (goal : Goal) → Ready known d i (Make form names [] rest) given goal → GoodLet i.in_scope form names
 unfolding lines NewNamesFit
 make_good known d i form names rest given goal r =
     let s = scope_of_names i.in_scope in
@@ -202,7 +202,7 @@ make_good known d i form names rest given goal r =
       count = r.new_names.1;
     }
 
-pub make_ready : (known : List Headed) (d : Draft) (i : Inside) (form : Construction) (names : List (List ℕ)) (rest : Script) (given : List Lit) (goal : Goal) → Ready known d i (Make form names [] rest) given goal
+pub make_ready : (known : List TitledStatement) (d : TheoremParser) (i : Inside) (form : Construction) (names : List (List ℕ)) (rest : Script) (given : List Lit) (goal : Goal) → Ready known d i (Make form names [] rest) given goal
     → Ready known d (constructed i form names) rest (joined_all given (gives_of_construction form (scope_of_names i.in_scope))) goal
 unfolding is_plain lines NewNamesFit size depth has_good_literals few_facts few_terms names_theorems few_blanks
 make_ready known d i form names rest given goal r =
@@ -227,7 +227,7 @@ make_ready known d i form names rest given goal r =
       terms = subst (λ (z : Scope). few_terms (stated_by known) i.terms z rest ≡ true) scope r.terms;
     }
 
-make_taken : (known : List Headed) (d : Draft) (i : Inside) (form : Construction) (names : List (List ℕ)) (rest : Script) (given : List Lit) (goal : Goal) → Ready known d i (Make form names [] rest) given goal
+make_taken : (known : List TitledStatement) (d : TheoremParser) (i : Inside) (form : Construction) (names : List (List ℕ)) (rest : Script) (given : List Lit) (goal : Goal) → Ready known d i (Make form names [] rest) given goal
     → Taken known d (constructed i form names) rest → Taken known d i (Make form names [] rest)
 unfolding script_forms is_plain NewNamesFit size few_facts
 make_taken known d i form names rest given goal r t =
@@ -248,7 +248,7 @@ make_taken known d i form names rest given goal r t =
     }
 
 -- what is known of a use of an earlier theorem, and of what comes behind it
-pub record ApplyParts (known : List Headed) (d : Draft) (i : Inside) (theorem : ℕ) (args : List (Option Obj)) (names : List (List ℕ)) (rest : Script) (given : List Lit) (goal : Goal) : Type 0 where
+pub record ApplyParts (known : List TitledStatement) (d : TheoremParser) (i : Inside) (theorem : ℕ) (args : List (Option Obj)) (names : List (List ℕ)) (rest : Script) (given : List Lit) (goal : Goal) : Type 0 where
   pub good : GoodApply known i.in_scope theorem args names
   pub named : AreNames names
   pub few : few_objects (applied_behind i (theorem_of known theorem) theorem args names).in_scope ≡ Ok tt
@@ -257,7 +257,7 @@ pub record ApplyParts (known : List Headed) (d : Draft) (i : Inside) (theorem : 
   pub blanks : count_blanks args ≤ most_blanks
   pub next : Ready known d (applied_behind i (theorem_of known theorem) theorem args names) rest (joined_all given (gives_of_use (theorem_of known theorem) (written_args args) (scope_of_names i.in_scope))) goal
 
-pub apply_parts : (known : List Headed) (d : Draft) (i : Inside) (theorem : ℕ) (args : List (Option Obj)) (names : List (List ℕ)) (rest : Script) (given : List Lit) (goal : Goal) → Ready known d i (Apply theorem args names [] rest) given goal
+pub apply_parts : (known : List TitledStatement) (d : TheoremParser) (i : Inside) (theorem : ℕ) (args : List (Option Obj)) (names : List (List ℕ)) (rest : Script) (given : List Lit) (goal : Goal) → Ready known d i (Apply theorem args names [] rest) given goal
     → ApplyParts known d i theorem args names rest given goal
 unfolding is_plain lines NewNamesFit size depth has_good_literals few_facts few_terms names_theorems few_blanks
 apply_parts known d i theorem args names rest given goal r =
@@ -299,7 +299,7 @@ apply_parts known d i theorem args names rest given goal r =
       };
     }
 
-apply_taken : (known : List Headed) (d : Draft) (i : Inside) (theorem : ℕ) (args : List (Option Obj)) (names : List (List ℕ)) (rest : Script) (given : List Lit) (goal : Goal) → Ready known d i (Apply theorem args names [] rest) given goal
+apply_taken : (known : List TitledStatement) (d : TheoremParser) (i : Inside) (theorem : ℕ) (args : List (Option Obj)) (names : List (List ℕ)) (rest : Script) (given : List Lit) (goal : Goal) → Ready known d i (Apply theorem args names [] rest) given goal
     → Taken known d (applied_behind i (theorem_of known theorem) theorem args names) rest → Taken known d i (Apply theorem args names [] rest)
 unfolding script_forms size
 apply_taken known d i theorem args names rest given goal r t =
@@ -319,7 +319,7 @@ apply_taken known d i theorem args names rest given goal r t =
 
 -- ---- a claim
 
-pub record ClaimParts (known : List Headed) (i : Inside) (shown : List Lit) (inner rest : Script) (given : List Lit) (goal : Goal) : Type 0 where
+pub record ClaimParts (known : List TitledStatement) (i : Inside) (shown : List Lit) (inner rest : Script) (given : List Lit) (goal : Goal) : Type 0 where
   pub some : 0 < length shown
   pub plain_inner : is_plain inner ≡ true
   pub plain_rest : is_plain rest ≡ true
@@ -339,7 +339,7 @@ pub record ClaimParts (known : List Headed) (i : Inside) (shown : List Lit) (inn
   pub terms : i.terms + count_monomials shown ≤ most_terms
   pub terms_rest : few_terms (stated_by known) (i.terms + count_monomials shown) (scope_of_names i.in_scope) rest ≡ true
 
-pub claim_parts : (known : List Headed) (d : Draft) (i : Inside) (shown : List Lit) (inner rest : Script) (given : List Lit) (goal : Goal) → Ready known d i (Claim shown inner rest) given goal → ClaimParts known i shown inner rest given goal
+pub claim_parts : (known : List TitledStatement) (d : TheoremParser) (i : Inside) (shown : List Lit) (inner rest : Script) (given : List Lit) (goal : Goal) → Ready known d i (Claim shown inner rest) given goal → ClaimParts known i shown inner rest given goal
 unfolding is_plain lines has_good_literals few_facts few_terms names_theorems few_blanks
 claim_parts known d i shown inner rest given goal r =
     let s = scope_of_names i.in_scope in
@@ -381,10 +381,10 @@ claim_parts known d i shown inner rest given goal r =
     }
 
 -- an inner block of a claim has as many facts as the block around it
-pub no_more_facts : (known : List Headed) (n : ℕ) (s : Scope) (inner : Script) → few_facts (stated_by known) n s inner ≡ true → few_facts (stated_by known) (n + 0) s inner ≡ true
+pub no_more_facts : (known : List TitledStatement) (n : ℕ) (s : Scope) (inner : Script) → few_facts (stated_by known) n s inner ≡ true → few_facts (stated_by known) (n + 0) s inner ≡ true
 no_more_facts known n s inner h = subst (λ (k : ℕ). few_facts (stated_by known) k s inner ≡ true) (omega arith) h
 
-pub claim_inner : (known : List Headed) (d : Draft) (i : Inside) (shown : List Lit) (inner rest : Script) (given : List Lit) (goal : Goal) → Ready known d i (Claim shown inner rest) given goal → Ready known d (deep i (opened.Claim shown) 0) inner given (goal_of shown)
+pub claim_inner : (known : List TitledStatement) (d : TheoremParser) (i : Inside) (shown : List Lit) (inner rest : Script) (given : List Lit) (goal : Goal) → Ready known d i (Claim shown inner rest) given goal → Ready known d (deep i (opened.Claim shown) 0) inner given (goal_of shown)
 unfolding NewNamesFit size depth
 claim_inner known d i shown inner rest given goal r =
     let p = claim_parts known d i shown inner rest given goal r in
@@ -403,7 +403,7 @@ claim_inner known d i shown inner rest given goal r =
       terms = p.terms_inner;
     }
 
-pub claim_rest : (known : List Headed) (d : Draft) (i : Inside) (n : ℕ) (shown : List Lit) (inner rest : Script) (given : List Lit) (goal : Goal) → n ≡ i.lines + 1 + size inner → Ready known d i (Claim shown inner rest) given goal
+pub claim_rest : (known : List TitledStatement) (d : TheoremParser) (i : Inside) (n : ℕ) (shown : List Lit) (inner rest : Script) (given : List Lit) (goal : Goal) → n ≡ i.lines + 1 + size inner → Ready known d i (Claim shown inner rest) given goal
     → Ready known d (resume i n (Claimed shown inner) shown) rest (joined_all given shown) goal
 unfolding NewNamesFit size depth
 claim_rest known d i n shown inner rest given goal e r =
@@ -423,7 +423,7 @@ claim_rest known d i n shown inner rest given goal e r =
       terms = p.terms_rest;
     }
 
-claim_taken : (known : List Headed) (d : Draft) (i : Inside) (shown : List Lit) (inner rest : Script) (given : List Lit) (goal : Goal) → Ready known d i (Claim shown inner rest) given goal
+claim_taken : (known : List TitledStatement) (d : TheoremParser) (i : Inside) (shown : List Lit) (inner rest : Script) (given : List Lit) (goal : Goal) → Ready known d i (Claim shown inner rest) given goal
     → (t : Taken known d (deep i (opened.Claim shown) 0) inner) → Taken known d (resume i t.last.lines (Claimed shown inner) shown) rest → Taken known d i (Claim shown inner rest)
 unfolding script_forms size depth
 claim_taken known d i shown inner rest given goal r t u =
@@ -447,7 +447,7 @@ claim_taken known d i shown inner rest given goal r t u =
 
 -- ---- a superposition
 
-pub record CopyParts (known : List Headed) (i : Inside) (form : Superpose) (names : List (List ℕ)) (shown : List Lit) (inner rest : Script) (given : List Lit) (goal : Goal) : Type 0 where
+pub record CopyParts (known : List TitledStatement) (i : Inside) (form : Superpose) (names : List (List ℕ)) (shown : List Lit) (inner rest : Script) (given : List Lit) (goal : Goal) : Type 0 where
   pub good : GoodSuperpose i.in_scope form names shown
   pub few : few_objects (named i.in_scope superposing.sorts_copied names) ≡ Ok tt
   pub plain_inner : is_plain inner ≡ true
@@ -469,7 +469,7 @@ pub record CopyParts (known : List Headed) (i : Inside) (form : Superpose) (name
   pub terms : i.terms + count_monomials shown ≤ most_terms
   pub terms_rest : few_terms (stated_by known) (i.terms + count_monomials shown) (scope_of_names i.in_scope) rest ≡ true
 
-pub copy_parts : (known : List Headed) (d : Draft) (i : Inside) (form : Superpose) (names : List (List ℕ)) (shown : List Lit) (inner rest : Script) (given : List Lit) (goal : Goal) → Ready known d i (Superposed form names shown [] inner rest) given goal
+pub copy_parts : (known : List TitledStatement) (d : TheoremParser) (i : Inside) (form : Superpose) (names : List (List ℕ)) (shown : List Lit) (inner rest : Script) (given : List Lit) (goal : Goal) → Ready known d i (Superposed form names shown [] inner rest) given goal
     → CopyParts known i form names shown inner rest given goal
 unfolding is_plain lines NewNamesFit has_good_literals few_facts few_terms names_theorems few_blanks
 copy_parts known d i form names shown inner rest given goal r =
@@ -523,7 +523,7 @@ copy_parts known d i form names shown inner rest given goal r =
       terms_rest = bb.1;
     }
 
-pub copy_inner : (known : List Headed) (d : Draft) (i : Inside) (form : Superpose) (names : List (List ℕ)) (shown : List Lit) (inner rest : Script) (given : List Lit) (goal : Goal) → Ready known d i (Superposed form names shown [] inner rest) given goal
+pub copy_inner : (known : List TitledStatement) (d : TheoremParser) (i : Inside) (form : Superpose) (names : List (List ℕ)) (shown : List Lit) (inner rest : Script) (given : List Lit) (goal : Goal) → Ready known d i (Superposed form names shown [] inner rest) given goal
     → Ready known d (copied i form names shown) inner (joined_all given (superposing.gives_of_superposition form (scope_of_names i.in_scope))) (goal_of shown)
 unfolding NewNamesFit size depth
 copy_inner known d i form names shown inner rest given goal r =
@@ -543,7 +543,7 @@ copy_inner known d i form names shown inner rest given goal r =
       terms = p.terms_inner;
     }
 
-pub copy_rest : (known : List Headed) (d : Draft) (i : Inside) (n : ℕ) (form : Superpose) (names : List (List ℕ)) (shown : List Lit) (inner rest : Script) (given : List Lit) (goal : Goal) → n ≡ i.lines + 1 + size inner
+pub copy_rest : (known : List TitledStatement) (d : TheoremParser) (i : Inside) (n : ℕ) (form : Superpose) (names : List (List ℕ)) (shown : List Lit) (inner rest : Script) (given : List Lit) (goal : Goal) → n ≡ i.lines + 1 + size inner
     → Ready known d i (Superposed form names shown [] inner rest) given goal → Ready known d (resume i n (Copied form names shown [] inner) shown) rest (joined_all given shown) goal
 unfolding NewNamesFit size depth
 copy_rest known d i n form names shown inner rest given goal e r =
@@ -563,7 +563,7 @@ copy_rest known d i n form names shown inner rest given goal e r =
       terms = p.terms_rest;
     }
 
-copy_taken : (known : List Headed) (d : Draft) (i : Inside) (form : Superpose) (names : List (List ℕ)) (shown : List Lit) (inner rest : Script) (given : List Lit) (goal : Goal) → Ready known d i (Superposed form names shown [] inner rest) given goal
+copy_taken : (known : List TitledStatement) (d : TheoremParser) (i : Inside) (form : Superpose) (names : List (List ℕ)) (shown : List Lit) (inner rest : Script) (given : List Lit) (goal : Goal) → Ready known d i (Superposed form names shown [] inner rest) given goal
     → (t : Taken known d (copied i form names shown) inner) → Taken known d (resume i t.last.lines (Copied form names shown [] inner) shown) rest → Taken known d i (Superposed form names shown [] inner rest)
 unfolding script_forms size depth
 copy_taken known d i form names shown inner rest given goal r t u =
@@ -589,7 +589,7 @@ copy_taken known d i form names shown inner rest given goal r t u =
 abbrev pub opens : Inside → Lit → Inside
 opens i l = written (deep i (opened.First l) 1) (monomials l.atom)
 
-pub record CasesParts (known : List Headed) (i : Inside) (l : Lit) (one two : Script) (given : List Lit) (goal : Goal) : Type 0 where
+pub record CasesParts (known : List TitledStatement) (i : Inside) (l : Lit) (one two : Script) (given : List Lit) (goal : Goal) : Type 0 where
   pub plain_first : is_plain one ≡ true
   pub plain_second : is_plain two ≡ true
   pub plain : PlainLit i.in_scope l
@@ -608,7 +608,7 @@ pub record CasesParts (known : List Headed) (i : Inside) (l : Lit) (one two : Sc
   pub terms_first : few_terms (stated_by known) (i.terms + monomials l.atom) (scope_of_names i.in_scope) one ≡ true
   pub terms_second : few_terms (stated_by known) (i.terms + monomials l.atom) (scope_of_names i.in_scope) two ≡ true
 
-pub cases_parts : (known : List Headed) (d : Draft) (i : Inside) (l : Lit) (one two : Script) (given : List Lit) (goal : Goal) → Ready known d i (Cases l one two) given goal → CasesParts known i l one two given goal
+pub cases_parts : (known : List TitledStatement) (d : TheoremParser) (i : Inside) (l : Lit) (one two : Script) (given : List Lit) (goal : Goal) → Ready known d i (Cases l one two) given goal → CasesParts known i l one two given goal
 unfolding is_plain lines has_good_literals few_facts few_terms names_theorems few_blanks
 cases_parts known d i l one two given goal r =
     let s = scope_of_names i.in_scope in
@@ -647,7 +647,7 @@ cases_parts known d i l one two given goal r =
       terms_second = bb.1;
     }
 
-pub cases_first : (known : List Headed) (d : Draft) (i : Inside) (l : Lit) (one two : Script) (given : List Lit) (goal : Goal) → Ready known d i (Cases l one two) given goal → Ready known d (opens i l) one (joined given l) goal
+pub cases_first : (known : List TitledStatement) (d : TheoremParser) (i : Inside) (l : Lit) (one two : Script) (given : List Lit) (goal : Goal) → Ready known d i (Cases l one two) given goal → Ready known d (opens i l) one (joined given l) goal
 unfolding NewNamesFit size depth
 cases_first known d i l one two given goal r =
     let p = cases_parts known d i l one two given goal r in
@@ -666,7 +666,7 @@ cases_first known d i l one two given goal r =
       terms = p.terms_first;
     }
 
-pub cases_second : (known : List Headed) (d : Draft) (i : Inside) (n : ℕ) (l : Lit) (one two : Script) (given : List Lit) (goal : Goal) → n ≡ i.lines + 1 + size one → Ready known d i (Cases l one two) given goal
+pub cases_second : (known : List TitledStatement) (d : TheoremParser) (i : Inside) (n : ℕ) (l : Lit) (one two : Script) (given : List Lit) (goal : Goal) → n ≡ i.lines + 1 + size one → Ready known d i (Cases l one two) given goal
     → Ready known d (second i n l one) two (joined given (negation l)) goal
 unfolding NewNamesFit size depth
 cases_second known d i n l one two given goal e r =
@@ -686,7 +686,7 @@ cases_second known d i n l one two given goal e r =
       terms = p.terms_second;
     }
 
-cases_taken : (known : List Headed) (d : Draft) (i : Inside) (l : Lit) (one two : Script) (given : List Lit) (goal : Goal) → Ready known d i (Cases l one two) given goal
+cases_taken : (known : List TitledStatement) (d : TheoremParser) (i : Inside) (l : Lit) (one two : Script) (given : List Lit) (goal : Goal) → Ready known d i (Cases l one two) given goal
     → (t : Taken known d (opens i l) one) → Taken known d (second i t.last.lines l one) two → Taken known d i (Cases l one two)
 unfolding script_forms size depth
 cases_taken known d i l one two given goal r t u =
@@ -716,7 +716,7 @@ cases_taken known d i l one two given goal r t u =
 abbrev pub one_line : Inside → Inside
 one_line i = record i { lines = i.lines + 1 }
 
-qed_taken : (known : List Headed) (d : Draft) (i : Inside) (os : List Obj) (given : List Lit) (goal : Goal) → Ready known d i (Qed os []) given goal → Taken known d i (Qed os [])
+qed_taken : (known : List TitledStatement) (d : TheoremParser) (i : Inside) (os : List Obj) (given : List Lit) (goal : Goal) → Ready known d i (Qed os []) given goal → Taken known d i (Qed os [])
 unfolding script_forms lines size
 qed_taken known d i os given goal r =
     let s = scope_of_names i.in_scope in
@@ -734,7 +734,7 @@ qed_taken known d i os given goal r =
       );
     }
 
-contradiction_taken : (known : List Headed) (d : Draft) (i : Inside) (given : List Lit) (goal : Goal) → Ready known d i (Contradiction None) given goal → Taken known d i (Contradiction None)
+contradiction_taken : (known : List TitledStatement) (d : TheoremParser) (i : Inside) (given : List Lit) (goal : Goal) → Ready known d i (Contradiction None) given goal → Taken known d i (Contradiction None)
 unfolding script_forms size
 contradiction_taken known d i given goal r = record {
   last = one_line i;
@@ -744,7 +744,7 @@ contradiction_taken known d i given goal r = record {
 
 -- ---- all lines
 
-pub run_script : (known : List Headed) (d : Draft) (i : Inside) (script : Script) (given : List Lit) (goal : Goal) → Ready known d i script given goal → Taken known d i script
+pub run_script : (known : List TitledStatement) (d : TheoremParser) (i : Inside) (script : Script) (given : List Lit) (goal : Goal) → Ready known d i script given goal → Taken known d i script
 unfolding is_plain
 run_script known d i (Cite b rest) given goal r = cite_taken known d i b rest given goal r (run_script known d (behind i (Cited b) 1) rest (joined given b.lit) goal (cite_ready known d i b rest given goal r))
 run_script known d i (Hence l None rest) given goal r = hence_taken known d i l rest given goal r (run_script known d (inferred i l) rest (joined given l) goal (hence_ready known d i l rest given goal r))

@@ -3,40 +3,40 @@ use Rattle.std.specs.Prelude.{ℕ, Bool, true, false, List, [], ◌∷◌, Optio
 use Rattle.e_text.specs.Tokens.{tokens_of}
 use Rattle.e_text.specs.Lines.{Seen}
 use Rattle.e_text.specs.declared.line.LineFault.{LineFault}
-use Rattle.e_line.specs.declared.fault.Kind.{Kind}
+use Rattle.e_line.specs.declared.fault.FaultKind.{FaultKind}
 use Rattle.e_line.specs.declared.fault.BookFault.{BookFault}
 use Rattle.e_line.specs.declared.fault.BookFault.TheVariants as faults
-use Rattle.e_book.specs.declared.draft.Place.{Place}
-use Rattle.e_book.specs.declared.draft.Place.TheVariants as places
-use Rattle.e_book.specs.declared.draft.Draft.{Draft}
+use Rattle.e_book.specs.declared.draft.Section.{Section}
+use Rattle.e_book.specs.declared.draft.Section.TheVariants as places
+use Rattle.e_book.specs.declared.draft.TheoremParser.{TheoremParser}
 use Rattle.e_line.specs.Faults.{line_fault}
 use Rattle.e_line.specs.Reading.{◌>>=◌}
-use Rattle.e_names.specs.Headed.{Headed}
+use Rattle.e_names.specs.TitledStatements.{TitledStatement}
 use Rattle.e_book.specs.DraftViews.{entry_of_draft}
-use Rattle.e_book.specs.Entry.{Entry}
-use Rattle.e_line.specs.Forms.{form_of}
+use Rattle.e_book.specs.TheoremViews.{TheoremView}
+use Rattle.e_line.specs.RawLines.{raw_line_of}
 use Rattle.e_book.specs.Grammar.{is_skipped, put_at}
 use Rattle.e_book.specs.Steps.{step, begin}
 
 -- the first line of a theorem begins it, and each other goes on
-unfoldable pub line_step : List Headed → Option Draft → List (List ℕ) → Result Draft Kind
-line_step known None words = form_of words >>= λ f. begin known f
-line_step known (Some d) words = form_of words >>= λ f. step known d f
+unfoldable pub line_step : List TitledStatement → Option TheoremParser → List (List ℕ) → Result TheoremParser FaultKind
+line_step known None words = raw_line_of words >>= λ f. begin known f
+line_step known (Some d) words = raw_line_of words >>= λ f. step known d f
 
-abbrev pub is_last : Place → Bool
+abbrev pub is_last : Section → Bool
 is_last places.Done = true
 is_last p = false
 
-abbrev pub is_done : Draft → Bool
+abbrev pub is_done : TheoremParser → Bool
 is_done d = is_last d.place
 
 -- the lines end: before a theorem, or inside one
-abbrev pub at_end : ℕ → Option Draft → Result (Option (Entry × List (Result Seen LineFault))) BookFault
+abbrev pub at_end : ℕ → Option TheoremParser → Result (Option (TheoremView × List (Result Seen LineFault))) BookFault
 at_end last None = Ok None
 at_end last (Some d) = Err (faults.Unended last)
 
 -- the next theorem and the lines behind it, or the first fault; last is the number behind the last line
-abbrev pub read_from : List Headed → ℕ → Option Draft → List (Result Seen LineFault) → Result (Option (Entry × List (Result Seen LineFault))) BookFault
+abbrev pub read_from : List TitledStatement → ℕ → Option TheoremParser → List (Result Seen LineFault) → Result (Option (TheoremView × List (Result Seen LineFault))) BookFault
 read_from known last draft [] = at_end last draft
 read_from known last draft (Err f ∷ lines) = Err (line_fault f)
 read_from known last draft (Ok line ∷ lines) =

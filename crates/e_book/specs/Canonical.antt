@@ -12,10 +12,10 @@ use Rattle.e_theorem.specs.Statements.{stated}
 use Rattle.e_deriv.specs.declared.names.Names.{Names}
 use Rattle.e_deriv.specs.Naming.{named, declared_names}
 use Rattle.e_deriv.specs.Script.{Script, Cite, Hence, Make, Apply, Claim, Superposed, Qed, Contradiction, Cases}
-use Rattle.e_line.specs.declared.form.Form.{Form}
-use Rattle.e_line.specs.declared.form.Form.TheVariants as forms
-use Rattle.e_names.specs.Headed.{Headed, theorem_of}
-use Rattle.e_book.specs.Entry.{Entry}
+use Rattle.e_line.specs.declared.raw_line.RawLine.{RawLine}
+use Rattle.e_line.specs.declared.raw_line.RawLine.TheVariants as rawlines
+use Rattle.e_names.specs.TitledStatements.{TitledStatement, theorem_of}
+use Rattle.e_book.specs.TheoremViews.{TheoremView}
 use Rattle.e_names.specs.Canonical.{name_of_object, given_form, show_form, by_form, hence_form, let_form, apply_form, claim_form, superpose_form, cases_form, else_form, qed_form, contradiction_form, end_form}
 
 -- ---- literals
@@ -38,11 +38,11 @@ abbrev pub grouped : Names → List Obj → List Group
 grouped ns [] = []
 grouped ns (o ∷ os) = grouped_before o.sort (name_of_object ns o) (grouped ns os)
 
-abbrev pub declare_form : Group → Form
-declare_form g = forms.Declare g.sort g.names
+abbrev pub declare_form : Group → RawLine
+declare_form g = rawlines.Declare g.sort g.names
 
-abbrev pub made_form : Group → Form
-made_form g = forms.Made g.sort g.names
+abbrev pub made_form : Group → RawLine
+made_form g = rawlines.Made g.sort g.names
 
 -- the declared objects of a statement, in order
 abbrev pub declared_objects : Statement → List Obj
@@ -53,20 +53,20 @@ abbrev pub made_objects : Statement → List Obj
 made_objects t = next_objects (scope_of (stated t)) t.made
 
 -- what is given: one line for each group of declared objects, and one for each given literal
-abbrev pub given_forms : Names → Statement → List Form
+abbrev pub given_forms : Names → Statement → List RawLine
 given_forms ns t = map declare_form (grouped ns (declared_objects t)) ++ map (given_form ns) t.given
 
 -- what is shown: one line for each group of made objects, and one for each shown literal
-abbrev pub shown_forms : Names → Statement → List Form
+abbrev pub shown_forms : Names → Statement → List RawLine
 shown_forms ns t = map made_form (grouped ns (made_objects t)) ++ map (show_form ns) t.shown
 
 -- from the title to the word proof
-abbrev pub head_forms : Entry → List Form
-head_forms t = forms.Theorem t.title ∷ (given_forms t.names t.statement ++ (shown_forms t.names t.statement ++ forms.Proof ∷ []))
+abbrev pub head_forms : TheoremView → List RawLine
+head_forms t = rawlines.Theorem t.title ∷ (given_forms t.names t.statement ++ (shown_forms t.names t.statement ++ rawlines.Proof ∷ []))
 
 -- the forms of a script's lines, where these names are in scope before the first: those of new objects come into scope
 -- behind the line that makes them, and those of an inner block are gone behind it
-unfoldable pub script_forms : List Headed → Names → Script → List Form
+unfoldable pub script_forms : List TitledStatement → Names → Script → List RawLine
 script_forms known ns (Cite by rest) = by_form ns by ∷ script_forms known ns rest
 script_forms known ns (Hence lit cert rest) = hence_form ns lit ∷ script_forms known ns rest
 script_forms known ns (Make form names certs rest) = let_form ns form names ∷ script_forms known (named ns (sorts_made form) names) rest
@@ -80,11 +80,11 @@ script_forms known ns (Contradiction against) = contradiction_form ∷ []
 script_forms known ns (Cases lit first second) = cases_form ns lit ∷ (script_forms known ns first ++ else_form ∷ script_forms known ns second)
 
 -- the names that a theorem's proof begins with: those of the declared objects
-abbrev pub names_of_proof : Entry → Names
+abbrev pub names_of_proof : TheoremView → Names
 names_of_proof t = declared_names (stated t.statement) t.names
 
 -- the lines of a theorem behind those that are known, in order
-abbrev pub forms_of : List Headed → Entry → List Form
+abbrev pub forms_of : List TitledStatement → TheoremView → List RawLine
 forms_of known t = head_forms t ++ (script_forms known (names_of_proof t) t.script ++ end_form ∷ [])
 
 -- lines, each ended by a line feed

@@ -11,14 +11,14 @@ use Rattle.e_deriv.specs.declared.names.Names.{Names}
 use Rattle.e_deriv.specs.Naming.{named, declared_names}
 use Rattle.e_deriv.specs.Script.{size}
 use Rattle.e_deriv.specs.PlainStep.{PlainStep, Cited, Inferred, Made, Applied, Claimed, Copied}
-use Rattle.e_line.specs.declared.fault.Kind.{Kind}
-use Rattle.e_line.specs.declared.fault.Kind.TheVariants.{Limit}
+use Rattle.e_line.specs.declared.fault.FaultKind.{FaultKind}
+use Rattle.e_line.specs.declared.fault.FaultKind.TheVariants.{Limit}
 use Rattle.e_line.specs.declared.fault.What.{What}
 use Rattle.e_line.specs.declared.fault.What.TheVariants as limits
 use Rattle.e_line.specs.declared.literal.RawLit.{RawLit}
-use Rattle.e_line.specs.declared.form.Form.{Form}
-use Rattle.e_line.specs.declared.form.Form.TheVariants as forms
-use Rattle.e_names.specs.Headed.{Headed, theorem_of}
+use Rattle.e_line.specs.declared.raw_line.RawLine.{RawLine}
+use Rattle.e_line.specs.declared.raw_line.RawLine.TheVariants as rawlines
+use Rattle.e_names.specs.TitledStatements.{TitledStatement, theorem_of}
 use Rattle.e_names.specs.Scope.{scope_of_names}
 use Rattle.e_line.specs.Limits.{most_of, most_steps, most_depth, most_facts, most_terms, most_blanks, count_monomials}
 use Rattle.e_line.specs.LineLimits.{are_short, are_small}
@@ -27,13 +27,13 @@ use Rattle.e_book.specs.Open.{Head, Opener, ByClaim, BySuperposition, ByCase, By
 -- ---- names and facts on the path to a place
 
 -- the names in scope after a step
-abbrev pub names_after : List Headed → Names → PlainStep → Names
+abbrev pub names_after : List TitledStatement → Names → PlainStep → Names
 names_after known ns (Made form names certs) = named ns (sorts_made form) names
 names_after known ns (Applied theorem args names certs) = named ns (theorem_of known theorem).made names
 names_after known ns step = ns
 
 -- what a step makes facts. A theorem that is applied gives as many literals as it shows, with as many monomials
-abbrev pub given_by : List Headed → Scope → PlainStep → List Lit
+abbrev pub given_by : List TitledStatement → Scope → PlainStep → List Lit
 given_by known s (Cited by) = by.lit ∷ []
 given_by known s (Inferred lit cert) = lit ∷ []
 given_by known s (Made form names certs) = gives_of_construction form s
@@ -46,10 +46,10 @@ pub record LineContext : Type 0 where
   pub names : Names
   pub facts : List Lit
 
-abbrev pub after_step : List Headed → LineContext → PlainStep → LineContext
+abbrev pub after_step : List TitledStatement → LineContext → PlainStep → LineContext
 after_step known at step = record { names = names_after known at.names step; facts = at.facts ++ given_by known (scope_of_names at.names) step }
 
-abbrev pub after_steps : List Headed → LineContext → List PlainStep → LineContext
+abbrev pub after_steps : List TitledStatement → LineContext → List PlainStep → LineContext
 after_steps known at [] = at
 after_steps known at (s ∷ steps) = after_steps known (after_step known at s) steps
 
@@ -61,12 +61,12 @@ inside at (ByCase lit) = record at { facts = at.facts ++ lit ∷ [] }
 inside at (ByElse lit first) = record at { facts = at.facts ++ negation lit ∷ [] }
 
 -- where the block inside these begins
-abbrev pub first_context : List Headed → Head → List Enclosing → LineContext
+abbrev pub first_context : List TitledStatement → Head → List Enclosing → LineContext
 first_context known h [] = record { names = declared_names (stated h.statement) h.names; facts = h.statement.given }
 first_context known h (a ∷ around) = inside (after_steps known (first_context known h around) a.steps) a.opener
 
 -- before the next line
-abbrev pub context_at : List Headed → Open → LineContext
+abbrev pub context_at : List TitledStatement → Open → LineContext
 context_at known (Stating h) = record { names = h.names; facts = h.statement.given }
 context_at known (Proving h around steps) = after_steps known (first_context known h around) steps
 context_at known (Splitting h around) = first_context known h around
@@ -107,23 +107,23 @@ depth_there o = 0
 -- ---- what is on the line itself
 
 -- the literals that are written on it
-abbrev pub literals_on : Form → List RawLit
-literals_on (forms.Given raws) = raws
-literals_on (forms.Show raws) = raws
-literals_on (forms.By rule names raw) = raw ∷ []
-literals_on (forms.Hence raw) = raw ∷ []
-literals_on (forms.Claim raws) = raws
-literals_on (forms.Superpose s) = s.shown
-literals_on (forms.Cases raw) = raw ∷ []
+abbrev pub literals_on : RawLine → List RawLit
+literals_on (rawlines.Given raws) = raws
+literals_on (rawlines.Show raws) = raws
+literals_on (rawlines.By rule names raw) = raw ∷ []
+literals_on (rawlines.Hence raw) = raw ∷ []
+literals_on (rawlines.Claim raws) = raws
+literals_on (rawlines.Superpose s) = s.shown
+literals_on (rawlines.Cases raw) = raw ∷ []
 literals_on form = []
 
-abbrev pub blanks_on : Form → ℕ
-blanks_on (forms.Apply a) = length (filter is_none a.args)
+abbrev pub blanks_on : RawLine → ℕ
+blanks_on (rawlines.Apply a) = length (filter is_none a.args)
 blanks_on form = 0
 
 -- ---- the limits, in the order of their table: whether each is kept by a line and by what stands after it
 
-abbrev pub limits_at : Form → LineContext → (steps depth : ℕ) → List (Bool × What)
+abbrev pub limits_at : RawLine → LineContext → (steps depth : ℕ) → List (Bool × What)
 limits_at f at steps depth =
     (nat_le (length at.names.points) (most_of sorts.Point), limits.Points)
     ∷ (nat_le (length at.names.lines) (most_of sorts.Line), limits.Lines)
@@ -136,10 +136,10 @@ limits_at f at steps depth =
     ∷ (nat_le (count_monomials at.facts) most_terms, limits.Terms)
     ∷ (nat_le (blanks_on f) most_blanks, limits.Blanks) ∷ []
 
-abbrev pub limits_kept : List Headed → Form → Open → List (Bool × What)
+abbrev pub limits_kept : List TitledStatement → RawLine → Open → List (Bool × What)
 limits_kept known f o = limits_at f (context_at known o) (steps_so_far o) (depth_there o)
 
 -- the first that is not kept
-abbrev pub all_kept : List (Bool × What) → Result (Unit {0}) Kind
+abbrev pub all_kept : List (Bool × What) → Result (Unit {0}) FaultKind
 all_kept [] = Ok tt
 all_kept (p ∷ ps) = if p.0 then all_kept ps else Err (Limit p.1)

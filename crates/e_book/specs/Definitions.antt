@@ -7,28 +7,28 @@ use Rattle.e_theorem.specs.Statements.{stated}
 use Rattle.e_deriv.specs.declared.names.Names.{Names}
 use Rattle.e_deriv.specs.Script.{script_of}
 use Rattle.e_deriv.specs.Fitting.{is_small_statement, IsFitting}
-use Rattle.e_line.specs.declared.fault.Kind.{Kind}
-use Rattle.e_line.specs.declared.fault.Kind.TheVariants.{Malformed, NameTaken}
+use Rattle.e_line.specs.declared.fault.FaultKind.{FaultKind}
+use Rattle.e_line.specs.declared.fault.FaultKind.TheVariants.{Malformed, NameTaken}
 use Rattle.e_line.specs.declared.fault.What.TheVariants as limits
 use Rattle.e_line.specs.declared.fault.BookFault.{BookFault}
 use Rattle.e_line.specs.declared.fault.BookFault.TheVariants as faults
-use Rattle.e_line.specs.declared.form.Form.{Form}
-use Rattle.e_line.specs.declared.form.Form.TheVariants as forms
+use Rattle.e_line.specs.declared.raw_line.RawLine.{RawLine}
+use Rattle.e_line.specs.declared.raw_line.RawLine.TheVariants as rawlines
 use Rattle.e_line.specs.declared.items.RawItem.{RawItem}
 use Rattle.e_line.specs.declared.items.Listing.{Listing}
-use Rattle.e_line.specs.declared.items.RawLine.{RawLine}
-use Rattle.e_line.specs.declared.items.RawLine.TheVariants.{Plain, Define, Listed}
+use Rattle.e_line.specs.declared.items.BookLine.{BookLine}
+use Rattle.e_line.specs.declared.items.BookLine.TheVariants.{Plain, Define, Listed}
 use Rattle.e_book.specs.declared.item.Item.{Item}
 use Rattle.e_book.specs.declared.item.Item.TheVariants as items
 use Rattle.e_names.specs.declared.known.Known.{Known}
 use Rattle.e_line.specs.Reading.{◌>>=◌}
 use Rattle.e_line.specs.Faults.{line_fault}
-use Rattle.e_names.specs.Headed.{stated_by}
+use Rattle.e_names.specs.TitledStatements.{stated_by}
 use Rattle.e_names.specs.Taken.{is_taken}
 use Rattle.e_names.specs.Titled.{Titled, titled, defines, is_notion}
 use Rattle.e_line.specs.Limits.{most_notions, most_expanded}
 use Rattle.e_names.specs.Canonical.{raw_of}
-use Rattle.e_book.specs.Entry.{Entry, entry_of}
+use Rattle.e_book.specs.TheoremViews.{TheoremView, entry_of}
 use Rattle.e_book.specs.HasSpelling.{HasSpelling}
 use Rattle.e_line.specs.Items.{line_of, listing_form, is_show}
 use Rattle.e_names.specs.Meanings.{items_in}
@@ -38,7 +38,7 @@ use Rattle.e_book.specs.Grammar.{Rest, nothing_said, begins, is_empty, next, lin
 
 -- what a book consists of
 pub data BookItem : Type 0 where
-  OfTheorem : (theorem : Entry) → BookItem
+  OfTheorem : (theorem : TheoremView) → BookItem
   OfNotion : (notion : Titled) → BookItem
 
 -- What has been said of a theorem or of a definition whose lines come, and how many literals its items stand for. A definition says what it
@@ -50,11 +50,11 @@ pub data Coming : Type 0 where
 
 -- ---- the first line: theorems and definitions share their titles
 
-abbrev pub has_notion_title : List Titled → Form → Bool
-has_notion_title notions (forms.Theorem t) = defines notions t
+abbrev pub has_notion_title : List Titled → RawLine → Bool
+has_notion_title notions (rawlines.Theorem t) = defines notions t
 has_notion_title notions f = false
 
-abbrev pub first_line : Known → RawLine → Result Coming Kind
+abbrev pub first_line : Known → BookLine → Result Coming FaultKind
 first_line known (Plain f) = if has_notion_title known.notions f then Err NameTaken else (begins known.theorems f >>= λ o. Ok (InTheorem o 0))
 first_line known (Define t) =
     if is_taken known t then Err NameTaken else
@@ -64,12 +64,12 @@ first_line known (Listed line items) = Err Malformed
 -- ---- a line without items
 
 -- more declared objects of a definition, or more of what it means
-abbrev pub says_more : Form → Bool
-says_more (forms.Declare sort new) = true
-says_more (forms.Show raws) = true
+abbrev pub says_more : RawLine → Bool
+says_more (rawlines.Declare sort new) = true
+says_more (rawlines.Show raws) = true
 says_more f = false
 
-abbrev pub still_defined : ℕ → Open → Result Coming Kind
+abbrev pub still_defined : ℕ → Open → Result Coming FaultKind
 still_defined n (Stating h) = Ok (InDefinition h n)
 still_defined n o = Err Malformed
 
@@ -77,11 +77,11 @@ abbrev pub meant : Head → Titled
 meant h = titled h.title (record { declared = h.statement.declared; means = h.statement.shown })
 
 -- the last line of a definition, which means something
-abbrev pub ends_definition : Head → Form → Result Coming Kind
-ends_definition h forms.End = if is_empty h.statement.shown then Err Malformed else Ok (Defined (meant h))
+abbrev pub ends_definition : Head → RawLine → Result Coming FaultKind
+ends_definition h rawlines.End = if is_empty h.statement.shown then Err Malformed else Ok (Defined (meant h))
 ends_definition h f = Err Malformed
 
-abbrev pub plain_line : Known → Coming → Form → Result Coming Kind
+abbrev pub plain_line : Known → Coming → RawLine → Result Coming FaultKind
 plain_line known (InTheorem o n) f = line_after known.theorems (Some o) f >>= λ m. Ok (InTheorem m n)
 plain_line known (InDefinition h n) f =
     if says_more f then (line_after known.theorems (Some (Stating h)) f >>= λ o. still_defined n o) else ends_definition h f
@@ -91,18 +91,18 @@ plain_line known (Defined t) f = Err Malformed
 
 -- The line may come there, and then the names are looked up from left to right: the line with the literals, with the names of their
 -- objects, and how many of them are of notions.
-abbrev pub written_out : Known → Open → Listing → List RawItem → Result (Form × ℕ) Kind
+abbrev pub written_out : Known → Open → Listing → List RawItem → Result (RawLine × ℕ) FaultKind
 written_out known o line is =
     let ns : Names = (context_at known.theorems o).names in
     next known.theorems o (listing_form line []) >>= λ there. items_in known.notions ns 0 is >>= λ p. Ok (listing_form line (map (raw_of ns) p.0), p.1)
 
-abbrev pub counted : ℕ → Coming → Result Coming Kind
+abbrev pub counted : ℕ → Coming → Result Coming FaultKind
 counted n (InTheorem o m) = all_kept ((nat_le (m + n) most_expanded, limits.Expanded) ∷ []) >>= λ kept. Ok (InTheorem o (m + n))
 counted n (InDefinition h m) = all_kept ((nat_le (m + n) most_expanded, limits.Expanded) ∷ []) >>= λ kept. Ok (InDefinition h (m + n))
 counted n (Defined t) = Err Malformed
 
 -- it is taken as it is written out; the last limit is that of the literals that items stand for
-abbrev pub listed_line : Known → Coming → Listing → List RawItem → Result Coming Kind
+abbrev pub listed_line : Known → Coming → Listing → List RawItem → Result Coming FaultKind
 listed_line known (InTheorem o n) line is = written_out known o line is >>= λ w. plain_line known (InTheorem o n) w.0 >>= λ c. counted w.1 c
 listed_line known (InDefinition h n) line is =
     if is_show line then (written_out known (Stating h) line is >>= λ w. plain_line known (InDefinition h n) w.0 >>= λ c. counted w.1 c) else Err Malformed
@@ -110,16 +110,16 @@ listed_line known (Defined t) line is = Err Malformed
 
 -- ---- lines
 
-abbrev pub next_line : Known → Coming → RawLine → Result Coming Kind
+abbrev pub next_line : Known → Coming → BookLine → Result Coming FaultKind
 next_line known c (Plain f) = plain_line known c f
 next_line known c (Define t) = Err Malformed
 next_line known c (Listed line is) = listed_line known c line is
 
-abbrev pub line_said : Known → Option Coming → List (List ℕ) → Result Coming Kind
+abbrev pub line_said : Known → Option Coming → List (List ℕ) → Result Coming FaultKind
 line_said known None words = line_of words >>= λ l. first_line known l
 line_said known (Some c) words = line_of words >>= λ l. next_line known c l
 
-abbrev pub put_there : ℕ → Result Coming Kind → Result Coming BookFault
+abbrev pub put_there : ℕ → Result Coming FaultKind → Result Coming BookFault
 put_there line read = put_at line read
 
 -- a theorem or a definition whose last line has come

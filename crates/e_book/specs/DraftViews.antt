@@ -5,8 +5,8 @@ use Rattle.e_deriv.specs.PlainStep.{all_before}
 use Rattle.e_theorem.specs.declared.statement.Statement.{Statement}
 use Rattle.e_book.specs.declared.steps.CloseLine.{CloseLine}
 use Rattle.e_book.specs.declared.steps.CloseLine.TheVariants as closes
-use Rattle.e_book.specs.declared.draft.Draft.{Draft}
-use Rattle.e_book.specs.Entry.{Entry}
+use Rattle.e_book.specs.declared.draft.TheoremParser.{TheoremParser}
+use Rattle.e_book.specs.TheoremViews.{TheoremView}
 
 -- a close line, which has no certificate
 abbrev pub script_of_close : CloseLine → Script
@@ -15,9 +15,9 @@ script_of_close closes.Contradiction = Contradiction None
 script_of_close (closes.Cases lit first second) = Cases lit first second
 
 -- what the lines of a draft state
-abbrev pub statement_of_draft : Draft → Statement
+abbrev pub statement_of_draft : TheoremParser → Statement
 statement_of_draft d = record { declared = d.declared; given = d.given; made = d.made; shown = d.shown }
 
 -- the theorem that the lines of a draft make
-abbrev pub entry_of_draft : Draft → Entry
+abbrev pub entry_of_draft : TheoremParser → TheoremView
 entry_of_draft d = record { title = d.title; names = d.names; statement = statement_of_draft d; script = all_before d.steps (script_of_close d.close) }

@@ -16,11 +16,11 @@ use Rattle.e_deriv.specs.Lines.{theorem_at, proof_lines}
 use Rattle.e_deriv.specs.Naming.{named, declared_names}
 use Rattle.e_deriv.specs.Fitting.{all_objects, form_fits}
 use Rattle.e_line.specs.Limits.{most_of, most_steps, most_depth, most_facts, most_terms, most_blanks, monomials, count_monomials}
-use Rattle.e_names.specs.Headed.{Headed, is_known, stated_by}
+use Rattle.e_names.specs.TitledStatements.{TitledStatement, is_known, stated_by}
 use Rattle.e_names.specs.Scope.{scope_of_names, fresh}
 use Rattle.e_names.specs.Applies.{count_blanks}
 use Rattle.e_book.specs.LineLimits.{few_objects}
-use Rattle.e_book.specs.Entry.{Entry}
+use Rattle.e_book.specs.TheoremViews.{TheoremView}
 use Rattle.e_names.specs.Fits.{NamesDiffer, is_diagram_lit}
 
 -- at each construction, use of an earlier theorem and superposition none of the new names is in scope and no two are equal, there
@@ -110,7 +110,7 @@ few_blanks (Qed objects certs) = true
 few_blanks (Contradiction against) = true
 few_blanks (Cases lit first second) = few_blanks first && few_blanks second
 
-pub record Fits (known : List Headed) (t : Entry) : Type 0 where
+pub record Fits (known : List TitledStatement) (t : TheoremView) : Type 0 where
   -- no earlier theorem has its title
   pub new : is_known known t.title ≡ false
   -- one name for each declared and each made object of the statement

@@ -9,18 +9,18 @@ use Rattle.e_deriv.specs.PlainStep.{PlainStep, Cited, Inferred, Made, Applied}
 use Rattle.e_text.specs.Tokens.{tokens_of}
 use Rattle.e_text.specs.Lines.{Seen, Ahead}
 use Rattle.e_text.specs.declared.line.LineFault.{LineFault}
-use Rattle.e_line.specs.declared.fault.Kind.{Kind}
-use Rattle.e_line.specs.declared.fault.Kind.TheVariants.{Malformed, NameTaken}
+use Rattle.e_line.specs.declared.fault.FaultKind.{FaultKind}
+use Rattle.e_line.specs.declared.fault.FaultKind.TheVariants.{Malformed, NameTaken}
 use Rattle.e_line.specs.declared.fault.What.TheVariants as limits
 use Rattle.e_line.specs.declared.fault.BookFault.{BookFault}
 use Rattle.e_line.specs.declared.fault.BookFault.TheVariants as faults
-use Rattle.e_line.specs.declared.form.Form.{Form}
-use Rattle.e_line.specs.declared.form.Form.TheVariants as forms
+use Rattle.e_line.specs.declared.raw_line.RawLine.{RawLine}
+use Rattle.e_line.specs.declared.raw_line.RawLine.TheVariants as rawlines
 use Rattle.e_line.specs.Reading.{◌>>=◌}
 use Rattle.e_line.specs.Faults.{at_line, line_fault}
-use Rattle.e_names.specs.Headed.{Headed, is_known}
-use Rattle.e_book.specs.Entry.{Entry}
-use Rattle.e_line.specs.Forms.{form_of}
+use Rattle.e_names.specs.TitledStatements.{TitledStatement, is_known}
+use Rattle.e_book.specs.TheoremViews.{TheoremView}
+use Rattle.e_line.specs.RawLines.{raw_line_of}
 use Rattle.e_line.specs.Limits.{most_theorems}
 use Rattle.e_names.specs.Scope.{fresh, lit_in, lits_in, by_in, let_in, qed_in}
 use Rattle.e_names.specs.Superposes.{superpose_in}
@@ -34,8 +34,8 @@ abbrev pub nothing_said : List ℕ → Head
 nothing_said title = record { title = title; names = record { points = []; lines = []; circles = [] }; statement = record { declared = []; given = []; made = []; shown = [] } }
 
 -- the first line
-abbrev pub begins : List Headed → Form → Result Open Kind
-begins known (forms.Theorem t) =
+abbrev pub begins : List TitledStatement → RawLine → Result Open FaultKind
+begins known (rawlines.Theorem t) =
     if is_known known t then Err NameTaken else (all_kept ((nat_le (length known + 1) most_theorems, limits.Theorems) ∷ []) >>= λ kept. Ok (Stating (nothing_said t)))
 begins known f = Err Malformed
 
@@ -50,7 +50,7 @@ none_made t = is_empty t.made && is_empty t.shown
 abbrev pub none_given : Statement → Bool
 none_given t = is_empty t.given && none_made t
 
-abbrev pub at_its_place : Bool → Result Open Kind → Result Open Kind
+abbrev pub at_its_place : Bool → Result Open FaultKind → Result Open FaultKind
 at_its_place true next = next
 at_its_place false next = Err Malformed
 
@@ -59,52 +59,52 @@ abbrev pub with_new : Names → Sort → List (List ℕ) → Names
 with_new ns sort new = with_names ns sort (names_of_sort ns sort ++ new)
 
 -- a line of the statement
-abbrev pub states : Head → Form → Result Open Kind
-states h (forms.Declare sort new) = at_its_place (none_given h.statement)
+abbrev pub states : Head → RawLine → Result Open FaultKind
+states h (rawlines.Declare sort new) = at_its_place (none_given h.statement)
     (fresh h.names [] new >>= λ free. Ok (Stating (record h { names = with_new h.names sort new; statement = record h.statement { declared = h.statement.declared ++ replicate (length new) sort } })))
-states h (forms.Given raws) = at_its_place (none_made h.statement)
+states h (rawlines.Given raws) = at_its_place (none_made h.statement)
     (lits_in h.names raws >>= λ ls. Ok (Stating (record h { statement = record h.statement { given = h.statement.given ++ ls } })))
-states h (forms.Made sort new) = at_its_place (is_empty h.statement.shown)
+states h (rawlines.Made sort new) = at_its_place (is_empty h.statement.shown)
     (fresh h.names [] new >>= λ free. Ok (Stating (record h { names = with_new h.names sort new; statement = record h.statement { made = h.statement.made ++ replicate (length new) sort } })))
-states h (forms.Show raws) = lits_in h.names raws >>= λ ls. Ok (Stating (record h { statement = record h.statement { shown = h.statement.shown ++ ls } }))
-states h forms.Proof = if is_empty h.statement.shown then Err Malformed else Ok (Proving h [] [])
+states h (rawlines.Show raws) = lits_in h.names raws >>= λ ls. Ok (Stating (record h { statement = record h.statement { shown = h.statement.shown ++ ls } }))
+states h rawlines.Proof = if is_empty h.statement.shown then Err Malformed else Ok (Proving h [] [])
 states h f = Err Malformed
 
 -- one more step of the open block
-abbrev pub one_more : Head → List Enclosing → List PlainStep → PlainStep → Result Open Kind
+abbrev pub one_more : Head → List Enclosing → List PlainStep → PlainStep → Result Open FaultKind
 one_more h around steps s = Ok (Proving h around (steps ++ s ∷ []))
 
 -- a block inside the open one
-abbrev pub inner_block : Head → List Enclosing → List PlainStep → Opener → Result Open Kind
+abbrev pub inner_block : Head → List Enclosing → List PlainStep → Opener → Result Open FaultKind
 inner_block h around steps opener = Ok (Proving h (record { steps = steps; opener = opener } ∷ around) [])
 
 -- a line of a block, where these names are in scope
-abbrev pub goes_on : List Headed → Names → Head → List Enclosing → List PlainStep → Form → Result Open Kind
-goes_on known ns h around steps (forms.By rule args raw) = by_in ns rule args raw >>= λ b. one_more h around steps (Cited b)
-goes_on known ns h around steps (forms.Hence raw) = lit_in ns raw >>= λ l. one_more h around steps (Inferred l None)
-goes_on known ns h around steps (forms.Let raw) = let_in ns raw >>= λ form. one_more h around steps (Made form raw.new [])
-goes_on known ns h around steps (forms.Apply raw) = apply_in known ns raw >>= λ a. one_more h around steps (Applied a.0 a.1 raw.new [])
-goes_on known ns h around steps (forms.Claim raws) = lits_in ns raws >>= λ ls. inner_block h around steps (ByClaim ls)
-goes_on known ns h around steps (forms.Superpose raw) = superpose_in ns raw >>= λ p. inner_block h around steps (BySuperposition p.0 raw.new p.1)
-goes_on known ns h around steps (forms.Cases raw) = lit_in ns raw >>= λ l. inner_block h around steps (ByCase l)
-goes_on known ns h around steps (forms.Qed names) = qed_in ns (made_inside around h.statement.made) names >>= λ objects. Ok (after_close h around steps (Qed objects []))
-goes_on known ns h around steps forms.Contradiction = Ok (after_close h around steps (Contradiction None))
+abbrev pub goes_on : List TitledStatement → Names → Head → List Enclosing → List PlainStep → RawLine → Result Open FaultKind
+goes_on known ns h around steps (rawlines.By rule args raw) = by_in ns rule args raw >>= λ b. one_more h around steps (Cited b)
+goes_on known ns h around steps (rawlines.Hence raw) = lit_in ns raw >>= λ l. one_more h around steps (Inferred l None)
+goes_on known ns h around steps (rawlines.Let raw) = let_in ns raw >>= λ form. one_more h around steps (Made form raw.new [])
+goes_on known ns h around steps (rawlines.Apply raw) = apply_in known ns raw >>= λ a. one_more h around steps (Applied a.0 a.1 raw.new [])
+goes_on known ns h around steps (rawlines.Claim raws) = lits_in ns raws >>= λ ls. inner_block h around steps (ByClaim ls)
+goes_on known ns h around steps (rawlines.Superpose raw) = superpose_in ns raw >>= λ p. inner_block h around steps (BySuperposition p.0 raw.new p.1)
+goes_on known ns h around steps (rawlines.Cases raw) = lit_in ns raw >>= λ l. inner_block h around steps (ByCase l)
+goes_on known ns h around steps (rawlines.Qed names) = qed_in ns (made_inside around h.statement.made) names >>= λ objects. Ok (after_close h around steps (Qed objects []))
+goes_on known ns h around steps rawlines.Contradiction = Ok (after_close h around steps (Contradiction None))
 goes_on known ns h around steps f = Err Malformed
 
-abbrev pub next : List Headed → Open → Form → Result Open Kind
+abbrev pub next : List TitledStatement → Open → RawLine → Result Open FaultKind
 next known (Stating h) f = states h f
 next known (Proving h around steps) f = goes_on known (context_at known (Proving h around steps)).names h around steps f
-next known (Splitting h around) forms.Else = Ok (Proving h around [])
-next known (Proved h script) forms.End = Ok (Ended (record { title = h.title; names = h.names; statement = h.statement; script = script }))
+next known (Splitting h around) rawlines.Else = Ok (Proving h around [])
+next known (Proved h script) rawlines.End = Ok (Ended (record { title = h.title; names = h.names; statement = h.statement; script = script }))
 next known o f = Err Malformed
 
 -- a line: its form there, its names, and then the limits
-abbrev pub line_after : List Headed → Option Open → Form → Result Open Kind
+abbrev pub line_after : List TitledStatement → Option Open → RawLine → Result Open FaultKind
 line_after known None f = begins known f
 line_after known (Some o) f = next known o f >>= λ n. all_kept (limits_kept known f n) >>= λ kept. Ok n
 
-abbrev pub line_read : List Headed → Option Open → List (List ℕ) → Result Open Kind
-line_read known o words = form_of words >>= λ f. line_after known o f
+abbrev pub line_read : List TitledStatement → Option Open → List (List ℕ) → Result Open FaultKind
+line_read known o words = raw_line_of words >>= λ f. line_after known o f
 
 -- ---- lines
 
@@ -118,27 +118,27 @@ is_skipped [] = true
 is_skipped (w ∷ ws) = starts_with_hash w
 
 -- a fault at its line
-abbrev pub put_at : {A : Type 0} → ℕ → Result A Kind → Result A BookFault
+abbrev pub put_at : {A : Type 0} → ℕ → Result A FaultKind → Result A BookFault
 put_at line (Ok x) = Ok x
 put_at line (Err kind) = Err (at_line line kind)
 
 abbrev pub Rest : Type 0
 Rest = List (Result Seen LineFault)
 
-abbrev pub ended : Open → Option Entry
+abbrev pub ended : Open → Option TheoremView
 ended (Ended t) = Some t
 ended o = None
 
-abbrev pub or_more : Option Entry → Rest → Result (Option (Entry × Rest)) BookFault → Result (Option (Entry × Rest)) BookFault
+abbrev pub or_more : Option TheoremView → Rest → Result (Option (TheoremView × Rest)) BookFault → Result (Option (TheoremView × Rest)) BookFault
 or_more None lines more = more
 or_more (Some t) lines more = Ok (Some (t, lines))
 
-abbrev pub no_more : ℕ → Option Open → Result (Option (Entry × Rest)) BookFault
+abbrev pub no_more : ℕ → Option Open → Result (Option (TheoremView × Rest)) BookFault
 no_more last None = Ok None
 no_more last (Some o) = Err (faults.Unended last)
 
 -- the next theorem and the lines behind it, or the first fault; last is the number behind the last line
-abbrev pub read_from : List Headed → ℕ → Option Open → Rest → Result (Option (Entry × Rest)) BookFault
+abbrev pub read_from : List TitledStatement → ℕ → Option Open → Rest → Result (Option (TheoremView × Rest)) BookFault
 read_from known last o [] = no_more last o
 read_from known last o (Err f ∷ lines) = Err (line_fault f)
 read_from known last o (Ok line ∷ lines) =

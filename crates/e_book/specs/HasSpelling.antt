@@ -4,8 +4,8 @@ use Rattle.std.specs.List.{list_all}
 use Rattle.e_text.specs.Names.{is_name, is_title}
 use Rattle.e_deriv.specs.Script.{Script, Cite, Hence, Make, Apply, Claim, Superposed, Qed, Contradiction, Cases}
 use Rattle.e_line.specs.Limits.{most_theorems}
-use Rattle.e_names.specs.Headed.{Headed}
-use Rattle.e_book.specs.Entry.{Entry}
+use Rattle.e_names.specs.TitledStatements.{TitledStatement}
+use Rattle.e_book.specs.TheoremViews.{TheoremView}
 use Rattle.e_book.specs.Fits.{Fits}
 use Rattle.e_line.specs.HasSpelling.{AreNames}
 use Rattle.e_names.specs.HasSpelling.{is_named_by_title}
@@ -30,7 +30,7 @@ is_plain (Contradiction (Some against)) = false
 is_plain (Cases lit first second) = is_plain first && is_plain second
 
 -- the earlier theorems that a script uses can be named by their titles
-unfoldable pub names_theorems : List Headed → Script → Bool
+unfoldable pub names_theorems : List TitledStatement → Script → Bool
 names_theorems known (Cite by rest) = names_theorems known rest
 names_theorems known (Hence lit cert rest) = names_theorems known rest
 names_theorems known (Make form names certs rest) = names_theorems known rest
@@ -41,7 +41,7 @@ names_theorems known (Qed objects certs) = true
 names_theorems known (Contradiction against) = true
 names_theorems known (Cases lit first second) = names_theorems known first && names_theorems known second
 
-pub record HasSpelling (known : List Headed) (t : Entry) : Type 0 where
+pub record HasSpelling (known : List TitledStatement) (t : TheoremView) : Type 0 where
   -- objects in scope, names that differ, fitting arguments at each citation and construction, names of new objects that are
   -- free, and the limits of a theorem
   pub fits : Fits known t

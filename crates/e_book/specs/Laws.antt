@@ -9,7 +9,7 @@ use Rattle.e_deriv.specs.declared.names.Names.{Names}
 use Rattle.e_line.specs.declared.fault.BookFault.{BookFault}
 use Rattle.e_names.specs.declared.known.Known.{Known}
 use Rattle.e_names.specs.Titled.{Titled, defines, are_notions}
-use Rattle.e_book.specs.Entry.{Entry}
+use Rattle.e_book.specs.TheoremViews.{TheoremView}
 use Rattle.e_book.specs.Definitions.{OfTheorem, OfNotion, item_from, IsGood}
 use Rattle.e_book.specs.FirstFault.{BreaksAt, IsFirst}
 use Rattle.e_names.specs.Scope.{scope_of_names, lit_in}
@@ -30,13 +30,13 @@ Shows (Ok l ∷ lines) (text ∷ texts) rest = (l.bytes ≡ text) × Shows lines
 -- a theorem that has a spelling, and no definition's title, is read from its canonical lines, and the lines behind them are left
 abbrev pub CanonicalLinesAreRead : Type 0
 CanonicalLinesAreRead =
-    (known : Known) (last : ℕ) (t : Entry) (lines rest : List (Result Seen LineFault)) → IsTrue (are_notions known.notions) → HasSpelling known.theorems t → defines known.notions t.title ≡ false
+    (known : Known) (last : ℕ) (t : TheoremView) (lines rest : List (Result Seen LineFault)) → IsTrue (are_notions known.notions) → HasSpelling known.theorems t → defines known.notions t.title ≡ false
     → Shows lines (map line_of (forms_of known.theorems t)) rest → item_from known last None lines ≡ Ok (Some (OfTheorem t, rest))
 
 -- and a theorem that is read, from whatever lines, has a spelling
 abbrev pub ReadTheoremsHaveASpelling : Type 0
 ReadTheoremsHaveASpelling =
-    (known : Known) (last : ℕ) (t : Entry) (lines rest : List (Result Seen LineFault)) → IsTrue (are_notions known.notions)
+    (known : Known) (last : ℕ) (t : TheoremView) (lines rest : List (Result Seen LineFault)) → IsTrue (are_notions known.notions)
     → item_from known last None lines ≡ Ok (Some (OfTheorem t, rest)) → HasSpelling known.theorems t
 
 -- a definition that is read has a title that nothing has, means something, and speaks of its declared objects alone

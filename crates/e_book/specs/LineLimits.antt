@@ -2,7 +2,7 @@
 use Rattle.std.specs.Prelude.{◌≤◌, length, Result}
 use Rattle.e_literal.specs.declared.object.Sort.TheVariants as sorts
 use Rattle.e_deriv.specs.declared.names.Names.{Names}
-use Rattle.e_line.specs.declared.fault.Kind.{Kind}
+use Rattle.e_line.specs.declared.fault.FaultKind.{FaultKind}
 use Rattle.e_line.specs.declared.fault.What.TheVariants as limits
 use Rattle.e_line.specs.Reading.{◌>>=◌}
 use Rattle.e_line.specs.Limits.{most_of, within}
@@ -10,7 +10,7 @@ use Rattle.e_line.specs.Limits.{most_of, within}
 -- ---- objects
 
 -- the limits of objects in scope: points, then lines, then circles
-unfoldable pub few_objects : Names → Result (Unit {0}) Kind
+unfoldable pub few_objects : Names → Result (Unit {0}) FaultKind
 few_objects ns = do
   points ← within (length ns.points) (most_of sorts.Point) limits.Points
   lines ← within (length ns.lines) (most_of sorts.Line) limits.Lines

@@ -7,7 +7,7 @@ use Rattle.e_theorem.specs.declared.statement.Statement.{Statement}
 use Rattle.e_deriv.specs.declared.names.Names.{Names}
 use Rattle.e_deriv.specs.Script.{Script, Cases}
 use Rattle.e_deriv.specs.PlainStep.{PlainStep, Claimed, Copied, all_before}
-use Rattle.e_book.specs.Entry.{Entry}
+use Rattle.e_book.specs.TheoremViews.{TheoremView}
 
 -- the title, the names of the declared and the made objects, and the statement
 pub record Head : Type 0 where
@@ -34,7 +34,7 @@ pub data Open : Type 0 where
   Proving : (head : Head) (around : List Enclosing) (steps : List PlainStep) → Open
   Splitting : (head : Head) (around : List Enclosing) → Open
   Proved : (head : Head) (script : Script) → Open
-  Ended : (theorem : Entry) → Open
+  Ended : (theorem : TheoremView) → Open
 
 -- a claim and a superposition have goals of their own, without made objects
 abbrev pub has_goal : Opener → Bool

@@ -10,29 +10,29 @@ use Rattle.e_deriv.specs.declared.names.Names.{Names}
 use Rattle.e_deriv.specs.Naming.{names_of_sort, with_names, named, declared_names}
 use Rattle.e_deriv.specs.PlainStep.{PlainStep, Cited, Inferred, Made, Applied, Claimed, Copied, all_before}
 use Rattle.e_deriv.specs.Script.{Script}
-use Rattle.e_line.specs.declared.fault.Kind.{Kind}
-use Rattle.e_line.specs.declared.fault.Kind.TheVariants.{Malformed, NameTaken}
+use Rattle.e_line.specs.declared.fault.FaultKind.{FaultKind}
+use Rattle.e_line.specs.declared.fault.FaultKind.TheVariants.{Malformed, NameTaken}
 use Rattle.e_line.specs.declared.fault.What.TheVariants as limits
 use Rattle.e_line.specs.declared.literal.RawLit.{RawLit}
 use Rattle.e_line.specs.declared.lets.RawLet.{RawLet}
 use Rattle.e_line.specs.declared.superposes.RawSuperpose.{RawSuperpose}
 use Rattle.e_line.specs.declared.applies.RawApply.{RawApply}
-use Rattle.e_book.specs.declared.blocks.Outer.{Outer}
-use Rattle.e_book.specs.declared.blocks.Opened.{Opened}
-use Rattle.e_book.specs.declared.blocks.Opened.TheVariants as opened
-use Rattle.e_line.specs.declared.form.Form.{Form}
-use Rattle.e_line.specs.declared.form.Form.TheVariants as forms
+use Rattle.e_book.specs.declared.blocks.OpenBlock.{OpenBlock}
+use Rattle.e_book.specs.declared.blocks.BlockKind.{BlockKind}
+use Rattle.e_book.specs.declared.blocks.BlockKind.TheVariants as opened
+use Rattle.e_line.specs.declared.raw_line.RawLine.{RawLine}
+use Rattle.e_line.specs.declared.raw_line.RawLine.TheVariants as rawlines
 use Rattle.e_book.specs.declared.steps.CloseLine.{CloseLine}
 use Rattle.e_book.specs.declared.steps.CloseLine.TheVariants as closes
-use Rattle.e_book.specs.declared.draft.Place.{Place}
-use Rattle.e_book.specs.declared.draft.Place.TheVariants.{Declaring, Giving, Making, Showing, Proving, Splitting, Closed, Done}
-use Rattle.e_book.specs.declared.draft.Draft.{Draft}
-use Rattle.e_book.specs.declared.inner.Around.{Around}
-use Rattle.e_line.specs.declared.fault.Trouble.{Trouble}
+use Rattle.e_book.specs.declared.draft.Section.{Section}
+use Rattle.e_book.specs.declared.draft.Section.TheVariants.{Declaring, Giving, Making, Showing, Proving, Splitting, Closed, Done}
+use Rattle.e_book.specs.declared.draft.TheoremParser.{TheoremParser}
+use Rattle.e_book.specs.declared.inner.Saved.{Saved}
+use Rattle.e_line.specs.declared.fault.LineError.{LineError}
 use Rattle.e_line.specs.Reading.{◌>>=◌, with_front, Fails}
 use Rattle.e_line.specs.Limits.{most_theorems, most_of, most_steps, most_depth, most_facts, most_terms, most_blanks, what_of, within, monomials, count_monomials}
 use Rattle.e_theorem.specs.Statements.{stated}
-use Rattle.e_names.specs.Headed.{Headed, is_known, theorem_of}
+use Rattle.e_names.specs.TitledStatements.{TitledStatement, is_known, theorem_of}
 use Rattle.e_book.specs.DraftViews.{statement_of_draft, script_of_close}
 use Rattle.e_line.specs.LineLimits.{count_monos, few_monos}
 use Rattle.e_book.specs.LineLimits.{few_objects, FewNamed}
@@ -42,61 +42,61 @@ use Rattle.e_names.specs.Scope.{scope_of_names, fresh, lit_in, lits_in, by_in, l
 use Rattle.e_names.specs.Applies.{count_blanks, apply_in}
 
 -- which lines may come at a place
-abbrev pub allowed : Place → Form → Bool
-allowed Declaring (forms.Declare sort ns) = true
-allowed Declaring (forms.Given ls) = true
-allowed Declaring (forms.Made sort ns) = true
-allowed Declaring (forms.Show ls) = true
-allowed Giving (forms.Given ls) = true
-allowed Giving (forms.Made sort ns) = true
-allowed Giving (forms.Show ls) = true
-allowed Making (forms.Made sort ns) = true
-allowed Making (forms.Show ls) = true
-allowed Showing (forms.Show ls) = true
-allowed Showing forms.Proof = true
-allowed Proving (forms.By r ns l) = true
-allowed Proving (forms.Hence l) = true
-allowed Proving (forms.Let l) = true
-allowed Proving (forms.Apply a) = true
-allowed Proving (forms.Qed ns) = true
-allowed Proving forms.Contradiction = true
-allowed Proving (forms.Claim ls) = true
-allowed Proving (forms.Superpose s) = true
-allowed Proving (forms.Cases l) = true
-allowed Splitting forms.Else = true
-allowed Closed forms.End = true
+abbrev pub allowed : Section → RawLine → Bool
+allowed Declaring (rawlines.Declare sort ns) = true
+allowed Declaring (rawlines.Given ls) = true
+allowed Declaring (rawlines.Made sort ns) = true
+allowed Declaring (rawlines.Show ls) = true
+allowed Giving (rawlines.Given ls) = true
+allowed Giving (rawlines.Made sort ns) = true
+allowed Giving (rawlines.Show ls) = true
+allowed Making (rawlines.Made sort ns) = true
+allowed Making (rawlines.Show ls) = true
+allowed Showing (rawlines.Show ls) = true
+allowed Showing rawlines.Proof = true
+allowed Proving (rawlines.By r ns l) = true
+allowed Proving (rawlines.Hence l) = true
+allowed Proving (rawlines.Let l) = true
+allowed Proving (rawlines.Apply a) = true
+allowed Proving (rawlines.Qed ns) = true
+allowed Proving rawlines.Contradiction = true
+allowed Proving (rawlines.Claim ls) = true
+allowed Proving (rawlines.Superpose s) = true
+allowed Proving (rawlines.Cases l) = true
+allowed Splitting rawlines.Else = true
+allowed Closed rawlines.End = true
 allowed place form = false
 
 -- the names with new ones for objects of a sort
-unfoldable pub declared : Names → Sort → List (List ℕ) → Result Names Kind
+unfoldable pub declared : Names → Sort → List (List ℕ) → Result Names FaultKind
 declared ns sort new = do
   free ← fresh ns [] new
   few ← within (length (names_of_sort ns sort) + length new) (most_of sort) (what_of sort)
   Ok (with_names ns sort (names_of_sort ns sort ++ new))
 
 -- one more step line, and so many more facts
-unfoldable pub with_step : Draft → PlainStep → ℕ → Result Draft Kind
+unfoldable pub with_step : TheoremParser → PlainStep → ℕ → Result TheoremParser FaultKind
 with_step d s given = do
   few ← within (d.lines + 1) most_steps limits.Steps
   none ← within (d.facts + given) most_facts limits.Facts
   Ok (record d { lines = d.lines + 1; steps = d.steps ++ s ∷ []; facts = d.facts + given })
 
 -- so many monomials and those of the literals, or the limit of all
-abbrev pub terms_behind : ℕ → List RawLit → Result ℕ Kind
+abbrev pub terms_behind : ℕ → List RawLit → Result ℕ FaultKind
 terms_behind n raws = within (n + count_monos raws) most_terms limits.Terms >>= λ few. Ok (n + count_monos raws)
 
-abbrev pub terms_after : ℕ → List Lit → Result ℕ Kind
+abbrev pub terms_after : ℕ → List Lit → Result ℕ FaultKind
 terms_after n ls = within (n + count_monomials ls) most_terms limits.Terms >>= λ few. Ok (n + count_monomials ls)
 
 -- the limits of literals that become facts, behind that of facts
-unfoldable pub with_terms : Draft → List RawLit → Result Draft Kind
+unfoldable pub with_terms : TheoremParser → List RawLit → Result TheoremParser FaultKind
 with_terms d raws = do
   few ← few_monos raws
   n ← terms_behind d.terms raws
   Ok (record d { terms = n })
 
 -- a construction: its names, then the limits of objects, of steps and of facts. Its new objects are in scope after it.
-unfoldable pub built : Draft → RawLet → Result Draft Kind
+unfoldable pub built : TheoremParser → RawLet → Result TheoremParser FaultKind
 built d raw = do
   form ← let_in d.in_scope raw
   let after = named d.in_scope (sorts_made form) raw.new
@@ -105,7 +105,7 @@ built d raw = do
 
 -- a theorem is used within the limits of objects, of steps, of facts, of monomials and of blanks. What it shows are facts, and its
 -- made objects are in scope behind the line.
-unfoldable pub used_by : Draft → Stated → ℕ → List (Option Obj) → List (List ℕ) → Result Draft Kind
+unfoldable pub used_by : TheoremParser → Stated → ℕ → List (Option Obj) → List (List ℕ) → Result TheoremParser FaultKind
 used_by d t theorem args new = do
   let after = named d.in_scope t.made new
   few ← few_objects after
@@ -115,7 +115,7 @@ used_by d t theorem args new = do
   Ok (record e { terms = n })
 
 -- an earlier theorem: its title and the names, then the limits
-unfoldable pub applied : List Headed → Draft → RawApply → Result Draft Kind
+unfoldable pub applied : List TitledStatement → TheoremParser → RawApply → Result TheoremParser FaultKind
 applied known d raw = do
   a ← apply_in known d.in_scope raw
   used_by d (theorem_of known a.0) a.0 a.1 raw.new
@@ -123,22 +123,22 @@ applied known d raw = do
 -- ---- blocks inside a block
 
 -- the block that an inner one interrupts
-abbrev pub outer_of : Draft → Opened → Outer
+abbrev pub outer_of : TheoremParser → BlockKind → OpenBlock
 outer_of d opened = record { steps = d.steps; in_scope = d.in_scope; facts = d.facts; terms = d.terms; opened = opened }
 
 -- an inner block begins, in which so many literals are facts at once
-abbrev pub interrupted : Draft → Opened → ℕ → Draft
+abbrev pub interrupted : TheoremParser → BlockKind → ℕ → TheoremParser
 interrupted d opened given = record d { lines = d.lines + 1; outers = outer_of d opened ∷ d.outers; steps = []; facts = d.facts + given }
 
 -- the limits of steps, of depth and of facts there
-unfoldable pub room_inside : Draft → ℕ → Result (Unit {0}) Kind
+unfoldable pub room_inside : TheoremParser → ℕ → Result (Unit {0}) FaultKind
 room_inside d given = do
   few ← within (d.lines + 1) most_steps limits.Steps
   shallow ← within (length d.outers + 2) most_depth limits.Depth
   within (d.facts + given) most_facts limits.Facts
 
 -- a line that begins an inner block, within these limits
-unfoldable pub deeper : Draft → Opened → ℕ → Result Draft Kind
+unfoldable pub deeper : TheoremParser → BlockKind → ℕ → Result TheoremParser FaultKind
 deeper d opened given = do
   few ← within (d.lines + 1) most_steps limits.Steps
   shallow ← within (length d.outers + 2) most_depth limits.Depth
@@ -146,7 +146,7 @@ deeper d opened given = do
   Ok (interrupted d opened given)
 
 -- a claim: its literals are facts only behind its block
-unfoldable pub claimed : Draft → List RawLit → Result Draft Kind
+unfoldable pub claimed : TheoremParser → List RawLit → Result TheoremParser FaultKind
 claimed d raws = do
   ls ← lits_in d.in_scope raws
   e ← deeper d (opened.Claim ls) 0
@@ -154,7 +154,7 @@ claimed d raws = do
   Ok e
 
 -- the block of a superposition begins with these names and facts
-unfoldable pub copies_begun : Draft → Opened → Names → (given : List Lit) → (shown : List RawLit) → Result Draft Kind
+unfoldable pub copies_begun : TheoremParser → BlockKind → Names → (given : List Lit) → (shown : List RawLit) → Result TheoremParser FaultKind
 copies_begun d what after given shown = do
   e ← deeper d what (length given)
   few ← few_monos shown
@@ -162,7 +162,7 @@ copies_begun d what after given shown = do
   Ok (record e { in_scope = after; terms = n })
 
 -- a superposition: its block begins with the copied points and what it gives
-unfoldable pub superposed : Draft → RawSuperpose → Result Draft Kind
+unfoldable pub superposed : TheoremParser → RawSuperpose → Result TheoremParser FaultKind
 superposed d raw = do
   p ← superpose_in d.in_scope raw
   let given = superposing.gives_of_superposition p.0 (scope_of_names d.in_scope)
@@ -174,28 +174,28 @@ superposed d raw = do
   Ok (record e { in_scope = after; terms = n })
 
 -- a split: its first block begins with the literal
-unfoldable pub split : Draft → RawLit → Result Draft Kind
+unfoldable pub split : TheoremParser → RawLit → Result TheoremParser FaultKind
 split d raw = do
   l ← lit_in d.in_scope raw
   e ← deeper d (opened.First l) 1
   with_terms e (raw ∷ [])
 
 -- the counts behind a block that shows these literals: the limits of facts and of monomials
-unfoldable pub counted_from : Draft → (facts terms : ℕ) → List Lit → Result Draft Kind
+unfoldable pub counted_from : TheoremParser → (facts terms : ℕ) → List Lit → Result TheoremParser FaultKind
 counted_from d facts terms shown = do
   few ← within (facts + length shown) most_facts limits.Facts
   n ← terms_after terms shown
   Ok (record d { facts = facts + length shown; terms = n })
 
 -- what a block shows is a step of the block around it
-unfoldable pub resumed : Draft → Outer → List Outer → List Lit → PlainStep → Result Draft Kind
+unfoldable pub resumed : TheoremParser → OpenBlock → List OpenBlock → List Lit → PlainStep → Result TheoremParser FaultKind
 resumed d o os shown s = do
   e ← counted_from d o.facts o.terms shown
   Ok (record e { steps = o.steps ++ s ∷ []; in_scope = o.in_scope; outers = os })
 
 -- A block inside another is closed. A claim or a superposition is a step of the block around it. Behind the first block of a
 -- split comes `else`. Behind the second one the split closes the block around it.
-abbrev pub closed_inside : Draft → Outer → List Outer → Script → (CloseLine → Result Draft Kind) → Opened → Result Draft Kind
+abbrev pub closed_inside : TheoremParser → OpenBlock → List OpenBlock → Script → (CloseLine → Result TheoremParser FaultKind) → BlockKind → Result TheoremParser FaultKind
 closed_inside d o os inner close (opened.Claim shown) = resumed d o os shown (Claimed shown inner)
 closed_inside d o os inner close (opened.Superpose form names shown) = resumed d o os shown (Copied form names shown [] inner)
 closed_inside d o os inner close (opened.First lit) =
@@ -203,86 +203,86 @@ closed_inside d o os inner close (opened.First lit) =
 closed_inside d o os inner close (opened.Second lit first) = close (closes.Cases lit first inner)
 
 -- the block with these steps inside these blocks is closed
-unfoldable pub closed : Draft → List Outer → List PlainStep → CloseLine → Result Draft Kind
+unfoldable pub closed : TheoremParser → List OpenBlock → List PlainStep → CloseLine → Result TheoremParser FaultKind
 closed d [] steps close = Ok (record d { steps = steps; outers = []; close = close; place = Closed })
 closed d (o ∷ os) steps close = closed_inside d o os (all_before steps (script_of_close close)) (λ c. closed d os o.steps c) o.opened
 
 -- a block that an inner one interrupts, with what began that one
-abbrev pub outer_with : Around → Opened → Outer
+abbrev pub outer_with : Saved → BlockKind → OpenBlock
 outer_with around opened = record { steps = around.steps; in_scope = around.in_scope; facts = around.facts; terms = around.terms; opened = opened }
 
 -- behind the first block of a split, where the second begins
-abbrev pub second_begun : Draft → Around → Lit → Script → Draft
+abbrev pub second_begun : TheoremParser → Saved → Lit → Script → TheoremParser
 second_begun d around lit first =
     record d { in_scope = around.in_scope; facts = around.facts + 1; terms = around.terms + monomials lit.atom; outers = outer_with around (opened.Second lit first) ∷ d.outers; place = Splitting }
 
 -- what closing the open block inside another one leaves: the draft, or the close of that other block
-abbrev pub ClosesInside : Draft → Outer → CloseLine → Result (Option CloseLine) Trouble → Draft → Type 0
+abbrev pub ClosesInside : TheoremParser → OpenBlock → CloseLine → Result (Option CloseLine) LineError → TheoremParser → Type 0
 ClosesInside d o close (Ok None) new =
-    (again : CloseLine → Result Draft Kind) → closed_inside d o d.outers (all_before d.steps (script_of_close close)) again o.opened ≡ Ok new
+    (again : CloseLine → Result TheoremParser FaultKind) → closed_inside d o d.outers (all_before d.steps (script_of_close close)) again o.opened ≡ Ok new
 ClosesInside d o close (Ok (Some next)) new =
-    ((again : CloseLine → Result Draft Kind) → closed_inside d o d.outers (all_before d.steps (script_of_close close)) again o.opened ≡ again next)
+    ((again : CloseLine → Result TheoremParser FaultKind) → closed_inside d o d.outers (all_before d.steps (script_of_close close)) again o.opened ≡ again next)
     × (new ≡ record d { steps = o.steps })
 ClosesInside d o close (Err e) new =
-    (again : CloseLine → Result Draft Kind) → Fails e (closed_inside d o d.outers (all_before d.steps (script_of_close close)) again o.opened)
+    (again : CloseLine → Result TheoremParser FaultKind) → Fails e (closed_inside d o d.outers (all_before d.steps (script_of_close close)) again o.opened)
 
 -- a close line: the limit of steps, and what it closes
-unfoldable pub shut : Draft → CloseLine → Result Draft Kind
+unfoldable pub shut : TheoremParser → CloseLine → Result TheoremParser FaultKind
 shut d close = within (d.lines + 1) most_steps limits.Steps >>= λ few. closed (record d { lines = d.lines + 1 }) d.outers d.steps close
 
 -- declared objects
-abbrev pub declares : Draft → Sort → List (List ℕ) → Result Draft Kind
+abbrev pub declares : TheoremParser → Sort → List (List ℕ) → Result TheoremParser FaultKind
 declares d sort ns = declared d.names sort ns >>= λ names. Ok (record d { names = names; declared = d.declared ++ replicate (length ns) sort })
 
 -- given literals: their names, then the limits
-abbrev pub supposes : Draft → List RawLit → Result Draft Kind
+abbrev pub supposes : TheoremParser → List RawLit → Result TheoremParser FaultKind
 supposes d raws = with_front d.given (lits_in d.names raws) >>= λ ls. within (d.facts + length raws) most_facts limits.Facts >>= λ few. with_terms (record d { given = ls; facts = d.facts + length raws; place = Giving }) raws
 
 -- made objects
-abbrev pub makes : Draft → Sort → List (List ℕ) → Result Draft Kind
+abbrev pub makes : TheoremParser → Sort → List (List ℕ) → Result TheoremParser FaultKind
 makes d sort ns = declared d.names sort ns >>= λ names. Ok (record d { names = names; made = d.made ++ replicate (length ns) sort; place = Making })
 
 -- shown literals
-abbrev pub shows : Draft → List RawLit → Result Draft Kind
+abbrev pub shows : TheoremParser → List RawLit → Result TheoremParser FaultKind
 shows d raws = with_front d.shown (lits_in d.names raws) >>= λ ls. few_monos raws >>= λ few. Ok (record d { shown = ls; place = Showing })
 
 -- the proof begins with the declared objects, and the names of the made ones are free again
-abbrev pub proof_begun : Draft → Result Draft Kind
+abbrev pub proof_begun : TheoremParser → Result TheoremParser FaultKind
 proof_begun d = Ok (record d { in_scope = declared_names (stated (statement_of_draft d)) d.names; place = Proving })
 
 -- a citation: its rule, its names and its literal, then the limits
-abbrev pub cited : Draft → List ℕ → List (List ℕ) → RawLit → Result Draft Kind
+abbrev pub cited : TheoremParser → List ℕ → List (List ℕ) → RawLit → Result TheoremParser FaultKind
 cited d r ns l = by_in d.in_scope r ns l >>= λ b. with_step d (Cited b) 1
 
 -- a literal that is to be allowed: its names, then the limits
-abbrev pub inferred : Draft → RawLit → Result Draft Kind
+abbrev pub inferred : TheoremParser → RawLit → Result TheoremParser FaultKind
 inferred d raw = lit_in d.in_scope raw >>= λ l. with_step d (Inferred l None) 1 >>= λ e. with_terms e (raw ∷ [])
 
 -- the close by qed: its objects, then the limit of steps
-abbrev pub concluded : Draft → List (List ℕ) → Result Draft Kind
+abbrev pub concluded : TheoremParser → List (List ℕ) → Result TheoremParser FaultKind
 concluded d ns = qed_in d.in_scope (made_in d.outers d.made) ns >>= λ objects. shut d (closes.Qed objects)
 
-unfoldable pub stepped : List Headed → Draft → Form → Result Draft Kind
-stepped known d (forms.Theorem t) = Err Malformed
-stepped known d (forms.Declare sort ns) = declares d sort ns
-stepped known d (forms.Given raws) = supposes d raws
-stepped known d (forms.Made sort ns) = makes d sort ns
-stepped known d (forms.Show raws) = shows d raws
-stepped known d forms.Proof = proof_begun d
-stepped known d (forms.By r ns l) = cited d r ns l
-stepped known d (forms.Hence raw) = inferred d raw
-stepped known d (forms.Let raw) = built d raw
-stepped known d (forms.Apply raw) = applied known d raw
-stepped known d (forms.Qed ns) = concluded d ns
-stepped known d forms.Contradiction = shut d closes.Contradiction
-stepped known d (forms.Claim raws) = claimed d raws
-stepped known d (forms.Superpose raw) = superposed d raw
-stepped known d (forms.Cases raw) = split d raw
-stepped known d forms.Else = Ok (record d { place = Proving })
-stepped known d forms.End = Ok (record d { place = Done })
+unfoldable pub stepped : List TitledStatement → TheoremParser → RawLine → Result TheoremParser FaultKind
+stepped known d (rawlines.Theorem t) = Err Malformed
+stepped known d (rawlines.Declare sort ns) = declares d sort ns
+stepped known d (rawlines.Given raws) = supposes d raws
+stepped known d (rawlines.Made sort ns) = makes d sort ns
+stepped known d (rawlines.Show raws) = shows d raws
+stepped known d rawlines.Proof = proof_begun d
+stepped known d (rawlines.By r ns l) = cited d r ns l
+stepped known d (rawlines.Hence raw) = inferred d raw
+stepped known d (rawlines.Let raw) = built d raw
+stepped known d (rawlines.Apply raw) = applied known d raw
+stepped known d (rawlines.Qed ns) = concluded d ns
+stepped known d rawlines.Contradiction = shut d closes.Contradiction
+stepped known d (rawlines.Claim raws) = claimed d raws
+stepped known d (rawlines.Superpose raw) = superposed d raw
+stepped known d (rawlines.Cases raw) = split d raw
+stepped known d rawlines.Else = Ok (record d { place = Proving })
+stepped known d rawlines.End = Ok (record d { place = Done })
 
 -- a line at its place: its form there, then its names from left to right, then the limits
-unfoldable pub step : List Headed → Draft → Form → Result Draft Kind
+unfoldable pub step : List TitledStatement → TheoremParser → RawLine → Result TheoremParser FaultKind
 step known d form = if allowed d.place form then stepped known d form else Err Malformed
 
 -- how many names there are
@@ -290,25 +290,25 @@ abbrev pub count_names : Names → ℕ
 count_names ns = length ns.points + length ns.lines + length ns.circles
 
 -- how many literals the inner block begins with, where `else` begins another with as many
-abbrev pub begun_with : Opened → ℕ
+abbrev pub begun_with : BlockKind → ℕ
 begun_with (opened.First lit) = 1
 begun_with other = 0
 
 -- how many monomials they have
-abbrev pub begun_terms : Opened → ℕ
+abbrev pub begun_terms : BlockKind → ℕ
 begun_terms (opened.First lit) = monomials lit.atom
 begun_terms other = 0
 
-pub record FitsOuter (o : Outer) : Type 0 where
+pub record FitsOuter (o : OpenBlock) : Type 0 where
   pub in_scope : FewNamed o.in_scope
   pub facts : o.facts + begun_with o.opened ≤ most_facts
   pub terms : o.terms + begun_terms o.opened ≤ most_terms
 
-abbrev pub AllFit : List Outer → Type 0
+abbrev pub AllFit : List OpenBlock → Type 0
 AllFit [] = Unit {0}
 AllFit (o ∷ os) = FitsOuter o × AllFit os
 
-pub record FitsScope (d : Draft) : Type 0 where
+pub record FitsScope (d : TheoremParser) : Type 0 where
   pub names : FewNamed d.names
   pub in_scope : FewNamed d.in_scope
   -- no more objects are declared than have names
@@ -320,7 +320,7 @@ pub record FitsScope (d : Draft) : Type 0 where
   pub shallow : length d.outers + 1 ≤ most_depth
 
 -- a block inside the open one, with so many facts, is within the limits
-pub record HasRoom (d : Draft) (given : ℕ) : Type 0 where
+pub record HasRoom (d : TheoremParser) (given : ℕ) : Type 0 where
   pub lines : d.lines + 1 ≤ most_steps
   pub depth : length d.outers + 2 ≤ most_depth
   pub facts : d.facts + given ≤ most_facts
@@ -329,10 +329,10 @@ abbrev pub no_names : Names
 no_names = record { points = []; lines = []; circles = [] }
 
 -- a theorem of which only the title has come
-abbrev pub begun : List ℕ → Draft
+abbrev pub begun : List ℕ → TheoremParser
 begun title = record { title = title; names = no_names; in_scope = no_names; declared = []; given = []; made = []; shown = []; steps = []; lines = 0; facts = 0; terms = 0; outers = []; close = closes.Qed []; place = Declaring }
 
 -- a theorem begins with its title, which no earlier one has
-unfoldable pub begin : List Headed → Form → Result Draft Kind
-begin known (forms.Theorem t) = if is_known known t then Err NameTaken else (within (length known + 1) most_theorems limits.Theorems >>= λ few. Ok (begun t))
+unfoldable pub begin : List TitledStatement → RawLine → Result TheoremParser FaultKind
+begin known (rawlines.Theorem t) = if is_known known t then Err NameTaken else (within (length known + 1) most_theorems limits.Theorems >>= λ few. Ok (begun t))
 begin known form = Err Malformed

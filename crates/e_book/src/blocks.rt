@@ -48,7 +48,7 @@ impl Closed {
 
 /// What began a block inside another.
 #[derive(Drop)]
-pub enum Opened {
+pub enum BlockKind {
     /// `claim`, with the literals that the block shows.
     Claim {
         shown: Items<Lit>,
@@ -72,7 +72,7 @@ pub enum Opened {
 
 /// A block that another one inside it interrupts.
 #[derive(Drop)]
-pub struct Outer {
+pub struct OpenBlock {
     /// Its steps so far.
     pub steps: Steps,
     /// The names of the objects in scope there.
@@ -82,34 +82,34 @@ pub struct Outer {
     /// How many monomials they have.
     pub terms: usize,
     /// What began the inner block.
-    pub opened: Opened,
+    pub opened: BlockKind,
 }
 
 /// The blocks that are interrupted, seen as a list with the innermost first.
 #[derive(Drop)]
-pub struct Outers {
-    outers: Vec<Outer>,
+pub struct BlockStack {
+    outers: Vec<OpenBlock>,
 }
 
-impl Model for Outers {
+impl Model for BlockStack {
     ghost use Rattle.std.specs.Prelude.{List, reverse};
     ghost use Rattle.std.specs.Coded.{coded_list};
-    ghost use Rattle.e_book.specs.declared.blocks.Outer.{Outer};
+    ghost use Rattle.e_book.specs.declared.blocks.OpenBlock.{OpenBlock};
     ghost use Rattle.e_book.specs.contracts.blocks.Outer as outer;
 
-    ghost Value = { List Outer };
+    ghost Value = { List OpenBlock };
 
     ghost coded = { coded_list outer.the_row.coded };
 
     ghost view = { λ o. reverse o.outers.items };
 }
 
-impl Outers {
+impl BlockStack {
     /// None.
-    pub fn new(alloc: Global) -> Outers
+    pub fn new(alloc: Global) -> BlockStack
         ensures { result ≡ [] }
     {
-        Outers {
+        BlockStack {
             outers: Vec::new(alloc),
         }
     }
@@ -122,14 +122,14 @@ impl Outers {
     }
 
     /// They, the outermost first.
-    pub fn items(&self) -> &[Outer]
+    pub fn items(&self) -> &[OpenBlock]
         ensures { reverse result.now ≡ self.now }
     {
         &self.outers
     }
 
     /// One more, which is the innermost now. It fails only for want of memory.
-    pub(crate) fn push(&mut self, outer: Outer) -> Result<(), AllocError>
+    pub(crate) fn push(&mut self, outer: OpenBlock) -> Result<(), AllocError>
         ensures { OnOk result (self.new ≡ outer ∷ self.old) }
     {
         self.outers.push(outer)?;
@@ -137,7 +137,7 @@ impl Outers {
     }
 
     /// Takes the innermost out.
-    pub fn pop(&mut self) -> Option<Outer>
+    pub fn pop(&mut self) -> Option<OpenBlock>
         ensures { TopIs self.old result self.new }
     {
         self.outers.pop()
@@ -153,18 +153,18 @@ impl Outers {
 }
 
 /// Whether one of these blocks was interrupted by a claim or a superposition.
-fn any_claim(outers: &[Outer]) -> bool
+fn any_claim(outers: &[OpenBlock]) -> bool
     ensures { result ≡ Rattle.e_book.specs.Blocks.has_claim outers.now }
 {
     outers.iter().any(|outer| is_claim(&outer.opened))
 }
 
 /// Whether the block has a goal of its own.
-fn is_claim(opened: &Opened) -> bool
+fn is_claim(opened: &BlockKind) -> bool
     ensures { result ≡ Rattle.e_book.specs.Blocks.is_claim opened.now }
 {
     match opened {
-        Opened::Claim { .. } | Opened::Superpose { .. } => true,
-        Opened::First { .. } | Opened::Second { .. } => false,
+        BlockKind::Claim { .. } | BlockKind::Superpose { .. } => true,
+        BlockKind::First { .. } | BlockKind::Second { .. } => false,
     }
 }

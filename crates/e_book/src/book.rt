@@ -2,7 +2,7 @@
 ghost use Rattle.std.specs.Prelude.{◌≡◌, ◌<◌, ◌^◌, length, None, IfOk, OnOk, IfSome, OnSome, IsTrue};
 ghost use Rattle.std.specs.List.{list_all};
 ghost use Rattle.e_deriv.specs.Fitting.{is_small_statement};
-ghost use Rattle.e_names.specs.Headed.{stated_by};
+ghost use Rattle.e_names.specs.TitledStatements.{stated_by};
 ghost use Rattle.e_names.specs.Titled.{are_notions};
 ghost use Rattle.e_book.specs.Grammar.{last_line};
 ghost use Rattle.e_book.specs.Definitions.{item_from, BookReads, IsGoodItem, IsFittingItem};

@@ -9,10 +9,12 @@ ghost use Rattle.e_book.specs.Definitions.{has_notion_title, OfNotion, view_of};
 ghost use Rattle.e_book.specs.Steps.{allowed, FitsScope};
 ghost use Rattle.e_book.specs.inner.Machine.{FitsComing, is_ready, written, begins, begins_theorem, begins_definition, step, goes_on, defines_on, lists, item_of, notion_of_draft};
 
-use crate::draft::{Draft, Place, allowed};
+use crate::draft::{Section, TheoremParser, allowed};
 use crate::item::Item;
 use crate::limits::MAX_NOTIONS;
-use e_line::{Form, Kind, Listing, RawItem, RawLine, RawLit, RawSuperpose, Trouble, What, within};
+use e_line::{
+    BookLine, FaultKind, LineError, Listing, RawItem, RawLine, RawLit, RawSuperpose, What, within,
+};
 use e_literal::Items;
 use e_names::{Known, MAX_EXPANDED, fresh, placed_in, put_items};
 use e_text::{Name, Title};
@@ -25,29 +27,29 @@ use std::mem;
 pub struct Coming {
     /// Whether it is a definition: what it means is what its draft shows.
     pub defines: bool,
-    pub draft: Draft,
+    pub draft: TheoremParser,
     /// How many literals its items stand for.
     pub expanded: usize,
 }
 
 /// Whether it begins a theorem with the title of a definition.
-fn has_notion_title(known: &Known, form: &Form) -> bool
+fn has_notion_title(known: &Known, form: &RawLine) -> bool
     ensures { result ≡ has_notion_title known.now.notions form.now }
 {
     match form {
-        Form::Theorem(title) => known.notions.is_known(*title),
+        RawLine::Theorem(title) => known.notions.is_known(*title),
         _ => false,
     }
 }
 
 /// A line with these literals.
-fn listing_form(alloc: Global, line: &Listing, raws: Items<RawLit>) -> Result<Form, AllocError>
+fn listing_form(alloc: Global, line: &Listing, raws: Items<RawLit>) -> Result<RawLine, AllocError>
     ensures { IfOk result (λ f. f ≡ listing_form line.now raws) }
 {
     match line {
-        Listing::Given => Ok(Form::Given(raws)),
-        Listing::Show => Ok(Form::Show(raws)),
-        Listing::Claim => Ok(Form::Claim(raws)),
+        Listing::Given => Ok(RawLine::Given(raws)),
+        Listing::Show => Ok(RawLine::Show(raws)),
+        Listing::Claim => Ok(RawLine::Claim(raws)),
         Listing::Superpose { args, new } => superpose_form(alloc, args.items(), new.items(), raws),
     }
 }
@@ -57,44 +59,44 @@ fn superpose_form(
     args: &[Name],
     new: &[Name],
     shown: Items<RawLit>,
-) -> Result<Form, AllocError>
+) -> Result<RawLine, AllocError>
     ensures { IfOk result (λ f. f ≡ superpose_form args.now new.now shown) }
 {
     let args = Items::new(Vec::from_slice(alloc, args)?);
     let new = Items::new(Vec::from_slice(alloc, new)?);
-    Ok(Form::Superpose(RawSuperpose { args, new, shown }))
+    Ok(RawLine::Superpose(RawSuperpose { args, new, shown }))
 }
 
 /// A line with its items written out, and how many literals they stand for.
 #[derive(Drop)]
 struct Written {
-    form: Form,
+    form: RawLine,
     count: usize,
 }
 
 impl Coming {
     /// The first line.
     #[tactic(auto, unfolding(crate::specs::inner::Machine::begins))]
-    pub(crate) fn begin(alloc: Global, known: &Known, line: &RawLine) -> Result<Coming, Trouble>
+    pub(crate) fn begin(alloc: Global, known: &Known, line: &BookLine) -> Result<Coming, LineError>
         ensures value { Gives (λ c. c) result (begins known.now line.now) }
         ensures fits { IfOk result (FitsComing known.now) }
     {
         match line {
-            RawLine::Plain(form) => Coming::begin_theorem(alloc, known, form),
-            RawLine::Define(title) => Coming::begin_definition(alloc, known, *title),
-            RawLine::Listed(_, _) => Err(Trouble::Fault(Kind::Malformed)),
+            BookLine::Plain(form) => Coming::begin_theorem(alloc, known, form),
+            BookLine::Define(title) => Coming::begin_definition(alloc, known, *title),
+            BookLine::Listed(_, _) => Err(LineError::Fault(FaultKind::Malformed)),
         }
     }
 
     #[tactic(auto, unfolding(crate::specs::inner::Machine::begins_theorem))]
-    fn begin_theorem(alloc: Global, known: &Known, form: &Form) -> Result<Coming, Trouble>
+    fn begin_theorem(alloc: Global, known: &Known, form: &RawLine) -> Result<Coming, LineError>
         ensures value { Gives (λ c. c) result (begins_theorem known.now form.now) }
         ensures fits { IfOk result (FitsComing known.now) }
     {
         if has_notion_title(known, form) {
-            return Err(Trouble::Fault(Kind::NameTaken));
+            return Err(LineError::Fault(FaultKind::NameTaken));
         }
-        let draft = Draft::begin(alloc, &known.theorems, form)?;
+        let draft = TheoremParser::begin(alloc, &known.theorems, form)?;
         Ok(Coming {
             defines: false,
             draft,
@@ -103,19 +105,19 @@ impl Coming {
     }
 
     #[tactic(auto, unfolding(crate::specs::inner::Machine::begins_definition))]
-    fn begin_definition(alloc: Global, known: &Known, title: Title) -> Result<Coming, Trouble>
+    fn begin_definition(alloc: Global, known: &Known, title: Title) -> Result<Coming, LineError>
         ensures value { Gives (λ c. c) result (begins_definition known.now title) }
         ensures fits { IfOk result (FitsComing known.now) }
     {
         if known.is_taken(title) {
-            return Err(Trouble::Fault(Kind::NameTaken));
+            return Err(LineError::Fault(FaultKind::NameTaken));
         }
         if known.notions.len() >= MAX_NOTIONS {
-            return Err(Trouble::Fault(Kind::Limit(What::Notions)));
+            return Err(LineError::Fault(FaultKind::Limit(What::Notions)));
         }
         Ok(Coming {
             defines: true,
-            draft: Draft::begun(alloc, title),
+            draft: TheoremParser::begun(alloc, title),
             expanded: 0,
         })
     }
@@ -125,8 +127,8 @@ impl Coming {
         mut self,
         alloc: Global,
         known: &Known,
-        line: &RawLine,
-    ) -> Result<Coming, Trouble>
+        line: &BookLine,
+    ) -> Result<Coming, LineError>
         requires coming { FitsComing known.now self }
         requires notions { IsTrue (are_notions known.now.notions) }
         ensures value { Gives (λ c. c) result (step known.now self line.now) }
@@ -142,22 +144,22 @@ impl Coming {
     }
 
     #[tactic(auto, unfolding(crate::specs::inner::Machine::step))]
-    fn step(&mut self, alloc: Global, known: &Known, line: &RawLine) -> Result<(), Trouble>
+    fn step(&mut self, alloc: Global, known: &Known, line: &BookLine) -> Result<(), LineError>
         requires coming { FitsComing known.now self.old }
         requires notions { IsTrue (are_notions known.now.notions) }
         ensures value { Moves result self.new (step known.now self.old line.now) }
         ensures fits { OnOk result (FitsComing known.now self.new) }
     {
         match line {
-            RawLine::Plain(form) => self.go_on(alloc, known, form),
-            RawLine::Define(_) => Err(Trouble::Fault(Kind::Malformed)),
-            RawLine::Listed(line, items) => self.list(alloc, known, line, items.items()),
+            BookLine::Plain(form) => self.go_on(alloc, known, form),
+            BookLine::Define(_) => Err(LineError::Fault(FaultKind::Malformed)),
+            BookLine::Listed(line, items) => self.list(alloc, known, line, items.items()),
         }
     }
 
     /// A line without items.
     #[tactic(auto, unfolding(crate::specs::inner::Machine::goes_on))]
-    fn go_on(&mut self, alloc: Global, known: &Known, form: &Form) -> Result<(), Trouble>
+    fn go_on(&mut self, alloc: Global, known: &Known, form: &RawLine) -> Result<(), LineError>
         requires coming { FitsComing known.now self.old }
         ensures value { Moves result self.new (goes_on known.now self.old form.now) }
         ensures fits { OnOk result (FitsComing known.now self.new) }
@@ -170,27 +172,27 @@ impl Coming {
 
     /// A line of a definition.
     #[tactic(auto, unfolding(crate::specs::inner::Machine::defines_on))]
-    fn define(&mut self, alloc: Global, form: &Form) -> Result<(), Trouble>
+    fn define(&mut self, alloc: Global, form: &RawLine) -> Result<(), LineError>
         requires { FitsScope self.old.draft }
         ensures value { Moves result self.new.draft (defines_on self.old.draft form.now) }
         ensures fits { OnOk result (FitsScope self.new.draft) }
         ensures kept { (self.new.defines ≡ self.old.defines) × (self.new.expanded ≡ self.old.expanded) }
     {
         match form {
-            Form::Declare(sort, names) => {
+            RawLine::Declare(sort, names) => {
                 right_place(allowed(self.draft.place, form))?;
-                self.draft.declare(alloc, *sort, names.items())
+                self.draft.on_declare(alloc, *sort, names.items())
             }
-            Form::Show(raw) => {
+            RawLine::Show(raw) => {
                 right_place(allowed(self.draft.place, form))?;
-                self.draft.show(alloc, raw.items())
+                self.draft.on_show(alloc, raw.items())
             }
-            Form::End => {
-                right_place(matches!(self.draft.place, Place::Showing))?;
-                self.draft.place = Place::Done;
+            RawLine::End => {
+                right_place(matches!(self.draft.place, Section::Showing))?;
+                self.draft.place = Section::Done;
                 Ok(())
             }
-            _ => Err(Trouble::Fault(Kind::Malformed)),
+            _ => Err(LineError::Fault(FaultKind::Malformed)),
         }
     }
 
@@ -202,7 +204,7 @@ impl Coming {
         known: &Known,
         line: &Listing,
         items: &[RawItem],
-    ) -> Result<(), Trouble>
+    ) -> Result<(), LineError>
         requires coming { FitsComing known.now self.old }
         requires notions { IsTrue (are_notions known.now.notions) }
         ensures value { Moves result self.new (lists known.now self.old line.now items.now) }
@@ -225,7 +227,7 @@ impl Coming {
         known: &Known,
         line: &Listing,
         items: &[RawItem],
-    ) -> Result<Written, Trouble>
+    ) -> Result<Written, LineError>
         requires coming { FitsComing known.now self.now }
         requires notions { IsTrue (are_notions known.now.notions) }
         ensures value { Gives (λ w. (w.form, w.count)) result (written known.now.notions self.now.draft line.now items.now) }
@@ -252,10 +254,10 @@ impl Coming {
 }
 
 /// The definition that the lines make.
-fn into_definition(draft: Draft) -> Item
+fn into_definition(draft: TheoremParser) -> Item
     ensures { view_of result ≡ OfNotion (notion_of_draft draft) }
 {
-    let Draft {
+    let TheoremParser {
         title,
         declared,
         shown,
@@ -271,17 +273,17 @@ fn into_definition(draft: Draft) -> Item
 }
 
 /// Whether a line that takes literals may come at a place.
-fn may_come(place: Place, line: &Listing) -> bool
+fn may_come(place: Section, line: &Listing) -> bool
     ensures { result ≡ allowed place (listing_form line.now []) }
 {
     match line {
-        Listing::Given => matches!(place, Place::Declaring | Place::Giving),
+        Listing::Given => matches!(place, Section::Declaring | Section::Giving),
         Listing::Show => matches!(
             place,
-            Place::Declaring | Place::Giving | Place::Making | Place::Showing
+            Section::Declaring | Section::Giving | Section::Making | Section::Showing
         ),
-        Listing::Claim => matches!(place, Place::Proving),
-        Listing::Superpose { .. } => matches!(place, Place::Proving),
+        Listing::Claim => matches!(place, Section::Proving),
+        Listing::Superpose { .. } => matches!(place, Section::Proving),
     }
 }
 
@@ -292,9 +294,9 @@ fn is_show(line: &Listing) -> bool
     matches!(line, Listing::Show)
 }
 
-impl Draft {
+impl TheoremParser {
     /// Whether a line that takes literals may come here, and then the names before them, from left to right.
-    fn ready(&self, line: &Listing) -> Result<(), Trouble>
+    fn ready(&self, line: &Listing) -> Result<(), LineError>
         requires { FitsScope self.now }
         ensures { Gives (λ u. u) result (is_ready self.now line.now) }
     {
@@ -309,12 +311,12 @@ impl Draft {
     }
 }
 
-fn right_place(right: bool) -> Result<(), Trouble>
+fn right_place(right: bool) -> Result<(), LineError>
     ensures { Gives (λ u. u) result (right_count right) }
 {
     if right {
         Ok(())
     } else {
-        Err(Trouble::Fault(Kind::Malformed))
+        Err(LineError::Fault(FaultKind::Malformed))
     }
 }

@@ -7,7 +7,7 @@ ghost use Rattle.e_deriv.specs.Naming.{named};
 ghost use Rattle.e_book.specs.LineLimits.{few_objects, FewNamed};
 ghost use Rattle.e_book.specs.Steps.{allowed, declared, no_names, count_names};
 
-use crate::blocks::Outers;
+use crate::blocks::BlockStack;
 use crate::limits::{
     MAX_BLANKS, MAX_FACTS, MAX_STEPS, MAX_THEOREMS, few_objects, most_of, terms_of, terms_with,
     what_of,
@@ -16,7 +16,7 @@ use crate::steps::{CloseLine, Steps};
 use crate::theorem::Theorem;
 use e_construct::Construction;
 use e_deriv::{Names, Step};
-use e_line::{Form, Kind, RawApply, RawLet, RawLit, Trouble, What, few_monos, within};
+use e_line::{FaultKind, LineError, RawApply, RawLet, RawLine, RawLit, What, few_monos, within};
 use e_literal::{Items, Lit, NOTHING, Scope, Sort, grown};
 use e_names::{
     Application, Theorems, apply_in, by_in, count_blanks, fresh, let_in, lit_in, put_lits,
@@ -29,7 +29,7 @@ use std::{mem, slice};
 
 /// Which lines may come.
 #[derive(Clone, Copy, PartialEq, Eq)]
-pub enum Place {
+pub enum Section {
     Declaring,
     Giving,
     Making,
@@ -43,7 +43,7 @@ pub enum Place {
 
 /// What the lines of a theorem have said so far.
 #[derive(Drop)]
-pub struct Draft {
+pub struct TheoremParser {
     pub title: Title,
     /// The names of the statement's objects: of the declared ones and, behind them, of the made ones.
     pub names: Names,
@@ -62,36 +62,39 @@ pub struct Draft {
     /// How many monomials they have.
     pub terms: usize,
     /// The blocks around the one that is open.
-    pub outers: Outers,
+    pub outers: BlockStack,
     /// How the proof's block is closed; before that a `qed` without objects.
     pub close: CloseLine,
-    pub place: Place,
+    pub place: Section,
 }
 
-pub(crate) fn allowed(place: Place, form: &Form) -> bool
+pub(crate) fn allowed(place: Section, form: &RawLine) -> bool
     ensures { result ≡ allowed place form.now }
 {
     match form {
-        Form::Theorem(_) => false,
-        Form::Declare(_, _) => matches!(place, Place::Declaring),
-        Form::Given(_) => matches!(place, Place::Declaring | Place::Giving),
-        Form::Made(_, _) => matches!(place, Place::Declaring | Place::Giving | Place::Making),
-        Form::Show(_) => matches!(
+        RawLine::Theorem(_) => false,
+        RawLine::Declare(_, _) => matches!(place, Section::Declaring),
+        RawLine::Given(_) => matches!(place, Section::Declaring | Section::Giving),
+        RawLine::Made(_, _) => matches!(
             place,
-            Place::Declaring | Place::Giving | Place::Making | Place::Showing
+            Section::Declaring | Section::Giving | Section::Making
         ),
-        Form::Proof => matches!(place, Place::Showing),
-        Form::By(..) => matches!(place, Place::Proving),
-        Form::Hence(_) => matches!(place, Place::Proving),
-        Form::Let(_) => matches!(place, Place::Proving),
-        Form::Apply(_) => matches!(place, Place::Proving),
-        Form::Qed(_) => matches!(place, Place::Proving),
-        Form::Contradiction => matches!(place, Place::Proving),
-        Form::Claim(_) => matches!(place, Place::Proving),
-        Form::Superpose(_) => matches!(place, Place::Proving),
-        Form::Cases(_) => matches!(place, Place::Proving),
-        Form::Else => matches!(place, Place::Splitting),
-        Form::End => matches!(place, Place::Closed),
+        RawLine::Show(_) => matches!(
+            place,
+            Section::Declaring | Section::Giving | Section::Making | Section::Showing
+        ),
+        RawLine::Proof => matches!(place, Section::Showing),
+        RawLine::By(..) => matches!(place, Section::Proving),
+        RawLine::Hence(_) => matches!(place, Section::Proving),
+        RawLine::Let(_) => matches!(place, Section::Proving),
+        RawLine::Apply(_) => matches!(place, Section::Proving),
+        RawLine::Qed(_) => matches!(place, Section::Proving),
+        RawLine::Contradiction => matches!(place, Section::Proving),
+        RawLine::Claim(_) => matches!(place, Section::Proving),
+        RawLine::Superpose(_) => matches!(place, Section::Proving),
+        RawLine::Cases(_) => matches!(place, Section::Proving),
+        RawLine::Else => matches!(place, Section::Splitting),
+        RawLine::End => matches!(place, Section::Closed),
     }
 }
 
@@ -120,7 +123,7 @@ fn append_names(names: &mut Names, sort: Sort, new: &[Name]) -> Result<(), Alloc
 
 /// New objects of a sort: names that are free, and the limit of the sort.
 #[tactic(auto, unfolding(crate::specs::Steps::declared))]
-pub fn declare(names: &mut Names, sort: Sort, new: &[Name]) -> Result<(), Trouble>
+pub fn declare(names: &mut Names, sort: Sort, new: &[Name]) -> Result<(), LineError>
     requires { FewNamed names.old }
     ensures count { OnOk result (count_names names.new ≡ count_names names.old + length new.now) }
     ensures value { Moves result names.new (declared names.old sort new.now) }
@@ -128,7 +131,7 @@ pub fn declare(names: &mut Names, sort: Sort, new: &[Name]) -> Result<(), Troubl
 {
     fresh(names, new)?;
     if new.len() > most_of(sort) - names.of_sort(sort).len() {
-        return Err(Trouble::Fault(Kind::Limit(what_of(sort))));
+        return Err(LineError::Fault(FaultKind::Limit(what_of(sort))));
     }
     append_names(names, sort, new)?;
     Ok(())
@@ -152,7 +155,7 @@ fn count_given(alloc: Global, form: &Construction, scope: Scope) -> Result<usize
     Ok(given.len())
 }
 
-impl Draft {
+impl TheoremParser {
     ghost use Rattle.e_deriv.specs.Naming.{named};
     ghost use Rattle.e_deriv.specs.PlainStep.{plain_step};
     ghost use Rattle.e_theorem.specs.Statements.{stated};
@@ -160,34 +163,38 @@ impl Draft {
     ghost use Rattle.e_book.specs.LineLimits.{few_objects};
     ghost use Rattle.e_book.specs.Steps.{FitsScope, begin, begun, step, stepped, declares, supposes, makes, shows, proof_begun, cited, inferred, with_step, with_terms, built, used_by, applied};
     ghost use Rattle.e_book.specs.DraftViews.{entry_of_draft};
-    ghost use Rattle.e_book.specs.Entry.{entry_of};
+    ghost use Rattle.e_book.specs.TheoremViews.{entry_of};
     ghost use Rattle.e_book.specs.inner.Machine.{names_there};
 
     /// A theorem begun by its first line.
     #[tactic(auto, unfolding(crate::specs::Steps::begin))]
-    pub fn begin(alloc: Global, known: &Theorems, form: &Form) -> Result<Draft, Trouble>
+    pub fn begin(
+        alloc: Global,
+        known: &Theorems,
+        form: &RawLine,
+    ) -> Result<TheoremParser, LineError>
         ensures value { Gives (λ d. d) result (begin known.now form.now) }
         ensures fits { IfOk result FitsScope }
         ensures few { OnOk result (length known.now ≤ most_theorems) }
     {
-        let Form::Theorem(title) = form else {
-            return Err(Trouble::Fault(Kind::Malformed));
+        let RawLine::Theorem(title) = form else {
+            return Err(LineError::Fault(FaultKind::Malformed));
         };
         if known.is_known(*title) {
-            return Err(Trouble::Fault(Kind::NameTaken));
+            return Err(LineError::Fault(FaultKind::NameTaken));
         }
         if known.len() >= MAX_THEOREMS {
-            return Err(Trouble::Fault(Kind::Limit(What::Theorems)));
+            return Err(LineError::Fault(FaultKind::Limit(What::Theorems)));
         }
-        Ok(Draft::begun(alloc, *title))
+        Ok(TheoremParser::begun(alloc, *title))
     }
 
     /// What has come where only the title has.
-    pub(crate) fn begun(alloc: Global, title: Title) -> Draft
+    pub(crate) fn begun(alloc: Global, title: Title) -> TheoremParser
         ensures value { result ≡ begun title }
         ensures fits { FitsScope result }
     {
-        Draft {
+        TheoremParser {
             title,
             names: no_names(alloc),
             in_scope: no_names(alloc),
@@ -199,9 +206,9 @@ impl Draft {
             lines: 0,
             facts: 0,
             terms: 0,
-            outers: Outers::new(alloc),
+            outers: BlockStack::new(alloc),
             close: CloseLine::Qed(Items::empty(alloc)),
-            place: Place::Declaring,
+            place: Section::Declaring,
         }
     }
 
@@ -210,13 +217,18 @@ impl Draft {
         ensures { result.now ≡ names_there self.now }
     {
         match self.place {
-            Place::Proving => &self.in_scope,
+            Section::Proving => &self.in_scope,
             _ => &self.names,
         }
     }
 
     /// The draft with the next line.
-    pub fn taking(mut self, alloc: Global, known: &Theorems, form: &Form) -> Result<Draft, Trouble>
+    pub fn taking(
+        mut self,
+        alloc: Global,
+        known: &Theorems,
+        form: &RawLine,
+    ) -> Result<TheoremParser, LineError>
         requires draft { FitsScope self }
         requires known { length known.now ≤ most_theorems }
         ensures value { Gives (λ d. d) result (step known.now self form.now) }
@@ -237,60 +249,60 @@ impl Draft {
         &mut self,
         alloc: Global,
         known: &Theorems,
-        form: &Form,
-    ) -> Result<(), Trouble>
+        form: &RawLine,
+    ) -> Result<(), LineError>
         requires draft { FitsScope self.old }
         requires known { length known.now ≤ most_theorems }
         ensures value { Moves result self.new (step known.now self.old form.now) }
         ensures fits { OnOk result (FitsScope self.new) }
     {
         if !allowed(self.place, form) {
-            return Err(Trouble::Fault(Kind::Malformed));
+            return Err(LineError::Fault(FaultKind::Malformed));
         }
         self.stepped(alloc, known, form)
     }
 
     #[tactic(auto, unfolding(crate::specs::Steps::stepped))]
-    fn stepped(&mut self, alloc: Global, known: &Theorems, form: &Form) -> Result<(), Trouble>
+    fn stepped(&mut self, alloc: Global, known: &Theorems, form: &RawLine) -> Result<(), LineError>
         requires draft { FitsScope self.old }
         requires known { length known.now ≤ most_theorems }
         ensures value { Moves result self.new (stepped known.now self.old form.now) }
         ensures fits { OnOk result (FitsScope self.new) }
     {
         match form {
-            Form::Theorem(_) => Err(Trouble::Fault(Kind::Malformed)),
-            Form::Declare(sort, names) => self.declare(alloc, *sort, names.items()),
-            Form::Given(raw) => self.give(alloc, raw.items()),
-            Form::Made(sort, names) => self.make(alloc, *sort, names.items()),
-            Form::Show(raw) => self.show(alloc, raw.items()),
-            Form::Proof => self.begin_proof(alloc),
-            Form::By(rule, args, lit) => self.cite(alloc, *rule, args.items(), lit),
-            Form::Hence(raw) => self.infer(alloc, raw),
-            Form::Let(raw) => self.build(alloc, raw),
-            Form::Apply(raw) => self.apply(alloc, known, raw),
-            Form::Qed(names) => self.conclude(alloc, names.items()),
-            Form::Contradiction => self.shut(alloc, CloseLine::Contradiction),
-            Form::Claim(raw) => self.claim(alloc, raw.items()),
-            Form::Superpose(raw) => self.superpose(alloc, raw),
-            Form::Cases(raw) => self.split(alloc, raw),
-            Form::Else => {
-                self.place = Place::Proving;
+            RawLine::Theorem(_) => Err(LineError::Fault(FaultKind::Malformed)),
+            RawLine::Declare(sort, names) => self.on_declare(alloc, *sort, names.items()),
+            RawLine::Given(raw) => self.on_given(alloc, raw.items()),
+            RawLine::Made(sort, names) => self.on_made(alloc, *sort, names.items()),
+            RawLine::Show(raw) => self.on_show(alloc, raw.items()),
+            RawLine::Proof => self.on_proof(alloc),
+            RawLine::By(rule, args, lit) => self.on_by(alloc, *rule, args.items(), lit),
+            RawLine::Hence(raw) => self.on_hence(alloc, raw),
+            RawLine::Let(raw) => self.on_let(alloc, raw),
+            RawLine::Apply(raw) => self.on_apply(alloc, known, raw),
+            RawLine::Qed(names) => self.on_qed(alloc, names.items()),
+            RawLine::Contradiction => self.on_close(alloc, CloseLine::Contradiction),
+            RawLine::Claim(raw) => self.on_claim(alloc, raw.items()),
+            RawLine::Superpose(raw) => self.on_superpose(alloc, raw),
+            RawLine::Cases(raw) => self.on_cases(alloc, raw),
+            RawLine::Else => {
+                self.place = Section::Proving;
                 Ok(())
             }
-            Form::End => {
-                self.place = Place::Done;
+            RawLine::End => {
+                self.place = Section::Done;
                 Ok(())
             }
         }
     }
 
     /// Declared objects.
-    pub(crate) fn declare(
+    pub(crate) fn on_declare(
         &mut self,
         alloc: Global,
         sort: Sort,
         names: &[Name],
-    ) -> Result<(), Trouble>
+    ) -> Result<(), LineError>
         requires { FitsScope self.old }
         ensures value { Moves result self.new (declares self.old sort names.now) }
         ensures fits { OnOk result (FitsScope self.new) }
@@ -302,7 +314,7 @@ impl Draft {
     }
 
     /// Made objects.
-    fn make(&mut self, alloc: Global, sort: Sort, names: &[Name]) -> Result<(), Trouble>
+    fn on_made(&mut self, alloc: Global, sort: Sort, names: &[Name]) -> Result<(), LineError>
         requires { FitsScope self.old }
         ensures value { Moves result self.new (makes self.old sort names.now) }
         ensures fits { OnOk result (FitsScope self.new) }
@@ -310,24 +322,24 @@ impl Draft {
         declare(&mut self.names, sort, names)?;
         let sorts = repeated(alloc, sort, names.len())?;
         self.made.append(sorts.items())?;
-        self.place = Place::Making;
+        self.place = Section::Making;
         Ok(())
     }
 
     /// Shown literals: their names, and then the limits of each.
-    pub(crate) fn show(&mut self, alloc: Global, raw: &[RawLit]) -> Result<(), Trouble>
+    pub(crate) fn on_show(&mut self, alloc: Global, raw: &[RawLit]) -> Result<(), LineError>
         requires { FitsScope self.old }
         ensures value { Moves result self.new (shows self.old raw.now) }
         ensures fits { OnOk result (FitsScope self.new) }
     {
         put_lits(alloc, &self.names, raw, &mut self.shown)?;
         few_monos(raw)?;
-        self.place = Place::Showing;
+        self.place = Section::Showing;
         Ok(())
     }
 
     /// The proof begins with the declared objects.
-    fn begin_proof(&mut self, alloc: Global) -> Result<(), Trouble>
+    fn on_proof(&mut self, alloc: Global) -> Result<(), LineError>
         requires { FitsScope self.old }
         ensures value { Moves result self.new (proof_begun self.old) }
         ensures fits { OnOk result (FitsScope self.new) }
@@ -335,28 +347,28 @@ impl Draft {
         let scope = grown(NOTHING, self.declared.items());
         let first = self.names.first(alloc, scope)?;
         mem::drop(mem::replace(&mut self.in_scope, first));
-        self.place = Place::Proving;
+        self.place = Section::Proving;
         Ok(())
     }
 
     /// Given literals: their names, and then the limits of facts and of monomials.
-    fn give(&mut self, alloc: Global, raw: &[RawLit]) -> Result<(), Trouble>
+    fn on_given(&mut self, alloc: Global, raw: &[RawLit]) -> Result<(), LineError>
         requires { FitsScope self.old }
         ensures value { Moves result self.new (supposes self.old raw.now) }
         ensures fits { OnOk result (FitsScope self.new) }
     {
         put_lits(alloc, &self.names, raw, &mut self.given)?;
         if raw.len() > MAX_FACTS - self.facts {
-            return Err(Trouble::Fault(Kind::Limit(What::Facts)));
+            return Err(LineError::Fault(FaultKind::Limit(What::Facts)));
         }
         self.facts += raw.len();
-        self.place = Place::Giving;
+        self.place = Section::Giving;
         self.add_terms(raw)
     }
 
     /// A literal that is to be allowed: its names, and then the limits.
     #[tactic(auto, unfolding(e_deriv::specs::PlainStep::plain_step))]
-    fn infer(&mut self, alloc: Global, raw: &RawLit) -> Result<(), Trouble>
+    fn on_hence(&mut self, alloc: Global, raw: &RawLit) -> Result<(), LineError>
         requires { FitsScope self.old }
         ensures value { Moves result self.new (inferred self.old raw.now) }
         ensures fits { OnOk result (FitsScope self.new) }
@@ -367,13 +379,13 @@ impl Draft {
     }
 
     /// A citation: its rule, names and literal, and then the limits.
-    fn cite(
+    fn on_by(
         &mut self,
         alloc: Global,
         rule: Title,
         args: &[Name],
         lit: &RawLit,
-    ) -> Result<(), Trouble>
+    ) -> Result<(), LineError>
         requires { FitsScope self.old }
         ensures value { Moves result self.new (cited self.old rule args.now lit.now) }
         ensures fits { OnOk result (FitsScope self.new) }
@@ -385,7 +397,7 @@ impl Draft {
     /// A construction: its names, and then the limits of objects, of steps and of facts. Its new objects are in scope
     /// after it.
     #[tactic(auto, unfolding(crate::specs::Steps::built, e_deriv::specs::PlainStep::plain_step))]
-    fn build(&mut self, alloc: Global, raw: &RawLet) -> Result<(), Trouble>
+    fn on_let(&mut self, alloc: Global, raw: &RawLet) -> Result<(), LineError>
         requires { FitsScope self.old }
         ensures value { Moves result self.new (built self.old raw.now) }
         ensures fits { OnOk result (FitsScope self.new) }
@@ -407,7 +419,7 @@ impl Draft {
         alloc: Global,
         sorts: &[Sort],
         new: &[Name],
-    ) -> Result<Items<Name>, Trouble>
+    ) -> Result<Items<Name>, LineError>
         ensures value { Gives (λ n. tt) result (few_objects (named self.old.in_scope sorts.now new.now)) }
         ensures names { IfOk result (λ n. n ≡ new.now) }
         ensures scope { OnOk result (self.new ≡ record self.old { in_scope = named self.old.in_scope sorts.now new.now }) }
@@ -421,7 +433,7 @@ impl Draft {
 
     /// The use of an earlier theorem: its title and the names, and then the limits.
     #[tactic(auto, unfolding(crate::specs::Steps::applied))]
-    fn apply(&mut self, alloc: Global, known: &Theorems, raw: &RawApply) -> Result<(), Trouble>
+    fn on_apply(&mut self, alloc: Global, known: &Theorems, raw: &RawApply) -> Result<(), LineError>
         requires draft { FitsScope self.old }
         requires known { length known.now ≤ most_theorems }
         ensures value { Moves result self.new (applied known.now self.old raw.now) }
@@ -441,7 +453,7 @@ impl Draft {
         statement: &Statement,
         application: Application,
         new: &[Name],
-    ) -> Result<(), Trouble>
+    ) -> Result<(), LineError>
         requires { FitsScope self.old }
         ensures value { Moves result self.new (used_by self.old (stated statement.now) application.theorem application.args new.now) }
         ensures fits { OnOk result (FitsScope self.new) }
@@ -462,7 +474,7 @@ impl Draft {
 
     /// A step that gives so many facts: the limit of steps, and then that of facts.
     #[tactic(auto, unfolding(crate::specs::Steps::with_step))]
-    fn add_step(&mut self, step: Step, given: usize) -> Result<(), Trouble>
+    fn add_step(&mut self, step: Step, given: usize) -> Result<(), LineError>
         requires { FitsScope self.old }
         ensures value { Moves result self.new (with_step self.old (plain_step step) given) }
         ensures fits { OnOk result (FitsScope self.new) }
@@ -473,7 +485,7 @@ impl Draft {
         }
         if given > MAX_FACTS - self.facts {
             mem::drop(step);
-            return Err(Trouble::Fault(Kind::Limit(What::Facts)));
+            return Err(LineError::Fault(FaultKind::Limit(What::Facts)));
         }
         self.steps.push(step)?;
         self.lines += 1;
@@ -483,7 +495,7 @@ impl Draft {
 
     /// The monomials of literals that become facts: the limits of each literal, and then that of all.
     #[tactic(auto, unfolding(crate::specs::Steps::with_terms))]
-    fn add_terms(&mut self, raw: &[RawLit]) -> Result<(), Trouble>
+    fn add_terms(&mut self, raw: &[RawLit]) -> Result<(), LineError>
         requires { FitsScope self.old }
         ensures value { Moves result self.new (with_terms self.old raw.now) }
         ensures fits { OnOk result (FitsScope self.new) }
@@ -497,7 +509,7 @@ impl Draft {
     pub fn into_theorem(self, alloc: Global) -> Theorem
         ensures { entry_of result ≡ entry_of_draft self }
     {
-        let Draft {
+        let TheoremParser {
             title,
             names,
             declared,

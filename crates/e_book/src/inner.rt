@@ -4,15 +4,15 @@ ghost use Rattle.e_line.specs.Reading.{Gives, Moves};
 ghost use Rattle.e_deriv.specs.Naming.{named};
 ghost use Rattle.e_book.specs.LineLimits.{few_objects, FewNamed};
 
-use crate::blocks::{Closed, Opened, Outer};
-use crate::draft::{Draft, Place};
+use crate::blocks::{BlockKind, Closed, OpenBlock};
+use crate::draft::{Section, TheoremParser};
 use crate::limits::{
     MAX_DEPTH, MAX_FACTS, MAX_STEPS, facts_of, few_objects, monomials, terms_of, terms_with,
 };
 use crate::steps::{CloseLine, Steps};
 use e_construct::Superpose;
 use e_deriv::{Names, Step};
-use e_line::{Kind, RawLit, RawSuperpose, Trouble, What, few_monos, within};
+use e_line::{FaultKind, LineError, RawLit, RawSuperpose, What, few_monos, within};
 use e_literal::{Items, Lit, Sort};
 use e_names::{Placement, lit_in, put_lits, put_names, qed_in, scope_of_names, superpose_in};
 use e_text::Name;
@@ -21,7 +21,7 @@ use std::{mem, slice};
 
 /// A block as it was when an inner one interrupted it.
 #[derive(Drop)]
-pub struct Around {
+pub struct Saved {
     steps: Steps,
     in_scope: Names,
     facts: usize,
@@ -29,7 +29,12 @@ pub struct Around {
 }
 
 /// The names with new ones, each behind those of its sort: the limits of objects.
-fn names_with(alloc: Global, names: &Names, sorts: &[Sort], new: &[Name]) -> Result<Names, Trouble>
+fn names_with(
+    alloc: Global,
+    names: &Names,
+    sorts: &[Sort],
+    new: &[Name],
+) -> Result<Names, LineError>
     ensures value { Gives (λ n. tt) result (few_objects (named names.now sorts.now new.now)) }
     ensures names { IfOk result (λ n. n ≡ named names.now sorts.now new.now) }
     ensures few { IfOk result FewNamed }
@@ -46,7 +51,7 @@ fn names_with(alloc: Global, names: &Names, sorts: &[Sort], new: &[Name]) -> Res
     Ok(after)
 }
 
-impl Draft {
+impl TheoremParser {
     ghost use Rattle.e_deriv.specs.Naming.{named};
     ghost use Rattle.e_deriv.specs.PlainStep.{plain_step, Claimed, Copied, all_before};
     ghost use Rattle.e_line.specs.Limits.{most_depth, most_terms};
@@ -57,7 +62,7 @@ impl Draft {
 
     /// The limits of a line that begins an inner block with so many facts: of steps, of depth and of facts.
     #[tactic(auto, unfolding(crate::specs::Steps::room_inside))]
-    fn room_inside(&self, given: usize) -> Result<(), Trouble>
+    fn room_inside(&self, given: usize) -> Result<(), LineError>
         requires { FitsScope self.now }
         ensures value { Gives (λ u. u) result (room_inside self.now given) }
         ensures room { IfOk result (λ u. HasRoom self.now given) }
@@ -65,13 +70,18 @@ impl Draft {
         within(self.lines + 1, MAX_STEPS, What::Steps)?;
         within(self.outers.len() + 2, MAX_DEPTH, What::Depth)?;
         if given > MAX_FACTS - self.facts {
-            return Err(Trouble::Fault(Kind::Limit(What::Facts)));
+            return Err(LineError::Fault(FaultKind::Limit(What::Facts)));
         }
         Ok(())
     }
 
     /// An inner block begins, in which so many literals are facts at once.
-    fn interrupt(&mut self, alloc: Global, opened: Opened, given: usize) -> Result<(), AllocError>
+    fn interrupt(
+        &mut self,
+        alloc: Global,
+        opened: BlockKind,
+        given: usize,
+    ) -> Result<(), AllocError>
         requires draft { FitsScope self.old }
         requires room { HasRoom self.old given }
         requires begun { begun_with opened ≤ given }
@@ -86,7 +96,7 @@ impl Draft {
                 return Err(error);
             }
         };
-        let outer = Outer {
+        let outer = OpenBlock {
             steps: mem::replace(&mut self.steps, Steps::new(alloc)),
             in_scope,
             facts: self.facts,
@@ -101,7 +111,7 @@ impl Draft {
 
     /// A claim: its literals, and then the limits.
     #[tactic(auto, unfolding(crate::specs::Steps::claimed, crate::specs::Steps::deeper, crate::specs::Steps::room_inside))]
-    pub(crate) fn claim(&mut self, alloc: Global, raw: &[RawLit]) -> Result<(), Trouble>
+    pub(crate) fn on_claim(&mut self, alloc: Global, raw: &[RawLit]) -> Result<(), LineError>
         requires { FitsScope self.old }
         ensures value { Moves result self.new (claimed self.old raw.now) }
         ensures fits { OnOk result (FitsScope self.new) }
@@ -110,13 +120,17 @@ impl Draft {
         put_lits(alloc, &self.in_scope, raw, &mut shown)?;
         self.room_inside(0)?;
         few_monos(raw)?;
-        self.interrupt(alloc, Opened::Claim { shown }, 0)?;
+        self.interrupt(alloc, BlockKind::Claim { shown }, 0)?;
         Ok(())
     }
 
     /// A superposition: its objects, new names and literals, and then the limits.
     #[tactic(auto, unfolding(crate::specs::Steps::superposed))]
-    pub(crate) fn superpose(&mut self, alloc: Global, raw: &RawSuperpose) -> Result<(), Trouble>
+    pub(crate) fn on_superpose(
+        &mut self,
+        alloc: Global,
+        raw: &RawSuperpose,
+    ) -> Result<(), LineError>
         requires { FitsScope self.old }
         ensures value { Moves result self.new (superposed self.old raw.now) }
         ensures fits { OnOk result (FitsScope self.new) }
@@ -125,7 +139,7 @@ impl Draft {
         let given = form.gives(alloc, scope_of_names(&self.in_scope))?;
         let names = Items::new(Vec::from_slice(alloc, raw.new.items())?);
         let after = names_with(alloc, &self.in_scope, form.made(), raw.new.items())?;
-        let opened = Opened::Superpose { form, names, shown };
+        let opened = BlockKind::Superpose { form, names, shown };
         self.begin_copies(alloc, opened, after, &given, raw.shown.items())
     }
 
@@ -135,11 +149,11 @@ impl Draft {
     fn begin_copies(
         &mut self,
         alloc: Global,
-        opened: Opened,
+        opened: BlockKind,
         after: Names,
         given: &[Lit],
         shown: &[RawLit],
-    ) -> Result<(), Trouble>
+    ) -> Result<(), LineError>
         requires draft { FitsScope self.old }
         requires after { FewNamed after }
         requires begun { begun_with opened ≡ 0 }
@@ -177,7 +191,7 @@ impl Draft {
 
     /// A split: its literal, and then the limits.
     #[tactic(auto, using(crate::proofs::SplitCounts::split_few), unfolding(crate::specs::Steps::split, crate::specs::Steps::deeper, crate::specs::Steps::room_inside, crate::specs::Steps::with_terms))]
-    pub(crate) fn split(&mut self, alloc: Global, raw: &RawLit) -> Result<(), Trouble>
+    pub(crate) fn on_cases(&mut self, alloc: Global, raw: &RawLit) -> Result<(), LineError>
         requires { FitsScope self.old }
         ensures value { Moves result self.new (split self.old raw.now) }
         ensures fits { OnOk result (FitsScope self.new) }
@@ -198,19 +212,19 @@ impl Draft {
                 return Err(trouble);
             }
         };
-        self.interrupt(alloc, Opened::First { lit }, 1)?;
+        self.interrupt(alloc, BlockKind::First { lit }, 1)?;
         self.terms = terms;
         Ok(())
     }
 
     /// The close by `qed`: its objects, and then the limit of steps.
-    pub(crate) fn conclude(&mut self, alloc: Global, names: &[Name]) -> Result<(), Trouble>
+    pub(crate) fn on_qed(&mut self, alloc: Global, names: &[Name]) -> Result<(), LineError>
         requires { FitsScope self.old }
         ensures value { Moves result self.new (concluded self.old names.now) }
         ensures fits { OnOk result (FitsScope self.new) }
     {
         let objects = qed_in(alloc, &self.in_scope, self.goal_made(), names)?;
-        self.shut(alloc, CloseLine::Qed(objects))
+        self.on_close(alloc, CloseLine::Qed(objects))
     }
 
     /// The made objects of the goal of the block that is open.
@@ -225,7 +239,7 @@ impl Draft {
 
     /// A close line: the limit of steps, and what it closes.
     #[tactic(auto, unfolding(crate::specs::Steps::shut))]
-    pub(crate) fn shut(&mut self, alloc: Global, close: CloseLine) -> Result<(), Trouble>
+    pub(crate) fn on_close(&mut self, alloc: Global, close: CloseLine) -> Result<(), LineError>
         requires { FitsScope self.old }
         ensures value { Moves result self.new (shut self.old close) }
         ensures fits { OnOk result (FitsScope self.new) }
@@ -240,14 +254,14 @@ impl Draft {
 
     /// The open block is closed, and with the second block of a split the block around it too.
     #[tactic(auto, unfolding(crate::specs::Steps::closed))]
-    fn close_block(&mut self, alloc: Global, close: CloseLine) -> Result<(), Trouble>
+    fn close_block(&mut self, alloc: Global, close: CloseLine) -> Result<(), LineError>
         requires { FitsScope self.old }
         ensures value { Moves result self.new (closed self.old self.old.outers self.old.steps close) }
         ensures fits { OnOk result (FitsScope self.new) }
     {
         let Some(outer) = self.outers.pop() else {
             mem::drop(mem::replace(&mut self.close, close));
-            self.place = Place::Closed;
+            self.place = Section::Closed;
             return Ok(());
         };
         match self.close_inside(alloc, outer, close)? {
@@ -261,9 +275,9 @@ impl Draft {
     fn close_inside(
         &mut self,
         alloc: Global,
-        outer: Outer,
+        outer: OpenBlock,
         close: CloseLine,
-    ) -> Result<Option<CloseLine>, Trouble>
+    ) -> Result<Option<CloseLine>, LineError>
         requires draft { FitsScope self.old }
         requires room { length self.old.outers + 2 ≤ most_depth }
         requires outer { FitsOuter outer }
@@ -277,34 +291,34 @@ impl Draft {
                 return Err(error.into());
             }
         };
-        let Outer {
+        let OpenBlock {
             steps,
             in_scope,
             facts,
             terms,
             opened,
         } = outer;
-        let around = Around {
+        let around = Saved {
             steps,
             in_scope,
             facts,
             terms,
         };
         match opened {
-            Opened::Claim { shown } => {
+            BlockKind::Claim { shown } => {
                 self.end_claim(alloc, around, shown, inner)?;
                 Ok(None)
             }
-            Opened::Superpose { form, names, shown } => {
+            BlockKind::Superpose { form, names, shown } => {
                 self.end_superposition(alloc, around, form, names, shown, inner)?;
                 Ok(None)
             }
-            Opened::First { lit } => {
+            BlockKind::First { lit } => {
                 self.begin_second(alloc, around, lit, inner)?;
                 Ok(None)
             }
-            Opened::Second { lit, first } => {
-                let Around {
+            BlockKind::Second { lit, first } => {
+                let Saved {
                     steps,
                     in_scope,
                     ..
@@ -334,13 +348,13 @@ impl Draft {
     fn end_claim(
         &mut self,
         alloc: Global,
-        around: Around,
+        around: Saved,
         shown: Items<Lit>,
         inner: Closed,
-    ) -> Result<(), Trouble>
+    ) -> Result<(), LineError>
         requires draft { FitsScope self.old }
-        requires outer { FitsOuter (outer_with around (Opened.Claim shown)) }
-        ensures value { Moves result self.new (resumed self.old (outer_with around (Opened.Claim shown)) self.old.outers shown (Claimed shown inner)) }
+        requires outer { FitsOuter (outer_with around (BlockKind.Claim shown)) }
+        ensures value { Moves result self.new (resumed self.old (outer_with around (BlockKind.Claim shown)) self.old.outers shown (Claimed shown inner)) }
         ensures fits { OnOk result (FitsScope self.new) }
     {
         let facts = match facts_of(around.facts, shown.items()) {
@@ -373,15 +387,15 @@ impl Draft {
     fn end_superposition(
         &mut self,
         alloc: Global,
-        around: Around,
+        around: Saved,
         form: Superpose,
         names: Items<Name>,
         shown: Items<Lit>,
         inner: Closed,
-    ) -> Result<(), Trouble>
+    ) -> Result<(), LineError>
         requires draft { FitsScope self.old }
-        requires outer { FitsOuter (outer_with around (Opened.Superpose form names shown)) }
-        ensures value { Moves result self.new (resumed self.old (outer_with around (Opened.Superpose form names shown)) self.old.outers shown (Copied form names shown [] inner)) }
+        requires outer { FitsOuter (outer_with around (BlockKind.Superpose form names shown)) }
+        ensures value { Moves result self.new (resumed self.old (outer_with around (BlockKind.Superpose form names shown)) self.old.outers shown (Copied form names shown [] inner)) }
         ensures fits { OnOk result (FitsScope self.new) }
     {
         let facts = match facts_of(around.facts, shown.items()) {
@@ -419,14 +433,14 @@ impl Draft {
     /// The block around one that is closed goes on with a step, and with so many facts and monomials.
     fn resume(
         &mut self,
-        around: Around,
+        around: Saved,
         facts: usize,
         terms: usize,
         step: Step,
     ) -> Result<(), AllocError>
         ensures { OnOk result (self.new ≡ record self.old { steps = around.steps ++ plain_step step ∷ []; in_scope = around.in_scope; facts = facts; terms = terms }) }
     {
-        let Around {
+        let Saved {
             steps,
             in_scope,
             ..
@@ -446,17 +460,17 @@ impl Draft {
     fn begin_second(
         &mut self,
         alloc: Global,
-        around: Around,
+        around: Saved,
         lit: Lit,
         first: Closed,
     ) -> Result<(), AllocError>
         requires draft { FitsScope self.old }
         requires room { length self.old.outers + 2 ≤ most_depth }
-        requires outer { FitsOuter (outer_with around (Opened.First lit)) }
+        requires outer { FitsOuter (outer_with around (BlockKind.First lit)) }
         ensures value { OnOk result (self.new ≡ second_begun self.old around lit first) }
         ensures fits { OnOk result (FitsScope self.new) }
     {
-        let Around {
+        let Saved {
             steps,
             in_scope,
             facts,
@@ -475,15 +489,15 @@ impl Draft {
         mem::drop(mem::replace(&mut self.in_scope, copied));
         self.facts = facts + 1;
         self.terms = terms + monomials(&lit);
-        let opened = Opened::Second { lit, first };
-        self.outers.push(Outer {
+        let opened = BlockKind::Second { lit, first };
+        self.outers.push(OpenBlock {
             steps,
             in_scope,
             facts,
             terms,
             opened,
         })?;
-        self.place = Place::Splitting;
+        self.place = Section::Splitting;
         Ok(())
     }
 }

@@ -16,10 +16,10 @@ mod reading;
 mod steps;
 mod theorem;
 
-pub use blocks::{Closed, Opened, Outer, Outers};
+pub use blocks::{BlockKind, BlockStack, Closed, OpenBlock};
 pub use book::next_item;
 pub use coming::Coming;
-pub use draft::{Draft, Place, declare, no_names};
+pub use draft::{Section, TheoremParser, declare, no_names};
 pub use item::Item;
 pub use laws::{
     canonical_lines_are_read, fault_is_first, fault_is_of_the_front, literals_are_read_as_named,

@@ -7,7 +7,7 @@ ghost use Rattle.e_book.specs.LineLimits.{few_objects, FewNamed};
 ghost use Rattle.e_book.specs.Steps.{terms_behind, terms_after};
 
 use e_deriv::Names;
-use e_line::{Kind, RawLit, Trouble, What, count_of, within};
+use e_line::{FaultKind, LineError, RawLit, What, count_of, within};
 use e_literal::{Atom, Lit, Sort};
 
 /// How many theorems a book may have.
@@ -64,7 +64,7 @@ pub(crate) fn what_of(sort: Sort) -> What
 
 /// The limits of objects in scope: points, then lines, then circles.
 #[tactic(auto, unfolding(crate::specs::LineLimits::few_objects))]
-pub(crate) fn few_objects(names: &Names) -> Result<(), Trouble>
+pub(crate) fn few_objects(names: &Names) -> Result<(), LineError>
     ensures value { Gives (λ u. u) result (few_objects names.now) }
     ensures fits { IfOk result (λ u. FewNamed names.now) }
 {
@@ -75,7 +75,7 @@ pub(crate) fn few_objects(names: &Names) -> Result<(), Trouble>
 }
 
 /// So many monomials and those of the literals, or the limit of all.
-pub(crate) fn terms_with(before: usize, lits: &[RawLit]) -> Result<usize, Trouble>
+pub(crate) fn terms_with(before: usize, lits: &[RawLit]) -> Result<usize, LineError>
     requires { before ≤ most_terms }
     ensures { Gives (λ n. n) result (terms_behind before lits.now) }
 {
@@ -83,7 +83,7 @@ pub(crate) fn terms_with(before: usize, lits: &[RawLit]) -> Result<usize, Troubl
     for lit in lits {
         let more = count_of(lit);
         if more > MAX_TERMS - terms {
-            return Err(Trouble::Fault(Kind::Limit(What::Terms)));
+            return Err(LineError::Fault(FaultKind::Limit(What::Terms)));
         }
         terms += more;
     }
@@ -91,13 +91,13 @@ pub(crate) fn terms_with(before: usize, lits: &[RawLit]) -> Result<usize, Troubl
 }
 
 /// So many facts and these, or the limit of all.
-pub(crate) fn facts_of(before: usize, lits: &[Lit]) -> Result<usize, Trouble>
+pub(crate) fn facts_of(before: usize, lits: &[Lit]) -> Result<usize, LineError>
     requires { before ≤ most_facts }
     ensures value { Gives (λ n. tt) result (within (before + length lits.now) most_facts limits.Facts) }
     ensures sum { IfOk result (λ n. n ≡ before + length lits.now) }
 {
     if lits.len() > MAX_FACTS - before {
-        return Err(Trouble::Fault(Kind::Limit(What::Facts)));
+        return Err(LineError::Fault(FaultKind::Limit(What::Facts)));
     }
     Ok(before + lits.len())
 }
@@ -114,7 +114,7 @@ pub(crate) fn monomials(lit: &Lit) -> usize
 }
 
 /// So many monomials and those of the literals, or the limit of all.
-pub(crate) fn terms_of(before: usize, lits: &[Lit]) -> Result<usize, Trouble>
+pub(crate) fn terms_of(before: usize, lits: &[Lit]) -> Result<usize, LineError>
     requires { before ≤ most_terms }
     ensures { Gives (λ n. n) result (terms_after before lits.now) }
 {
@@ -122,7 +122,7 @@ pub(crate) fn terms_of(before: usize, lits: &[Lit]) -> Result<usize, Trouble>
     for lit in lits {
         let more = monomials(lit);
         if more > MAX_TERMS - terms {
-            return Err(Trouble::Fault(Kind::Limit(What::Terms)));
+            return Err(LineError::Fault(FaultKind::Limit(What::Terms)));
         }
         terms += more;
     }

@@ -9,9 +9,9 @@ ghost use Rattle.e_book.specs.Definitions.{IsGoodItem};
 ghost use Rattle.e_book.specs.inner.Machine.{FitsComing, line_step, is_done, IsBegun, TakesWords, TakesLine, ReadsOn, end_of};
 
 use crate::coming::Coming;
-use crate::draft::Place;
+use crate::draft::Section;
 use crate::item::Item;
-use e_line::{BookFault, Trouble, collected, line_of, of_line};
+use e_line::{BookFault, LineError, collected, line_of, of_line};
 use e_names::Known;
 use e_text::{Line, Lines};
 use std::alloc::Global;
@@ -39,7 +39,7 @@ pub fn is_skipped(words: &[&[u8]]) -> bool
 fn is_done(coming: &Coming) -> bool
     ensures { result ≡ is_done coming.now }
 {
-    matches!(coming.draft.place, Place::Done)
+    matches!(coming.draft.place, Section::Done)
 }
 
 /// A line begins a theorem or a definition, or goes on with it.
@@ -49,7 +49,7 @@ fn line_step(
     known: &Known,
     coming: Option<Coming>,
     words: &[&[u8]],
-) -> Result<Coming, Trouble>
+) -> Result<Coming, LineError>
     requires coming { IfSome coming (FitsComing known.now) }
     requires notions { IsTrue (are_notions known.now.notions) }
     ensures value { Gives (λ c. c) result (line_step known.now coming (texts words.now)) }

@@ -1,3 +1,3 @@
 pub mod GoodKept
-pub mod MarkLits
-pub mod GoodMarks
+pub mod CertLineLits
+pub mod GoodCertLines

@@ -1,3 +1,3 @@
-pub mod Marks
+pub mod CertLines
 pub mod Strict
 pub mod Owed

@@ -17,24 +17,24 @@ use Rattle.e_clause.specs.Instance.{Inst, number_of_rule}
 use Rattle.e_clause.specs.Sigs.{sig_of}
 use Rattle.e_clause.specs.RuleKinds.{is_transfer}
 use Rattle.e_deriv.specs.declared.names.Names.{Names}
-use Rattle.e_line.specs.declared.fault.Kind.{Kind}
-use Rattle.e_line.specs.declared.fault.Kind.TheVariants.{Malformed}
+use Rattle.e_line.specs.declared.fault.FaultKind.{FaultKind}
+use Rattle.e_line.specs.declared.fault.FaultKind.TheVariants.{Malformed}
 use Rattle.e_line.specs.declared.literal.RawLit.{RawLit}
 use Rattle.e_line.specs.Reading.{◌>>=◌, or_malformed}
 use Rattle.e_names.specs.Scope.{lit_in, term_in, args_in, variables_of, right_count}
 use Rattle.e_line.specs.LineLimits.{few_monos}
-use Rattle.e_cert.specs.declared.mark.RawRow.{RawRow}
-use Rattle.e_cert.specs.declared.mark.RawRow.TheVariants as rows
-use Rattle.e_cert.specs.declared.mark.Mark.{Mark}
-use Rattle.e_cert.specs.declared.mark.Mark.TheVariants as marks
+use Rattle.e_cert.specs.declared.cert_line.RawRow.{RawRow}
+use Rattle.e_cert.specs.declared.cert_line.RawRow.TheVariants as rows
+use Rattle.e_cert.specs.declared.cert_line.CertLine.{CertLine}
+use Rattle.e_cert.specs.declared.cert_line.CertLine.TheVariants as certlines
 use Rattle.e_cert.specs.declared.owed.OpenSums.{OpenSums}
 use Rattle.e_cert.specs.declared.owed.OpenSums.TheVariants as sums
 use Rattle.e_cert.specs.declared.owed.OpenTransfer.{OpenTransfer}
-use Rattle.e_cert.specs.declared.owed.Due.{Due}
-use Rattle.e_cert.specs.declared.owed.Due.TheVariants as due
-use Rattle.e_cert.specs.declared.owed.Owed.{Owed}
-use Rattle.e_cert.specs.declared.kept.Kept.{Kept}
-use Rattle.e_cert.specs.declared.kept.Kept.TheVariants as kept
+use Rattle.e_cert.specs.declared.owed.Obligation.{Obligation}
+use Rattle.e_cert.specs.declared.owed.Obligation.TheVariants as due
+use Rattle.e_cert.specs.declared.owed.Pending.{Pending}
+use Rattle.e_cert.specs.declared.kept.StepCerts.{StepCerts}
+use Rattle.e_cert.specs.declared.kept.StepCerts.TheVariants as kept
 
 -- ---- sums
 
@@ -43,11 +43,11 @@ abbrev pub most_rows : ℕ
 most_rows = 4096
 
 -- a literal of a certificate, with its names and its limits
-abbrev pub fact_in : Names → RawLit → Result Lit Kind
+abbrev pub fact_in : Names → RawLit → Result Lit FaultKind
 fact_in ns raw = lit_in ns raw >>= λ l. few_monos (raw ∷ []) >>= λ few. Ok l
 
 -- a row with the objects of its names
-unfoldable pub row_in : Names → RawRow → Result RowName Kind
+unfoldable pub row_in : Names → RawRow → Result RowName FaultKind
 row_in ns (rows.Fact raw) = fact_in ns raw >>= λ l. Ok (names.Fact l)
 row_in ns rows.Goal = Ok names.Goal
 row_in ns (rows.Pos raw) = term_in ns raw >>= λ t. Ok (names.Pos t)
@@ -59,11 +59,11 @@ row_in ns rows.Below = Ok names.Below
 row_in ns (rows.FactAt k) = Ok (names.FactAt k)
 
 -- one more row
-abbrev pub with_row : List (ℤ × RowName) → ℤ → RowName → Result (List (ℤ × RowName)) Kind
+abbrev pub with_row : List (ℤ × RowName) → ℤ → RowName → Result (List (ℤ × RowName)) FaultKind
 with_row sum m r = if nat_lt (length sum) most_rows then Ok (sum ++ (m, r) ∷ []) else Err Malformed
 
 -- a row comes where a sum is begun
-abbrev pub row_put : Option OpenSums → ℤ → RowName → Result OpenSums Kind
+abbrev pub row_put : Option OpenSums → ℤ → RowName → Result OpenSums FaultKind
 row_put (Some (sums.One sum)) m r = with_row sum m r >>= λ new. Ok (sums.One new)
 row_put (Some (sums.Above differs sum)) m r = with_row sum m r >>= λ new. Ok (sums.Above differs new)
 row_put (Some (sums.Below differs above sum)) m r = with_row sum m r >>= λ new. Ok (sums.Below differs above new)
@@ -71,19 +71,19 @@ row_put _ m r = Err Malformed
 
 -- a sum is begun behind the head of a metric certificate, behind the row that differs, and behind the first of two sums, which
 -- has a row
-abbrev pub sum_begun : Option OpenSums → Result OpenSums Kind
+abbrev pub sum_begun : Option OpenSums → Result OpenSums FaultKind
 sum_begun (Some sums.Begun) = Ok (sums.One [])
 sum_begun (Some (sums.Differs differs)) = Ok (sums.Above differs [])
 sum_begun (Some (sums.Above differs sum)) = if nat_lt 0 (length sum) then Ok (sums.Below differs sum []) else Err Malformed
 sum_begun _ = Err Malformed
 
 -- a row that differs comes right behind the head
-abbrev pub differs_put : Option OpenSums → RowName → Result OpenSums Kind
+abbrev pub differs_put : Option OpenSums → RowName → Result OpenSums FaultKind
 differs_put (Some sums.Begun) differs = Ok (sums.Differs differs)
 differs_put _ differs = Err Malformed
 
 -- the sums of a metric certificate that ends here: one sum, or both
-abbrev pub sums_ended : OpenSums → Result Sums Kind
+abbrev pub sums_ended : OpenSums → Result Sums FaultKind
 sums_ended (sums.One sum) = if nat_lt 0 (length sum) then Ok (One sum) else Err Malformed
 sums_ended (sums.Below differs above sum) = if nat_lt 0 (length sum) then Ok (Two differs above sum) else Err Malformed
 sums_ended _ = Err Malformed
@@ -98,33 +98,33 @@ abbrev pub certificate : OpenTransfer → Cert
 certificate t = Transfer (record { rule = t.rule; args = t.args; parts = t.parts })
 
 -- a transfer that has all its parts is a certificate
-abbrev pub transfer_put : List Lit → List Cert → OpenTransfer → Result Due Kind
+abbrev pub transfer_put : List Lit → List Cert → OpenTransfer → Result Obligation FaultKind
 transfer_put wanted certs t =
     if length t.parts == t.owed then Ok (due.Literals wanted (certs ++ certificate t ∷ []) None) else Ok (due.Literals wanted certs (Some t))
 
 -- what needs no rule certifies a part of the transfer that is begun, and else the next literal
-abbrev pub part_put : Due → Part → Result Due Kind
+abbrev pub part_put : Obligation → Part → Result Obligation FaultKind
 part_put (due.Literals wanted certs None) p = if has_more wanted certs then Ok (due.Literals wanted (certs ++ Plain p ∷ []) None) else Err Malformed
 part_put (due.Literals wanted certs (Some t)) p = transfer_put wanted certs (record t { parts = t.parts ++ p ∷ [] })
 part_put _ p = Err Malformed
 
 -- a metric certificate may be of a contradiction too
-abbrev pub metric_put : Due → MetricCert → Result Due Kind
+abbrev pub metric_put : Obligation → MetricCert → Result Obligation FaultKind
 metric_put (due.Contradiction None) m = Ok (due.Contradiction (Some (against.Metric m)))
 metric_put d m = part_put d (parts.Metric m)
 
-abbrev pub takes_metric : Due → Bool
+abbrev pub takes_metric : Obligation → Bool
 takes_metric (due.Literals wanted certs None) = has_more wanted certs
 takes_metric (due.Literals wanted certs (Some t)) = true
 takes_metric (due.Contradiction None) = true
 takes_metric d = false
 
-abbrev pub clash_put : Due → Lit → Result Due Kind
+abbrev pub clash_put : Obligation → Lit → Result Obligation FaultKind
 clash_put (due.Contradiction None) l = Ok (due.Contradiction (Some (against.Clash l)))
 clash_put d l = Err Malformed
 
 -- the rule of a transfer is a transfer rule
-abbrev pub transfer_rule : Option ℕ → Result ℕ Kind
+abbrev pub transfer_rule : Option ℕ → Result ℕ FaultKind
 transfer_rule None = Err Malformed
 transfer_rule (Some r) = if is_transfer r then Ok r else Err Malformed
 
@@ -133,11 +133,11 @@ abbrev pub count_others : Lit → List Lit → ℕ
 count_others wanted lits = length (others lits wanted)
 
 -- a transfer of which no part has come. It owes a part for each place of its instance that has not the wanted literal
-unfoldable pub transfer_at : Lit → ℕ → List Obj → Result OpenTransfer Kind
+unfoldable pub transfer_at : Lit → ℕ → List Obj → Result OpenTransfer FaultKind
 transfer_at wanted r args = or_malformed (Inst r args) >>= λ lits. Ok (record { rule = r; args = args; parts = []; owed = count_others wanted lits })
 
 -- a rule with an object for each of its variables
-unfoldable pub transfer_in : Names → Lit → List ℕ → List (List ℕ) → Result OpenTransfer Kind
+unfoldable pub transfer_in : Names → Lit → List ℕ → List (List ℕ) → Result OpenTransfer FaultKind
 transfer_in ns wanted title raws = do
   r ← transfer_rule (number_of_rule title)
   s ← variables_of (sig_of r)
@@ -146,7 +146,7 @@ transfer_in ns wanted title raws = do
   transfer_at wanted r args
 
 -- a transfer is begun for the next literal, and is no part of another one
-abbrev pub transfer_begun : Names → Due → List ℕ → List (List ℕ) → Result Due Kind
+abbrev pub transfer_begun : Names → Obligation → List ℕ → List (List ℕ) → Result Obligation FaultKind
 transfer_begun ns (due.Literals wanted certs None) title raws =
     or_malformed (slice_get wanted (length certs)) >>= λ l. transfer_in ns l title raws >>= λ t. transfer_put wanted certs t
 transfer_begun ns d title raws = Err Malformed
@@ -154,37 +154,37 @@ transfer_begun ns d title raws = Err Malformed
 -- ---- lines
 
 -- a line that is no row and no sum ends the sums before it
-abbrev pub ended : Owed → Option OpenSums → Result Owed Kind
+abbrev pub ended : Pending → Option OpenSums → Result Pending FaultKind
 ended o None = Ok o
 ended o (Some s) = sums_ended s >>= λ all. metric_put o.due (record { sums = all }) >>= λ d. Ok (record o { due = d; sums = None })
 
-abbrev pub sums_behind : Owed → OpenSums → Owed
+abbrev pub sums_behind : Pending → OpenSums → Pending
 sums_behind o s = record o { sums = Some s }
 
-abbrev pub due_behind : Owed → Due → Owed
+abbrev pub due_behind : Pending → Obligation → Pending
 due_behind o d = record o { due = d }
 
 -- what is owed behind a line of a certificate
-unfoldable pub marked : Owed → Mark → Result Owed Kind
-marked o marks.Fact = ended o o.sums >>= λ e. part_put e.due parts.Fact >>= λ d. Ok (due_behind e d)
-marked o (marks.FactAt k) = ended o o.sums >>= λ e. part_put e.due (parts.FactAt k) >>= λ d. Ok (due_behind e d)
-marked o marks.Metric = ended o o.sums >>= λ e. if takes_metric e.due then Ok (sums_behind e sums.Begun) else Err Malformed
-marked o (marks.Transfer title raws) = ended o o.sums >>= λ e. transfer_begun e.names e.due title raws >>= λ d. Ok (due_behind e d)
-marked o (marks.Clash raw) = ended o o.sums >>= λ e. lit_in e.names raw >>= λ l. clash_put e.due l >>= λ d. Ok (due_behind e d)
-marked o marks.Sum = sum_begun o.sums >>= λ s. Ok (sums_behind o s)
-marked o (marks.Differs raw) = row_in o.names raw >>= λ r. differs_put o.sums r >>= λ s. Ok (sums_behind o s)
-marked o (marks.Row m raw) = row_in o.names raw >>= λ r. row_put o.sums m r >>= λ s. Ok (sums_behind o s)
+unfoldable pub after_cert_line : Pending → CertLine → Result Pending FaultKind
+after_cert_line o certlines.Fact = ended o o.sums >>= λ e. part_put e.due parts.Fact >>= λ d. Ok (due_behind e d)
+after_cert_line o (certlines.FactAt k) = ended o o.sums >>= λ e. part_put e.due (parts.FactAt k) >>= λ d. Ok (due_behind e d)
+after_cert_line o certlines.Metric = ended o o.sums >>= λ e. if takes_metric e.due then Ok (sums_behind e sums.Begun) else Err Malformed
+after_cert_line o (certlines.Transfer title raws) = ended o o.sums >>= λ e. transfer_begun e.names e.due title raws >>= λ d. Ok (due_behind e d)
+after_cert_line o (certlines.Clash raw) = ended o o.sums >>= λ e. lit_in e.names raw >>= λ l. clash_put e.due l >>= λ d. Ok (due_behind e d)
+after_cert_line o certlines.Sum = sum_begun o.sums >>= λ s. Ok (sums_behind o s)
+after_cert_line o (certlines.Differs raw) = row_in o.names raw >>= λ r. differs_put o.sums r >>= λ s. Ok (sums_behind o s)
+after_cert_line o (certlines.Row m raw) = row_in o.names raw >>= λ r. row_put o.sums m r >>= λ s. Ok (sums_behind o s)
 
 -- what was read for a line, where nothing is owed any more; a line without certificates has nothing
-abbrev pub kept_of : Due → Result (Option Kept) Kind
+abbrev pub kept_of : Obligation → Result (Option StepCerts) FaultKind
 kept_of due.Nothing = Ok None
 kept_of (due.Literals wanted certs None) = if has_more wanted certs then Err Malformed else Ok (Some (kept.Certs certs))
 kept_of (due.Literals wanted certs (Some t)) = Err Malformed
 kept_of (due.Contradiction None) = Err Malformed
 kept_of (due.Contradiction (Some a)) = Ok (Some (kept.Against a))
 
-unfoldable pub settled : Owed → Result (Option Kept) Kind
-settled o = ended o o.sums >>= λ e. kept_of e.due
+unfoldable pub finish_certs : Pending → Result (Option StepCerts) FaultKind
+finish_certs o = ended o o.sums >>= λ e. kept_of e.due
 
 -- the first of a line's certificates
 abbrev pub first_cert : List Cert → Option Cert

@@ -115,7 +115,7 @@ impl Certs {
 
 /// What was read below a step or a close line that has certificates.
 #[derive(Drop)]
-pub enum Kept {
+pub enum StepCerts {
     Certs(Certs),
     Against(Against),
 }

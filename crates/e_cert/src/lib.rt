@@ -1,13 +1,13 @@
 //! The lines of certificates: told from their words, spelled again, and what a line owes while they come.
 #![tactic(auto)]
 
+mod cert_line;
+mod cert_text;
 mod kept;
-mod mark;
-mod marks;
 mod owed;
 mod strict;
 
-pub use kept::{Certs, Kept, Rows};
-pub use mark::{Mark, RawRow, mark_is_of};
-pub use owed::{Due, OpenSums, OpenTransfer, Owed};
-pub use strict::strict_mark;
+pub use cert_line::{CertLine, RawRow, cert_line_is_of};
+pub use kept::{Certs, Rows, StepCerts};
+pub use owed::{Obligation, OpenSums, OpenTransfer, Pending};
+pub use strict::exact_cert_line;

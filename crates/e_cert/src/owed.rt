@@ -4,15 +4,15 @@ ghost use Rattle.e_clause.specs.Instance.{number_of_rule};
 ghost use Rattle.e_clause.specs.declared.cert.Part.TheVariants as parts;
 ghost use Rattle.e_line.specs.Reading.{Gives};
 ghost use Rattle.e_names.specs.Scope.{FewNames};
-ghost use Rattle.e_cert.specs.Owed.{fact_in, row_in, with_row, row_put, sum_begun, differs_put, sums_ended, has_more, transfer_put, part_put, metric_put, takes_metric, clash_put, transfer_rule, count_others, transfer_at, transfer_in, transfer_begun, ended, marked, kept_of, settled};
+ghost use Rattle.e_cert.specs.Owed.{fact_in, row_in, with_row, row_put, sum_begun, differs_put, sums_ended, has_more, transfer_put, part_put, metric_put, takes_metric, clash_put, transfer_rule, count_others, transfer_at, transfer_in, transfer_begun, ended, after_cert_line, kept_of, finish_certs};
 
-use crate::kept::{Certs, Kept, Rows};
-use crate::mark::{Mark, RawRow};
+use crate::cert_line::{CertLine, RawRow};
+use crate::kept::{Certs, Rows, StepCerts};
 use e_clause::{
     Against, Cert, InstanceFault, MetricCert, Part, RowName, Rule, Sums, TransferCert, instance,
 };
 use e_deriv::Names;
-use e_line::{Kind, RawLit, Trouble, few_monos};
+use e_line::{FaultKind, LineError, RawLit, few_monos};
 use e_literal::{Items, Lit, Obj, same};
 use e_names::{args_in, lit_in, term_in};
 use e_text::{Name, Title};
@@ -49,7 +49,7 @@ pub struct OpenTransfer {
 
 /// What certificates a line has.
 #[derive(Drop)]
-pub enum Due {
+pub enum Obligation {
     /// None.
     Nothing,
     /// One for each of these literals.
@@ -66,22 +66,22 @@ pub enum Due {
 
 /// What a line owes, and what of it was read.
 #[derive(Drop)]
-pub struct Owed {
+pub struct Pending {
     /// The names in scope before the line.
     pub names: Names,
-    pub due: Due,
+    pub due: Obligation,
     /// A metric certificate that is begun.
     pub sums: Option<OpenSums>,
 }
 
-fn malformed() -> Trouble
-    ensures { result ≡ Trouble.Fault Kind.Malformed }
+fn malformed() -> LineError
+    ensures { result ≡ LineError.Fault FaultKind.Malformed }
 {
-    Trouble::Fault(Kind::Malformed)
+    LineError::Fault(FaultKind::Malformed)
 }
 
 /// A literal of a certificate: its names, and then its limits.
-fn fact_in(alloc: Global, names: &Names, raw: &RawLit) -> Result<Lit, Trouble>
+fn fact_in(alloc: Global, names: &Names, raw: &RawLit) -> Result<Lit, LineError>
     requires { FewNames names.now }
     ensures { Gives (λ l. l) result (fact_in names.now raw.now) }
 {
@@ -96,7 +96,7 @@ fn fact_in(alloc: Global, names: &Names, raw: &RawLit) -> Result<Lit, Trouble>
 }
 
 #[tactic(auto, unfolding(crate::specs::Owed::row_in))]
-fn row_in(alloc: Global, names: &Names, row: &RawRow) -> Result<RowName, Trouble>
+fn row_in(alloc: Global, names: &Names, row: &RawRow) -> Result<RowName, LineError>
     requires { FewNames names.now }
     ensures { Gives (λ r. r) result (row_in names.now row.now) }
 {
@@ -114,7 +114,7 @@ fn row_in(alloc: Global, names: &Names, row: &RawRow) -> Result<RowName, Trouble
 }
 
 /// The sum with one more row.
-fn with_row(sum: Rows, multiplier: i128, row: RowName) -> Result<Rows, Trouble>
+fn with_row(sum: Rows, multiplier: i128, row: RowName) -> Result<Rows, LineError>
     ensures { Gives (λ s. s) result (with_row sum multiplier row) }
 {
     let mut sum = sum;
@@ -127,7 +127,7 @@ fn with_row(sum: Rows, multiplier: i128, row: RowName) -> Result<Rows, Trouble>
 }
 
 /// A row comes where a sum is begun.
-fn row_put(sums: Option<OpenSums>, multiplier: i128, row: RowName) -> Result<OpenSums, Trouble>
+fn row_put(sums: Option<OpenSums>, multiplier: i128, row: RowName) -> Result<OpenSums, LineError>
     ensures { Gives (λ s. s) result (row_put sums multiplier row) }
 {
     match sums {
@@ -140,7 +140,7 @@ fn row_put(sums: Option<OpenSums>, multiplier: i128, row: RowName) -> Result<Ope
 }
 
 /// A row comes behind what has come of the sums.
-fn row_behind(sums: OpenSums, multiplier: i128, row: RowName) -> Result<OpenSums, Trouble>
+fn row_behind(sums: OpenSums, multiplier: i128, row: RowName) -> Result<OpenSums, LineError>
     ensures { Gives (λ s. s) result (row_put (Some sums) multiplier row) }
 {
     match sums {
@@ -173,7 +173,7 @@ fn row_behind(sums: OpenSums, multiplier: i128, row: RowName) -> Result<OpenSums
 }
 
 /// A sum is begun.
-fn sum_begun(alloc: Global, sums: Option<OpenSums>) -> Result<OpenSums, Trouble>
+fn sum_begun(alloc: Global, sums: Option<OpenSums>) -> Result<OpenSums, LineError>
     ensures { Gives (λ s. s) result (sum_begun sums) }
 {
     match sums {
@@ -183,7 +183,7 @@ fn sum_begun(alloc: Global, sums: Option<OpenSums>) -> Result<OpenSums, Trouble>
 }
 
 /// A sum is begun behind what has come of the sums.
-fn sum_behind(alloc: Global, sums: OpenSums) -> Result<OpenSums, Trouble>
+fn sum_behind(alloc: Global, sums: OpenSums) -> Result<OpenSums, LineError>
     ensures { Gives (λ s. s) result (sum_begun (Some sums)) }
 {
     match sums {
@@ -204,7 +204,7 @@ fn sum_behind(alloc: Global, sums: OpenSums) -> Result<OpenSums, Trouble>
 }
 
 /// A row that differs comes right behind the head.
-fn differs_put(sums: Option<OpenSums>, differs: RowName) -> Result<OpenSums, Trouble>
+fn differs_put(sums: Option<OpenSums>, differs: RowName) -> Result<OpenSums, LineError>
     ensures { Gives (λ s. s) result (differs_put sums differs) }
 {
     let is_begun = matches!(&sums, Some(OpenSums::Begun));
@@ -218,7 +218,7 @@ fn differs_put(sums: Option<OpenSums>, differs: RowName) -> Result<OpenSums, Tro
 }
 
 /// The sums of a metric certificate that ends here.
-fn sums_ended(sums: OpenSums) -> Result<Sums, Trouble>
+fn sums_ended(sums: OpenSums) -> Result<Sums, LineError>
     ensures { Gives (λ s. s) result (sums_ended sums) }
 {
     match sums {
@@ -247,12 +247,16 @@ fn sums_ended(sums: OpenSums) -> Result<Sums, Trouble>
 }
 
 /// The transfer is a certificate once it has all its parts.
-fn transfer_put(wanted: Items<Lit>, certs: Certs, transfer: OpenTransfer) -> Result<Due, Trouble>
+fn transfer_put(
+    wanted: Items<Lit>,
+    certs: Certs,
+    transfer: OpenTransfer,
+) -> Result<Obligation, LineError>
     ensures { Gives (λ d. d) result (transfer_put wanted certs transfer) }
 {
     let mut certs = certs;
     if transfer.parts.len() != transfer.owed {
-        return Ok(Due::Literals {
+        return Ok(Obligation::Literals {
             wanted,
             certs,
             transfer: Some(transfer),
@@ -265,7 +269,7 @@ fn transfer_put(wanted: Items<Lit>, certs: Certs, transfer: OpenTransfer) -> Res
         ..
     } = transfer;
     certs.push(Cert::Transfer(TransferCert { rule, args, parts }))?;
-    Ok(Due::Literals {
+    Ok(Obligation::Literals {
         wanted,
         certs,
         transfer: None,
@@ -273,11 +277,11 @@ fn transfer_put(wanted: Items<Lit>, certs: Certs, transfer: OpenTransfer) -> Res
 }
 
 /// What needs no rule certifies a part of the transfer that is begun, and else the next literal.
-fn part_put(due: Due, part: Part) -> Result<Due, Trouble>
+fn part_put(due: Obligation, part: Part) -> Result<Obligation, LineError>
     ensures { Gives (λ d. d) result (part_put due part) }
 {
     match due {
-        Due::Literals {
+        Obligation::Literals {
             wanted,
             certs,
             transfer,
@@ -298,8 +302,8 @@ fn part_put(due: Due, part: Part) -> Result<Due, Trouble>
 }
 
 /// The next literal is certified with no rule.
-fn literal_put(wanted: Items<Lit>, certs: Certs, part: Part) -> Result<Due, Trouble>
-    ensures { Gives (λ d. d) result (part_put (Due.Literals wanted certs None) part) }
+fn literal_put(wanted: Items<Lit>, certs: Certs, part: Part) -> Result<Obligation, LineError>
+    ensures { Gives (λ d. d) result (part_put (Obligation.Literals wanted certs None) part) }
 {
     let mut certs = certs;
     if certs.len() >= wanted.len() {
@@ -307,7 +311,7 @@ fn literal_put(wanted: Items<Lit>, certs: Certs, part: Part) -> Result<Due, Trou
         return Err(malformed());
     }
     certs.push(Cert::Plain(part))?;
-    Ok(Due::Literals {
+    Ok(Obligation::Literals {
         wanted,
         certs,
         transfer: None,
@@ -315,38 +319,38 @@ fn literal_put(wanted: Items<Lit>, certs: Certs, part: Part) -> Result<Due, Trou
 }
 
 /// A metric certificate may be of a contradiction too.
-fn metric_put(due: Due, cert: MetricCert) -> Result<Due, Trouble>
+fn metric_put(due: Obligation, cert: MetricCert) -> Result<Obligation, LineError>
     ensures { Gives (λ d. d) result (metric_put due cert) }
 {
     match due {
-        Due::Contradiction { against: None } => Ok(Due::Contradiction {
+        Obligation::Contradiction { against: None } => Ok(Obligation::Contradiction {
             against: Some(Against::Metric(cert)),
         }),
         other => part_put(other, Part::Metric(cert)),
     }
 }
 
-fn takes_metric(due: &Due) -> bool
+fn takes_metric(due: &Obligation) -> bool
     ensures { result ≡ takes_metric due.now }
 {
     match due {
-        Due::Nothing => false,
-        Due::Literals {
+        Obligation::Nothing => false,
+        Obligation::Literals {
             transfer: Some(_),
             ..
         } => true,
-        Due::Literals { wanted, certs, .. } => certs.len() < wanted.len(),
-        Due::Contradiction { against } => against.is_none(),
+        Obligation::Literals { wanted, certs, .. } => certs.len() < wanted.len(),
+        Obligation::Contradiction { against } => against.is_none(),
     }
 }
 
-fn clash_put(due: Due, lit: Lit) -> Result<Due, Trouble>
+fn clash_put(due: Obligation, lit: Lit) -> Result<Obligation, LineError>
     ensures { Gives (λ d. d) result (clash_put due lit) }
 {
-    let is_open = matches!(&due, Due::Contradiction { against: None });
+    let is_open = matches!(&due, Obligation::Contradiction { against: None });
     mem::drop(due);
     if is_open {
-        Ok(Due::Contradiction {
+        Ok(Obligation::Contradiction {
             against: Some(Against::Clash { lit }),
         })
     } else {
@@ -356,7 +360,7 @@ fn clash_put(due: Due, lit: Lit) -> Result<Due, Trouble>
 }
 
 /// The transfer rule with this name.
-fn transfer_rule(name: Title) -> Result<Rule, Trouble>
+fn transfer_rule(name: Title) -> Result<Rule, LineError>
     ensures { Gives (λ r. r) result (transfer_rule (number_of_rule name)) }
 {
     let Some(rule) = Rule::named(name.bytes()) else {
@@ -388,7 +392,7 @@ fn transfer_at(
     wanted: &Lit,
     rule: Rule,
     args: Items<Obj>,
-) -> Result<OpenTransfer, Trouble>
+) -> Result<OpenTransfer, LineError>
     ensures { Gives (λ t. t) result (transfer_at wanted.now rule args) }
 {
     match instance(alloc, rule, args.items()) {
@@ -399,7 +403,7 @@ fn transfer_at(
             owed: count_others(wanted, &lits),
         }),
         Err(InstanceFault::BadArgs) => Err(malformed()),
-        Err(InstanceFault::NoMemory) => Err(Trouble::NoMemory),
+        Err(InstanceFault::NoMemory) => Err(LineError::NoMemory),
     }
 }
 
@@ -411,7 +415,7 @@ fn transfer_in(
     wanted: &Lit,
     title: Title,
     raws: &[Name],
-) -> Result<OpenTransfer, Trouble>
+) -> Result<OpenTransfer, LineError>
     requires { FewNames names.now }
     ensures { Gives (λ t. t) result (transfer_in names.now wanted.now title raws.now) }
 {
@@ -429,15 +433,15 @@ fn transfer_in(
 fn transfer_begun(
     alloc: Global,
     names: &Names,
-    due: Due,
+    due: Obligation,
     title: Title,
     raws: &[Name],
-) -> Result<Due, Trouble>
+) -> Result<Obligation, LineError>
     requires { FewNames names.now }
     ensures { Gives (λ d. d) result (transfer_begun names.now due title raws.now) }
 {
     match due {
-        Due::Literals {
+        Obligation::Literals {
             wanted,
             certs,
             transfer: None,
@@ -455,16 +459,16 @@ fn transfer_begun(
     }
 }
 
-impl Owed {
+impl Pending {
     /// A line that is no row and no sum ends the sums before it.
-    fn ended(self) -> Result<Owed, Trouble>
+    fn ended(self) -> Result<Pending, LineError>
         requires { FewNames self.names }
         ensures value { Gives (λ o. o) result (ended self self.sums) }
         ensures names { IfOk result (λ o. o.names ≡ self.names) }
     {
-        let Owed { names, due, sums } = self;
+        let Pending { names, due, sums } = self;
         let Some(sums) = sums else {
-            return Ok(Owed {
+            return Ok(Pending {
                 names,
                 due,
                 sums: None,
@@ -479,7 +483,7 @@ impl Owed {
             }
         };
         match metric_put(due, MetricCert { sums }) {
-            Ok(due) => Ok(Owed {
+            Ok(due) => Ok(Pending {
                 names,
                 due,
                 sums: None,
@@ -492,17 +496,17 @@ impl Owed {
     }
 
     /// What is owed behind a line of a certificate.
-    #[tactic(auto, unfolding(crate::specs::Owed::marked))]
-    pub fn marked(self, alloc: Global, mark: &Mark) -> Result<Owed, Trouble>
+    #[tactic(auto, unfolding(crate::specs::Owed::after_cert_line))]
+    pub fn after_cert_line(self, alloc: Global, cert_line: &CertLine) -> Result<Pending, LineError>
         requires { FewNames self.names }
-        ensures value { Gives (λ o. o) result (marked self mark.now) }
+        ensures value { Gives (λ o. o) result (after_cert_line self cert_line.now) }
         ensures names { IfOk result (λ o. o.names ≡ self.names) }
     {
-        match mark {
-            Mark::Fact => {
-                let Owed { names, due, sums } = self.ended()?;
+        match cert_line {
+            CertLine::Fact => {
+                let Pending { names, due, sums } = self.ended()?;
                 match part_put(due, Part::Fact) {
-                    Ok(due) => Ok(Owed { names, due, sums }),
+                    Ok(due) => Ok(Pending { names, due, sums }),
                     Err(trouble) => {
                         mem::drop(names);
                         mem::drop(sums);
@@ -510,10 +514,10 @@ impl Owed {
                     }
                 }
             }
-            Mark::FactAt(place) => {
-                let Owed { names, due, sums } = self.ended()?;
+            CertLine::FactAt(place) => {
+                let Pending { names, due, sums } = self.ended()?;
                 match part_put(due, Part::FactAt(*place)) {
-                    Ok(due) => Ok(Owed { names, due, sums }),
+                    Ok(due) => Ok(Pending { names, due, sums }),
                     Err(trouble) => {
                         mem::drop(names);
                         mem::drop(sums);
@@ -521,7 +525,7 @@ impl Owed {
                     }
                 }
             }
-            Mark::Metric => {
+            CertLine::Metric => {
                 let mut owed = self.ended()?;
                 if !takes_metric(&owed.due) {
                     mem::drop(owed);
@@ -530,10 +534,10 @@ impl Owed {
                 mem::drop(mem::replace(&mut owed.sums, Some(OpenSums::Begun)));
                 Ok(owed)
             }
-            Mark::Transfer(title, raws) => {
-                let Owed { names, due, sums } = self.ended()?;
+            CertLine::Transfer(title, raws) => {
+                let Pending { names, due, sums } = self.ended()?;
                 match transfer_begun(alloc, &names, due, *title, raws.items()) {
-                    Ok(due) => Ok(Owed { names, due, sums }),
+                    Ok(due) => Ok(Pending { names, due, sums }),
                     Err(trouble) => {
                         mem::drop(names);
                         mem::drop(sums);
@@ -541,7 +545,7 @@ impl Owed {
                     }
                 }
             }
-            Mark::Clash(raw) => {
+            CertLine::Clash(raw) => {
                 let owed = self.ended()?;
                 let lit = match lit_in(alloc, &owed.names, raw) {
                     Ok(lit) => lit,
@@ -550,9 +554,9 @@ impl Owed {
                         return Err(trouble);
                     }
                 };
-                let Owed { names, due, sums } = owed;
+                let Pending { names, due, sums } = owed;
                 match clash_put(due, lit) {
-                    Ok(due) => Ok(Owed { names, due, sums }),
+                    Ok(due) => Ok(Pending { names, due, sums }),
                     Err(trouble) => {
                         mem::drop(names);
                         mem::drop(sums);
@@ -560,10 +564,10 @@ impl Owed {
                     }
                 }
             }
-            Mark::Sum => {
-                let Owed { names, due, sums } = self;
+            CertLine::Sum => {
+                let Pending { names, due, sums } = self;
                 match sum_begun(alloc, sums) {
-                    Ok(sums) => Ok(Owed {
+                    Ok(sums) => Ok(Pending {
                         names,
                         due,
                         sums: Some(sums),
@@ -575,7 +579,7 @@ impl Owed {
                     }
                 }
             }
-            Mark::Differs(raw) => {
+            CertLine::Differs(raw) => {
                 let differs = match row_in(alloc, &self.names, raw) {
                     Ok(differs) => differs,
                     Err(trouble) => {
@@ -583,9 +587,9 @@ impl Owed {
                         return Err(trouble);
                     }
                 };
-                let Owed { names, due, sums } = self;
+                let Pending { names, due, sums } = self;
                 match differs_put(sums, differs) {
-                    Ok(sums) => Ok(Owed {
+                    Ok(sums) => Ok(Pending {
                         names,
                         due,
                         sums: Some(sums),
@@ -597,7 +601,7 @@ impl Owed {
                     }
                 }
             }
-            Mark::Row(multiplier, raw) => {
+            CertLine::Row(multiplier, raw) => {
                 let row = match row_in(alloc, &self.names, raw) {
                     Ok(row) => row,
                     Err(trouble) => {
@@ -605,9 +609,9 @@ impl Owed {
                         return Err(trouble);
                     }
                 };
-                let Owed { names, due, sums } = self;
+                let Pending { names, due, sums } = self;
                 match row_put(sums, *multiplier, row) {
-                    Ok(sums) => Ok(Owed {
+                    Ok(sums) => Ok(Pending {
                         names,
                         due,
                         sums: Some(sums),
@@ -623,24 +627,24 @@ impl Owed {
     }
 
     /// What was read for the line, where nothing is owed any more.
-    #[tactic(auto, unfolding(crate::specs::Owed::settled))]
-    pub fn settled(self) -> Result<Option<Kept>, Trouble>
+    #[tactic(auto, unfolding(crate::specs::Owed::finish_certs))]
+    pub fn finish_certs(self) -> Result<Option<StepCerts>, LineError>
         requires { FewNames self.names }
-        ensures { Gives (λ k. k) result (settled self) }
+        ensures { Gives (λ k. k) result (finish_certs self) }
     {
-        let Owed { names, due, sums } = self.ended()?;
+        let Pending { names, due, sums } = self.ended()?;
         mem::drop(names);
         mem::drop(sums);
         kept_of(due)
     }
 }
 
-fn kept_of(due: Due) -> Result<Option<Kept>, Trouble>
+fn kept_of(due: Obligation) -> Result<Option<StepCerts>, LineError>
     ensures { Gives (λ k. k) result (kept_of due) }
 {
     match due {
-        Due::Nothing => Ok(None),
-        Due::Literals {
+        Obligation::Nothing => Ok(None),
+        Obligation::Literals {
             wanted,
             certs,
             transfer: None,
@@ -648,11 +652,11 @@ fn kept_of(due: Due) -> Result<Option<Kept>, Trouble>
             if certs.len() < wanted.len() {
                 return Err(malformed());
             }
-            Ok(Some(Kept::Certs(certs)))
+            Ok(Some(StepCerts::Certs(certs)))
         }
-        Due::Contradiction {
+        Obligation::Contradiction {
             against: Some(against),
-        } => Ok(Some(Kept::Against(against))),
+        } => Ok(Some(StepCerts::Against(against))),
         other => {
             mem::drop(other);
             Err(malformed())

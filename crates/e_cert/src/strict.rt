@@ -1,13 +1,13 @@
 //! Lines of certificates that are spelled as their form is.
 ghost use Rattle.std.specs.Prelude.{◌≡◌, IfOk};
 ghost use Rattle.e_line.specs.Reading.{texts, Gives};
-ghost use Rattle.e_cert.specs.Marks.{mark_line};
+ghost use Rattle.e_cert.specs.CertLines.{cert_line_text};
 ghost use Rattle.e_line.specs.Strict.{is_direct};
-ghost use Rattle.e_cert.specs.Strict.{is_strict_row, is_strict_mark, strict_mark};
+ghost use Rattle.e_cert.specs.Strict.{is_strict_row, is_strict_cert_line, exact_cert_line};
 
-use crate::mark::{Mark, RawRow, mark_of};
-use crate::marks::put_mark;
-use e_line::{Kind, Trouble, is_direct};
+use crate::cert_line::{CertLine, RawRow, cert_line_of};
+use crate::cert_text::put_cert_line;
+use e_line::{FaultKind, LineError, is_direct};
 use std::alloc::{AllocError, Global};
 use std::mem;
 
@@ -20,42 +20,42 @@ fn is_strict_row(row: &RawRow) -> bool
     }
 }
 
-fn is_strict_mark(mark: &Mark) -> bool
-    ensures { result ≡ is_strict_mark mark.now }
+fn is_strict_cert_line(cert_line: &CertLine) -> bool
+    ensures { result ≡ is_strict_cert_line cert_line.now }
 {
-    match mark {
-        Mark::Differs(row) => is_strict_row(row),
-        Mark::Row(_, row) => is_strict_row(row),
+    match cert_line {
+        CertLine::Differs(row) => is_strict_row(row),
+        CertLine::Row(_, row) => is_strict_row(row),
         _ => true,
     }
 }
 
 /// The line of a certificate, made in room for so many bytes.
-fn mark_line(alloc: Global, mark: &Mark, room: usize) -> Result<Vec<u8>, AllocError>
-    ensures { IfOk result (λ line. line.items ≡ mark_line mark.now) }
+fn cert_line_text(alloc: Global, cert_line: &CertLine, room: usize) -> Result<Vec<u8>, AllocError>
+    ensures { IfOk result (λ line. line.items ≡ cert_line_text cert_line.now) }
 {
     let mut line = Vec::with_capacity(alloc, room)?;
-    put_mark(&mut line, mark)?;
+    put_cert_line(&mut line, cert_line)?;
     Ok(line)
 }
 
 /// The same of a line of a certificate, where these are the words behind its sign.
-#[tactic(auto, unfolding(crate::specs::Strict::strict_mark))]
-pub fn strict_mark(alloc: Global, line: &[u8], words: &[&[u8]]) -> Result<Mark, Trouble>
-    ensures { Gives (λ m. m) result (strict_mark line.now (texts words.now)) }
+#[tactic(auto, unfolding(crate::specs::Strict::exact_cert_line))]
+pub fn exact_cert_line(alloc: Global, line: &[u8], words: &[&[u8]]) -> Result<CertLine, LineError>
+    ensures { Gives (λ m. m) result (exact_cert_line line.now (texts words.now)) }
 {
-    let mark = mark_of(alloc, words)?;
-    let again = match mark_line(alloc, &mark, line.len()) {
+    let cert_line = cert_line_of(alloc, words)?;
+    let again = match cert_line_text(alloc, &cert_line, line.len()) {
         Ok(again) => again,
         Err(error) => {
-            mem::drop(mark);
+            mem::drop(cert_line);
             return Err(error.into());
         }
     };
-    if is_strict_mark(&mark) && line == again.as_slice() {
-        Ok(mark)
+    if is_strict_cert_line(&cert_line) && line == again.as_slice() {
+        Ok(cert_line)
     } else {
-        mem::drop(mark);
-        Err(Trouble::Fault(Kind::Malformed))
+        mem::drop(cert_line);
+        Err(LineError::Fault(FaultKind::Malformed))
     }
 }

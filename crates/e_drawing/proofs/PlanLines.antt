@@ -3,10 +3,10 @@ use Rattle.std.proofs.Common.{◌≡◌, ℕ, Bool, true, false, cond, List, [],
 use Rattle.e_text.specs.Tokens.{tokens_of}
 use Rattle.e_text.specs.Lines.{Seen, HaveNoFault}
 use Rattle.e_text.specs.declared.line.LineFault.{LineFault}
-use Rattle.e_line.specs.declared.fault.Kind.{Kind}
-use Rattle.e_line.specs.declared.fault.Kind.TheVariants as kinds
-use Rattle.e_line.specs.declared.fault.Trouble.{Trouble}
-use Rattle.e_line.specs.declared.fault.Trouble.TheVariants as troubles
+use Rattle.e_line.specs.declared.fault.FaultKind.{FaultKind}
+use Rattle.e_line.specs.declared.fault.FaultKind.TheVariants as kinds
+use Rattle.e_line.specs.declared.fault.LineError.{LineError}
+use Rattle.e_line.specs.declared.fault.LineError.TheVariants as troubles
 use Rattle.e_line.specs.declared.fault.BookFault.{BookFault}
 use Rattle.e_line.specs.declared.fault.BookFault.TheVariants as faults
 use Rattle.e_line.specs.Faults.{trouble_at, line_fault}
@@ -32,14 +32,14 @@ book_fails (faults.Limit line what) q h = h
 book_fails (faults.Unended line) q h = h
 
 -- a trouble, at its line
-fails_at : {A : Type 0} (n : ℕ) (trouble : Trouble) (r : Result A Kind) → Fails trouble r → BookFails (trouble_at n trouble) (put_at n r)
+fails_at : {A : Type 0} (n : ℕ) (trouble : LineError) (r : Result A FaultKind) → Fails trouble r → BookFails (trouble_at n trouble) (put_at n r)
 fails_at n troubles.NoMemory r h = tt
-fails_at {A} n (troubles.Fault kinds.Malformed) r h = ap (λ (x : Result A Kind). put_at n x) h
-fails_at {A} n (troubles.Fault kinds.UnknownName) r h = ap (λ (x : Result A Kind). put_at n x) h
-fails_at {A} n (troubles.Fault kinds.NameTaken) r h = ap (λ (x : Result A Kind). put_at n x) h
-fails_at {A} n (troubles.Fault kinds.WrongSort) r h = ap (λ (x : Result A Kind). put_at n x) h
-fails_at {A} n (troubles.Fault (kinds.Limit what)) r h = ap (λ (x : Result A Kind). put_at n x) h
-fails_at {A} n (troubles.Fault kinds.Unended) r h = ap (λ (x : Result A Kind). put_at n x) h
+fails_at {A} n (troubles.Fault kinds.Malformed) r h = ap (λ (x : Result A FaultKind). put_at n x) h
+fails_at {A} n (troubles.Fault kinds.UnknownName) r h = ap (λ (x : Result A FaultKind). put_at n x) h
+fails_at {A} n (troubles.Fault kinds.NameTaken) r h = ap (λ (x : Result A FaultKind). put_at n x) h
+fails_at {A} n (troubles.Fault kinds.WrongSort) r h = ap (λ (x : Result A FaultKind). put_at n x) h
+fails_at {A} n (troubles.Fault (kinds.Limit what)) r h = ap (λ (x : Result A FaultKind). put_at n x) h
+fails_at {A} n (troubles.Fault kinds.Unended) r h = ap (λ (x : Result A FaultKind). put_at n x) h
 
 -- what fails is not gone on with
 pub fails_on : {A B : Type 0} (f : BookFault) (q : Result A BookFault) (then : A → Result B BookFault) → BookFails f q → BookFails f (q >>= then)
@@ -61,9 +61,9 @@ worded : (old : Plan) (l : Seen) (last : ℕ) (more : Rest) → is_skipped (toke
 worded old l last more h = ap (λ b. cond b (plan_from last old more) (put_at l.number (words_step old (tokens_of l.bytes)) >>= (λ q. plan_from last q more))) h
 
 pub takes_words : (old new : Plan) (l : Seen) → is_skipped (tokens_of l.bytes) ≡ false → words_step old (tokens_of l.bytes) ≡ Ok new → TakesLine old l (Ok tt) new
-takes_words old new l h e = λ last more. worded old l last more h ∙ ap (λ (r : Result Plan Kind). put_at l.number r >>= (λ q. plan_from last q more)) e
+takes_words old new l h e = λ last more. worded old l last more h ∙ ap (λ (r : Result Plan FaultKind). put_at l.number r >>= (λ q. plan_from last q more)) e
 
-pub takes_trouble : (old new : Plan) (l : Seen) (t : Trouble) → is_skipped (tokens_of l.bytes) ≡ false → Fails t (words_step old (tokens_of l.bytes))
+pub takes_trouble : (old new : Plan) (l : Seen) (t : LineError) → is_skipped (tokens_of l.bytes) ≡ false → Fails t (words_step old (tokens_of l.bytes))
     → TakesLine old l (Err (trouble_at l.number t)) new
 takes_trouble old new l t h e = λ last more.
     subst (BookFails (trouble_at l.number t)) (sym (worded old l last more h))

@@ -4,8 +4,8 @@ use Rattle.std.specs.Str.{bytes_eq}
 use Rattle.e_figure.specs.declared.figure.Straight.{Straight}
 use Rattle.e_figure.specs.declared.figure.Round.{Round}
 use Rattle.e_figure.specs.Figure.{has_direction, has_inside}
-use Rattle.e_line.specs.declared.fault.Kind.{Kind}
-use Rattle.e_line.specs.declared.fault.Kind.TheVariants.{Malformed}
+use Rattle.e_line.specs.declared.fault.FaultKind.{FaultKind}
+use Rattle.e_line.specs.declared.fault.FaultKind.TheVariants.{Malformed}
 use Rattle.e_line.specs.Reading.{◌>>=◌, name_at, end_at}
 use Rattle.e_line.specs.Literals.{diagram_lits_of}
 use Rattle.e_drawing.specs.declared.raw.RawLine.{RawLine}
@@ -13,7 +13,7 @@ use Rattle.e_drawing.specs.declared.raw.RawLine.TheVariants as raw
 use Rattle.e_drawing.specs.Numbers.{coordinate_at, square_at}
 
 -- a name and two coordinates
-unfoldable pub point_of : List (List ℕ) → Result RawLine Kind
+unfoldable pub point_of : List (List ℕ) → Result RawLine FaultKind
 point_of words = do
   n ← name_at words
   x ← coordinate_at n.1
@@ -22,11 +22,11 @@ point_of words = do
   Ok (raw.Point n.0 (record { x = x.0; y = y.0 }))
 
 -- a direction that is not two zeros
-abbrev pub directed : List ℕ → Straight → Result RawLine Kind
+abbrev pub directed : List ℕ → Straight → Result RawLine FaultKind
 directed name l = if has_direction l then Ok (raw.Line name l) else Err Malformed
 
 -- a name, the coordinates of a point on it, and a direction
-unfoldable pub straight_of : List (List ℕ) → Result RawLine Kind
+unfoldable pub straight_of : List (List ℕ) → Result RawLine FaultKind
 straight_of words = do
   n ← name_at words
   x ← coordinate_at n.1
@@ -37,11 +37,11 @@ straight_of words = do
   directed n.0 (record { x = x.0; y = y.0; dx = dx.0; dy = dy.0 })
 
 -- a square that is not 0
-abbrev pub rounded : List ℕ → Round → Result RawLine Kind
+abbrev pub rounded : List ℕ → Round → Result RawLine FaultKind
 rounded name c = if has_inside c then Ok (raw.Circle name c) else Err Malformed
 
 -- a name, the coordinates of the center, and the square of the radius
-unfoldable pub round_of : List (List ℕ) → Result RawLine Kind
+unfoldable pub round_of : List (List ℕ) → Result RawLine FaultKind
 round_of words = do
   n ← name_at words
   x ← coordinate_at n.1
@@ -50,11 +50,11 @@ round_of words = do
   none ← end_at q.1
   rounded n.0 (record { x = x.0; y = y.0; square = q.0 })
 
-abbrev pub alone : List (List ℕ) → RawLine → Result RawLine Kind
+abbrev pub alone : List (List ℕ) → RawLine → Result RawLine FaultKind
 alone words line = end_at words >>= λ none. Ok line
 
 -- by the first word
-unfoldable pub line_named : List ℕ → List (List ℕ) → Result RawLine Kind
+unfoldable pub line_named : List ℕ → List (List ℕ) → Result RawLine FaultKind
 line_named w ws =
     if bytes_eq w (codes "figure") then alone ws raw.Figure else
     if bytes_eq w (codes "point") then point_of ws else
@@ -64,6 +64,6 @@ line_named w ws =
     if bytes_eq w (codes "show") then (diagram_lits_of ws >>= λ ls. Ok (raw.Show ls)) else
     if bytes_eq w (codes "end") then alone ws raw.End else Err Malformed
 
-unfoldable pub line_of : List (List ℕ) → Result RawLine Kind
+unfoldable pub line_of : List (List ℕ) → Result RawLine FaultKind
 line_of [] = Err Malformed
 line_of (w ∷ ws) = line_named w ws

@@ -5,8 +5,8 @@ use Rattle.e_figure.specs.declared.figure.Point.{Point}
 use Rattle.e_figure.specs.declared.figure.Straight.{Straight}
 use Rattle.e_figure.specs.declared.figure.Round.{Round}
 use Rattle.e_figure.specs.Figure.{view_of, scope_of, is_small_point, is_small_line, is_small_circle, with_point, with_line, with_circle}
-use Rattle.e_line.specs.declared.fault.Kind.{Kind}
-use Rattle.e_line.specs.declared.fault.Kind.TheVariants.{Malformed}
+use Rattle.e_line.specs.declared.fault.FaultKind.{FaultKind}
+use Rattle.e_line.specs.declared.fault.FaultKind.TheVariants.{Malformed}
 use Rattle.e_line.specs.declared.fault.What.TheVariants as limits
 use Rattle.e_line.specs.declared.literal.RawLit.{RawLit}
 use Rattle.e_line.specs.Reading.{◌>>=◌, with_front}
@@ -40,33 +40,33 @@ allowed place line = false
 
 -- ---- what a line adds: its name, the limit of its sort, and last that of its numbers
 
-unfoldable pub with_named_point : Plan → List ℕ → Point → Result Plan Kind
+unfoldable pub with_named_point : Plan → List ℕ → Point → Result Plan FaultKind
 with_named_point p name a = do
   ns ← declared p.names sorts.Point (name ∷ [])
   few ← or_limit (is_small_point a) limits.Number
   Ok (record p { names = ns; figure = with_point p.figure a })
 
-unfoldable pub with_named_line : Plan → List ℕ → Straight → Result Plan Kind
+unfoldable pub with_named_line : Plan → List ℕ → Straight → Result Plan FaultKind
 with_named_line p name l = do
   ns ← declared p.names sorts.Line (name ∷ [])
   few ← or_limit (is_small_line l) limits.Number
   Ok (record p { names = ns; figure = with_line p.figure l })
 
-unfoldable pub with_named_circle : Plan → List ℕ → Round → Result Plan Kind
+unfoldable pub with_named_circle : Plan → List ℕ → Round → Result Plan FaultKind
 with_named_circle p name c = do
   ns ← declared p.names sorts.Circle (name ∷ [])
   few ← or_limit (is_small_circle c) limits.Number
   Ok (record p { names = ns; figure = with_circle p.figure c })
 
 -- given literals, by their names
-abbrev pub with_given : Plan → List RawLit → Result Plan Kind
+abbrev pub with_given : Plan → List RawLit → Result Plan FaultKind
 with_given p raws = with_front p.given (lits_in p.names raws) >>= λ ls. Ok (record p { given = ls; place = Giving })
 
 -- literals to be shown
-abbrev pub with_shown : Plan → List RawLit → Result Plan Kind
+abbrev pub with_shown : Plan → List RawLit → Result Plan FaultKind
 with_shown p raws = with_front p.shown (lits_in p.names raws) >>= λ ls. Ok (record p { shown = ls; place = Showing })
 
-abbrev pub stepped : Plan → RawLine → Result Plan Kind
+abbrev pub stepped : Plan → RawLine → Result Plan FaultKind
 stepped p raw.Figure = Ok (record p { place = Placing })
 stepped p (raw.Point name a) = with_named_point p name a
 stepped p (raw.Line name l) = with_named_line p name l
@@ -76,7 +76,7 @@ stepped p (raw.Show raws) = with_shown p raws
 stepped p raw.End = Ok (record p { place = Done })
 
 -- a line, where it may come
-unfoldable pub step : Plan → RawLine → Result Plan Kind
+unfoldable pub step : Plan → RawLine → Result Plan FaultKind
 step p line = if allowed p.place line then stepped p line else Err Malformed
 
 abbrev pub is_last : Place → Bool

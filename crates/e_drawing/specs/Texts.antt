@@ -3,7 +3,7 @@ use Rattle.std.specs.Prelude.{◌≡◌, ℕ, ◌+◌, List, [], ◌∷◌, leng
 use Rattle.e_text.specs.Tokens.{tokens_of}
 use Rattle.e_text.specs.Lines.{Seen, lines_of}
 use Rattle.e_text.specs.declared.line.LineFault.{LineFault}
-use Rattle.e_line.specs.declared.fault.Kind.{Kind}
+use Rattle.e_line.specs.declared.fault.FaultKind.{FaultKind}
 use Rattle.e_line.specs.declared.fault.BookFault.{BookFault}
 use Rattle.e_line.specs.declared.fault.BookFault.TheVariants as faults
 use Rattle.e_line.specs.Faults.{line_fault}
@@ -14,7 +14,7 @@ use Rattle.e_drawing.specs.Lines.{line_of}
 use Rattle.e_drawing.specs.Plans.{no_plan, step, is_done}
 
 -- what the words of a line make of a plan
-unfoldable pub words_step : Plan → List (List ℕ) → Result Plan Kind
+unfoldable pub words_step : Plan → List (List ℕ) → Result Plan FaultKind
 words_step p words = line_of words >>= λ l. step p l
 
 -- the lines end: behind the last line of the figure, or before it

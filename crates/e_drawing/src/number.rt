@@ -4,7 +4,7 @@ ghost use Rattle.e_text.specs.Numerals.{is_numeral};
 ghost use Rattle.e_line.specs.Reading.{Gives, Reads};
 ghost use Rattle.e_drawing.specs.Numbers.{most_size, most_square, value_to, unsigned_of, negative_of, coordinate_of, square_of, coordinate_at, square_at};
 
-use e_line::{Kind, Trouble, Words};
+use e_line::{FaultKind, LineError, Words};
 use e_text::{number, numeral};
 
 /// The largest size of a coordinate, and of a number of a direction.
@@ -36,47 +36,47 @@ fn square_size_of(word: &[u8]) -> u64
     }
 }
 
-fn unsigned_of(word: &[u8]) -> Result<i32, Trouble>
+fn unsigned_of(word: &[u8]) -> Result<i32, LineError>
     ensures { Gives (λ z. z) result (unsigned_of word.now) }
 {
     if !numeral(word) {
-        return Err(Trouble::Fault(Kind::Malformed));
+        return Err(LineError::Fault(FaultKind::Malformed));
     }
     let size = size_of(word);
     Ok(size as i32)
 }
 
-fn negative_of(word: &[u8]) -> Result<i32, Trouble>
+fn negative_of(word: &[u8]) -> Result<i32, LineError>
     ensures { Gives (λ z. z) result (negative_of word.now) }
 {
     if !numeral(word) {
-        return Err(Trouble::Fault(Kind::Malformed));
+        return Err(LineError::Fault(FaultKind::Malformed));
     }
     let size = size_of(word);
     if size == 0 {
-        return Err(Trouble::Fault(Kind::Malformed));
+        return Err(LineError::Fault(FaultKind::Malformed));
     }
     let number = size as i32;
     Ok(-number)
 }
 
 /// A coordinate: a numeral, or a minus sign and a numeral other than 0.
-fn coordinate_of(word: &[u8]) -> Result<i32, Trouble>
+fn coordinate_of(word: &[u8]) -> Result<i32, LineError>
     ensures { Gives (λ z. z) result (coordinate_of word.now) }
 {
     match word {
-        [] => Err(Trouble::Fault(Kind::Malformed)),
+        [] => Err(LineError::Fault(FaultKind::Malformed)),
         [b'-', digits @ ..] => negative_of(digits),
         digits => unsigned_of(digits),
     }
 }
 
 /// A square: a numeral.
-fn square_of(word: &[u8]) -> Result<u64, Trouble>
+fn square_of(word: &[u8]) -> Result<u64, LineError>
     ensures { Gives (λ n. n) result (square_of word.now) }
 {
     if !numeral(word) {
-        return Err(Trouble::Fault(Kind::Malformed));
+        return Err(LineError::Fault(FaultKind::Malformed));
     }
     let size = square_size_of(word);
     Ok(size)
@@ -84,7 +84,7 @@ fn square_of(word: &[u8]) -> Result<u64, Trouble>
 
 /// The next word, a coordinate.
 #[tactic(auto, unfolding(crate::specs::Numbers::coordinate_at))]
-pub fn coordinate(words: &mut Words) -> Result<i32, Trouble>
+pub fn coordinate(words: &mut Words) -> Result<i32, LineError>
     ensures { Reads (λ z. z) result words.new (coordinate_at words.old) }
 {
     let word = words.word()?;
@@ -93,7 +93,7 @@ pub fn coordinate(words: &mut Words) -> Result<i32, Trouble>
 
 /// The next word, a square.
 #[tactic(auto, unfolding(crate::specs::Numbers::square_at))]
-pub fn square(words: &mut Words) -> Result<u64, Trouble>
+pub fn square(words: &mut Words) -> Result<u64, LineError>
     ensures { Reads (λ n. n) result words.new (square_at words.old) }
 {
     let word = words.word()?;

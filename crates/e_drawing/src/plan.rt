@@ -12,7 +12,7 @@ use crate::raw::RawLine;
 use e_book::{declare, no_names};
 use e_deriv::Names;
 use e_figure::{Figure, Point, Round, Straight, is_small_circle, is_small_line, is_small_point};
-use e_line::{Kind, RawLit, Trouble, What};
+use e_line::{FaultKind, LineError, RawLit, What};
 use e_literal::{Items, Lit, Sort};
 use e_names::put_lits;
 use e_text::Name;
@@ -58,12 +58,12 @@ fn allowed(place: Place, line: &RawLine) -> bool
 }
 
 /// The limit of numbers.
-fn in_bounds(small: bool) -> Result<(), Trouble>
+fn in_bounds(small: bool) -> Result<(), LineError>
     ensures value { Gives (λ u. u) result (or_limit small limits.Number) }
     ensures small { OnOk result (IsTrue small) }
 {
     if !small {
-        return Err(Trouble::Fault(Kind::Limit(What::Number)));
+        return Err(LineError::Fault(FaultKind::Limit(What::Number)));
     }
     Ok(())
 }
@@ -92,7 +92,7 @@ impl Plan {
 
     /// A point: its name, the limit of points, and that of numbers. After a fault the plan is not used again.
     #[tactic(auto, unfolding(crate::specs::Plans::with_named_point))]
-    fn put_point(&mut self, name: Name, a: Point) -> Result<(), Trouble>
+    fn put_point(&mut self, name: Name, a: Point) -> Result<(), LineError>
         requires { FitsPlan self.old }
         ensures value { Moves result self.new (plans.with_named_point self.old name a) }
         ensures fits { OnOk result (FitsPlan self.new) }
@@ -105,7 +105,7 @@ impl Plan {
 
     /// A line with a direction: its name, the limit of lines, and that of numbers.
     #[tactic(auto, unfolding(crate::specs::Plans::with_named_line))]
-    fn put_line(&mut self, name: Name, l: Straight) -> Result<(), Trouble>
+    fn put_line(&mut self, name: Name, l: Straight) -> Result<(), LineError>
         requires fits { FitsPlan self.old }
         requires direction { IsTrue (has_direction l) }
         ensures value { Moves result self.new (plans.with_named_line self.old name l) }
@@ -119,7 +119,7 @@ impl Plan {
 
     /// A circle with an inside: its name, the limit of circles, and that of numbers.
     #[tactic(auto, unfolding(crate::specs::Plans::with_named_circle))]
-    fn put_circle(&mut self, name: Name, c: Round) -> Result<(), Trouble>
+    fn put_circle(&mut self, name: Name, c: Round) -> Result<(), LineError>
         requires fits { FitsPlan self.old }
         requires inside { IsTrue (has_inside c) }
         ensures value { Moves result self.new (plans.with_named_circle self.old name c) }
@@ -132,7 +132,7 @@ impl Plan {
     }
 
     /// Given literals, by their names.
-    fn give(&mut self, alloc: Global, raw: &[RawLit]) -> Result<(), Trouble>
+    fn give(&mut self, alloc: Global, raw: &[RawLit]) -> Result<(), LineError>
         requires { FitsPlan self.old }
         ensures value { Moves result self.new (plans.with_given self.old raw.now) }
         ensures fits { OnOk result (FitsPlan self.new) }
@@ -143,7 +143,7 @@ impl Plan {
     }
 
     /// Literals to be shown, by their names.
-    fn show(&mut self, alloc: Global, raw: &[RawLit]) -> Result<(), Trouble>
+    fn show(&mut self, alloc: Global, raw: &[RawLit]) -> Result<(), LineError>
         requires { FitsPlan self.old }
         ensures value { Moves result self.new (plans.with_shown self.old raw.now) }
         ensures fits { OnOk result (FitsPlan self.new) }
@@ -163,7 +163,7 @@ impl Plan {
     }
 
     /// What the line adds.
-    fn stepped(&mut self, alloc: Global, line: &RawLine) -> Result<(), Trouble>
+    fn stepped(&mut self, alloc: Global, line: &RawLine) -> Result<(), LineError>
         requires fits { FitsPlan self.old }
         requires line { IsGoodLine line.now }
         ensures value { Moves result self.new (plans.stepped self.old line.now) }
@@ -188,14 +188,14 @@ impl Plan {
 
     /// Takes a line, where it may come. After a fault the plan is not used again.
     #[tactic(auto, unfolding(crate::specs::Plans::step))]
-    pub fn take(&mut self, alloc: Global, line: &RawLine) -> Result<(), Trouble>
+    pub fn take(&mut self, alloc: Global, line: &RawLine) -> Result<(), LineError>
         requires fits { FitsPlan self.old }
         requires line { IsGoodLine line.now }
         ensures value { Moves result self.new (plans.step self.old line.now) }
         ensures fits { OnOk result (FitsPlan self.new) }
     {
         if !allowed(self.place, line) {
-            return Err(Trouble::Fault(Kind::Malformed));
+            return Err(LineError::Fault(FaultKind::Malformed));
         }
         self.stepped(alloc, line)
     }

@@ -6,7 +6,7 @@ ghost use Rattle.e_drawing.specs.Lines.{point_of, straight_of, round_of, alone, 
 
 use crate::number::{coordinate, square};
 use e_figure::{Point, Round, Straight, has_direction, has_inside};
-use e_line::{Kind, RawLit, Trouble, Words, diagram_lits_of};
+use e_line::{FaultKind, LineError, RawLit, Words, diagram_lits_of};
 use e_literal::Items;
 use e_text::{Name, is};
 use std::alloc::Global;
@@ -27,7 +27,7 @@ pub enum RawLine {
 
 /// A name and two coordinates.
 #[tactic(auto, unfolding(crate::specs::Lines::point_of))]
-fn point_of(words: &[&[u8]]) -> Result<RawLine, Trouble>
+fn point_of(words: &[&[u8]]) -> Result<RawLine, LineError>
     ensures value { Gives (λ l. l) result (point_of (texts words.now)) }
     ensures good { IfOk result IsGoodLine }
 {
@@ -41,7 +41,7 @@ fn point_of(words: &[&[u8]]) -> Result<RawLine, Trouble>
 
 /// A name, the coordinates of a point on it, and a direction other than two zeros.
 #[tactic(auto, unfolding(crate::specs::Lines::straight_of))]
-fn straight_of(words: &[&[u8]]) -> Result<RawLine, Trouble>
+fn straight_of(words: &[&[u8]]) -> Result<RawLine, LineError>
     ensures value { Gives (λ l. l) result (straight_of (texts words.now)) }
     ensures good { IfOk result IsGoodLine }
 {
@@ -54,14 +54,14 @@ fn straight_of(words: &[&[u8]]) -> Result<RawLine, Trouble>
     words.end()?;
     let line = Straight { x, y, dx, dy };
     if !has_direction(line) {
-        return Err(Trouble::Fault(Kind::Malformed));
+        return Err(LineError::Fault(FaultKind::Malformed));
     }
     Ok(RawLine::Line(name, line))
 }
 
 /// A name, the coordinates of the center, and the square of the radius, which is not 0.
 #[tactic(auto, unfolding(crate::specs::Lines::round_of))]
-fn round_of(words: &[&[u8]]) -> Result<RawLine, Trouble>
+fn round_of(words: &[&[u8]]) -> Result<RawLine, LineError>
     ensures value { Gives (λ l. l) result (round_of (texts words.now)) }
     ensures good { IfOk result IsGoodLine }
 {
@@ -73,13 +73,13 @@ fn round_of(words: &[&[u8]]) -> Result<RawLine, Trouble>
     words.end()?;
     let circle = Round { x, y, square };
     if !has_inside(circle) {
-        return Err(Trouble::Fault(Kind::Malformed));
+        return Err(LineError::Fault(FaultKind::Malformed));
     }
     Ok(RawLine::Circle(name, circle))
 }
 
 /// A line of one word.
-fn alone(words: &[&[u8]], line: RawLine) -> Result<RawLine, Trouble>
+fn alone(words: &[&[u8]], line: RawLine) -> Result<RawLine, LineError>
     requires { IsGoodLine line }
     ensures value { Gives (λ l. l) result (alone (texts words.now) line) }
     ensures good { IfOk result IsGoodLine }
@@ -95,7 +95,7 @@ fn alone(words: &[&[u8]], line: RawLine) -> Result<RawLine, Trouble>
 
 /// A line, by its first word.
 #[tactic(auto, unfolding(crate::specs::Lines::line_named))]
-fn line_named(alloc: Global, word: &[u8], rest: &[&[u8]]) -> Result<RawLine, Trouble>
+fn line_named(alloc: Global, word: &[u8], rest: &[&[u8]]) -> Result<RawLine, LineError>
     ensures value { Gives (λ l. l) result (line_named word.now (texts rest.now)) }
     ensures good { IfOk result IsGoodLine }
 {
@@ -122,17 +122,17 @@ fn line_named(alloc: Global, word: &[u8], rest: &[&[u8]]) -> Result<RawLine, Tro
     if is(word, b"end") {
         return alone(rest, RawLine::End);
     }
-    Err(Trouble::Fault(Kind::Malformed))
+    Err(LineError::Fault(FaultKind::Malformed))
 }
 
 /// What a line is by its words.
 #[tactic(auto, unfolding(crate::specs::Lines::line_of))]
-pub fn line_of(alloc: Global, words: &[&[u8]]) -> Result<RawLine, Trouble>
+pub fn line_of(alloc: Global, words: &[&[u8]]) -> Result<RawLine, LineError>
     ensures value { Gives (λ l. l) result (line_of (texts words.now)) }
     ensures good { IfOk result IsGoodLine }
 {
     match words {
-        [] => Err(Trouble::Fault(Kind::Malformed)),
+        [] => Err(LineError::Fault(FaultKind::Malformed)),
         [word, rest @ ..] => line_named(alloc, word, rest),
     }
 }

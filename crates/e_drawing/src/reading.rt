@@ -10,14 +10,14 @@ ghost use Rattle.e_drawing.specs.Texts.{at_end, words_step, plan_from, PlanIs, T
 use crate::plan::Plan;
 use crate::raw::line_of;
 use e_book::is_skipped;
-use e_line::{BookFault, Trouble, collected, of_line};
+use e_line::{BookFault, LineError, collected, of_line};
 use e_text::{Line, Lines};
 use std::alloc::Global;
 use std::mem;
 
 /// Takes the words of a line that is not skipped. After a fault the plan is not used again.
 #[tactic(auto, unfolding(crate::specs::Texts::words_step))]
-fn take_words(alloc: Global, plan: &mut Plan, words: &[&[u8]]) -> Result<(), Trouble>
+fn take_words(alloc: Global, plan: &mut Plan, words: &[&[u8]]) -> Result<(), LineError>
     requires { FitsPlan plan.old }
     ensures value { Moves result plan.new (words_step plan.old (texts words.now)) }
     ensures fits { OnOk result (FitsPlan plan.new) }

@@ -4,10 +4,10 @@ use Rattle.e_clause.specs.declared.cert.Version.{Version}
 use Rattle.e_theorem.specs.Statements.{stated}
 use Rattle.e_deriv.specs.Certified.{is_certified, derivation_lines, verdict}
 use Rattle.e_line.specs.Reading.{◌>>=◌}
-use Rattle.e_names.specs.Headed.{Headed, stated_by}
-use Rattle.e_book.specs.Entry.{Entry}
+use Rattle.e_names.specs.TitledStatements.{TitledStatement, stated_by}
+use Rattle.e_book.specs.TheoremViews.{TheoremView}
 use Rattle.e_line.proofs.Bound.{bind_ok}
-use Rattle.e_read.specs.declared.reading.Reading.{Reading}
+use Rattle.e_read.specs.declared.reading.BlockParser.{BlockParser}
 use Rattle.e_read.specs.Text.{Piece, Derived, Last, at_start, taken, garbled_at, finished, or_on, is_end, piece_from}
 use Rattle.e_read.proofs.TakenLines.{either}
 use Rattle.e_verify.proofs.checking.PassedLines.{all_pass}
@@ -29,17 +29,17 @@ same_rest p q xs ys e = ap (λ (a : Found). a.1) (inside (p, xs) (q, ys) e) wher
   inside : (a b : Found) → let x : Result Found ℕ = Ok a in x ≡ Ok b → a ≡ b
   inside a b e = cc
 
-shorter_on : (t : Option Entry) (lines rest : Rest) (more : Result Found ℕ) (p : Piece) → or_on t lines more ≡ found p rest → (more ≡ found p rest → length rest < length lines) → length rest < suc (length lines)
+shorter_on : (t : Option TheoremView) (lines rest : Rest) (more : Result Found ℕ) (p : Piece) → or_on t lines more ≡ found p rest → (more ≡ found p rest → length rest < length lines) → length rest < suc (length lines)
 shorter_on None lines rest more p e h = omega (arith, h e)
 shorter_on (Some x) lines rest more p e h = omega (arith, ap length (same_rest (Derived x) p lines rest e))
 
-shorter : (known : List Headed) (last : ℕ) (r : Reading) (lines : Rest) (p : Piece) (rest : Rest) → piece_from known last r lines ≡ found p rest → length rest < length lines
+shorter : (known : List TitledStatement) (last : ℕ) (r : BlockParser) (lines : Rest) (p : Piece) (rest : Rest) → piece_from known last r lines ≡ found p rest → length rest < length lines
 unfolding piece_from
 shorter known last r [] p rest e = absurd cc
 shorter known last r (Err f ∷ lines) p rest e = absurd cc
 shorter known last r (Ok l ∷ lines) p rest e =
-    let next : Result Reading ℕ = garbled_at l.number (taken known r l) in
-    let then : Reading → Result Found ℕ = λ x. or_on (finished x.draft x.kept) lines (piece_from known last x lines) in
+    let next : Result BlockParser ℕ = garbled_at l.number (taken known r l) in
+    let then : BlockParser → Result Found ℕ = λ x. or_on (finished x.draft x.kept) lines (piece_from known last x lines) in
     elim (either (is_end known r.draft l) (found Last lines) (next >>= then) (found p rest) e) [
       | inl q ↦ omega (arith, ap length (same_rest Last p lines rest q.1))
       | inr q ↦
@@ -51,31 +51,31 @@ module _ (v : Version) where
   -- ---- theorems one after another
 
   -- with this known, these lines are judged in some way
-  abbrev Runs : ℕ → List Headed → Rest → Type 0
+  abbrev Runs : ℕ → List TitledStatement → Rest → Type 0
   Runs last known lines =
-      (j : Judgement) × (ts : List Entry) × (now : List Headed) × (rest : Rest) × Passes v last known lines ts now rest × Closes v last now rest j
+      (j : Judgement) × (ts : List TheoremView) × (now : List TitledStatement) × (rest : Rest) × Passes v last known lines ts now rest × Closes v last now rest j
 
-  ends_here : (last : ℕ) (known : List Headed) (lines : Rest) (j : Judgement) → Closes v last known lines j → Runs last known lines
+  ends_here : (last : ℕ) (known : List TitledStatement) (lines : Rest) (j : Judgement) → Closes v last known lines j → Runs last known lines
   ends_here last known lines j c = (j, [], known, lines, (refl, refl), c)
 
-  goes_on : (last : ℕ) (known : List Headed) (lines after : Rest) (t : Entry) → ReadsNext v last known lines t after → IsCertified known t → Runs last (with_theorem known t) after → Runs last known lines
+  goes_on : (last : ℕ) (known : List TitledStatement) (lines after : Rest) (t : TheoremView) → ReadsNext v last known lines t after → IsCertified known t → Runs last (with_theorem known t) after → Runs last known lines
   goes_on last known lines after t reads certified r = (r.0, t ∷ r.1, r.2, r.3, (after, reads, certified, r.4), r.5)
 
-  by_verdict : (last : ℕ) (known : List Headed) (lines after : Rest) (t : Entry) → ReadsNext v last known lines t after → (a : Result ℕ ℕ) → verdict (stated_by known) (stated t.statement) t.script ≡ a
+  by_verdict : (last : ℕ) (known : List TitledStatement) (lines after : Rest) (t : TheoremView) → ReadsNext v last known lines t after → (a : Result ℕ ℕ) → verdict (stated_by known) (stated t.statement) t.script ≡ a
       → Runs last (with_theorem known t) after → Runs last known lines
   by_verdict last known lines after t reads (Ok n) is more =
       let before = stated_by known in
       goes_on last known lines after t reads (all_pass (is_certified before) (derivation_lines before (stated t.statement) t.script) 1 n is) more
   by_verdict last known lines after t reads (Err step) is more = ends_here last known lines (Bad t.title step) (inr (inr (t, after, step, reads, is, refl)))
 
-  by_piece : (last : ℕ) (known : List Headed) (lines : Rest) (a : Result Found ℕ) → piece_from known last (at_start v) lines ≡ a
-      → ((t : Entry) (after : Rest) → ReadsNext v last known lines t after → Runs last (with_theorem known t) after) → Runs last known lines
+  by_piece : (last : ℕ) (known : List TitledStatement) (lines : Rest) (a : Result Found ℕ) → piece_from known last (at_start v) lines ≡ a
+      → ((t : TheoremView) (after : Rest) → ReadsNext v last known lines t after → Runs last (with_theorem known t) after) → Runs last known lines
   by_piece last known lines (Err line) e more = ends_here last known lines (Garbled line) (inr (inl (line, e, refl)))
   by_piece last known lines (Ok (Last, rest)) e more = ends_here last known lines (JudgedBehind (length known) rest) (inl (rest, e, refl))
   by_piece last known lines (Ok (Derived t, after)) e more =
       by_verdict last known lines after t e (verdict (stated_by known) (stated t.statement) t.script) refl (more t after e)
 
-  by_size : (size last : ℕ) (known : List Headed) (lines : Rest) → length lines ≤ size → Runs last known lines
+  by_size : (size last : ℕ) (known : List TitledStatement) (lines : Rest) → length lines ≤ size → Runs last known lines
   by_size zero last known lines le =
       by_piece last known lines (piece_from known last (at_start v) lines) refl (λ t after r. absurd (omega (arith, le, shorter known last (at_start v) lines (Derived t) after r)))
   by_size (suc size) last known lines le =

@@ -6,8 +6,8 @@ use Rattle.e_clause.specs.declared.cert.Version.{Version}
 use Rattle.e_theorem.specs.Statements.{stated}
 use Rattle.e_deriv.specs.Lines.{Line, first_failure}
 use Rattle.e_deriv.specs.Certified.{is_certified, derivation_lines, verdict}
-use Rattle.e_names.specs.Headed.{Headed, stated_by}
-use Rattle.e_book.specs.Entry.{Entry}
+use Rattle.e_names.specs.TitledStatements.{TitledStatement, stated_by}
+use Rattle.e_book.specs.TheoremViews.{TheoremView}
 use Rattle.e_read.specs.Text.{Piece, Derived, Last}
 use Rattle.e_read.proofs.Bridge.{no_last, derived_is}
 use Rattle.e_judgement.specs.declared.judgement.Judgement.{Judgement}
@@ -22,7 +22,7 @@ Found = Piece × Rest
 abbrev Answer : Type 0
 Answer = Result Found ℕ
 
-abbrev found : Entry → Rest → Answer
+abbrev found : TheoremView → Rest → Answer
 found t rest = Ok (Derived t, rest)
 
 abbrev ended : Rest → Answer
@@ -34,10 +34,10 @@ broken line = Err line
 inside : (a b : Found) → let x : Answer = Ok a in x ≡ Ok b → a ≡ b
 inside a b e = cc
 
-same_entry : (t u : Entry) (xs ys : Rest) → found t xs ≡ found u ys → t ≡ u
+same_entry : (t u : TheoremView) (xs ys : Rest) → found t xs ≡ found u ys → t ≡ u
 same_entry t u xs ys e = (derived_is t u xs ys e).0
 
-same_rest : (t u : Entry) (xs ys : Rest) → found t xs ≡ found u ys → xs ≡ ys
+same_rest : (t u : TheoremView) (xs ys : Rest) → found t xs ≡ found u ys → xs ≡ ys
 same_rest t u xs ys e = (derived_is t u xs ys e).1
 
 same_end : (xs ys : Rest) → ended xs ≡ ended ys → xs ≡ ys
@@ -46,10 +46,10 @@ same_end xs ys e = ap (λ (a : Found). a.1) (inside (Last, xs) (Last, ys) e)
 same_line : (n m : ℕ) → broken n ≡ broken m → n ≡ m
 same_line n m e = cc
 
-found_not_ended : (t : Entry) (xs ys : Rest) → found t xs ≡ ended ys → ⊥
+found_not_ended : (t : TheoremView) (xs ys : Rest) → found t xs ≡ ended ys → ⊥
 found_not_ended t xs ys e = no_last ys xs t (sym e)
 
-found_not_broken : (t : Entry) (xs : Rest) (n : ℕ) → found t xs ≡ broken n → ⊥
+found_not_broken : (t : TheoremView) (xs : Rest) (n : ℕ) → found t xs ≡ broken n → ⊥
 found_not_broken t xs n e = absurd cc
 
 ended_not_broken : (xs : Rest) (n : ℕ) → ended xs ≡ broken n → ⊥
@@ -73,19 +73,19 @@ no_failure p (x ∷ xs) n k h e = by (p x) (λ good later. no_failure p xs (n + 
     by true more h e = more h e
     by false more h e = true≢false (sym h)
 
-pub certified_no_failure : (known : List Headed) (t : Entry) (step : ℕ) → IsCertified known t → verdict (stated_by known) (stated t.statement) t.script ≡ Err step → ⊥
+pub certified_no_failure : (known : List TitledStatement) (t : TheoremView) (step : ℕ) → IsCertified known t → verdict (stated_by known) (stated t.statement) t.script ≡ Err step → ⊥
 certified_no_failure known t step c e =
     no_failure (is_certified (stated_by known)) (derivation_lines (stated_by known) (stated t.statement) t.script) 1 step c e
 
-same_bad : (known : List Headed) (t u : Entry) (n m : ℕ) → t ≡ u → verdict (stated_by known) (stated t.statement) t.script ≡ Err n → verdict (stated_by known) (stated u.statement) u.script ≡ Err m → Bad t.title n ≡ Bad u.title m
+same_bad : (known : List TitledStatement) (t u : TheoremView) (n m : ℕ) → t ≡ u → verdict (stated_by known) (stated t.statement) t.script ≡ Err n → verdict (stated_by known) (stated u.statement) u.script ≡ Err m → Bad t.title n ≡ Bad u.title m
 same_bad known t u n m e h k =
-    let v = ap (λ (x : Entry). verdict (stated_by known) (stated x.statement) x.script) e in
+    let v = ap (λ (x : TheoremView). verdict (stated_by known) (stated x.statement) x.script) e in
     let s = same_step n m (sym h ∙ v ∙ k) in
-    ap (λ (x : Entry). Bad x.title n) e ∙ ap (Bad u.title) s
+    ap (λ (x : TheoremView). Bad x.title n) e ∙ ap (Bad u.title) s
 
 module _ (v : Version) where
   -- with the same known, the same lines end in one way
-  one_close : (last : ℕ) (known : List Headed) (lines : Rest) (a b : Judgement) → Closes v last known lines a → Closes v last known lines b → a ≡ b
+  one_close : (last : ℕ) (known : List TitledStatement) (lines : Rest) (a b : Judgement) → Closes v last known lines a → Closes v last known lines b → a ≡ b
   one_close last known lines a b (inl h) (inl k) = h.2 ∙ ap (JudgedBehind (length known)) (same_end h.0 k.0 (sym h.1 ∙ k.1)) ∙ sym k.2
   one_close last known lines a b (inl h) (inr (inl k)) = absurd (ended_not_broken h.0 k.0 (sym h.1 ∙ k.1))
   one_close last known lines a b (inl h) (inr (inr k)) = absurd (found_not_ended k.0 k.1 h.0 (sym k.3 ∙ h.1))
@@ -98,25 +98,25 @@ module _ (v : Version) where
       h.5 ∙ same_bad known h.0 k.0 h.2 k.2 (same_entry h.0 k.0 h.1 k.1 (sym h.3 ∙ k.3)) h.4 k.4 ∙ sym k.5
 
   -- where the next theorem passes the lines do not end
-  no_close : (last : ℕ) (known : List Headed) (lines : Rest) (t : Entry) (after : Rest) (a : Judgement) → ReadsNext v last known lines t after → IsCertified known t → Closes v last known lines a → ⊥
+  no_close : (last : ℕ) (known : List TitledStatement) (lines : Rest) (t : TheoremView) (after : Rest) (a : Judgement) → ReadsNext v last known lines t after → IsCertified known t → Closes v last known lines a → ⊥
   no_close last known lines t after a r c (inl h) = found_not_ended t after h.0 (sym r ∙ h.1)
   no_close last known lines t after a r c (inr (inl h)) = found_not_broken t after h.0 (sym r ∙ h.1)
   no_close last known lines t after a r c (inr (inr h)) =
       certified_no_failure known t h.2 c
-      (ap (λ (x : Entry). verdict (stated_by known) (stated x.statement) x.script) (same_entry t h.0 after h.1 (sym r ∙ h.3)) ∙ h.4)
+      (ap (λ (x : TheoremView). verdict (stated_by known) (stated x.statement) x.script) (same_entry t h.0 after h.1 (sym r ∙ h.3)) ∙ h.4)
 
-  closes_at : (last : ℕ) (known now : List Headed) (lines rest : Rest) (a : Judgement) → known ≡ now → lines ≡ rest → Closes v last now rest a → Closes v last known lines a
+  closes_at : (last : ℕ) (known now : List TitledStatement) (lines rest : Rest) (a : Judgement) → known ≡ now → lines ≡ rest → Closes v last now rest a → Closes v last known lines a
   closes_at last known now lines rest a e f h =
-      subst (λ (k : List Headed). Closes v last k lines a) (sym e) (subst (λ (l : Rest). Closes v last now l a) (sym f) h)
+      subst (λ (k : List TitledStatement). Closes v last k lines a) (sym e) (subst (λ (l : Rest). Closes v last now l a) (sym f) h)
 
-  passes_at : (last : ℕ) (known now : List Headed) (lines after rest : Rest) (ts : List Entry) (t u : Entry) → u ≡ t → after ≡ lines
+  passes_at : (last : ℕ) (known now : List TitledStatement) (lines after rest : Rest) (ts : List TheoremView) (t u : TheoremView) → u ≡ t → after ≡ lines
       → Passes v last (with_theorem known u) after ts now rest → Passes v last (with_theorem known t) lines ts now rest
   passes_at last known now lines after rest ts t u e f h =
       subst (λ (l : Rest). Passes v last (with_theorem known t) l ts now rest) f
-      (subst (λ (x : Entry). Passes v last (with_theorem known x) after ts now rest) e h)
+      (subst (λ (x : TheoremView). Passes v last (with_theorem known x) after ts now rest) e h)
 
   -- the same lines are judged in one way
-  one_way : (last : ℕ) (known : List Headed) (lines : Rest) (ts us : List Entry) (k1 k2 : List Headed) (r1 r2 : Rest) (a b : Judgement)
+  one_way : (last : ℕ) (known : List TitledStatement) (lines : Rest) (ts us : List TheoremView) (k1 k2 : List TitledStatement) (r1 r2 : Rest) (a b : Judgement)
       → Passes v last known lines ts k1 r1 → Passes v last known lines us k2 r2 → Closes v last k1 r1 a → Closes v last k2 r2 b → a ≡ b
   one_way last known lines [] [] k1 k2 r1 r2 a b p q h k =
       one_close last known lines a b (closes_at last known k1 lines r1 a p.0 p.1 h) (closes_at last known k2 lines r2 b q.0 q.1 k)

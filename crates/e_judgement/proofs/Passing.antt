@@ -6,8 +6,8 @@ use Rattle.e_text.specs.Lines.{Seen, Ahead}
 use Rattle.e_clause.specs.declared.cert.Version.{Version}
 use Rattle.e_theorem.specs.Statements.{stated}
 use Rattle.e_deriv.specs.Fitting.{is_small_statement}
-use Rattle.e_names.specs.Headed.{Headed, stated_by}
-use Rattle.e_book.specs.Entry.{Entry}
+use Rattle.e_names.specs.TitledStatements.{TitledStatement, stated_by}
+use Rattle.e_book.specs.TheoremViews.{TheoremView}
 use Rattle.e_book.specs.Grammar.{last_line}
 use Rattle.e_book.proofs.Fitting.{one_more_stated}
 use Rattle.e_read.specs.Text.{at_start, piece_from}
@@ -17,19 +17,19 @@ use Rattle.e_judgement.specs.Steps.{Begins, version_at}
 use Rattle.e_judgement.specs.Judged.{Rest, with_theorem, ReadsNext, IsCertified, Passes, Closes, IsJudged, version_of, JudgedBehindHead, JudgesLines, lines_of_text, JudgesText}
 
 module _ (v : Version) where
-  pub record History (last : ℕ) (lines : Rest) (known : List Headed) (rest : Rest) : Type 0 where
-    pub theorems : List Entry
+  pub record History (last : ℕ) (lines : Rest) (known : List TitledStatement) (rest : Rest) : Type 0 where
+    pub theorems : List TheoremView
     pub passes : Passes v last [] lines theorems known rest
 
   -- one more theorem passes
-  pub passes_more : (last : ℕ) (known : List Headed) (lines : Rest) (ts : List Entry) (now : List Headed) (rest : Rest) (t : Entry) (after : Rest)
+  pub passes_more : (last : ℕ) (known : List TitledStatement) (lines : Rest) (ts : List TheoremView) (now : List TitledStatement) (rest : Rest) (t : TheoremView) (after : Rest)
       → Passes v last known lines ts now rest → ReadsNext v last now rest t after → IsCertified now t
       → Passes v last known lines (ts ++ t ∷ []) (with_theorem now t) after
   passes_more last known lines [] now rest t after r h c = (
     after,
-    subst (λ (k : List Headed). ReadsNext v last k lines t after) (sym r.0) (ap (piece_from now last (at_start v)) r.1 ∙ h),
-    subst (λ (k : List Headed). IsCertified k t) (sym r.0) c,
-    (ap (λ (k : List Headed). with_theorem k t) r.0, refl),
+    subst (λ (k : List TitledStatement). ReadsNext v last k lines t after) (sym r.0) (ap (piece_from now last (at_start v)) r.1 ∙ h),
+    subst (λ (k : List TitledStatement). IsCertified k t) (sym r.0) c,
+    (ap (λ (k : List TitledStatement). with_theorem k t) r.0, refl),
   )
   passes_more last known lines (u ∷ us) now rest t after r h c =
       (r.0, r.1, r.2, passes_more last (with_theorem known u) r.0 us now rest t after r.3 h c)
@@ -37,20 +37,20 @@ module _ (v : Version) where
   pub begins : (last : ℕ) (lines : Rest) → History last lines [] lines
   begins last lines = record { theorems = []; passes = (refl, refl) }
 
-  pub goes_on : (last : ℕ) (lines : Rest) (known : List Headed) (rest : Rest) (t : Entry) (after : Rest)
+  pub goes_on : (last : ℕ) (lines : Rest) (known : List TitledStatement) (rest : Rest) (t : TheoremView) (after : Rest)
       → History last lines known rest → ReadsNext v last known rest t after → IsCertified known t → History last lines (with_theorem known t) after
   goes_on last lines known rest t after h r c =
       record { theorems = h.theorems ++ t ∷ []; passes = passes_more last [] lines h.theorems known rest t after h.passes r c }
 
-  pub closes_so : (last : ℕ) (lines : Rest) (known : List Headed) (rest : Rest) (j : Judgement) → History last lines known rest → Closes v last known rest j → IsJudged v last lines j
+  pub closes_so : (last : ℕ) (lines : Rest) (known : List TitledStatement) (rest : Rest) (j : Judgement) → History last lines known rest → Closes v last known rest j → IsJudged v last lines j
   closes_so last lines known rest j h c = record { theorems = h.theorems; known = known; rest = rest; passes = h.passes; closes = c }
 
   -- a theorem is read so of the text's lines
-  pub reads_on : (known : List Headed) (now last : ℕ) (rest : Rest) (t : Entry) (after : Rest) → now ≡ last → ReadsNext v now known rest t after → ReadsNext v last known rest t after
+  pub reads_on : (known : List TitledStatement) (now last : ℕ) (rest : Rest) (t : TheoremView) (after : Rest) → now ≡ last → ReadsNext v now known rest t after → ReadsNext v last known rest t after
   reads_on known now last rest t after e h = subst (λ (k : ℕ). ReadsNext v k known rest t after) e h
 
   -- and so do they end
-  pub closes_at : (known : List Headed) (now last : ℕ) (rest : Rest) (j : Judgement) → now ≡ last → Closes v now known rest j → Closes v last known rest j
+  pub closes_at : (known : List TitledStatement) (now last : ℕ) (rest : Rest) (j : Judgement) → now ≡ last → Closes v now known rest j → Closes v last known rest j
   closes_at known now last rest j e h = subst (λ (k : ℕ). Closes v k known rest j) e h
 
 -- ---- the first line
@@ -91,5 +91,5 @@ begins_then text lines after found v (Ok j) is h e k =
 begins_then text lines after found v (Err x) is h e k = tt
 
 -- each known theorem is a statement, and so is one more
-pub small_more : (known : List Headed) (t : Entry) → IsTrue (list_all is_small_statement (stated_by known)) → IsTrue (is_small_statement (stated t.statement)) → IsTrue (list_all is_small_statement (stated_by (with_theorem known t)))
+pub small_more : (known : List TitledStatement) (t : TheoremView) → IsTrue (list_all is_small_statement (stated_by known)) → IsTrue (is_small_statement (stated t.statement)) → IsTrue (list_all is_small_statement (stated_by (with_theorem known t)))
 small_more known t h k = one_more_stated known t.title t.statement h k

@@ -9,8 +9,8 @@ use Rattle.e_theorem.specs.Statements.{stated}
 use Rattle.e_deriv.specs.Script.{erased}
 use Rattle.e_deriv.specs.Goal.{facts_of_statement, goal_of_statement}
 use Rattle.e_deriv.specs.Fitting.{is_small_statement, IsFitting}
-use Rattle.e_names.specs.Headed.{Headed, stated_by}
-use Rattle.e_book.specs.Entry.{Entry}
+use Rattle.e_names.specs.TitledStatements.{TitledStatement, stated_by}
+use Rattle.e_book.specs.TheoremViews.{TheoremView}
 use Rattle.e_book.specs.HasSpelling.{HasSpelling}
 use Rattle.e_book.proofs.Fitting.{fitting}
 use Rattle.e_book.proofs.WrittenScripts.{erased_literals, written_well}
@@ -20,7 +20,7 @@ use Rattle.e_read.proofs.Bridge.{derives}
 use Rattle.e_read.proofs.GoodReadings.{good_certs_read}
 use Rattle.e_judgement.proofs.WithCertificates.{size_erased, small_with}
 
-pub verifiable : (v : Version) (known : List Headed) (last : ℕ) (lines rest : List (Result Seen LineFault)) (t : Entry) → list_all is_small_statement (stated_by known) ≡ true → is_small_statement (stated t.statement) ≡ true → HasSpelling known (bare t)
+pub verifiable : (v : Version) (known : List TitledStatement) (last : ℕ) (lines rest : List (Result Seen LineFault)) (t : TheoremView) → list_all is_small_statement (stated_by known) ≡ true → is_small_statement (stated t.statement) ≡ true → HasSpelling known (bare t)
     → piece_from known last (at_start v) lines ≡ derives t rest → IsVerifiable (stated_by known) (stated t.statement) t.script
 verifiable v known last lines rest t states small spelled e =
     let bs = stated_by known in

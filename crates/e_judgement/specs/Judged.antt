@@ -8,8 +8,8 @@ use Rattle.e_clause.specs.declared.cert.Version.{Version}
 use Rattle.e_clause.specs.declared.cert.Version.TheVariants.{One, Two}
 use Rattle.e_theorem.specs.Statements.{stated}
 use Rattle.e_deriv.specs.Certified.{Certified, verdict}
-use Rattle.e_names.specs.Headed.{Headed, headed, stated_by}
-use Rattle.e_book.specs.Entry.{Entry}
+use Rattle.e_names.specs.TitledStatements.{TitledStatement, headed, stated_by}
+use Rattle.e_book.specs.TheoremViews.{TheoremView}
 use Rattle.e_read.specs.Text.{at_start, piece_from, Derived, Last, is_lf_end}
 use Rattle.e_judgement.specs.declared.judgement.Judgement.{Judgement}
 use Rattle.e_judgement.specs.declared.judgement.Judgement.TheVariants.{Verified, Bad, Garbled}
@@ -19,19 +19,19 @@ abbrev pub Rest : Type 0
 Rest = List (Result Seen LineFault)
 
 -- behind a theorem it is known
-abbrev pub with_theorem : List Headed → Entry → List Headed
+abbrev pub with_theorem : List TitledStatement → TheoremView → List TitledStatement
 with_theorem known t = known ++ headed t.title t.statement ∷ []
 
 -- with this known, these lines begin with this theorem and its derivation, in this version, and those are left behind it
-abbrev pub ReadsNext : Version → ℕ → List Headed → Rest → Entry → Rest → Type 0
+abbrev pub ReadsNext : Version → ℕ → List TitledStatement → Rest → TheoremView → Rest → Type 0
 ReadsNext v last known lines t after = piece_from known last (at_start v) lines ≡ Ok (Derived t, after)
 
 -- with this known, each certificate of the theorem's derivation certifies at its own line
-abbrev pub IsCertified : List Headed → Entry → Type 0
+abbrev pub IsCertified : List TitledStatement → TheoremView → Type 0
 IsCertified known t = Certified (stated_by known) (stated t.statement) t.script
 
 -- these theorems are read one after another, and each is certified by those before it; then this is known, and these lines are left
-abbrev pub Passes : Version → ℕ → List Headed → Rest → List Entry → List Headed → Rest → Type 0
+abbrev pub Passes : Version → ℕ → List TitledStatement → Rest → List TheoremView → List TitledStatement → Rest → Type 0
 Passes v last known lines [] now rest = (known ≡ now) × (lines ≡ rest)
 Passes v last known lines (t ∷ ts) now rest =
     (after : Rest) × ReadsNext v last known lines t after × IsCertified known t × Passes v last (with_theorem known t) after ts now rest
@@ -47,27 +47,27 @@ JudgedBehind n [] = Verified n
 JudgedBehind n (x ∷ xs) = Garbled (number_of x)
 
 -- the last line comes
-abbrev pub EndsThere : Version → ℕ → List Headed → Rest → Judgement → Type 0
+abbrev pub EndsThere : Version → ℕ → List TitledStatement → Rest → Judgement → Type 0
 EndsThere v last known lines j = (rest : Rest) × (piece_from known last (at_start v) lines ≡ Ok (Last, rest)) × (j ≡ JudgedBehind (length known) rest)
 
 -- a line of the next block has no form at its place
-abbrev pub BreaksThere : Version → ℕ → List Headed → Rest → Judgement → Type 0
+abbrev pub BreaksThere : Version → ℕ → List TitledStatement → Rest → Judgement → Type 0
 BreaksThere v last known lines j = (line : ℕ) × (piece_from known last (at_start v) lines ≡ Err line) × (j ≡ Garbled line)
 
 -- each line of the next block has a form, and this is the first that is not certified
-abbrev pub FailsThere : Version → ℕ → List Headed → Rest → Judgement → Type 0
+abbrev pub FailsThere : Version → ℕ → List TitledStatement → Rest → Judgement → Type 0
 FailsThere v last known lines j =
-    (t : Entry) × (after : Rest) × (step : ℕ) × ReadsNext v last known lines t after
+    (t : TheoremView) × (after : Rest) × (step : ℕ) × ReadsNext v last known lines t after
     × (verdict (stated_by known) (stated t.statement) t.script ≡ Err step) × (j ≡ Bad t.title step)
 
 -- with this known, these lines end so
-abbrev pub Closes : Version → ℕ → List Headed → Rest → Judgement → Type 0
+abbrev pub Closes : Version → ℕ → List TitledStatement → Rest → Judgement → Type 0
 Closes v last known lines j = EndsThere v last known lines j ⊎ (BreaksThere v last known lines j ⊎ FailsThere v last known lines j)
 
 -- these lines behind the head of this version are theorems, each certified by those before it, and then end so
 pub record IsJudged (v : Version) (last : ℕ) (lines : Rest) (j : Judgement) : Type 0 where
-  pub theorems : List Entry
-  pub known : List Headed
+  pub theorems : List TheoremView
+  pub known : List TitledStatement
   pub rest : Rest
   pub passes : Passes v last [] lines theorems known rest
   pub closes : Closes v last known rest j

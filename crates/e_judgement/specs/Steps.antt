@@ -6,8 +6,8 @@ use Rattle.e_theorem.specs.Statements.{stated}
 use Rattle.e_deriv.specs.Fitting.{is_small_statement}
 use Rattle.e_deriv.specs.Versions.{has_certs_of}
 use Rattle.e_book.specs.Grammar.{last_line}
-use Rattle.e_names.specs.Headed.{Headed, stated_by}
-use Rattle.e_book.specs.Entry.{Entry, entry_of}
+use Rattle.e_names.specs.TitledStatements.{TitledStatement, stated_by}
+use Rattle.e_book.specs.TheoremViews.{TheoremView, entry_of}
 use Rattle.e_book.specs.HasSpelling.{HasSpelling}
 use Rattle.e_read.specs.Text.{bare}
 use Rattle.e_verify.specs.Verdicts.{IsVerifiable}
@@ -16,7 +16,7 @@ use Rattle.e_judgement.specs.declared.next.NextItem.TheVariants.{Theorem, End}
 use Rattle.e_judgement.specs.Judged.{Rest, ReadsNext, IsCertified, Closes, version_of}
 
 -- the theorem comes next and is certified, by certificates of the version; without them it has a spelling in a book
-pub record IsNext (v : Version) (known : List Headed) (last : ℕ) (lines : Rest) (t : Entry) (after : Rest) : Type 0 where
+pub record IsNext (v : Version) (known : List TitledStatement) (last : ℕ) (lines : Rest) (t : TheoremView) (after : Rest) : Type 0 where
   pub read : ReadsNext v last known lines t after
   pub certified : IsCertified known t
   pub verifiable : IsVerifiable (stated_by known) (stated t.statement) t.script
@@ -25,7 +25,7 @@ pub record IsNext (v : Version) (known : List Headed) (last : ℕ) (lines : Rest
   pub states : IsTrue (is_small_statement (stated t.statement))
 
 -- with this known, this is next
-abbrev pub NextIs : Version → List Headed → ℕ → Rest → Rest → NextItem → Type 0
+abbrev pub NextIs : Version → List TitledStatement → ℕ → Rest → Rest → NextItem → Type 0
 NextIs v known last lines after (Theorem t) = IsNext v known last lines (entry_of t) after
 NextIs v known last lines after (End j) = Closes v last known lines j
 

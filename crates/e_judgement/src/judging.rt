@@ -2,7 +2,7 @@
 ghost use Rattle.std.specs.Prelude.{◌≡◌, ◌≤◌, ◌^◌, ◌++◌, ◌∷◌, [], false, length, IfOk, OnOk};
 ghost use Rattle.e_text.specs.Lines.{seen};
 ghost use Rattle.e_book.specs.Grammar.{last_line};
-ghost use Rattle.e_names.specs.Headed.{headed, is_known};
+ghost use Rattle.e_names.specs.TitledStatements.{headed, is_known};
 ghost use Rattle.e_judgement.specs.Judged.{head_of, is_head, version_of, JudgesText, IsJudged};
 ghost use Rattle.e_judgement.specs.Steps.{Begins};
 

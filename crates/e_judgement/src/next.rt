@@ -6,7 +6,7 @@ ghost use Rattle.e_deriv.specs.Script.{script_of};
 ghost use Rattle.e_deriv.specs.Certified.{Certified, verdict};
 ghost use Rattle.e_deriv.specs.Fitting.{is_small_statement};
 ghost use Rattle.e_book.specs.Grammar.{last_line};
-ghost use Rattle.e_names.specs.Headed.{stated_by};
+ghost use Rattle.e_names.specs.TitledStatements.{stated_by};
 ghost use Rattle.e_line.specs.Limits.{most_theorems};
 ghost use Rattle.e_verify.specs.Checking.{RejectIs};
 ghost use Rattle.e_verify.specs.Verdicts.{IsVerifiable};
@@ -33,7 +33,7 @@ pub enum NextItem {
 }
 
 /// Behind the last line of a text nothing stands.
-fn behind_the_last(lines: &mut Lines, theorems: u32) -> Judgement
+fn after_last_line(lines: &mut Lines, theorems: u32) -> Judgement
     ensures { result ≡ JudgedBehind theorems lines.old.lines }
 {
     match lines.next() {
@@ -73,7 +73,7 @@ pub fn next_item(
 {
     let theorem = match read(alloc, lines, known, version) {
         Ok(Piece::Theorem(theorem)) => theorem,
-        Ok(Piece::Last { theorems }) => return Ok(NextItem::End(behind_the_last(lines, theorems))),
+        Ok(Piece::Last { theorems }) => return Ok(NextItem::End(after_last_line(lines, theorems))),
         Err(TextFault::Garbled { line }) => return Ok(NextItem::End(Judgement::Garbled { line })),
         Err(TextFault::NoMemory) => return Err(AllocError),
     };

@@ -5,7 +5,7 @@ use Rattle.std.proofs.lemmas.List.{append-nil}
 use Rattle.e_text.specs.Names.{is_name, is_title, reserved_words}
 use Rattle.e_text.specs.Tokens.{AreTokens}
 use Rattle.e_text.proofs.TokenWords.{is_token-name, is_token-title}
-use Rattle.e_line.specs.declared.fault.Kind.{Kind}
+use Rattle.e_line.specs.declared.fault.FaultKind.{FaultKind}
 use Rattle.e_line.specs.declared.applies.RawApply.{RawApply}
 use Rattle.e_line.specs.Reading.{◌>>=◌, word_at, title_at, cut_at}
 use Rattle.e_line.specs.Applies.{is_blank, arguments_of, made_names, apply_of}
@@ -61,7 +61,7 @@ arguments_again (Some n ∷ args) h =
 abbrev raw : List ℕ → List (Option (List ℕ)) → List (List ℕ) → RawApply
 raw title args new = record { title = title; args = args; new = new }
 
-abbrev apply_from : List ℕ → List (List ℕ) × List (List ℕ) × Bool → Result RawApply Kind
+abbrev apply_from : List ℕ → List (List ℕ) × List (List ℕ) × Bool → Result RawApply FaultKind
 apply_from title parts = arguments_of parts.0 >>= λ args. made_names parts.2 parts.1 >>= λ new. Ok (raw title args new)
 
 titled_first : (title : List ℕ) (ws : List (List ℕ)) → is_title title ≡ true → apply_of (title ∷ ws) ≡ apply_from title (cut_at (codes "as") ws)

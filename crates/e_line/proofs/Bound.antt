@@ -1,7 +1,7 @@
 -- A result that goes on, and names that differ.
 use Rattle.std.proofs.Common.{◌≡◌, ℕ, Bool, true, false, List, [], ◌∷◌, length, Result, Ok, Err, refl, sym, ap, ◌∙◌, arith}
 use Rattle.std.specs.Str.{bytes_eq}
-use Rattle.e_line.specs.declared.fault.Kind.{Kind}
+use Rattle.e_line.specs.declared.fault.FaultKind.{FaultKind}
 use Rattle.e_line.specs.Reading.{◌>>=◌, each}
 use Rattle.std.proofs.lemmas.Slice.Eq.{bytes_eq-Decides}
 use Rattle.e_text.specs.Names.{is_name}
@@ -10,13 +10,13 @@ pub bind_ok : {F A B : Type 0} (r : Result A F) (f : A → Result B F) (y : B) �
 bind_ok (Ok x) f y e = (x, refl, e)
 bind_ok (Err d) f y e = absurd cc
 
-abbrev pub read_ok : {A : Type 0} → A → Result A Kind
+abbrev pub read_ok : {A : Type 0} → A → Result A FaultKind
 read_ok x = Ok x
 
 pub ok_is : {A : Type 0} (x y : A) → read_ok x ≡ read_ok y → x ≡ y
 ok_is x y e = cc
 
-pub each_length : {X Y : Type 0} (f : X → Result Y Kind) (xs : List X) (ys : List Y) → each f xs ≡ Ok ys → length ys ≡ length xs
+pub each_length : {X Y : Type 0} (f : X → Result Y FaultKind) (xs : List X) (ys : List Y) → each f xs ≡ Ok ys → length ys ≡ length xs
 each_length {X} {Y} f [] ys e = ap length (sym (ok_is [] ys e))
 each_length {X} {Y} f (x ∷ xs) ys e =
     let a = bind_ok (f x) (λ y. each f xs >>= λ zs. read_ok (y ∷ zs)) ys e in

@@ -9,7 +9,7 @@ use Rattle.e_text.specs.Tokens.{is_token, AreTokens}
 use Rattle.e_text.proofs.TokenWords.{is_token-name}
 use Rattle.e_construct.specs.declared.construction.Shape.{Shape}
 use Rattle.e_construct.specs.Lines.{Piece, pieces, may_avoid}
-use Rattle.e_line.specs.declared.fault.Kind.{Kind}
+use Rattle.e_line.specs.declared.fault.FaultKind.{FaultKind}
 use Rattle.e_line.specs.declared.lets.RawLet.{RawLet}
 use Rattle.e_line.specs.Reading.{◌>>=◌, cut_at}
 use Rattle.e_line.specs.Lets.{new_words, argument_words, shapes_of, avoided_of, let_named, let_of}
@@ -97,7 +97,7 @@ named_by_all s new args avoid f =
     let a = first_alike s in
     subst (λ (ss : List Shape). let_named ss (filled (pieces s) new args) avoid ≡ Ok (raw ss new args avoid)) (sym a.is) (named_by_first a.first a.more s new args avoid a.same f)
 
-abbrev let_from : List (List ℕ) × List (List ℕ) × Bool → Result RawLet Kind
+abbrev let_from : List (List ℕ) × List (List ℕ) × Bool → Result RawLet FaultKind
 let_from parts = avoided_of parts.2 parts.1 >>= λ avoid. let_named (shapes_of parts.2 parts.0) parts.0 avoid
 
 read_line : (s : Shape) (new args avoid : List (List ℕ)) → Filled s new args → AreNames avoid → may_have avoid s ≡ true
@@ -110,7 +110,7 @@ read_line s new args [] f h may =
 read_line s new args (n ∷ ns) f h may =
     let front = filled (pieces s) new args in
     ap let_from (cut_again (codes "avoid") front (n ∷ ns) (without_avoid s new args f))
-    ∙ ap (λ (r : Result (List (List ℕ)) Kind). r >>= λ avoid. let_named (shapes_of true front) front avoid) (some_names_again n ns h)
+    ∙ ap (λ (r : Result (List (List ℕ)) FaultKind). r >>= λ avoid. let_named (shapes_of true front) front avoid) (some_names_again n ns h)
     ∙ ap (λ (ss : List Shape). let_named ss front (n ∷ ns)) (avoiding_shapes_again s new args f may) ∙ named_by_all s new args (n ∷ ns) f
 
 pub let_again : (l : RawLet) → LetNamed l → let_of (let_words l) ≡ Ok (as_read l)

@@ -5,18 +5,18 @@ use Rattle.std.specs.List.{slice_split}
 use Rattle.std.specs.Str.{bytes_eq}
 use Rattle.std.proofs.lemmas.List.Splits.{length-slice_split}
 use Rattle.e_text.specs.Names.{is_title, name_of}
-use Rattle.e_line.specs.declared.fault.Kind.{Kind}
+use Rattle.e_line.specs.declared.fault.FaultKind.{FaultKind}
 use Rattle.e_line.specs.declared.items.RawItem.{RawItem}
 use Rattle.e_line.specs.declared.items.RawItem.TheVariants.{Literal, As}
 use Rattle.e_line.specs.declared.items.Listing.{Listing}
 use Rattle.e_line.specs.declared.items.Listing.TheVariants as listings
-use Rattle.e_line.specs.declared.items.RawLine.{RawLine}
-use Rattle.e_line.specs.declared.items.RawLine.TheVariants.{Plain, Define, Listed}
+use Rattle.e_line.specs.declared.items.BookLine.{BookLine}
+use Rattle.e_line.specs.declared.items.BookLine.TheVariants.{Plain, Define, Listed}
 use Rattle.e_line.specs.Reading.{◌>>=◌, or_malformed, each, title_at, end_at, names_of}
 use Rattle.e_line.specs.Literals.{is_semicolon, lit_of}
 use Rattle.e_line.specs.Lets.{are_words_of, new_words, argument_words}
 use Rattle.e_line.specs.Superposes.{superpose_pieces}
-use Rattle.e_line.specs.Forms.{form_named, form_of}
+use Rattle.e_line.specs.RawLines.{raw_line_named, raw_line_of}
 use Rattle.e_line.specs.HasSpelling.{AreNames}
 use Rattle.e_line.specs.Items.{is_as, as_of, item_of, items_of, has_item, define_of, placing_of, listed, line_named, line_of}
 use Rattle.e_line.proofs.Bound.{bind_ok, ok_is, read_ok, each_length}
@@ -30,8 +30,8 @@ abbrev pub ListingSaid : Listing → Type 0
 ListingSaid (listings.Superpose args new) = AreNames new × (length new ≡ 2)
 ListingSaid line = Unit {0}
 
-abbrev pub LineSaid : List (List ℕ) → RawLine → Type 0
-LineSaid words (Plain f) = form_of words ≡ Ok f
+abbrev pub LineSaid : List (List ℕ) → BookLine → Type 0
+LineSaid words (Plain f) = raw_line_of words ≡ Ok f
 LineSaid words (Define t) = is_title t ≡ true
 LineSaid words (Listed line is) = ListingSaid line × (0 < length is) × ItemsSaid is
 
@@ -62,11 +62,11 @@ items_said ws is e =
 
 -- ---- lines
 
-listed_said : (words : List (List ℕ)) (line : Listing) (ws : List (List ℕ)) (l : RawLine) → ListingSaid line → listed line ws ≡ Ok l → LineSaid words l
+listed_said : (words : List (List ℕ)) (line : Listing) (ws : List (List ℕ)) (l : BookLine) → ListingSaid line → listed line ws ≡ Ok l → LineSaid words l
 unfolding listed
 listed_said words line ws l h e = of_reading (LineSaid words) (items_of ws) (λ is. Listed line is) l (λ is k. (h, (items_said ws is k).0, (items_said ws is k).1)) e
 
-define_said : (words ws : List (List ℕ)) (l : RawLine) → define_of ws ≡ Ok l → LineSaid words l
+define_said : (words ws : List (List ℕ)) (l : BookLine) → define_of ws ≡ Ok l → LineSaid words l
 unfolding define_of
 define_said words ws l e =
     let t = bind_ok (title_at ws) (λ t. end_at t.1 >>= λ none. read_ok (Define t.0)) l e in
@@ -82,24 +82,24 @@ placing_said head line e =
     let count : length n.0 ≡ 2 = each_length (λ w. or_malformed (name_of w)) news n.0 n.1 ∙ words_count true superpose_pieces head b.0 in
     of_reading ListingSaid (names_of arguments) (λ args. listings.Superpose args n.0) line (λ args k. (names_said news n.0 n.1, count)) n.2
 
-plain_said : (w : List ℕ) (ws : List (List ℕ)) (l : RawLine) → (form_named w ws >>= λ f. read_ok (Plain f)) ≡ Ok l → LineSaid (w ∷ ws) l
-unfolding form_of
-plain_said w ws l e = of_reading (LineSaid (w ∷ ws)) (form_named w ws) (λ f. Plain f) l (λ f k. k) e
+plain_said : (w : List ℕ) (ws : List (List ℕ)) (l : BookLine) → (raw_line_named w ws >>= λ f. read_ok (Plain f)) ≡ Ok l → LineSaid (w ∷ ws) l
+unfolding raw_line_of
+plain_said w ws l e = of_reading (LineSaid (w ∷ ws)) (raw_line_named w ws) (λ f. Plain f) l (λ f k. k) e
 
-named_said : (w : List ℕ) (ws : List (List ℕ)) (l : RawLine) → line_named w ws ≡ Ok l → LineSaid (w ∷ ws) l
+named_said : (w : List ℕ) (ws : List (List ℕ)) (l : BookLine) → line_named w ws ≡ Ok l → LineSaid (w ∷ ws) l
 unfolding line_named
 named_said w ws l e =
-    let P : RawLine → Type 0 = LineSaid (w ∷ ws) in
-    let r5 : Result RawLine Kind = form_named w ws >>= λ f. read_ok (Plain f) in
-    let placed : Result RawLine Kind = placing_of (take 13 ws) >>= λ line. listed line (drop 13 ws) in
+    let P : BookLine → Type 0 = LineSaid (w ∷ ws) in
+    let r5 : Result BookLine FaultKind = raw_line_named w ws >>= λ f. read_ok (Plain f) in
+    let placed : Result BookLine FaultKind = placing_of (take 13 ws) >>= λ line. listed line (drop 13 ws) in
     let b4 = bytes_eq w (codes "superpose") && has_item (drop 13 ws) in
-    let r4 : Result RawLine Kind = cond b4 placed r5 in
+    let r4 : Result BookLine FaultKind = cond b4 placed r5 in
     let b3 = bytes_eq w (codes "claim") && has_item ws in
-    let r3 : Result RawLine Kind = cond b3 (listed listings.Claim ws) r4 in
+    let r3 : Result BookLine FaultKind = cond b3 (listed listings.Claim ws) r4 in
     let b2 = bytes_eq w (codes "show") && has_item ws in
-    let r2 : Result RawLine Kind = cond b2 (listed listings.Show ws) r3 in
+    let r2 : Result BookLine FaultKind = cond b2 (listed listings.Show ws) r3 in
     let b1 = bytes_eq w (codes "given") && has_item ws in
-    let r1 : Result RawLine Kind = cond b1 (listed listings.Given ws) r2 in
+    let r1 : Result BookLine FaultKind = cond b1 (listed listings.Given ws) r2 in
     either P (bytes_eq w (codes "define")) (define_of ws) r1 l e (define_said (w ∷ ws) ws l) (λ e1.
     either P b1 (listed listings.Given ws) r2 l e1 (listed_said (w ∷ ws) listings.Given ws l tt) (λ e2.
     either P b2 (listed listings.Show ws) r3 l e2 (listed_said (w ∷ ws) listings.Show ws l tt) (λ e3.
@@ -108,7 +108,7 @@ named_said w ws l e =
     (λ k. let a = bind_ok (placing_of (take 13 ws)) (λ line. listed line (drop 13 ws)) l k in listed_said (w ∷ ws) a.0 (drop 13 ws) l (placing_said (take 13 ws) a.0 a.1) a.2)
     (plain_said w ws l)))))
 
-pub line_read_as : (words : List (List ℕ)) (l : RawLine) → line_of words ≡ Ok l → LineSaid words l
+pub line_read_as : (words : List (List ℕ)) (l : BookLine) → line_of words ≡ Ok l → LineSaid words l
 unfolding line_of
 line_read_as [] l e = absurd cc
 line_read_as (w ∷ ws) l e = named_said w ws l e

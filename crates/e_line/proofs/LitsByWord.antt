@@ -2,7 +2,7 @@
 use Rattle.std.proofs.Common.{◌≡◌, ℕ, Bool, true, false, cond, List, [], ◌∷◌, Result, Ok}
 use Rattle.std.specs.Prelude.{codes}
 use Rattle.std.specs.Str.{bytes_eq}
-use Rattle.e_line.specs.declared.fault.Kind.{Kind}
+use Rattle.e_line.specs.declared.fault.FaultKind.{FaultKind}
 use Rattle.e_line.specs.declared.literal.RawLit.{RawLit}
 use Rattle.e_line.specs.declared.literal.RawAtom.{RawAtom}
 use Rattle.e_line.specs.declared.literal.RawAtom.TheVariants as raw
@@ -24,13 +24,13 @@ pub record OfEachRelation (P : RawLit → Type 0) : Type 0 where
 related_by_word : (P : RawLit → Type 0) → OfEachRelation P → (negated : Bool) (w : List ℕ) (ws : List (List ℕ)) (l : RawLit) → related negated w ws ≡ Ok l → P l
 unfolding related
 related_by_word P h negated w ws l e =
-    let two : (List ℕ → List ℕ → RawAtom) → Result RawLit Kind = λ f. two_names ws >>= λ p. read_ok (signed negated (f p.0 p.1)) in
-    let three : (List ℕ → List ℕ → List ℕ → RawAtom) → Result RawLit Kind = λ f. three_names ws >>= λ p. read_ok (signed negated (f p.0 p.1 p.2)) in
-    let r6 : Result RawLit Kind = cond (bytes_eq w (codes "meets")) (two raw.Meets) (compared negated (w ∷ ws)) in
-    let r5 : Result RawLit Kind = cond (bytes_eq w (codes "same-side")) (three raw.Same) r6 in
-    let r4 : Result RawLit Kind = cond (bytes_eq w (codes "between")) (three raw.Between) r5 in
-    let r3 : Result RawLit Kind = cond (bytes_eq w (codes "center")) (two raw.Center) r4 in
-    let r2 : Result RawLit Kind = cond (bytes_eq w (codes "inside")) (two raw.Inside) r3 in
+    let two : (List ℕ → List ℕ → RawAtom) → Result RawLit FaultKind = λ f. two_names ws >>= λ p. read_ok (signed negated (f p.0 p.1)) in
+    let three : (List ℕ → List ℕ → List ℕ → RawAtom) → Result RawLit FaultKind = λ f. three_names ws >>= λ p. read_ok (signed negated (f p.0 p.1 p.2)) in
+    let r6 : Result RawLit FaultKind = cond (bytes_eq w (codes "meets")) (two raw.Meets) (compared negated (w ∷ ws)) in
+    let r5 : Result RawLit FaultKind = cond (bytes_eq w (codes "same-side")) (three raw.Same) r6 in
+    let r4 : Result RawLit FaultKind = cond (bytes_eq w (codes "between")) (three raw.Between) r5 in
+    let r3 : Result RawLit FaultKind = cond (bytes_eq w (codes "center")) (two raw.Center) r4 in
+    let r2 : Result RawLit FaultKind = cond (bytes_eq w (codes "inside")) (two raw.Inside) r3 in
     either P (bytes_eq w (codes "on")) (two raw.On) r2 l e (of_reading P (two_names ws) (λ p. signed negated (raw.On p.0 p.1)) l (λ p k. h.of_on negated p.0 p.1)) (λ e1.
     either P (bytes_eq w (codes "inside")) (two raw.Inside) r3 l e1 (of_reading P (two_names ws) (λ p. signed negated (raw.Inside p.0 p.1)) l (λ p k. h.of_inside negated p.0 p.1)) (λ e2.
     either P (bytes_eq w (codes "center")) (two raw.Center) r4 l e2 (of_reading P (two_names ws) (λ p. signed negated (raw.Center p.0 p.1)) l (λ p k. h.of_center negated p.0 p.1)) (λ e3.

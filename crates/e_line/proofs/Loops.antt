@@ -8,29 +8,29 @@ use Rattle.std.proofs.lemmas.List.Elements.{All-from_get_or}
 use Rattle.std.proofs.lemmas.List.Splits.{slice_split_first, slice_split_none}
 use Rattle.std.proofs.lemmas.List.Sums.{prefix_len_passes}
 use Rattle.std.proofs.Math.Seq.{drop-cons}
-use Rattle.e_line.specs.declared.fault.Kind.{Kind}
-use Rattle.e_line.specs.declared.fault.Trouble.{Trouble}
-use Rattle.e_line.specs.declared.fault.Trouble.TheVariants as troubles
+use Rattle.e_line.specs.declared.fault.FaultKind.{FaultKind}
+use Rattle.e_line.specs.declared.fault.LineError.{LineError}
+use Rattle.e_line.specs.declared.fault.LineError.TheVariants as troubles
 use Rattle.e_line.specs.Reading.{◌>>=◌, Fails, each, with_front}
 
-regroup : {Y : Type 0} (front : List Y) (y : Y) (read : Result (List Y) Kind) → with_front front (read >>= λ ys. Ok (y ∷ ys)) ≡ with_front (front ++ y ∷ []) read
+regroup : {Y : Type 0} (front : List Y) (y : Y) (read : Result (List Y) FaultKind) → with_front front (read >>= λ ys. Ok (y ∷ ys)) ≡ with_front (front ++ y ∷ []) read
 regroup {Y} front y (Ok ys) = ap (λ (l : List Y). Ok l) (simp append_assoc)
 regroup front y (Err e) = refl
 
 -- reading behind nothing is reading
-pub from_none : {X : Type 0} (read : Result (List X) Kind) → with_front [] read ≡ read
+pub from_none : {X : Type 0} (read : Result (List X) FaultKind) → with_front [] read ≡ read
 from_none (Ok xs) = refl
 from_none (Err e) = refl
 
 -- one more is read
-pub goes_on : {X Y : Type 0} (f : X → Result Y Kind) (front : List Y) (x : X) (xs all : List X) (y : Y) (total : Result (List Y) Kind)
+pub goes_on : {X Y : Type 0} (f : X → Result Y FaultKind) (front : List Y) (x : X) (xs all : List X) (y : Y) (total : Result (List Y) FaultKind)
     → all ≡ x ∷ xs → f x ≡ Ok y → with_front front (each f all) ≡ total → with_front (front ++ y ∷ []) (each f xs) ≡ total
 goes_on {X} {Y} f front x xs all y total is ok so_far =
     let one : with_front front (each f (x ∷ xs)) ≡ with_front (front ++ y ∷ []) (each f xs) = rw ok (regroup front y (each f xs)) in
     sym one ∙ ap (λ (l : List X). with_front front (each f l)) (sym is) ∙ so_far
 
 -- one fails
-pub fails : {X Y : Type 0} (f : X → Result Y Kind) (front : List Y) (x : X) (xs all : List X) (e : Trouble) (total : Result (List Y) Kind)
+pub fails : {X Y : Type 0} (f : X → Result Y FaultKind) (front : List Y) (x : X) (xs all : List X) (e : LineError) (total : Result (List Y) FaultKind)
     → all ≡ x ∷ xs → Fails e (f x) → with_front front (each f all) ≡ total → Fails e total
 fails f front x xs all troubles.NoMemory total is err so_far = tt
 fails {X} f front x xs all (troubles.Fault k) total is err so_far =
@@ -38,7 +38,7 @@ fails {X} f front x xs all (troubles.Fault k) total is err so_far =
     sym so_far ∙ ap (λ (l : List X). with_front front (each f l)) is ∙ one
 
 -- none is left
-pub is_done : {X Y : Type 0} (f : X → Result Y Kind) (front : List Y) (all : List X) (total : Result (List Y) Kind) → all ≡ [] → with_front front (each f all) ≡ total → total ≡ Ok front
+pub is_done : {X Y : Type 0} (f : X → Result Y FaultKind) (front : List Y) (all : List X) (total : Result (List Y) FaultKind) → all ≡ [] → with_front front (each f all) ≡ total → total ≡ Ok front
 is_done {X} {Y} f front all total is so_far =
     sym so_far ∙ ap (λ (l : List X). with_front front (each f l)) is ∙ ap (λ (l : List Y). Ok l) (append-nil front)
 

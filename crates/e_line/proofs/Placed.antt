@@ -8,7 +8,7 @@ use Rattle.e_construct.specs.declared.lines.Piece.{Piece as CodePiece}
 use Rattle.e_construct.specs.Views.{piece_view}
 use Rattle.e_construct.specs.Lines.{Piece}
 use Rattle.e_construct.specs.declared.construction.Shape.{Shape}
-use Rattle.e_line.specs.declared.fault.Kind.{Kind}
+use Rattle.e_line.specs.declared.fault.FaultKind.{FaultKind}
 use Rattle.e_line.specs.declared.lets.RawLet.{RawLet}
 use Rattle.e_line.specs.Reading.{◌>>=◌, texts, cut_at}
 use Rattle.e_line.specs.Lets.{is_place, words_at, are_words_of, avoided_of, shapes_of, let_named, let_of}
@@ -65,7 +65,7 @@ none_left new ps ws i le = ap (λ (vs : List (List ℕ)). words_at new (map piec
     nothing [] = refl
     nothing (q ∷ qs) = refl
 
-abbrev behind_let : List (List ℕ) × List (List ℕ) × Bool → Result RawLet Kind
+abbrev behind_let : List (List ℕ) × List (List ℕ) × Bool → Result RawLet FaultKind
 behind_let p = avoided_of p.2 p.1 >>= λ avoid. let_named (shapes_of p.2 p.0) p.0 avoid
 
 -- a line with the word avoid, or without it
@@ -73,4 +73,4 @@ pub let_parts : (words line behind : List (List ℕ)) (avoiding : Bool) (avoid :
     → shapes ≡ shapes_of avoiding line → let_of words ≡ let_named shapes line avoid
 unfolding let_of
 let_parts words line behind avoiding avoid shapes cut av ss =
-    ap behind_let cut ∙ ap (λ (r : Result (List (List ℕ)) Kind). r >>= λ avoid. let_named (shapes_of avoiding line) line avoid) av ∙ ap (λ (xs : List Shape). let_named xs line avoid) (sym ss)
+    ap behind_let cut ∙ ap (λ (r : Result (List (List ℕ)) FaultKind). r >>= λ avoid. let_named (shapes_of avoiding line) line avoid) av ∙ ap (λ (xs : List Shape). let_named xs line avoid) (sym ss)

@@ -8,8 +8,8 @@ use Rattle.std.proofs.lemmas.Bool.Decides.{nat_tests}
 use Rattle.e_text.specs.Names.{is_digit}
 use Rattle.e_text.specs.Numerals.{is_numeral, value_from}
 use Rattle.e_text.proofs.Values.{value_le}
-use Rattle.e_line.specs.declared.fault.Kind.{Kind}
-use Rattle.e_line.specs.declared.fault.Kind.TheVariants.{Malformed}
+use Rattle.e_line.specs.declared.fault.FaultKind.{FaultKind}
+use Rattle.e_line.specs.declared.fault.FaultKind.TheVariants.{Malformed}
 use Rattle.e_line.specs.declared.sum.RawTerm.{RawTerm}
 use Rattle.e_line.specs.declared.sum.RawMono.{RawMono}
 use Rattle.e_line.specs.declared.literal.Sign.{Sign}
@@ -73,7 +73,7 @@ numeral_some (b ∷ c ∷ cs) h n =
 
 -- ---- sums
 
-not_malformed : {X : Type 0} (b : Bool) (x : Result X Kind) (v : X) → cond b (Err Malformed) x ≡ Ok v → (b ≡ false) × (x ≡ Ok v)
+not_malformed : {X : Type 0} (b : Bool) (x : Result X FaultKind) (v : X) → cond b (Err Malformed) x ≡ Ok v → (b ≡ false) × (x ≡ Ok v)
 not_malformed true x v e = absurd cc
 not_malformed false x v e = (refl, e)
 
@@ -101,7 +101,7 @@ mono_said (w ∷ ws) m e = by (is_numeral w) refl e
         let c : 1 ≡ m.coeff = ap (λ (x : RawMono). x.coeff) (ok_is (mono 1 t.0) m t.2) in omega (arith, c)
 
 -- what holds of each that is read holds of all
-pub each_said : {X Y : Type 0} (f : X → Result Y Kind) (P : Y → Type 0) → ((x : X) (y : Y) → f x ≡ Ok y → P y) → (xs : List X) (ys : List Y) → each f xs ≡ Ok ys → AllByRecursion P ys
+pub each_said : {X Y : Type 0} (f : X → Result Y FaultKind) (P : Y → Type 0) → ((x : X) (y : Y) → f x ≡ Ok y → P y) → (xs : List X) (ys : List Y) → each f xs ≡ Ok ys → AllByRecursion P ys
 each_said {X} {Y} f P h [] ys e = subst (λ (l : List Y). AllByRecursion P l) (ok_is [] ys e) tt
 each_said {X} {Y} f P h (x ∷ xs) ys e =
     let a = bind_ok (f x) (λ y. each f xs >>= λ zs. read_ok (y ∷ zs)) ys e in
@@ -122,7 +122,7 @@ sums x y = (x, y)
 sums_said : (left right : List (List ℕ)) (p : List RawMono × List RawMono) → sums_of left right ≡ Ok p → SidesSaid p.0 p.1
 unfolding sums_of
 sums_said left right p e =
-    let then : List RawMono → List RawMono → Result (List RawMono × List RawMono) Kind = λ x y. cond (length x == 0 && length y == 0) (Err Malformed) (read_ok (sums x y)) in
+    let then : List RawMono → List RawMono → Result (List RawMono × List RawMono) FaultKind = λ x y. cond (length x == 0 && length y == 0) (Err Malformed) (read_ok (sums x y)) in
     let x = bind_ok (sum_of left) (λ x. sum_of right >>= λ y. then x y) p e in
     let y = bind_ok (sum_of right) (λ y. then x.0 y) p x.2 in
     let n = not_malformed (length x.0 == 0 && length y.0 == 0) (read_ok (sums x.0 y.0)) p y.2 in

@@ -2,7 +2,7 @@
 use Rattle.std.specs.Prelude.{ℕ, Bool, true, false, List, [], Option, Some, None, Result, Ok, codes, if◌then◌else◌}
 use Rattle.std.specs.Str.{bytes_eq}
 use Rattle.e_text.specs.Names.{name_of}
-use Rattle.e_line.specs.declared.fault.Kind.{Kind}
+use Rattle.e_line.specs.declared.fault.FaultKind.{FaultKind}
 use Rattle.e_line.specs.declared.applies.RawApply.{RawApply}
 use Rattle.e_line.specs.Reading.{◌>>=◌, each, cut_at, title_at, or_malformed, some_names}
 
@@ -12,19 +12,19 @@ abbrev pub is_blank : List ℕ → Bool
 is_blank w = bytes_eq w (codes "_")
 
 -- an argument: a name, or the blank
-abbrev pub argument_of : List ℕ → Result (Option (List ℕ)) Kind
+abbrev pub argument_of : List ℕ → Result (Option (List ℕ)) FaultKind
 argument_of w = if is_blank w then Ok None else (or_malformed (name_of w) >>= λ n. Ok (Some n))
 
-abbrev pub arguments_of : List (List ℕ) → Result (List (Option (List ℕ))) Kind
+abbrev pub arguments_of : List (List ℕ) → Result (List (Option (List ℕ))) FaultKind
 arguments_of words = each argument_of words
 
 -- the words behind as, at least one name
-abbrev pub made_names : Bool → List (List ℕ) → Result (List (List ℕ)) Kind
+abbrev pub made_names : Bool → List (List ℕ) → Result (List (List ℕ)) FaultKind
 made_names false words = Ok []
 made_names true words = some_names words
 
 -- what stands behind apply: a title, arguments, and perhaps the word as with names behind it
-unfoldable pub apply_of : List (List ℕ) → Result RawApply Kind
+unfoldable pub apply_of : List (List ℕ) → Result RawApply FaultKind
 apply_of words = do
   t ← title_at words
   let parts = cut_at (codes "as") t.1

@@ -14,8 +14,8 @@ use Rattle.e_line.specs.declared.literal.RawAtom.TheVariants as raw
 use Rattle.e_line.specs.declared.lets.RawLet.{RawLet}
 use Rattle.e_line.specs.declared.superposes.RawSuperpose.{RawSuperpose}
 use Rattle.e_line.specs.declared.applies.RawApply.{RawApply}
-use Rattle.e_line.specs.declared.form.Form.{Form}
-use Rattle.e_line.specs.declared.form.Form.TheVariants as forms
+use Rattle.e_line.specs.declared.raw_line.RawLine.{RawLine}
+use Rattle.e_line.specs.declared.raw_line.RawLine.TheVariants as rawlines
 use Rattle.e_line.specs.Superposes.{superpose_pieces}
 
 -- ---- sums
@@ -134,25 +134,25 @@ made_words (n ∷ ns) = codes "as" ∷ n ∷ ns
 abbrev pub apply_words : RawApply → List (List ℕ)
 apply_words a = a.title ∷ (map argument_word a.args ++ made_words a.new)
 
-abbrev pub form_words : Form → List (List ℕ)
-form_words (forms.Theorem t) = codes "theorem" ∷ t ∷ []
-form_words (forms.Declare sort ns) = sort_word sort ∷ ns
-form_words (forms.Given ls) = codes "given" ∷ lits_words ls
-form_words (forms.Made sort ns) = codes "made" ∷ sort_word sort ∷ ns
-form_words (forms.Show ls) = codes "show" ∷ lits_words ls
-form_words forms.Proof = codes "proof" ∷ []
-form_words (forms.By r ns l) = codes "by" ∷ r ∷ (ns ++ codes ":" ∷ lit_words l)
-form_words (forms.Hence l) = codes "hence" ∷ lit_words l
-form_words (forms.Let l) = codes "let" ∷ let_words l
-form_words (forms.Apply a) = codes "apply" ∷ apply_words a
-form_words (forms.Qed ns) = codes "qed" ∷ ns
-form_words forms.Contradiction = codes "contradiction" ∷ []
-form_words (forms.Claim ls) = codes "claim" ∷ lits_words ls
-form_words (forms.Superpose s) = codes "superpose" ∷ superpose_words s
-form_words (forms.Cases l) = codes "cases" ∷ lit_words l
-form_words forms.Else = codes "else" ∷ []
-form_words forms.End = codes "end" ∷ []
+abbrev pub raw_line_words : RawLine → List (List ℕ)
+raw_line_words (rawlines.Theorem t) = codes "theorem" ∷ t ∷ []
+raw_line_words (rawlines.Declare sort ns) = sort_word sort ∷ ns
+raw_line_words (rawlines.Given ls) = codes "given" ∷ lits_words ls
+raw_line_words (rawlines.Made sort ns) = codes "made" ∷ sort_word sort ∷ ns
+raw_line_words (rawlines.Show ls) = codes "show" ∷ lits_words ls
+raw_line_words rawlines.Proof = codes "proof" ∷ []
+raw_line_words (rawlines.By r ns l) = codes "by" ∷ r ∷ (ns ++ codes ":" ∷ lit_words l)
+raw_line_words (rawlines.Hence l) = codes "hence" ∷ lit_words l
+raw_line_words (rawlines.Let l) = codes "let" ∷ let_words l
+raw_line_words (rawlines.Apply a) = codes "apply" ∷ apply_words a
+raw_line_words (rawlines.Qed ns) = codes "qed" ∷ ns
+raw_line_words rawlines.Contradiction = codes "contradiction" ∷ []
+raw_line_words (rawlines.Claim ls) = codes "claim" ∷ lits_words ls
+raw_line_words (rawlines.Superpose s) = codes "superpose" ∷ superpose_words s
+raw_line_words (rawlines.Cases l) = codes "cases" ∷ lit_words l
+raw_line_words rawlines.Else = codes "else" ∷ []
+raw_line_words rawlines.End = codes "end" ∷ []
 
 -- a line without its end
-abbrev pub line_of : Form → List ℕ
-line_of form = joined (form_words form)
+abbrev pub line_of : RawLine → List ℕ
+line_of form = joined (raw_line_words form)

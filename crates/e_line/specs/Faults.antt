@@ -2,15 +2,15 @@
 use Rattle.std.specs.Prelude.{ℕ}
 use Rattle.e_text.specs.declared.line.LineFault.{LineFault}
 use Rattle.e_text.specs.declared.line.LineFault.TheVariants as lines
-use Rattle.e_line.specs.declared.fault.Kind.{Kind}
-use Rattle.e_line.specs.declared.fault.Kind.TheVariants as kinds
+use Rattle.e_line.specs.declared.fault.FaultKind.{FaultKind}
+use Rattle.e_line.specs.declared.fault.FaultKind.TheVariants as kinds
 use Rattle.e_line.specs.declared.fault.What.TheVariants as limits
-use Rattle.e_line.specs.declared.fault.Trouble.{Trouble}
-use Rattle.e_line.specs.declared.fault.Trouble.TheVariants as troubles
+use Rattle.e_line.specs.declared.fault.LineError.{LineError}
+use Rattle.e_line.specs.declared.fault.LineError.TheVariants as troubles
 use Rattle.e_line.specs.declared.fault.BookFault.{BookFault}
 use Rattle.e_line.specs.declared.fault.BookFault.TheVariants as faults
 
-abbrev pub at_line : ℕ → Kind → BookFault
+abbrev pub at_line : ℕ → FaultKind → BookFault
 at_line line kinds.Malformed = faults.Malformed line
 at_line line kinds.UnknownName = faults.UnknownName line
 at_line line kinds.NameTaken = faults.NameTaken line
@@ -18,7 +18,7 @@ at_line line kinds.WrongSort = faults.WrongSort line
 at_line line (kinds.Limit what) = faults.Limit line what
 at_line line kinds.Unended = faults.Unended line
 
-abbrev pub trouble_at : ℕ → Trouble → BookFault
+abbrev pub trouble_at : ℕ → LineError → BookFault
 trouble_at line troubles.NoMemory = faults.NoMemory
 trouble_at line (troubles.Fault kind) = at_line line kind
 

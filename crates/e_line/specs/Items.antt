@@ -2,23 +2,23 @@
 use Rattle.std.specs.Prelude.{ℕ, Bool, true, false, ◌&&◌, List, [], ◌∷◌, take, drop, Result, Ok, Err, codes, if◌then◌else◌}
 use Rattle.std.specs.List.{slice_split, list_any}
 use Rattle.std.specs.Str.{bytes_eq}
-use Rattle.e_line.specs.declared.fault.Kind.{Kind}
-use Rattle.e_line.specs.declared.fault.Kind.TheVariants.{Malformed}
+use Rattle.e_line.specs.declared.fault.FaultKind.{FaultKind}
+use Rattle.e_line.specs.declared.fault.FaultKind.TheVariants.{Malformed}
 use Rattle.e_line.specs.declared.literal.RawLit.{RawLit}
-use Rattle.e_line.specs.declared.form.Form.{Form}
-use Rattle.e_line.specs.declared.form.Form.TheVariants as forms
+use Rattle.e_line.specs.declared.raw_line.RawLine.{RawLine}
+use Rattle.e_line.specs.declared.raw_line.RawLine.TheVariants as rawlines
 use Rattle.e_line.specs.declared.items.RawAs.{RawAs}
 use Rattle.e_line.specs.declared.items.RawItem.{RawItem}
 use Rattle.e_line.specs.declared.items.RawItem.TheVariants.{Literal, As}
 use Rattle.e_line.specs.declared.items.Listing.{Listing}
 use Rattle.e_line.specs.declared.items.Listing.TheVariants.{Given, Show, Claim, Superpose}
-use Rattle.e_line.specs.declared.items.RawLine.{RawLine}
-use Rattle.e_line.specs.declared.items.RawLine.TheVariants.{Plain, Define, Listed}
+use Rattle.e_line.specs.declared.items.BookLine.{BookLine}
+use Rattle.e_line.specs.declared.items.BookLine.TheVariants.{Plain, Define, Listed}
 use Rattle.e_line.specs.Reading.{◌>>=◌, each, title_at, end_at, names_of}
 use Rattle.e_line.specs.Literals.{is_semicolon, lit_of}
 use Rattle.e_line.specs.Lets.{are_words_of, new_words, argument_words}
 use Rattle.e_line.specs.Superposes.{superpose_pieces}
-use Rattle.e_line.specs.Forms.{form_named}
+use Rattle.e_line.specs.RawLines.{raw_line_named}
 
 -- ---- what stands between two semicolons
 
@@ -26,19 +26,19 @@ abbrev pub is_as : List ℕ → Bool
 is_as w = bytes_eq w (codes "as")
 
 -- behind the word as: a title, and names, perhaps none
-unfoldable pub as_of : List (List ℕ) → Result RawAs Kind
+unfoldable pub as_of : List (List ℕ) → Result RawAs FaultKind
 as_of words = do
   t ← title_at words
   args ← names_of t.1
   Ok (record { title = t.0; args = args })
 
 -- a literal, or the word as, a title and names
-unfoldable pub item_of : List (List ℕ) → Result RawItem Kind
+unfoldable pub item_of : List (List ℕ) → Result RawItem FaultKind
 item_of [] = Err Malformed
 item_of (w ∷ ws) = if is_as w then (as_of ws >>= λ a. Ok (As a)) else (lit_of (w ∷ ws) >>= λ l. Ok (Literal l))
 
 -- one or more of these between semicolons
-abbrev pub items_of : List (List ℕ) → Result (List RawItem) Kind
+abbrev pub items_of : List (List ℕ) → Result (List RawItem) FaultKind
 items_of words = each item_of (slice_split is_semicolon words)
 
 abbrev pub begins_item : List (List ℕ) → Bool
@@ -51,48 +51,48 @@ has_item words = list_any begins_item (slice_split is_semicolon words)
 
 -- ---- lines
 
-unfoldable pub define_of : List (List ℕ) → Result RawLine Kind
+unfoldable pub define_of : List (List ℕ) → Result BookLine FaultKind
 define_of words = do
   t ← title_at words
   none ← end_at t.1
   Ok (Define t.0)
 
 -- the words of a superposition up to show
-unfoldable pub placing_of : List (List ℕ) → Result Listing Kind
+unfoldable pub placing_of : List (List ℕ) → Result Listing FaultKind
 placing_of head =
     if are_words_of superpose_pieces head
     then (names_of (new_words superpose_pieces head) >>= λ new. names_of (argument_words superpose_pieces head) >>= λ args. Ok (Superpose args new))
     else Err Malformed
 
-unfoldable pub listed : Listing → List (List ℕ) → Result RawLine Kind
+unfoldable pub listed : Listing → List (List ℕ) → Result BookLine FaultKind
 listed line words = do
   items ← items_of words
   Ok (Listed line items)
 
 -- a line by its first word and the others: where an item stands among literals, the line with its items; the first line of a
 -- definition; and any other line as one of a theorem
-unfoldable pub line_named : List ℕ → List (List ℕ) → Result RawLine Kind
+unfoldable pub line_named : List ℕ → List (List ℕ) → Result BookLine FaultKind
 line_named w ws =
     if bytes_eq w (codes "define") then define_of ws else
     if bytes_eq w (codes "given") && has_item ws then listed Given ws else
     if bytes_eq w (codes "show") && has_item ws then listed Show ws else
     if bytes_eq w (codes "claim") && has_item ws then listed Claim ws else
     if bytes_eq w (codes "superpose") && has_item (drop 13 ws) then (placing_of (take 13 ws) >>= λ line. listed line (drop 13 ws)) else
-    (form_named w ws >>= λ f. Ok (Plain f))
+    (raw_line_named w ws >>= λ f. Ok (Plain f))
 
-unfoldable pub line_of : List (List ℕ) → Result RawLine Kind
+unfoldable pub line_of : List (List ℕ) → Result BookLine FaultKind
 line_of [] = Err Malformed
 line_of (w ∷ ws) = line_named w ws
 
 -- ---- a line that takes literals, with these literals
 
-abbrev pub superpose_form : (args new : List (List ℕ)) → List RawLit → Form
-superpose_form args new shown = forms.Superpose (record { args = args; new = new; shown = shown })
+abbrev pub superpose_form : (args new : List (List ℕ)) → List RawLit → RawLine
+superpose_form args new shown = rawlines.Superpose (record { args = args; new = new; shown = shown })
 
-abbrev pub listing_form : Listing → List RawLit → Form
-listing_form Given raws = forms.Given raws
-listing_form Show raws = forms.Show raws
-listing_form Claim raws = forms.Claim raws
+abbrev pub listing_form : Listing → List RawLit → RawLine
+listing_form Given raws = rawlines.Given raws
+listing_form Show raws = rawlines.Show raws
+listing_form Claim raws = rawlines.Claim raws
 listing_form (Superpose args new) raws = superpose_form args new raws
 
 abbrev pub is_show : Listing → Bool

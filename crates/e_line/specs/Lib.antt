@@ -4,7 +4,7 @@ pub mod Sums
 pub mod Literals
 pub mod Lets
 pub mod Superposes
-pub mod Forms
+pub mod RawLines
 pub mod LineLimits
 pub mod Applies
 pub mod Faults

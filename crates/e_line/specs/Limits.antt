@@ -5,8 +5,8 @@ use Rattle.e_literal.specs.declared.object.Sort.TheVariants as sorts
 use Rattle.e_literal.specs.declared.literal.Atom.{Atom}
 use Rattle.e_literal.specs.declared.literal.Atom.TheVariants as atoms
 use Rattle.e_literal.specs.declared.literal.Lit.{Lit}
-use Rattle.e_line.specs.declared.fault.Kind.{Kind}
-use Rattle.e_line.specs.declared.fault.Kind.TheVariants.{Limit}
+use Rattle.e_line.specs.declared.fault.FaultKind.{FaultKind}
+use Rattle.e_line.specs.declared.fault.FaultKind.TheVariants.{Limit}
 use Rattle.e_line.specs.declared.fault.What.{What}
 use Rattle.e_line.specs.declared.fault.What.TheVariants as limits
 
@@ -62,7 +62,7 @@ what_of sorts.Line = limits.Lines
 what_of sorts.Circle = limits.Circles
 
 -- at most so many, or the limit
-abbrev pub within : ℕ → ℕ → What → Result (Unit {0}) Kind
+abbrev pub within : ℕ → ℕ → What → Result (Unit {0}) FaultKind
 within n most what = if nat_lt most n then Err (Limit what) else Ok tt
 
 -- how many monomials an atom has

@@ -3,8 +3,8 @@ use Rattle.std.specs.Prelude.{ℕ, Bool, true, false, ◌&&◌, ◌==◌, List, 
 use Rattle.std.specs.List.{slice_split, position_or_len, list_all}
 use Rattle.std.specs.Str.{bytes_eq}
 use Rattle.e_text.specs.Names.{name_of}
-use Rattle.e_line.specs.declared.fault.Kind.{Kind}
-use Rattle.e_line.specs.declared.fault.Kind.TheVariants.{Malformed}
+use Rattle.e_line.specs.declared.fault.FaultKind.{FaultKind}
+use Rattle.e_line.specs.declared.fault.FaultKind.TheVariants.{Malformed}
 use Rattle.e_line.specs.declared.sum.RawMono.{RawMono}
 use Rattle.e_line.specs.declared.literal.RawLit.{RawLit}
 use Rattle.e_line.specs.declared.literal.RawAtom.{RawAtom}
@@ -35,26 +35,26 @@ object_of (w ∷ v ∷ ws) = None
 object_of [] = None
 
 -- a sum on each side, and a term in one of them
-unfoldable pub sums_of : List (List ℕ) → List (List ℕ) → Result (List RawMono × List RawMono) Kind
+unfoldable pub sums_of : List (List ℕ) → List (List ℕ) → Result (List RawMono × List RawMono) FaultKind
 sums_of left right = do
   x ← sum_of left
   y ← sum_of right
   if length x == 0 && length y == 0 then Err Malformed else Ok (x, y)
 
 -- two names are of equal objects, and else the sides are sums
-abbrev pub equal_sides : Option (List ℕ) → Option (List ℕ) → Result (List RawMono × List RawMono) Kind → Result RawAtom Kind
+abbrev pub equal_sides : Option (List ℕ) → Option (List ℕ) → Result (List RawMono × List RawMono) FaultKind → Result RawAtom FaultKind
 equal_sides (Some x) (Some y) sums = Ok (Equal x y)
 equal_sides (Some x) None sums = sums >>= λ p. Ok (SumsEqual p.0 p.1)
 equal_sides None y sums = sums >>= λ p. Ok (SumsEqual p.0 p.1)
 
-unfoldable pub sides_of : Sign → List (List ℕ) → List (List ℕ) → Result RawAtom Kind
+unfoldable pub sides_of : Sign → List (List ℕ) → List (List ℕ) → Result RawAtom FaultKind
 sides_of signs.Equal left right = equal_sides (object_of left) (object_of right) (sums_of left right)
 sides_of signs.Differ left right = equal_sides (object_of left) (object_of right) (sums_of left right)
 sides_of signs.Less left right = sums_of left right >>= λ p. Ok (SumsLess p.0 p.1)
 sides_of signs.AtMost left right = sums_of left right >>= λ p. Ok (SumsAtMost p.0 p.1)
 
 -- != is a negation, and not may stand before neither it nor <=
-abbrev pub negation_of : Bool → Sign → Result Bool Kind
+abbrev pub negation_of : Bool → Sign → Result Bool FaultKind
 negation_of negated signs.Equal = Ok negated
 negation_of true signs.Differ = Err Malformed
 negation_of false signs.Differ = Ok true
@@ -63,12 +63,12 @@ negation_of true signs.AtMost = Err Malformed
 negation_of false signs.AtMost = Ok false
 
 -- the first sign and the words behind it
-abbrev pub sign_first : List (List ℕ) → Result (Sign × List (List ℕ)) Kind
+abbrev pub sign_first : List (List ℕ) → Result (Sign × List (List ℕ)) FaultKind
 sign_first [] = Err Malformed
 sign_first (w ∷ ws) = or_malformed (sign_of w) >>= λ s. Ok (s, ws)
 
 -- two sides with a sign between them
-unfoldable pub compared : Bool → List (List ℕ) → Result RawLit Kind
+unfoldable pub compared : Bool → List (List ℕ) → Result RawLit FaultKind
 compared negated words = do
   let n = position_or_len is_sign words
   s ← sign_first (drop n words)
@@ -82,7 +82,7 @@ abbrev pub signed : Bool → RawAtom → RawLit
 signed neg a = record { neg = neg; atom = a }
 
 -- the first word says which relation it is; without such a word the literal compares
-unfoldable pub related : Bool → List ℕ → List (List ℕ) → Result RawLit Kind
+unfoldable pub related : Bool → List ℕ → List (List ℕ) → Result RawLit FaultKind
 related negated w ws =
     if bytes_eq w (codes "on") then (two_names ws >>= λ p. Ok (signed negated (On p.0 p.1))) else
     if bytes_eq w (codes "inside") then (two_names ws >>= λ p. Ok (signed negated (Inside p.0 p.1))) else
@@ -91,12 +91,12 @@ related negated w ws =
     if bytes_eq w (codes "same-side") then (three_names ws >>= λ p. Ok (signed negated (Same p.0 p.1 p.2))) else
     if bytes_eq w (codes "meets") then (two_names ws >>= λ p. Ok (signed negated (Meets p.0 p.1))) else compared negated (w ∷ ws)
 
-unfoldable pub signed_of : Bool → List (List ℕ) → Result RawLit Kind
+unfoldable pub signed_of : Bool → List (List ℕ) → Result RawLit FaultKind
 signed_of negated [] = Err Malformed
 signed_of negated (w ∷ ws) = related negated w ws
 
 -- a literal: not stands once before any form but those with != and <=
-unfoldable pub lit_of : List (List ℕ) → Result RawLit Kind
+unfoldable pub lit_of : List (List ℕ) → Result RawLit FaultKind
 lit_of [] = Err Malformed
 lit_of (w ∷ ws) = if bytes_eq w (codes "not") then signed_of true ws else related false w ws
 
@@ -107,18 +107,18 @@ is_diagram_raw (SumsLess x y) = false
 is_diagram_raw (SumsAtMost x y) = false
 is_diagram_raw a = true
 
-unfoldable pub diagram_lit_of : List (List ℕ) → Result RawLit Kind
+unfoldable pub diagram_lit_of : List (List ℕ) → Result RawLit FaultKind
 diagram_lit_of words = lit_of words >>= λ l. if is_diagram_raw l.atom then Ok l else Err Malformed
 
 abbrev pub is_semicolon : List ℕ → Bool
 is_semicolon word = bytes_eq word (codes ";")
 
 -- one or more literals between semicolons
-abbrev pub lits_of : List (List ℕ) → Result (List RawLit) Kind
+abbrev pub lits_of : List (List ℕ) → Result (List RawLit) FaultKind
 lits_of words = each lit_of (slice_split is_semicolon words)
 
 -- one or more diagram literals between semicolons
-unfoldable pub diagram_lits_of : List (List ℕ) → Result (List RawLit) Kind
+unfoldable pub diagram_lits_of : List (List ℕ) → Result (List RawLit) FaultKind
 diagram_lits_of words = lits_of words >>= λ ls. if list_all (λ l. is_diagram_raw l.atom) ls then Ok ls else Err Malformed
 
 -- the monomials of a literal, from left to right

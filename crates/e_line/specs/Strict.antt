@@ -3,15 +3,15 @@ use Rattle.std.specs.Prelude.{ℕ, Bool, true, false, not, ◌&&◌, ◌==◌, L
 use Rattle.std.specs.List.{list_all}
 use Rattle.std.specs.Str.{bytes_eq}
 use Rattle.e_text.specs.Tokens.{tokens_of}
-use Rattle.e_line.specs.declared.fault.Kind.{Kind}
-use Rattle.e_line.specs.declared.fault.Kind.TheVariants.{Malformed}
+use Rattle.e_line.specs.declared.fault.FaultKind.{FaultKind}
+use Rattle.e_line.specs.declared.fault.FaultKind.TheVariants.{Malformed}
 use Rattle.e_line.specs.declared.literal.RawLit.{RawLit}
 use Rattle.e_line.specs.declared.literal.RawAtom.{RawAtom}
 use Rattle.e_line.specs.declared.literal.RawAtom.TheVariants.{SumsLess}
-use Rattle.e_line.specs.declared.form.Form.{Form}
-use Rattle.e_line.specs.declared.form.Form.TheVariants as forms
+use Rattle.e_line.specs.declared.raw_line.RawLine.{RawLine}
+use Rattle.e_line.specs.declared.raw_line.RawLine.TheVariants as rawlines
 use Rattle.e_line.specs.Reading.{◌>>=◌}
-use Rattle.e_line.specs.Forms.{form_of}
+use Rattle.e_line.specs.RawLines.{raw_line_of}
 use Rattle.e_line.specs.Canonical.{line_of}
 
 abbrev pub is_less : RawAtom → Bool
@@ -26,20 +26,20 @@ abbrev pub are_direct : List RawLit → Bool
 are_direct ls = list_all is_direct ls
 
 -- given and show have one literal a line, and no argument is a blank
-abbrev pub is_strict : Form → Bool
-is_strict (forms.Given ls) = length ls == 1 && are_direct ls
-is_strict (forms.Show ls) = length ls == 1 && are_direct ls
-is_strict (forms.Hence l) = is_direct l
-is_strict (forms.Apply a) = list_all is_some a.args
-is_strict (forms.Claim ls) = are_direct ls
-is_strict (forms.Superpose s) = are_direct s.shown
-is_strict (forms.Cases l) = is_direct l
+abbrev pub is_strict : RawLine → Bool
+is_strict (rawlines.Given ls) = length ls == 1 && are_direct ls
+is_strict (rawlines.Show ls) = length ls == 1 && are_direct ls
+is_strict (rawlines.Hence l) = is_direct l
+is_strict (rawlines.Apply a) = list_all is_some a.args
+is_strict (rawlines.Claim ls) = are_direct ls
+is_strict (rawlines.Superpose s) = are_direct s.shown
+is_strict (rawlines.Cases l) = is_direct l
 is_strict form = true
 
 -- the form of a line of these words that is spelled as this form is
-unfoldable pub strict_of : List ℕ → List (List ℕ) → Result Form Kind
-strict_of line words = form_of words >>= λ f. if is_strict f && bytes_eq line (line_of f) then Ok f else Err Malformed
+unfoldable pub exact_line_of : List ℕ → List (List ℕ) → Result RawLine FaultKind
+exact_line_of line words = raw_line_of words >>= λ f. if is_strict f && bytes_eq line (line_of f) then Ok f else Err Malformed
 
 -- the words are those of the line
-abbrev pub strict_form : List ℕ → Result Form Kind
-strict_form line = strict_of line (tokens_of line)
+abbrev pub exact_line : List ℕ → Result RawLine FaultKind
+exact_line line = exact_line_of line (tokens_of line)

@@ -1,8 +1,8 @@
 -- Superpositions, by their spelling.
 use Rattle.std.specs.Prelude.{ℕ, List, [], ◌∷◌, take, drop, codes, Result, Ok, Err, if◌then◌else◌}
 use Rattle.e_construct.specs.Lines.{Piece, New, Argument, Word}
-use Rattle.e_line.specs.declared.fault.Kind.{Kind}
-use Rattle.e_line.specs.declared.fault.Kind.TheVariants.{Malformed}
+use Rattle.e_line.specs.declared.fault.FaultKind.{FaultKind}
+use Rattle.e_line.specs.declared.fault.FaultKind.TheVariants.{Malformed}
 use Rattle.e_line.specs.declared.superposes.RawSuperpose.{RawSuperpose}
 use Rattle.e_line.specs.Reading.{◌>>=◌, names_of}
 use Rattle.e_line.specs.Literals.{lits_of}
@@ -16,12 +16,12 @@ superpose_pieces =
     ∷ New ∷ New ∷ Word (codes "show") ∷ []
 
 -- the words up to show, and those of the literals
-unfoldable pub head_of : List (List ℕ) → List (List ℕ) → Result RawSuperpose Kind
+unfoldable pub head_of : List (List ℕ) → List (List ℕ) → Result RawSuperpose FaultKind
 head_of head rest =
     if are_words_of superpose_pieces head
     then (names_of (new_words superpose_pieces head) >>= λ new. names_of (argument_words superpose_pieces head) >>= λ args. lits_of rest >>= λ ls. Ok (record { args = args; new = new; shown = ls }))
     else Err Malformed
 
 -- what stands behind superpose: a word for each piece, and then literals
-unfoldable pub superpose_of : List (List ℕ) → Result RawSuperpose Kind
+unfoldable pub superpose_of : List (List ℕ) → Result RawSuperpose FaultKind
 superpose_of words = head_of (take 13 words) (drop 13 words)

@@ -3,7 +3,7 @@ ghost use Rattle.std.specs.Prelude.{◌<◌};
 ghost use Rattle.e_line.specs.Reading.{texts, Gives};
 ghost use Rattle.e_line.specs.Applies.{argument_of, arguments_of, made_names, apply_of};
 
-use crate::fault::{Kind, Trouble};
+use crate::fault::{FaultKind, LineError};
 use crate::words::{cut, some_names};
 use e_literal::Items;
 use e_text::{Name, Title, is};
@@ -20,7 +20,7 @@ pub struct RawApply {
 }
 
 /// An argument: a name, or a blank.
-fn argument_of(word: &[u8]) -> Result<Option<Name>, Trouble>
+fn argument_of(word: &[u8]) -> Result<Option<Name>, LineError>
     ensures { Gives (λ a. a) result (argument_of word.now) }
 {
     if is(word, b"_") {
@@ -28,11 +28,11 @@ fn argument_of(word: &[u8]) -> Result<Option<Name>, Trouble>
     }
     match Name::read(word) {
         Some(name) => Ok(Some(name)),
-        None => Err(Trouble::Fault(Kind::Malformed)),
+        None => Err(LineError::Fault(FaultKind::Malformed)),
     }
 }
 
-fn arguments_of(alloc: Global, words: &[&[u8]]) -> Result<Items<Option<Name>>, Trouble>
+fn arguments_of(alloc: Global, words: &[&[u8]]) -> Result<Items<Option<Name>>, LineError>
     ensures { Gives (λ a. a) result (arguments_of (texts words.now)) }
 {
     let mut args = Items::empty(alloc);
@@ -44,7 +44,7 @@ fn arguments_of(alloc: Global, words: &[&[u8]]) -> Result<Items<Option<Name>>, T
 }
 
 /// The words behind `as`, at least one name.
-fn made_names(alloc: Global, making: bool, words: &[&[u8]]) -> Result<Items<Name>, Trouble>
+fn made_names(alloc: Global, making: bool, words: &[&[u8]]) -> Result<Items<Name>, LineError>
     ensures { Gives (λ n. n) result (made_names making (texts words.now)) }
 {
     if making {
@@ -56,14 +56,14 @@ fn made_names(alloc: Global, making: bool, words: &[&[u8]]) -> Result<Items<Name
 
 /// What stands behind `apply`: a title, arguments, and perhaps `as` with names behind it.
 #[tactic(auto, unfolding(crate::specs::Applies::apply_of, crate::specs::Reading::title_at, crate::specs::Reading::word_at))]
-pub(crate) fn apply_of(alloc: Global, words: &[&[u8]]) -> Result<RawApply, Trouble>
+pub(crate) fn apply_of(alloc: Global, words: &[&[u8]]) -> Result<RawApply, LineError>
     ensures { Gives (λ a. a) result (apply_of (texts words.now)) }
 {
     let [title, rest @ ..] = words else {
-        return Err(Trouble::Fault(Kind::Malformed));
+        return Err(LineError::Fault(FaultKind::Malformed));
     };
     let Some(title) = Title::read(title) else {
-        return Err(Trouble::Fault(Kind::Malformed));
+        return Err(LineError::Fault(FaultKind::Malformed));
     };
     let (args, new, making) = cut(rest, b"as");
     let args = arguments_of(alloc, args)?;

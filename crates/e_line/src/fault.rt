@@ -1,6 +1,6 @@
 //! Why a book is refused.
 ghost use Rattle.std.specs.Prelude.{◌≡◌, ◌<◌, ◌^◌};
-ghost use Rattle.e_line.specs.declared.fault.Trouble.TheVariants.{NoMemory};
+ghost use Rattle.e_line.specs.declared.fault.LineError.TheVariants.{NoMemory};
 ghost use Rattle.e_line.specs.Faults.{line_fault};
 ghost use Rattle.e_text.specs.Lines.{fault_line};
 
@@ -10,7 +10,7 @@ use thiserror::Error;
 
 /// What is wrong with a line.
 #[derive(Clone, Copy, PartialEq, Eq)]
-pub enum Kind {
+pub enum FaultKind {
     Malformed,
     UnknownName,
     NameTaken,
@@ -58,24 +58,24 @@ pub enum What {
 
 /// What is wrong with a line, or want of memory.
 #[derive(Drop)]
-pub enum Trouble {
+pub enum LineError {
     NoMemory,
-    Fault(Kind),
+    Fault(FaultKind),
 }
 
-impl From<AllocError> for Trouble {
+impl From<AllocError> for LineError {
     ghost from_gives = { λ _ e. e ≡ NoMemory };
 
-    fn from(_e: AllocError) -> Trouble {
-        Trouble::NoMemory
+    fn from(_e: AllocError) -> LineError {
+        LineError::NoMemory
     }
 }
 
-impl<T: Drop> From<AllocFailed<T>> for Trouble {
+impl<T: Drop> From<AllocFailed<T>> for LineError {
     ghost from_gives = { λ _ e. e ≡ NoMemory };
 
-    fn from(_e: AllocFailed<T>) -> Trouble {
-        Trouble::NoMemory
+    fn from(_e: AllocFailed<T>) -> LineError {
+        LineError::NoMemory
     }
 }
 
@@ -115,7 +115,7 @@ impl From<AllocError> for BookFault {
     }
 }
 
-impl Kind {
+impl FaultKind {
     ghost use Rattle.e_line.specs.Faults.{at_line};
 
     /// The fault, at a line.
@@ -123,17 +123,17 @@ impl Kind {
         ensures { result ≡ at_line line self }
     {
         match self {
-            Kind::Malformed => BookFault::Malformed { line },
-            Kind::UnknownName => BookFault::UnknownName { line },
-            Kind::NameTaken => BookFault::NameTaken { line },
-            Kind::WrongSort => BookFault::WrongSort { line },
-            Kind::Limit(what) => BookFault::Limit { line, what },
-            Kind::Unended => BookFault::Unended { line },
+            FaultKind::Malformed => BookFault::Malformed { line },
+            FaultKind::UnknownName => BookFault::UnknownName { line },
+            FaultKind::NameTaken => BookFault::NameTaken { line },
+            FaultKind::WrongSort => BookFault::WrongSort { line },
+            FaultKind::Limit(what) => BookFault::Limit { line, what },
+            FaultKind::Unended => BookFault::Unended { line },
         }
     }
 }
 
-impl Trouble {
+impl LineError {
     ghost use Rattle.e_line.specs.Faults.{trouble_at};
 
     /// The same, at a line.
@@ -141,8 +141,8 @@ impl Trouble {
         ensures { result ≡ trouble_at line self }
     {
         match self {
-            Trouble::NoMemory => BookFault::NoMemory,
-            Trouble::Fault(kind) => kind.at(line),
+            LineError::NoMemory => BookFault::NoMemory,
+            LineError::Fault(kind) => kind.at(line),
         }
     }
 }
@@ -153,8 +153,8 @@ pub fn of_line(fault: LineFault) -> BookFault
     ensures { result ≡ line_fault fault }
 {
     match fault {
-        LineFault::Bytes { line } => Kind::Limit(What::Bytes).at(line as u32),
-        LineFault::LineBytes { line } => Kind::Limit(What::LineBytes).at(line as u32),
-        LineFault::NotAscii { line } => Kind::Malformed.at(line as u32),
+        LineFault::Bytes { line } => FaultKind::Limit(What::Bytes).at(line as u32),
+        LineFault::LineBytes { line } => FaultKind::Limit(What::LineBytes).at(line as u32),
+        LineFault::NotAscii { line } => FaultKind::Malformed.at(line as u32),
     }
 }

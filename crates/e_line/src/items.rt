@@ -5,10 +5,10 @@ ghost use Rattle.std.specs.Str.{bytes_eq};
 ghost use Rattle.e_line.specs.Reading.{texts, Gives, Moves, with_front};
 ghost use Rattle.e_line.specs.Items.{as_of, item_of, items_of, begins_item, has_item, define_of, placing_of, listed, line_named, line_of};
 
-use crate::fault::{Kind, Trouble};
-use crate::form::{Form, form_of};
+use crate::fault::{FaultKind, LineError};
 use crate::lets::{are_words_of, names_at};
 use crate::literal::{RawLit, lit_of};
+use crate::raw_line::{RawLine, raw_line_of};
 use crate::superposes::{parted, superposition_pieces};
 use crate::words::{Words, names_of, place_of};
 use e_literal::Items;
@@ -43,9 +43,9 @@ pub enum Listing {
 
 /// A line of a book.
 #[derive(Drop)]
-pub enum RawLine {
+pub enum BookLine {
     /// A line without items.
-    Plain(Form),
+    Plain(RawLine),
     /// `define TITLE`
     Define(Title),
     /// A line that takes literals, with an item among them.
@@ -54,14 +54,14 @@ pub enum RawLine {
 
 /// What stands behind `as` in a list of literals: a title and names.
 #[tactic(auto, unfolding(crate::specs::Items::as_of, crate::specs::Reading::title_at, crate::specs::Reading::word_at))]
-fn as_of(alloc: Global, words: &[&[u8]]) -> Result<RawAs, Trouble>
+fn as_of(alloc: Global, words: &[&[u8]]) -> Result<RawAs, LineError>
     ensures { Gives (λ a. a) result (as_of (texts words.now)) }
 {
     let [title, rest @ ..] = words else {
-        return Err(Trouble::Fault(Kind::Malformed));
+        return Err(LineError::Fault(FaultKind::Malformed));
     };
     let Some(title) = Title::read(title) else {
-        return Err(Trouble::Fault(Kind::Malformed));
+        return Err(LineError::Fault(FaultKind::Malformed));
     };
     let args = names_of(alloc, rest)?;
     Ok(RawAs { title, args })
@@ -69,11 +69,11 @@ fn as_of(alloc: Global, words: &[&[u8]]) -> Result<RawAs, Trouble>
 
 /// A literal, or a notion of names.
 #[tactic(auto, unfolding(crate::specs::Items::item_of))]
-fn item_of(alloc: Global, words: &[&[u8]]) -> Result<RawItem, Trouble>
+fn item_of(alloc: Global, words: &[&[u8]]) -> Result<RawItem, LineError>
     ensures { Gives (λ i. i) result (item_of (texts words.now)) }
 {
     match words {
-        [] => Err(Trouble::Fault(Kind::Malformed)),
+        [] => Err(LineError::Fault(FaultKind::Malformed)),
         [word, rest @ ..] => {
             if is(word, b"as") {
                 return Ok(RawItem::As(as_of(alloc, rest)?));
@@ -84,7 +84,7 @@ fn item_of(alloc: Global, words: &[&[u8]]) -> Result<RawItem, Trouble>
 }
 
 /// One or more of them with semicolons between them, put last.
-fn put_items_of(alloc: Global, words: &[&[u8]], items: &mut Items<RawItem>) -> Result<(), Trouble>
+fn put_items_of(alloc: Global, words: &[&[u8]], items: &mut Items<RawItem>) -> Result<(), LineError>
     ensures { Moves result items.new (with_front items.old (items_of (texts words.now))) }
 {
     let mut at = 0;
@@ -99,7 +99,7 @@ fn put_items_of(alloc: Global, words: &[&[u8]], items: &mut Items<RawItem>) -> R
 
 /// One or more of them with semicolons between them.
 #[tactic(auto, using(crate::proofs::Loops::from_none))]
-fn items_of(alloc: Global, words: &[&[u8]]) -> Result<Items<RawItem>, Trouble>
+fn items_of(alloc: Global, words: &[&[u8]]) -> Result<Items<RawItem>, LineError>
     ensures { Gives (λ i. i) result (items_of (texts words.now)) }
 {
     let mut items = Items::empty(alloc);
@@ -132,21 +132,21 @@ fn has_item(words: &[&[u8]]) -> bool
 }
 
 #[tactic(auto, unfolding(crate::specs::Items::define_of))]
-fn define_of(mut words: Words) -> Result<RawLine, Trouble>
+fn define_of(mut words: Words) -> Result<BookLine, LineError>
     ensures { Gives (λ l. l) result (define_of words.entry) }
 {
     let title = words.title()?;
     words.end()?;
-    Ok(RawLine::Define(title))
+    Ok(BookLine::Define(title))
 }
 
 /// The words of a superposition up to `show`.
 #[tactic(auto, unfolding(crate::specs::Items::placing_of))]
-fn placing_of(alloc: Global, head: &[&[u8]]) -> Result<Listing, Trouble>
+fn placing_of(alloc: Global, head: &[&[u8]]) -> Result<Listing, LineError>
     ensures { Gives (λ l. l) result (placing_of (texts head.now)) }
 {
     if !are_words_of(superposition_pieces(), head) {
-        return Err(Trouble::Fault(Kind::Malformed));
+        return Err(LineError::Fault(FaultKind::Malformed));
     }
     let new = names_at(alloc, true, superposition_pieces(), head)?;
     let args = names_at(alloc, false, superposition_pieces(), head)?;
@@ -154,7 +154,7 @@ fn placing_of(alloc: Global, head: &[&[u8]]) -> Result<Listing, Trouble>
 }
 
 #[tactic(auto, unfolding(crate::specs::Items::listed))]
-fn listed(alloc: Global, line: Listing, words: &[&[u8]]) -> Result<RawLine, Trouble>
+fn listed(alloc: Global, line: Listing, words: &[&[u8]]) -> Result<BookLine, LineError>
     ensures { Gives (λ l. l) result (listed line (texts words.now)) }
 {
     let items = match items_of(alloc, words) {
@@ -164,7 +164,7 @@ fn listed(alloc: Global, line: Listing, words: &[&[u8]]) -> Result<RawLine, Trou
             return Err(trouble);
         }
     };
-    Ok(RawLine::Listed(line, items))
+    Ok(BookLine::Listed(line, items))
 }
 
 /// Whether it is a line of this first word, with an item among its literals.
@@ -174,13 +174,13 @@ fn lists(word: &[u8], name: &[u8], literals: &[&[u8]]) -> bool
     is(word, name) && has_item(literals)
 }
 
-#[tactic(auto, unfolding(crate::specs::Items::line_named, crate::specs::Forms::form_of))]
+#[tactic(auto, unfolding(crate::specs::Items::line_named, crate::specs::RawLines::raw_line_of))]
 fn line_named(
     alloc: Global,
     word: &[u8],
     rest: &[&[u8]],
     words: &[&[u8]],
-) -> Result<RawLine, Trouble>
+) -> Result<BookLine, LineError>
     requires { texts words.now ≡ word.now ∷ texts rest.now }
     ensures { Gives (λ l. l) result (line_named word.now (texts rest.now)) }
 {
@@ -200,16 +200,16 @@ fn line_named(
     if lists(word, b"superpose", behind) {
         return listed(alloc, placing_of(alloc, head)?, behind);
     }
-    Ok(RawLine::Plain(form_of(alloc, words)?))
+    Ok(BookLine::Plain(raw_line_of(alloc, words)?))
 }
 
 /// A line of a book, by its words alone.
 #[tactic(auto, unfolding(crate::specs::Items::line_of))]
-pub fn line_of(alloc: Global, words: &[&[u8]]) -> Result<RawLine, Trouble>
+pub fn line_of(alloc: Global, words: &[&[u8]]) -> Result<BookLine, LineError>
     ensures { Gives (λ l. l) result (line_of (texts words.now)) }
 {
     match words {
-        [] => Err(Trouble::Fault(Kind::Malformed)),
+        [] => Err(LineError::Fault(FaultKind::Malformed)),
         [word, rest @ ..] => line_named(alloc, word, rest, words),
     }
 }

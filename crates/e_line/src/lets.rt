@@ -5,7 +5,7 @@ ghost use Rattle.e_construct.specs.Views.{piece_view};
 ghost use Rattle.e_line.specs.Reading.{texts, names_of, Gives};
 ghost use Rattle.e_line.specs.Lets.{is_word_of, are_words_of, is_line_of, shapes_of, is_place, words_at, avoided_of, let_named, let_of};
 
-use crate::fault::{Kind, Trouble};
+use crate::fault::{FaultKind, LineError};
 use crate::words::{cut, some_names};
 use e_construct::{Piece, Shape, all_shapes, may_avoid, pieces};
 use e_literal::Items;
@@ -98,7 +98,7 @@ pub(crate) fn names_at(
     new: bool,
     pieces: &[Piece],
     words: &[&[u8]],
-) -> Result<Items<Name>, Trouble>
+) -> Result<Items<Name>, LineError>
     ensures { Gives (λ n. n) result (names_of (words_at new (map piece_view pieces.now) (texts words.now))) }
 {
     let mut names = Items::empty(alloc);
@@ -108,14 +108,14 @@ pub(crate) fn names_at(
         }
         match Name::read(word) {
             Some(name) => names.push(name)?,
-            None => return Err(Trouble::Fault(Kind::Malformed)),
+            None => return Err(LineError::Fault(FaultKind::Malformed)),
         }
     }
     Ok(names)
 }
 
 /// The words behind `avoid`, where that stands there.
-fn avoided_of(alloc: Global, avoiding: bool, words: &[&[u8]]) -> Result<Items<Name>, Trouble>
+fn avoided_of(alloc: Global, avoiding: bool, words: &[&[u8]]) -> Result<Items<Name>, LineError>
     ensures { Gives (λ n. n) result (avoided_of avoiding (texts words.now)) }
 {
     if avoiding {
@@ -132,11 +132,11 @@ fn let_named(
     shapes: Items<Shape>,
     words: &[&[u8]],
     avoid: Items<Name>,
-) -> Result<RawLet, Trouble>
+) -> Result<RawLet, LineError>
     ensures { Gives (λ l. l) result (let_named shapes (texts words.now) avoid) }
 {
     let [first, ..] = shapes.items() else {
-        return Err(Trouble::Fault(Kind::Malformed));
+        return Err(LineError::Fault(FaultKind::Malformed));
     };
     let new = names_at(alloc, true, pieces(*first), words)?;
     let args = names_at(alloc, false, pieces(*first), words)?;
@@ -150,7 +150,7 @@ fn let_named(
 
 /// What stands behind `let`: the line of a shape or of several, and perhaps `avoid` with names behind it.
 #[tactic(auto, unfolding(crate::specs::Lets::let_of))]
-pub(crate) fn let_of(alloc: Global, words: &[&[u8]]) -> Result<RawLet, Trouble>
+pub(crate) fn let_of(alloc: Global, words: &[&[u8]]) -> Result<RawLet, LineError>
     ensures { Gives (λ l. l) result (let_of (texts words.now)) }
 {
     let (line, avoid, avoiding) = cut(words, b"avoid");

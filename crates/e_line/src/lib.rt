@@ -5,30 +5,30 @@
 
 mod applies;
 mod fault;
-mod form;
 mod items;
 mod lets;
 mod limits;
 mod lines;
 mod literal;
 mod literals;
+mod raw_line;
 mod strict;
 mod sum;
 mod superposes;
 mod words;
 
 pub use applies::RawApply;
-pub use fault::{BookFault, Kind, Trouble, What, of_line};
-pub use form::{Form, form_of};
-pub use items::{Listing, RawAs, RawItem, RawLine, line_of};
+pub use fault::{BookFault, FaultKind, LineError, What, of_line};
+pub use items::{BookLine, Listing, RawAs, RawItem, line_of};
 pub use lets::RawLet;
 pub use limits::{count_of, few_monos, within};
 pub use lines::{
-    put_apply, put_by, put_form, put_let, put_named, put_said, put_stated, put_superpose,
+    put_apply, put_by, put_let, put_named, put_raw_line, put_said, put_stated, put_superpose,
 };
 pub use literal::{RawAtom, RawLit, diagram_lit_of, diagram_lits_of, lit_of};
 pub use literals::{put_literal, put_term};
-pub use strict::{is_direct, strict_of};
+pub use raw_line::{RawLine, raw_line_of};
+pub use strict::{exact_line_of, is_direct};
 pub use sum::{RawMono, RawTerm, term_of};
 pub use superposes::{RawSuperpose, superposition_pieces};
 pub use words::{Words, collected, names_of, sort_word};

@@ -6,7 +6,7 @@ ghost use Rattle.e_line.specs.Literals.{monos_of};
 ghost use Rattle.e_line.specs.Limits.{most_coefficient, within};
 ghost use Rattle.e_line.specs.LineLimits.{are_short, are_small, few_monos};
 
-use crate::fault::{Kind, Trouble, What};
+use crate::fault::{FaultKind, LineError, What};
 use crate::literal::{RawAtom, RawLit};
 use crate::sum::{MAX_COEFFICIENT, RawMono};
 
@@ -14,11 +14,11 @@ use crate::sum::{MAX_COEFFICIENT, RawMono};
 pub const MAX_MONOMIALS: usize = 32;
 
 /// At most so many, or the limit.
-pub fn within(count: usize, most: usize, what: What) -> Result<(), Trouble>
+pub fn within(count: usize, most: usize, what: What) -> Result<(), LineError>
     ensures { Gives (λ u. u) result (within count most what) }
 {
     if count > most {
-        return Err(Trouble::Fault(Kind::Limit(what)));
+        return Err(LineError::Fault(FaultKind::Limit(what)));
     }
     Ok(())
 }
@@ -68,14 +68,14 @@ fn are_small(lits: &[RawLit]) -> bool
 
 /// The limits of each literal: of its monomials, and then of the coefficients of all.
 #[tactic(auto, unfolding(crate::specs::LineLimits::few_monos))]
-pub fn few_monos(lits: &[RawLit]) -> Result<(), Trouble>
+pub fn few_monos(lits: &[RawLit]) -> Result<(), LineError>
     ensures { Gives (λ u. u) result (few_monos lits.now) }
 {
     if !are_short(lits) {
-        return Err(Trouble::Fault(Kind::Limit(What::Monomials)));
+        return Err(LineError::Fault(FaultKind::Limit(What::Monomials)));
     }
     if !are_small(lits) {
-        return Err(Trouble::Fault(Kind::Limit(What::Coefficient)));
+        return Err(LineError::Fault(FaultKind::Limit(What::Coefficient)));
     }
     Ok(())
 }

@@ -2,13 +2,13 @@
 ghost use Rattle.std.specs.Prelude.{◌≡◌, ◌++◌, ◌∷◌, [], codes, map, OnOk};
 ghost use Rattle.e_text.specs.Tokens.{spaced};
 ghost use Rattle.e_construct.specs.Views.{piece_view};
-ghost use Rattle.e_line.specs.declared.form.Form.TheVariants as forms;
+ghost use Rattle.e_line.specs.declared.raw_line.RawLine.TheVariants as rawlines;
 ghost use Rattle.e_line.specs.Superposes.{superpose_pieces};
 ghost use Rattle.e_line.specs.Canonical.{lit_words, lits_words, filled, line_pieces, avoid_words, argument_word, made_words, line_of};
 
-use crate::form::Form;
 use crate::literal::RawLit;
 use crate::literals::{put_literal, put_literals};
+use crate::raw_line::RawLine;
 use crate::superposes::superposition_pieces;
 use crate::words::sort_word;
 use e_construct::{Piece, Shape, pieces};
@@ -39,7 +39,7 @@ pub fn put_by(
     names: &[Name],
     lit: &RawLit,
 ) -> Result<(), AllocError>
-    ensures { OnOk result (out.new.items ≡ out.old.items ++ line_of (forms.By rule.now names.now lit.now)) }
+    ensures { OnOk result (out.new.items ≡ out.old.items ++ line_of (rawlines.By rule.now names.now lit.now)) }
 {
     out.extend_from_slice(b"by")?;
     put_citation(out, rule, names, lit)
@@ -128,7 +128,7 @@ pub fn put_let(
     args: &[Name],
     avoid: &[Name],
 ) -> Result<(), AllocError>
-    ensures { OnOk result (out.new.items ≡ out.old.items ++ line_of (forms.Let (record { shapes = shapes.now; new = new.now; args = args.now; avoid = avoid.now }))) }
+    ensures { OnOk result (out.new.items ≡ out.old.items ++ line_of (rawlines.Let (record { shapes = shapes.now; new = new.now; args = args.now; avoid = avoid.now }))) }
 {
     out.extend_from_slice(b"let")?;
     put_construction(out, shapes, new, args, avoid)
@@ -186,7 +186,7 @@ pub fn put_apply(
     args: &[Option<Name>],
     new: &[Name],
 ) -> Result<(), AllocError>
-    ensures { OnOk result (out.new.items ≡ out.old.items ++ line_of (forms.Apply (record { title = title.now; args = args.now; new = new.now }))) }
+    ensures { OnOk result (out.new.items ≡ out.old.items ++ line_of (rawlines.Apply (record { title = title.now; args = args.now; new = new.now }))) }
 {
     out.extend_from_slice(b"apply")?;
     put_use(out, title, args, new)
@@ -214,7 +214,7 @@ pub fn put_superpose(
     new: &[Name],
     shown: &[RawLit],
 ) -> Result<(), AllocError>
-    ensures { OnOk result (out.new.items ≡ out.old.items ++ line_of (forms.Superpose (record { args = args.now; new = new.now; shown = shown.now }))) }
+    ensures { OnOk result (out.new.items ≡ out.old.items ++ line_of (rawlines.Superpose (record { args = args.now; new = new.now; shown = shown.now }))) }
 {
     out.extend_from_slice(b"superpose")?;
     put_superposition(out, new, args, shown)
@@ -245,41 +245,41 @@ pub fn put_said(out: &mut Vec<u8>, word: &[u8], lit: &RawLit) -> Result<(), Allo
 }
 
 /// Writes the line of a form.
-pub fn put_form(out: &mut Vec<u8>, form: &Form) -> Result<(), AllocError>
+pub fn put_raw_line(out: &mut Vec<u8>, form: &RawLine) -> Result<(), AllocError>
     ensures { OnOk result (out.new.items ≡ out.old.items ++ line_of form.now) }
 {
     match form {
-        Form::Theorem(title) => {
+        RawLine::Theorem(title) => {
             out.extend_from_slice(b"theorem")?;
             put(out, title.bytes())
         }
-        Form::Declare(sort, names) => put_named(out, sort_word(*sort), names.items()),
-        Form::Given(lits) => put_stated(out, b"given", lits.items()),
-        Form::Made(sort, names) => {
+        RawLine::Declare(sort, names) => put_named(out, sort_word(*sort), names.items()),
+        RawLine::Given(lits) => put_stated(out, b"given", lits.items()),
+        RawLine::Made(sort, names) => {
             out.extend_from_slice(b"made")?;
             put(out, sort_word(*sort))?;
             put_names(out, names.items())
         }
-        Form::Show(lits) => put_stated(out, b"show", lits.items()),
-        Form::Proof => out.extend_from_slice(b"proof"),
-        Form::By(rule, names, lit) => put_by(out, rule.bytes(), names.items(), lit),
-        Form::Hence(lit) => put_said(out, b"hence", lit),
-        Form::Let(raw) => put_let(
+        RawLine::Show(lits) => put_stated(out, b"show", lits.items()),
+        RawLine::Proof => out.extend_from_slice(b"proof"),
+        RawLine::By(rule, names, lit) => put_by(out, rule.bytes(), names.items(), lit),
+        RawLine::Hence(lit) => put_said(out, b"hence", lit),
+        RawLine::Let(raw) => put_let(
             out,
             raw.shapes.items(),
             raw.new.items(),
             raw.args.items(),
             raw.avoid.items(),
         ),
-        Form::Apply(raw) => put_apply(out, raw.title.bytes(), raw.args.items(), raw.new.items()),
-        Form::Qed(names) => put_named(out, b"qed", names.items()),
-        Form::Contradiction => out.extend_from_slice(b"contradiction"),
-        Form::Claim(lits) => put_stated(out, b"claim", lits.items()),
-        Form::Superpose(raw) => {
+        RawLine::Apply(raw) => put_apply(out, raw.title.bytes(), raw.args.items(), raw.new.items()),
+        RawLine::Qed(names) => put_named(out, b"qed", names.items()),
+        RawLine::Contradiction => out.extend_from_slice(b"contradiction"),
+        RawLine::Claim(lits) => put_stated(out, b"claim", lits.items()),
+        RawLine::Superpose(raw) => {
             put_superpose(out, raw.args.items(), raw.new.items(), raw.shown.items())
         }
-        Form::Cases(lit) => put_said(out, b"cases", lit),
-        Form::Else => out.extend_from_slice(b"else"),
-        Form::End => out.extend_from_slice(b"end"),
+        RawLine::Cases(lit) => put_said(out, b"cases", lit),
+        RawLine::Else => out.extend_from_slice(b"else"),
+        RawLine::End => out.extend_from_slice(b"end"),
     }
 }

@@ -4,7 +4,7 @@ ghost use Rattle.std.specs.List.{list_all, position_or_len};
 ghost use Rattle.e_line.specs.Reading.{texts, Gives, Moves, with_front};
 ghost use Rattle.e_line.specs.Literals.{sign_of, is_sign, object_of, sums_of, sides_of, equal_sides, negation_of, sign_first, compared, related, signed_of, lit_of, is_diagram_raw, diagram_lit_of, diagram_lits_of, lits_of};
 
-use crate::fault::{Kind, Trouble};
+use crate::fault::{FaultKind, LineError};
 use crate::sum::{RawMono, sum_of};
 use crate::words::{place_of, three_names, two_names};
 use e_literal::Items;
@@ -113,19 +113,19 @@ struct Sums {
 
 /// A sum on each side, and a term in one of them.
 #[tactic(auto, unfolding(crate::specs::Literals::sums_of))]
-fn sums_of(alloc: Global, left: &[&[u8]], right: &[&[u8]]) -> Result<Sums, Trouble>
+fn sums_of(alloc: Global, left: &[&[u8]], right: &[&[u8]]) -> Result<Sums, LineError>
     ensures { Gives (λ s. (s.left, s.right)) result (sums_of (texts left.now) (texts right.now)) }
 {
     let left = sum_of(alloc, left)?;
     let right = sum_of(alloc, right)?;
     if left.is_empty() && right.is_empty() {
-        return Err(Trouble::Fault(Kind::Malformed));
+        return Err(LineError::Fault(FaultKind::Malformed));
     }
     Ok(Sums { left, right })
 }
 
 /// Two names are of equal objects, and else the sides are sums.
-fn equal_sides(alloc: Global, left: &[&[u8]], right: &[&[u8]]) -> Result<RawAtom, Trouble>
+fn equal_sides(alloc: Global, left: &[&[u8]], right: &[&[u8]]) -> Result<RawAtom, LineError>
     ensures { Gives (λ a. a) result (equal_sides (object_of (texts left.now)) (object_of (texts right.now)) (sums_of (texts left.now) (texts right.now))) }
 {
     if let (Some(x), Some(y)) = (object_of(left), object_of(right)) {
@@ -136,7 +136,12 @@ fn equal_sides(alloc: Global, left: &[&[u8]], right: &[&[u8]]) -> Result<RawAtom
 }
 
 #[tactic(auto, unfolding(crate::specs::Literals::sides_of))]
-fn sides_of(alloc: Global, sign: Sign, left: &[&[u8]], right: &[&[u8]]) -> Result<RawAtom, Trouble>
+fn sides_of(
+    alloc: Global,
+    sign: Sign,
+    left: &[&[u8]],
+    right: &[&[u8]],
+) -> Result<RawAtom, LineError>
     ensures { Gives (λ a. a) result (sides_of sign (texts left.now) (texts right.now)) }
 {
     match sign {
@@ -154,7 +159,7 @@ fn sides_of(alloc: Global, sign: Sign, left: &[&[u8]], right: &[&[u8]]) -> Resul
 }
 
 /// Whether it is a negation: `!=` is one, and `not` may stand before neither it nor `<=`.
-fn negation_of(negated: bool, sign: Sign) -> Result<bool, Trouble>
+fn negation_of(negated: bool, sign: Sign) -> Result<bool, LineError>
     ensures { Gives (λ n. n) result (negation_of negated sign) }
 {
     match sign {
@@ -162,13 +167,13 @@ fn negation_of(negated: bool, sign: Sign) -> Result<bool, Trouble>
         Sign::Less => Ok(negated),
         Sign::Differ => {
             if negated {
-                return Err(Trouble::Fault(Kind::Malformed));
+                return Err(LineError::Fault(FaultKind::Malformed));
             }
             Ok(true)
         }
         Sign::AtMost => {
             if negated {
-                return Err(Trouble::Fault(Kind::Malformed));
+                return Err(LineError::Fault(FaultKind::Malformed));
             }
             Ok(false)
         }
@@ -177,15 +182,15 @@ fn negation_of(negated: bool, sign: Sign) -> Result<bool, Trouble>
 
 /// Two sides with a sign between them.
 #[tactic(auto, unfolding(crate::specs::Literals::compared))]
-fn compared(alloc: Global, negated: bool, words: &[&[u8]]) -> Result<RawLit, Trouble>
+fn compared(alloc: Global, negated: bool, words: &[&[u8]]) -> Result<RawLit, LineError>
     ensures { Gives (λ l. l) result (compared negated (texts words.now)) }
 {
     let (left, rest) = words.split_at(place_of_sign(words));
     let [sign, right @ ..] = rest else {
-        return Err(Trouble::Fault(Kind::Malformed));
+        return Err(LineError::Fault(FaultKind::Malformed));
     };
     let Some(sign) = sign_of(sign) else {
-        return Err(Trouble::Fault(Kind::Malformed));
+        return Err(LineError::Fault(FaultKind::Malformed));
     };
     let neg = negation_of(negated, sign)?;
     let atom = sides_of(alloc, sign, left, right)?;
@@ -200,7 +205,7 @@ fn related(
     word: &[u8],
     rest: &[&[u8]],
     words: &[&[u8]],
-) -> Result<RawLit, Trouble>
+) -> Result<RawLit, LineError>
     requires { texts words.now ≡ word.now ∷ texts rest.now }
     ensures { Gives (λ l. l) result (related neg word.now (texts rest.now)) }
 {
@@ -238,22 +243,22 @@ fn related(
 }
 
 #[tactic(auto, unfolding(crate::specs::Literals::signed_of))]
-fn signed_of(alloc: Global, neg: bool, words: &[&[u8]]) -> Result<RawLit, Trouble>
+fn signed_of(alloc: Global, neg: bool, words: &[&[u8]]) -> Result<RawLit, LineError>
     ensures { Gives (λ l. l) result (signed_of neg (texts words.now)) }
 {
     match words {
-        [] => Err(Trouble::Fault(Kind::Malformed)),
+        [] => Err(LineError::Fault(FaultKind::Malformed)),
         [word, rest @ ..] => related(alloc, neg, word, rest, words),
     }
 }
 
 /// A literal; `not` stands once before any form but those with `!=` and `<=`.
 #[tactic(auto, unfolding(crate::specs::Literals::lit_of))]
-pub fn lit_of(alloc: Global, words: &[&[u8]]) -> Result<RawLit, Trouble>
+pub fn lit_of(alloc: Global, words: &[&[u8]]) -> Result<RawLit, LineError>
     ensures { Gives (λ l. l) result (lit_of (texts words.now)) }
 {
     match words {
-        [] => Err(Trouble::Fault(Kind::Malformed)),
+        [] => Err(LineError::Fault(FaultKind::Malformed)),
         [word, rest @ ..] => {
             if is(word, b"not") {
                 return signed_of(alloc, true, rest);
@@ -276,19 +281,19 @@ fn is_diagram_raw(atom: &RawAtom) -> bool
 
 /// A literal of diagrams or of equal objects.
 #[tactic(auto, unfolding(crate::specs::Literals::diagram_lit_of))]
-pub fn diagram_lit_of(alloc: Global, words: &[&[u8]]) -> Result<RawLit, Trouble>
+pub fn diagram_lit_of(alloc: Global, words: &[&[u8]]) -> Result<RawLit, LineError>
     ensures { Gives (λ l. l) result (diagram_lit_of (texts words.now)) }
 {
     let lit = lit_of(alloc, words)?;
     if !is_diagram_raw(&lit.atom) {
         mem::drop(lit);
-        return Err(Trouble::Fault(Kind::Malformed));
+        return Err(LineError::Fault(FaultKind::Malformed));
     }
     Ok(lit)
 }
 
 /// One or more literals with semicolons between them, put last.
-fn put_lits_of(alloc: Global, words: &[&[u8]], lits: &mut Items<RawLit>) -> Result<(), Trouble>
+fn put_lits_of(alloc: Global, words: &[&[u8]], lits: &mut Items<RawLit>) -> Result<(), LineError>
     ensures { Moves result lits.new (with_front lits.old (lits_of (texts words.now))) }
 {
     let mut at = 0;
@@ -310,20 +315,20 @@ fn are_diagrams_raw(lits: &[RawLit]) -> bool
 
 /// One or more literals with semicolons between them, each of diagrams or of equal objects.
 #[tactic(auto, unfolding(crate::specs::Literals::diagram_lits_of))]
-pub fn diagram_lits_of(alloc: Global, words: &[&[u8]]) -> Result<Items<RawLit>, Trouble>
+pub fn diagram_lits_of(alloc: Global, words: &[&[u8]]) -> Result<Items<RawLit>, LineError>
     ensures { Gives (λ l. l) result (diagram_lits_of (texts words.now)) }
 {
     let lits = lits_of(alloc, words)?;
     if !are_diagrams_raw(lits.items()) {
         mem::drop(lits);
-        return Err(Trouble::Fault(Kind::Malformed));
+        return Err(LineError::Fault(FaultKind::Malformed));
     }
     Ok(lits)
 }
 
 /// One or more literals with semicolons between them.
 #[tactic(auto, using(crate::proofs::Loops::from_none))]
-pub(crate) fn lits_of(alloc: Global, words: &[&[u8]]) -> Result<Items<RawLit>, Trouble>
+pub(crate) fn lits_of(alloc: Global, words: &[&[u8]]) -> Result<Items<RawLit>, LineError>
     ensures { Gives (λ l. l) result (lits_of (texts words.now)) }
 {
     let mut lits = Items::empty(alloc);

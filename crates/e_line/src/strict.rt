@@ -3,12 +3,12 @@ ghost use Rattle.std.specs.Prelude.{◌≡◌, is_some, IfOk};
 ghost use Rattle.std.specs.List.{list_all};
 ghost use Rattle.e_line.specs.Canonical.{line_of};
 ghost use Rattle.e_line.specs.Reading.{texts, Gives};
-ghost use Rattle.e_line.specs.Strict.{is_less, is_direct, are_direct, is_strict, strict_of};
+ghost use Rattle.e_line.specs.Strict.{is_less, is_direct, are_direct, is_strict, exact_line_of};
 
-use crate::fault::{Kind, Trouble};
-use crate::form::{Form, form_of};
-use crate::lines::put_form;
+use crate::fault::{FaultKind, LineError};
+use crate::lines::put_raw_line;
 use crate::literal::{RawAtom, RawLit};
+use crate::raw_line::{RawLine, raw_line_of};
 use e_text::Name;
 use std::alloc::{AllocError, Global};
 use std::mem;
@@ -39,36 +39,36 @@ fn have_no_blank(args: &[Option<Name>]) -> bool
 }
 
 /// Whether the literals are direct, one on a given or show line, and no argument is a blank.
-fn is_strict(form: &Form) -> bool
+fn is_strict(form: &RawLine) -> bool
     ensures { result ≡ is_strict form.now }
 {
     match form {
-        Form::Given(lits) => lits.len() == 1 && are_direct(lits.items()),
-        Form::Show(lits) => lits.len() == 1 && are_direct(lits.items()),
-        Form::Hence(lit) => is_direct(lit),
-        Form::Apply(raw) => have_no_blank(raw.args.items()),
-        Form::Claim(lits) => are_direct(lits.items()),
-        Form::Superpose(raw) => are_direct(raw.shown.items()),
-        Form::Cases(lit) => is_direct(lit),
+        RawLine::Given(lits) => lits.len() == 1 && are_direct(lits.items()),
+        RawLine::Show(lits) => lits.len() == 1 && are_direct(lits.items()),
+        RawLine::Hence(lit) => is_direct(lit),
+        RawLine::Apply(raw) => have_no_blank(raw.args.items()),
+        RawLine::Claim(lits) => are_direct(lits.items()),
+        RawLine::Superpose(raw) => are_direct(raw.shown.items()),
+        RawLine::Cases(lit) => is_direct(lit),
         _ => true,
     }
 }
 
 /// The line of a form, made in room for so many bytes.
-fn line_of(alloc: Global, form: &Form, room: usize) -> Result<Vec<u8>, AllocError>
+fn line_of(alloc: Global, form: &RawLine, room: usize) -> Result<Vec<u8>, AllocError>
     ensures { IfOk result (λ line. line.items ≡ line_of form.now) }
 {
     let mut line = Vec::with_capacity(alloc, room)?;
-    put_form(&mut line, form)?;
+    put_raw_line(&mut line, form)?;
     Ok(line)
 }
 
 /// The form of a line of these words that is spelled as this form is.
-#[tactic(auto, unfolding(crate::specs::Strict::strict_of))]
-pub fn strict_of(alloc: Global, line: &[u8], words: &[&[u8]]) -> Result<Form, Trouble>
-    ensures { Gives (λ f. f) result (strict_of line.now (texts words.now)) }
+#[tactic(auto, unfolding(crate::specs::Strict::exact_line_of))]
+pub fn exact_line_of(alloc: Global, line: &[u8], words: &[&[u8]]) -> Result<RawLine, LineError>
+    ensures { Gives (λ f. f) result (exact_line_of line.now (texts words.now)) }
 {
-    let form = form_of(alloc, words)?;
+    let form = raw_line_of(alloc, words)?;
     let again = match line_of(alloc, &form, line.len()) {
         Ok(again) => again,
         Err(error) => {
@@ -80,6 +80,6 @@ pub fn strict_of(alloc: Global, line: &[u8], words: &[&[u8]]) -> Result<Form, Tr
         Ok(form)
     } else {
         mem::drop(form);
-        Err(Trouble::Fault(Kind::Malformed))
+        Err(LineError::Fault(FaultKind::Malformed))
     }
 }

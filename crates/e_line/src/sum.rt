@@ -5,7 +5,7 @@ ghost use Rattle.e_line.specs.Sums.{term_named, term_of, coefficient_of, counted
 ghost use Rattle.std.specs.List.{slice_split};
 ghost use Rattle.e_text.specs.Numerals.{is_numeral};
 
-use crate::fault::{Kind, Trouble};
+use crate::fault::{FaultKind, LineError};
 use crate::words::{Words, place_of, three_names, two_names};
 use e_literal::Items;
 use e_text::{Name, is, number, numeral};
@@ -37,7 +37,7 @@ pub struct RawMono {
 
 /// A term, by its first word.
 #[tactic(auto, unfolding(crate::specs::Sums::term_named))]
-fn term_named(word: &[u8], rest: &[&[u8]]) -> Result<RawTerm, Trouble>
+fn term_named(word: &[u8], rest: &[&[u8]]) -> Result<RawTerm, LineError>
     ensures { Gives (λ t. t) result (term_named word.now (texts rest.now)) }
 {
     if is(word, b"seg") {
@@ -56,15 +56,15 @@ fn term_named(word: &[u8], rest: &[&[u8]]) -> Result<RawTerm, Trouble>
         Words::new(rest).end()?;
         return Ok(RawTerm::Right);
     }
-    Err(Trouble::Fault(Kind::Malformed))
+    Err(LineError::Fault(FaultKind::Malformed))
 }
 
 #[tactic(auto, unfolding(crate::specs::Sums::term_of))]
-pub fn term_of(words: &[&[u8]]) -> Result<RawTerm, Trouble>
+pub fn term_of(words: &[&[u8]]) -> Result<RawTerm, LineError>
     ensures { Gives (λ t. t) result (term_of (texts words.now)) }
 {
     match words {
-        [] => Err(Trouble::Fault(Kind::Malformed)),
+        [] => Err(LineError::Fault(FaultKind::Malformed)),
         [word, rest @ ..] => term_named(word, rest),
     }
 }
@@ -82,12 +82,12 @@ fn coefficient_of(word: &[u8]) -> u32
 
 /// A term behind a numeral.
 #[tactic(auto, unfolding(crate::specs::Sums::counted_term))]
-fn counted_term(word: &[u8], rest: &[&[u8]]) -> Result<RawMono, Trouble>
+fn counted_term(word: &[u8], rest: &[&[u8]]) -> Result<RawMono, LineError>
     requires { is_numeral word.now ≡ true }
     ensures { Gives (λ m. m) result (counted_term word.now (texts rest.now)) }
 {
     if is(word, b"0") {
-        return Err(Trouble::Fault(Kind::Malformed));
+        return Err(LineError::Fault(FaultKind::Malformed));
     }
     let term = term_of(rest)?;
     let coeff = coefficient_of(word);
@@ -96,11 +96,11 @@ fn counted_term(word: &[u8], rest: &[&[u8]]) -> Result<RawMono, Trouble>
 
 /// A term, with a numeral other than 0 before it or with none.
 #[tactic(auto, unfolding(crate::specs::Sums::mono_of))]
-fn mono_of(words: &[&[u8]]) -> Result<RawMono, Trouble>
+fn mono_of(words: &[&[u8]]) -> Result<RawMono, LineError>
     ensures { Gives (λ m. m) result (mono_of (texts words.now)) }
 {
     match words {
-        [] => Err(Trouble::Fault(Kind::Malformed)),
+        [] => Err(LineError::Fault(FaultKind::Malformed)),
         [word, rest @ ..] => {
             if numeral(word) {
                 return counted_term(word, rest);
@@ -121,7 +121,7 @@ fn is_zero(words: &[&[u8]]) -> bool
 }
 
 /// Monomials with a plus between two, put last.
-fn put_monos_of(words: &[&[u8]], monos: &mut Items<RawMono>) -> Result<(), Trouble>
+fn put_monos_of(words: &[&[u8]], monos: &mut Items<RawMono>) -> Result<(), LineError>
     ensures { Moves result monos.new (with_front monos.old (each mono_of (slice_split is_plus (texts words.now)))) }
 {
     let mut at = 0;
@@ -136,7 +136,7 @@ fn put_monos_of(words: &[&[u8]], monos: &mut Items<RawMono>) -> Result<(), Troub
 
 /// Monomials with a plus between two; or none, which is written `0`.
 #[tactic(auto, using(crate::proofs::Loops::from_none), unfolding(crate::specs::Sums::sum_of))]
-pub(crate) fn sum_of(alloc: Global, words: &[&[u8]]) -> Result<Items<RawMono>, Trouble>
+pub(crate) fn sum_of(alloc: Global, words: &[&[u8]]) -> Result<Items<RawMono>, LineError>
     ensures { Gives (λ s. s) result (sum_of (texts words.now)) }
 {
     if is_zero(words) {

@@ -4,7 +4,7 @@ ghost use Rattle.e_construct.specs.Views.{piece_view};
 ghost use Rattle.e_line.specs.Reading.{texts, Gives};
 ghost use Rattle.e_line.specs.Superposes.{superpose_pieces, head_of, superpose_of};
 
-use crate::fault::{Kind, Trouble};
+use crate::fault::{FaultKind, LineError};
 use crate::lets::{are_words_of, names_at};
 use crate::literal::{RawLit, lits_of};
 use e_construct::Piece;
@@ -60,11 +60,11 @@ pub(crate) fn parted<'a, 'b>(words: &'a [&'b [u8]]) -> (&'a [&'b [u8]], &'a [&'b
 
 /// The words up to `show`, and those of the literals.
 #[tactic(auto, unfolding(crate::specs::Superposes::head_of))]
-fn head_of(alloc: Global, head: &[&[u8]], rest: &[&[u8]]) -> Result<RawSuperpose, Trouble>
+fn head_of(alloc: Global, head: &[&[u8]], rest: &[&[u8]]) -> Result<RawSuperpose, LineError>
     ensures { Gives (λ s. s) result (head_of (texts head.now) (texts rest.now)) }
 {
     if !are_words_of(superposition_pieces(), head) {
-        return Err(Trouble::Fault(Kind::Malformed));
+        return Err(LineError::Fault(FaultKind::Malformed));
     }
     let new = names_at(alloc, true, superposition_pieces(), head)?;
     let args = names_at(alloc, false, superposition_pieces(), head)?;
@@ -74,7 +74,7 @@ fn head_of(alloc: Global, head: &[&[u8]], rest: &[&[u8]]) -> Result<RawSuperpose
 
 /// What stands behind `superpose`: the objects, the new names, and at least one literal.
 #[tactic(auto, unfolding(crate::specs::Superposes::superpose_of))]
-pub(crate) fn superpose_of(alloc: Global, words: &[&[u8]]) -> Result<RawSuperpose, Trouble>
+pub(crate) fn superpose_of(alloc: Global, words: &[&[u8]]) -> Result<RawSuperpose, LineError>
     ensures { Gives (λ s. s) result (superpose_of (texts words.now)) }
 {
     let (head, rest) = parted(words);

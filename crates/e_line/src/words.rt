@@ -7,7 +7,7 @@ ghost use Rattle.std.specs.Str.{bytes_eq};
 ghost use Rattle.e_line.specs.Canonical.{sort_word};
 ghost use Rattle.e_line.specs.Reading.{cut_at, texts, Gives, Reads, word_at, name_at, title_at, end_at, names_of, some_names, two_names, three_names};
 
-use crate::fault::{Kind, Trouble};
+use crate::fault::{FaultKind, LineError};
 use e_literal::{Items, Sort};
 use e_text::{Name, Title, is, tokens};
 use std::alloc::{AllocError, Global};
@@ -62,14 +62,14 @@ pub fn cut<'b, 'a>(words: &'b [&'a [u8]], word: &[u8]) -> (&'b [&'a [u8]], &'b [
 }
 
 /// Words that are names.
-pub fn names_of(alloc: Global, words: &[&[u8]]) -> Result<Items<Name>, Trouble>
+pub fn names_of(alloc: Global, words: &[&[u8]]) -> Result<Items<Name>, LineError>
     ensures { Gives (λ n. n) result (names_of (texts words.now)) }
 {
     let mut names = Items::empty(alloc);
     for word in words {
         match Name::read(word) {
             Some(name) => names.push(name)?,
-            None => return Err(Trouble::Fault(Kind::Malformed)),
+            None => return Err(LineError::Fault(FaultKind::Malformed)),
         }
     }
     Ok(names)
@@ -77,12 +77,12 @@ pub fn names_of(alloc: Global, words: &[&[u8]]) -> Result<Items<Name>, Trouble>
 
 /// At least one word, each a name.
 #[tactic(auto, unfolding(crate::specs::Reading::some_names))]
-pub(crate) fn some_names(alloc: Global, words: &[&[u8]]) -> Result<Items<Name>, Trouble>
+pub(crate) fn some_names(alloc: Global, words: &[&[u8]]) -> Result<Items<Name>, LineError>
     ensures { Gives (λ n. n) result (some_names (texts words.now)) }
 {
     let names = names_of(alloc, words)?;
     if names.is_empty() {
-        return Err(Trouble::Fault(Kind::Malformed));
+        return Err(LineError::Fault(FaultKind::Malformed));
     }
     Ok(names)
 }
@@ -111,11 +111,11 @@ impl<'b, 'a> Words<'b, 'a> {
 
     /// The next word.
     #[tactic(auto, unfolding(crate::specs::Reading::word_at))]
-    pub fn word(&mut self) -> Result<&'a [u8], Trouble>
+    pub fn word(&mut self) -> Result<&'a [u8], LineError>
         ensures { Reads (λ w. w.now) result self.new (word_at self.old) }
     {
         match self.rest {
-            [] => Err(Trouble::Fault(Kind::Malformed)),
+            [] => Err(LineError::Fault(FaultKind::Malformed)),
             [word, rest @ ..] => {
                 self.rest = rest;
                 Ok(*word)
@@ -125,42 +125,42 @@ impl<'b, 'a> Words<'b, 'a> {
 
     /// The next word, a name.
     #[tactic(auto, unfolding(crate::specs::Reading::name_at))]
-    pub fn name(&mut self) -> Result<Name, Trouble>
+    pub fn name(&mut self) -> Result<Name, LineError>
         ensures { Reads (λ n. n) result self.new (name_at self.old) }
     {
         match Name::read(self.word()?) {
             Some(name) => Ok(name),
-            None => Err(Trouble::Fault(Kind::Malformed)),
+            None => Err(LineError::Fault(FaultKind::Malformed)),
         }
     }
 
     /// The next word, a title.
     #[tactic(auto, unfolding(crate::specs::Reading::title_at))]
-    pub fn title(&mut self) -> Result<Title, Trouble>
+    pub fn title(&mut self) -> Result<Title, LineError>
         ensures { Reads (λ n. n) result self.new (title_at self.old) }
     {
         match Title::read(self.word()?) {
             Some(title) => Ok(title),
-            None => Err(Trouble::Fault(Kind::Malformed)),
+            None => Err(LineError::Fault(FaultKind::Malformed)),
         }
     }
 
     /// No word is left.
     #[tactic(auto, unfolding(crate::specs::Reading::end_at))]
-    pub fn end(&self) -> Result<(), Trouble>
+    pub fn end(&self) -> Result<(), LineError>
         ensures { Gives (λ u. u) result (end_at self.now) }
     {
         if self.rest.is_empty() {
             Ok(())
         } else {
-            Err(Trouble::Fault(Kind::Malformed))
+            Err(LineError::Fault(FaultKind::Malformed))
         }
     }
 }
 
 /// All the words are two names.
 #[tactic(auto, unfolding(crate::specs::Reading::two_names))]
-pub(crate) fn two_names(words: &[&[u8]]) -> Result<(Name, Name), Trouble>
+pub(crate) fn two_names(words: &[&[u8]]) -> Result<(Name, Name), LineError>
     ensures { Gives (λ p. (p.0, p.1)) result (two_names (texts words.now)) }
 {
     let mut words = Words::new(words);
@@ -172,7 +172,7 @@ pub(crate) fn two_names(words: &[&[u8]]) -> Result<(Name, Name), Trouble>
 
 /// All the words are three names.
 #[tactic(auto, unfolding(crate::specs::Reading::three_names))]
-pub(crate) fn three_names(words: &[&[u8]]) -> Result<(Name, Name, Name), Trouble>
+pub(crate) fn three_names(words: &[&[u8]]) -> Result<(Name, Name, Name), LineError>
     ensures { Gives (λ p. (p.0, p.1, p.2)) result (three_names (texts words.now)) }
 {
     let mut words = Words::new(words);

@@ -12,7 +12,7 @@ use Rattle.e_literal.proofs.Sorts.{same_sort_is}
 use Rattle.e_theorem.specs.Pattern.{are_entries, is_pattern}
 use Rattle.e_deriv.specs.declared.names.Names.{Names}
 use Rattle.e_line.specs.declared.applies.RawApply.{RawApply}
-use Rattle.e_names.specs.Headed.{Headed, theorem_of, title_at, place_in}
+use Rattle.e_names.specs.TitledStatements.{TitledStatement, theorem_of, title_at, place_in}
 use Rattle.e_names.specs.Scope.{scope_of_names, object_as, fresh}
 use Rattle.e_names.specs.Applies.{entries_in, apply_in}
 use Rattle.e_names.specs.Canonical.{name_of_object, argument_name}
@@ -63,17 +63,17 @@ found k (Some i) h = ap (λ (n : ℕ). Some n) (eqb-true i k h)
 
 -- ---- the whole
 
-pub record GoodApply (known : List Headed) (ns : Names) (theorem : ℕ) (args : List (Option Obj)) (names : List (List ℕ)) : Type 0 where
+pub record GoodApply (known : List TitledStatement) (ns : Names) (theorem : ℕ) (args : List (Option Obj)) (names : List (List ℕ)) : Type 0 where
   pub title : is_named_by_title known theorem ≡ true
   pub entries : is_pattern (theorem_of known theorem) (scope_of_names ns) args ≡ true
   pub free : fresh ns [] names ≡ Ok tt
   pub count : length names ≡ length (theorem_of known theorem).made
 
 -- the line, as it is written
-abbrev pub raw_apply : List Headed → Names → ℕ → List (Option Obj) → List (List ℕ) → RawApply
+abbrev pub raw_apply : List TitledStatement → Names → ℕ → List (Option Obj) → List (List ℕ) → RawApply
 raw_apply known ns theorem args names = record { title = title_at known theorem; args = map (argument_name ns) args; new = names }
 
-pub apply_number_again : (known : List Headed) (ns : Names) (theorem : ℕ) (args : List (Option Obj)) (names : List (List ℕ)) → InOrder ns → GoodApply known ns theorem args names
+pub apply_number_again : (known : List TitledStatement) (ns : Names) (theorem : ℕ) (args : List (Option Obj)) (names : List (List ℕ)) → InOrder ns → GoodApply known ns theorem args names
     → apply_in known ns (raw_apply known ns theorem args names) ≡ Ok (theorem, args)
 unfolding apply_in
 apply_number_again known ns theorem args names o g =
@@ -84,7 +84,7 @@ apply_number_again known ns theorem args names o g =
     let more : eqb (length names) (length t.made) ≡ true = eq-eqb _ _ g.count in
     rw (place, some, more, entries_again ns t.declared args o g.entries, g.free) refl
 
-pub apply_named : (known : List Headed) (ns : Names) (theorem : ℕ) (args : List (Option Obj)) (names : List (List ℕ)) → InOrder ns → GoodApply known ns theorem args names → AreNames names
+pub apply_named : (known : List TitledStatement) (ns : Names) (theorem : ℕ) (args : List (Option Obj)) (names : List (List ℕ)) → InOrder ns → GoodApply known ns theorem args names → AreNames names
     → ApplyNamed (raw_apply known ns theorem args names)
 apply_named known ns theorem args names o g h = record {
   title = (and_parts (is_title (title_at known theorem)) (is_place theorem (place_in known (title_at known theorem))) g.title).0;

@@ -19,7 +19,7 @@ pub use Rattle.e_construct.proofs.Moving.{grows}
 use Rattle.e_deriv.specs.declared.names.Names.{Names}
 use Rattle.e_deriv.specs.Naming.{names_of_sort, with_names, named, declared_names}
 use Rattle.e_deriv.specs.Fitting.{all_objects}
-use Rattle.e_line.specs.declared.fault.Kind.{Kind}
+use Rattle.e_line.specs.declared.fault.FaultKind.{FaultKind}
 use Rattle.e_line.specs.declared.lets.RawLet.{RawLet}
 use Rattle.e_line.specs.declared.superposes.RawSuperpose.{RawSuperpose}
 use Rattle.e_line.specs.Reading.{◌>>=◌, each}
@@ -31,7 +31,7 @@ use Rattle.e_names.proofs.Citations.{object_scope, object_sort, counted}
 
 -- ---- a construction that is read
 
-chosen : (b : Bool) (c form : Construction) (rest : Result Construction Kind) → cond b (read_ok c) rest ≡ Ok form → ((b ≡ true) × (c ≡ form)) ⊎ (rest ≡ Ok form)
+chosen : (b : Bool) (c form : Construction) (rest : Result Construction FaultKind) → cond b (read_ok c) rest ≡ Ok form → ((b ≡ true) × (c ≡ form)) ⊎ (rest ≡ Ok form)
 chosen true c form rest e = inl (refl, ok_is c form e)
 chosen false c form rest e = inr e
 
@@ -54,7 +54,7 @@ pub let_fits : (ns : Names) (l : RawLet) (form : Construction) → let_in ns l �
 unfolding let_in
 let_fits ns l form e =
     let s = scope_of_names ns in
-    let count : Construction → Result Construction Kind = λ f. right_count (eqb (length l.new) (length (sorts_made f))) >>= λ right. read_ok f in
+    let count : Construction → Result Construction FaultKind = λ f. right_count (eqb (length l.new) (length (sorts_made f))) >>= λ right. read_ok f in
     let a = bind_ok (fresh ns [] l.new) (λ free. arguments_in ns l.shapes [] l.args >>= λ args. each (used ns) l.avoid >>= λ avoid. first_fitting s args avoid l.shapes >>= count) form e in
     let b = bind_ok (arguments_in ns l.shapes [] l.args) (λ args. each (used ns) l.avoid >>= λ avoid. first_fitting s args avoid l.shapes >>= count) form a.2 in
     let c = bind_ok (each (used ns) l.avoid) (λ avoid. first_fitting s b.0 avoid l.shapes >>= count) form b.2 in

@@ -22,7 +22,7 @@ use Rattle.e_clause.specs.Sigs.{sig_of}
 use Rattle.e_clause.specs.RuleKinds.{is_diagram_rule}
 use Rattle.e_deriv.specs.declared.names.Names.{Names}
 use Rattle.e_deriv.specs.Steps.{is_citation}
-use Rattle.e_line.specs.declared.fault.Kind.TheVariants.{UnknownName}
+use Rattle.e_line.specs.declared.fault.FaultKind.TheVariants.{UnknownName}
 use Rattle.e_line.specs.declared.literal.RawLit.{RawLit}
 use Rattle.e_line.specs.Reading.{◌>>=◌}
 use Rattle.e_names.specs.Scope.{number_of, object_as, objects_as, args_in, by_in, known_rule, variables_of, right_count, lit_in, scope_of_names}

@@ -9,8 +9,8 @@ use Rattle.e_literal.specs.declared.object.Sort.{Sort}
 use Rattle.e_literal.specs.declared.object.Sort.TheVariants.{Point, Line, Circle}
 use Rattle.e_literal.proofs.Booleans.{same_bool}
 use Rattle.e_deriv.specs.declared.names.Names.{Names}
-use Rattle.e_line.specs.declared.fault.Kind.{Kind}
-use Rattle.e_line.specs.declared.fault.Kind.TheVariants.{NameTaken}
+use Rattle.e_line.specs.declared.fault.FaultKind.{FaultKind}
+use Rattle.e_line.specs.declared.fault.FaultKind.TheVariants.{NameTaken}
 use Rattle.e_names.specs.Scope.{has, is_taken, fresh, names_of_sort, with_names}
 use Rattle.e_names.specs.Fits.{are_distinct, are_apart, NamesDiffer}
 
@@ -63,7 +63,7 @@ untaken ns seen n e =
     let r = or_parts (has ns.circles n) (has seen n) q.1 in
     record { points = p.0; lines = q.0; circles = r.0; among = r.1 }
 
-pub passed : (b : Bool) (x : Result (Unit {0}) Kind) (u : Unit {0}) → cond b (Err NameTaken) x ≡ Ok u → (b ≡ false) × (x ≡ Ok u)
+pub passed : (b : Bool) (x : Result (Unit {0}) FaultKind) (u : Unit {0}) → cond b (Err NameTaken) x ≡ Ok u → (b ≡ false) × (x ≡ Ok u)
 passed true x u e = absurd cc
 passed false x u e = (refl, e)
 

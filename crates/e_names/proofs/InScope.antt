@@ -20,8 +20,8 @@ use Rattle.e_literal.specs.declared.literal.Lit.{Lit}
 use Rattle.e_literal.specs.Literal.{obj, count_of, is_in_scope, objects_of_term, objects_of_sum, objects_of_atom, all_in_scope}
 use Rattle.e_literal.specs.WellFormed.{same_kind}
 use Rattle.e_deriv.specs.declared.names.Names.{Names}
-use Rattle.e_line.specs.declared.fault.Kind.{Kind}
-use Rattle.e_line.specs.declared.fault.Kind.TheVariants.{WrongSort}
+use Rattle.e_line.specs.declared.fault.FaultKind.{FaultKind}
+use Rattle.e_line.specs.declared.fault.FaultKind.TheVariants.{WrongSort}
 use Rattle.e_line.specs.declared.sum.RawTerm.{RawTerm}
 use Rattle.e_line.specs.declared.sum.RawTerm.TheVariants as rawterms
 use Rattle.e_line.specs.declared.sum.RawMono.{RawMono}
@@ -142,7 +142,7 @@ term_in_scope ns (rawterms.Area x y z) t e =
     (three (scope_of_names ns) (obj Point p.0) (obj Point q.0) (obj Point r.0) (number_in_scope ns Point x p.0 p.1) (number_in_scope ns Point y q.0 q.1) (number_in_scope ns Point z r.0 r.1)) r.2
 term_in_scope ns rawterms.Right t e = to_term (scope_of_names ns) terms.Right t refl e
 
-right_kind : (b : Bool) (r : Result Mono Kind) (m : Mono) → cond b r (Err WrongSort) ≡ Ok m → (b ≡ true) × (r ≡ Ok m)
+right_kind : (b : Bool) (r : Result Mono FaultKind) (m : Mono) → cond b r (Err WrongSort) ≡ Ok m → (b ≡ true) × (r ≡ Ok m)
 right_kind true r m e = (refl, e)
 right_kind false r m e = absurd cc
 
@@ -254,7 +254,7 @@ lit_in_scope ns r l e =
     subst (λ (x : Lit). all_in_scope (scope_of_names ns) x ≡ true) (ok_is (record { neg = negated_in r.atom r.neg; atom = a.0 }) l a.2) (atom_in_scope ns r.atom a.0 a.1)
 
 -- what holds of each that is read holds of all
-pub each_all : {X Y : Type 0} (f : X → Result Y Kind) (p : Y → Bool) → ((x : X) (y : Y) → f x ≡ Ok y → p y ≡ true) → (xs : List X) (ys : List Y) → each f xs ≡ Ok ys → list_all p ys ≡ true
+pub each_all : {X Y : Type 0} (f : X → Result Y FaultKind) (p : Y → Bool) → ((x : X) (y : Y) → f x ≡ Ok y → p y ≡ true) → (xs : List X) (ys : List Y) → each f xs ≡ Ok ys → list_all p ys ≡ true
 each_all {X} {Y} f p h [] ys e = subst (λ (l : List Y). list_all p l ≡ true) (ok_is [] ys e) refl
 each_all {X} {Y} f p h (x ∷ xs) ys e =
     let a = bind_ok (f x) (λ y. each f xs >>= λ zs. read_ok (y ∷ zs)) ys e in

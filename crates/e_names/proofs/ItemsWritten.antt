@@ -21,9 +21,9 @@ use Rattle.e_theorem.proofs.Uses.{gives_good}
 use Rattle.e_deriv.specs.declared.names.Names.{Names}
 use Rattle.e_deriv.specs.Fitting.{is_small, is_small_statement, all_objects}
 use Rattle.e_deriv.proofs.Smallness.{few_objects}
-use Rattle.e_line.specs.declared.fault.Kind.{Kind}
-use Rattle.e_line.specs.declared.fault.Trouble.{Trouble}
-use Rattle.e_line.specs.declared.fault.Trouble.TheVariants as troubles
+use Rattle.e_line.specs.declared.fault.FaultKind.{FaultKind}
+use Rattle.e_line.specs.declared.fault.LineError.{LineError}
+use Rattle.e_line.specs.declared.fault.LineError.TheVariants as troubles
 use Rattle.e_line.specs.declared.literal.RawLit.{RawLit}
 use Rattle.e_line.specs.declared.items.RawAs.{RawAs}
 use Rattle.e_line.specs.declared.items.RawItem.{RawItem}
@@ -70,7 +70,7 @@ pub record Meant (notions : List Titled) (ns : Names) (most : ℕ) (raw : RawAs)
 pub meant : (notions : List Titled) (ns : Names) (most : ℕ) (raw : RawAs) (ls : List Lit) → are_notions notions ≡ true → meant_in notions ns most raw ≡ Ok ls → Meant notions ns most raw ls
 unfolding meant_in
 meant notions ns most raw ls all e =
-    let then : Notion → List Obj → Result (List Lit) Kind = λ n args. read_ok (take most (expanded n args (scope_of_names ns))) in
+    let then : Notion → List Obj → Result (List Lit) FaultKind = λ n args. read_ok (take most (expanded n args (scope_of_names ns))) in
     let n = bind_ok (known_notion (notion_of notions raw.title)) (λ n. right_count (eqb (length raw.args) (length n.declared)) >>= λ right. objects_of_sorts ns n.declared raw.args >>= λ args. then n args) ls e in
     let r = bind_ok (right_count (eqb (length raw.args) (length n.0.declared))) (λ right. objects_of_sorts ns n.0.declared raw.args >>= λ args. then n.0 args) ls n.2 in
     let a = bind_ok (objects_of_sorts ns n.0.declared raw.args) (λ args. then n.0 args) ls r.2 in
@@ -192,6 +192,6 @@ items_some notions ns (item ∷ is) p all some e =
     (omega (arith, item_some notions ns item a.0 all a.1, length-append a.0.0 b.0.0, length-map (a.0.0 ++ b.0.0) (raw_of ns)))
 
 -- what fails is not gone on with
-pub fails_on : {A B : Type 0} (e : Trouble) (r : Result A Kind) (f : A → Result B Kind) → Fails e r → Fails e (r >>= f)
+pub fails_on : {A B : Type 0} (e : LineError) (r : Result A FaultKind) (f : A → Result B FaultKind) → Fails e r → Fails e (r >>= f)
 fails_on troubles.NoMemory r f h = tt
-fails_on {A} (troubles.Fault k) r f h = ap (λ (x : Result A Kind). x >>= f) h
+fails_on {A} (troubles.Fault k) r f h = ap (λ (x : Result A FaultKind). x >>= f) h

@@ -10,7 +10,7 @@ use Rattle.e_literal.specs.Literal.{obj, count_of, is_in_scope}
 use Rattle.e_literal.specs.Scopes.{same_sort}
 use Rattle.e_literal.proofs.Sorts.{same_sort_is}
 use Rattle.e_deriv.specs.declared.names.Names.{Names}
-use Rattle.e_line.specs.declared.fault.Kind.{Kind}
+use Rattle.e_line.specs.declared.fault.FaultKind.{FaultKind}
 use Rattle.e_line.specs.Reading.{◌>>=◌}
 use Rattle.e_deriv.specs.Naming.{names_of_sort}
 use Rattle.e_names.specs.Scope.{scope_of_names, used, number_at, number_of, object_as, objects_as}
@@ -74,7 +74,7 @@ same_number Circle i = refl
 
 pub number_again : (ns : Names) (sort : Sort) (i : ℕ) → InOrder ns → Within ns sort i → number_of ns sort (name_at (names_of_sort ns sort) i) ≡ Ok i
 unfolding number_of
-number_again ns sort i s h = ap (λ (r : Result Obj Kind). r >>= λ o. number_at sort o) (used_again ns sort i s h) ∙ same_number sort i
+number_again ns sort i s h = ap (λ (r : Result Obj FaultKind). r >>= λ o. number_at sort o) (used_again ns sort i s h) ∙ same_number sort i
 
 pub named_at : (ns : Names) (sort : Sort) (i : ℕ) → InOrder ns → Within ns sort i → is_name (name_at (names_of_sort ns sort) i) ≡ true
 named_at ns Point i s h = name_there ns.points i s.point_names (ltb-true i (length ns.points) h)

@@ -5,8 +5,8 @@ use mathlib.Core.Bool.{or-false}
 use Rattle.e_literal.specs.declared.object.Sort.{Sort}
 use Rattle.e_literal.specs.declared.object.Sort.TheVariants.{Point, Line, Circle}
 use Rattle.e_deriv.specs.declared.names.Names.{Names}
-use Rattle.e_line.specs.declared.fault.Kind.{Kind}
-use Rattle.e_line.specs.declared.fault.Kind.TheVariants.{NameTaken}
+use Rattle.e_line.specs.declared.fault.FaultKind.{FaultKind}
+use Rattle.e_line.specs.declared.fault.FaultKind.TheVariants.{NameTaken}
 use Rattle.e_deriv.specs.Naming.{names_of_sort, with_names}
 use Rattle.e_names.specs.Scope.{has, is_taken, fresh}
 
@@ -54,11 +54,11 @@ same_taken ns Line name seen m =
 same_taken ns Circle name seen m =
     in_circles (has ns.points m) (has ns.lines m) (has ns.circles m) (bytes_eq name m) (has seen m) ∙ ap (λ b. has ns.points m || (has ns.lines m || (b || has seen m))) (sym (has_push ns.circles name m))
 
-abbrev taken_or : Bool → Result (Unit {0}) Kind → Result (Unit {0}) Kind
+abbrev taken_or : Bool → Result (Unit {0}) FaultKind → Result (Unit {0}) FaultKind
 taken_or b r = cond b (Err NameTaken) r
 
 pub same_fresh : (ns : Names) (sort : Sort) (name : List ℕ) (seen more : List (List ℕ)) → fresh ns (name ∷ seen) more ≡ fresh (plus ns sort name) seen more
 same_fresh ns sort name seen [] = refl
 same_fresh ns sort name seen (m ∷ more) =
     ap (λ (b : Bool). taken_or b (fresh ns (name ∷ (seen ++ m ∷ [])) more)) (same_taken ns sort name seen m)
-    ∙ ap (λ (r : Result (Unit {0}) Kind). taken_or (is_taken (plus ns sort name) seen m) r) (same_fresh ns sort name (seen ++ m ∷ []) more)
+    ∙ ap (λ (r : Result (Unit {0}) FaultKind). taken_or (is_taken (plus ns sort name) seen m) r) (same_fresh ns sort name (seen ++ m ∷ []) more)

@@ -15,21 +15,21 @@ use Rattle.e_clause.specs.Sigs.{sig_of}
 use Rattle.e_construct.specs.declared.construction.Shape.{Shape}
 use Rattle.e_construct.specs.Lines.{pieces}
 use Rattle.e_deriv.specs.declared.names.Names.{Names}
-use Rattle.e_line.specs.declared.fault.Kind.{Kind}
+use Rattle.e_line.specs.declared.fault.FaultKind.{FaultKind}
 use Rattle.e_line.specs.declared.literal.RawLit.{RawLit}
 use Rattle.e_line.specs.declared.literal.RawAtom.{RawAtom}
 use Rattle.e_line.specs.declared.literal.RawAtom.TheVariants as raw
 use Rattle.e_line.specs.declared.lets.RawLet.{RawLet}
 use Rattle.e_line.specs.declared.superposes.RawSuperpose.{RawSuperpose}
-use Rattle.e_line.specs.declared.form.Form.{Form}
-use Rattle.e_line.specs.declared.form.Form.TheVariants as forms
+use Rattle.e_line.specs.declared.raw_line.RawLine.{RawLine}
+use Rattle.e_line.specs.declared.raw_line.RawLine.TheVariants as rawlines
 use Rattle.e_line.specs.Reading.{◌>>=◌, or_malformed, title_at, cut_at, names_of, not_empty, some_names}
 use Rattle.e_line.specs.Literals.{lit_of, is_diagram_raw, is_semicolon, lits_of}
 use Rattle.e_line.specs.Superposes.{superpose_pieces, head_of, superpose_of}
 use Rattle.e_line.specs.Lets.{are_words_of, new_words, argument_words, shapes_of, avoided_of, let_named, let_of}
 use Rattle.e_line.specs.declared.applies.RawApply.{RawApply}
 use Rattle.e_line.specs.Applies.{arguments_of, made_names as names_behind_as, apply_of}
-use Rattle.e_line.specs.Forms.{form_of}
+use Rattle.e_line.specs.RawLines.{raw_line_of}
 use Rattle.e_names.specs.Scope.{used, number_of, on_sort, line_meets, meets_from, equal_at, atom_in, negated_in, lit_in, args_in, by_in, known_rule, variables_of, right_count}
 use Rattle.e_names.specs.Fits.{is_diagram_atom, is_diagram_lit}
 use Rattle.e_line.specs.HasSpelling.{AreNames}
@@ -42,19 +42,19 @@ use Rattle.e_line.proofs.SaidWords.{words_count, names_said, title_said}
 -- ---- forms
 
 -- what spelling alone says of a form
-abbrev pub Said : Form → Type 0
-Said (forms.Theorem t) = is_title t ≡ true
-Said (forms.Declare sort ns) = AreNames ns
-Said (forms.Made sort ns) = AreNames ns
-Said (forms.Let l) = AreNames l.new
-Said (forms.Apply a) = (is_title a.title ≡ true) × AreNames a.new
-Said (forms.Given raws) = LitsSaid raws
-Said (forms.Show raws) = (0 < length raws) × LitsSaid raws
-Said (forms.By r ns l) = is_diagram_raw l.atom ≡ true
-Said (forms.Hence l) = AtomSaid l.atom
-Said (forms.Claim raws) = (0 < length raws) × LitsSaid raws
-Said (forms.Superpose s) = AreNames s.new × (length s.new ≡ 2) × (0 < length s.shown) × LitsSaid s.shown
-Said (forms.Cases l) = AtomSaid l.atom
+abbrev pub Said : RawLine → Type 0
+Said (rawlines.Theorem t) = is_title t ≡ true
+Said (rawlines.Declare sort ns) = AreNames ns
+Said (rawlines.Made sort ns) = AreNames ns
+Said (rawlines.Let l) = AreNames l.new
+Said (rawlines.Apply a) = (is_title a.title ≡ true) × AreNames a.new
+Said (rawlines.Given raws) = LitsSaid raws
+Said (rawlines.Show raws) = (0 < length raws) × LitsSaid raws
+Said (rawlines.By r ns l) = is_diagram_raw l.atom ≡ true
+Said (rawlines.Hence l) = AtomSaid l.atom
+Said (rawlines.Claim raws) = (0 < length raws) × LitsSaid raws
+Said (rawlines.Superpose s) = AreNames s.new × (length s.new ≡ 2) × (0 < length s.shown) × LitsSaid s.shown
+Said (rawlines.Cases l) = AtomSaid l.atom
 Said f = Unit {0}
 
 not_empty_said : (ns ms : List (List ℕ)) → AreNames ns → not_empty ns ≡ Ok ms → AreNames ms
@@ -80,7 +80,7 @@ let_said : (ws : List (List ℕ)) (l : RawLet) → let_of ws ≡ Ok l → AreNam
 unfolding let_of
 let_said ws l e =
     let parts = cut_at (codes "avoid") ws in
-    let rest : List (List ℕ) → Result RawLet Kind = λ avoid. let_named (shapes_of parts.2 parts.0) parts.0 avoid in
+    let rest : List (List ℕ) → Result RawLet FaultKind = λ avoid. let_named (shapes_of parts.2 parts.0) parts.0 avoid in
     let b = bind_ok (avoided_of parts.2 parts.1) rest l e in
     let_named_said (shapes_of parts.2 parts.0) parts.0 b.0 l b.2
 
@@ -92,7 +92,7 @@ apply_said : (ws : List (List ℕ)) (a : RawApply) → apply_of ws ≡ Ok a → 
 unfolding apply_of
 apply_said ws a e =
     let made : List ℕ → List (Option (List ℕ)) → List (List ℕ) → RawApply = λ t args new. record { title = t; args = args; new = new } in
-    let rest : List ℕ × List (List ℕ) → Result RawApply Kind = λ t. arguments_of (cut_at (codes "as") t.1).0 >>= λ args. names_behind_as (cut_at (codes "as") t.1).2 (cut_at (codes "as") t.1).1 >>= λ new. read_ok (made t.0 args new) in
+    let rest : List ℕ × List (List ℕ) → Result RawApply FaultKind = λ t. arguments_of (cut_at (codes "as") t.1).0 >>= λ args. names_behind_as (cut_at (codes "as") t.1).2 (cut_at (codes "as") t.1).1 >>= λ new. read_ok (made t.0 args new) in
     let t = bind_ok (title_at ws) rest a e in
     let parts = cut_at (codes "as") t.0.1 in
     let args = bind_ok (arguments_of parts.0) (λ args. names_behind_as parts.2 parts.1 >>= λ new. read_ok (made t.0.0 args new)) a t.2 in
@@ -105,7 +105,7 @@ some_lits_said ws ls e =
     let n = each_length lit_of (slice_split is_semicolon ws) ls e in
     (omega (arith, n, length-slice_split is_semicolon ws), lits_said ws ls e)
 
-head_said : (head rest : List (List ℕ)) (s : RawSuperpose) → head_of head rest ≡ Ok s → Said (forms.Superpose s)
+head_said : (head rest : List (List ℕ)) (s : RawSuperpose) → head_of head rest ≡ Ok s → Said (rawlines.Superpose s)
 unfolding head_of
 head_said head rest s e =
     let made : List (List ℕ) → List (List ℕ) → List RawLit → RawSuperpose = λ new args ls. record { args = args; new = new; shown = ls } in
@@ -117,9 +117,9 @@ head_said head rest s e =
     let l = bind_ok (lits_of rest) (λ ls. read_ok (made n.0 a.0 ls)) s a.2 in
     let count : length n.0 ≡ 2 = each_length (λ w. or_malformed (name_of w)) news n.0 n.1 ∙ words_count true superpose_pieces head b.0 in
     let shown = some_lits_said rest l.0 l.1 in
-    subst (λ (x : RawSuperpose). Said (forms.Superpose x)) (ok_is (made n.0 a.0 l.0) s l.2) (names_said news n.0 n.1, count, shown.0, shown.1)
+    subst (λ (x : RawSuperpose). Said (rawlines.Superpose x)) (ok_is (made n.0 a.0 l.0) s l.2) (names_said news n.0 n.1, count, shown.0, shown.1)
 
-pub superpose_said : (ws : List (List ℕ)) (s : RawSuperpose) → superpose_of ws ≡ Ok s → Said (forms.Superpose s)
+pub superpose_said : (ws : List (List ℕ)) (s : RawSuperpose) → superpose_of ws ≡ Ok s → Said (rawlines.Superpose s)
 unfolding superpose_of
 superpose_said ws s e = head_said (take 13 ws) (drop 13 ws) s e
 
@@ -144,7 +144,7 @@ said = record {
   of_end = tt;
 }
 
-pub form_said : (words : List (List ℕ)) (f : Form) → form_of words ≡ Ok f → Said f
+pub form_said : (words : List (List ℕ)) (f : RawLine) → raw_line_of words ≡ Ok f → Said f
 form_said = form_by_word Said said
 
 -- ---- literals

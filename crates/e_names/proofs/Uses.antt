@@ -10,10 +10,10 @@ use Rattle.e_literal.specs.declared.object.Obj.{Obj}
 use Rattle.e_theorem.specs.Pattern.{are_entries, is_pattern}
 use Rattle.e_theorem.specs.Statements.{stated}
 use Rattle.e_deriv.specs.declared.names.Names.{Names}
-use Rattle.e_line.specs.declared.fault.Kind.{Kind}
+use Rattle.e_line.specs.declared.fault.FaultKind.{FaultKind}
 use Rattle.e_line.specs.declared.applies.RawApply.{RawApply}
 use Rattle.e_line.specs.Reading.{◌>>=◌}
-use Rattle.e_names.specs.Headed.{Headed, titles, statements, stated_by, theorem_of, title_at, place_in}
+use Rattle.e_names.specs.TitledStatements.{TitledStatement, titles, statements, stated_by, theorem_of, title_at, place_in}
 use Rattle.e_names.specs.Scope.{scope_of_names, object_as, fresh, right_count}
 use Rattle.e_names.specs.Applies.{known_place, entry_in, entries_in, apply_in}
 use Rattle.e_line.proofs.Bound.{bind_ok, ok_is, read_ok}
@@ -27,13 +27,13 @@ place_is None k e = absurd cc
 place_is (Some i) k e = ap Some (ok_is i k e)
 
 -- a title that is found stands at a place of the list
-pub place_within : (known : List Headed) (title : List ℕ) (k : ℕ) → place_in known title ≡ Some k → k < length (stated_by known)
+pub place_within : (known : List TitledStatement) (title : List ℕ) (k : ℕ) → place_in known title ≡ Some k → k < length (stated_by known)
 place_within known title k e =
     let p = position-Some (bytes_eq title) (titles known) k [] e in
-    omega (arith, p.0, length-map known (λ (h : Headed). h.title), length-map known (λ (h : Headed). h.statement), length-map (statements known) stated)
+    omega (arith, p.0, length-map known (λ (h : TitledStatement). h.title), length-map known (λ (h : TitledStatement). h.statement), length-map (statements known) stated)
 
 -- and is the title there
-pub found_title : (known : List Headed) (title : List ℕ) (k : ℕ) → place_in known title ≡ Some k → title_at known k ≡ title
+pub found_title : (known : List TitledStatement) (title : List ℕ) (k : ℕ) → place_in known title ≡ Some k → title_at known k ≡ title
 found_title known title k e =
     let p = position-Some (bytes_eq title) (titles known) k [] e in
     sym ((bytes_eq-Decides title (title_at known k)).0 p.1)
@@ -58,23 +58,23 @@ entries_fit ns (sort ∷ sorts) (Some name ∷ names) os n e =
 -- ---- the line
 
 -- its title is found, its entries fit, its new names are free, and there is one for each made object
-pub record GoodUse (known : List Headed) (ns : Names) (raw : RawApply) (theorem : ℕ) (args : List (Option Obj)) : Type 0 where
+pub record GoodUse (known : List TitledStatement) (ns : Names) (raw : RawApply) (theorem : ℕ) (args : List (Option Obj)) : Type 0 where
   pub place : place_in known raw.title ≡ Some theorem
   pub entries : is_pattern (theorem_of known theorem) (scope_of_names ns) args ≡ true
   pub free : fresh ns [] raw.new ≡ Ok tt
   pub count : length raw.new ≡ length (theorem_of known theorem).made
 
-pub earlier : (known : List Headed) (ns : Names) (raw : RawApply) (theorem : ℕ) (args : List (Option Obj)) → GoodUse known ns raw theorem args → ltb theorem (length (stated_by known)) ≡ true
+pub earlier : (known : List TitledStatement) (ns : Names) (raw : RawApply) (theorem : ℕ) (args : List (Option Obj)) → GoodUse known ns raw theorem args → ltb theorem (length (stated_by known)) ≡ true
 earlier known ns raw theorem args u = lt-ltb theorem (length (stated_by known)) (place_within known raw.title theorem u.place)
 
-pub use_fits : (known : List Headed) (ns : Names) (raw : RawApply) (p : ℕ × List (Option Obj)) → apply_in known ns raw ≡ Ok p → GoodUse known ns raw p.0 p.1
+pub use_fits : (known : List TitledStatement) (ns : Names) (raw : RawApply) (p : ℕ × List (Option Obj)) → apply_in known ns raw ≡ Ok p → GoodUse known ns raw p.0 p.1
 unfolding apply_in
 use_fits known ns raw p e =
     let both_of : ℕ → List (Option Obj) → ℕ × List (Option Obj) = λ k args. (k, args) in
-    let last : ℕ → List (Option Obj) → Result (ℕ × List (Option Obj)) Kind = λ k args. fresh ns [] raw.new >>= λ free. read_ok (both_of k args) in
-    let third : ℕ → Result (ℕ × List (Option Obj)) Kind = λ k. entries_in ns (theorem_of known k).declared raw.args >>= λ args. last k args in
-    let second : ℕ → Result (ℕ × List (Option Obj)) Kind = λ k. right_count (eqb (length raw.new) (length (theorem_of known k).made)) >>= λ more. third k in
-    let first : ℕ → Result (ℕ × List (Option Obj)) Kind = λ k. right_count (eqb (length raw.args) (length (theorem_of known k).declared)) >>= λ some. second k in
+    let last : ℕ → List (Option Obj) → Result (ℕ × List (Option Obj)) FaultKind = λ k args. fresh ns [] raw.new >>= λ free. read_ok (both_of k args) in
+    let third : ℕ → Result (ℕ × List (Option Obj)) FaultKind = λ k. entries_in ns (theorem_of known k).declared raw.args >>= λ args. last k args in
+    let second : ℕ → Result (ℕ × List (Option Obj)) FaultKind = λ k. right_count (eqb (length raw.new) (length (theorem_of known k).made)) >>= λ more. third k in
+    let first : ℕ → Result (ℕ × List (Option Obj)) FaultKind = λ k. right_count (eqb (length raw.args) (length (theorem_of known k).declared)) >>= λ some. second k in
     let k = bind_ok (known_place (place_in known raw.title)) first p e in
     let t = theorem_of known k.0 in
     let a = bind_ok (right_count (eqb (length raw.args) (length t.declared))) (λ some. second k.0) p k.2 in

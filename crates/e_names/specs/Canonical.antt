@@ -20,9 +20,9 @@ use Rattle.e_line.specs.declared.sum.RawMono.{RawMono}
 use Rattle.e_line.specs.declared.literal.RawLit.{RawLit}
 use Rattle.e_line.specs.declared.literal.RawAtom.{RawAtom}
 use Rattle.e_line.specs.declared.literal.RawAtom.TheVariants as raw
-use Rattle.e_line.specs.declared.form.Form.{Form}
-use Rattle.e_line.specs.declared.form.Form.TheVariants as forms
-use Rattle.e_names.specs.Headed.{Headed, title_at}
+use Rattle.e_line.specs.declared.raw_line.RawLine.{RawLine}
+use Rattle.e_line.specs.declared.raw_line.RawLine.TheVariants as rawlines
+use Rattle.e_names.specs.TitledStatements.{TitledStatement, title_at}
 
 -- ---- literals
 
@@ -78,23 +78,23 @@ raw_of ns l = raw_signed ns l.neg l.atom
 abbrev pub rule_name : ℕ → List ℕ
 rule_name rule = option_map_or (λ n. n) (name_of_rule rule) []
 
-abbrev pub given_form : Names → Lit → Form
-given_form ns l = forms.Given (raw_of ns l ∷ [])
+abbrev pub given_form : Names → Lit → RawLine
+given_form ns l = rawlines.Given (raw_of ns l ∷ [])
 
-abbrev pub show_form : Names → Lit → Form
-show_form ns l = forms.Show (raw_of ns l ∷ [])
+abbrev pub show_form : Names → Lit → RawLine
+show_form ns l = rawlines.Show (raw_of ns l ∷ [])
 
-abbrev pub by_form : Names → By → Form
-by_form ns b = forms.By (rule_name b.rule) (map (name_of_object ns) b.args) (raw_of ns b.lit)
+abbrev pub by_form : Names → By → RawLine
+by_form ns b = rawlines.By (rule_name b.rule) (map (name_of_object ns) b.args) (raw_of ns b.lit)
 
-abbrev pub hence_form : Names → Lit → Form
-hence_form ns l = forms.Hence (raw_of ns l)
+abbrev pub hence_form : Names → Lit → RawLine
+hence_form ns l = rawlines.Hence (raw_of ns l)
 
 -- the line of a construction, with names for the objects that it makes. Its words are those of other shapes too where these
 -- have the same line: the sorts of the arguments tell them apart.
-abbrev pub let_form : Names → Construction → List (List ℕ) → Form
+abbrev pub let_form : Names → Construction → List (List ℕ) → RawLine
 let_form ns form names =
-    forms.Let (record { shapes = form.shape ∷ []; new = names; args = map (name_of_object ns) form.args; avoid = map (name_of_object ns) form.avoid })
+    rawlines.Let (record { shapes = form.shape ∷ []; new = names; args = map (name_of_object ns) form.args; avoid = map (name_of_object ns) form.avoid })
 
 -- what stands for a declared object of an earlier theorem: the name of an object, or a blank
 abbrev pub argument_name : Names → Option Obj → Option (List ℕ)
@@ -102,11 +102,11 @@ argument_name ns None = None
 argument_name ns (Some o) = Some (name_of_object ns o)
 
 -- the line that uses the theorem at a place, by its title
-abbrev pub apply_form : List Headed → Names → ℕ → List (Option Obj) → List (List ℕ) → Form
-apply_form known ns theorem args names = forms.Apply (record { title = title_at known theorem; args = map (argument_name ns) args; new = names })
+abbrev pub apply_form : List TitledStatement → Names → ℕ → List (Option Obj) → List (List ℕ) → RawLine
+apply_form known ns theorem args names = rawlines.Apply (record { title = title_at known theorem; args = map (argument_name ns) args; new = names })
 
-abbrev pub claim_form : Names → List Lit → Form
-claim_form ns shown = forms.Claim (map (raw_of ns) shown)
+abbrev pub claim_form : Names → List Lit → RawLine
+claim_form ns shown = rawlines.Claim (map (raw_of ns) shown)
 
 -- the names of a superposition's points and lines, in the order of its line
 abbrev pub placed_names : Names → Superpose → List (List ℕ)
@@ -120,20 +120,20 @@ placed_names ns form =
     line i = name_at ns.lines (slice_index_or form.lines i 0)
 
 -- the names before it are those of the objects and of the literals
-abbrev pub superpose_form : Names → Superpose → List (List ℕ) → List Lit → Form
-superpose_form ns form names shown = forms.Superpose (record { args = placed_names ns form; new = names; shown = map (raw_of ns) shown })
+abbrev pub superpose_form : Names → Superpose → List (List ℕ) → List Lit → RawLine
+superpose_form ns form names shown = rawlines.Superpose (record { args = placed_names ns form; new = names; shown = map (raw_of ns) shown })
 
-abbrev pub cases_form : Names → Lit → Form
-cases_form ns lit = forms.Cases (raw_of ns lit)
+abbrev pub cases_form : Names → Lit → RawLine
+cases_form ns lit = rawlines.Cases (raw_of ns lit)
 
-abbrev pub else_form : Form
-else_form = forms.Else
+abbrev pub else_form : RawLine
+else_form = rawlines.Else
 
-abbrev pub qed_form : Names → List Obj → Form
-qed_form ns objects = forms.Qed (map (name_of_object ns) objects)
+abbrev pub qed_form : Names → List Obj → RawLine
+qed_form ns objects = rawlines.Qed (map (name_of_object ns) objects)
 
-abbrev pub contradiction_form : Form
-contradiction_form = forms.Contradiction
+abbrev pub contradiction_form : RawLine
+contradiction_form = rawlines.Contradiction
 
-abbrev pub end_form : Form
-end_form = forms.End
+abbrev pub end_form : RawLine
+end_form = rawlines.End

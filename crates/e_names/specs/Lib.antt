@@ -1,5 +1,5 @@
 pub mod Superposes
-pub mod Headed
+pub mod TitledStatements
 pub mod Titled
 pub mod Taken
 pub mod Scope

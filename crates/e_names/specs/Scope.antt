@@ -28,8 +28,8 @@ use Rattle.e_construct.specs.Construct.{fits_construction, sorts_made}
 use Rattle.e_construct.specs.Lines.{takes}
 use Rattle.e_deriv.specs.declared.names.Names.{Names}
 pub use Rattle.e_deriv.specs.Naming.{names_of_sort, with_names}
-use Rattle.e_line.specs.declared.fault.Kind.{Kind}
-use Rattle.e_line.specs.declared.fault.Kind.TheVariants.{Malformed, UnknownName, NameTaken, WrongSort}
+use Rattle.e_line.specs.declared.fault.FaultKind.{FaultKind}
+use Rattle.e_line.specs.declared.fault.FaultKind.TheVariants.{Malformed, UnknownName, NameTaken, WrongSort}
 use Rattle.e_line.specs.declared.sum.RawTerm.{RawTerm}
 use Rattle.e_line.specs.declared.sum.RawTerm.TheVariants as rawterms
 use Rattle.e_line.specs.declared.sum.RawMono.{RawMono}
@@ -67,24 +67,24 @@ object_in ns sort name = object_at sort (position (λ n. bytes_eq n name) (names
 abbrev pub object_of : Names → List ℕ → Option Obj
 object_of ns name = or_else (object_in ns sorts.Point name) (or_else (object_in ns sorts.Line name) (object_in ns sorts.Circle name))
 
-abbrev pub known_object : Option Obj → Result Obj Kind
+abbrev pub known_object : Option Obj → Result Obj FaultKind
 known_object None = Err UnknownName
 known_object (Some o) = Ok o
 
 -- a name that is used
-abbrev pub used : Names → List ℕ → Result Obj Kind
+abbrev pub used : Names → List ℕ → Result Obj FaultKind
 used ns name = known_object (object_of ns name)
 
-abbrev pub number_at : Sort → Obj → Result ℕ Kind
+abbrev pub number_at : Sort → Obj → Result ℕ FaultKind
 number_at sort o = if same_sort o.sort sort then Ok o.num else Err WrongSort
 
 -- the number of an object of this sort
-unfoldable pub number_of : Names → Sort → List ℕ → Result ℕ Kind
+unfoldable pub number_of : Names → Sort → List ℕ → Result ℕ FaultKind
 number_of ns sort name = used ns name >>= λ o. number_at sort o
 
 -- ---- sums
 
-unfoldable pub term_in : Names → RawTerm → Result Term Kind
+unfoldable pub term_in : Names → RawTerm → Result Term FaultKind
 term_in ns (rawterms.Seg x y) = number_of ns sorts.Point x >>= λ a. number_of ns sorts.Point y >>= λ b. Ok (terms.Seg a b)
 term_in ns (rawterms.Ang x y z) =
     number_of ns sorts.Point x >>= λ a. number_of ns sorts.Point y >>= λ b. number_of ns sorts.Point z >>= λ c. Ok (terms.Ang a b c)
@@ -105,12 +105,12 @@ first_kind [] (m ∷ ys) = kind_of_raw m.term
 first_kind [] [] = magnitudes.Segment
 
 -- a term of this kind, and then its points
-unfoldable pub mono_in : Names → Magnitude → RawMono → Result Mono Kind
+unfoldable pub mono_in : Names → Magnitude → RawMono → Result Mono FaultKind
 mono_in ns kind m =
     if same_kind (kind_of_raw m.term) kind then (term_in ns m.term >>= λ t. Ok (record { coeff = m.coeff; term = t })) else Err WrongSort
 
 -- all terms have the kind of the first one
-unfoldable pub sums_in : Names → List RawMono → List RawMono → Result (List Mono × List Mono) Kind
+unfoldable pub sums_in : Names → List RawMono → List RawMono → Result (List Mono × List Mono) FaultKind
 sums_in ns x y = do
   a ← each (mono_in ns (first_kind x y)) x
   b ← each (mono_in ns (first_kind x y)) y
@@ -119,19 +119,19 @@ sums_in ns x y = do
 -- ---- literals
 
 -- a point on an object of this sort
-abbrev pub on_sort : ℕ → Sort → ℕ → Result Atom Kind
+abbrev pub on_sort : ℕ → Sort → ℕ → Result Atom FaultKind
 on_sort a sorts.Point n = Err WrongSort
 on_sort a sorts.Line n = Ok (atoms.On a n)
 on_sort a sorts.Circle n = Ok (atoms.OnC a n)
 
 -- a line that meets an object of this sort
-abbrev pub line_meets : ℕ → Sort → ℕ → Result Atom Kind
+abbrev pub line_meets : ℕ → Sort → ℕ → Result Atom FaultKind
 line_meets l sorts.Point n = Err WrongSort
 line_meets l sorts.Line n = Ok (atoms.MeetLL l n)
 line_meets l sorts.Circle n = Ok (atoms.MeetLC l n)
 
 -- what meets: behind a line a line or a circle, behind a circle a circle
-abbrev pub meets_from : Names → Sort → ℕ → List ℕ → Result Atom Kind
+abbrev pub meets_from : Names → Sort → ℕ → List ℕ → Result Atom FaultKind
 meets_from ns sorts.Point n y = Err WrongSort
 meets_from ns sorts.Line n y = used ns y >>= λ o. line_meets n o.sort o.num
 meets_from ns sorts.Circle n y = number_of ns sorts.Circle y >>= λ k. Ok (atoms.MeetCC n k)
@@ -142,7 +142,7 @@ equal_at sorts.Point a b = atoms.EqP a b
 equal_at sorts.Line a b = atoms.EqL a b
 equal_at sorts.Circle a b = atoms.EqC a b
 
-unfoldable pub atom_in : Names → RawAtom → Result Atom Kind
+unfoldable pub atom_in : Names → RawAtom → Result Atom FaultKind
 atom_in ns (raw.On x y) = number_of ns sorts.Point x >>= λ a. used ns y >>= λ o. on_sort a o.sort o.num
 atom_in ns (raw.Inside x y) = number_of ns sorts.Point x >>= λ a. number_of ns sorts.Circle y >>= λ c. Ok (atoms.Inside a c)
 atom_in ns (raw.Center x y) = number_of ns sorts.Point x >>= λ a. number_of ns sorts.Circle y >>= λ c. Ok (atoms.Center a c)
@@ -161,17 +161,17 @@ abbrev pub negated_in : RawAtom → Bool → Bool
 negated_in (raw.SumsAtMost x y) neg = not neg
 negated_in a neg = neg
 
-unfoldable pub lit_in : Names → RawLit → Result Lit Kind
+unfoldable pub lit_in : Names → RawLit → Result Lit FaultKind
 lit_in ns l = atom_in ns l.atom >>= λ a. Ok (record { neg = negated_in l.atom l.neg; atom = a })
 
-abbrev pub lits_in : Names → List RawLit → Result (List Lit) Kind
+abbrev pub lits_in : Names → List RawLit → Result (List Lit) FaultKind
 lits_in ns raws = each (lit_in ns) raws
 
 -- an object of this sort
-unfoldable pub object_as : Names → Sort → List ℕ → Result Obj Kind
+unfoldable pub object_as : Names → Sort → List ℕ → Result Obj FaultKind
 object_as ns sort name = number_of ns sort name >>= λ n. Ok (obj sort n)
 
-abbrev pub objects_as : Names → Sort → List (List ℕ) → Result (List Obj) Kind
+abbrev pub objects_as : Names → Sort → List (List ℕ) → Result (List Obj) FaultKind
 objects_as ns sort names = each (object_as ns sort) names
 
 -- whether a name stands for an object, or among those that are new on the line
@@ -179,25 +179,25 @@ abbrev pub is_taken : Names → List (List ℕ) → List ℕ → Bool
 is_taken ns seen name = has ns.points name || (has ns.lines name || (has ns.circles name || has seen name))
 
 -- none of the names is taken, and none is new twice
-abbrev pub fresh : Names → List (List ℕ) → List (List ℕ) → Result (Unit {0}) Kind
+abbrev pub fresh : Names → List (List ℕ) → List (List ℕ) → Result (Unit {0}) FaultKind
 fresh ns seen [] = Ok tt
 fresh ns seen (name ∷ names) = if is_taken ns seen name then Err NameTaken else fresh ns (seen ++ name ∷ []) names
 
 -- a citation is of a rule of diagrams and equality
-abbrev pub known_rule : Option ℕ → Result ℕ Kind
+abbrev pub known_rule : Option ℕ → Result ℕ FaultKind
 known_rule None = Err UnknownName
 known_rule (Some r) = if is_diagram_rule r then Ok r else Err UnknownName
 
-abbrev pub variables_of : Option Sig → Result Sig Kind
+abbrev pub variables_of : Option Sig → Result Sig FaultKind
 variables_of None = Err UnknownName
 variables_of (Some s) = Ok s
 
-abbrev pub right_count : Bool → Result (Unit {0}) Kind
+abbrev pub right_count : Bool → Result (Unit {0}) FaultKind
 right_count true = Ok tt
 right_count false = Err Malformed
 
 -- a name for each variable of a rule: points, then lines, then circles
-unfoldable pub args_in : Names → Sig → List (List ℕ) → Result (List Obj) Kind
+unfoldable pub args_in : Names → Sig → List (List ℕ) → Result (List Obj) FaultKind
 args_in ns s names = do
   ps ← objects_as ns sorts.Point (take s.points names)
   ls ← objects_as ns sorts.Line (take s.lines (drop s.points names))
@@ -205,7 +205,7 @@ args_in ns s names = do
   Ok (ps ++ ls ++ cs)
 
 -- the rule, then how many names it has, then the names, then the literal
-unfoldable pub by_in : Names → List ℕ → List (List ℕ) → RawLit → Result By Kind
+unfoldable pub by_in : Names → List ℕ → List (List ℕ) → RawLit → Result By FaultKind
 by_in ns rule names lit = do
   r ← known_rule (number_of_rule rule)
   s ← variables_of (sig_of r)
@@ -216,12 +216,12 @@ by_in ns rule names lit = do
 
 -- ---- constructions
 
-abbrev pub right_sort : Bool → Result (Unit {0}) Kind
+abbrev pub right_sort : Bool → Result (Unit {0}) FaultKind
 right_sort true = Ok tt
 right_sort false = Err WrongSort
 
 -- the arguments, behind those that were found: each has a sort that one of the shapes takes there, behind the earlier ones
-abbrev pub arguments_in : Names → List Shape → List Obj → List (List ℕ) → Result (List Obj) Kind
+abbrev pub arguments_in : Names → List Shape → List Obj → List (List ℕ) → Result (List Obj) FaultKind
 arguments_in ns shapes found [] = Ok found
 arguments_in ns shapes found (name ∷ names) =
     used ns name >>= λ o. right_sort (list_any (λ s. takes s (found ++ o ∷ [])) shapes) >>= λ right. arguments_in ns shapes (found ++ o ∷ []) names
@@ -231,14 +231,14 @@ construction shape args avoid = record { shape = shape; args = args; avoid = avo
 
 -- the construction of the first shape that fits the objects. A line of a book has one: its shapes have as many arguments as
 -- the line, and the last argument has a sort that one of them takes behind the others.
-abbrev pub first_fitting : Scope → List Obj → List Obj → List Shape → Result Construction Kind
+abbrev pub first_fitting : Scope → List Obj → List Obj → List Shape → Result Construction FaultKind
 first_fitting s args avoid [] = Err Malformed
 first_fitting s args avoid (shape ∷ shapes) =
     if fits_construction (construction shape args avoid) s then Ok (construction shape args avoid) else first_fitting s args avoid shapes
 
 -- the new names, then the arguments, then the avoided objects, as they stand on the line. No line of a book has another number
 -- of new names than objects that are made.
-unfoldable pub let_in : Names → RawLet → Result Construction Kind
+unfoldable pub let_in : Names → RawLet → Result Construction FaultKind
 let_in ns l = do
   free ← fresh ns [] l.new
   args ← arguments_in ns l.shapes [] l.args
@@ -250,12 +250,12 @@ let_in ns l = do
 -- ---- the close
 
 -- an object for each sort, in order
-abbrev pub objects_of_sorts : Names → List Sort → List (List ℕ) → Result (List Obj) Kind
+abbrev pub objects_of_sorts : Names → List Sort → List (List ℕ) → Result (List Obj) FaultKind
 objects_of_sorts ns (sort ∷ sorts) (name ∷ names) = object_as ns sort name >>= λ o. objects_of_sorts ns sorts names >>= λ os. Ok (o ∷ os)
 objects_of_sorts ns _ _ = Ok []
 
 -- the objects behind qed: as many as the goal has made ones, and then each of the sort of its made one
-unfoldable pub qed_in : Names → List Sort → List (List ℕ) → Result (List Obj) Kind
+unfoldable pub qed_in : Names → List Sort → List (List ℕ) → Result (List Obj) FaultKind
 qed_in ns made names = do
   right ← right_count (length names == length made)
   objects_of_sorts ns made names

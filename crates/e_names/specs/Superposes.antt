@@ -4,8 +4,8 @@ use Rattle.e_literal.specs.declared.object.Sort.TheVariants as sorts
 use Rattle.e_literal.specs.declared.literal.Lit.{Lit}
 use Rattle.e_construct.specs.declared.superpose.Superpose.{Superpose}
 use Rattle.e_deriv.specs.declared.names.Names.{Names}
-use Rattle.e_line.specs.declared.fault.Kind.{Kind}
-use Rattle.e_line.specs.declared.fault.Kind.TheVariants.{Malformed}
+use Rattle.e_line.specs.declared.fault.FaultKind.{FaultKind}
+use Rattle.e_line.specs.declared.fault.FaultKind.TheVariants.{Malformed}
 use Rattle.e_line.specs.declared.superposes.RawSuperpose.{RawSuperpose}
 use Rattle.e_line.specs.Reading.{◌>>=◌}
 use Rattle.e_names.specs.Scope.{number_of, fresh, lits_in}
@@ -15,7 +15,7 @@ abbrev pub superpose : (a b c d g h K L : ℕ) → Superpose
 superpose a b c d g h K L = record { points = a ∷ b ∷ c ∷ d ∷ g ∷ h ∷ []; lines = K ∷ L ∷ [] }
 
 -- the triangle and its line, then the place and its line, as they stand there
-unfoldable pub placed_in : Names → List (List ℕ) → Result Superpose Kind
+unfoldable pub placed_in : Names → List (List ℕ) → Result Superpose FaultKind
 placed_in ns (a ∷ b ∷ c ∷ k ∷ d ∷ g ∷ h ∷ l ∷ []) = do
   na ← number_of ns sorts.Point a
   nb ← number_of ns sorts.Point b
@@ -29,7 +29,7 @@ placed_in ns (a ∷ b ∷ c ∷ k ∷ d ∷ g ∷ h ∷ l ∷ []) = do
 placed_in ns _ = Err Malformed
 
 -- the objects, then the new names, then the literals, in which the new names are not in scope yet
-unfoldable pub superpose_in : Names → RawSuperpose → Result (Superpose × List Lit) Kind
+unfoldable pub superpose_in : Names → RawSuperpose → Result (Superpose × List Lit) FaultKind
 superpose_in ns raw = do
   form ← placed_in ns raw.args
   free ← fresh ns [] raw.new

@@ -1,7 +1,7 @@
 -- What is known of a book, theorems and definitions together.
 use Rattle.std.specs.Prelude.{ℕ, Bool, ◌||◌, List, []}
 use Rattle.e_names.specs.declared.known.Known.{Known}
-use Rattle.e_names.specs.Headed.{is_known}
+use Rattle.e_names.specs.TitledStatements.{is_known}
 use Rattle.e_names.specs.Titled.{defines}
 
 abbrev pub nothing_known : Known

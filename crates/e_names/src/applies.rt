@@ -1,7 +1,7 @@
 //! The use of an earlier theorem, with the objects of its names.
 ghost use Rattle.std.specs.Prelude.{◌≡◌, ◌<◌, ◌≤◌, IfOk, length};
 ghost use Rattle.e_line.specs.Reading.{Gives};
-ghost use Rattle.e_names.specs.Headed.{place_in};
+ghost use Rattle.e_names.specs.TitledStatements.{place_in};
 ghost use Rattle.e_line.specs.Limits.{most_theorems};
 ghost use Rattle.e_names.specs.Scope.{FewNames};
 ghost use Rattle.e_names.specs.Applies.{known_place, entry_in, entries_in, apply_in, count_blanks};
@@ -9,24 +9,24 @@ ghost use Rattle.e_names.specs.Applies.{known_place, entry_in, entries_in, apply
 use crate::scope::{fresh, object_as};
 use crate::theorems::Theorems;
 use e_deriv::Names;
-use e_line::{Kind, RawApply, Trouble};
+use e_line::{FaultKind, LineError, RawApply};
 use e_literal::{Items, Obj, Sort};
 use e_text::{Name, Title};
 use std::alloc::Global;
 
 /// The place of the earlier theorem with this title.
-fn place_of_title(known: &Theorems, title: Title) -> Result<usize, Trouble>
+fn place_of_title(known: &Theorems, title: Title) -> Result<usize, LineError>
     ensures value { Gives (λ k. k) result (known_place (place_in known.now title)) }
     ensures within { IfOk result (λ k. k < length known.now) }
 {
     match known.place(title) {
         Some(place) => Ok(place),
-        None => Err(Trouble::Fault(Kind::UnknownName)),
+        None => Err(LineError::Fault(FaultKind::UnknownName)),
     }
 }
 
 /// What stands for a declared object of a sort: an object of this sort, or a blank.
-fn entry_in(names: &Names, sort: Sort, name: Option<Name>) -> Result<Option<Obj>, Trouble>
+fn entry_in(names: &Names, sort: Sort, name: Option<Name>) -> Result<Option<Obj>, LineError>
     requires { FewNames names.now }
     ensures { Gives (λ o. o) result (entry_in names.now sort name) }
 {
@@ -45,7 +45,7 @@ fn entries_in(
     names: &Names,
     sorts: &[Sort],
     of: &[Option<Name>],
-) -> Result<Items<Option<Obj>>, Trouble>
+) -> Result<Items<Option<Obj>>, LineError>
     requires { FewNames names.now }
     ensures { Gives (λ p. p) result (entries_in names.now sorts.now of.now) }
 {
@@ -78,7 +78,7 @@ pub fn apply_in(
     known: &Theorems,
     names: &Names,
     raw: &RawApply,
-) -> Result<Application, Trouble>
+) -> Result<Application, LineError>
     requires known { length known.now ≤ most_theorems }
     requires names { FewNames names.now }
     ensures value { Gives (λ a. (a.theorem, a.args)) result (apply_in known.now names.now raw.now) }
@@ -87,7 +87,7 @@ pub fn apply_in(
     let place = place_of_title(known, raw.title)?;
     let statement = known.statement(place);
     if raw.args.len() != statement.declared.len() || raw.new.len() != statement.made.len() {
-        return Err(Trouble::Fault(Kind::Malformed));
+        return Err(LineError::Fault(FaultKind::Malformed));
     }
     let args = entries_in(alloc, names, statement.declared.items(), raw.args.items())?;
     fresh(names, raw.new.items())?;

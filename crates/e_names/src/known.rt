@@ -1,7 +1,7 @@
 //! What is known of a book so far: its theorems and its definitions.
 ghost use Rattle.std.specs.Prelude.{◌≡◌, ◌++◌, ◌∷◌, [], OnOk, OnErr, false};
 ghost use Rattle.std.specs.Option.{option_map};
-ghost use Rattle.e_names.specs.Headed.{headed};
+ghost use Rattle.e_names.specs.TitledStatements.{headed};
 ghost use Rattle.e_names.specs.Taken.{nothing_known, is_taken};
 ghost use Rattle.e_names.specs.Titled.{titled, notion_of};
 

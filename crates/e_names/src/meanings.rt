@@ -13,7 +13,7 @@ use crate::naming::put_named;
 use crate::notions::Notions;
 use crate::scope::{lit_in, objects_of_sorts, scope_of_names};
 use e_deriv::Names;
-use e_line::{Kind, RawAs, RawItem, RawLit, Trouble};
+use e_line::{FaultKind, LineError, RawAs, RawItem, RawLit};
 use e_literal::{Items, Lit};
 use e_text::Title;
 use e_theorem::{Notion, UseFault, expand_first};
@@ -23,12 +23,12 @@ use std::slice;
 /// How many literals items may stand for, in one theorem or one definition.
 pub const MAX_EXPANDED: usize = 4_096;
 
-fn known_notion(notions: &Notions, title: Title) -> Result<&Notion, Trouble>
+fn known_notion(notions: &Notions, title: Title) -> Result<&Notion, LineError>
     ensures { Gives (λ n. n.now) result (known_notion (notion_of notions.now title)) }
 {
     match notions.get(title) {
         Some(notion) => Ok(notion),
-        None => Err(Trouble::Fault(Kind::UnknownName)),
+        None => Err(LineError::Fault(FaultKind::UnknownName)),
     }
 }
 
@@ -40,7 +40,7 @@ fn meant_in(
     names: &Names,
     raw: &RawAs,
     most: usize,
-) -> Result<Items<Lit>, Trouble>
+) -> Result<Items<Lit>, LineError>
     requires names { FewNames names.now }
     requires notions { IsTrue (are_notions notions.now) }
     ensures value { Gives (λ l. l) result (meant_in notions.now names.now most raw.now) }
@@ -49,13 +49,13 @@ fn meant_in(
 {
     let notion = known_notion(notions, raw.title)?;
     if raw.args.len() != notion.declared.len() {
-        return Err(Trouble::Fault(Kind::Malformed));
+        return Err(LineError::Fault(FaultKind::Malformed));
     }
     let args = objects_of_sorts(alloc, names, notion.declared.items(), raw.args.items())?;
     match expand_first(alloc, notion, args.items(), scope_of_names(names), most) {
         Ok(lits) => Ok(lits),
         Err(UseFault::BadArgs) => unreachable!(),
-        Err(UseFault::NoMemory) => Err(Trouble::NoMemory),
+        Err(UseFault::NoMemory) => Err(LineError::NoMemory),
     }
 }
 
@@ -67,7 +67,7 @@ fn put_item(
     item: &RawItem,
     count: usize,
     raws: &mut Items<RawLit>,
-) -> Result<usize, Trouble>
+) -> Result<usize, LineError>
     requires names { FewNames names.now }
     requires notions { IsTrue (are_notions notions.now) }
     requires count { count ≤ most_expanded + 1 }
@@ -96,7 +96,7 @@ pub fn put_items(
     items: &[RawItem],
     count: usize,
     raws: &mut Items<RawLit>,
-) -> Result<usize, Trouble>
+) -> Result<usize, LineError>
     requires names { FewNames names.now }
     requires notions { IsTrue (are_notions notions.now) }
     requires count { count ≤ most_expanded + 1 }

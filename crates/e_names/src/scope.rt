@@ -12,7 +12,7 @@ use crate::terms::{Sides, sums_in};
 use e_clause::{By, Rule, Sig};
 use e_construct::{Construction, Shape, takes};
 use e_deriv::Names;
-use e_line::{Kind, RawAtom, RawLet, RawLit, Trouble};
+use e_line::{FaultKind, LineError, RawAtom, RawLet, RawLit};
 use e_literal::{Atom, Items, Lit, Obj, Scope, Sort, is_same_sort};
 use e_text::{Name, Title, contains, place_of};
 use std::alloc::{AllocError, Global};
@@ -65,19 +65,19 @@ fn object_of(names: &Names, name: Name) -> Option<Obj>
     object_in(names, Sort::Circle, name)
 }
 
-fn used(names: &Names, name: Name) -> Result<Obj, Trouble>
+fn used(names: &Names, name: Name) -> Result<Obj, LineError>
     requires { FewNames names.now }
     ensures { Gives (λ o. o) result (used names.now name) }
 {
     match object_of(names, name) {
         Some(object) => Ok(object),
-        None => Err(Trouble::Fault(Kind::UnknownName)),
+        None => Err(LineError::Fault(FaultKind::UnknownName)),
     }
 }
 
 /// The number of the object of this sort.
 #[tactic(auto, unfolding(crate::specs::Scope::number_of))]
-pub(crate) fn number_of(names: &Names, sort: Sort, name: Name) -> Result<u16, Trouble>
+pub(crate) fn number_of(names: &Names, sort: Sort, name: Name) -> Result<u16, LineError>
     requires { FewNames names.now }
     ensures { Gives (λ n. n) result (number_of names.now sort name) }
 {
@@ -85,37 +85,37 @@ pub(crate) fn number_of(names: &Names, sort: Sort, name: Name) -> Result<u16, Tr
     if is_same_sort(object.sort, sort) {
         Ok(object.num)
     } else {
-        Err(Trouble::Fault(Kind::WrongSort))
+        Err(LineError::Fault(FaultKind::WrongSort))
     }
 }
 
-fn on_object(point: u16, object: Obj) -> Result<Atom, Trouble>
+fn on_object(point: u16, object: Obj) -> Result<Atom, LineError>
     ensures { Gives (λ a. a) result (on_sort point object.sort object.num) }
 {
     match object.sort {
-        Sort::Point => Err(Trouble::Fault(Kind::WrongSort)),
+        Sort::Point => Err(LineError::Fault(FaultKind::WrongSort)),
         Sort::Line => Ok(Atom::On(point, object.num)),
         Sort::Circle => Ok(Atom::OnC(point, object.num)),
     }
 }
 
-fn line_meets(line: u16, object: Obj) -> Result<Atom, Trouble>
+fn line_meets(line: u16, object: Obj) -> Result<Atom, LineError>
     ensures { Gives (λ a. a) result (line_meets line object.sort object.num) }
 {
     match object.sort {
-        Sort::Point => Err(Trouble::Fault(Kind::WrongSort)),
+        Sort::Point => Err(LineError::Fault(FaultKind::WrongSort)),
         Sort::Line => Ok(Atom::MeetLL(line, object.num)),
         Sort::Circle => Ok(Atom::MeetLC(line, object.num)),
     }
 }
 
 /// What meets the first object: behind a line a line or a circle, behind a circle a circle.
-fn meets_from(names: &Names, first: Obj, second: Name) -> Result<Atom, Trouble>
+fn meets_from(names: &Names, first: Obj, second: Name) -> Result<Atom, LineError>
     requires { FewNames names.now }
     ensures { Gives (λ a. a) result (meets_from names.now first.sort first.num second) }
 {
     match first.sort {
-        Sort::Point => Err(Trouble::Fault(Kind::WrongSort)),
+        Sort::Point => Err(LineError::Fault(FaultKind::WrongSort)),
         Sort::Line => {
             let object = used(names, second)?;
             line_meets(first.num, object)
@@ -138,7 +138,7 @@ fn equal_at(sort: Sort, first: u16, second: u16) -> Atom
 }
 
 #[tactic(auto, unfolding(crate::specs::Scope::atom_in))]
-fn atom_in(alloc: Global, names: &Names, atom: &RawAtom) -> Result<Atom, Trouble>
+fn atom_in(alloc: Global, names: &Names, atom: &RawAtom) -> Result<Atom, LineError>
     requires { FewNames names.now }
     ensures { Gives (λ a. a) result (atom_in names.now atom.now) }
 {
@@ -206,7 +206,7 @@ fn negated_in(atom: &RawAtom, neg: bool) -> bool
 
 /// The literal with the objects that its names stand for; the leftmost fault.
 #[tactic(auto, unfolding(crate::specs::Scope::lit_in))]
-pub fn lit_in(alloc: Global, names: &Names, lit: &RawLit) -> Result<Lit, Trouble>
+pub fn lit_in(alloc: Global, names: &Names, lit: &RawLit) -> Result<Lit, LineError>
     requires { FewNames names.now }
     ensures { Gives (λ l. l) result (lit_in names.now lit.now) }
 {
@@ -221,7 +221,7 @@ pub fn put_lits(
     names: &Names,
     raw: &[RawLit],
     lits: &mut Items<Lit>,
-) -> Result<(), Trouble>
+) -> Result<(), LineError>
     requires { FewNames names.now }
     ensures value { Moves result lits.new (with_front lits.old (lits_in names.now raw.now)) }
     ensures count { OnOk result (length lits.new ≡ length lits.old + length raw.now) }
@@ -234,7 +234,7 @@ pub fn put_lits(
 }
 
 #[tactic(auto, unfolding(crate::specs::Scope::object_as))]
-pub(crate) fn object_as(names: &Names, sort: Sort, name: Name) -> Result<Obj, Trouble>
+pub(crate) fn object_as(names: &Names, sort: Sort, name: Name) -> Result<Obj, LineError>
     requires { FewNames names.now }
     ensures { Gives (λ o. o) result (object_as names.now sort name) }
 {
@@ -242,7 +242,12 @@ pub(crate) fn object_as(names: &Names, sort: Sort, name: Name) -> Result<Obj, Tr
     Ok(Obj { sort, num })
 }
 
-fn objects_as(alloc: Global, names: &Names, sort: Sort, of: &[Name]) -> Result<Items<Obj>, Trouble>
+fn objects_as(
+    alloc: Global,
+    names: &Names,
+    sort: Sort,
+    of: &[Name],
+) -> Result<Items<Obj>, LineError>
     requires { FewNames names.now }
     ensures { Gives (λ l. l) result (objects_as names.now sort of.now) }
 {
@@ -264,33 +269,38 @@ fn is_taken(names: &Names, earlier: &[Name], name: Name) -> bool
 }
 
 /// No name is taken, and none is new twice.
-pub fn fresh(names: &Names, new: &[Name]) -> Result<(), Trouble>
+pub fn fresh(names: &Names, new: &[Name]) -> Result<(), LineError>
     ensures { Gives (λ u. u) result (fresh names.now [] new.now) }
 {
     for (i, name) in new.iter().enumerate() {
         if is_taken(names, &new[..i], *name) {
-            return Err(Trouble::Fault(Kind::NameTaken));
+            return Err(LineError::Fault(FaultKind::NameTaken));
         }
     }
     Ok(())
 }
 
 /// The rule of diagrams and equality with this name.
-fn known_rule(name: Title) -> Result<Rule, Trouble>
+fn known_rule(name: Title) -> Result<Rule, LineError>
     ensures { Gives (λ r. r) result (known_rule (Instance.number_of_rule name)) }
 {
     let Some(rule) = Rule::named(name.bytes()) else {
-        return Err(Trouble::Fault(Kind::UnknownName));
+        return Err(LineError::Fault(FaultKind::UnknownName));
     };
     if rule.is_transfer() {
-        return Err(Trouble::Fault(Kind::UnknownName));
+        return Err(LineError::Fault(FaultKind::UnknownName));
     }
     Ok(rule)
 }
 
 /// An object for each variable of a rule: points, then lines, then circles.
 #[tactic(auto, unfolding(crate::specs::Scope::args_in))]
-pub fn args_in(alloc: Global, names: &Names, sig: Sig, args: &[Name]) -> Result<Items<Obj>, Trouble>
+pub fn args_in(
+    alloc: Global,
+    names: &Names,
+    sig: Sig,
+    args: &[Name],
+) -> Result<Items<Obj>, LineError>
     requires names { FewNames names.now }
     requires count { length args.now ≡ sig.points + sig.lines + sig.circles }
     ensures { Gives (λ l. l) result (args_in names.now sig args.now) }
@@ -313,7 +323,7 @@ pub fn by_in(
     rule: Title,
     args: &[Name],
     lit: &RawLit,
-) -> Result<By, Trouble>
+) -> Result<By, LineError>
     requires { FewNames names.now }
     ensures { Gives (λ b. b) result (by_in names.now rule args.now lit.now) }
 {
@@ -321,7 +331,7 @@ pub fn by_in(
     let sig = rule.sig();
     let count = usize::from(sig.points) + usize::from(sig.lines) + usize::from(sig.circles);
     if args.len() != count {
-        return Err(Trouble::Fault(Kind::Malformed));
+        return Err(LineError::Fault(FaultKind::Malformed));
     }
     let args = args_in(alloc, names, sig, args)?;
     let lit = lit_in(alloc, names, lit)?;
@@ -334,7 +344,7 @@ fn arguments_in(
     names: &Names,
     shapes: &[Shape],
     of: &[Name],
-) -> Result<Items<Obj>, Trouble>
+) -> Result<Items<Obj>, LineError>
     requires { FewNames names.now }
     ensures { Gives (λ l. l) result (arguments_in names.now shapes.now [] of.now) }
 {
@@ -343,7 +353,7 @@ fn arguments_in(
         let object = used(names, *name)?;
         found.push(object)?;
         if !is_taken_by(shapes, found.items()) {
-            return Err(Trouble::Fault(Kind::WrongSort));
+            return Err(LineError::Fault(FaultKind::WrongSort));
         }
     }
     Ok(found)
@@ -356,7 +366,7 @@ fn is_taken_by(shapes: &[Shape], objects: &[Obj]) -> bool
     shapes.iter().any(|shape| takes(*shape, objects))
 }
 
-fn objects_used(alloc: Global, names: &Names, of: &[Name]) -> Result<Items<Obj>, Trouble>
+fn objects_used(alloc: Global, names: &Names, of: &[Name]) -> Result<Items<Obj>, LineError>
     requires { FewNames names.now }
     ensures { Gives (λ l. l) result (each (used names.now) of.now) }
 {
@@ -374,7 +384,7 @@ fn first_fitting(
     args: Items<Obj>,
     avoid: Items<Obj>,
     shapes: &[Shape],
-) -> Result<Construction, Trouble>
+) -> Result<Construction, LineError>
     ensures { Gives (λ f. f) result (first_fitting scope args avoid shapes.now) }
 {
     let mut form = Construction {
@@ -388,12 +398,12 @@ fn first_fitting(
             return Ok(form);
         }
     }
-    Err(Trouble::Fault(Kind::Malformed))
+    Err(LineError::Fault(FaultKind::Malformed))
 }
 
 /// A construction: its new names, then its arguments, then what it avoids.
 #[tactic(auto, unfolding(crate::specs::Scope::let_in))]
-pub fn let_in(alloc: Global, names: &Names, raw: &RawLet) -> Result<Construction, Trouble>
+pub fn let_in(alloc: Global, names: &Names, raw: &RawLet) -> Result<Construction, LineError>
     requires { FewNames names.now }
     ensures { Gives (λ f. f) result (let_in names.now raw.now) }
 {
@@ -402,7 +412,7 @@ pub fn let_in(alloc: Global, names: &Names, raw: &RawLet) -> Result<Construction
     let avoid = objects_used(alloc, names, raw.avoid.items())?;
     let form = first_fitting(scope_of_names(names), args, avoid, raw.shapes.items())?;
     if raw.new.len() != form.made().len() {
-        return Err(Trouble::Fault(Kind::Malformed));
+        return Err(LineError::Fault(FaultKind::Malformed));
     }
     Ok(form)
 }
@@ -413,7 +423,7 @@ pub(crate) fn objects_of_sorts(
     names: &Names,
     sorts: &[Sort],
     of: &[Name],
-) -> Result<Items<Obj>, Trouble>
+) -> Result<Items<Obj>, LineError>
     requires { FewNames names.now }
     ensures { Gives (λ l. l) result (objects_of_sorts names.now sorts.now of.now) }
 {
@@ -432,12 +442,12 @@ pub fn qed_in(
     names: &Names,
     made: &[Sort],
     of: &[Name],
-) -> Result<Items<Obj>, Trouble>
+) -> Result<Items<Obj>, LineError>
     requires { FewNames names.now }
     ensures { Gives (λ l. l) result (qed_in names.now made.now of.now) }
 {
     if of.len() != made.len() {
-        return Err(Trouble::Fault(Kind::Malformed));
+        return Err(LineError::Fault(FaultKind::Malformed));
     }
     objects_of_sorts(alloc, names, made, of)
 }

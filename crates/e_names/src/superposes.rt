@@ -6,19 +6,19 @@ ghost use Rattle.e_names.specs.Superposes.{placed_in, superpose_in};
 use crate::scope::{fresh, number_of, put_lits};
 use e_construct::Superpose;
 use e_deriv::Names;
-use e_line::{Kind, RawSuperpose, Trouble};
+use e_line::{FaultKind, LineError, RawSuperpose};
 use e_literal::{Items, Lit, Sort};
 use e_text::Name;
 use std::alloc::Global;
 
 /// The points and lines, as they stand there.
 #[tactic(auto, unfolding(crate::specs::Superposes::placed_in))]
-pub fn placed_in(names: &Names, args: &[Name]) -> Result<Superpose, Trouble>
+pub fn placed_in(names: &Names, args: &[Name]) -> Result<Superpose, LineError>
     requires { FewNames names.now }
     ensures { Gives (λ s. s) result (placed_in names.now args.now) }
 {
     let [a, b, c, k, d, g, h, l] = args else {
-        return Err(Trouble::Fault(Kind::Malformed));
+        return Err(LineError::Fault(FaultKind::Malformed));
     };
     let a = number_of(names, Sort::Point, *a)?;
     let b = number_of(names, Sort::Point, *b)?;
@@ -43,7 +43,11 @@ pub struct Placement {
 
 /// The objects, then the new names, then the literals; the leftmost fault.
 #[tactic(auto, unfolding(crate::specs::Superposes::superpose_in))]
-pub fn superpose_in(alloc: Global, names: &Names, raw: &RawSuperpose) -> Result<Placement, Trouble>
+pub fn superpose_in(
+    alloc: Global,
+    names: &Names,
+    raw: &RawSuperpose,
+) -> Result<Placement, LineError>
     requires { FewNames names.now }
     ensures { Gives (λ p. (p.form, p.shown)) result (superpose_in names.now raw.now) }
 {

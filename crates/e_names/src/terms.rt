@@ -6,12 +6,12 @@ ghost use Rattle.e_names.specs.Scope.{FewNames, term_in, kind_of_raw, first_kind
 
 use crate::scope::number_of;
 use e_deriv::Names;
-use e_line::{Kind, RawMono, RawTerm, Trouble};
+use e_line::{FaultKind, LineError, RawMono, RawTerm};
 use e_literal::{Form, Kind as Magnitude, Mono, Sort, Term};
 use e_text::Name;
 use std::alloc::Global;
 
-fn point(names: &Names, name: Name) -> Result<u16, Trouble>
+fn point(names: &Names, name: Name) -> Result<u16, LineError>
     requires { FewNames names.now }
     ensures { Gives (λ n. n) result (Rattle.e_names.specs.Scope.number_of names.now Sort.Point name) }
 {
@@ -19,7 +19,7 @@ fn point(names: &Names, name: Name) -> Result<u16, Trouble>
 }
 
 #[tactic(auto, unfolding(crate::specs::Scope::term_in))]
-pub fn term_in(names: &Names, term: &RawTerm) -> Result<Term, Trouble>
+pub fn term_in(names: &Names, term: &RawTerm) -> Result<Term, LineError>
     requires { FewNames names.now }
     ensures { Gives (λ t. t) result (term_in names.now term.now) }
 {
@@ -78,12 +78,12 @@ fn is_kind(a: Magnitude, b: Magnitude) -> bool
 
 /// A term of this kind, and then its points.
 #[tactic(auto, unfolding(crate::specs::Scope::mono_in))]
-fn mono_in(names: &Names, kind: Magnitude, mono: &RawMono) -> Result<Mono, Trouble>
+fn mono_in(names: &Names, kind: Magnitude, mono: &RawMono) -> Result<Mono, LineError>
     requires { FewNames names.now }
     ensures { Gives (λ m. m) result (mono_in names.now kind mono.now) }
 {
     if !is_kind(kind_of(&mono.term), kind) {
-        return Err(Trouble::Fault(Kind::WrongSort));
+        return Err(LineError::Fault(FaultKind::WrongSort));
     }
     let term = term_in(names, &mono.term)?;
     Ok(Mono {
@@ -92,7 +92,7 @@ fn mono_in(names: &Names, kind: Magnitude, mono: &RawMono) -> Result<Mono, Troub
     })
 }
 
-fn sum_in(alloc: Global, names: &Names, kind: Magnitude, sum: &[RawMono]) -> Result<Form, Trouble>
+fn sum_in(alloc: Global, names: &Names, kind: Magnitude, sum: &[RawMono]) -> Result<Form, LineError>
     requires { FewNames names.now }
     ensures { Gives (λ f. f) result (each (mono_in names.now kind) sum.now) }
 {
@@ -116,7 +116,7 @@ pub(crate) fn sums_in(
     names: &Names,
     left: &[RawMono],
     right: &[RawMono],
-) -> Result<Sides, Trouble>
+) -> Result<Sides, LineError>
     requires { FewNames names.now }
     ensures { Gives (λ s. (s.left, s.right)) result (sums_in names.now left.now right.now) }
 {

@@ -1,6 +1,6 @@
 //! The theorems that are known.
 ghost use Rattle.std.specs.Prelude.{◌≡◌, ◌++◌, ◌∷◌, [], ◌<◌, ◌≤◌, ◌^◌, OnOk, OnErr, length, slice_get, Some, false};
-ghost use Rattle.e_names.specs.Headed.{headed, titles, statements, is_known, place_in, theorem_of};
+ghost use Rattle.e_names.specs.TitledStatements.{headed, titles, statements, is_known, place_in, theorem_of};
 ghost use Rattle.e_theorem.specs.Statements.{stated};
 
 use e_text::Title;
@@ -18,9 +18,9 @@ pub struct Theorems {
 
 impl Model for Theorems {
     ghost use Rattle.std.specs.Prelude.{◌≡◌, List, length};
-    ghost use Rattle.e_names.specs.Headed.{Headed, side_by_side};
+    ghost use Rattle.e_names.specs.TitledStatements.{TitledStatement, side_by_side};
 
-    ghost Value = { List Headed };
+    ghost Value = { List TitledStatement };
 
     ghost view = { λ k. side_by_side k.titles.keys k.statements.items };
 

@@ -4,17 +4,17 @@ use Rattle.std.specs.Prelude.{◌⊎◌, filter}
 use Rattle.e_text.specs.Tokens.{tokens_of}
 use Rattle.e_text.specs.Lines.{Seen}
 use Rattle.e_text.specs.declared.line.LineFault.{LineFault}
-use Rattle.e_line.specs.declared.fault.Kind.{Kind}
-use Rattle.e_book.specs.declared.draft.Draft.{Draft}
+use Rattle.e_line.specs.declared.fault.FaultKind.{FaultKind}
+use Rattle.e_book.specs.declared.draft.TheoremParser.{TheoremParser}
 use Rattle.e_line.specs.Reading.{◌>>=◌}
-use Rattle.e_names.specs.Headed.{Headed}
+use Rattle.e_names.specs.TitledStatements.{TitledStatement}
 use Rattle.e_book.specs.DraftViews.{entry_of_draft}
-use Rattle.e_book.specs.Entry.{Entry}
+use Rattle.e_book.specs.TheoremViews.{TheoremView}
 use Rattle.e_book.specs.Grammar.{is_skipped}
 use Rattle.e_book.specs.Book.{line_step, is_done, read_from}
 use Rattle.e_line.proofs.Bound.{bind_ok}
-use Rattle.e_cert.specs.declared.kept.Kept.{Kept}
-use Rattle.e_read.specs.declared.reading.Reading.{Reading}
+use Rattle.e_cert.specs.declared.kept.StepCerts.{StepCerts}
+use Rattle.e_read.specs.declared.reading.BlockParser.{BlockParser}
 use Rattle.e_read.specs.Filled.{filled}
 use Rattle.e_read.specs.Laws.{begins_with_bar, is_of_theorem}
 use Rattle.e_read.specs.Text.{Piece, Derived, Last, taken, derived, garbled_at, is_finished, finished, or_on, is_end, piece_from}
@@ -23,18 +23,18 @@ use Rattle.e_read.proofs.TakenLines.{Stepped, line_taken, form_read, not_skipped
 abbrev pub Answer : Type 0
 Answer = Piece × List (Result Seen LineFault)
 
-abbrev pub derives : Entry → List (Result Seen LineFault) → Result Answer ℕ
+abbrev pub derives : TheoremView → List (Result Seen LineFault) → Result Answer ℕ
 derives t rest = Ok (Derived t, rest)
 
-abbrev pub with_certs : Entry → List Kept → Entry
+abbrev pub with_certs : TheoremView → List StepCerts → TheoremView
 with_certs t kept = record t { script = (filled t.script kept).0 }
 
 -- the theorem as the lines without certificates are read
-pub record Plainly (known : List Headed) (last : ℕ) (draft : Option Draft) (t : Entry) (lines rest : List (Result Seen LineFault)) : Type 0 where
+pub record Plainly (known : List TitledStatement) (last : ℕ) (draft : Option TheoremParser) (t : TheoremView) (lines rest : List (Result Seen LineFault)) : Type 0 where
   pub front : List (Result Seen LineFault)
   pub all : lines ≡ front ++ rest
-  pub entry : Entry
-  pub kept : List Kept
+  pub entry : TheoremView
+  pub kept : List StepCerts
   pub read : read_from known last draft (filter is_of_theorem front ++ rest) ≡ Ok (Some (entry, rest))
   pub same : t ≡ with_certs entry kept
 
@@ -45,20 +45,20 @@ certificate_left l front h = rw h refl
 line_kept : (l : Seen) (front : List (Result Seen LineFault)) → begins_with_bar (tokens_of l.bytes) ≡ false → filter is_of_theorem (Ok l ∷ front) ≡ Ok l ∷ filter is_of_theorem front
 line_kept l front h = rw h refl
 
-pub no_last : (lines rest : List (Result Seen LineFault)) (t : Entry) → let end : Result Answer ℕ = Ok (Last, lines) in end ≡ derives t rest → ⊥
+pub no_last : (lines rest : List (Result Seen LineFault)) (t : TheoremView) → let end : Result Answer ℕ = Ok (Last, lines) in end ≡ derives t rest → ⊥
 no_last lines rest t e = subst IsLast e tt where
   IsLast : Result Answer ℕ → Type 0
   IsLast (Ok (Last, ls)) = Unit {0}
   IsLast (Ok (Derived u, ls)) = ⊥
   IsLast (Err n) = ⊥
 
-pub garbled_ok : {A : Type 0} (n : ℕ) (r : Result A Kind) (x : A) → garbled_at n r ≡ Ok x → r ≡ Ok x
+pub garbled_ok : {A : Type 0} (n : ℕ) (r : Result A FaultKind) (x : A) → garbled_at n r ≡ Ok x → r ≡ Ok x
 garbled_ok n (Ok y) x e = cc
 garbled_ok n (Err k) x e = absurd cc
 
-pub derived_is : (t u : Entry) (lines rest : List (Result Seen LineFault)) → derives t lines ≡ derives u rest → (t ≡ u) × (lines ≡ rest)
+pub derived_is : (t u : TheoremView) (lines rest : List (Result Seen LineFault)) → derives t lines ≡ derives u rest → (t ≡ u) × (lines ≡ rest)
 derived_is t u lines rest e = (ap (λ (a : Answer). entry_in t a) (inside _ _ e), ap (λ (a : Answer). a.1) (inside _ _ e)) where
-  entry_in : Entry → Answer → Entry
+  entry_in : TheoremView → Answer → TheoremView
   entry_in t (Derived u, ls) = u
   entry_in t (Last, ls) = t
 
@@ -66,46 +66,46 @@ derived_is t u lines rest e = (ap (λ (a : Answer). entry_in t a) (inside _ _ e)
   inside a b e = cc
 
 -- how it goes on behind a line that is taken
-pub goes_on : (t : Option Entry) (lines rest : List (Result Seen LineFault)) (more : Result Answer ℕ) (u : Entry) → or_on t lines more ≡ derives u rest
-    → ((x : Entry) × (t ≡ Some x) × (derives x lines ≡ derives u rest)) ⊎ ((t ≡ None) × (more ≡ derives u rest))
+pub goes_on : (t : Option TheoremView) (lines rest : List (Result Seen LineFault)) (more : Result Answer ℕ) (u : TheoremView) → or_on t lines more ≡ derives u rest
+    → ((x : TheoremView) × (t ≡ Some x) × (derives x lines ≡ derives u rest)) ⊎ ((t ≡ None) × (more ≡ derives u rest))
 goes_on None lines rest more u e = inr (refl, e)
 goes_on (Some x) lines rest more u e = inl (x, refl, e)
 
-pub unfinished : (draft : Option Draft) (kept : List Kept) (x : Entry) → is_finished draft ≡ false → finished draft kept ≡ Some x → ⊥
+pub unfinished : (draft : Option TheoremParser) (kept : List StepCerts) (x : TheoremView) → is_finished draft ≡ false → finished draft kept ≡ Some x → ⊥
 unfinished None kept x h e = absurd cc
 unfinished (Some d) kept x h e = by_test (is_done d) (derived d kept) h e
   where
-    by_test : (b : Bool) (y : Entry) → b ≡ false → cond b (Some y) None ≡ Some x → ⊥
+    by_test : (b : Bool) (y : TheoremView) → b ≡ false → cond b (Some y) None ≡ Some x → ⊥
     by_test true y h e = absurd cc
     by_test false y h e = absurd cc
 
-pub still : (draft : Option Draft) (kept : List Kept) → finished draft kept ≡ None → is_finished draft ≡ false
+pub still : (draft : Option TheoremParser) (kept : List StepCerts) → finished draft kept ≡ None → is_finished draft ≡ false
 still None kept e = refl
 still (Some d) kept e = open_still (is_done d) (derived d kept) e
   where
-    open_still : (b : Bool) (x : Entry) → let none : Option Entry = None in cond b (Some x) None ≡ none → b ≡ false
+    open_still : (b : Bool) (x : TheoremView) → let none : Option TheoremView = None in cond b (Some x) None ≡ none → b ≡ false
     open_still true x h = absurd cc
     open_still false x h = refl
 
-pub closed_is : (d : Draft) (kept : List Kept) (x : Entry) → finished (Some d) kept ≡ Some x → (is_done d ≡ true) × (derived d kept ≡ x)
+pub closed_is : (d : TheoremParser) (kept : List StepCerts) (x : TheoremView) → finished (Some d) kept ≡ Some x → (is_done d ≡ true) × (derived d kept ≡ x)
 closed_is d kept x e = by_test (is_done d) (derived d kept) e
   where
-    by_test : (b : Bool) (y : Entry) → cond b (Some y) None ≡ Some x → (b ≡ true) × (y ≡ x)
+    by_test : (b : Bool) (y : TheoremView) → cond b (Some y) None ≡ Some x → (b ≡ true) × (y ≡ x)
     by_test true y h = (refl, cc)
     by_test false y h = absurd cc
 
 -- a line of a book that is read at the front
-line_read : (known : List Headed) (last : ℕ) (draft : Option Draft) (l : Seen) (d : Draft) (after : List (Result Seen LineFault)) → is_skipped (tokens_of l.bytes) ≡ false → line_step known draft (tokens_of l.bytes) ≡ Ok d
+line_read : (known : List TitledStatement) (last : ℕ) (draft : Option TheoremParser) (l : Seen) (d : TheoremParser) (after : List (Result Seen LineFault)) → is_skipped (tokens_of l.bytes) ≡ false → line_step known draft (tokens_of l.bytes) ≡ Ok d
     → read_from known last draft (Ok l ∷ after) ≡ cond (is_done d) (Ok (Some (entry_of_draft d, after))) (read_from known last (Some d) after)
 line_read known last draft l d after s e = rw (s, e) refl
 
-pub plainly : (known : List Headed) (last : ℕ) (r : Reading) (lines rest : List (Result Seen LineFault)) (t : Entry) → is_finished r.draft ≡ false → piece_from known last r lines ≡ derives t rest → Plainly known last r.draft t lines rest
+pub plainly : (known : List TitledStatement) (last : ℕ) (r : BlockParser) (lines rest : List (Result Seen LineFault)) (t : TheoremView) → is_finished r.draft ≡ false → piece_from known last r lines ≡ derives t rest → Plainly known last r.draft t lines rest
 unfolding piece_from
 plainly known last r [] rest t unended e = absurd cc
 plainly known last r (Err f ∷ lines) rest t unended e = absurd cc
 plainly known last r (Ok l ∷ lines) rest t unended e =
-    let next : Result Reading ℕ = garbled_at l.number (taken known r l) in
-    let then : Reading → Result Answer ℕ = λ x. or_on (finished x.draft x.kept) lines (piece_from known last x lines) in
+    let next : Result BlockParser ℕ = garbled_at l.number (taken known r l) in
+    let then : BlockParser → Result Answer ℕ = λ x. or_on (finished x.draft x.kept) lines (piece_from known last x lines) in
     elim (either (is_end known r.draft l) (Ok (Last, lines)) (next >>= then) (derives t rest) e) [
       | inl p ↦ absurd (no_last lines rest t p.1)
       | inr p ↦
@@ -124,19 +124,19 @@ plainly known last r (Ok l ∷ lines) rest t unended e =
           ]
     ]
   where
-    without : (known : List Headed) (last : ℕ) (old new : Option Draft) (l : Seen) (lines rest : List (Result Seen LineFault)) (t : Entry) → new ≡ old → begins_with_bar (tokens_of l.bytes) ≡ true
+    without : (known : List TitledStatement) (last : ℕ) (old new : Option TheoremParser) (l : Seen) (lines rest : List (Result Seen LineFault)) (t : TheoremView) → new ≡ old → begins_with_bar (tokens_of l.bytes) ≡ true
         → Plainly known last new t lines rest → Plainly known last old t (Ok l ∷ lines) rest
     without known last old new l lines rest t same bar p = record {
       front = Ok l ∷ p.front;
       all = ap (λ (ls : List (Result Seen LineFault)). Ok l ∷ ls) p.all;
       entry = p.entry;
       kept = p.kept;
-      read = ap (λ (ls : List (Result Seen LineFault)). read_from known last old (ls ++ rest)) (certificate_left l p.front bar) ∙ ap (λ (o : Option Draft). read_from known last o (filter is_of_theorem p.front ++ rest)) (sym same) ∙ p.read;
+      read = ap (λ (ls : List (Result Seen LineFault)). read_from known last old (ls ++ rest)) (certificate_left l p.front bar) ∙ ap (λ (o : Option TheoremParser). read_from known last o (filter is_of_theorem p.front ++ rest)) (sym same) ∙ p.read;
       same = p.same;
     }
 
-    step_plainly : (known : List Headed) (last : ℕ) (r next : Reading) (l : Seen) (lines rest : List (Result Seen LineFault)) (t : Entry) → begins_with_bar (tokens_of l.bytes) ≡ false → Stepped known r next l.bytes
-        → ((x : Entry) × (finished next.draft next.kept ≡ Some x) × (derives x lines ≡ derives t rest)) ⊎ ((finished next.draft next.kept ≡ None) × (piece_from known last next lines ≡ derives t rest))
+    step_plainly : (known : List TitledStatement) (last : ℕ) (r next : BlockParser) (l : Seen) (lines rest : List (Result Seen LineFault)) (t : TheoremView) → begins_with_bar (tokens_of l.bytes) ≡ false → Stepped known r next l.bytes
+        → ((x : TheoremView) × (finished next.draft next.kept ≡ Some x) × (derives x lines ≡ derives t rest)) ⊎ ((finished next.draft next.kept ≡ None) × (piece_from known last next lines ≡ derives t rest))
         → (is_finished next.draft ≡ false → piece_from known last next lines ≡ derives t rest → Plainly known last next.draft t lines rest)
         → Plainly known last r.draft t (Ok l ∷ lines) rest
     step_plainly known last r next l lines rest t bar s goes more =
@@ -144,10 +144,10 @@ plainly known last r (Ok l ∷ lines) rest t unended e =
         let form = form_read l.bytes s.form s.spelled in
         let said = not_skipped (tokens_of l.bytes) s.form form.0 in
         let step = book_line known r.draft s.form d s.owed (tokens_of l.bytes) form.0 s.gone in
-        let draft_is : next.draft ≡ Some d = ap (λ (x : Reading). x.draft) s.next_is in
+        let draft_is : next.draft ≡ Some d = ap (λ (x : BlockParser). x.draft) s.next_is in
         elim goes [
           | inl q ↦
-              let c = closed_is d next.kept q.0 (sym (ap (λ (o : Option Draft). finished o next.kept) draft_is) ∙ q.1) in
+              let c = closed_is d next.kept q.0 (sym (ap (λ (o : Option TheoremParser). finished o next.kept) draft_is) ∙ q.1) in
               let both = derived_is q.0 t lines rest q.2 in
               record {
                 front = Ok l ∷ [];
@@ -167,7 +167,7 @@ plainly known last r (Ok l ∷ lines) rest t unended e =
                 entry = p.entry;
                 kept = p.kept;
                 read = ap (λ (ls : List (Result Seen LineFault)). read_from known last r.draft (ls ++ rest)) (line_kept l p.front bar) ∙ line_read known last r.draft l d (filter is_of_theorem p.front ++ rest) said step
-                    ∙ rw not_done (sym (ap (λ (o : Option Draft). read_from known last o (filter is_of_theorem p.front ++ rest)) draft_is) ∙ p.read);
+                    ∙ rw not_done (sym (ap (λ (o : Option TheoremParser). read_from known last o (filter is_of_theorem p.front ++ rest)) draft_is) ∙ p.read);
                 same = p.same;
               }
         ]

@@ -5,10 +5,10 @@ use Rattle.std.proofs.lemmas.Bool.{and_parts}
 use Rattle.e_text.specs.Names.{is_name}
 use Rattle.e_deriv.specs.Script.{Script, Cite, Hence, Make, Apply, Claim, Superposed, Qed, Contradiction, Cases, erased}
 use Rattle.e_book.specs.HasSpelling.{is_plain}
-use Rattle.e_cert.specs.declared.kept.Kept.{Kept}
+use Rattle.e_cert.specs.declared.kept.StepCerts.{StepCerts}
 use Rattle.e_read.specs.Filled.{behind_next, filled}
 
-pub erased_filled : (s : Script) (ks : List Kept) → erased (filled s ks).0 ≡ erased s
+pub erased_filled : (s : Script) (ks : List StepCerts) → erased (filled s ks).0 ≡ erased s
 unfolding erased filled
 erased_filled (Cite by rest) ks = ap (λ (x : Script). Cite by x) (erased_filled rest ks)
 erased_filled (Hence lit cert rest) ks = ap (λ (x : Script). Hence lit None x) (erased_filled rest (behind_next ks))

@@ -7,8 +7,8 @@ use Rattle.e_clause.specs.declared.cert.Cert.{Cert}
 use Rattle.e_deriv.specs.Script.{Script, Cite, Hence, Make, Apply, Claim, Superposed, Qed, Contradiction, Cases}
 use Rattle.e_deriv.specs.Versions.{has_certs_of}
 use Rattle.e_cert.proofs.GoodKept.{is_good_kept, AreGood}
-use Rattle.e_cert.specs.declared.kept.Kept.{Kept}
-use Rattle.e_cert.specs.declared.kept.Kept.TheVariants as kept
+use Rattle.e_cert.specs.declared.kept.StepCerts.{StepCerts}
+use Rattle.e_cert.specs.declared.kept.StepCerts.TheVariants as kept
 use Rattle.e_cert.specs.Owed.{first_cert}
 use Rattle.e_read.specs.Filled.{next_certs, next_against, behind_next, filled}
 use Rattle.e_clause.specs.declared.cert.Version.{Version}
@@ -19,22 +19,22 @@ module _ (v : Version) where
   first_good [] h = refl
   first_good (c ∷ cs) h = (and_parts (is_cert_of v c) (list_all (is_cert_of v) cs) h).0
 
-  certs_good : (ks : List Kept) → AreGood v ks → list_all (is_cert_of v) (next_certs ks) ≡ true
+  certs_good : (ks : List StepCerts) → AreGood v ks → list_all (is_cert_of v) (next_certs ks) ≡ true
   certs_good [] h = refl
   certs_good (kept.Certs cs ∷ ks) h = (and_parts (list_all (is_cert_of v) cs) (list_all (is_good_kept v) ks) h).0
   certs_good (kept.Against a ∷ ks) h = refl
 
-  against_good : (ks : List Kept) → AreGood v ks → option_map_or (is_against_of v) (next_against ks) true ≡ true
+  against_good : (ks : List StepCerts) → AreGood v ks → option_map_or (is_against_of v) (next_against ks) true ≡ true
   against_good [] h = refl
   against_good (kept.Certs cs ∷ ks) h = refl
   against_good (kept.Against a ∷ ks) h = (and_parts (is_against_of v a) (list_all (is_good_kept v) ks) h).0
 
-  behind_good : (ks : List Kept) → AreGood v ks → AreGood v (behind_next ks)
+  behind_good : (ks : List StepCerts) → AreGood v ks → AreGood v (behind_next ks)
   behind_good [] h = refl
   behind_good (k ∷ ks) h = (and_parts (is_good_kept v k) (list_all (is_good_kept v) ks) h).1
 
   -- with good certificates the script has good ones, and good ones are left
-  pub filled_good : (d : Script) (ks : List Kept) → AreGood v ks → (has_certs_of v (filled d ks).0 ≡ true) × AreGood v (filled d ks).1
+  pub filled_good : (d : Script) (ks : List StepCerts) → AreGood v ks → (has_certs_of v (filled d ks).0 ≡ true) × AreGood v (filled d ks).1
   unfolding has_certs_of filled
   filled_good (Cite by rest) ks h = filled_good rest ks h
   filled_good (Hence lit cert rest) ks h =

@@ -9,11 +9,11 @@ use Rattle.e_clause.specs.declared.cert.Version.{Version}
 use Rattle.e_deriv.specs.Lines.{theorem_at}
 use Rattle.e_deriv.specs.Fitting.{is_small_statement}
 use Rattle.e_deriv.proofs.Smallness.{few_objects}
-use Rattle.e_book.specs.declared.draft.Draft.{Draft}
+use Rattle.e_book.specs.declared.draft.TheoremParser.{TheoremParser}
 use Rattle.e_read.specs.Text.{at_start, FitsDraft, FitsReading}
 
 -- the objects that are declared and made have numbers
-pub made_fits : (d : Draft) → FitsDraft d → let s = grown nothing d.declared in
+pub made_fits : (d : TheoremParser) → FitsDraft d → let s = grown nothing d.declared in
     (s.points + length d.made < 2 ^ 16) × (s.lines + length d.made < 2 ^ 16) × (s.circles + length d.made < 2 ^ 16)
 made_fits d f =
     let t = total_grown nothing d.declared in

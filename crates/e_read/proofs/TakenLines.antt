@@ -6,86 +6,86 @@ use Rattle.std.specs.Option.{option_to_list}
 use Rattle.std.proofs.lemmas.Bool.{eqb-true}
 use Rattle.e_text.specs.Tokens.{tokens_of}
 use Rattle.e_text.specs.Lines.{Seen}
-use Rattle.e_line.specs.declared.fault.Kind.{Kind}
-use Rattle.e_line.specs.declared.fault.Kind.TheVariants.{Malformed}
-use Rattle.e_line.specs.declared.form.Form.{Form}
-use Rattle.e_book.specs.declared.draft.Draft.{Draft}
+use Rattle.e_line.specs.declared.fault.FaultKind.{FaultKind}
+use Rattle.e_line.specs.declared.fault.FaultKind.TheVariants.{Malformed}
+use Rattle.e_line.specs.declared.raw_line.RawLine.{RawLine}
+use Rattle.e_book.specs.declared.draft.TheoremParser.{TheoremParser}
 use Rattle.e_line.specs.Reading.{◌>>=◌}
-use Rattle.e_line.specs.Forms.{form_of, form_named}
-use Rattle.e_names.specs.Headed.{Headed}
+use Rattle.e_line.specs.RawLines.{raw_line_of, raw_line_named}
+use Rattle.e_names.specs.TitledStatements.{TitledStatement}
 use Rattle.e_book.specs.Steps.{begin, step}
 use Rattle.e_book.specs.Grammar.{starts_with_hash, is_skipped}
 use Rattle.e_book.specs.Book.{line_step}
 use Rattle.e_line.specs.Canonical.{line_of}
 use Rattle.e_line.proofs.Bound.{bind_ok, ok_is}
 use Rattle.e_line.proofs.Choices.{passed}
-use Rattle.e_cert.specs.declared.mark.Mark.{Mark}
-use Rattle.e_cert.specs.declared.owed.Owed.{Owed}
-use Rattle.e_cert.specs.declared.kept.Kept.{Kept}
-use Rattle.e_read.specs.declared.reading.Reading.{Reading}
-use Rattle.e_cert.specs.Marks.{mark_is_of}
-use Rattle.e_line.specs.Strict.{is_strict, strict_of, strict_form}
-use Rattle.e_cert.specs.Strict.{strict_mark}
+use Rattle.e_cert.specs.declared.cert_line.CertLine.{CertLine}
+use Rattle.e_cert.specs.declared.owed.Pending.{Pending}
+use Rattle.e_cert.specs.declared.kept.StepCerts.{StepCerts}
+use Rattle.e_read.specs.declared.reading.BlockParser.{BlockParser}
+use Rattle.e_cert.specs.CertLines.{cert_line_is_of}
+use Rattle.e_line.specs.Strict.{is_strict, exact_line_of, exact_line}
+use Rattle.e_cert.specs.Strict.{exact_cert_line}
 use Rattle.e_read.specs.Strict.{is_apart}
-use Rattle.e_cert.specs.Owed.{marked, settled}
+use Rattle.e_cert.specs.Owed.{after_cert_line, finish_certs}
 use Rattle.e_read.specs.Laws.{begins_with_bar}
-use Rattle.e_read.specs.Text.{owes_nothing, with_mark, certified, owed_by, gone_on, all_settled, with_form, stepped, is_bar, worded, is_lf_end, spelled, taken}
+use Rattle.e_read.specs.Text.{owes_nothing, with_cert_line, certified, owed_by, gone_on, finish_line, with_form, stepped, is_bar, worded, is_lf_end, spelled, taken}
 
 pub either : {A : Type 0} (b : Bool) (x y z : A) → cond b x y ≡ z → ((b ≡ true) × (x ≡ z)) ⊎ ((b ≡ false) × (y ≡ z))
 either true x y z e = inl (refl, e)
 either false x y z e = inr (refl, e)
 
 -- no line of a book begins with #
-hashed : (b : ℕ) (bs : List ℕ) (ws : List (List ℕ)) → b ≡ 35 → form_named (b ∷ bs) ws ≡ Err Malformed
-unfolding form_named
-hashed b bs ws e = subst (λ (x : ℕ). form_named (x ∷ bs) ws ≡ Err Malformed) (sym e) refl
+hashed : (b : ℕ) (bs : List ℕ) (ws : List (List ℕ)) → b ≡ 35 → raw_line_named (b ∷ bs) ws ≡ Err Malformed
+unfolding raw_line_named
+hashed b bs ws e = subst (λ (x : ℕ). raw_line_named (x ∷ bs) ws ≡ Err Malformed) (sym e) refl
 
 -- a line of a certificate
-pub record Certified (r next : Reading) (line : List ℕ) (words : List (List ℕ)) : Type 0 where
-  pub mark : Mark
-  pub spelled : strict_mark line words ≡ Ok mark
-  pub of : mark_is_of r.version mark ≡ true
-  pub owed : marked r.owed mark ≡ Ok next.owed
+pub record Certified (r next : BlockParser) (line : List ℕ) (words : List (List ℕ)) : Type 0 where
+  pub cert_line : CertLine
+  pub spelled : exact_cert_line line words ≡ Ok cert_line
+  pub of : cert_line_is_of r.version cert_line ≡ true
+  pub owed : after_cert_line r.owed cert_line ≡ Ok next.owed
   pub draft : next.draft ≡ r.draft
   pub kept : next.kept ≡ r.kept
   pub version : next.version ≡ r.version
 
 -- any other line
-pub record Stepped (known : List Headed) (r next : Reading) (line : List ℕ) : Type 0 where
-  pub form : Form
-  pub spelled : strict_form line ≡ Ok form
-  pub read : Option Kept
-  pub settled_is : settled r.owed ≡ Ok read
-  pub draft : Draft
-  pub owed : Owed
+pub record Stepped (known : List TitledStatement) (r next : BlockParser) (line : List ℕ) : Type 0 where
+  pub form : RawLine
+  pub spelled : exact_line line ≡ Ok form
+  pub read : Option StepCerts
+  pub settled_is : finish_certs r.owed ≡ Ok read
+  pub draft : TheoremParser
+  pub owed : Pending
   pub gone : gone_on known r.draft form ≡ Ok (draft, owed)
   pub next_is : next ≡ record { version = r.version; draft = Some draft; owed = owed; kept = r.kept ++ option_to_list read }
 
-certified_line : (r next : Reading) (line : List ℕ) (words : List (List ℕ)) → certified r line words ≡ Ok next → Certified r next line words
-unfolding with_mark certified
+certified_line : (r next : BlockParser) (line : List ℕ) (words : List (List ℕ)) → certified r line words ≡ Ok next → Certified r next line words
+unfolding with_cert_line certified
 certified_line r next line words e =
-    let m = bind_ok (strict_mark line words) (λ m. cond (mark_is_of r.version m) (marked r.owed m >>= λ o. Ok (record r { owed = o })) (Err Malformed)) next e in
-    let p = passed (mark_is_of r.version m.0) (marked r.owed m.0 >>= λ o. Ok (record r { owed = o })) next m.2 in
-    let o = bind_ok (marked r.owed m.0) (λ o. Ok (record r { owed = o })) next p.1 in
+    let m = bind_ok (exact_cert_line line words) (λ m. cond (cert_line_is_of r.version m) (after_cert_line r.owed m >>= λ o. Ok (record r { owed = o })) (Err Malformed)) next e in
+    let p = passed (cert_line_is_of r.version m.0) (after_cert_line r.owed m.0 >>= λ o. Ok (record r { owed = o })) next m.2 in
+    let o = bind_ok (after_cert_line r.owed m.0) (λ o. Ok (record r { owed = o })) next p.1 in
     let is : record r { owed = o.0 } ≡ next = ok_is (record r { owed = o.0 }) next o.2 in
     record {
-      mark = m.0;
+      cert_line = m.0;
       spelled = m.1;
       of = p.0;
-      owed = o.1 ∙ ap (λ (x : Reading). Ok x.owed) is;
-      draft = sym (ap (λ (x : Reading). x.draft) is);
-      kept = sym (ap (λ (x : Reading). x.kept) is);
-      version = sym (ap (λ (x : Reading). x.version) is);
+      owed = o.1 ∙ ap (λ (x : BlockParser). Ok x.owed) is;
+      draft = sym (ap (λ (x : BlockParser). x.draft) is);
+      kept = sym (ap (λ (x : BlockParser). x.kept) is);
+      version = sym (ap (λ (x : BlockParser). x.version) is);
     }
 
-stepped_line : (known : List Headed) (r next : Reading) (line : List ℕ) → stepped known r line ≡ Ok next → Stepped known r next line
+stepped_line : (known : List TitledStatement) (r next : BlockParser) (line : List ℕ) → stepped known r line ≡ Ok next → Stepped known r next line
 unfolding with_form stepped
 stepped_line known r next line e =
-    let with_kept : Option Kept → Reading = λ k. record { version = r.version; draft = r.draft; owed = owes_nothing; kept = r.kept ++ option_to_list k } in
-    let end : Reading → Draft × Owed → Reading = λ s x. record { version = s.version; draft = Some x.0; owed = x.1; kept = s.kept } in
-    let f = bind_ok (strict_form line) (λ f. all_settled r >>= λ s. gone_on known s.draft f >>= λ x. Ok (end s x)) next e in
-    let s = bind_ok (all_settled r) (λ s. gone_on known s.draft f.0 >>= λ x. Ok (end s x)) next f.2 in
-    let k = bind_ok (settled r.owed) (λ k. Ok (with_kept k)) s.0 s.1 in
+    let with_kept : Option StepCerts → BlockParser = λ k. record { version = r.version; draft = r.draft; owed = owes_nothing; kept = r.kept ++ option_to_list k } in
+    let end : BlockParser → TheoremParser × Pending → BlockParser = λ s x. record { version = s.version; draft = Some x.0; owed = x.1; kept = s.kept } in
+    let f = bind_ok (exact_line line) (λ f. finish_line r >>= λ s. gone_on known s.draft f >>= λ x. Ok (end s x)) next e in
+    let s = bind_ok (finish_line r) (λ s. gone_on known s.draft f.0 >>= λ x. Ok (end s x)) next f.2 in
+    let k = bind_ok (finish_certs r.owed) (λ k. Ok (with_kept k)) s.0 s.1 in
     let kept_is : with_kept k.0 ≡ s.0 = ok_is (with_kept k.0) s.0 k.2 in
     let x = bind_ok (gone_on known s.0.draft f.0) (λ x. Ok (end s.0 x)) next s.2 in
     record {
@@ -95,12 +95,12 @@ stepped_line known r next line e =
       settled_is = k.1;
       draft = x.0.0;
       owed = x.0.1;
-      gone = ap (λ (q : Reading). gone_on known q.draft f.0) kept_is ∙ x.1;
-      next_is = sym (ap (λ (q : Reading). end q x.0) kept_is ∙ ok_is (end s.0 x.0) next x.2);
+      gone = ap (λ (q : BlockParser). gone_on known q.draft f.0) kept_is ∙ x.1;
+      next_is = sym (ap (λ (q : BlockParser). end q x.0) kept_is ∙ ok_is (end s.0 x.0) next x.2);
     }
 
 -- what a line is that is taken
-pub line_taken : (known : List Headed) (r next : Reading) (l : Seen) → taken known r l ≡ Ok next
+pub line_taken : (known : List TitledStatement) (r next : BlockParser) (l : Seen) → taken known r l ≡ Ok next
     → ((ws : List (List ℕ)) × (begins_with_bar (tokens_of l.bytes) ≡ true) × Certified r next l.bytes ws) ⊎ ((begins_with_bar (tokens_of l.bytes) ≡ false) × Stepped known r next l.bytes)
 unfolding taken spelled worded
 line_taken known r next l e = by_words (tokens_of l.bytes) refl (passed (is_lf_end l.end) (worded known r l.bytes (tokens_of l.bytes)) next e).1
@@ -115,17 +115,17 @@ line_taken known r next l e = by_words (tokens_of l.bytes) refl (passed (is_lf_e
         ]
 
 -- the form of a line in the one spelling is that of its words
-pub form_read : (line : List ℕ) (f : Form) → strict_form line ≡ Ok f → (form_of (tokens_of line) ≡ Ok f) × ((is_strict f && bytes_eq line (line_of f)) ≡ true)
-unfolding strict_of
+pub form_read : (line : List ℕ) (f : RawLine) → exact_line line ≡ Ok f → (raw_line_of (tokens_of line) ≡ Ok f) × ((is_strict f && bytes_eq line (line_of f)) ≡ true)
+unfolding exact_line_of
 form_read line f e =
-    let g = bind_ok (form_of (tokens_of line)) (λ f. cond (is_strict f && bytes_eq line (line_of f)) (Ok f) (Err Malformed)) f e in
+    let g = bind_ok (raw_line_of (tokens_of line)) (λ f. cond (is_strict f && bytes_eq line (line_of f)) (Ok f) (Err Malformed)) f e in
     let p = passed (is_strict g.0 && bytes_eq line (line_of g.0)) (Ok g.0) f g.2 in
     let same : g.0 ≡ f = ok_is g.0 f p.1 in
-    subst (λ (x : Form). (form_of (tokens_of line) ≡ Ok x) × ((is_strict x && bytes_eq line (line_of x)) ≡ true)) same (g.1, p.0)
+    subst (λ (x : RawLine). (raw_line_of (tokens_of line) ≡ Ok x) × ((is_strict x && bytes_eq line (line_of x)) ≡ true)) same (g.1, p.0)
 
 -- words that have a form say something
-pub not_skipped : (words : List (List ℕ)) (f : Form) → form_of words ≡ Ok f → is_skipped words ≡ false
-unfolding form_of
+pub not_skipped : (words : List (List ℕ)) (f : RawLine) → raw_line_of words ≡ Ok f → is_skipped words ≡ false
+unfolding raw_line_of
 not_skipped [] f e = absurd cc
 not_skipped ([] ∷ ws) f e = refl
 not_skipped ((b ∷ bs) ∷ ws) f e =
@@ -138,19 +138,19 @@ not_skipped ((b ∷ bs) ∷ ws) f e =
     same_bool true = refl
     same_bool false = refl
 
-    no_form : let none : Result Form Kind = Err Malformed in none ≡ Ok f → ⊥
+    no_form : let none : Result RawLine FaultKind = Err Malformed in none ≡ Ok f → ⊥
     no_form h = absurd cc
 
 -- a line that goes on is one of a book
-pub book_line : (known : List Headed) (draft : Option Draft) (f : Form) (d : Draft) (o : Owed) (words : List (List ℕ)) → form_of words ≡ Ok f → gone_on known draft f ≡ Ok (d, o) → line_step known draft words ≡ Ok d
+pub book_line : (known : List TitledStatement) (draft : Option TheoremParser) (f : RawLine) (d : TheoremParser) (o : Pending) (words : List (List ℕ)) → raw_line_of words ≡ Ok f → gone_on known draft f ≡ Ok (d, o) → line_step known draft words ≡ Ok d
 unfolding line_step
 book_line known None f d o words h e =
     let x = bind_ok (begin known f) (λ x. Ok (x, owes_nothing)) (d, o) e in
-    let same : x.0 ≡ d = ap (λ (p : Draft × Owed). p.0) (ok_is (x.0, owes_nothing) (d, o) x.2) in
-    rw h (x.1 ∙ ap (λ (y : Draft). Ok y) same)
+    let same : x.0 ≡ d = ap (λ (p : TheoremParser × Pending). p.0) (ok_is (x.0, owes_nothing) (d, o) x.2) in
+    rw h (x.1 ∙ ap (λ (y : TheoremParser). Ok y) same)
 book_line known (Some a) f d o words h e =
     let p = passed (is_apart a f) (owed_by known a f >>= λ new. step known a f >>= λ x. Ok (x, new)) (d, o) e in
     let n = bind_ok (owed_by known a f) (λ new. step known a f >>= λ x. Ok (x, new)) (d, o) p.1 in
     let x = bind_ok (step known a f) (λ x. Ok (x, n.0)) (d, o) n.2 in
-    let same : x.0 ≡ d = ap (λ (q : Draft × Owed). q.0) (ok_is (x.0, n.0) (d, o) x.2) in
-    rw h (x.1 ∙ ap (λ (y : Draft). Ok y) same)
+    let same : x.0 ≡ d = ap (λ (q : TheoremParser × Pending). q.0) (ok_is (x.0, n.0) (d, o) x.2) in
+    rw h (x.1 ∙ ap (λ (y : TheoremParser). Ok y) same)

@@ -6,38 +6,38 @@ use Rattle.e_deriv.specs.declared.block.Step.{Step}
 use Rattle.e_deriv.specs.declared.block.Close.{Close}
 use Rattle.e_deriv.specs.Script.{step_script, close_script, Script, Cite, Hence, Make, Apply, Claim, Superposed, Qed, Contradiction, Cases}
 use Rattle.e_cert.specs.Owed.{first_cert}
-use Rattle.e_cert.specs.declared.kept.Kept.{Kept}
-use Rattle.e_cert.specs.declared.kept.Kept.TheVariants.{Certs, Against as OfContradiction}
+use Rattle.e_cert.specs.declared.kept.StepCerts.{StepCerts}
+use Rattle.e_cert.specs.declared.kept.StepCerts.TheVariants.{Certs, Against as OfContradiction}
 
-abbrev pub certs_of : Kept → List Cert
+abbrev pub certs_of : StepCerts → List Cert
 certs_of (Certs cs) = cs
 certs_of (OfContradiction a) = []
 
-abbrev pub against_of : Kept → Option Against
+abbrev pub against_of : StepCerts → Option Against
 against_of (Certs cs) = None
 against_of (OfContradiction a) = Some a
 
 -- the certificates of the next line that has some
-abbrev pub next_certs : List Kept → List Cert
+abbrev pub next_certs : List StepCerts → List Cert
 next_certs [] = []
 next_certs (k ∷ ks) = certs_of k
 
-abbrev pub next_against : List Kept → Option Against
+abbrev pub next_against : List StepCerts → Option Against
 next_against [] = None
 next_against (k ∷ ks) = against_of k
 
-abbrev pub behind_next : List Kept → List Kept
+abbrev pub behind_next : List StepCerts → List StepCerts
 behind_next [] = []
 behind_next (k ∷ ks) = ks
 
 -- the next is taken out
-abbrev pub NextIs : List Kept → Option Kept → List Kept → Type 0
+abbrev pub NextIs : List StepCerts → Option StepCerts → List StepCerts → Type 0
 NextIs old None new = (old ≡ []) × (new ≡ [])
 NextIs old (Some k) new = old ≡ k ∷ new
 
 -- The script with these certificates, in the order of its lines: at each line that can have some, those that come next. And the
 -- certificates that are left.
-unfoldable pub filled : Script → List Kept → Script × List Kept
+unfoldable pub filled : Script → List StepCerts → Script × List StepCerts
 filled (Cite by rest) ks = let r = filled rest ks in (Cite by r.0, r.1)
 filled (Hence lit cert rest) ks = let r = filled rest (behind_next ks) in (Hence lit (first_cert (next_certs ks)) r.0, r.1)
 filled (Make form names certs rest) ks = let r = filled rest (behind_next ks) in (Make form names (next_certs ks) r.0, r.1)
@@ -56,11 +56,11 @@ filled (Cases lit first second) ks =
 
 -- ---- what the code that fills says: of a block, of a step before whatever comes after it, and of a close
 
-abbrev pub Fills : Script → List Kept → Script → List Kept → Type 0
+abbrev pub Fills : Script → List StepCerts → Script → List StepCerts → Type 0
 Fills old ks new left = filled old ks ≡ (new, left)
 
-abbrev pub FillsStep : Step → List Kept → Step → List Kept → Type 0
+abbrev pub FillsStep : Step → List StepCerts → Step → List StepCerts → Type 0
 FillsStep old ks new left = (rest : Script) → filled (step_script old rest) ks ≡ (step_script new (filled rest left).0, (filled rest left).1)
 
-abbrev pub FillsClose : Close → List Kept → Close → List Kept → Type 0
+abbrev pub FillsClose : Close → List StepCerts → Close → List StepCerts → Type 0
 FillsClose old ks new left = filled (close_script old) ks ≡ (close_script new, left)

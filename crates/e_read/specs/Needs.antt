@@ -8,33 +8,33 @@ use Rattle.e_construct.specs.Construct.{needs_of_construction}
 use Rattle.e_construct.specs.Superposing as superposing
 use Rattle.e_theorem.specs.Statements.{stated}
 use Rattle.e_deriv.specs.Goal.{Goal, goal_of, goal_of_statement, goal_with}
-use Rattle.e_line.specs.declared.fault.Kind.{Kind}
-use Rattle.e_book.specs.declared.blocks.Outer.{Outer}
-use Rattle.e_book.specs.declared.blocks.Opened.{Opened}
-use Rattle.e_book.specs.declared.blocks.Opened.TheVariants as opened
+use Rattle.e_line.specs.declared.fault.FaultKind.{FaultKind}
+use Rattle.e_book.specs.declared.blocks.OpenBlock.{OpenBlock}
+use Rattle.e_book.specs.declared.blocks.BlockKind.{BlockKind}
+use Rattle.e_book.specs.declared.blocks.BlockKind.TheVariants as opened
 use Rattle.e_line.specs.declared.applies.RawApply.{RawApply}
-use Rattle.e_line.specs.declared.form.Form.{Form}
-use Rattle.e_line.specs.declared.form.Form.TheVariants as forms
-use Rattle.e_book.specs.declared.draft.Draft.{Draft}
+use Rattle.e_line.specs.declared.raw_line.RawLine.{RawLine}
+use Rattle.e_line.specs.declared.raw_line.RawLine.TheVariants as rawlines
+use Rattle.e_book.specs.declared.draft.TheoremParser.{TheoremParser}
 use Rattle.e_line.specs.Reading.{◌>>=◌, each, or_malformed}
-use Rattle.e_names.specs.Headed.{Headed, theorem_of}
+use Rattle.e_names.specs.TitledStatements.{TitledStatement, theorem_of}
 use Rattle.e_book.specs.DraftViews.{statement_of_draft}
 use Rattle.e_book.specs.Blocks.{made_in}
 use Rattle.e_names.specs.Scope.{scope_of_names, lit_in, let_in, qed_in}
 use Rattle.e_names.specs.Superposes.{superpose_in}
 use Rattle.e_names.specs.Applies.{apply_in}
-use Rattle.e_cert.specs.declared.owed.Due.{Due}
-use Rattle.e_cert.specs.declared.owed.Due.TheVariants as due
+use Rattle.e_cert.specs.declared.owed.Obligation.{Obligation}
+use Rattle.e_cert.specs.declared.owed.Obligation.TheVariants as due
 
 -- what a block shows that a claim or a superposition began; a block of a split has the goal of the block that it closes
-abbrev pub shown_inside : Opened → Option (List Lit) → Option (List Lit)
+abbrev pub shown_inside : BlockKind → Option (List Lit) → Option (List Lit)
 shown_inside (opened.Claim shown) around = Some shown
 shown_inside (opened.Superpose form names shown) around = Some shown
 shown_inside (opened.First lit) around = around
 shown_inside (opened.Second lit first) around = around
 
 -- what the innermost claim or superposition of these blocks shows, if there is one
-abbrev pub claimed : List Outer → Option (List Lit)
+abbrev pub claimed : List OpenBlock → Option (List Lit)
 claimed [] = None
 claimed (o ∷ os) = shown_inside o.opened (claimed os)
 
@@ -43,31 +43,31 @@ goal_or None goal = goal
 goal_or (Some shown) goal = goal_of shown
 
 -- the goal of the block that is open: that of the claim or superposition that it is in, and else that of the whole proof
-abbrev pub open_goal : Draft → Goal
+abbrev pub open_goal : TheoremParser → Goal
 open_goal d = goal_or (claimed d.outers) (goal_of_statement (stated (statement_of_draft d)))
 
 -- one certificate for each of these literals
-abbrev pub one_each : List Lit → Due
+abbrev pub one_each : List Lit → Obligation
 one_each wanted = due.Literals wanted [] None
 
 -- the given literals of an earlier theorem at its arguments, none of which is a blank
-abbrev pub needs_in : Scope → Stated → List (Option Obj) → Result (List Lit) Kind
+abbrev pub needs_in : Scope → Stated → List (Option Obj) → Result (List Lit) FaultKind
 needs_in s t pattern = each or_malformed pattern >>= λ args. or_malformed (use_of t args s) >>= λ u. Ok u.needs
 
-unfoldable pub needs_of_use : List Headed → Draft → RawApply → Result (List Lit) Kind
+unfoldable pub needs_of_use : List TitledStatement → TheoremParser → RawApply → Result (List Lit) FaultKind
 needs_of_use known d raw = apply_in known d.in_scope raw >>= λ a. needs_in (scope_of_names d.in_scope) (theorem_of known a.0) a.1
 
 -- the literals of the goal, with the objects that are named for its made ones
-unfoldable pub needs_at_qed : Draft → List (List ℕ) → Result (List Lit) Kind
+unfoldable pub needs_at_qed : TheoremParser → List (List ℕ) → Result (List Lit) FaultKind
 needs_at_qed d ns = qed_in d.in_scope (made_in d.outers d.made) ns >>= λ objects. Ok (goal_with (open_goal d) objects)
 
 -- what a line owes: one certificate for the literal of hence, for each literal that a construction, an application or a
 -- superposition needs, for each literal of the goal at qed, and one of a contradiction; no other line owes any
-unfoldable pub due_of : List Headed → Draft → Form → Result Due Kind
-due_of known d (forms.Hence raw) = lit_in d.in_scope raw >>= λ l. Ok (one_each (l ∷ []))
-due_of known d (forms.Let raw) = let_in d.in_scope raw >>= λ form. Ok (one_each (needs_of_construction form))
-due_of known d (forms.Apply raw) = needs_of_use known d raw >>= λ ls. Ok (one_each ls)
-due_of known d (forms.Superpose raw) = superpose_in d.in_scope raw >>= λ p. Ok (one_each (superposing.needs_of_superposition p.0))
-due_of known d (forms.Qed ns) = needs_at_qed d ns >>= λ ls. Ok (one_each ls)
-due_of known d forms.Contradiction = Ok (due.Contradiction None)
+unfoldable pub due_of : List TitledStatement → TheoremParser → RawLine → Result Obligation FaultKind
+due_of known d (rawlines.Hence raw) = lit_in d.in_scope raw >>= λ l. Ok (one_each (l ∷ []))
+due_of known d (rawlines.Let raw) = let_in d.in_scope raw >>= λ form. Ok (one_each (needs_of_construction form))
+due_of known d (rawlines.Apply raw) = needs_of_use known d raw >>= λ ls. Ok (one_each ls)
+due_of known d (rawlines.Superpose raw) = superpose_in d.in_scope raw >>= λ p. Ok (one_each (superposing.needs_of_superposition p.0))
+due_of known d (rawlines.Qed ns) = needs_at_qed d ns >>= λ ls. Ok (one_each ls)
+due_of known d rawlines.Contradiction = Ok (due.Contradiction None)
 due_of known d form = Ok due.Nothing

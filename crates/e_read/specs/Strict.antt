@@ -2,9 +2,9 @@
 use Rattle.std.specs.Prelude.{Bool, true, false, not, List, [], ◌∷◌}
 use Rattle.e_literal.specs.declared.object.Sort.{Sort}
 use Rattle.e_literal.specs.Scopes.{same_sort}
-use Rattle.e_line.specs.declared.form.Form.{Form}
-use Rattle.e_line.specs.declared.form.Form.TheVariants as forms
-use Rattle.e_book.specs.declared.draft.Draft.{Draft}
+use Rattle.e_line.specs.declared.raw_line.RawLine.{RawLine}
+use Rattle.e_line.specs.declared.raw_line.RawLine.TheVariants as rawlines
+use Rattle.e_book.specs.declared.draft.TheoremParser.{TheoremParser}
 
 -- the last of these objects has this sort
 abbrev pub ends_with : List Sort → Sort → Bool
@@ -13,7 +13,7 @@ ends_with (s ∷ []) sort = same_sort s sort
 ends_with (s ∷ t ∷ ss) sort = ends_with (t ∷ ss) sort
 
 -- neighbouring lines of objects of one sort are one line
-abbrev pub is_apart : Draft → Form → Bool
-is_apart d (forms.Declare sort ns) = not (ends_with d.declared sort)
-is_apart d (forms.Made sort ns) = not (ends_with d.made sort)
+abbrev pub is_apart : TheoremParser → RawLine → Bool
+is_apart d (rawlines.Declare sort ns) = not (ends_with d.declared sort)
+is_apart d (rawlines.Made sort ns) = not (ends_with d.made sort)
 is_apart d form = true

@@ -10,81 +10,81 @@ use Rattle.e_text.specs.declared.line.LineEnd.TheVariants as ends
 use Rattle.e_text.specs.declared.line.LineFault.{LineFault}
 use Rattle.e_clause.specs.declared.cert.Version.{Version}
 use Rattle.e_deriv.specs.Script.{erased}
-use Rattle.e_line.specs.declared.fault.Kind.{Kind}
-use Rattle.e_line.specs.declared.fault.Kind.TheVariants.{Malformed}
-use Rattle.e_line.specs.declared.form.Form.{Form}
-use Rattle.e_book.specs.declared.draft.Draft.{Draft}
+use Rattle.e_line.specs.declared.fault.FaultKind.{FaultKind}
+use Rattle.e_line.specs.declared.fault.FaultKind.TheVariants.{Malformed}
+use Rattle.e_line.specs.declared.raw_line.RawLine.{RawLine}
+use Rattle.e_book.specs.declared.draft.TheoremParser.{TheoremParser}
 use Rattle.e_book.specs.declared.theorem.Theorem.{Theorem}
 use Rattle.e_line.specs.Reading.{◌>>=◌}
-use Rattle.e_names.specs.Headed.{Headed}
+use Rattle.e_names.specs.TitledStatements.{TitledStatement}
 use Rattle.e_book.specs.DraftViews.{entry_of_draft}
-use Rattle.e_book.specs.Entry.{Entry, entry_of}
+use Rattle.e_book.specs.TheoremViews.{TheoremView, entry_of}
 use Rattle.e_names.specs.Scope.{FewNames}
 use Rattle.e_book.specs.Steps.{begin, step, no_names, count_names, FitsScope}
 use Rattle.e_book.specs.Grammar.{last_line}
 use Rattle.e_book.specs.Book.{is_done}
-use Rattle.e_cert.specs.declared.mark.Mark.{Mark}
-use Rattle.e_cert.specs.declared.owed.Due.TheVariants as due
-use Rattle.e_cert.specs.declared.owed.Owed.{Owed}
-use Rattle.e_cert.specs.declared.kept.Kept.{Kept}
-use Rattle.e_read.specs.declared.reading.Reading.{Reading}
+use Rattle.e_cert.specs.declared.cert_line.CertLine.{CertLine}
+use Rattle.e_cert.specs.declared.owed.Obligation.TheVariants as due
+use Rattle.e_cert.specs.declared.owed.Pending.{Pending}
+use Rattle.e_cert.specs.declared.kept.StepCerts.{StepCerts}
+use Rattle.e_read.specs.declared.reading.BlockParser.{BlockParser}
 use Rattle.e_read.specs.declared.reader.Piece.{Piece as PieceRead}
 use Rattle.e_read.specs.declared.reader.Piece.TheVariants as read
-use Rattle.e_read.specs.declared.reader.Turn.{Turn}
-use Rattle.e_read.specs.declared.reader.Turn.TheVariants as turns
+use Rattle.e_read.specs.declared.reader.Progress.{Progress}
+use Rattle.e_read.specs.declared.reader.Progress.TheVariants as turns
 use Rattle.e_read.specs.declared.reader.TextFault.{TextFault}
 use Rattle.e_read.specs.declared.reader.TextFault.TheVariants as faults
-use Rattle.e_cert.specs.Marks.{mark_is_of}
-use Rattle.e_line.specs.Strict.{strict_form}
-use Rattle.e_cert.specs.Strict.{strict_mark}
+use Rattle.e_cert.specs.CertLines.{cert_line_is_of}
+use Rattle.e_line.specs.Strict.{exact_line}
+use Rattle.e_cert.specs.Strict.{exact_cert_line}
 use Rattle.e_read.specs.Strict.{is_apart}
-use Rattle.e_cert.specs.Owed.{marked, settled}
+use Rattle.e_cert.specs.Owed.{after_cert_line, finish_certs}
 use Rattle.e_read.specs.Needs.{due_of}
 use Rattle.e_read.specs.Filled.{filled}
 
 -- ---- lines
 
-abbrev pub owes_nothing : Owed
+abbrev pub owes_nothing : Pending
 owes_nothing = record { names = no_names; due = due.Nothing; sums = None }
 
 -- before the first line of a block, in a text of this version
-abbrev pub at_start : Version → Reading
+abbrev pub at_start : Version → BlockParser
 at_start v = record { version = v; draft = None; owed = owes_nothing; kept = [] }
 
 -- the certificates are owed that are left behind a line of one
-unfoldable pub with_mark : Reading → Mark → Result Reading Kind
-with_mark r m = marked r.owed m >>= λ o. Ok (record r { owed = o })
+unfoldable pub with_cert_line : BlockParser → CertLine → Result BlockParser FaultKind
+with_cert_line r m = after_cert_line r.owed m >>= λ o. Ok (record r { owed = o })
 
 -- a line of a certificate, which has a form in the version of the text
-unfoldable pub certified : Reading → List ℕ → List (List ℕ) → Result Reading Kind
-certified r line words = strict_mark line words >>= λ m. if mark_is_of r.version m then with_mark r m else Err Malformed
+unfoldable pub certified : BlockParser → List ℕ → List (List ℕ) → Result BlockParser FaultKind
+certified r line words = exact_cert_line line words >>= λ m. if cert_line_is_of r.version m then with_cert_line r m else Err Malformed
 
 -- what a line owes, with the names in scope before it
-unfoldable pub owed_by : List Headed → Draft → Form → Result Owed Kind
+unfoldable pub owed_by : List TitledStatement → TheoremParser → RawLine → Result Pending FaultKind
 owed_by known d f = due_of known d f >>= λ new. Ok (record { names = d.in_scope; due = new; sums = None })
 
 -- a line begins a theorem, or goes on with it, and owes certificates of its own
-abbrev pub gone_on : List Headed → Option Draft → Form → Result (Draft × Owed) Kind
+abbrev pub gone_on : List TitledStatement → Option TheoremParser → RawLine → Result (TheoremParser × Pending) FaultKind
 gone_on known None f = begin known f >>= λ e. Ok (e, owes_nothing)
 gone_on known (Some d) f =
     if is_apart d f then (owed_by known d f >>= λ o. step known d f >>= λ e. Ok (e, o)) else Err Malformed
 
 -- nothing is owed any more, and what was read is kept
-abbrev pub all_settled : Reading → Result Reading Kind
-all_settled r = settled r.owed >>= λ k. Ok (record { version = r.version; draft = r.draft; owed = owes_nothing; kept = r.kept ++ option_to_list k })
+abbrev pub finish_line : BlockParser → Result BlockParser FaultKind
+finish_line r = finish_certs r.owed >>= λ k. Ok (record { version = r.version; draft = r.draft; owed = owes_nothing; kept = r.kept ++ option_to_list k })
 
 -- any other line comes where nothing is owed any more
-unfoldable pub with_form : List Headed → Reading → Form → Result Reading Kind
-with_form known r f = all_settled r >>= λ s. gone_on known s.draft f >>= λ e. Ok (record { version = s.version; draft = Some e.0; owed = e.1; kept = s.kept })
+unfoldable pub with_form : List TitledStatement → BlockParser → RawLine → Result BlockParser FaultKind
+with_form known r f = finish_line r >>= λ s. gone_on known s.draft f >>= λ e. Ok (record { version = s.version; draft = Some e.0; owed = e.1; kept = s.kept })
 
-unfoldable pub stepped : List Headed → Reading → List ℕ → Result Reading Kind
-stepped known r line = strict_form line >>= λ f. with_form known r f
+unfoldable pub stepped : List TitledStatement → BlockParser → List ℕ → Result BlockParser FaultKind
+stepped known r line = exact_line line >>= λ f. with_form known r f
 
 abbrev pub is_bar : List ℕ → Bool
 is_bar word = bytes_eq word (codes "|")
 
 -- a line by its words: the sign `|` stands before each line of a certificate
-unfoldable pub worded : List Headed → Reading → List ℕ → List (List ℕ) → Result Reading Kind
+unfoldable pub worded : List TitledStatement → BlockParser → List ℕ → List (List ℕ) → Result BlockParser FaultKind
 worded known r line [] = Err Malformed
 worded known r line (w ∷ ws) = if is_bar w then certified r line ws else stepped known r line
 
@@ -93,56 +93,56 @@ is_lf_end ends.Lf = true
 is_lf_end end = false
 
 -- a line by its bytes
-unfoldable pub spelled : List Headed → Reading → List ℕ → Result Reading Kind
+unfoldable pub spelled : List TitledStatement → BlockParser → List ℕ → Result BlockParser FaultKind
 spelled known r line = worded known r line (tokens_of line)
 
 -- each line ends with a line feed
-unfoldable pub taken : List Headed → Reading → Seen → Result Reading Kind
+unfoldable pub taken : List TitledStatement → BlockParser → Seen → Result BlockParser FaultKind
 taken known r l = if is_lf_end l.end then spelled known r l.bytes else Err Malformed
 
 -- ---- blocks
 
 -- what stands ahead: a theorem with its derivation for its script, or the last line
 pub data Piece : Type 0 where
-  Derived : (theorem : Entry) → Piece
+  Derived : (theorem : TheoremView) → Piece
   Last : Piece
 
 -- the last line says how many theorems there are
 abbrev pub last_line_of : ℕ → List ℕ
 last_line_of n = joined (codes "accepted" ∷ decimal n ∷ [])
 
-abbrev pub is_last_line : List Headed → Seen → Bool
+abbrev pub is_last_line : List TitledStatement → Seen → Bool
 is_last_line known l = if is_lf_end l.end then bytes_eq l.bytes (last_line_of (length known)) else false
 
 -- a theorem with its certificates at their lines
-abbrev pub derived : Draft → List Kept → Entry
+abbrev pub derived : TheoremParser → List StepCerts → TheoremView
 derived d kept = let t = entry_of_draft d in record t { script = (filled t.script kept).0 }
 
-abbrev pub garbled_at : {A : Type 0} → ℕ → Result A Kind → Result A ℕ
+abbrev pub garbled_at : {A : Type 0} → ℕ → Result A FaultKind → Result A ℕ
 garbled_at line (Ok x) = Ok x
 garbled_at line (Err kind) = Err line
 
 -- the last line of a theorem has come
-abbrev pub is_finished : Option Draft → Bool
+abbrev pub is_finished : Option TheoremParser → Bool
 is_finished None = false
 is_finished (Some d) = is_done d
 
-abbrev pub finished : Option Draft → List Kept → Option Entry
+abbrev pub finished : Option TheoremParser → List StepCerts → Option TheoremView
 finished None kept = None
 finished (Some d) kept = if is_done d then Some (derived d kept) else None
 
-abbrev pub or_on : Option Entry → List (Result Seen LineFault) → Result (Piece × List (Result Seen LineFault)) ℕ → Result (Piece × List (Result Seen LineFault)) ℕ
+abbrev pub or_on : Option TheoremView → List (Result Seen LineFault) → Result (Piece × List (Result Seen LineFault)) ℕ → Result (Piece × List (Result Seen LineFault)) ℕ
 or_on None lines more = more
 or_on (Some t) lines more = Ok (Derived t, lines)
 
 -- the line is the last one of a text, at the place of a theorem's first line
-abbrev pub is_end : List Headed → Option Draft → Seen → Bool
+abbrev pub is_end : List TitledStatement → Option TheoremParser → Seen → Bool
 is_end known None l = is_last_line known l
 is_end known (Some d) l = false
 
 -- the rest of what stands ahead and the lines behind it, or the first line that has no form at its place; last is the number behind
 -- the last line
-unfoldable pub piece_from : List Headed → ℕ → Reading → List (Result Seen LineFault) → Result (Piece × List (Result Seen LineFault)) ℕ
+unfoldable pub piece_from : List TitledStatement → ℕ → BlockParser → List (Result Seen LineFault) → Result (Piece × List (Result Seen LineFault)) ℕ
 piece_from known last r [] = Err last
 piece_from known last r (Err f ∷ lines) = Err (fault_line f)
 piece_from known last r (Ok line ∷ lines) =
@@ -150,7 +150,7 @@ piece_from known last r (Ok line ∷ lines) =
     (garbled_at line.number (taken known r line) >>= λ next. or_on (finished next.draft next.kept) lines (piece_from known last next lines))
 
 -- what a line made of a block, unless memory ran out
-abbrev pub LineReads : Result (Unit {0}) TextFault → Reading → Result Reading ℕ → Type 0
+abbrev pub LineReads : Result (Unit {0}) TextFault → BlockParser → Result BlockParser ℕ → Type 0
 LineReads (Ok u) new read = read ≡ Ok new
 LineReads (Err (faults.Garbled line)) new read = read ≡ Err line
 LineReads (Err faults.NoMemory) new read = Unit {0}
@@ -158,28 +158,28 @@ LineReads (Err faults.NoMemory) new read = Unit {0}
 -- the next line, or what stands ahead is garbled whatever of a block has come
 abbrev pub LineIs : Result Line TextFault → Ahead → Ahead → Type 0
 LineIs (Ok line) old new = old.lines ≡ Ok (seen line) ∷ new.lines
-LineIs (Err (faults.Garbled n)) old new = (known : List Headed) (r : Reading) → piece_from known (last_line old) r old.lines ≡ Err n
+LineIs (Err (faults.Garbled n)) old new = (known : List TitledStatement) (r : BlockParser) → piece_from known (last_line old) r old.lines ≡ Err n
 LineIs (Err faults.NoMemory) old new = ⊥
 
 -- what stands ahead, where this line stands before any others and made this of the block, unless memory ran out
-abbrev pub TurnIs : List Headed → Reading → Seen → Reading → Result Turn TextFault → Type 0
-TurnIs known old line new (Ok turns.Last) = (last : ℕ) (rest : List (Result Seen LineFault)) → piece_from known last old (Ok line ∷ rest) ≡ Ok (Last, rest)
-TurnIs known old line new (Ok turns.Ended) = IsTrue (is_finished new.draft)
-    × ((t : Entry) → finished new.draft new.kept ≡ Some t → (last : ℕ) (rest : List (Result Seen LineFault)) → piece_from known last old (Ok line ∷ rest) ≡ Ok (Derived t, rest))
-TurnIs known old line new (Ok turns.More) =
+abbrev pub ProgressIs : List TitledStatement → BlockParser → Seen → BlockParser → Result Progress TextFault → Type 0
+ProgressIs known old line new (Ok turns.Last) = (last : ℕ) (rest : List (Result Seen LineFault)) → piece_from known last old (Ok line ∷ rest) ≡ Ok (Last, rest)
+ProgressIs known old line new (Ok turns.Complete) = IsTrue (is_finished new.draft)
+    × ((t : TheoremView) → finished new.draft new.kept ≡ Some t → (last : ℕ) (rest : List (Result Seen LineFault)) → piece_from known last old (Ok line ∷ rest) ≡ Ok (Derived t, rest))
+ProgressIs known old line new (Ok turns.Continue) =
     (last : ℕ) (rest : List (Result Seen LineFault)) → piece_from known last old (Ok line ∷ rest) ≡ piece_from known last new rest
-TurnIs known old line new (Err (faults.Garbled n)) = (last : ℕ) (rest : List (Result Seen LineFault)) → piece_from known last old (Ok line ∷ rest) ≡ Err n
-TurnIs known old line new (Err faults.NoMemory) = Unit {0}
+ProgressIs known old line new (Err (faults.Garbled n)) = (last : ℕ) (rest : List (Result Seen LineFault)) → piece_from known last old (Ok line ∷ rest) ≡ Err n
+ProgressIs known old line new (Err faults.NoMemory) = Unit {0}
 
 -- what was answered is what stands ahead, unless memory ran out
-abbrev pub TextReads : List Headed → Result PieceRead TextFault → Ahead → Result (Piece × List (Result Seen LineFault)) ℕ → Type 0
+abbrev pub TextReads : List TitledStatement → Result PieceRead TextFault → Ahead → Result (Piece × List (Result Seen LineFault)) ℕ → Type 0
 TextReads known (Ok (read.Theorem t)) new from = from ≡ Ok (Derived (entry_of t), new.lines)
 TextReads known (Ok (read.Last n)) new from = (n ≡ length known) × (from ≡ Ok (Last, new.lines))
 TextReads known (Err (faults.Garbled line)) new from = from ≡ Err line
 TextReads known (Err faults.NoMemory) new from = Unit {0}
 
 -- a theorem without its certificates
-abbrev pub bare : Entry → Entry
+abbrev pub bare : TheoremView → TheoremView
 bare t = record t { script = erased t.script }
 
 -- what holds of a theorem, where one was read
@@ -189,15 +189,15 @@ OfTheorem holds (read.Last n) = Unit {0}
 
 -- ---- what is known of a block while its lines come: its names and counts are within the limits
 
-pub record FitsDraft (d : Draft) : Type 0 where
+pub record FitsDraft (d : TheoremParser) : Type 0 where
   pub scope : FitsScope d
   -- no more objects are made than have names
   pub made : length d.made ≤ count_names d.names
 
-pub record FitsReading (r : Reading) : Type 0 where
+pub record FitsReading (r : BlockParser) : Type 0 where
   pub draft : IfSome r.draft FitsDraft
   pub names : FewNames r.owed.names
 
-pub record FitsBegun (d : Draft) (o : Owed) : Type 0 where
+pub record FitsBegun (d : TheoremParser) (o : Pending) : Type 0 where
   pub draft : FitsDraft d
   pub names : FewNames o.names

@@ -4,8 +4,8 @@ ghost use Rattle.e_deriv.specs.Script.{script_of};
 ghost use Rattle.e_cert.specs.Owed.{first_cert};
 ghost use Rattle.e_read.specs.Filled.{behind_next, next_certs, next_against, Fills, FillsStep, FillsClose};
 
-use crate::kept::Queue;
-use e_cert::{Certs, Kept};
+use crate::kept::CertQueue;
+use e_cert::{Certs, StepCerts};
 use e_clause::{Against, Cert};
 use e_deriv::{Block, Close, Step, copy_by, copy_construction, copy_lits};
 use e_literal::{Items, copy};
@@ -13,13 +13,13 @@ use std::alloc::{AllocError, Global};
 use std::mem;
 
 /// The certificates of the next line that has some.
-fn next_certs(alloc: Global, queue: &mut Queue) -> Certs
+fn next_certs(alloc: Global, queue: &mut CertQueue) -> Certs
     ensures certs { result ≡ next_certs queue.old }
     ensures rest { queue.new ≡ behind_next queue.old }
 {
     match queue.pop() {
-        Some(Kept::Certs(certs)) => certs,
-        Some(Kept::Against(against)) => {
+        Some(StepCerts::Certs(certs)) => certs,
+        Some(StepCerts::Against(against)) => {
             mem::drop(against);
             Certs::new(alloc)
         }
@@ -28,13 +28,13 @@ fn next_certs(alloc: Global, queue: &mut Queue) -> Certs
 }
 
 /// The certificate of a contradiction that comes next.
-fn next_against(queue: &mut Queue) -> Option<Against>
+fn next_against(queue: &mut CertQueue) -> Option<Against>
     ensures against { result ≡ next_against queue.old }
     ensures rest { queue.new ≡ behind_next queue.old }
 {
     match queue.pop() {
-        Some(Kept::Against(against)) => Some(against),
-        Some(Kept::Certs(certs)) => {
+        Some(StepCerts::Against(against)) => Some(against),
+        Some(StepCerts::Certs(certs)) => {
             mem::drop(certs);
             None
         }
@@ -43,7 +43,7 @@ fn next_against(queue: &mut Queue) -> Option<Against>
 }
 
 /// The first certificate of the next line that has some.
-fn next_cert(alloc: Global, queue: &mut Queue) -> Option<Cert>
+fn next_cert(alloc: Global, queue: &mut CertQueue) -> Option<Cert>
     ensures cert { result ≡ first_cert (next_certs queue.old) }
     ensures rest { queue.new ≡ behind_next queue.old }
 {
@@ -53,7 +53,7 @@ fn next_cert(alloc: Global, queue: &mut Queue) -> Option<Cert>
 /// The block with the certificates that come next, in the order of its lines.
 #[cycle(fill)]
 #[tactic(auto, using(crate::proofs::FilledScripts::filling))]
-pub(crate) fn fill(alloc: Global, block: &Block, queue: &mut Queue) -> Result<Block, AllocError>
+pub(crate) fn fill(alloc: Global, block: &Block, queue: &mut CertQueue) -> Result<Block, AllocError>
     ensures { IfOk result (λ b. Fills (script_of block.now) queue.old (script_of b) queue.new) }
 {
     let mut steps = Vec::new(alloc);
@@ -67,7 +67,7 @@ pub(crate) fn fill(alloc: Global, block: &Block, queue: &mut Queue) -> Result<Bl
 
 #[cycle(fill)]
 #[tactic(auto, using(crate::proofs::FilledScripts::filling))]
-fn fill_step(alloc: Global, step: &Step, queue: &mut Queue) -> Result<Step, AllocError>
+fn fill_step(alloc: Global, step: &Step, queue: &mut CertQueue) -> Result<Step, AllocError>
     ensures { IfOk result (λ s. FillsStep step.now queue.old s queue.new) }
 {
     match step {
@@ -134,7 +134,7 @@ fn fill_step(alloc: Global, step: &Step, queue: &mut Queue) -> Result<Step, Allo
 
 #[cycle(fill)]
 #[tactic(auto, using(crate::proofs::FilledScripts::filling))]
-fn fill_close(alloc: Global, close: &Close, queue: &mut Queue) -> Result<Close, AllocError>
+fn fill_close(alloc: Global, close: &Close, queue: &mut CertQueue) -> Result<Close, AllocError>
     ensures { IfOk result (λ c. FillsClose close.now queue.old c queue.new) }
 {
     match close {

@@ -3,38 +3,38 @@ ghost use Rattle.std.specs.Prelude.{◌≡◌, ◌++◌, [], OnOk};
 ghost use Rattle.std.specs.Option.{option_to_list};
 ghost use Rattle.e_read.specs.Filled.{NextIs};
 
-use e_cert::Kept;
+use e_cert::StepCerts;
 use std::alloc::{AllocError, Global};
 use std::marker::Model;
 use std::vec::IntoIter;
 
 /// What was read below the lines of a block, in their order, seen as its list.
 #[derive(Drop)]
-pub struct KeptLines {
-    lines: Vec<Kept>,
+pub struct AllCerts {
+    lines: Vec<StepCerts>,
 }
 
-impl Model for KeptLines {
+impl Model for AllCerts {
     ghost use Rattle.std.specs.Prelude.{List};
-    ghost use Rattle.e_cert.specs.declared.kept.Kept.{Kept};
+    ghost use Rattle.e_cert.specs.declared.kept.StepCerts.{StepCerts};
 
-    ghost Value = { List Kept };
+    ghost Value = { List StepCerts };
 
     ghost view = { λ k. k.lines.items };
 }
 
-impl KeptLines {
+impl AllCerts {
     /// Nothing.
-    pub(crate) fn new(alloc: Global) -> KeptLines
+    pub(crate) fn new(alloc: Global) -> AllCerts
         ensures { result ≡ [] }
     {
-        KeptLines {
+        AllCerts {
             lines: Vec::new(alloc),
         }
     }
 
     /// What was read below the next line, if that has certificates.
-    pub(crate) fn push(&mut self, kept: Option<Kept>) -> Result<(), AllocError>
+    pub(crate) fn push(&mut self, kept: Option<StepCerts>) -> Result<(), AllocError>
         ensures { OnOk result (self.new ≡ self.old ++ option_to_list kept) }
     {
         if let Some(kept) = kept {
@@ -44,11 +44,11 @@ impl KeptLines {
     }
 
     /// One after the other.
-    pub(crate) fn into_queue(self) -> Queue
+    pub(crate) fn into_queue(self) -> CertQueue
         ensures { result ≡ self }
     {
-        let KeptLines { lines } = self;
-        Queue {
+        let AllCerts { lines } = self;
+        CertQueue {
             rest: lines.into_iter(),
         }
     }
@@ -56,23 +56,23 @@ impl KeptLines {
 
 /// What is left of it, seen as its list.
 #[derive(Drop)]
-pub struct Queue {
-    rest: IntoIter<Kept>,
+pub struct CertQueue {
+    rest: IntoIter<StepCerts>,
 }
 
-impl Model for Queue {
+impl Model for CertQueue {
     ghost use Rattle.std.specs.Prelude.{List};
     ghost use Rattle.std.specs.Vec.Iter.{into_iter_items};
-    ghost use Rattle.e_cert.specs.declared.kept.Kept.{Kept};
+    ghost use Rattle.e_cert.specs.declared.kept.StepCerts.{StepCerts};
 
-    ghost Value = { List Kept };
+    ghost Value = { List StepCerts };
 
     ghost view = { λ q. into_iter_items q.rest };
 }
 
-impl Queue {
+impl CertQueue {
     /// Takes the next out.
-    pub(crate) fn pop(&mut self) -> Option<Kept>
+    pub(crate) fn pop(&mut self) -> Option<StepCerts>
         ensures { NextIs self.old result self.new }
     {
         self.rest.next()

@@ -10,7 +10,7 @@ mod reader;
 mod reading;
 mod strict;
 
-pub use kept::KeptLines;
+pub use kept::AllCerts;
 pub use laws::{derivations_are_of_books, garbled_line_is_first};
 pub use reader::{Piece, TextFault, read};
-pub use reading::Reading;
+pub use reading::BlockParser;

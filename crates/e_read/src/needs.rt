@@ -10,7 +10,7 @@ ghost use Rattle.e_deriv.specs.Goal;
 ghost use Rattle.e_deriv.specs.Goal.{goal_of_statement};
 ghost use Rattle.e_book.specs.DraftViews.{statement_of_draft};
 ghost use Rattle.e_line.specs.Limits.{most_theorems};
-ghost use Rattle.e_names.specs.Headed.{stated_by};
+ghost use Rattle.e_names.specs.TitledStatements.{stated_by};
 ghost use Rattle.e_line.specs.Reading.{Gives, each, or_malformed};
 ghost use Rattle.e_book.specs.Blocks.{made_in};
 ghost use Rattle.e_book.specs.Steps.{FitsScope};
@@ -18,9 +18,9 @@ ghost use Rattle.e_read.specs.Needs;
 ghost use Rattle.e_read.specs.Text.{FitsDraft};
 ghost use Rattle.e_read.specs.Needs.{open_goal, one_each, needs_in, due_of};
 
-use e_book::{Draft, Opened, Outer};
-use e_cert::{Certs, Due};
-use e_line::{Form, Kind, RawApply, Trouble};
+use e_book::{BlockKind, OpenBlock, TheoremParser};
+use e_cert::{Certs, Obligation};
+use e_line::{FaultKind, LineError, RawApply, RawLine};
 use e_literal::{Items, Lit, Map, NOTHING, Obj, Scope, Sort, grown, next_objects};
 use e_names::{Theorems, apply_in, let_in, lit_in, qed_in, scope_of_names, superpose_in};
 use e_text::Name;
@@ -28,10 +28,10 @@ use e_theorem::{Statement, UseFault, all_renamed, use_of};
 use std::alloc::{AllocError, Global};
 
 /// One certificate for each of these literals.
-fn one_each(alloc: Global, wanted: Items<Lit>) -> Due
+fn one_each(alloc: Global, wanted: Items<Lit>) -> Obligation
     ensures { result ≡ one_each wanted }
 {
-    Due::Literals {
+    Obligation::Literals {
         wanted,
         certs: Certs::new(alloc),
         transfer: None,
@@ -39,14 +39,14 @@ fn one_each(alloc: Global, wanted: Items<Lit>) -> Due
 }
 
 /// The arguments, none of which is a blank.
-fn written(alloc: Global, pattern: &[Option<Obj>]) -> Result<Items<Obj>, Trouble>
+fn written(alloc: Global, pattern: &[Option<Obj>]) -> Result<Items<Obj>, LineError>
     ensures { Gives (λ a. a) result (each or_malformed pattern.now) }
 {
     let mut args = Items::empty(alloc);
     for entry in pattern {
         match *entry {
             Some(object) => args.push(object)?,
-            None => return Err(Trouble::Fault(Kind::Malformed)),
+            None => return Err(LineError::Fault(FaultKind::Malformed)),
         }
     }
     Ok(args)
@@ -58,7 +58,7 @@ fn needs_in(
     scope: Scope,
     statement: &Statement,
     pattern: &[Option<Obj>],
-) -> Result<Items<Lit>, Trouble>
+) -> Result<Items<Lit>, LineError>
     requires few { length statement.now.declared + length statement.now.made < 2 ^ 15 }
     requires points { scope.points < 2 ^ 15 }
     requires lines { scope.lines < 2 ^ 15 }
@@ -68,8 +68,8 @@ fn needs_in(
     let args = written(alloc, pattern)?;
     match use_of(alloc, statement, args.items(), scope) {
         Ok(used) => Ok(used.needs),
-        Err(UseFault::BadArgs) => Err(Trouble::Fault(Kind::Malformed)),
-        Err(UseFault::NoMemory) => Err(Trouble::NoMemory),
+        Err(UseFault::BadArgs) => Err(LineError::Fault(FaultKind::Malformed)),
+        Err(UseFault::NoMemory) => Err(LineError::NoMemory),
     }
 }
 
@@ -78,9 +78,9 @@ fn needs_in(
 fn needs_of_use(
     alloc: Global,
     known: &Theorems,
-    draft: &Draft,
+    draft: &TheoremParser,
     raw: &RawApply,
-) -> Result<Items<Lit>, Trouble>
+) -> Result<Items<Lit>, LineError>
     requires draft { FitsScope draft.now }
     requires few { length known.now ≤ most_theorems }
     requires known { IsTrue (list_all is_small_statement (stated_by known.now)) }
@@ -97,16 +97,16 @@ fn needs_of_use(
 }
 
 /// What the innermost claim or superposition of these blocks shows, if there is one.
-fn claimed(outers: &[Outer]) -> Option<&[Lit]>
+fn claimed(outers: &[OpenBlock]) -> Option<&[Lit]>
     ensures { option_map (λ l. l.now) result ≡ Needs.claimed (reverse outers.now) }
 {
     let [outers @ .., outer] = outers else {
         return None;
     };
     match &outer.opened {
-        Opened::Claim { shown } => Some(shown.items()),
-        Opened::Superpose { shown, .. } => Some(shown.items()),
-        Opened::First { .. } | Opened::Second { .. } => claimed(outers),
+        BlockKind::Claim { shown } => Some(shown.items()),
+        BlockKind::Superpose { shown, .. } => Some(shown.items()),
+        BlockKind::First { .. } | BlockKind::Second { .. } => claimed(outers),
     }
 }
 
@@ -127,7 +127,11 @@ fn with_objects(
 
 /// The literals of the goal of the whole proof with these objects for its made ones.
 #[tactic(auto, using(crate::proofs::Rooms::made_fits, e_literal::proofs::Growing::sorts_next))]
-fn whole_goal_with(alloc: Global, draft: &Draft, objects: &[Obj]) -> Result<Items<Lit>, AllocError>
+fn whole_goal_with(
+    alloc: Global,
+    draft: &TheoremParser,
+    objects: &[Obj],
+) -> Result<Items<Lit>, AllocError>
     requires draft { FitsDraft draft.now }
     requires sorts { map (λ o. o.sort) objects.now ≡ draft.now.made }
     ensures { IfOk result (λ ls. ls ≡ Goal.goal_with (goal_of_statement (stated (statement_of_draft draft.now))) objects.now) }
@@ -139,7 +143,11 @@ fn whole_goal_with(alloc: Global, draft: &Draft, objects: &[Obj]) -> Result<Item
 
 /// The literals of the goal of the open block with these objects for its made ones.
 #[tactic(auto, using(crate::proofs::GoalSorts::none_made, crate::proofs::GoalSorts::all_made))]
-fn goal_with(alloc: Global, draft: &Draft, objects: &[Obj]) -> Result<Items<Lit>, AllocError>
+fn goal_with(
+    alloc: Global,
+    draft: &TheoremParser,
+    objects: &[Obj],
+) -> Result<Items<Lit>, AllocError>
     requires draft { FitsDraft draft.now }
     requires sorts { map (λ o. o.sort) objects.now ≡ made_in draft.now.outers draft.now.made }
     ensures { IfOk result (λ ls. ls ≡ Goal.goal_with (open_goal draft.now) objects.now) }
@@ -151,7 +159,7 @@ fn goal_with(alloc: Global, draft: &Draft, objects: &[Obj]) -> Result<Items<Lit>
 }
 
 /// The made objects of the goal of the open block.
-fn goal_made(draft: &Draft) -> &[Sort]
+fn goal_made(draft: &TheoremParser) -> &[Sort]
     ensures { result.now ≡ made_in draft.now.outers draft.now.made }
 {
     if draft.outers.has_claim() {
@@ -162,7 +170,11 @@ fn goal_made(draft: &Draft) -> &[Sort]
 
 /// What a close by `qed` owes.
 #[tactic(auto, unfolding(crate::specs::Needs::needs_at_qed))]
-fn needs_at_qed(alloc: Global, draft: &Draft, names: &[Name]) -> Result<Items<Lit>, Trouble>
+fn needs_at_qed(
+    alloc: Global,
+    draft: &TheoremParser,
+    names: &[Name],
+) -> Result<Items<Lit>, LineError>
     requires { FitsDraft draft.now }
     ensures { Gives (λ l. l) result (Needs.needs_at_qed draft.now names.now) }
 {
@@ -176,40 +188,40 @@ fn needs_at_qed(alloc: Global, draft: &Draft, names: &[Name]) -> Result<Items<Li
 pub(crate) fn due_of(
     alloc: Global,
     known: &Theorems,
-    draft: &Draft,
-    form: &Form,
-) -> Result<Due, Trouble>
+    draft: &TheoremParser,
+    form: &RawLine,
+) -> Result<Obligation, LineError>
     requires draft { FitsDraft draft.now }
     requires few { length known.now ≤ most_theorems }
     requires known { IsTrue (list_all is_small_statement (stated_by known.now)) }
     ensures { Gives (λ d. d) result (due_of known.now draft.now form.now) }
 {
     match form {
-        Form::Hence(raw) => {
+        RawLine::Hence(raw) => {
             let mut wanted = Items::empty(alloc);
             let lit = lit_in(alloc, &draft.in_scope, raw)?;
             wanted.push(lit)?;
             Ok(one_each(alloc, wanted))
         }
-        Form::Let(raw) => {
+        RawLine::Let(raw) => {
             let form = let_in(alloc, &draft.in_scope, raw)?;
             let needs = form.needs(alloc)?;
             Ok(one_each(alloc, Items::new(needs)))
         }
-        Form::Apply(raw) => {
+        RawLine::Apply(raw) => {
             let needs = needs_of_use(alloc, known, draft, raw)?;
             Ok(one_each(alloc, needs))
         }
-        Form::Superpose(raw) => {
+        RawLine::Superpose(raw) => {
             let placement = superpose_in(alloc, &draft.in_scope, raw)?;
             let needs = placement.form.needs(alloc)?;
             Ok(one_each(alloc, Items::new(needs)))
         }
-        Form::Qed(names) => {
+        RawLine::Qed(names) => {
             let needs = needs_at_qed(alloc, draft, names.items())?;
             Ok(one_each(alloc, needs))
         }
-        Form::Contradiction => Ok(Due::Contradiction { against: None }),
-        _ => Ok(Due::Nothing),
+        RawLine::Contradiction => Ok(Obligation::Contradiction { against: None }),
+        _ => Ok(Obligation::Nothing),
     }
 }

@@ -7,16 +7,16 @@ ghost use Rattle.e_deriv.specs.Script.{script_of};
 ghost use Rattle.e_deriv.specs.Fitting.{is_small_statement};
 ghost use Rattle.e_deriv.specs.Versions.{has_certs_of};
 ghost use Rattle.e_line.specs.Limits.{most_theorems};
-ghost use Rattle.e_names.specs.Headed.{stated_by};
+ghost use Rattle.e_names.specs.TitledStatements.{stated_by};
 ghost use Rattle.e_book.specs.Grammar.{last_line};
-ghost use Rattle.e_book.specs.Entry.{entry_of};
+ghost use Rattle.e_book.specs.TheoremViews.{entry_of};
 ghost use Rattle.e_book.specs.HasSpelling.{HasSpelling};
-ghost use Rattle.e_read.specs.Text.{at_start, garbled_at, taken, LineIs, LineReads, TurnIs, FitsReading, piece_from, bare, OfTheorem, TextReads};
+ghost use Rattle.e_read.specs.Text.{at_start, garbled_at, taken, LineIs, LineReads, ProgressIs, FitsReading, piece_from, bare, OfTheorem, TextReads};
 
-use crate::reading::Reading;
+use crate::reading::BlockParser;
 use e_book::Theorem;
 use e_clause::Version;
-use e_line::Trouble;
+use e_line::LineError;
 use e_names::Theorems;
 use e_text::{Line, Lines, faulty_line};
 use std::alloc::{AllocError, Global};
@@ -54,17 +54,17 @@ impl From<AllocError> for TextFault {
 }
 
 /// What a line makes of a block.
-enum Turn {
+enum Progress {
     /// It is the last line of the text.
     Last,
     /// The theorem has ended.
-    Ended,
+    Complete,
     /// More lines have to come.
-    More,
+    Continue,
 }
 
 /// The next line.
-fn seen_line<'a>(lines: &mut Lines<'a>) -> Result<Line<'a>, TextFault>
+fn next_line<'a>(lines: &mut Lines<'a>) -> Result<Line<'a>, TextFault>
     ensures line { LineIs result lines.old lines.new }
     ensures last { OnOk result (last_line lines.new ≡ last_line lines.old) }
     ensures shorter { OnOk result (length lines.new.lines < length lines.old.lines) }
@@ -82,7 +82,7 @@ fn seen_line<'a>(lines: &mut Lines<'a>) -> Result<Line<'a>, TextFault>
 fn take_line(
     alloc: Global,
     known: &Theorems,
-    reading: &mut Reading,
+    reading: &mut BlockParser,
     line: Line<'_>,
 ) -> Result<(), TextFault>
     requires reading { FitsReading reading.old }
@@ -94,33 +94,33 @@ fn take_line(
 {
     match reading.take(alloc, known, line) {
         Ok(()) => Ok(()),
-        Err(Trouble::NoMemory) => Err(TextFault::NoMemory),
-        Err(Trouble::Fault(_)) => Err(TextFault::Garbled { line: line.number }),
+        Err(LineError::NoMemory) => Err(TextFault::NoMemory),
+        Err(LineError::Fault(_)) => Err(TextFault::Garbled { line: line.number }),
     }
 }
 
 /// What a line makes of a block.
-fn turned(
+fn feed(
     alloc: Global,
     known: &Theorems,
-    reading: &mut Reading,
+    reading: &mut BlockParser,
     line: Line<'_>,
-) -> Result<Turn, TextFault>
+) -> Result<Progress, TextFault>
     requires reading { FitsReading reading.old }
     requires few { OnSome reading.old.draft (length known.now ≤ most_theorems) }
     requires known { IsTrue (list_all is_small_statement (stated_by known.now)) }
-    ensures turn { TurnIs known.now reading.old (seen line.entry) reading.new result }
+    ensures turn { ProgressIs known.now reading.old (seen line.entry) reading.new result }
     ensures fits { OnOk result (FitsReading reading.new) }
     ensures few { OnOk result (OnSome reading.new.draft (length known.now ≤ most_theorems)) }
 {
     if reading.is_end(alloc, known, line)? {
-        return Ok(Turn::Last);
+        return Ok(Progress::Last);
     }
     take_line(alloc, known, reading, line)?;
     if reading.is_finished() {
-        return Ok(Turn::Ended);
+        return Ok(Progress::Complete);
     }
-    Ok(Turn::More)
+    Ok(Progress::Continue)
 }
 
 /// Reads line by line, up to the end of a theorem or the last line.
@@ -136,27 +136,27 @@ fn read_piece(
     ensures last { OnOk result (last_line lines.new ≡ last_line lines.old) }
     ensures shorter { OnOk result (length lines.new.lines < length lines.old.lines) }
 {
-    let mut reading = Reading::new(alloc, version);
+    let mut reading = BlockParser::new(alloc, version);
     loop {
-        let line = match seen_line(lines) {
+        let line = match next_line(lines) {
             Ok(line) => line,
             Err(fault) => {
                 mem::drop(reading);
                 return Err(fault);
             }
         };
-        match turned(alloc, known, &mut reading, line) {
-            Ok(Turn::Last) => {
+        match feed(alloc, known, &mut reading, line) {
+            Ok(Progress::Last) => {
                 mem::drop(reading);
                 return Ok(Piece::Last {
                     theorems: known.len() as u32,
                 });
             }
-            Ok(Turn::Ended) => {
+            Ok(Progress::Complete) => {
                 let theorem = reading.into_theorem(alloc)?;
                 return Ok(Piece::Theorem(theorem));
             }
-            Ok(Turn::More) => {}
+            Ok(Progress::Continue) => {}
             Err(fault) => {
                 mem::drop(reading);
                 return Err(fault);

@@ -5,22 +5,22 @@ ghost use Rattle.e_text.specs.Lines.{seen};
 ghost use Rattle.e_text.specs.Tokens.{tokens_of};
 ghost use Rattle.e_deriv.specs.Fitting.{is_small_statement};
 ghost use Rattle.e_line.specs.Limits.{most_theorems};
-ghost use Rattle.e_names.specs.Headed.{stated_by};
-ghost use Rattle.e_book.specs.Entry.{entry_of};
+ghost use Rattle.e_names.specs.TitledStatements.{stated_by};
+ghost use Rattle.e_book.specs.TheoremViews.{entry_of};
 ghost use Rattle.e_line.specs.Reading.{texts, Gives, Moves};
 ghost use Rattle.e_names.specs.Scope.{FewNames};
 ghost use Rattle.e_book.specs.Steps.{no_names};
-ghost use Rattle.e_read.specs.Text.{owes_nothing, at_start, with_mark, certified, owed_by, gone_on, all_settled, with_form, stepped, is_bar, worded, is_lf_end, spelled, taken, derived, is_finished, finished, is_end, is_last_line, last_line_of, FitsDraft, FitsReading, FitsBegun};
+ghost use Rattle.e_read.specs.Text.{owes_nothing, at_start, with_cert_line, certified, owed_by, gone_on, finish_line, with_form, stepped, is_bar, worded, is_lf_end, spelled, taken, derived, is_finished, finished, is_end, is_last_line, last_line_of, FitsDraft, FitsReading, FitsBegun};
 
 use crate::filling::fill;
-use crate::kept::KeptLines;
+use crate::kept::AllCerts;
 use crate::needs::due_of;
 use crate::strict::is_apart;
-use e_book::{Draft, Place, Theorem};
-use e_cert::{Due, Mark, Owed, mark_is_of, strict_mark};
+use e_book::{Section, Theorem, TheoremParser};
+use e_cert::{CertLine, Obligation, Pending, cert_line_is_of, exact_cert_line};
 use e_clause::Version;
 use e_deriv::Names;
-use e_line::{Form, Kind, Trouble, collected, strict_of};
+use e_line::{FaultKind, LineError, RawLine, collected, exact_line_of};
 use e_literal::Items;
 use e_names::Theorems;
 use e_text::{Line, LineEnd, is};
@@ -30,33 +30,33 @@ use std::mem;
 
 /// What the lines of a block have said so far.
 #[derive(Drop)]
-pub struct Reading {
+pub struct BlockParser {
     /// The version of the text.
     pub version: Version,
     /// The theorem, once its first line has come.
-    pub draft: Option<Draft>,
+    pub draft: Option<TheoremParser>,
     /// What the last line but those of certificates owes.
-    pub owed: Owed,
+    pub owed: Pending,
     /// The certificates of the lines before it.
-    pub kept: KeptLines,
+    pub kept: AllCerts,
 }
 
 /// A theorem with its next line, and what that line owes.
 struct Begun {
-    draft: Draft,
-    owed: Owed,
+    draft: TheoremParser,
+    owed: Pending,
 }
 
-fn owes_nothing(alloc: Global) -> Owed
+fn owes_nothing(alloc: Global) -> Pending
     ensures { result ≡ owes_nothing }
 {
-    Owed {
+    Pending {
         names: Names {
             points: Items::empty(alloc),
             lines: Items::empty(alloc),
             circles: Items::empty(alloc),
         },
-        due: Due::Nothing,
+        due: Obligation::Nothing,
         sums: None,
     }
 }
@@ -66,9 +66,9 @@ fn owes_nothing(alloc: Global) -> Owed
 fn gone_on(
     alloc: Global,
     known: &Theorems,
-    draft: Option<Draft>,
-    form: &Form,
-) -> Result<Begun, Trouble>
+    draft: Option<TheoremParser>,
+    form: &RawLine,
+) -> Result<Begun, LineError>
     requires draft { IfSome draft FitsDraft }
     requires few { OnSome draft (length known.now ≤ most_theorems) }
     requires known { IsTrue (list_all is_small_statement (stated_by known.now)) }
@@ -78,7 +78,7 @@ fn gone_on(
 {
     match draft {
         None => {
-            let draft = Draft::begin(alloc, known, form)?;
+            let draft = TheoremParser::begin(alloc, known, form)?;
             Ok(Begun {
                 draft,
                 owed: owes_nothing(alloc),
@@ -90,7 +90,12 @@ fn gone_on(
 
 /// What a line owes, with the names in scope before it.
 #[tactic(auto, unfolding(crate::specs::Text::owed_by))]
-fn owed_by(alloc: Global, known: &Theorems, draft: &Draft, form: &Form) -> Result<Owed, Trouble>
+fn owed_by(
+    alloc: Global,
+    known: &Theorems,
+    draft: &TheoremParser,
+    form: &RawLine,
+) -> Result<Pending, LineError>
     requires draft { FitsDraft draft.now }
     requires few { length known.now ≤ most_theorems }
     requires known { IsTrue (list_all is_small_statement (stated_by known.now)) }
@@ -99,7 +104,7 @@ fn owed_by(alloc: Global, known: &Theorems, draft: &Draft, form: &Form) -> Resul
 {
     let names = draft.in_scope.copy(alloc)?;
     match due_of(alloc, known, draft, form) {
-        Ok(due) => Ok(Owed {
+        Ok(due) => Ok(Pending {
             names,
             due,
             sums: None,
@@ -113,7 +118,12 @@ fn owed_by(alloc: Global, known: &Theorems, draft: &Draft, form: &Form) -> Resul
 
 /// A line goes on with a theorem.
 #[tactic(auto, using(crate::proofs::MadeNames::few_behind))]
-fn next_line(alloc: Global, known: &Theorems, draft: Draft, form: &Form) -> Result<Begun, Trouble>
+fn next_line(
+    alloc: Global,
+    known: &Theorems,
+    draft: TheoremParser,
+    form: &RawLine,
+) -> Result<Begun, LineError>
     requires draft { FitsDraft draft }
     requires few { length known.now ≤ most_theorems }
     requires known { IsTrue (list_all is_small_statement (stated_by known.now)) }
@@ -123,7 +133,7 @@ fn next_line(alloc: Global, known: &Theorems, draft: Draft, form: &Form) -> Resu
 {
     if !is_apart(&draft, form) {
         mem::drop(draft);
-        return Err(Trouble::Fault(Kind::Malformed));
+        return Err(LineError::Fault(FaultKind::Malformed));
     }
     let owed = match owed_by(alloc, known, &draft, form) {
         Ok(owed) => owed,
@@ -141,17 +151,17 @@ fn next_line(alloc: Global, known: &Theorems, draft: Draft, form: &Form) -> Resu
     }
 }
 
-impl Reading {
+impl BlockParser {
     /// Before the first line, in a text of this version.
-    pub(crate) fn new(alloc: Global, version: Version) -> Reading
+    pub(crate) fn new(alloc: Global, version: Version) -> BlockParser
         ensures value { result ≡ at_start version }
         ensures fits { FitsReading result }
     {
-        Reading {
+        BlockParser {
             version,
             draft: None,
             owed: owes_nothing(alloc),
-            kept: KeptLines::new(alloc),
+            kept: AllCerts::new(alloc),
         }
     }
 
@@ -162,32 +172,32 @@ impl Reading {
         alloc: Global,
         line: &[u8],
         words: &[&[u8]],
-    ) -> Result<(), Trouble>
+    ) -> Result<(), LineError>
         requires { FewNames self.old.owed.names }
         ensures value { Moves result self.new (certified self.old line.now (texts words.now)) }
         ensures draft { OnOk result (self.new.draft ≡ self.old.draft) }
         ensures names { OnOk result (self.new.owed.names ≡ self.old.owed.names) }
     {
-        let mark = strict_mark(alloc, line, words)?;
-        if !mark_is_of(self.version, &mark) {
-            mem::drop(mark);
-            return Err(Trouble::Fault(Kind::Malformed));
+        let cert_line = exact_cert_line(alloc, line, words)?;
+        if !cert_line_is_of(self.version, &cert_line) {
+            mem::drop(cert_line);
+            return Err(LineError::Fault(FaultKind::Malformed));
         }
-        let taken = self.take_mark(alloc, &mark);
-        mem::drop(mark);
+        let taken = self.take_cert_line(alloc, &cert_line);
+        mem::drop(cert_line);
         taken
     }
 
     /// Takes what a line of a certificate says.
-    #[tactic(auto, unfolding(crate::specs::Text::with_mark))]
-    fn take_mark(&mut self, alloc: Global, mark: &Mark) -> Result<(), Trouble>
+    #[tactic(auto, unfolding(crate::specs::Text::with_cert_line))]
+    fn take_cert_line(&mut self, alloc: Global, cert_line: &CertLine) -> Result<(), LineError>
         requires { FewNames self.old.owed.names }
-        ensures value { Moves result self.new (with_mark self.old mark.now) }
+        ensures value { Moves result self.new (with_cert_line self.old cert_line.now) }
         ensures draft { OnOk result (self.new.draft ≡ self.old.draft) }
         ensures names { OnOk result (self.new.owed.names ≡ self.old.owed.names) }
     {
         let owed = mem::replace(&mut self.owed, owes_nothing(alloc));
-        let owed = owed.marked(alloc, mark)?;
+        let owed = owed.after_cert_line(alloc, cert_line)?;
         mem::drop(mem::replace(&mut self.owed, owed));
         Ok(())
     }
@@ -200,7 +210,7 @@ impl Reading {
         known: &Theorems,
         line: &[u8],
         words: &[&[u8]],
-    ) -> Result<(), Trouble>
+    ) -> Result<(), LineError>
         requires words { texts words.now ≡ tokens_of line.now }
         requires reading { FitsReading self.old }
         requires few { OnSome self.old.draft (length known.now ≤ most_theorems) }
@@ -209,7 +219,7 @@ impl Reading {
         ensures fits { OnOk result (FitsReading self.new) }
         ensures few { OnOk result (OnSome self.new.draft (length known.now ≤ most_theorems)) }
     {
-        let form = strict_of(alloc, line, words)?;
+        let form = exact_line_of(alloc, line, words)?;
         let taken = self.take_form(alloc, known, &form);
         mem::drop(form);
         taken
@@ -217,7 +227,12 @@ impl Reading {
 
     /// Nothing is owed any more, and the theorem goes on with this form.
     #[tactic(auto, unfolding(crate::specs::Text::with_form))]
-    fn take_form(&mut self, alloc: Global, known: &Theorems, form: &Form) -> Result<(), Trouble>
+    fn take_form(
+        &mut self,
+        alloc: Global,
+        known: &Theorems,
+        form: &RawLine,
+    ) -> Result<(), LineError>
         requires reading { FitsReading self.old }
         requires few { OnSome self.old.draft (length known.now ≤ most_theorems) }
         requires known { IsTrue (list_all is_small_statement (stated_by known.now)) }
@@ -225,7 +240,7 @@ impl Reading {
         ensures fits { OnOk result (FitsReading self.new) }
         ensures few { OnOk result (OnSome self.new.draft (length known.now ≤ most_theorems)) }
     {
-        self.settle(alloc)?;
+        self.finish_line(alloc)?;
         let draft = self.draft.take();
         let Begun { draft, owed } = gone_on(alloc, known, draft, form)?;
         mem::drop(mem::replace(&mut self.draft, Some(draft)));
@@ -234,13 +249,13 @@ impl Reading {
     }
 
     /// Nothing is owed any more, and what was read is kept.
-    fn settle(&mut self, alloc: Global) -> Result<(), Trouble>
+    fn finish_line(&mut self, alloc: Global) -> Result<(), LineError>
         requires { FewNames self.old.owed.names }
-        ensures value { Moves result self.new (all_settled self.old) }
+        ensures value { Moves result self.new (finish_line self.old) }
         ensures draft { OnOk result (self.new.draft ≡ self.old.draft) }
     {
         let owed = mem::replace(&mut self.owed, owes_nothing(alloc));
-        let read = owed.settled()?;
+        let read = owed.finish_certs()?;
         self.kept.push(read)?;
         Ok(())
     }
@@ -253,7 +268,7 @@ impl Reading {
         known: &Theorems,
         line: &[u8],
         words: &[&[u8]],
-    ) -> Result<(), Trouble>
+    ) -> Result<(), LineError>
         requires words { texts words.now ≡ tokens_of line.now }
         requires reading { FitsReading self.old }
         requires few { OnSome self.old.draft (length known.now ≤ most_theorems) }
@@ -263,7 +278,7 @@ impl Reading {
         ensures few { OnOk result (OnSome self.new.draft (length known.now ≤ most_theorems)) }
     {
         match words {
-            [] => Err(Trouble::Fault(Kind::Malformed)),
+            [] => Err(LineError::Fault(FaultKind::Malformed)),
             [word, rest @ ..] => {
                 if is(word, b"|") {
                     return self.take_certificate(alloc, line, rest);
@@ -275,7 +290,7 @@ impl Reading {
 
     /// Takes a line by its bytes.
     #[tactic(auto, unfolding(crate::specs::Text::spelled))]
-    fn take_bytes(&mut self, alloc: Global, known: &Theorems, line: &[u8]) -> Result<(), Trouble>
+    fn take_bytes(&mut self, alloc: Global, known: &Theorems, line: &[u8]) -> Result<(), LineError>
         requires reading { FitsReading self.old }
         requires few { OnSome self.old.draft (length known.now ≤ most_theorems) }
         requires known { IsTrue (list_all is_small_statement (stated_by known.now)) }
@@ -294,7 +309,7 @@ impl Reading {
         alloc: Global,
         known: &Theorems,
         line: Line<'_>,
-    ) -> Result<(), Trouble>
+    ) -> Result<(), LineError>
         requires reading { FitsReading self.old }
         requires few { OnSome self.old.draft (length known.now ≤ most_theorems) }
         requires known { IsTrue (list_all is_small_statement (stated_by known.now)) }
@@ -304,7 +319,7 @@ impl Reading {
     {
         match line.end {
             LineEnd::Lf => self.take_bytes(alloc, known, line.bytes),
-            _ => Err(Trouble::Fault(Kind::Malformed)),
+            _ => Err(LineError::Fault(FaultKind::Malformed)),
         }
     }
 
@@ -329,7 +344,7 @@ impl Reading {
     {
         match &self.draft {
             None => false,
-            Some(draft) => matches!(draft.place, Place::Done),
+            Some(draft) => matches!(draft.place, Section::Done),
         }
     }
 
@@ -338,7 +353,7 @@ impl Reading {
         requires { IsTrue (is_finished self.draft) }
         ensures { IfOk result (λ t. finished self.draft self.kept ≡ Some (entry_of t)) }
     {
-        let Reading {
+        let BlockParser {
             version: _,
             draft,
             owed,
@@ -372,7 +387,7 @@ fn is_last_line(alloc: Global, known: &Theorems, line: Line<'_>) -> Result<bool,
 }
 
 /// A theorem with its certificates at their lines.
-fn derived(alloc: Global, draft: Draft, kept: KeptLines) -> Result<Theorem, AllocError>
+fn derived(alloc: Global, draft: TheoremParser, kept: AllCerts) -> Result<Theorem, AllocError>
     ensures { IfOk result (λ t. entry_of t ≡ derived draft kept) }
 {
     let mut theorem = draft.into_theorem(alloc);

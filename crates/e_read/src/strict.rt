@@ -2,8 +2,8 @@
 ghost use Rattle.std.specs.Prelude.{◌≡◌};
 ghost use Rattle.e_read.specs.Strict.{ends_with, is_apart};
 
-use e_book::Draft;
-use e_line::Form;
+use e_book::TheoremParser;
+use e_line::RawLine;
 use e_literal::{Sort, is_same_sort};
 
 /// Whether the last of these objects has this sort.
@@ -19,12 +19,12 @@ fn ends_with(sorts: &[Sort], sort: Sort) -> bool
 }
 
 /// Whether the line is no neighbour of one that has objects of its sort too.
-pub(crate) fn is_apart(draft: &Draft, form: &Form) -> bool
+pub(crate) fn is_apart(draft: &TheoremParser, form: &RawLine) -> bool
     ensures { result ≡ is_apart draft.now form.now }
 {
     match form {
-        Form::Declare(sort, _) => !ends_with(draft.declared.items(), *sort),
-        Form::Made(sort, _) => !ends_with(draft.made.items(), *sort),
+        RawLine::Declare(sort, _) => !ends_with(draft.declared.items(), *sort),
+        RawLine::Made(sort, _) => !ends_with(draft.made.items(), *sort),
         _ => true,
     }
 }

@@ -1,9 +1,9 @@
 -- The lines of certificates: what is owed, what is spelled and what is read.
 pub mod RowsAgain
 pub mod TransfersAgain
-pub mod MarksRead
-pub mod MarksAgain
-pub mod MarksFormed
+pub mod CertLinesRead
+pub mod CertLinesAgain
+pub mod CertLinesFormed
 pub mod OwedSpelled
 pub mod CertsPut
 pub mod CertsGood

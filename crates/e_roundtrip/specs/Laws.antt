@@ -13,8 +13,8 @@ use Rattle.e_deriv.specs.Certified.{Certified}
 use Rattle.e_deriv.specs.Fitting.{is_small_statement}
 use Rattle.e_deriv.specs.Versions.{has_certs_of}
 use Rattle.e_deriv.specs.Written.{is_written_well}
-use Rattle.e_names.specs.Headed.{Headed, stated_by}
-use Rattle.e_book.specs.Entry.{Entry}
+use Rattle.e_names.specs.TitledStatements.{TitledStatement, stated_by}
+use Rattle.e_book.specs.TheoremViews.{TheoremView}
 use Rattle.e_book.specs.HasSpelling.{HasSpelling}
 use Rattle.e_trim.specs.Trimmed.{trimmed}
 use Rattle.e_read.specs.Text.{Derived, at_start, piece_from}
@@ -29,17 +29,17 @@ use Rattle.e_roundtrip.specs.Written.{AllCanBeSpelled, AllCanBeVerified, SpellsP
 
 -- what is read in a version as a theorem with its derivation is spelled so: the lines are exactly those of its one spelling
 abbrev pub ReadIsSpelled : Type 0
-ReadIsSpelled = (v : Version) (known : List Headed) (last : ℕ) (t : Entry) (lines rest : List (Result Seen LineFault)) → piece_from known last (at_start v) lines ≡ Ok (Derived t, rest)
+ReadIsSpelled = (v : Version) (known : List TitledStatement) (last : ℕ) (t : TheoremView) (lines rest : List (Result Seen LineFault)) → piece_from known last (at_start v) lines ≡ Ok (Derived t, rest)
     → ShowsEnded lines (spelled_lines known t t.script) rest
 
 -- so their bytes are its one text: no other text is read as the same theorem with the same derivation
 abbrev pub ReadTextIsSpelled : Type 0
-ReadTextIsSpelled = (v : Version) (known : List Headed) (last : ℕ) (t : Entry) (lines rest : List (Result Seen LineFault)) → piece_from known last (at_start v) lines ≡ Ok (Derived t, rest)
+ReadTextIsSpelled = (v : Version) (known : List TitledStatement) (last : ℕ) (t : TheoremView) (lines rest : List (Result Seen LineFault)) → piece_from known last (at_start v) lines ≡ Ok (Derived t, rest)
     → text_of_lines lines ≡ spelled known t t.script ++ text_of_lines rest
 
 -- and the derivation can be spelled, by its form: so that form is the form of what is read
 abbrev pub ReadCanBeSpelled : Type 0
-ReadCanBeSpelled = (v : Version) (known : List Headed) (last : ℕ) (t : Entry) (lines rest : List (Result Seen LineFault)) → piece_from known last (at_start v) lines ≡ Ok (Derived t, rest)
+ReadCanBeSpelled = (v : Version) (known : List TitledStatement) (last : ℕ) (t : TheoremView) (lines rest : List (Result Seen LineFault)) → piece_from known last (at_start v) lines ≡ Ok (Derived t, rest)
     → CanBeSpelled v known t t.script
 
 -- ---- what is spelled is read
@@ -51,20 +51,20 @@ CertifiedIsFormed = (before : List Stated) (t : Stated) (d : Script) → Certifi
 -- the lines of a derivation's one spelling, whatever follows them, are read as the theorem with that derivation
 abbrev pub SpelledIsRead : Type 0
 SpelledIsRead =
-    (v : Version) (known : List Headed) (last : ℕ) (t : Entry) (d : Script) (lines rest : List (Result Seen LineFault)) → CanBeSpelled v known t d
+    (v : Version) (known : List TitledStatement) (last : ℕ) (t : TheoremView) (d : Script) (lines rest : List (Result Seen LineFault)) → CanBeSpelled v known t d
     → ShowsEnded lines (spelled_lines known t d) rest → piece_from known last (at_start v) lines ≡ Ok (Derived (record t { script = d }), rest)
 
 -- a theorem that can be spelled still can when its blanks are filled: when its script is that of a certified derivation without the
 -- certificates, which differs from its own only in the arguments at the lines that use earlier theorems
 abbrev pub FilledHasSpelling : Type 0
 FilledHasSpelling =
-    (known : List Headed) (t : Entry) (d : Script) → HasSpelling known t → erased d ≡ filled_by (erased t.script) d
+    (known : List TitledStatement) (t : TheoremView) (d : Script) → HasSpelling known t → erased d ≡ filled_by (erased t.script) d
     → Certified (stated_by known) (stated t.statement) d → HasSpelling known (record t { script = erased d })
 
 -- and so it still can when the idle steps of a certified derivation of the first version are left out
 abbrev pub TrimmedHasSpelling : Type 0
 TrimmedHasSpelling =
-    (known : List Headed) (t : Entry) → IsTrue (list_all is_small_statement (stated_by known)) → HasSpelling known (record t { script = erased t.script }) → IsTrue (has_certs_of One t.script)
+    (known : List TitledStatement) (t : TheoremView) → IsTrue (list_all is_small_statement (stated_by known)) → HasSpelling known (record t { script = erased t.script }) → IsTrue (has_certs_of One t.script)
     → Certified (stated_by known) (stated t.statement) t.script → HasSpelling known (record t { script = erased (trimmed (stated_by known) (stated t.statement) t.script) })
 
 -- ---- what is written is judged
@@ -73,12 +73,12 @@ TrimmedHasSpelling =
 -- the first line that is not certified, and never garbled, however long it is
 abbrev pub WrittenIsJudged : Type 0
 WrittenIsJudged =
-    (v : Version) (ps : List (Entry × Script)) → AllCanBeSpelled v [] ps → JudgesText (written v ps) (judgement_of [] ps)
+    (v : Version) (ps : List (TheoremView × Script)) → AllCanBeSpelled v [] ps → JudgesText (written v ps) (judgement_of [] ps)
 
 -- what is written of certified derivations is a derivation text that is judged verified, with their number
 abbrev pub WrittenIsVerified : Type 0
 WrittenIsVerified =
-    (v : Version) (ps : List (Entry × Script)) → AllCanBeVerified v [] ps → JudgesText (written v ps) (Verified (length ps))
+    (v : Version) (ps : List (TheoremView × Script)) → AllCanBeVerified v [] ps → JudgesText (written v ps) (Verified (length ps))
 
 -- and a text that is judged verified is so written: it spells proofs, and nothing else
 abbrev pub VerifiedIsWritten : Type 0

@@ -7,8 +7,8 @@ use Rattle.e_clause.specs.declared.cert.Version.{Version}
 use Rattle.e_theorem.specs.Statements.{stated}
 use Rattle.e_deriv.specs.Script.{Script, erased}
 use Rattle.e_deriv.specs.Versions.{has_certs_of}
-use Rattle.e_names.specs.Headed.{Headed, stated_by}
-use Rattle.e_book.specs.Entry.{Entry}
+use Rattle.e_names.specs.TitledStatements.{TitledStatement, stated_by}
+use Rattle.e_book.specs.TheoremViews.{TheoremView}
 use Rattle.e_book.specs.HasSpelling.{HasSpelling}
 use Rattle.e_roundtrip.specs.Formed.{Formed}
 
@@ -20,7 +20,7 @@ ShowsEnded (Err f ∷ lines) (text ∷ texts) rest = ⊥
 ShowsEnded (Ok l ∷ lines) (text ∷ texts) rest = (l.bytes ≡ text) × (l.end ≡ Lf) × ShowsEnded lines texts rest
 
 -- what a derivation of a theorem is that lines of a text of this version can spell, by its form alone: whether its certificates certify is not asked
-pub record CanBeSpelled (v : Version) (known : List Headed) (t : Entry) (d : Script) : Type 0 where
+pub record CanBeSpelled (v : Version) (known : List TitledStatement) (t : TheoremView) (d : Script) : Type 0 where
   -- so is the theorem, with the derivation's script for its own
   pub plain : HasSpelling known (record t { script = erased d })
   -- each line has as many certificates as it owes, of good form

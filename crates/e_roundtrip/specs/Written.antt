@@ -5,8 +5,8 @@ use Rattle.e_theorem.specs.Statements.{stated}
 use Rattle.e_deriv.specs.Script.{Script}
 use Rattle.e_deriv.specs.Proves.{IsProof}
 use Rattle.e_deriv.specs.Certified.{Certified, verdict}
-use Rattle.e_names.specs.Headed.{Headed, stated_by}
-use Rattle.e_book.specs.Entry.{Entry}
+use Rattle.e_names.specs.TitledStatements.{TitledStatement, stated_by}
+use Rattle.e_book.specs.TheoremViews.{TheoremView}
 use Rattle.e_spell.specs.Spelling.{spelled}
 use Rattle.e_roundtrip.specs.Spelled.{CanBeSpelled}
 use Rattle.e_judgement.specs.declared.judgement.Judgement.{Judgement}
@@ -14,17 +14,17 @@ use Rattle.e_judgement.specs.declared.judgement.Judgement.TheVariants.{Verified,
 use Rattle.e_judgement.specs.Judged.{with_theorem, head_of}
 
 -- theorems, each with a derivation of it that lines of this version can spell: each where those before it are known
-abbrev pub AllCanBeSpelled : Version → List Headed → List (Entry × Script) → Type 0
+abbrev pub AllCanBeSpelled : Version → List TitledStatement → List (TheoremView × Script) → Type 0
 AllCanBeSpelled v known [] = Unit {0}
 AllCanBeSpelled v known (p ∷ ps) = CanBeSpelled v known p.0 p.1 × AllCanBeSpelled v (with_theorem known p.0) ps
 
 -- lines can spell the derivation, and each of its certificates certifies
-pub record CanBeVerified (v : Version) (known : List Headed) (t : Entry) (d : Script) : Type 0 where
+pub record CanBeVerified (v : Version) (known : List TitledStatement) (t : TheoremView) (d : Script) : Type 0 where
   pub spelled : CanBeSpelled v known t d
   pub certified : Certified (stated_by known) (stated t.statement) d
 
 -- theorems, each with a derivation of it: each where those before it are known
-abbrev pub AllCanBeVerified : Version → List Headed → List (Entry × Script) → Type 0
+abbrev pub AllCanBeVerified : Version → List TitledStatement → List (TheoremView × Script) → Type 0
 AllCanBeVerified v known [] = Unit {0}
 AllCanBeVerified v known (p ∷ ps) = CanBeVerified v known p.0 p.1 × AllCanBeVerified v (with_theorem known p.0) ps
 
@@ -34,13 +34,13 @@ judged_after title (Ok n) behind = behind
 judged_after title (Err step) behind = Bad title step
 
 -- what they are judged, one after another, up to the first line that is not certified
-abbrev pub judgement_of : List Headed → List (Entry × Script) → Judgement
+abbrev pub judgement_of : List TitledStatement → List (TheoremView × Script) → Judgement
 judgement_of known [] = Verified (length known)
 judgement_of known (p ∷ ps) =
     judged_after p.0.title (verdict (stated_by known) (stated p.0.statement) p.1) (judgement_of (with_theorem known p.0) ps)
 
 -- the blocks of derivations, one behind the other
-abbrev pub blocks_of : List Headed → List (Entry × Script) → List ℕ
+abbrev pub blocks_of : List TitledStatement → List (TheoremView × Script) → List ℕ
 blocks_of known [] = []
 blocks_of known (p ∷ ps) = spelled known p.0 p.1 ++ blocks_of (with_theorem known p.0) ps
 
@@ -53,18 +53,18 @@ abbrev pub accepted_line : ℕ → List ℕ
 accepted_line n = codes "accepted " ++ (decimal n ++ codes "\n")
 
 -- the head line, the blocks, and the last line
-abbrev pub written : Version → List (Entry × Script) → List ℕ
+abbrev pub written : Version → List (TheoremView × Script) → List ℕ
 written v ps = head_line v ++ (blocks_of [] ps ++ accepted_line (length ps))
 
 -- each derivation proves its theorem's statement from those of the theorems before it
-abbrev pub AllProved : List Headed → List (Entry × Script) → Type 0
+abbrev pub AllProved : List TitledStatement → List (TheoremView × Script) → Type 0
 AllProved known [] = Unit {0}
 AllProved known (p ∷ ps) = IsProof (stated_by known) (stated p.0.statement) p.1 × AllProved (with_theorem known p.0) ps
 
 -- the text is the head line of its version, the spellings of so many theorems, each with a derivation that proves it, and the line with their number
 pub record SpellsProofs (n : ℕ) (text : List ℕ) : Type 0 where
   pub version : Version
-  pub theorems : List (Entry × Script)
+  pub theorems : List (TheoremView × Script)
   pub count : length theorems ≡ n
   pub proved : AllProved [] theorems
   pub bytes : text ≡ written version theorems

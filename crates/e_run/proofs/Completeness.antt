@@ -17,8 +17,8 @@ use Rattle.e_theorem.specs.WideChoice.{SomeChoiceIsWide}
 use Rattle.e_literal.specs.Use.{Stated}
 use Rattle.e_deriv.specs.Refused.{SomeIsWide, IsWideAt, IsTooWide}
 use Rattle.e_names.specs.declared.known.Known.{Known}
-use Rattle.e_names.specs.Headed.{Headed, stated_by}
-use Rattle.e_book.specs.Entry.{Entry}
+use Rattle.e_names.specs.TitledStatements.{TitledStatement, stated_by}
+use Rattle.e_book.specs.TheoremViews.{TheoremView}
 use Rattle.e_run.specs.Outcome.{Rest, BookOutcome, IsOutcomeOf, Begins, StopsAt, RefusedAt, HasWide, lines_of_book}
 use Rattle.e_run.specs.Outcome as outcome
 use Rattle.e_run.specs.Answers.{Outputs, Checks, ChecksBook, OutcomeAfter, Refuses, Widens, IsAnswer, Answers, UsageAnswer, AnswersUsage, theorems_of}
@@ -32,13 +32,13 @@ answered_at : (lines : Rest) (end other : BookOutcome) (answer : Status) → oth
 answered_at lines end other answer e h = subst (λ (x : BookOutcome). IsAnswer lines x answer) e h
 
 -- where the book ends so after these theorems, an answer to that is one to its outcome
-pub answered_so : (text : List ℕ) (end : BookOutcome) (answer : Status) (theorems : List Entry) (known : Known) (rest : Rest) (other : BookOutcome) → IsOutcomeOf text end
+pub answered_so : (text : List ℕ) (end : BookOutcome) (answer : Status) (theorems : List TheoremView) (known : Known) (rest : Rest) (other : BookOutcome) → IsOutcomeOf text end
     → Begins (lines_of_book text) theorems known rest → OutcomeAfter (lines_of_book text) other known rest → IsAnswer (lines_of_book text) other answer → IsAnswer (lines_of_book text) end answer
 answered_so text end answer theorems known rest other h b e k =
     answered_at (lines_of_book text) end other answer
     (outcome_is_one (lines_of_book text) theorems h.theorems other end (record { known = known; rest = rest; begins = b; ends = e }) h.outcome) k
 
-pub stop_of_refusal : (known : List Headed) (t : Entry) (title : List ℕ) (step : ℕ) (wanted : Wanted) (values : Option (List (Term × ℕ))) (names : Names)
+pub stop_of_refusal : (known : List TitledStatement) (t : TheoremView) (title : List ℕ) (step : ℕ) (wanted : Wanted) (values : Option (List (Term × ℕ))) (names : Names)
     → RefusedAt known t title step wanted values names → StopsAt known t title step wanted names
 stop_of_refusal known t title step wanted values names r =
     record { titled = r.titled; first = record { line = r.refused.line; context = r.refused.context; lacks = r.refused.lacks }; named = r.named }
@@ -80,7 +80,7 @@ wide_line before x (Cases lit first second) (Literal l) w h = some_wide before x
 wide_line before x here Match w h = absurd h
 wide_line before x here AContradiction w h = absurd h
 
-pub widens_so : (lines : Rest) (theorems : List Entry) (known : Known) (rest : Rest) (title : List ℕ) (step : ℕ) (wanted : Wanted) (width : ℕ) (names : Names)
+pub widens_so : (lines : Rest) (theorems : List TheoremView) (known : Known) (rest : Rest) (title : List ℕ) (step : ℕ) (wanted : Wanted) (width : ℕ) (names : Names)
     → Begins lines theorems known rest → Widens lines title step wanted width names known rest → HasWide lines
 widens_so lines theorems known rest title step wanted width names b w =
     let at = w.3.too_wide in

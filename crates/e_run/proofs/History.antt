@@ -5,8 +5,8 @@ use Rattle.std.proofs.Math.Seq.{take-append-add}
 use Rattle.e_io.specs.Bytes.{Grew, GrewByFront}
 use Rattle.e_io.proofs.Growth.{grown, grown-nothing}
 use Rattle.e_theorem.specs.Statements.{stated}
-use Rattle.e_names.specs.Headed.{Headed, stated_by}
-use Rattle.e_book.specs.Entry.{Entry}
+use Rattle.e_names.specs.TitledStatements.{TitledStatement, stated_by}
+use Rattle.e_book.specs.TheoremViews.{TheoremView}
 use Rattle.e_names.specs.declared.known.Known.{Known}
 use Rattle.e_names.specs.Taken.{nothing_known}
 use Rattle.e_names.specs.Titled.{Titled}
@@ -54,7 +54,7 @@ one_defined last known lines [] now rest n after d h = (
 one_defined last known lines (m ∷ ms) now rest n after d h = (d.0, d.1, one_defined last (and_notion known m) d.0 ms now rest n after d.2 h)
 
 -- one more definition is taken
-pub takes_notion : (last : ℕ) (known : Known) (lines : Rest) (ts : List Entry) (now : Known) (rest : Rest) (n : Titled) (after : Rest)
+pub takes_notion : (last : ℕ) (known : Known) (lines : Rest) (ts : List TheoremView) (now : Known) (rest : Rest) (n : Titled) (after : Rest)
     → Takes last known lines ts now rest → item_from now last None rest ≡ Ok (Some (OfNotion n, after)) → Takes last known lines ts (and_notion now n) after
 takes_notion last known lines [] now rest n after r h = record { notions = r.notions ++ n ∷ []; defines = one_defined last known lines r.notions now rest n after r.defines h }
 takes_notion last known lines (u ∷ us) now rest n after r h =
@@ -63,7 +63,7 @@ takes_notion last known lines (u ∷ us) now rest n after r h =
 -- ---- theorems
 
 -- one more theorem is taken
-pub takes_more : (last : ℕ) (known : Known) (lines : Rest) (ts : List Entry) (now : Known) (rest : Rest) (t : Entry) (after : Rest)
+pub takes_more : (last : ℕ) (known : Known) (lines : Rest) (ts : List TheoremView) (now : Known) (rest : Rest) (t : TheoremView) (after : Rest)
     → Takes last known lines ts now rest → item_from now last None rest ≡ Ok (Some (OfTheorem t, after)) → IsLicensed now.theorems t
     → Takes last known lines (ts ++ t ∷ []) (and_theorem now t) after
 takes_more last known lines [] now rest t after r h l = (now, rest, r, after, h, l, none_defined last (and_theorem now t) after)
@@ -73,15 +73,15 @@ takes_more last known lines (u ∷ us) now rest t after r h l =
 -- one more derivation, by what is known after the others
 all_more : (last : ℕ) (known : Known) (lines : Rest) (ds : List Derived) (now : Known) (rest : Rest) (d : Derived)
     → Takes last known lines (theorems_of ds) now rest → AllDerived known.theorems ds → IsDerived now.theorems d → AllDerived known.theorems (ds ++ d ∷ [])
-all_more last known lines [] now rest d r h k = (subst (λ (x : List Headed). IsDerived x d) (sym (defined_same last known lines now rest r)) k, tt)
+all_more last known lines [] now rest d r h k = (subst (λ (x : List TitledStatement). IsDerived x d) (sym (defined_same last known lines now rest r)) k, tt)
 all_more last known lines (e ∷ es) now rest d r h k =
     let same = defined_same last known lines r.0 r.1 r.2 in
-    let later = subst (λ (x : List Headed). AllDerived (with_theorem x e.theorem) es) same h.1 in
-    (h.0, subst (λ (x : List Headed). AllDerived (with_theorem x e.theorem) (es ++ d ∷ [])) (sym same) (all_more last (and_theorem r.0 e.theorem) r.3 es now rest d r.6 later k))
+    let later = subst (λ (x : List TitledStatement). AllDerived (with_theorem x e.theorem) es) same h.1 in
+    (h.0, subst (λ (x : List TitledStatement). AllDerived (with_theorem x e.theorem) (es ++ d ∷ [])) (sym same) (all_more last (and_theorem r.0 e.theorem) r.3 es now rest d r.6 later k))
 
 theorems_more : (ds : List Derived) (d : Derived) → theorems_of (ds ++ d ∷ []) ≡ theorems_of ds ++ d.theorem ∷ []
 theorems_more [] d = refl
-theorems_more (e ∷ es) d = ap (λ (ts : List Entry). e.theorem ∷ ts) (theorems_more es d)
+theorems_more (e ∷ es) d = ap (λ (ts : List TheoremView). e.theorem ∷ ts) (theorems_more es d)
 
 steps_more : (ds : List Derived) (d : Derived) → steps_of (ds ++ d ∷ []) ≡ steps_of ds + size d.theorem.script
 steps_more [] d = refl
@@ -89,18 +89,18 @@ steps_more (e ∷ es) d = omega (arith, steps_more es d)
 
 blocks_more : (last : ℕ) (known : Known) (lines : Rest) (ds : List Derived) (now : Known) (rest : Rest) (d : Derived)
     → Takes last known lines (theorems_of ds) now rest → blocks_of known.theorems (ds ++ d ∷ []) ≡ blocks_of known.theorems ds ++ block_of now.theorems d
-blocks_more last known lines [] now rest d r = append-nil (block_of known.theorems d) ∙ ap (λ (k : List Headed). block_of k d) (defined_same last known lines now rest r)
+blocks_more last known lines [] now rest d r = append-nil (block_of known.theorems d) ∙ ap (λ (k : List TitledStatement). block_of k d) (defined_same last known lines now rest r)
 blocks_more last known lines (e ∷ es) now rest d r =
     let same = defined_same last known lines r.0 r.1 r.2 in
     let here = block_of known.theorems e in
     let later = with_theorem r.0.theorems e.theorem in
-    let moved = λ (ds : List Derived). ap (λ (k : List Headed). blocks_of (with_theorem k e.theorem) ds) same in
+    let moved = λ (ds : List Derived). ap (λ (k : List TitledStatement). blocks_of (with_theorem k e.theorem) ds) same in
     ap (λ (x : List ℕ). here ++ x) (moved (es ++ d ∷ []) ∙ blocks_more last (and_theorem r.0 e.theorem) r.3 es now rest d r.6)
     ∙ sym (append_assoc here (blocks_of later es) (block_of now.theorems d))
     ∙ ap (λ (x : List ℕ). (here ++ x) ++ block_of now.theorems d) (sym (moved es))
 
 -- a theorem with a derivation has each of its lines licensed
-licensed : (known : List Headed) (d : Derived) → IsDerived known d → IsLicensed known d.theorem
+licensed : (known : List TitledStatement) (d : Derived) → IsDerived known d → IsLicensed known d.theorem
 licensed known d h = record { filled = d.derivation; licensed = h.least }
 
 pub begins : (lines : Rest) (old : Option (List ℕ)) → History lines old nothing_known lines old 0
@@ -110,7 +110,7 @@ begins_more : (lines : Rest) (ds : List Derived) (known : Known) (rest after : R
     → Begins lines (theorems_of ds) known rest → item_from known (end_line_number lines) None rest ≡ Ok (Some (OfTheorem d.theorem, after)) → IsDerived known.theorems d
     → Begins lines (theorems_of (ds ++ d ∷ [])) (and_theorem known d.theorem) after
 begins_more lines ds known rest after d b h k =
-    subst (λ (ts : List Entry). Begins lines ts (and_theorem known d.theorem) after) (sym (theorems_more ds d))
+    subst (λ (ts : List TheoremView). Begins lines ts (and_theorem known d.theorem) after) (sym (theorems_more ds d))
     (takes_more (end_line_number lines) nothing_known lines (theorems_of ds) known rest d.theorem after b h (licensed known.theorems d k))
 
 -- the block of the next theorem was written
@@ -176,7 +176,7 @@ breaks_inside lines old new newer known rest after steps d h read k w =
     }
 
 -- the next theorem is refused
-pub stops_with : (lines : Rest) (old new : Option (List ℕ)) (known : Known) (rest after : Rest) (steps : ℕ) (t : Entry) (step : ℕ) (wanted : Wanted) (values : Option (List (Term × ℕ))) (names : Names)
+pub stops_with : (lines : Rest) (old new : Option (List ℕ)) (known : Known) (rest after : Rest) (steps : ℕ) (t : TheoremView) (step : ℕ) (wanted : Wanted) (values : Option (List (Term × ℕ))) (names : Names)
     → History lines old known rest new steps → item_from known (end_line_number lines) None rest ≡ Ok (Some (OfTheorem t, after))
     → IsRefused (stated_by known.theorems) (stated t.statement) t.script step wanted values
     → Some names ≡ slice_get (names_lines (stated_by known.theorems) (declared_names (stated t.statement) t.names) t.script) (step - 1)
@@ -185,7 +185,7 @@ stops_with lines old new known rest after steps t step wanted values names h rea
     ends_with lines old new known rest steps (Refuses lines t.title step wanted values names) h (t, after, read, record { titled = refl; refused = refused; named = named })
 
 -- a line of the next theorem is too wide
-pub widens_with : (lines : Rest) (old new : Option (List ℕ)) (known : Known) (rest after : Rest) (steps : ℕ) (t : Entry) (step : ℕ) (wanted : Wanted) (width : ℕ) (names : Names)
+pub widens_with : (lines : Rest) (old new : Option (List ℕ)) (known : Known) (rest after : Rest) (steps : ℕ) (t : TheoremView) (step : ℕ) (wanted : Wanted) (width : ℕ) (names : Names)
     → History lines old known rest new steps → item_from known (end_line_number lines) None rest ≡ Ok (Some (OfTheorem t, after))
     → IsTooWideAt (stated_by known.theorems) (stated t.statement) t.script step wanted width
     → Some names ≡ slice_get (names_lines (stated_by known.theorems) (declared_names (stated t.statement) t.names) t.script) (step - 1)
@@ -194,14 +194,14 @@ widens_with lines old new known rest after steps t step wanted width names h rea
     ends_with lines old new known rest steps (Widens lines t.title step wanted width names) h (t, after, read, record { titled = refl; too_wide = too_wide; named = named })
 
 -- the bytes that were written are the block of this derivation
-pub spelled_as : (old new : Option (List ℕ)) (xs ys : List ℕ) (known : List Headed) (d : Derived) → xs ≡ ys → ys ≡ block_of known d → Grew old new xs → Grew old new (block_of known d)
+pub spelled_as : (old new : Option (List ℕ)) (xs ys : List ℕ) (known : List TitledStatement) (d : Derived) → xs ≡ ys → ys ≡ block_of known d → Grew old new xs → Grew old new (block_of known d)
 spelled_as old new xs ys known d e f g = subst (λ (l : List ℕ). Grew old new l) (e ∙ f) g
 
-pub front_spelled_as : (old new : Option (List ℕ)) (xs ys : List ℕ) (known : List Headed) (d : Derived) → xs ≡ ys → ys ≡ block_of known d → GrewByFront old new xs → GrewByFront old new (block_of known d)
+pub front_spelled_as : (old new : Option (List ℕ)) (xs ys : List ℕ) (known : List TitledStatement) (d : Derived) → xs ≡ ys → ys ≡ block_of known d → GrewByFront old new xs → GrewByFront old new (block_of known d)
 front_spelled_as old new xs ys known d e f g = subst (λ (l : List ℕ). GrewByFront old new l) (e ∙ f) g
 
 -- the next theorem stops, or memory ran out
-pub stopped : (lines : Rest) (old new : Option (List ℕ)) (known : Known) (rest after any : Rest) (steps : ℕ) (t : Entry) (stop : Stop) (b : Book) (r : Result (Option BookResult) RunError)
+pub stopped : (lines : Rest) (old new : Option (List ℕ)) (known : Known) (rest after any : Rest) (steps : ℕ) (t : TheoremView) (stop : Stop) (b : Book) (r : Result (Option BookResult) RunError)
     → r ≡ result_of_stop t.title stop → History lines old known rest new steps → item_from known (end_line_number lines) None rest ≡ Ok (Some (OfTheorem t, after))
     → StopIs (stated_by known.theorems) (stated t.statement) t.script stop → HasNames (stated_by known.theorems) (stated t.statement) t.names t.script stop → Handles lines old any r b new
 stopped lines old new known rest after any steps t (stops.Unlicensed step wanted values names) b r e h read s k =

@@ -7,8 +7,8 @@ use Rattle.e_deriv.specs.declared.names.Names.{Names}
 use Rattle.e_deriv.specs.Naming.{names_lines, declared_names}
 use Rattle.e_deriv.proofs.Stops.{one_stop, no_stop_of_licensed}
 use Rattle.e_line.specs.declared.fault.BookFault.{BookFault}
-use Rattle.e_names.specs.Headed.{Headed, stated_by}
-use Rattle.e_book.specs.Entry.{Entry}
+use Rattle.e_names.specs.TitledStatements.{TitledStatement, stated_by}
+use Rattle.e_book.specs.TheoremViews.{TheoremView}
 use Rattle.e_names.specs.declared.known.Known.{Known}
 use Rattle.e_names.specs.Taken.{nothing_known}
 use Rattle.e_names.specs.Titled.{Titled}
@@ -45,7 +45,7 @@ same_some : (x y : Names) → Some x ≡ Some y → x ≡ y
 same_some x y e = cc
 
 -- two stops of one theorem are one
-pub one_stop_at : (known : List Headed) (t : Entry) (p q : List ℕ) (n m : ℕ) (v w : Wanted) (x y : Names) → StopsAt known t p n v x → StopsAt known t q m w y → Unlicensed p n v x ≡ Unlicensed q m w y
+pub one_stop_at : (known : List TitledStatement) (t : TheoremView) (p q : List ℕ) (n m : ℕ) (v w : Wanted) (x y : Names) → StopsAt known t p n v x → StopsAt known t q m w y → Unlicensed p n v x ≡ Unlicensed q m w y
 one_stop_at known t p q n m v w x y h k =
     let s = one_stop (stated_by known) (stated t.statement) t.script n m v w h.first k.first in
     let e : p ≡ q = sym h.titled ∙ k.titled in
@@ -53,16 +53,16 @@ one_stop_at known t p q n m v w x y h k =
     let f : x ≡ y = same_some x y (h.named ∙ ap (λ (i : ℕ). slice_get names (i - 1)) s.0 ∙ sym k.named) in
     ap (λ (l : List ℕ). Unlicensed l n v x) e ∙ ap (λ (i : ℕ). Unlicensed q i v x) s.0 ∙ ap (λ (z : Wanted). Unlicensed q m z x) s.1 ∙ ap (λ (z : Names). Unlicensed q m w z) f
 
-pub stop_of_same : (known : List Headed) (t u : Entry) (title : List ℕ) (step : ℕ) (wanted : Wanted) (names : Names) → t ≡ u → StopsAt known t title step wanted names → StopsAt known u title step wanted names
-stop_of_same known t u title step wanted names e h = subst (λ (x : Entry). StopsAt known x title step wanted names) e h
+pub stop_of_same : (known : List TitledStatement) (t u : TheoremView) (title : List ℕ) (step : ℕ) (wanted : Wanted) (names : Names) → t ≡ u → StopsAt known t title step wanted names → StopsAt known u title step wanted names
+stop_of_same known t u title step wanted names e h = subst (λ (x : TheoremView). StopsAt known x title step wanted names) e h
 
-same_theorem : (t u : Entry) → OfTheorem t ≡ OfTheorem u → t ≡ u
+same_theorem : (t u : TheoremView) → OfTheorem t ≡ OfTheorem u → t ≡ u
 same_theorem t u e = cc
 
 same_notion : (n m : Titled) → OfNotion n ≡ OfNotion m → n ≡ m
 same_notion n m e = cc
 
-not_both : (t : Entry) (n : Titled) → OfTheorem t ≡ OfNotion n → ⊥
+not_both : (t : TheoremView) (n : Titled) → OfTheorem t ≡ OfNotion n → ⊥
 not_both t n e = cc
 
 same_item : (i j : BookItem) (xs ys : Rest) → found i xs ≡ found j ys → i ≡ j
@@ -71,7 +71,7 @@ same_item i j xs ys e = ap (λ (p : BookItem × Rest). p.0) (same_found i j xs y
 pub same_rest : (i j : BookItem) (xs ys : Rest) → found i xs ≡ found j ys → xs ≡ ys
 same_rest i j xs ys e = ap (λ (p : BookItem × Rest). p.1) (same_found i j xs ys e)
 
-pub same_first : (t u : Entry) (xs ys : Rest) → found (OfTheorem t) xs ≡ found (OfTheorem u) ys → t ≡ u
+pub same_first : (t u : TheoremView) (xs ys : Rest) → found (OfTheorem t) xs ≡ found (OfTheorem u) ys → t ≡ u
 same_first t u xs ys e = same_theorem t u (same_item (OfTheorem t) (OfTheorem u) xs ys e)
 
 -- with the same known, the same lines end in one way
@@ -88,7 +88,7 @@ one_end last known lines (Faulty f) (Unlicensed q j w y) h k = absurd (found_not
 one_end last known lines (Faulty f) (Faulty g) h k = ap Faulty (same_faulty f g (sym h ∙ k))
 
 -- where the next theorem is licensed the lines do not end
-no_end : (last : ℕ) (known : Known) (lines after : Rest) (u : Entry) (a : BookOutcome) → item_from known last None lines ≡ found (OfTheorem u) after → IsLicensed known.theorems u → OutcomeAt last known lines a → ⊥
+no_end : (last : ℕ) (known : Known) (lines after : Rest) (u : TheoremView) (a : BookOutcome) → item_from known last None lines ≡ found (OfTheorem u) after → IsLicensed known.theorems u → OutcomeAt last known lines a → ⊥
 no_end last known lines after u (Accepted n) r l h = found_not_none (OfTheorem u) after (sym r ∙ h.0)
 no_end last known lines after u (Unlicensed p i v x) r l h =
     no_stop_of_licensed (stated_by known.theorems) (stated u.statement) u.script l.filled i v l.licensed (stop_of_same known.theorems h.0 u p i v x (same_first h.0 u h.1 after (sym h.2 ∙ r)) h.3).first
@@ -100,7 +100,7 @@ no_end last known lines after u (Faulty f) r l h = found_not_faulty (OfTheorem u
 abbrev pub NoNotion : ℕ → Known → Rest → Type 0
 NoNotion last known lines = (n : Titled) (after : Rest) → item_from known last None lines ≡ found (OfNotion n) after → ⊥
 
-pub theorem_here : (last : ℕ) (known : Known) (lines : Rest) (t : Entry) (rest : Rest) → item_from known last None lines ≡ found (OfTheorem t) rest → NoNotion last known lines
+pub theorem_here : (last : ℕ) (known : Known) (lines : Rest) (t : TheoremView) (rest : Rest) → item_from known last None lines ≡ found (OfTheorem t) rest → NoNotion last known lines
 theorem_here last known lines t rest h = λ n after e. not_both t n (same_item (OfTheorem t) (OfNotion n) rest after (sym h ∙ e))
 
 end_here : (last : ℕ) (known : Known) (lines : Rest) (a : BookOutcome) → OutcomeAt last known lines a → NoNotion last known lines
@@ -136,24 +136,24 @@ ends_at : (last : ℕ) (known now : Known) (lines rest : Rest) (a : BookOutcome)
 ends_at last known now lines rest a e f h =
     subst (λ (k : Known). OutcomeAt last k lines a) (sym e) (subst (λ (l : Rest). OutcomeAt last now l a) (sym f) h)
 
-pub takes_at : (last : ℕ) (known other now : Known) (lines after rest : Rest) (ts : List Entry) (t u : Entry) → other ≡ known → u ≡ t → after ≡ lines
+pub takes_at : (last : ℕ) (known other now : Known) (lines after rest : Rest) (ts : List TheoremView) (t u : TheoremView) → other ≡ known → u ≡ t → after ≡ lines
     → Takes last (and_theorem other u) after ts now rest → Takes last (and_theorem known t) lines ts now rest
 takes_at last known other now lines after rest ts t u d e f h =
     subst (λ (k : Known). Takes last (and_theorem k t) lines ts now rest) d
     (subst (λ (l : Rest). Takes last (and_theorem other t) l ts now rest) f
-    (subst (λ (x : Entry). Takes last (and_theorem other x) after ts now rest) e h))
+    (subst (λ (x : TheoremView). Takes last (and_theorem other x) after ts now rest) e h))
 
 -- ---- the whole
 
 -- where one way ends before a theorem, no other way has one there
-ends_before : (last : ℕ) (known : Known) (lines : Rest) (k1 here : Known) (r1 before after : Rest) (u : Entry) (a : BookOutcome)
+ends_before : (last : ℕ) (known : Known) (lines : Rest) (k1 here : Known) (r1 before after : Rest) (u : TheoremView) (a : BookOutcome)
     → AreDefined last known lines k1 r1 → OutcomeAt last k1 r1 a → AreDefined last known lines here before → item_from here last None before ≡ found (OfTheorem u) after → IsLicensed here.theorems u → ⊥
 ends_before last known lines k1 here r1 before after u a p h d read l =
     let spot = spot_of last known lines here k1 before r1 d p (theorem_here last here before u after read) (end_here last k1 r1 a h) in
     no_end last here before after u a read l (ends_at last here k1 before r1 a spot.0 spot.1 h)
 
 -- the same lines have one outcome
-pub one_outcome : (last : ℕ) (known : Known) (lines : Rest) (ts us : List Entry) (k1 k2 : Known) (r1 r2 : Rest) (a b : BookOutcome)
+pub one_outcome : (last : ℕ) (known : Known) (lines : Rest) (ts us : List TheoremView) (k1 k2 : Known) (r1 r2 : Rest) (a b : BookOutcome)
     → Takes last known lines ts k1 r1 → Takes last known lines us k2 r2 → OutcomeAt last k1 r1 a → OutcomeAt last k2 r2 b → a ≡ b
 one_outcome last known lines [] [] k1 k2 r1 r2 a b p q h k =
     let spot = spot_of last known lines k1 k2 r1 r2 p q (end_here last k1 r1 a h) (end_here last k2 r2 b k) in
@@ -169,6 +169,6 @@ one_outcome last known lines (t ∷ ts) (u ∷ us) k1 k2 r1 r2 a b p q h k =
     one_outcome last (and_theorem p.0 t) p.3 ts us k1 k2 r1 r2 a b p.6
     (takes_at last p.0 q.0 k2 p.3 q.3 r2 us t u (sym spot.0) (same_first u t q.3 p.3 e) (same_rest (OfTheorem u) (OfTheorem t) q.3 p.3 e) q.6) h k
 
-pub outcome_is_one : (lines : Rest) (ts us : List Entry) (a b : BookOutcome) → IsOutcome lines ts a → IsOutcome lines us b → a ≡ b
+pub outcome_is_one : (lines : Rest) (ts us : List TheoremView) (a b : BookOutcome) → IsOutcome lines ts a → IsOutcome lines us b → a ≡ b
 outcome_is_one lines ts us a b p q =
     one_outcome (end_line_number lines) nothing_known lines ts us p.known q.known p.rest q.rest a b p.begins q.begins p.ends q.ends

@@ -9,8 +9,8 @@ use Rattle.e_clause.specs.declared.cert.Version.{Version}
 use Rattle.e_clause.specs.declared.cert.Version.TheVariants.{One}
 use Rattle.e_theorem.specs.Statements.{stated}
 use Rattle.e_deriv.specs.Script.{Script}
-use Rattle.e_names.specs.Headed.{Headed, stated_by}
-use Rattle.e_book.specs.Entry.{Entry}
+use Rattle.e_names.specs.TitledStatements.{TitledStatement, stated_by}
+use Rattle.e_book.specs.TheoremViews.{TheoremView}
 use Rattle.e_book.specs.Grammar.{last_line as last_of}
 use Rattle.e_deriv.specs.Versions.{has_certs_of}
 use Rattle.e_trim.specs.Trimmable.{IsTrimmable}
@@ -47,26 +47,26 @@ version_for Trim v d first h = subst (λ (x : Version). has_certs_of x d ≡ tru
 version_for Uses v d first h = tt
 
 -- what comes next of a text that the command reads can be written again
-pub is_verified : (job : Job) (v : Version) (known : List Headed) (last : ℕ) (lines : Rest) (t : Entry) (after : Rest) → IsReadFor job v → IsNext v known last lines t after → IsVerified job known t
+pub is_verified : (job : Job) (v : Version) (known : List TitledStatement) (last : ℕ) (lines : Rest) (t : TheoremView) (after : Rest) → IsReadFor job v → IsNext v known last lines t after → IsVerified job known t
 is_verified job v known last lines t after first n = record { verifiable = n.verifiable; certified = n.certified; version = version_for job v t.script first n.version; new = n.spelled.fits.new }
 
 -- and trimmed, where it is of the first version
-pub trimmable : (known : List Headed) (t : Entry) → IsVerifiable (stated_by known) (stated t.statement) t.script → IsCertified known t → has_certs_of One t.script ≡ true → IsTrimmable (stated_by known) (stated t.statement) t.script
+pub trimmable : (known : List TitledStatement) (t : TheoremView) → IsVerifiable (stated_by known) (stated t.statement) t.script → IsCertified known t → has_certs_of One t.script ≡ true → IsTrimmable (stated_by known) (stated t.statement) t.script
 trimmable known t v c first = record { statements = v.statements; statement = v.statement; short = v.short; scopes = v.scopes; version = first; certified = c }
 
 -- ---- one theorem more
 
 module _ (job : Job) (v : Version) (last : ℕ) where
-  blocks_more : (known : List Headed) (lines : Rest) (ts : List Entry) (now : List Headed) (rest : Rest) (t : Entry)
+  blocks_more : (known : List TitledStatement) (lines : Rest) (ts : List TheoremView) (now : List TitledStatement) (rest : Rest) (t : TheoremView)
       → Passes v last known lines ts now rest → blocks_of job known (ts ++ t ∷ []) ≡ blocks_of job known ts ++ block_of job now t
-  blocks_more known lines [] now rest t r = append-nil (block_of job known t) ∙ ap (λ (k : List Headed). block_of job k t) r.0
+  blocks_more known lines [] now rest t r = append-nil (block_of job known t) ∙ ap (λ (k : List TitledStatement). block_of job k t) r.0
   blocks_more known lines (u ∷ us) now rest t r =
       let later = with_theorem known u in
       ap (λ (x : List ℕ). block_of job known u ++ x) (blocks_more later r.0 us now rest t r.3) ∙ sym (append_assoc (block_of job known u) (blocks_of job later us) (block_of job now t))
 
-  second_more : (known : List Headed) (lines : Rest) (ts : List Entry) (now : List Headed) (rest : Rest) (t : Entry)
+  second_more : (known : List TitledStatement) (lines : Rest) (ts : List TheoremView) (now : List TitledStatement) (rest : Rest) (t : TheoremView)
       → Passes v last known lines ts now rest → AreOfSecond job known ts → IsOfSecond job now t → AreOfSecond job known (ts ++ t ∷ [])
-  second_more known lines [] now rest t r h k = (subst (λ (x : List Headed). IsOfSecond job x t) (sym r.0) k, tt)
+  second_more known lines [] now rest t r h k = (subst (λ (x : List TitledStatement). IsOfSecond job x t) (sym r.0) k, tt)
   second_more known lines (u ∷ us) now rest t r h k = (h.0, second_more (with_theorem known u) r.0 us now rest t r.3 h.1 k)
 
   -- nothing is written before the first
@@ -74,7 +74,7 @@ module _ (job : Job) (v : Version) (last : ℕ) where
   begins lines old = record { theorems = []; passes = (refl, refl); second = tt; grew = grown-nothing old }
 
   -- what is due of the next one was written
-  pub goes_on : (lines : Rest) (old new newer : Option (List ℕ)) (known : List Headed) (rest : Rest) (t : Entry) (after : Rest)
+  pub goes_on : (lines : Rest) (old new newer : Option (List ℕ)) (known : List TitledStatement) (rest : Rest) (t : TheoremView) (after : Rest)
       → Progress job v last lines old new known rest → ReadsNext v last known rest t after → IsCertified known t → IsOfSecond job known t
       → Grew new newer (block_of job known t) → Progress job v last lines old newer (with_theorem known t) after
   goes_on lines old new newer known rest t after h r c k w = record {
@@ -85,11 +85,11 @@ module _ (job : Job) (v : Version) (last : ℕ) where
   }
 
   -- the theorems so far are some first ones
-  pub breaks_off : (lines : Rest) (old new : Option (List ℕ)) (known : List Headed) (rest : Rest) → Progress job v last lines old new known rest → WroteOf job (ComeFirst v last lines) old new
+  pub breaks_off : (lines : Rest) (old new : Option (List ℕ)) (known : List TitledStatement) (rest : Rest) → Progress job v last lines old new known rest → WroteOf job (ComeFirst v last lines) old new
   breaks_off lines old new known rest h = (h.theorems, (known, rest, h.passes), h.grew)
 
   -- a front of what is due of the next one was written
-  breaks_inside : (lines : Rest) (old new newer : Option (List ℕ)) (known : List Headed) (rest : Rest) (t : Entry) (after : Rest)
+  breaks_inside : (lines : Rest) (old new newer : Option (List ℕ)) (known : List TitledStatement) (rest : Rest) (t : TheoremView) (after : Rest)
       → Progress job v last lines old new known rest → ReadsNext v last known rest t after → IsCertified known t → GrewByFront new newer (block_of job known t) → WroteFrontOf job (ComeFirst v last lines) old newer
   breaks_inside lines old new newer known rest t after h r c w =
       let blocks = blocks_of job [] h.theorems in
@@ -104,7 +104,7 @@ module _ (job : Job) (v : Version) (last : ℕ) where
       )
 
   -- the next one was not passed
-  pub breaks_at : (lines : Rest) (old new newer : Option (List ℕ)) (known : List Headed) (rest : Rest) (t : Entry) (after : Rest) (e : RunError)
+  pub breaks_at : (lines : Rest) (old new newer : Option (List ℕ)) (known : List TitledStatement) (rest : Rest) (t : TheoremView) (after : Rest) (e : RunError)
       → Progress job v last lines old new known rest → ReadsNext v last known rest t after → IsCertified known t → Broke job known t new newer e → TheoremsWritten job v last lines old newer (Err e)
   breaks_at lines old new newer known rest t after errors.NoMemory h r c (inl w) =
       (h.theorems, (known, rest, h.passes), subst (λ (b : List ℕ). Grew old newer b) (append-nil (blocks_of job [] h.theorems)) (grown old new newer (blocks_of job [] h.theorems) [] h.grew w))
@@ -117,13 +117,13 @@ module _ (job : Job) (v : Version) (last : ℕ) where
   breaks_at lines old new newer known rest t after errors.ReadFault h r c w = absurd w
 
   -- the lines end so, and what is due of the theorems was written
-  pub ends_so : (lines : Rest) (old new : Option (List ℕ)) (known : List Headed) (rest : Rest) (j : Judgement) → Progress job v last lines old new known rest → Closes v last known rest j → TheoremsWritten job v last lines old new (Ok j)
+  pub ends_so : (lines : Rest) (old new : Option (List ℕ)) (known : List TitledStatement) (rest : Rest) (j : Judgement) → Progress job v last lines old new known rest → Closes v last known rest j → TheoremsWritten job v last lines old new (Ok j)
   ends_so lines old new known rest j h c = (h.theorems, ((known, rest, h.passes, c), h.second), h.grew)
 
 -- ---- the first line
 
-wrote_as : (job : Job) (End End' : List Entry → Judgement → Type 0) (Are Are' : List Entry → Type 0) (old new : Option (List ℕ)) (r : Result Judgement RunError)
-    → ((ts : List Entry) (j : Judgement) → End ts j → End' ts j) → ((ts : List Entry) → Are ts → Are' ts) → WroteTheorems job End Are old new r → WroteTheorems job End' Are' old new r
+wrote_as : (job : Job) (End End' : List TheoremView → Judgement → Type 0) (Are Are' : List TheoremView → Type 0) (old new : Option (List ℕ)) (r : Result Judgement RunError)
+    → ((ts : List TheoremView) (j : Judgement) → End ts j → End' ts j) → ((ts : List TheoremView) → Are ts → Are' ts) → WroteTheorems job End Are old new r → WroteTheorems job End' Are' old new r
 wrote_as job End End' Are Are' old new (Ok j) f g h = (h.0, (f h.0 j h.1.0, h.1.1), h.2)
 wrote_as job End End' Are Are' old new (Err errors.NoMemory) f g h = (h.0, g h.0 h.1, h.2)
 wrote_as job End End' Are Are' old new (Err errors.WriteFault) f g h = (h.0, g h.0 h.1, h.2)
@@ -142,10 +142,10 @@ head_then job text lines after head v old new r is starts e k =
     (λ ts w. subst (λ (x : Rest). AreFirst job x ts) (sym at) (subst (λ (o : Option Version). AreFirstBehindHead o after.lines ts) (sym here) (first_at t.2 ts w)))
     k
   where
-    all_at : after.line ≡ 2 → (ts : List Entry) (j : Judgement) → ComeAll v (last_of after) after.lines ts j → ComeAll v (2 + length after.lines) after.lines ts j
+    all_at : after.line ≡ 2 → (ts : List TheoremView) (j : Judgement) → ComeAll v (last_of after) after.lines ts j → ComeAll v (2 + length after.lines) after.lines ts j
     all_at n ts j w = subst (λ (k : ℕ). ComeAll v (k + length after.lines) after.lines ts j) n w
 
-    first_at : after.line ≡ 2 → (ts : List Entry) → ComeFirst v (last_of after) after.lines ts → ComeFirst v (2 + length after.lines) after.lines ts
+    first_at : after.line ≡ 2 → (ts : List TheoremView) → ComeFirst v (last_of after) after.lines ts → ComeFirst v (2 + length after.lines) after.lines ts
     first_at n ts w = subst (λ (k : ℕ). ComeFirst v (k + length after.lines) after.lines ts) n w
 
 -- without one it is garbled at once
@@ -175,7 +175,7 @@ none_first job text = by (lines_of_text text)
     by (Ok l ∷ lines) = after (read_as job (version_of l)) lines
 
 -- those before its end are
-first_of_all : (job : Job) (text : List ℕ) (ts : List Entry) (j : Judgement) → EndsAfter job (lines_of_text text) ts j → AreFirst job (lines_of_text text) ts
+first_of_all : (job : Job) (text : List ℕ) (ts : List TheoremView) (j : Judgement) → EndsAfter job (lines_of_text text) ts j → AreFirst job (lines_of_text text) ts
 first_of_all job text ts j h = by (lines_of_text text) h
   where
     after : (o : Option Version) (lines : Rest) → EndsBehindHead o lines ts j → AreFirstBehindHead o lines ts
@@ -189,10 +189,10 @@ first_of_all job text ts j h = by (lines_of_text text) h
 
 -- ---- with the last line
 
-grew_all : (job : Job) (old s0 s1 s2 : Option (List ℕ)) (ts : List Entry) (last : List ℕ) → Grew old s0 (head_of job) → Grew s0 s1 (blocks_of job [] ts) → Grew s1 s2 last → Grew old s2 (written_with job ts last)
+grew_all : (job : Job) (old s0 s1 s2 : Option (List ℕ)) (ts : List TheoremView) (last : List ℕ) → Grew old s0 (head_of job) → Grew s0 s1 (blocks_of job [] ts) → Grew s1 s2 last → Grew old s2 (written_with job ts last)
 grew_all job old s0 s1 s2 ts last h b l = grown old s0 s2 (head_of job) (blocks_of job [] ts ++ last) h (grown s0 s1 s2 (blocks_of job [] ts) last b l)
 
-grew_front : (job : Job) (old s0 s1 s2 : Option (List ℕ)) (ts : List Entry) (last : List ℕ) → Grew old s0 (head_of job) → Grew s0 s1 (blocks_of job [] ts) → GrewByFront s1 s2 last → GrewByFront old s2 (written_with job ts last)
+grew_front : (job : Job) (old s0 s1 s2 : Option (List ℕ)) (ts : List TheoremView) (last : List ℕ) → Grew old s0 (head_of job) → Grew s0 s1 (blocks_of job [] ts) → GrewByFront s1 s2 last → GrewByFront old s2 (written_with job ts last)
 grew_front job old s0 s1 s2 ts last h b l =
     let n = l.0 in
     let blocks = blocks_of job [] ts in
@@ -205,7 +205,7 @@ grew_front job old s0 s1 s2 ts last h b l =
     )
 
 -- the answer is right, by what its bytes are
-closed : (job : Job) (text : List ℕ) (old s0 s1 s2 : Option (List ℕ)) (ts : List Entry) (last : List ℕ) (answer result : Status)
+closed : (job : Job) (text : List ℕ) (old s0 s1 s2 : Option (List ℕ)) (ts : List TheoremView) (last : List ℕ) (answer result : Status)
     → RewriteAnswer job text answer (written_with job ts last) → Grew old s0 (head_of job) → Grew s0 s1 (blocks_of job [] ts) → ClosesWith s1 s2 last answer result → Rewrites job text old s2 result
 closed job text old s0 s1 s2 ts last answer result due h b (inl c) =
     subst (Rewrites job text old s2) (sym c.0) (inl (record { out = written_with job ts last; due = due; grew = grew_all job old s0 s1 s2 ts last h b c.1 }))
@@ -265,7 +265,7 @@ no_theorem job text = record { theorems = []; first = none_first job text; bytes
 
 -- ---- a judgement closes
 
-due_end : (job : Job) (text : List ℕ) (j : Judgement) (ts : List Entry) → EndsAfter job (lines_of_text text) ts j → AreOfSecond job [] ts → RewriteAnswer job text (answer_of job j) (written_with job ts (line_of job j))
+due_end : (job : Job) (text : List ℕ) (j : Judgement) (ts : List TheoremView) → EndsAfter job (lines_of_text text) ts j → AreOfSecond job [] ts → RewriteAnswer job text (answer_of job j) (written_with job ts (line_of job j))
 due_end Upgrade text (judgements.Verified n) ts e s = (refl, record { theorems = ts; ends = e; bytes = refl }, upgraded_is_verified text n ts e s)
 due_end Trim text (judgements.Verified n) ts e s = (refl, record { theorems = ts; ends = e; bytes = refl }, trimmed_is_verified text n ts e s)
 due_end Uses text (judgements.Verified n) ts e s = (refl, record { theorems = ts; ends = e; bytes = refl })
@@ -299,7 +299,7 @@ no_write_fault job (judgements.Garbled line) answer e h = subst IsWriteFault e h
 
 -- ---- which answer is due
 
-judged_for : (job : Job) (text : List ℕ) (ts : List Entry) (j : Judgement) → EndsAfter job (lines_of_text text) ts j → JudgesFor job text j
+judged_for : (job : Job) (text : List ℕ) (ts : List TheoremView) (j : Judgement) → EndsAfter job (lines_of_text text) ts j → JudgesFor job text j
 judged_for job text ts j h = by (lines_of_text text) h
   where
     after : (o : Option Version) (lines : Rest) → EndsBehindHead o lines ts j → JudgedBehindHead o lines j
@@ -321,7 +321,7 @@ one_for job text a b h k = by (lines_of_text text) h k
     by (Ok l ∷ lines) h k = one_behind_head (read_as job (version_of l)) lines a b h k
 
 -- where the answer is that of a judgement that the text has for the command, it is that of its judgement
-same_end : (job : Job) (text : List ℕ) (ts : List Entry) (a j : Judgement) → EndsAfter job (lines_of_text text) ts a → JudgesFor job text j → answer_of job a ≡ answer_of job j
+same_end : (job : Job) (text : List ℕ) (ts : List TheoremView) (a j : Judgement) → EndsAfter job (lines_of_text text) ts a → JudgesFor job text j → answer_of job a ≡ answer_of job j
 same_end job text ts a j e h = ap (answer_of job) (one_for job text a j (judged_for job text ts a e) h)
 
 due_judged : (job : Job) (text : List ℕ) (j : Judgement) (answer : Status) (out : List ℕ) → length text ≤ 2 ^ 60 → JudgesFor job text j → RewriteAnswer job text answer out → (answer ≡ answer_of job j) ⊎ IsFailure answer

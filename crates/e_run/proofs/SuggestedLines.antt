@@ -14,7 +14,7 @@ use Rattle.e_literal.proofs.Booleans.{and_left, and_right}
 use Rattle.e_theorem.specs.Statements.{stated}
 use Rattle.e_deriv.specs.declared.names.Names.{Names}
 use Rattle.e_deriv.specs.Fitting.{is_small_statement}
-use Rattle.e_names.specs.Headed.{Headed, titles, stated_by, theorem_of}
+use Rattle.e_names.specs.TitledStatements.{TitledStatement, titles, stated_by, theorem_of}
 use Rattle.e_book.specs.Canonical.{text_of}
 use Rattle.e_suggest.specs.Suggestions.{AreFirstChoices, SomeArgsAreTooWide}
 use Rattle.e_run.specs.declared.suggestions.Listed.{Listed}
@@ -36,7 +36,7 @@ text_both xs ys = flat_map-append (λ (line : List ℕ). line ++ 10 ∷ []) xs y
 -- ---- one theorem
 
 -- whether it is asked is told by what it states
-asked_by : (h : Headed) (t : Stated) → stated h.statement ≡ t → is_asked_for h ≡ nat_le (length t.declared) 6
+asked_by : (h : TitledStatement) (t : Stated) → stated h.statement ≡ t → is_asked_for h ≡ nat_le (length t.declared) 6
 asked_by h t e = ap (λ (u : Stated). nat_le (length u.declared) 6) e
 
 -- one that is passed over has no lines
@@ -62,7 +62,7 @@ passed_over names scope facts title t left old many = (
     same_left : left - 0 ≡ left
     same_left = omega arith
 
-few_asked : (h : Headed) (t : Stated) → stated h.statement ≡ t → length t.declared ≤ 6 → is_asked_for h ≡ true
+few_asked : (h : TitledStatement) (t : Stated) → stated h.statement ≡ t → length t.declared ≤ 6 → is_asked_for h ≡ true
 few_asked h t f few = asked_by h t f ∙ le-leb (length t.declared) 6 few
 
 -- one that is asked, with all its choices
@@ -105,8 +105,8 @@ full_listed names scope facts title t left n old new choices more few some first
 
 -- ---- the theorem at a place
 
-pub record IsHeadedAt (known : List Headed) (k : ℕ) (title : List ℕ) (t : Stated) : Type 0 where
-  pub headed : Headed
+pub record IsHeadedAt (known : List TitledStatement) (k : ℕ) (title : List ℕ) (t : Stated) : Type 0 where
+  pub headed : TitledStatement
   pub split : drop k known ≡ headed ∷ drop (k + 1) known
   pub titled : headed.title ≡ title
   pub states : stated headed.statement ≡ t
@@ -115,14 +115,14 @@ pub record IsHeadedAt (known : List Headed) (k : ℕ) (title : List ℕ) (t : St
 shifted : (k : ℕ) → suc (k + 1) ≡ suc k + 1
 shifted k = omega arith
 
-pub headed_at : (known : List Headed) (k : ℕ) (title : List ℕ) (t : Stated) → slice_get (titles known) k ≡ Some title → t ≡ theorem_of known k → IsHeadedAt known k title t
+pub headed_at : (known : List TitledStatement) (k : ℕ) (title : List ℕ) (t : Stated) → slice_get (titles known) k ≡ Some title → t ≡ theorem_of known k → IsHeadedAt known k title t
 headed_at [] k title t e f = absurd (none-some title e)
 headed_at (h ∷ hs) zero title t e f = record { headed = h; split = refl; titled = same_Some h.title title e; states = sym f; is_one = (0, omega arith, refl) }
 headed_at (h ∷ hs) (suc k) title t e f =
     let r = headed_at hs k title t e f in
     record { headed = r.headed; split = r.split ∙ ap (λ (n : ℕ). r.headed ∷ drop n (h ∷ hs)) (shifted k); titled = r.titled; states = r.states; is_one = (suc r.is_one.0, omega (arith, r.is_one.1), r.is_one.2) }
 
-pub statement_at : (known : List Headed) (k : ℕ) (title : List ℕ) (t : Stated) → list_all is_small_statement (stated_by known) ≡ true → slice_get (titles known) k ≡ Some title → t ≡ theorem_of known k → is_statement t ≡ true
+pub statement_at : (known : List TitledStatement) (k : ℕ) (title : List ℕ) (t : Stated) → list_all is_small_statement (stated_by known) ≡ true → slice_get (titles known) k ≡ Some title → t ≡ theorem_of known k → is_statement t ≡ true
 statement_at [] k title t small e f = absurd (none-some title e)
 statement_at (h ∷ hs) zero title t small e f =
     ap is_statement f ∙ and_left (is_statement (stated h.statement)) _ (and_left (is_small_statement (stated h.statement)) _ small)
@@ -130,10 +130,10 @@ statement_at (h ∷ hs) (suc k) title t small e f = statement_at hs k title t (a
 
 -- ---- theorem after theorem
 
-pub listed_start : (names : Names) (scope : Scope) (facts : List Lit) (known : List Headed) (out : List ℕ) → out ≡ [] → IsListedTo names scope facts known known out 0
+pub listed_start : (names : Names) (scope : Scope) (facts : List Lit) (known : List TitledStatement) (out : List ℕ) → out ≡ [] → IsListedTo names scope facts known known out 0
 listed_start names scope facts known out none = record { lines = []; bytes = none; counted = refl; few = omega arith; goes_on = λ others more k. k }
 
-one_more : (names : Names) (scope : Scope) (facts : List Lit) (known left : List Headed) (h : Headed) (title : List ℕ) (t : Stated) (old new : List ℕ) (count n : ℕ) → h.title ≡ title → stated h.statement ≡ t
+one_more : (names : Names) (scope : Scope) (facts : List Lit) (known left : List TitledStatement) (h : TitledStatement) (title : List ℕ) (t : Stated) (old new : List ℕ) (count n : ℕ) → h.title ≡ title → stated h.statement ≡ t
     → IsListedTo names scope facts known (h ∷ left) old count → IsListedOne names scope facts title t (1000 - count) old new (listed.All n) → IsListedTo names scope facts known left new (count + n)
 one_more names scope facts known left h title t old new count n e f s (lines, is, many, few, goes) =
     record {
@@ -147,17 +147,17 @@ one_more names scope facts known left h title t old new count n e f s (lines, is
           (goes h e f left others more (subst (λ (i : ℕ). Lists names scope facts left i others more) (omega (arith, s.few, few, many)) k)));
     }
 
-pub listed_more : (names : Names) (scope : Scope) (facts : List Lit) (known : List Headed) (k : ℕ) (title : List ℕ) (t : Stated) (old new : List ℕ) (count n : ℕ) (l : Listed) → IsHeadedAt known k title t
+pub listed_more : (names : Names) (scope : Scope) (facts : List Lit) (known : List TitledStatement) (k : ℕ) (title : List ℕ) (t : Stated) (old new : List ℕ) (count n : ℕ) (l : Listed) → IsHeadedAt known k title t
     → IsListedTo names scope facts known (drop k known) old count → l ≡ listed.All n → IsListedOne names scope facts title t (1000 - count) old new l → IsListedTo names scope facts known (drop (k + 1) known) new (count + n)
 listed_more names scope facts known k title t old new count n l at s is one =
     one_more names scope facts known (drop (k + 1) known) at.headed title t old new count n at.titled at.states
-    (subst (λ (hs : List Headed). IsListedTo names scope facts known hs old count) at.split s)
+    (subst (λ (hs : List TitledStatement). IsListedTo names scope facts known hs old count) at.split s)
     (subst (λ (x : Listed). IsListedOne names scope facts title t (1000 - count) old new x) is one)
 
-pub listed_full : (names : Names) (scope : Scope) (facts : List Lit) (known : List Headed) (k : ℕ) (title : List ℕ) (t : Stated) (old new : List ℕ) (count n : ℕ) (l : Listed) → IsHeadedAt known k title t
+pub listed_full : (names : Names) (scope : Scope) (facts : List Lit) (known : List TitledStatement) (k : ℕ) (title : List ℕ) (t : Stated) (old new : List ℕ) (count n : ℕ) (l : Listed) → IsHeadedAt known k title t
     → IsListedTo names scope facts known (drop k known) old count → l ≡ listed.Full n → IsListedOne names scope facts title t (1000 - count) old new l → IsListed names scope facts known new (listed.Full (count + n))
 listed_full names scope facts known k title t old new count n l at s is one =
-    full (subst (λ (hs : List Headed). IsListedTo names scope facts known hs old count) at.split s)
+    full (subst (λ (hs : List TitledStatement). IsListedTo names scope facts known hs old count) at.split s)
     (subst (λ (x : Listed). IsListedOne names scope facts title t (1000 - count) old new x) is one)
   where
     full : IsListedTo names scope facts known (at.headed ∷ drop (k + 1) known) old count → IsListedOne names scope facts title t (1000 - count) old new (listed.Full n) → IsListed names scope facts known new (listed.Full (count + n))
@@ -169,7 +169,7 @@ listed_full names scope facts known k title t old new count n l at s is one =
       s.goes_on lines true (ends at.headed at.titled at.states (drop (k + 1) known)),
     )
 
-pub listed_wide : (names : Names) (scope : Scope) (facts : List Lit) (known : List Headed) (k : ℕ) (title : List ℕ) (t : Stated) (left w : ℕ) (old new : List ℕ) (l : Listed) → IsHeadedAt known k title t → l ≡ listed.TooWide w
+pub listed_wide : (names : Names) (scope : Scope) (facts : List Lit) (known : List TitledStatement) (k : ℕ) (title : List ℕ) (t : Stated) (left w : ℕ) (old new : List ℕ) (l : Listed) → IsHeadedAt known k title t → l ≡ listed.TooWide w
     → IsListedOne names scope facts title t left old new l → SomeIsTooWide scope facts known w
 listed_wide names scope facts known k title t left w old new l at is one =
     let wide = subst (λ (x : Listed). IsListedOne names scope facts title t left old new x) is one in
@@ -180,12 +180,12 @@ listed_wide names scope facts known k title t left w old new l at is one =
       too_wide = subst (λ (u : Stated). SomeArgsAreTooWide u scope facts w) (sym at.states) wide.1;
     }
 
-pub listed_all : (names : Names) (scope : Scope) (facts : List Lit) (known left : List Headed) (out : List ℕ) (count : ℕ) → left ≡ [] → IsListedTo names scope facts known left out count → IsListed names scope facts known out (listed.All count)
+pub listed_all : (names : Names) (scope : Scope) (facts : List Lit) (known left : List TitledStatement) (out : List ℕ) (count : ℕ) → left ≡ [] → IsListedTo names scope facts known left out count → IsListed names scope facts known out (listed.All count)
 listed_all names scope facts known left out count none s = (
   s.lines,
   s.bytes,
   s.counted,
   s.few,
   subst (λ (xs : List (List ℕ)). Lists names scope facts known 1000 xs false) (append-nil s.lines)
-      (s.goes_on [] false (subst (λ (hs : List Headed). Lists names scope facts hs (1000 - count) [] false) (sym none) (refl, refl))),
+      (s.goes_on [] false (subst (λ (hs : List TitledStatement). Lists names scope facts hs (1000 - count) [] false) (sym none) (refl, refl))),
 )

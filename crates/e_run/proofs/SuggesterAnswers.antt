@@ -21,8 +21,8 @@ use Rattle.e_deriv.specs.Script.{Script, size}
 use Rattle.e_deriv.specs.Goal.{goal_of_statement, facts_of_statement}
 use Rattle.e_deriv.specs.Fitting.{is_small_statement}
 use Rattle.e_line.specs.declared.fault.BookFault.{BookFault}
-use Rattle.e_names.specs.Headed.{Headed, is_known, stated_by}
-use Rattle.e_book.specs.Entry.{Entry}
+use Rattle.e_names.specs.TitledStatements.{TitledStatement, is_known, stated_by}
+use Rattle.e_book.specs.TheoremViews.{TheoremView}
 use Rattle.e_line.specs.declared.fault.BookFault.TheVariants as faults
 use Rattle.e_book.specs.Canonical.{text_of}
 use Rattle.e_names.specs.declared.known.Known.{Known}
@@ -66,14 +66,14 @@ is_same_title : (a b : List ℕ) → a ≡ b → bytes_eq a b ≡ true
 is_same_title a b h = (bytes_eq-Decides a b).1 h
 
 -- a theorem with another title is no place
-earlier_other : (title : List ℕ) (step : ℕ) (t : Entry) (n : ℕ) → bytes_eq t.title title ≡ false → IsEarlier title step t n
+earlier_other : (title : List ℕ) (step : ℕ) (t : TheoremView) (n : ℕ) → bytes_eq t.title title ≡ false → IsEarlier title step t n
 earlier_other title step t n h = by (bytes_eq t.title title) h
   where
     by : (b : Bool) → b ≡ false → MatchBool b ((step ≤ size t.script) × (n < step)) (Unit {0})
     by true e = absurd (true≢false e)
     by false e = tt
 
-earlier_own : (title : List ℕ) (step : ℕ) (t : Entry) (n : ℕ) → step ≤ size t.script → n < step → IsEarlier title step t n
+earlier_own : (title : List ℕ) (step : ℕ) (t : TheoremView) (n : ℕ) → step ≤ size t.script → n < step → IsEarlier title step t n
 earlier_own title step t n has less = by (bytes_eq t.title title)
   where
     by : (b : Bool) → MatchBool b ((step ≤ size t.script) × (n < step)) (Unit {0})
@@ -81,7 +81,7 @@ earlier_own title step t n has less = by (bytes_eq t.title title)
     by false = tt
 
 -- of the theorem with the title only a step before the place is one
-own_earlier : (title : List ℕ) (step : ℕ) (t : Entry) (n : ℕ) → t.title ≡ title → IsEarlier title step t n → (step ≤ size t.script) × (n < step)
+own_earlier : (title : List ℕ) (step : ℕ) (t : TheoremView) (n : ℕ) → t.title ≡ title → IsEarlier title step t n → (step ≤ size t.script) × (n < step)
 own_earlier title step t n e h = by (bytes_eq t.title title) (is_same_title t.title title e) h
   where
     by : (b : Bool) → b ≡ true → MatchBool b ((step ≤ size t.script) × (n < step)) (Unit {0}) → (step ≤ size t.script) × (n < step)
@@ -104,13 +104,13 @@ turned a b h =
       | inr differ ↦ differ
     ]
 
-untitled_more : (known : List Headed) (t : Entry) (title : List ℕ) → is_known known title ≡ false → bytes_eq t.title title ≡ false → is_known (with_theorem known t) title ≡ false
+untitled_more : (known : List TitledStatement) (t : TheoremView) (title : List ℕ) → is_known known title ≡ false → bytes_eq t.title title ≡ false → is_known (with_theorem known t) title ≡ false
 untitled_more [] t title none differ = both_false (bytes_eq title t.title) false (turned t.title title differ) refl
 untitled_more (h ∷ hs) t title none differ =
     both_false (bytes_eq title h.title) _ (or_not_left (bytes_eq title h.title) _ none) (untitled_more hs t title (or_not_right (bytes_eq title h.title) _ none) differ)
 
 -- the next theorem has another title and is licensed
-pub way_more : (lines : Rest) (title : List ℕ) (known : Known) (rest after : Rest) (t : Entry) → IsOnWay lines title known rest → item_from known (end_line_number lines) None rest ≡ found (OfTheorem t) after → IsLicensed known.theorems t
+pub way_more : (lines : Rest) (title : List ℕ) (known : Known) (rest after : Rest) (t : TheoremView) → IsOnWay lines title known rest → item_from known (end_line_number lines) None rest ≡ found (OfTheorem t) after → IsLicensed known.theorems t
     → bytes_eq t.title title ≡ false → is_small_statement (stated t.statement) ≡ true → IsOnWay lines title (and_theorem known t) after
 way_more lines title known rest after t w read licensed differ small =
     record {
@@ -133,7 +133,7 @@ way_notion lines title known rest after n w read means =
       notions = one_more_notion known.notions n w.notions means;
     }
 
-pub next_of : (lines : Rest) (title : List ℕ) (known : Known) (rest after : Rest) (t : Entry) → IsOnWay lines title known rest → item_from known (end_line_number lines) None rest ≡ found (OfTheorem t) after
+pub next_of : (lines : Rest) (title : List ℕ) (known : Known) (rest after : Rest) (t : TheoremView) → IsOnWay lines title known rest → item_from known (end_line_number lines) None rest ≡ found (OfTheorem t) after
     → IsNext lines title known.theorems t
 next_of lines title known rest after t w read = record { known = known; rest = rest; after = after; same = refl; way = w; read = read }
 
@@ -142,7 +142,7 @@ next_of lines title known rest after t w read = record { known = known; rest = r
 up_to : (lines : Rest) (title : List ℕ) (known : Known) (rest : Rest) (Holds : Known → Rest → Type 0) → IsOnWay lines title known rest → Holds known rest → UpTo lines title Holds
 up_to lines title known rest Holds w h = record { theorems = w.theorems; known = known; rest = rest; begins = w.begins; untitled = w.untitled; holds = h }
 
-next_up_to : (lines : Rest) (title : List ℕ) (before : List Headed) (t : Entry) (Holds : List Headed → Entry → Type 0) → IsNext lines title before t → Holds before t → NextUpTo lines title Holds
+next_up_to : (lines : Rest) (title : List ℕ) (before : List TitledStatement) (t : TheoremView) (Holds : List TitledStatement → TheoremView → Type 0) → IsNext lines title before t → Holds before t → NextUpTo lines title Holds
 next_up_to lines title before t Holds n h =
     record {
       theorems = n.way.theorems;
@@ -150,7 +150,7 @@ next_up_to lines title before t Holds n h =
       rest = n.rest;
       begins = n.way.begins;
       untitled = n.way.untitled;
-      holds = (t, n.after, n.read, subst (λ (k : List Headed). Holds k t) (sym n.same) h);
+      holds = (t, n.after, n.read, subst (λ (k : List TitledStatement). Holds k t) (sym n.same) h);
     }
 
 answer_is : (lines : Rest) (title : List ℕ) (step : ℕ) (answer given : Status) (out bytes : List ℕ) → answer ≡ given → out ≡ bytes → (IsReadFault given → ⊥) → SuggestAnswer lines title step given bytes
@@ -167,7 +167,7 @@ none_titled lines title step known rest answer out w read e f =
     (up_to lines title known rest (λ k r. (item_from k (end_line_number lines) None r ≡ Ok None) ⊎ NextIs (end_line_number lines) k r (IsShort title step)) w (inl read), refl)
 
 -- the theorem has fewer steps
-pub too_short : (lines : Rest) (title : List ℕ) (step : ℕ) (before : List Headed) (t : Entry) (answer : Status) (out : List ℕ) → IsNext lines title before t → t.title ≡ title → size t.script < step
+pub too_short : (lines : Rest) (title : List ℕ) (step : ℕ) (before : List TitledStatement) (t : TheoremView) (answer : Status) (out : List ℕ) → IsNext lines title before t → t.title ≡ title → size t.script < step
     → answer ≡ status.NoStep → out ≡ no_step_line → IsBookAnswer lines title step answer out
 too_short lines title step before t answer out n titled short e f =
     answer_is lines title step answer status.NoStep out no_step_line e f (λ h. h) (
@@ -195,22 +195,22 @@ is_faulty lines title step known rest f answer out w fails some e g =
 -- ---- a stop
 
 -- the stop is at a step before the place
-abbrev pub StopsEarlier : List ℕ → ℕ → Entry → Stop → Type 0
+abbrev pub StopsEarlier : List ℕ → ℕ → TheoremView → Stop → Type 0
 StopsEarlier title step t (stops.Unlicensed n wanted values names) = IsEarlier title step t n
 StopsEarlier title step t (stops.TooWide n wanted width names) = IsEarlier title step t n
 StopsEarlier title step t stops.NoMemory = Unit {0}
 
-pub stops_other : (title : List ℕ) (step : ℕ) (t : Entry) (stop : Stop) → bytes_eq t.title title ≡ false → StopsEarlier title step t stop
+pub stops_other : (title : List ℕ) (step : ℕ) (t : TheoremView) (stop : Stop) → bytes_eq t.title title ≡ false → StopsEarlier title step t stop
 stops_other title step t (stops.Unlicensed n wanted values names) h = earlier_other title step t n h
 stops_other title step t (stops.TooWide n wanted width names) h = earlier_other title step t n h
 stops_other title step t stops.NoMemory h = tt
 
-pub stops_own : (title : List ℕ) (step : ℕ) (t : Entry) (stop : Stop) → step ≤ size t.script → IsStopBefore step stop → StopsEarlier title step t stop
+pub stops_own : (title : List ℕ) (step : ℕ) (t : TheoremView) (stop : Stop) → step ≤ size t.script → IsStopBefore step stop → StopsEarlier title step t stop
 stops_own title step t (stops.Unlicensed n wanted values names) has less = earlier_own title step t n has less
 stops_own title step t (stops.TooWide n wanted width names) has less = earlier_own title step t n has less
 stops_own title step t stops.NoMemory has less = tt
 
-pub is_stopped : (lines : Rest) (title : List ℕ) (step : ℕ) (known : List Headed) (t : Entry) (stop : Stop) (answer : Status) (out : List ℕ) → IsNext lines title known t → StopsEarlier title step t stop
+pub is_stopped : (lines : Rest) (title : List ℕ) (step : ℕ) (known : List TitledStatement) (t : TheoremView) (stop : Stop) (answer : Status) (out : List ℕ) → IsNext lines title known t → StopsEarlier title step t stop
     → StopIs (stated_by known) (stated t.statement) t.script stop → HasNames (stated_by known) (stated t.statement) t.names t.script stop → IsStopAnswer t.title stop answer out → IsBookAnswer lines title step answer out
 is_stopped lines title step known t (stops.Unlicensed n wanted values names) answer out next earlier refused named a =
     answer_is lines title step answer (status.Unlicensed t.title n wanted values) out (stop_text t.title (stops.Unlicensed n wanted values names)) a.is_answer a.bytes (λ h. h) (
@@ -228,7 +228,7 @@ is_stopped lines title step known t stops.NoMemory answer out next earlier wide 
 
 -- ---- the place
 
-answers_at : (lines : Rest) (title : List ℕ) (step : ℕ) (known : List Headed) (t : Entry) (p : Place) (answer : Status) (out : List ℕ) → IsNext lines title known t → t.title ≡ title
+answers_at : (lines : Rest) (title : List ℕ) (step : ℕ) (known : List TitledStatement) (t : TheoremView) (p : Place) (answer : Status) (out : List ℕ) → IsNext lines title known t → t.title ≡ title
     → IsPlace (stated_by known) (stated t.statement) t.names t.script step p → AnswersAt p.names p.context.scope p.context.facts known title step answer out → IsBookAnswer lines title step answer out
 answers_at lines title step known t p (status.Suggested n more) out next titled place (ls, count, listed, bytes) =
     record {
@@ -271,7 +271,7 @@ answers_at lines title step known t p (status.TooWide q n wanted width) out next
     }
 answers_at lines title step known t p answer out next titled place a = absurd a
 
-pub is_answered : (known : List Headed) (t : Entry) (title : List ℕ) (step : ℕ) (p : Place) (answer : Status) (out : List ℕ) → t.title ≡ title → IsPlace (stated_by known) (stated t.statement) t.names t.script step p
+pub is_answered : (known : List TitledStatement) (t : TheoremView) (title : List ℕ) (step : ℕ) (p : Place) (answer : Status) (out : List ℕ) → t.title ≡ title → IsPlace (stated_by known) (stated t.statement) t.names t.script step p
     → AnswersAt p.names p.context.scope p.context.facts known title step answer out → AnswersNext known t title step answer out
 is_answered known t title step p answer out titled place a lines next = answers_at lines title step known t p answer out next titled place a
 
@@ -309,15 +309,15 @@ at_or_none last known rest title step h (inl k) = found_not_none (OfTheorem h.0)
 at_or_none last known rest title step h (inr k) =
     let same = same_first h.0 k.0 h.1 k.1 (sym h.2 ∙ k.2) in
     let has = has_step (stated_by known.theorems) (stated h.0.statement) h.0.script step h.3.0 h.3.1.context in
-    let short = subst (λ (u : Entry). size u.script < step) (sym same) k.3.short in
+    let short = subst (λ (u : TheoremView). size u.script < step) (sym same) k.3.short in
     omega (arith, has, short)
 
 at_or_stop : (last : ℕ) (known : Known) (rest : Rest) (title : List ℕ) (step : ℕ) (p : List ℕ) (n : ℕ) (wanted : Wanted) (names : Names) → WayAt last known rest title step AtStep
     → WayAt last known rest title step (Unlicensed p n wanted names) → ⊥
 at_or_stop last known rest title step p n wanted names h k =
     let same = same_first k.0 h.0 k.1 h.1 (sym k.2 ∙ h.2) in
-    let stop = subst (λ (u : Entry). StopsAt known.theorems u p n wanted names) same k.3.0 in
-    let earlier = subst (λ (u : Entry). IsEarlier title step u n) same k.3.1 in
+    let stop = subst (λ (u : TheoremView). StopsAt known.theorems u p n wanted names) same k.3.0 in
+    let earlier = subst (λ (u : TheoremView). IsEarlier title step u n) same k.3.1 in
     not_before (stated_by known.theorems) (stated h.0.statement) h.0.script n step wanted h.3.0 stop.first h.3.1.context (own_earlier title step h.0 n h.3.1.titled earlier).1
 
 none_or_stop : (last : ℕ) (known : Known) (rest : Rest) (title : List ℕ) (step : ℕ) (p : List ℕ) (n : ℕ) (wanted : Wanted) (names : Names) → WayAt last known rest title step NoStep
@@ -325,7 +325,7 @@ none_or_stop : (last : ℕ) (known : Known) (rest : Rest) (title : List ℕ) (st
 none_or_stop last known rest title step p n wanted names (inl h) k = found_not_none (OfTheorem k.0) k.1 (sym k.2 ∙ h)
 none_or_stop last known rest title step p n wanted names (inr h) k =
     let same = same_first k.0 h.0 k.1 h.1 (sym k.2 ∙ h.2) in
-    let earlier = subst (λ (u : Entry). IsEarlier title step u n) same k.3.1 in
+    let earlier = subst (λ (u : TheoremView). IsEarlier title step u n) same k.3.1 in
     let has = (own_earlier title step h.0 n h.3.titled earlier).0 in
     omega (arith, has, h.3.short)
 
@@ -359,15 +359,15 @@ one_way_at last known rest title step (Faulty f) (Unlicensed p n wanted names) h
 one_way_at last known rest title step (Faulty f) (Faulty g) h k = ap Faulty (same_faulty f g (sym h ∙ k))
 
 -- where the next theorem is licensed and has another title the way does not end
-goes_on : (last : ℕ) (known : Known) (rest after : Rest) (u : Entry) (title : List ℕ) (step : ℕ) (a : WayOutcome) → item_from known last None rest ≡ found (OfTheorem u) after → IsLicensed known.theorems u
+goes_on : (last : ℕ) (known : Known) (rest after : Rest) (u : TheoremView) (title : List ℕ) (step : ℕ) (a : WayOutcome) → item_from known last None rest ≡ found (OfTheorem u) after → IsLicensed known.theorems u
     → bytes_eq u.title title ≡ false → WayAt last known rest title step a → ⊥
 goes_on last known rest after u title step AtStep read l differ h =
     let same = same_first h.0 u h.1 after (sym h.2 ∙ read) in
-    true≢false (sym (is_same_title u.title title (ap (λ (x : Entry). x.title) (sym same) ∙ h.3.1.titled)) ∙ differ)
+    true≢false (sym (is_same_title u.title title (ap (λ (x : TheoremView). x.title) (sym same) ∙ h.3.1.titled)) ∙ differ)
 goes_on last known rest after u title step NoStep read l differ (inl h) = found_not_none (OfTheorem u) after (sym read ∙ h)
 goes_on last known rest after u title step NoStep read l differ (inr h) =
     let same = same_first h.0 u h.1 after (sym h.2 ∙ read) in
-    true≢false (sym (is_same_title u.title title (ap (λ (x : Entry). x.title) (sym same) ∙ h.3.titled)) ∙ differ)
+    true≢false (sym (is_same_title u.title title (ap (λ (x : TheoremView). x.title) (sym same) ∙ h.3.titled)) ∙ differ)
 goes_on last known rest after u title step (Unlicensed p n wanted names) read l differ h =
     no_stop_of_licensed (stated_by known.theorems) (stated u.statement) u.script l.filled n wanted l.licensed
     (stop_of_same known.theorems h.0 u p n wanted names (same_first h.0 u h.1 after (sym h.2 ∙ read)) h.3.0).first
@@ -386,28 +386,28 @@ end_here last known rest title step (Unlicensed p n wanted names) h = theorem_he
 end_here last known rest title step (Faulty f) h = λ n after e. found_not_faulty (OfNotion n) after f (sym e ∙ h)
 
 -- where one way ends before a theorem, no other way has one there
-ends_before : (last : ℕ) (known : Known) (lines : Rest) (k1 here : Known) (r1 before after : Rest) (u : Entry) (title : List ℕ) (step : ℕ) (a : WayOutcome) → AreDefined last known lines k1 r1 → WayAt last k1 r1 title step a
+ends_before : (last : ℕ) (known : Known) (lines : Rest) (k1 here : Known) (r1 before after : Rest) (u : TheoremView) (title : List ℕ) (step : ℕ) (a : WayOutcome) → AreDefined last known lines k1 r1 → WayAt last k1 r1 title step a
     → AreDefined last known lines here before → item_from here last None before ≡ found (OfTheorem u) after → IsLicensed here.theorems u → bytes_eq u.title title ≡ false → ⊥
 ends_before last known lines k1 here r1 before after u title step a p h d read l differ =
     let spot = spot_of last known lines here k1 before r1 d p (theorem_here last here before u after read) (end_here last k1 r1 title step a h) in
     goes_on last here before after u title step a read l differ (ends_at last here k1 before r1 title step a spot.0 spot.1 h)
 
 -- what is known later was not known before
-known_front : (known : List Headed) (t : Entry) (title : List ℕ) → is_known (with_theorem known t) title ≡ false → is_known known title ≡ false
+known_front : (known : List TitledStatement) (t : TheoremView) (title : List ℕ) → is_known (with_theorem known t) title ≡ false → is_known known title ≡ false
 known_front [] t title h = refl
 known_front (x ∷ xs) t title h = both_false (bytes_eq title x.title) _ (or_not_left (bytes_eq title x.title) _ h) (known_front xs t title (or_not_right (bytes_eq title x.title) _ h))
 
-not_known : (last : ℕ) (known : Known) (lines : Rest) (ts : List Entry) (now : Known) (rest : Rest) (title : List ℕ) → Takes last known lines ts now rest → is_known now.theorems title ≡ false → is_known known.theorems title ≡ false
-not_known last known lines [] now rest title r h = ap (λ (k : List Headed). is_known k title) (defined_same last known lines now rest r) ∙ h
+not_known : (last : ℕ) (known : Known) (lines : Rest) (ts : List TheoremView) (now : Known) (rest : Rest) (title : List ℕ) → Takes last known lines ts now rest → is_known now.theorems title ≡ false → is_known known.theorems title ≡ false
+not_known last known lines [] now rest title r h = ap (λ (k : List TitledStatement). is_known k title) (defined_same last known lines now rest r) ∙ h
 not_known last known lines (t ∷ ts) now rest title r h =
-    ap (λ (k : List Headed). is_known k title) (defined_same last known lines r.0 r.1 r.2)
+    ap (λ (k : List TitledStatement). is_known k title) (defined_same last known lines r.0 r.1 r.2)
     ∙ known_front r.0.theorems t title (not_known last (and_theorem r.0 t) r.3 ts now rest title r.6 h)
 
-last_differs : (known : List Headed) (t : Entry) (title : List ℕ) → is_known (with_theorem known t) title ≡ false → bytes_eq t.title title ≡ false
+last_differs : (known : List TitledStatement) (t : TheoremView) (title : List ℕ) → is_known (with_theorem known t) title ≡ false → bytes_eq t.title title ≡ false
 last_differs [] t title h = turned title t.title (or_not_left (bytes_eq title t.title) false h)
 last_differs (x ∷ xs) t title h = last_differs xs t title (or_not_right (bytes_eq title x.title) _ h)
 
-one_way : (last : ℕ) (known : Known) (lines : Rest) (title : List ℕ) (step : ℕ) (ts us : List Entry) (k1 k2 : Known) (r1 r2 : Rest) (a b : WayOutcome) → Takes last known lines ts k1 r1 → Takes last known lines us k2 r2
+one_way : (last : ℕ) (known : Known) (lines : Rest) (title : List ℕ) (step : ℕ) (ts us : List TheoremView) (k1 k2 : Known) (r1 r2 : Rest) (a b : WayOutcome) → Takes last known lines ts k1 r1 → Takes last known lines us k2 r2
     → is_known k1.theorems title ≡ false → is_known k2.theorems title ≡ false → WayAt last k1 r1 title step a → WayAt last k2 r2 title step b → a ≡ b
 one_way last known lines title step [] [] k1 k2 r1 r2 a b p q m n h k =
     let spot = spot_of last known lines k1 k2 r1 r2 p q (end_here last k1 r1 title step a h) (end_here last k2 r2 title step b k) in
@@ -440,7 +440,7 @@ wide_answer lines title step NoStep p n wanted width h = h
 wide_answer lines title step (Unlicensed a b c d) p n wanted width h = h
 wide_answer lines title step (Faulty f) p n wanted width h = h
 
-is_wide : (title : List ℕ) (step : ℕ) (p : List ℕ) (n : ℕ) (wanted : Wanted) (width : ℕ) (names : Names) (known : List Headed) (t : Entry) → Widens title step p n wanted width names known t → HasWideOnWay title step known t
+is_wide : (title : List ℕ) (step : ℕ) (p : List ℕ) (n : ℕ) (wanted : Wanted) (width : ℕ) (names : Names) (known : List TitledStatement) (t : TheoremView) → Widens title step p n wanted width names known t → HasWideOnWay title step known t
 is_wide title step p n wanted width names known t (inl (w, earlier)) =
     let at = w.too_wide in
     inl (record { number = n; line = at.line; earlier = earlier; context = at.context; is_wide = wide_line (stated_by known) at.line at.line.here wanted width at.too_wide })
@@ -516,18 +516,18 @@ read_book title step (Some text) read old new answer e h = (text, refl, subst (�
 abbrev AnswersIf : {E : Type 0} → Result Answer E → (Status → List ℕ → Type 0) → Type 0
 AnswersIf r Holds = IfOk r (λ a. Holds a.status a.line.items)
 
-pub too_short_next : {E : Type 0} (r : Result Answer E) (known : List Headed) (t : Entry) (step : ℕ) → size t.script < step → IfOk r (λ a. (a.status ≡ status.NoStep) × (a.line.items ≡ no_step_line))
+pub too_short_next : {E : Type 0} (r : Result Answer E) (known : List TitledStatement) (t : TheoremView) (step : ℕ) → size t.script < step → IfOk r (λ a. (a.status ≡ status.NoStep) × (a.line.items ≡ no_step_line))
     → AnswersIf r (AnswersNext known t t.title step)
 too_short_next (Err e) known t step short h = tt
 too_short_next (Ok a) known t step short h = λ lines next. too_short lines t.title step known t a.status a.line.items next refl short h.0 h.1
 
-pub stopped_next : {E : Type 0} (r : Result Answer E) (known : List Headed) (t : Entry) (step : ℕ) (stop : Stop) → step ≤ size t.script → IsStopBefore step stop → StopIs (stated_by known) (stated t.statement) t.script stop
+pub stopped_next : {E : Type 0} (r : Result Answer E) (known : List TitledStatement) (t : TheoremView) (step : ℕ) (stop : Stop) → step ≤ size t.script → IsStopBefore step stop → StopIs (stated_by known) (stated t.statement) t.script stop
     → HasNames (stated_by known) (stated t.statement) t.names t.script stop → IfOk r (λ a. IsStopAnswer t.title stop a.status a.line.items) → AnswersIf r (AnswersNext known t t.title step)
 stopped_next (Err e) known t step stop has less refused named h = tt
 stopped_next (Ok a) known t step stop has less refused named h =
     λ lines next. is_stopped lines t.title step known t stop a.status a.line.items next (stops_own t.title step t stop has less) refused named h
 
-pub answered_next : {E : Type 0} (r : Result Answer E) (known : List Headed) (t : Entry) (step : ℕ) (p : Place) → IsPlace (stated_by known) (stated t.statement) t.names t.script step p
+pub answered_next : {E : Type 0} (r : Result Answer E) (known : List TitledStatement) (t : TheoremView) (step : ℕ) (p : Place) → IsPlace (stated_by known) (stated t.statement) t.names t.script step p
     → AnswersIf r (AnswersAt p.names p.context.scope p.context.facts known t.title step) → AnswersIf r (AnswersNext known t t.title step)
 answered_next (Err e) known t step p place h = tt
 answered_next (Ok a) known t step p place h = is_answered known t t.title step p a.status a.line.items refl place h
@@ -545,19 +545,19 @@ faulty_here (Err e) lines title step known rest f w fails h = tt
 faulty_here (Ok a) lines title step known rest f w fails h = is_faulty lines title step known rest f a.status a.line.items w fails h.0 h.1 h.2
 
 -- at the theorem with the title
-pub titled_passes : (known now : Known) (title : List ℕ) (step : ℕ) (t : Entry) (a : Answer) → bytes_eq t.title title ≡ true → AnswersNext known.theorems t t.title step a.status a.line.items
+pub titled_passes : (known now : Known) (title : List ℕ) (step : ℕ) (t : TheoremView) (a : Answer) → bytes_eq t.title title ≡ true → AnswersNext known.theorems t t.title step a.status a.line.items
     → PassesNext known (OfTheorem t) title step now (Some a)
 titled_passes known now title step t a same h lines rest after w read =
     subst (λ (l : List ℕ). AnswersNext known.theorems t l step a.status a.line.items) (same_title t.title title same) h lines (next_of lines title known rest after t w read)
 
 -- at a stop of another theorem
-pub stopped_passes : (known now : Known) (title : List ℕ) (step : ℕ) (t : Entry) (stop : Stop) (a : Answer) → bytes_eq t.title title ≡ false → StopIs (stated_by known.theorems) (stated t.statement) t.script stop
+pub stopped_passes : (known now : Known) (title : List ℕ) (step : ℕ) (t : TheoremView) (stop : Stop) (a : Answer) → bytes_eq t.title title ≡ false → StopIs (stated_by known.theorems) (stated t.statement) t.script stop
     → HasNames (stated_by known.theorems) (stated t.statement) t.names t.script stop → IsStopAnswer t.title stop a.status a.line.items → PassesNext known (OfTheorem t) title step now (Some a)
 stopped_passes known now title step t stop a differ refused named h lines rest after w read =
     is_stopped lines title step known.theorems t stop a.status a.line.items (next_of lines title known rest after t w read) (stops_other title step t stop differ) refused named h
 
 -- another theorem is licensed
-pub licensed_passes : (known now : Known) (title : List ℕ) (step : ℕ) (t : Entry) → bytes_eq t.title title ≡ false → IsLicensed known.theorems t → is_small_statement (stated t.statement) ≡ true → now ≡ and_theorem known t
+pub licensed_passes : (known now : Known) (title : List ℕ) (step : ℕ) (t : TheoremView) → bytes_eq t.title title ≡ false → IsLicensed known.theorems t → is_small_statement (stated t.statement) ≡ true → now ≡ and_theorem known t
     → PassesNext known (OfTheorem t) title step now None
 licensed_passes known now title step t differ licensed small is lines rest after w read =
     subst (λ (k : Known). IsOnWay lines title k after) (sym is) (way_more lines title known rest after t w read licensed differ small)
@@ -568,7 +568,7 @@ notion_passes known now title step n means is lines rest after w read =
     subst (λ (k : Known). IsOnWay lines title k after) (sym is) (way_notion lines title known rest after n w read means)
 
 -- at the place
-pub listed_answer : {E : Type 0} (r : Result Answer E) (names : Names) (scope : Scope) (facts : List Lit) (known : List Headed) (title : List ℕ) (step n m : ℕ) (more : Bool) (out text : List ℕ) → text ≡ out → m ≡ n
+pub listed_answer : {E : Type 0} (r : Result Answer E) (names : Names) (scope : Scope) (facts : List Lit) (known : List TitledStatement) (title : List ℕ) (step n m : ℕ) (more : Bool) (out text : List ℕ) → text ≡ out → m ≡ n
     → ((lines : List (List ℕ)) × (out ≡ text_of lines) × (n ≡ length lines) × (n ≤ 1000) × Lists names scope facts known 1000 lines more)
     → IfOk r (λ a. (a.status ≡ status.Suggested m more) × (a.line.items ≡ text ++ suggested_line m more)) → AnswersIf r (AnswersAt names scope facts known title step)
 listed_answer (Err e) names scope facts known title step n m more out text same is listed h = tt
@@ -576,7 +576,7 @@ listed_answer (Ok a) names scope facts known title step n m more out text same i
     subst (λ (s : Status). AnswersAt names scope facts known title step s a.line.items) (sym e)
     (lines, is ∙ count, lists, f ∙ ap (λ (x : List ℕ). x ++ suggested_line m more) (same ∙ bytes))
 
-pub wide_at_place : {E : Type 0} (r : Result Answer E) (names seen : Names) (scope : Scope) (facts : List Lit) (known : List Headed) (title : List ℕ) (step width : ℕ) → seen ≡ names → SomeIsTooWide scope facts known width
+pub wide_at_place : {E : Type 0} (r : Result Answer E) (names seen : Names) (scope : Scope) (facts : List Lit) (known : List TitledStatement) (title : List ℕ) (step width : ℕ) → seen ≡ names → SomeIsTooWide scope facts known width
     → IfOk r (λ a. IsStopAnswer title (stops.TooWide step Match width seen) a.status a.line.items) → AnswersIf r (AnswersAt names scope facts known title step)
 wide_at_place (Err e) names seen scope facts known title step width same some h = tt
 wide_at_place (Ok a) names seen scope facts known title step width same some h =

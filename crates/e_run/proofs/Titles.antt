@@ -8,26 +8,26 @@ use Rattle.std.proofs.lemmas.Slice.Eq.{bytes_eq-Decides}
 use Rattle.e_text.specs.Tokens.{tokens_of}
 use Rattle.e_literal.specs.declared.object.Sort.{Sort}
 use Rattle.e_literal.specs.declared.object.Sort.TheVariants.{Point, Line, Circle}
-use Rattle.e_line.specs.declared.fault.Kind.{Kind}
-use Rattle.e_line.specs.declared.fault.Kind.TheVariants.{Malformed, NameTaken}
+use Rattle.e_line.specs.declared.fault.FaultKind.{FaultKind}
+use Rattle.e_line.specs.declared.fault.FaultKind.TheVariants.{Malformed, NameTaken}
 use Rattle.e_line.specs.declared.fault.BookFault.{BookFault}
-use Rattle.e_line.specs.declared.form.Form.{Form}
-use Rattle.e_line.specs.declared.form.Form.TheVariants as forms
+use Rattle.e_line.specs.declared.raw_line.RawLine.{RawLine}
+use Rattle.e_line.specs.declared.raw_line.RawLine.TheVariants as rawlines
 use Rattle.e_line.specs.declared.fault.What.TheVariants as limits
 use Rattle.e_line.specs.declared.items.RawItem.{RawItem}
 use Rattle.e_line.specs.declared.items.Listing.{Listing}
 use Rattle.e_line.specs.declared.items.Listing.TheVariants as listings
-use Rattle.e_line.specs.declared.items.RawLine.{RawLine}
-use Rattle.e_line.specs.declared.items.RawLine.TheVariants.{Plain, Define, Listed}
+use Rattle.e_line.specs.declared.items.BookLine.{BookLine}
+use Rattle.e_line.specs.declared.items.BookLine.TheVariants.{Plain, Define, Listed}
 use Rattle.e_names.specs.declared.known.Known.{Known}
 use Rattle.e_line.specs.Reading.{◌>>=◌, word_at, title_at, end_at, cut_at, names_of, some_names}
 use Rattle.e_line.specs.Literals.{lit_of, diagram_lit_of, lits_of}
 use Rattle.e_line.specs.Superposes.{superpose_of}
 use Rattle.e_line.specs.Lets.{let_of}
 use Rattle.e_line.specs.Applies.{apply_of}
-use Rattle.e_line.specs.Forms.{declare_of, sort_of, made_of, by_of, theorem_of, bare, form_named}
-use Rattle.e_names.specs.Headed.{Headed}
-use Rattle.e_book.specs.Entry.{Entry}
+use Rattle.e_line.specs.RawLines.{declare_of, sort_of, made_of, by_of, theorem_of, bare, raw_line_named}
+use Rattle.e_names.specs.TitledStatements.{TitledStatement}
+use Rattle.e_book.specs.TheoremViews.{TheoremView}
 use Rattle.e_names.specs.Taken.{nothing_known, is_taken}
 use Rattle.e_names.specs.Titled.{Titled}
 use Rattle.e_line.specs.Limits.{most_notions, most_expanded}
@@ -59,139 +59,139 @@ titles (Err f ∷ lines) = 0
 titles (Ok l ∷ lines) = one_if (has_title (tokens_of l.bytes)) + titles lines
 
 -- this line has one
-abbrev is_title_line : RawLine → Bool
-is_title_line (Plain (forms.Theorem t)) = true
+abbrev is_title_line : BookLine → Bool
+is_title_line (Plain (rawlines.Theorem t)) = true
 is_title_line l = false
 
-abbrev coming_ok : Coming → Result Coming Kind
+abbrev coming_ok : Coming → Result Coming FaultKind
 coming_ok c = Ok c
 
-abbrev open_ok : Open → Result Open Kind
+abbrev open_ok : Open → Result Open FaultKind
 open_ok o = Ok o
 
-abbrev refusal_of : Kind → Result Coming Kind
+abbrev refusal_of : FaultKind → Result Coming FaultKind
 refusal_of k = Err k
 
 -- ---- no other word begins a line with a title
 
-abbrev IsNoTitle : Result Form Kind → Type 0
-IsNoTitle (Ok (forms.Theorem t)) = ⊥
+abbrev IsNoTitle : Result RawLine FaultKind → Type 0
+IsNoTitle (Ok (rawlines.Theorem t)) = ⊥
 IsNoTitle r = Unit {0}
 
-chosen : (b : Bool) (x y : Result Form Kind) → IsNoTitle x → IsNoTitle y → IsNoTitle (cond b x y)
+chosen : (b : Bool) (x y : Result RawLine FaultKind) → IsNoTitle x → IsNoTitle y → IsNoTitle (cond b x y)
 chosen true x y h k = h
 chosen false x y h k = k
 
-second : (b : Bool) (x y : Result Form Kind) → b ≡ false → IsNoTitle y → IsNoTitle (cond b x y)
+second : (b : Bool) (x y : Result RawLine FaultKind) → b ≡ false → IsNoTitle y → IsNoTitle (cond b x y)
 second true x y e k = absurd cc
 second false x y e k = k
 
-read_on : {A : Type 0} (r : Result A Kind) (f : A → Result Form Kind) → ((x : A) → IsNoTitle (f x)) → IsNoTitle (r >>= f)
+read_on : {A : Type 0} (r : Result A FaultKind) (f : A → Result RawLine FaultKind) → ((x : A) → IsNoTitle (f x)) → IsNoTitle (r >>= f)
 read_on (Ok x) f h = h x
 read_on (Err k) f h = tt
 
 declared : (sort : Sort) (ws : List (List ℕ)) → IsNoTitle (declare_of sort ws)
 unfolding declare_of
-declared sort ws = read_on (some_names ws) (λ ns. read_ok (forms.Declare sort ns)) (λ ns. tt)
+declared sort ws = read_on (some_names ws) (λ ns. read_ok (rawlines.Declare sort ns)) (λ ns. tt)
 
 made : (ws : List (List ℕ)) → IsNoTitle (made_of ws)
 unfolding made_of
 made ws =
-    read_on (word_at ws) (λ w. sort_of w.0 >>= λ sort. some_names w.1 >>= λ ns. read_ok (forms.Made sort ns))
-    (λ w. read_on (sort_of w.0) (λ sort. some_names w.1 >>= λ ns. read_ok (forms.Made sort ns))
-    (λ sort. read_on (some_names w.1) (λ ns. read_ok (forms.Made sort ns)) (λ ns. tt)))
+    read_on (word_at ws) (λ w. sort_of w.0 >>= λ sort. some_names w.1 >>= λ ns. read_ok (rawlines.Made sort ns))
+    (λ w. read_on (sort_of w.0) (λ sort. some_names w.1 >>= λ ns. read_ok (rawlines.Made sort ns))
+    (λ sort. read_on (some_names w.1) (λ ns. read_ok (rawlines.Made sort ns)) (λ ns. tt)))
 
 cited : (ws : List (List ℕ)) → IsNoTitle (by_of ws)
 unfolding by_of
 cited ws =
-    let rest : List ℕ × List (List ℕ) → Result Form Kind = λ r. cond (cut_at (codes ":") r.1).2 (names_of (cut_at (codes ":") r.1).0 >>= λ ns. diagram_lit_of (cut_at (codes ":") r.1).1 >>= λ l. read_ok (forms.By r.0 ns l)) (Err Malformed) in
+    let rest : List ℕ × List (List ℕ) → Result RawLine FaultKind = λ r. cond (cut_at (codes ":") r.1).2 (names_of (cut_at (codes ":") r.1).0 >>= λ ns. diagram_lit_of (cut_at (codes ":") r.1).1 >>= λ l. read_ok (rawlines.By r.0 ns l)) (Err Malformed) in
     read_on (title_at ws) rest
     (λ r.
     let parts = cut_at (codes ":") r.1 in
-    chosen parts.2 (names_of parts.0 >>= λ ns. diagram_lit_of parts.1 >>= λ l. read_ok (forms.By r.0 ns l)) (Err Malformed)
-    (read_on (names_of parts.0) (λ ns. diagram_lit_of parts.1 >>= λ l. read_ok (forms.By r.0 ns l)) (λ ns. read_on (diagram_lit_of parts.1) (λ l. read_ok (forms.By r.0 ns l)) (λ l. tt)))
+    chosen parts.2 (names_of parts.0 >>= λ ns. diagram_lit_of parts.1 >>= λ l. read_ok (rawlines.By r.0 ns l)) (Err Malformed)
+    (read_on (names_of parts.0) (λ ns. diagram_lit_of parts.1 >>= λ l. read_ok (rawlines.By r.0 ns l)) (λ ns. read_on (diagram_lit_of parts.1) (λ l. read_ok (rawlines.By r.0 ns l)) (λ l. tt)))
     tt)
 
-alone : (ws : List (List ℕ)) (form : Form) → IsNoTitle (Ok form) → IsNoTitle (bare ws form)
+alone : (ws : List (List ℕ)) (form : RawLine) → IsNoTitle (Ok form) → IsNoTitle (bare ws form)
 unfolding bare
 alone ws form h = read_on (end_at ws) (λ none. read_ok form) (λ none. h)
 
-no_title : (w : List ℕ) (ws : List (List ℕ)) → bytes_eq w (codes "theorem") ≡ false → IsNoTitle (form_named w ws)
-unfolding form_named
+no_title : (w : List ℕ) (ws : List (List ℕ)) → bytes_eq w (codes "theorem") ≡ false → IsNoTitle (raw_line_named w ws)
+unfolding raw_line_named
 no_title w ws e =
-    let r20 : Result Form Kind = Err Malformed in
-    let r19 : Result Form Kind = cond (bytes_eq w (codes "end")) (bare ws forms.End) r20 in
-    let r18 : Result Form Kind = cond (bytes_eq w (codes "else")) (bare ws forms.Else) r19 in
-    let r17 : Result Form Kind = cond (bytes_eq w (codes "cases")) (lit_of ws >>= λ l. read_ok (forms.Cases l)) r18 in
-    let r16 : Result Form Kind = cond (bytes_eq w (codes "superpose")) (superpose_of ws >>= λ s. read_ok (forms.Superpose s)) r17 in
-    let r15 : Result Form Kind = cond (bytes_eq w (codes "claim")) (lits_of ws >>= λ ls. read_ok (forms.Claim ls)) r16 in
-    let r14 : Result Form Kind = cond (bytes_eq w (codes "contradiction")) (bare ws forms.Contradiction) r15 in
-    let r13 : Result Form Kind = cond (bytes_eq w (codes "qed")) (names_of ws >>= λ ns. read_ok (forms.Qed ns)) r14 in
-    let r12 : Result Form Kind = cond (bytes_eq w (codes "apply")) (apply_of ws >>= λ a. read_ok (forms.Apply a)) r13 in
-    let r11 : Result Form Kind = cond (bytes_eq w (codes "let")) (let_of ws >>= λ l. read_ok (forms.Let l)) r12 in
-    let r10 : Result Form Kind = cond (bytes_eq w (codes "hence")) (lit_of ws >>= λ l. read_ok (forms.Hence l)) r11 in
-    let r9 : Result Form Kind = cond (bytes_eq w (codes "by")) (by_of ws) r10 in
-    let r8 : Result Form Kind = cond (bytes_eq w (codes "proof")) (bare ws forms.Proof) r9 in
-    let r7 : Result Form Kind = cond (bytes_eq w (codes "show")) (lits_of ws >>= λ ls. read_ok (forms.Show ls)) r8 in
-    let r6 : Result Form Kind = cond (bytes_eq w (codes "made")) (made_of ws) r7 in
-    let r5 : Result Form Kind = cond (bytes_eq w (codes "given")) (lits_of ws >>= λ ls. read_ok (forms.Given ls)) r6 in
-    let r4 : Result Form Kind = cond (bytes_eq w (codes "circles")) (declare_of Circle ws) r5 in
-    let r3 : Result Form Kind = cond (bytes_eq w (codes "lines")) (declare_of Line ws) r4 in
-    let r2 : Result Form Kind = cond (bytes_eq w (codes "points")) (declare_of Point ws) r3 in
+    let r20 : Result RawLine FaultKind = Err Malformed in
+    let r19 : Result RawLine FaultKind = cond (bytes_eq w (codes "end")) (bare ws rawlines.End) r20 in
+    let r18 : Result RawLine FaultKind = cond (bytes_eq w (codes "else")) (bare ws rawlines.Else) r19 in
+    let r17 : Result RawLine FaultKind = cond (bytes_eq w (codes "cases")) (lit_of ws >>= λ l. read_ok (rawlines.Cases l)) r18 in
+    let r16 : Result RawLine FaultKind = cond (bytes_eq w (codes "superpose")) (superpose_of ws >>= λ s. read_ok (rawlines.Superpose s)) r17 in
+    let r15 : Result RawLine FaultKind = cond (bytes_eq w (codes "claim")) (lits_of ws >>= λ ls. read_ok (rawlines.Claim ls)) r16 in
+    let r14 : Result RawLine FaultKind = cond (bytes_eq w (codes "contradiction")) (bare ws rawlines.Contradiction) r15 in
+    let r13 : Result RawLine FaultKind = cond (bytes_eq w (codes "qed")) (names_of ws >>= λ ns. read_ok (rawlines.Qed ns)) r14 in
+    let r12 : Result RawLine FaultKind = cond (bytes_eq w (codes "apply")) (apply_of ws >>= λ a. read_ok (rawlines.Apply a)) r13 in
+    let r11 : Result RawLine FaultKind = cond (bytes_eq w (codes "let")) (let_of ws >>= λ l. read_ok (rawlines.Let l)) r12 in
+    let r10 : Result RawLine FaultKind = cond (bytes_eq w (codes "hence")) (lit_of ws >>= λ l. read_ok (rawlines.Hence l)) r11 in
+    let r9 : Result RawLine FaultKind = cond (bytes_eq w (codes "by")) (by_of ws) r10 in
+    let r8 : Result RawLine FaultKind = cond (bytes_eq w (codes "proof")) (bare ws rawlines.Proof) r9 in
+    let r7 : Result RawLine FaultKind = cond (bytes_eq w (codes "show")) (lits_of ws >>= λ ls. read_ok (rawlines.Show ls)) r8 in
+    let r6 : Result RawLine FaultKind = cond (bytes_eq w (codes "made")) (made_of ws) r7 in
+    let r5 : Result RawLine FaultKind = cond (bytes_eq w (codes "given")) (lits_of ws >>= λ ls. read_ok (rawlines.Given ls)) r6 in
+    let r4 : Result RawLine FaultKind = cond (bytes_eq w (codes "circles")) (declare_of Circle ws) r5 in
+    let r3 : Result RawLine FaultKind = cond (bytes_eq w (codes "lines")) (declare_of Line ws) r4 in
+    let r2 : Result RawLine FaultKind = cond (bytes_eq w (codes "points")) (declare_of Point ws) r3 in
     second (bytes_eq w (codes "theorem")) (theorem_of ws) r2 e
     (chosen (bytes_eq w (codes "points")) (declare_of Point ws) r3 (declared Point ws)
     (chosen (bytes_eq w (codes "lines")) (declare_of Line ws) r4 (declared Line ws)
     (chosen (bytes_eq w (codes "circles")) (declare_of Circle ws) r5 (declared Circle ws)
-    (chosen (bytes_eq w (codes "given")) (lits_of ws >>= λ ls. read_ok (forms.Given ls)) r6 (read_on (lits_of ws) (λ ls. read_ok (forms.Given ls)) (λ ls. tt))
+    (chosen (bytes_eq w (codes "given")) (lits_of ws >>= λ ls. read_ok (rawlines.Given ls)) r6 (read_on (lits_of ws) (λ ls. read_ok (rawlines.Given ls)) (λ ls. tt))
     (chosen (bytes_eq w (codes "made")) (made_of ws) r7 (made ws)
-    (chosen (bytes_eq w (codes "show")) (lits_of ws >>= λ ls. read_ok (forms.Show ls)) r8 (read_on (lits_of ws) (λ ls. read_ok (forms.Show ls)) (λ ls. tt))
-    (chosen (bytes_eq w (codes "proof")) (bare ws forms.Proof) r9 (alone ws forms.Proof tt)
+    (chosen (bytes_eq w (codes "show")) (lits_of ws >>= λ ls. read_ok (rawlines.Show ls)) r8 (read_on (lits_of ws) (λ ls. read_ok (rawlines.Show ls)) (λ ls. tt))
+    (chosen (bytes_eq w (codes "proof")) (bare ws rawlines.Proof) r9 (alone ws rawlines.Proof tt)
     (chosen (bytes_eq w (codes "by")) (by_of ws) r10 (cited ws)
-    (chosen (bytes_eq w (codes "hence")) (lit_of ws >>= λ l. read_ok (forms.Hence l)) r11 (read_on (lit_of ws) (λ l. read_ok (forms.Hence l)) (λ l. tt))
-    (chosen (bytes_eq w (codes "let")) (let_of ws >>= λ l. read_ok (forms.Let l)) r12 (read_on (let_of ws) (λ l. read_ok (forms.Let l)) (λ l. tt))
-    (chosen (bytes_eq w (codes "apply")) (apply_of ws >>= λ a. read_ok (forms.Apply a)) r13 (read_on (apply_of ws) (λ a. read_ok (forms.Apply a)) (λ a. tt))
-    (chosen (bytes_eq w (codes "qed")) (names_of ws >>= λ ns. read_ok (forms.Qed ns)) r14 (read_on (names_of ws) (λ ns. read_ok (forms.Qed ns)) (λ ns. tt))
-    (chosen (bytes_eq w (codes "contradiction")) (bare ws forms.Contradiction) r15 (alone ws forms.Contradiction tt)
-    (chosen (bytes_eq w (codes "claim")) (lits_of ws >>= λ ls. read_ok (forms.Claim ls)) r16 (read_on (lits_of ws) (λ ls. read_ok (forms.Claim ls)) (λ ls. tt))
-    (chosen (bytes_eq w (codes "superpose")) (superpose_of ws >>= λ s. read_ok (forms.Superpose s)) r17 (read_on (superpose_of ws) (λ s. read_ok (forms.Superpose s)) (λ s. tt))
-    (chosen (bytes_eq w (codes "cases")) (lit_of ws >>= λ l. read_ok (forms.Cases l)) r18 (read_on (lit_of ws) (λ l. read_ok (forms.Cases l)) (λ l. tt))
-    (chosen (bytes_eq w (codes "else")) (bare ws forms.Else) r19 (alone ws forms.Else tt)
-    (chosen (bytes_eq w (codes "end")) (bare ws forms.End) r20 (alone ws forms.End tt) tt))))))))))))))))))
+    (chosen (bytes_eq w (codes "hence")) (lit_of ws >>= λ l. read_ok (rawlines.Hence l)) r11 (read_on (lit_of ws) (λ l. read_ok (rawlines.Hence l)) (λ l. tt))
+    (chosen (bytes_eq w (codes "let")) (let_of ws >>= λ l. read_ok (rawlines.Let l)) r12 (read_on (let_of ws) (λ l. read_ok (rawlines.Let l)) (λ l. tt))
+    (chosen (bytes_eq w (codes "apply")) (apply_of ws >>= λ a. read_ok (rawlines.Apply a)) r13 (read_on (apply_of ws) (λ a. read_ok (rawlines.Apply a)) (λ a. tt))
+    (chosen (bytes_eq w (codes "qed")) (names_of ws >>= λ ns. read_ok (rawlines.Qed ns)) r14 (read_on (names_of ws) (λ ns. read_ok (rawlines.Qed ns)) (λ ns. tt))
+    (chosen (bytes_eq w (codes "contradiction")) (bare ws rawlines.Contradiction) r15 (alone ws rawlines.Contradiction tt)
+    (chosen (bytes_eq w (codes "claim")) (lits_of ws >>= λ ls. read_ok (rawlines.Claim ls)) r16 (read_on (lits_of ws) (λ ls. read_ok (rawlines.Claim ls)) (λ ls. tt))
+    (chosen (bytes_eq w (codes "superpose")) (superpose_of ws >>= λ s. read_ok (rawlines.Superpose s)) r17 (read_on (superpose_of ws) (λ s. read_ok (rawlines.Superpose s)) (λ s. tt))
+    (chosen (bytes_eq w (codes "cases")) (lit_of ws >>= λ l. read_ok (rawlines.Cases l)) r18 (read_on (lit_of ws) (λ l. read_ok (rawlines.Cases l)) (λ l. tt))
+    (chosen (bytes_eq w (codes "else")) (bare ws rawlines.Else) r19 (alone ws rawlines.Else tt)
+    (chosen (bytes_eq w (codes "end")) (bare ws rawlines.End) r20 (alone ws rawlines.End tt) tt))))))))))))))))))
 
 -- ---- what a line says of its title
 
-not_title : (f : Form) → IsNoTitle (Ok f) → is_title_line (Plain f) ≡ false
-not_title (forms.Theorem t) h = absurd h
+not_title : (f : RawLine) → IsNoTitle (Ok f) → is_title_line (Plain f) ≡ false
+not_title (rawlines.Theorem t) h = absurd h
 not_title f h = refl
 
-listed_none : (line : Listing) (ws : List (List ℕ)) (l : RawLine) → listed line ws ≡ Ok l → is_title_line l ≡ false
+listed_none : (line : Listing) (ws : List (List ℕ)) (l : BookLine) → listed line ws ≡ Ok l → is_title_line l ≡ false
 unfolding listed
 listed_none line ws l e = of_reading (λ m. is_title_line m ≡ false) (items_of ws) (λ is. Listed line is) l (λ is k. refl) e
 
-define_none : (ws : List (List ℕ)) (l : RawLine) → define_of ws ≡ Ok l → is_title_line l ≡ false
+define_none : (ws : List (List ℕ)) (l : BookLine) → define_of ws ≡ Ok l → is_title_line l ≡ false
 unfolding define_of
 define_none ws l e =
     let t = bind_ok (title_at ws) (λ t. end_at t.1 >>= λ none. read_ok (Define t.0)) l e in
     of_reading (λ m. is_title_line m ≡ false) (end_at t.0.1) (λ none. Define t.0.0) l (λ none k. refl) t.2
 
-plain_none : (w : List ℕ) (ws : List (List ℕ)) (l : RawLine) → bytes_eq w (codes "theorem") ≡ false → (form_named w ws >>= λ f. read_ok (Plain f)) ≡ Ok l → is_title_line l ≡ false
+plain_none : (w : List ℕ) (ws : List (List ℕ)) (l : BookLine) → bytes_eq w (codes "theorem") ≡ false → (raw_line_named w ws >>= λ f. read_ok (Plain f)) ≡ Ok l → is_title_line l ≡ false
 plain_none w ws l is e =
-    of_reading (λ m. is_title_line m ≡ false) (form_named w ws) (λ f. Plain f) l (λ f k. not_title f (subst IsNoTitle k (no_title w ws is))) e
+    of_reading (λ m. is_title_line m ≡ false) (raw_line_named w ws) (λ f. Plain f) l (λ f k. not_title f (subst IsNoTitle k (no_title w ws is))) e
 
-line_none : (w : List ℕ) (ws : List (List ℕ)) (l : RawLine) → bytes_eq w (codes "theorem") ≡ false → line_named w ws ≡ Ok l → is_title_line l ≡ false
+line_none : (w : List ℕ) (ws : List (List ℕ)) (l : BookLine) → bytes_eq w (codes "theorem") ≡ false → line_named w ws ≡ Ok l → is_title_line l ≡ false
 unfolding line_named
 line_none w ws l is e =
-    let P : RawLine → Type 0 = λ m. is_title_line m ≡ false in
-    let r5 : Result RawLine Kind = form_named w ws >>= λ f. read_ok (Plain f) in
-    let placed : Result RawLine Kind = placing_of (take 13 ws) >>= λ line. listed line (drop 13 ws) in
+    let P : BookLine → Type 0 = λ m. is_title_line m ≡ false in
+    let r5 : Result BookLine FaultKind = raw_line_named w ws >>= λ f. read_ok (Plain f) in
+    let placed : Result BookLine FaultKind = placing_of (take 13 ws) >>= λ line. listed line (drop 13 ws) in
     let b4 = bytes_eq w (codes "superpose") && has_item (drop 13 ws) in
-    let r4 : Result RawLine Kind = cond b4 placed r5 in
+    let r4 : Result BookLine FaultKind = cond b4 placed r5 in
     let b3 = bytes_eq w (codes "claim") && has_item ws in
-    let r3 : Result RawLine Kind = cond b3 (listed listings.Claim ws) r4 in
+    let r3 : Result BookLine FaultKind = cond b3 (listed listings.Claim ws) r4 in
     let b2 = bytes_eq w (codes "show") && has_item ws in
-    let r2 : Result RawLine Kind = cond b2 (listed listings.Show ws) r3 in
+    let r2 : Result BookLine FaultKind = cond b2 (listed listings.Show ws) r3 in
     let b1 = bytes_eq w (codes "given") && has_item ws in
-    let r1 : Result RawLine Kind = cond b1 (listed listings.Given ws) r2 in
+    let r1 : Result BookLine FaultKind = cond b1 (listed listings.Given ws) r2 in
     either P (bytes_eq w (codes "define")) (define_of ws) r1 l e (define_none ws l) (λ e1.
     either P b1 (listed listings.Given ws) r2 l e1 (listed_none listings.Given ws l) (λ e2.
     either P b2 (listed listings.Show ws) r3 l e2 (listed_none listings.Show ws l) (λ e3.
@@ -200,24 +200,24 @@ line_none w ws l is e =
     (λ k. let a = bind_ok (placing_of (take 13 ws)) (λ line. listed line (drop 13 ws)) l k in listed_none a.0 (drop 13 ws) l a.2)
     (plain_none w ws l is)))))
 
-theorem_read : (ws : List (List ℕ)) (f : Form) → theorem_of ws ≡ Ok f → is_title_line (Plain f) ≡ true
+theorem_read : (ws : List (List ℕ)) (f : RawLine) → theorem_of ws ≡ Ok f → is_title_line (Plain f) ≡ true
 unfolding theorem_of
 theorem_read ws f e =
-    let t = bind_ok (title_at ws) (λ t. end_at t.1 >>= λ none. read_ok (forms.Theorem t.0)) f e in
-    of_reading (λ g. is_title_line (Plain g) ≡ true) (end_at t.0.1) (λ none. forms.Theorem t.0.0) f (λ none k. refl) t.2
+    let t = bind_ok (title_at ws) (λ t. end_at t.1 >>= λ none. read_ok (rawlines.Theorem t.0)) f e in
+    of_reading (λ g. is_title_line (Plain g) ≡ true) (end_at t.0.1) (λ none. rawlines.Theorem t.0.0) f (λ none k. refl) t.2
 
 theorem_line : (w : List ℕ) (ws : List (List ℕ)) → bytes_eq w (codes "theorem") ≡ true → line_named w ws ≡ (theorem_of ws >>= λ f. read_ok (Plain f))
-unfolding line_named form_named
+unfolding line_named raw_line_named
 theorem_line w ws is =
     subst (λ (x : List ℕ). line_named x ws ≡ (theorem_of ws >>= λ f. read_ok (Plain f))) (sym ((bytes_eq-Decides w (codes "theorem")).0 is)) refl
 
-line_by : (w : List ℕ) (ws : List (List ℕ)) (l : RawLine) (b : Bool) → bytes_eq w (codes "theorem") ≡ b → line_named w ws ≡ Ok l → b ≡ is_title_line l
+line_by : (w : List ℕ) (ws : List (List ℕ)) (l : BookLine) (b : Bool) → bytes_eq w (codes "theorem") ≡ b → line_named w ws ≡ Ok l → b ≡ is_title_line l
 line_by w ws l true is e =
     of_reading (λ m. true ≡ is_title_line m) (theorem_of ws) (λ f. Plain f) l (λ f k. sym (theorem_read ws f k)) (sym (theorem_line w ws is) ∙ e)
 line_by w ws l false is e = sym (line_none w ws l is e)
 
 -- by its first word alone
-line_title : (words : List (List ℕ)) (l : RawLine) → line_of words ≡ Ok l → has_title words ≡ is_title_line l
+line_title : (words : List (List ℕ)) (l : BookLine) → line_of words ≡ Ok l → has_title words ≡ is_title_line l
 unfolding line_of
 line_title [] l e = absurd cc
 line_title (w ∷ ws) l e = line_by w ws l (bytes_eq w (codes "theorem")) refl e
@@ -234,26 +234,26 @@ abbrev is_theorem : BookItem → Bool
 is_theorem (OfTheorem t) = true
 is_theorem (OfNotion n) = false
 
-theorem_begun : (known : Known) (b : Bool) (f : Form) (c : Coming) → cond b (refusal_of NameTaken) (begins known.theorems f >>= λ o. coming_ok (InTheorem o 0)) ≡ Ok c → says_theorem c ≡ true
+theorem_begun : (known : Known) (b : Bool) (f : RawLine) (c : Coming) → cond b (refusal_of NameTaken) (begins known.theorems f >>= λ o. coming_ok (InTheorem o 0)) ≡ Ok c → says_theorem c ≡ true
 theorem_begun known true f c e = absurd cc
 theorem_begun known false f c e = of_reading (λ d. says_theorem d ≡ true) (begins known.theorems f) (λ o. InTheorem o 0) c (λ o k. refl) e
 
-definition_begun : (known : Known) (b : Bool) (t : List ℕ) (r : Result (Unit {0}) Kind) (c : Coming) → cond b (refusal_of NameTaken) (r >>= λ kept. coming_ok (InDefinition (nothing_said t) 0)) ≡ Ok c → says_theorem c ≡ false
+definition_begun : (known : Known) (b : Bool) (t : List ℕ) (r : Result (Unit {0}) FaultKind) (c : Coming) → cond b (refusal_of NameTaken) (r >>= λ kept. coming_ok (InDefinition (nothing_said t) 0)) ≡ Ok c → says_theorem c ≡ false
 definition_begun known true t r c e = absurd cc
 definition_begun known false t r c e = of_reading (λ d. says_theorem d ≡ false) r (λ kept. InDefinition (nothing_said t) 0) c (λ kept k. refl) e
 
-no_theorem_begun : (known : List Headed) (f : Form) (o : Open) → is_title_line (Plain f) ≡ false → begins known f ≡ Ok o → ⊥
-no_theorem_begun known (forms.Theorem t) o h e = absurd cc
+no_theorem_begun : (known : List TitledStatement) (f : RawLine) (o : Open) → is_title_line (Plain f) ≡ false → begins known f ≡ Ok o → ⊥
+no_theorem_begun known (rawlines.Theorem t) o h e = absurd cc
 no_theorem_begun known f o h e = absurd cc
 
-plain_begun : (known : Known) (f : Form) (c : Coming) (b : Bool) → is_title_line (Plain f) ≡ b → first_line known (Plain f) ≡ Ok c → b ≡ says_theorem c
+plain_begun : (known : Known) (f : RawLine) (c : Coming) (b : Bool) → is_title_line (Plain f) ≡ b → first_line known (Plain f) ≡ Ok c → b ≡ says_theorem c
 plain_begun known f c true is e = sym (theorem_begun known (has_notion_title known.notions f) f c e)
 plain_begun known f c false is e =
     let free = was_free (has_notion_title known.notions f) (begins known.theorems f >>= λ o. coming_ok (InTheorem o 0)) c e in
     let o = bind_ok (begins known.theorems f) (λ o. coming_ok (InTheorem o 0)) c free.1 in
     absurd (no_theorem_begun known.theorems f o.0 is o.1)
 
-first_kind : (known : Known) (l : RawLine) (c : Coming) → first_line known l ≡ Ok c → is_title_line l ≡ says_theorem c
+first_kind : (known : Known) (l : BookLine) (c : Coming) → first_line known l ≡ Ok c → is_title_line l ≡ says_theorem c
 first_kind known (Plain f) c e = plain_begun known f c (is_title_line (Plain f)) refl e
 first_kind known (Define t) c e =
     sym (definition_begun known (is_taken known t) t (all_kept ((nat_le (length known.notions + 1) most_notions, limits.Notions) ∷ [])) c e)
@@ -271,20 +271,20 @@ still_kind : (n : ℕ) (o : Open) (c : Coming) → still_defined n o ≡ Ok c �
 still_kind n (Stating h) c e = ap says_theorem (sym (ok_is (InDefinition h n) c e))
 still_kind n o c e = absurd cc
 
-ended_kind : (h : Head) (f : Form) (c : Coming) → ends_definition h f ≡ Ok c → says_theorem c ≡ false
-ended_kind h forms.End c e = either (λ d. says_theorem d ≡ false) (is_empty h.statement.shown) (refusal_of Malformed) (coming_ok (Defined (meant h))) c e (λ k. absurd cc) (λ k. ap says_theorem (sym (ok_is (Defined (meant h)) c k)))
+ended_kind : (h : Head) (f : RawLine) (c : Coming) → ends_definition h f ≡ Ok c → says_theorem c ≡ false
+ended_kind h rawlines.End c e = either (λ d. says_theorem d ≡ false) (is_empty h.statement.shown) (refusal_of Malformed) (coming_ok (Defined (meant h))) c e (λ k. absurd cc) (λ k. ap says_theorem (sym (ok_is (Defined (meant h)) c k)))
 ended_kind h f c e = absurd cc
 
-plain_kind : (known : Known) (b : Coming) (f : Form) (c : Coming) → plain_line known b f ≡ Ok c → says_theorem b ≡ says_theorem c
+plain_kind : (known : Known) (b : Coming) (f : RawLine) (c : Coming) → plain_line known b f ≡ Ok c → says_theorem b ≡ says_theorem c
 plain_kind known (InTheorem o n) f c e = of_reading (λ d. true ≡ says_theorem d) (line_after known.theorems (Some o) f) (λ m. InTheorem m n) c (λ m k. refl) e
 plain_kind known (InDefinition h n) f c e =
-    let more : Result Coming Kind = line_after known.theorems (Some (Stating h)) f >>= λ o. still_defined n o in
+    let more : Result Coming FaultKind = line_after known.theorems (Some (Stating h)) f >>= λ o. still_defined n o in
     sym (either (λ d. says_theorem d ≡ false) (says_more f) more (ends_definition h f) c e
     (λ k. let o = bind_ok (line_after known.theorems (Some (Stating h)) f) (λ o. still_defined n o) c k in still_kind n o.0 c o.2)
     (ended_kind h f c))
 plain_kind known (Defined t) f c e = absurd cc
 
-then_counted : (known : Known) (b : Coming) (w : Form × ℕ) (c : Coming) → (plain_line known b w.0 >>= λ d. counted w.1 d) ≡ Ok c → says_theorem b ≡ says_theorem c
+then_counted : (known : Known) (b : Coming) (w : RawLine × ℕ) (c : Coming) → (plain_line known b w.0 >>= λ d. counted w.1 d) ≡ Ok c → says_theorem b ≡ says_theorem c
 then_counted known b w c e =
     let d = bind_ok (plain_line known b w.0) (λ d. counted w.1 d) c e in
     plain_kind known b w.0 d.0 d.1 ∙ counted_kind w.1 d.0 c d.2
@@ -299,26 +299,26 @@ listed_kind known (InDefinition h n) line is c e =
     then_counted known (InDefinition h n) w.0 c w.2
 listed_kind known (Defined t) line is c e = absurd cc
 
-no_next : (known : List Headed) (o : Open) (t : List ℕ) (m : Open) → next known o (forms.Theorem t) ≡ Ok m → ⊥
+no_next : (known : List TitledStatement) (o : Open) (t : List ℕ) (m : Open) → next known o (rawlines.Theorem t) ≡ Ok m → ⊥
 no_next known (Stating h) t m e = absurd cc
 no_next known (Proving h around steps) t m e = absurd cc
 no_next known (Splitting h around) t m e = absurd cc
 no_next known (Proved h script) t m e = absurd cc
 no_next known (Ended e) t m k = absurd cc
 
-no_title_inside : (known : Known) (b : Coming) (t : List ℕ) (c : Coming) → plain_line known b (forms.Theorem t) ≡ Ok c → ⊥
+no_title_inside : (known : Known) (b : Coming) (t : List ℕ) (c : Coming) → plain_line known b (rawlines.Theorem t) ≡ Ok c → ⊥
 no_title_inside known (InTheorem o n) t c e =
-    let m = bind_ok (line_after known.theorems (Some o) (forms.Theorem t)) (λ m. coming_ok (InTheorem m n)) c e in
-    let a = bind_ok (next known.theorems o (forms.Theorem t)) (λ m. all_kept (limits_kept known.theorems (forms.Theorem t) m) >>= λ kept. open_ok m) m.0 m.1 in
+    let m = bind_ok (line_after known.theorems (Some o) (rawlines.Theorem t)) (λ m. coming_ok (InTheorem m n)) c e in
+    let a = bind_ok (next known.theorems o (rawlines.Theorem t)) (λ m. all_kept (limits_kept known.theorems (rawlines.Theorem t) m) >>= λ kept. open_ok m) m.0 m.1 in
     no_next known.theorems o t a.0 a.1
 no_title_inside known (InDefinition h n) t c e = absurd cc
 no_title_inside known (Defined s) t c e = absurd cc
 
-plain_later : (known : Known) (b : Coming) (f : Form) (c : Coming) → plain_line known b f ≡ Ok c → is_title_line (Plain f) ≡ false
-plain_later known b (forms.Theorem t) c e = absurd (no_title_inside known b t c e)
+plain_later : (known : Known) (b : Coming) (f : RawLine) (c : Coming) → plain_line known b f ≡ Ok c → is_title_line (Plain f) ≡ false
+plain_later known b (rawlines.Theorem t) c e = absurd (no_title_inside known b t c e)
 plain_later known b f c e = refl
 
-later_kind : (known : Known) (b : Coming) (l : RawLine) (c : Coming) → next_line known b l ≡ Ok c → (is_title_line l ≡ false) × (says_theorem b ≡ says_theorem c)
+later_kind : (known : Known) (b : Coming) (l : BookLine) (c : Coming) → next_line known b l ≡ Ok c → (is_title_line l ≡ false) × (says_theorem b ≡ says_theorem c)
 later_kind known b (Plain f) c e = (plain_later known b f c e, plain_kind known b f c e)
 later_kind known b (Define t) c e = absurd cc
 later_kind known b (Listed line is) c e = (refl, listed_kind known b line is c e)
@@ -359,11 +359,11 @@ line_begun known (Some b) words c i e k =
     let p = later_kind known b l.0 c l.2 in
     (ap one_if (line_title words l.0 l.1 ∙ p.0), p.1 ∙ k)
 
-put_is : (n : ℕ) (r : Result Coming Kind) (c : Coming) → put_at n r ≡ Ok c → r ≡ Ok c
+put_is : (n : ℕ) (r : Result Coming FaultKind) (c : Coming) → put_at n r ≡ Ok c → r ≡ Ok c
 put_is n (Ok x) c e = cc
 put_is n (Err k) c e = absurd cc
 
-ended_theorem : (o : Option Entry) (i : BookItem) → option_map OfTheorem o ≡ Some i → true ≡ is_theorem i
+ended_theorem : (o : Option TheoremView) (i : BookItem) → option_map OfTheorem o ≡ Some i → true ≡ is_theorem i
 ended_theorem None i e = absurd cc
 ended_theorem (Some t) i e = let j : OfTheorem t ≡ i = cc in ap is_theorem j
 
@@ -437,7 +437,7 @@ count_defined last known lines (n ∷ ns) now rest d =
     let none : titles lines ≡ 0 + titles d.0 = (count_found known last None lines (OfNotion n) d.0 d.1).count in
     omega (arith, none, count_defined last (and_notion known n) d.0 ns now rest d.2)
 
-count_taken : (last : ℕ) (known : Known) (lines : Rest) (ts : List Entry) (now : Known) (rest : Rest) → Takes last known lines ts now rest → titles lines ≡ length ts + titles rest
+count_taken : (last : ℕ) (known : Known) (lines : Rest) (ts : List TheoremView) (now : Known) (rest : Rest) → Takes last known lines ts now rest → titles lines ≡ length ts + titles rest
 count_taken last known lines [] now rest h = omega (arith, count_defined last known lines h.notions now rest h.defines)
 count_taken last known lines (t ∷ ts) now rest h =
     let before = count_defined last known lines h.2.notions h.0 h.1 h.2.defines in
@@ -445,7 +445,7 @@ count_taken last known lines (t ∷ ts) now rest h =
     omega (arith, before, one, count_taken last (and_theorem h.0 t) h.3 ts now rest h.6)
 
 -- an accepted book has as many titles as theorems
-pub accepted_titles : (lines : Rest) (ts : List Entry) (n : ℕ) → IsOutcome lines ts (Accepted n) → titles lines ≡ n
+pub accepted_titles : (lines : Rest) (ts : List TheoremView) (n : ℕ) → IsOutcome lines ts (Accepted n) → titles lines ≡ n
 accepted_titles lines ts n h =
     omega (
       arith,

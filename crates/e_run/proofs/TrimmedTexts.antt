@@ -7,8 +7,8 @@ use Rattle.e_clause.specs.declared.cert.Version.TheVariants.{One}
 use Rattle.e_theorem.specs.Statements.{stated}
 use Rattle.e_deriv.specs.Script.{Script}
 use Rattle.e_deriv.specs.Fitting.{is_small_statement}
-use Rattle.e_names.specs.Headed.{Headed, stated_by}
-use Rattle.e_book.specs.Entry.{Entry}
+use Rattle.e_names.specs.TitledStatements.{TitledStatement, stated_by}
+use Rattle.e_book.specs.TheoremViews.{TheoremView}
 use Rattle.e_trim.specs.Trimmed.{trimmed}
 use Rattle.e_judgement.specs.declared.judgement.Judgement.TheVariants.{Verified}
 use Rattle.e_judgement.specs.Judged.{Rest, ReadsNext, IsCertified, lines_of_text}
@@ -21,13 +21,13 @@ use Rattle.e_run.specs.Rewrites.{written_with, EndsAfter}
 use Rattle.e_run.specs.inner.Rewriting.{AreOfSecond}
 use Rattle.e_run.proofs.VerifiedAgain.{verified_again}
 
-abbrev left_of : List Headed → Entry → Script
+abbrev left_of : List TitledStatement → TheoremView → Script
 left_of known t = trimmed (stated_by known) (stated t.statement) t.script
 
-trimmed_spelled : (v : Version) → v ≡ One → (last : ℕ) (known : List Headed) (lines after : Rest) (t : Entry) → ReadsNext v last known lines t after → IsCertified known t → IsTrue (list_all is_small_statement (stated_by known)) → CanBeVerified One known t (left_of known t)
+trimmed_spelled : (v : Version) → v ≡ One → (last : ℕ) (known : List TitledStatement) (lines after : Rest) (t : TheoremView) → ReadsNext v last known lines t after → IsCertified known t → IsTrue (list_all is_small_statement (stated_by known)) → CanBeVerified One known t (left_of known t)
 trimmed_spelled v first last known lines after t read c small =
     trimmed_can_be_verified known last t lines after small (subst (λ (x : Version). ReadsNext x last known lines t after) first read) c
 
-pub trimmed_is_verified : (text : List ℕ) (n : ℕ) (ts : List Entry) → EndsAfter Trim (lines_of_text text) ts (Verified n) → AreOfSecond Trim [] ts → IsVerifiedText n (written_with Trim ts (accepted_line n))
+pub trimmed_is_verified : (text : List ℕ) (n : ℕ) (ts : List TheoremView) → EndsAfter Trim (lines_of_text text) ts (Verified n) → AreOfSecond Trim [] ts → IsVerifiedText n (written_with Trim ts (accepted_line n))
 trimmed_is_verified text n ts h second =
     verified_again Trim One left_of (λ v first last known lines after t read c s small. trimmed_spelled v first last known lines after t read c small) (λ known t. refl) refl (λ n. refl) text n ts h second

@@ -10,8 +10,8 @@ use Rattle.e_deriv.specs.Goal.{goal_of_statement, facts_of_statement}
 use Rattle.e_deriv.specs.Versions.{has_certs_of}
 use Rattle.e_deriv.proofs.Versions.{good_of_version}
 use Rattle.e_book.specs.Fits.{has_good_literals}
-use Rattle.e_names.specs.Headed.{Headed, stated_by}
-use Rattle.e_book.specs.Entry.{Entry}
+use Rattle.e_names.specs.TitledStatements.{TitledStatement, stated_by}
+use Rattle.e_book.specs.TheoremViews.{TheoremView}
 use Rattle.e_book.specs.HasSpelling.{HasSpelling}
 use Rattle.e_book.proofs.WrittenScripts.{erased_literals, written_well}
 use Rattle.e_verify.specs.Numbered.{derivation_with_places}
@@ -28,10 +28,10 @@ use Rattle.e_run.specs.Rewrites.{written_with, EndsAfter}
 use Rattle.e_run.specs.inner.Rewriting.{AreOfSecond}
 use Rattle.e_run.proofs.VerifiedAgain.{verified_again}
 
-abbrev placed : List Headed → Entry → Script
+abbrev placed : List TitledStatement → TheoremView → Script
 placed known t = derivation_with_places (stated_by known) (stated t.statement) t.script
 
-placed_spelled : (v : Version) (known : List Headed) (last : ℕ) (lines after : Rest) (t : Entry) → ReadsNext v last known lines t after → IsCertified known t → IsTrue (has_certs_of Two (placed known t)) → CanBeVerified Two known t (placed known t)
+placed_spelled : (v : Version) (known : List TitledStatement) (last : ℕ) (lines after : Rest) (t : TheoremView) → ReadsNext v last known lines t after → IsCertified known t → IsTrue (has_certs_of Two (placed known t)) → CanBeVerified Two known t (placed known t)
 placed_spelled v known last lines after t read certified second =
     let bs = stated_by known in
     let st = stated t.statement in
@@ -49,7 +49,7 @@ placed_spelled v known last lines after t read certified second =
       certified = still;
     }
 
-pub upgraded_is_verified : (text : List ℕ) (n : ℕ) (ts : List Entry) → EndsAfter Upgrade (lines_of_text text) ts (Verified n) → AreOfSecond Upgrade [] ts → IsVerifiedText n (written_with Upgrade ts (accepted_line n))
+pub upgraded_is_verified : (text : List ℕ) (n : ℕ) (ts : List TheoremView) → EndsAfter Upgrade (lines_of_text text) ts (Verified n) → AreOfSecond Upgrade [] ts → IsVerifiedText n (written_with Upgrade ts (accepted_line n))
 upgraded_is_verified text n ts h second =
     verified_again Upgrade Two placed (λ v taken last known lines after t read c s small. placed_spelled v known last lines after t read c s) (λ known t. refl) refl (λ n. refl) text n ts h second
 

@@ -6,8 +6,8 @@ use Rattle.e_clause.specs.declared.cert.Version.{Version}
 use Rattle.e_clause.specs.declared.cert.Version.TheVariants.{One, Two}
 use Rattle.e_deriv.specs.Script.{Script, erased}
 use Rattle.e_deriv.specs.Fitting.{is_small_statement}
-use Rattle.e_names.specs.Headed.{Headed, headed, stated_by}
-use Rattle.e_book.specs.Entry.{Entry}
+use Rattle.e_names.specs.TitledStatements.{TitledStatement, headed, stated_by}
+use Rattle.e_book.specs.TheoremViews.{TheoremView}
 use Rattle.e_book.proofs.Fitting.{small_statement, one_more_stated}
 use Rattle.e_spell.specs.Spelling.{spelled}
 use Rattle.e_judgement.specs.declared.judgement.Judgement.TheVariants.{Verified, Bad, Garbled}
@@ -49,42 +49,42 @@ head_is Trim (Some Two) v e = absurd (some_is_none v e)
 -- ---- the theorems
 
 -- what is written of each theorem that was read and is certified can be verified
-abbrev pub Again : Job → Version → Version → (List Headed → Entry → Script) → Type 0
+abbrev pub Again : Job → Version → Version → (List TitledStatement → TheoremView → Script) → Type 0
 Again job v w f =
-    (last : ℕ) (known : List Headed) (lines after : Rest) (t : Entry) → ReadsNext v last known lines t after → IsCertified known t → IsOfSecond job known t
+    (last : ℕ) (known : List TitledStatement) (lines after : Rest) (t : TheoremView) → ReadsNext v last known lines t after → IsCertified known t → IsOfSecond job known t
     → IsTrue (list_all is_small_statement (stated_by known)) → CanBeVerified w known t (f known t)
 
 -- what is read is a statement
-small_after : (v : Version) (last : ℕ) (known : List Headed) (lines after : Rest) (t : Entry) → IsTrue (list_all is_small_statement (stated_by known)) → ReadsNext v last known lines t after
+small_after : (v : Version) (last : ℕ) (known : List TitledStatement) (lines after : Rest) (t : TheoremView) → IsTrue (list_all is_small_statement (stated_by known)) → ReadsNext v last known lines t after
     → IsTrue (list_all is_small_statement (stated_by (with_theorem known t)))
 small_after v last known lines after t small read =
     one_more_stated known t.title t.statement small (small_statement known (record t { script = erased t.script }) (read_is_formed_so v known last t lines after read).plain.fits)
 
-abbrev pairs : (List Headed → Entry → Script) → List Headed → List Entry → List (Entry × Script)
+abbrev pairs : (List TitledStatement → TheoremView → Script) → List TitledStatement → List TheoremView → List (TheoremView × Script)
 pairs f known [] = []
 pairs f known (t ∷ ts) = (t, f known t) ∷ pairs f (with_theorem known t) ts
 
-all_can : (job : Job) (v w : Version) (f : List Headed → Entry → Script) → Again job v w f → (last : ℕ) (known : List Headed) (lines : Rest) (ts : List Entry) (now : List Headed) (rest : Rest) → Passes v last known lines ts now rest
+all_can : (job : Job) (v w : Version) (f : List TitledStatement → TheoremView → Script) → Again job v w f → (last : ℕ) (known : List TitledStatement) (lines : Rest) (ts : List TheoremView) (now : List TitledStatement) (rest : Rest) → Passes v last known lines ts now rest
     → AreOfSecond job known ts → IsTrue (list_all is_small_statement (stated_by known)) → AllCanBeVerified w known (pairs f known ts)
 all_can job v w f can last known lines [] now rest r h small = tt
 all_can job v w f can last known lines (t ∷ ts) now rest r h small =
     (can last known lines r.0 t r.1 r.2 h.0 small, all_can job v w f can last (with_theorem known t) r.0 ts now rest r.3 h.1 (small_after v last known lines r.0 t small r.1))
 
-abbrev pub Same : Job → (List Headed → Entry → Script) → Type 0
-Same job f = (known : List Headed) (t : Entry) → block_of job known t ≡ spelled known t (f known t)
+abbrev pub Same : Job → (List TitledStatement → TheoremView → Script) → Type 0
+Same job f = (known : List TitledStatement) (t : TheoremView) → block_of job known t ≡ spelled known t (f known t)
 
-blocks_same : (job : Job) (f : List Headed → Entry → Script) → Same job f → (known : List Headed) (ts : List Entry) → texts.blocks_of known (pairs f known ts) ≡ blocks_of job known ts
+blocks_same : (job : Job) (f : List TitledStatement → TheoremView → Script) → Same job f → (known : List TitledStatement) (ts : List TheoremView) → texts.blocks_of known (pairs f known ts) ≡ blocks_of job known ts
 blocks_same job f same known [] = refl
 blocks_same job f same known (t ∷ ts) =
     ap (λ (x : List ℕ). spelled known t (f known t) ++ x) (blocks_same job f same (with_theorem known t) ts) ∙ ap (λ (x : List ℕ). x ++ blocks_of job (with_theorem known t) ts) (sym (same known t))
 
-pairs_length : (f : List Headed → Entry → Script) (known : List Headed) (ts : List Entry) → length (pairs f known ts) ≡ length ts
+pairs_length : (f : List TitledStatement → TheoremView → Script) (known : List TitledStatement) (ts : List TheoremView) → length (pairs f known ts) ≡ length ts
 pairs_length f known [] = refl
 pairs_length f known (t ∷ ts) = ap suc (pairs_length f (with_theorem known t) ts)
 
 -- ---- their number
 
-known_length : (v : Version) (last : ℕ) (known : List Headed) (lines : Rest) (ts : List Entry) (now : List Headed) (rest : Rest) → Passes v last known lines ts now rest → length now ≡ length known + length ts
+known_length : (v : Version) (last : ℕ) (known : List TitledStatement) (lines : Rest) (ts : List TheoremView) (now : List TitledStatement) (rest : Rest) → Passes v last known lines ts now rest → length now ≡ length known + length ts
 known_length v last known lines [] now rest r = omega (arith, ap length r.0)
 known_length v last known lines (t ∷ ts) now rest r =
     omega (arith, known_length v last (with_theorem known t) r.0 ts now rest r.3, length-append known (headed t.title t.statement ∷ []))
@@ -103,15 +103,15 @@ count_behind n k [] e = same_count n k e
 count_behind n k (x ∷ xs) e = absurd (never_garbled n (number_of x) e)
 
 -- a text that is verified has as many theorems as are known at its end
-verified_count : (v : Version) (last n : ℕ) (known : List Headed) (rest : Rest) → Closes v last known rest (Verified n) → n ≡ length known
+verified_count : (v : Version) (last n : ℕ) (known : List TitledStatement) (rest : Rest) → Closes v last known rest (Verified n) → n ≡ length known
 verified_count v last n known rest (inl e) = count_behind n (length known) e.0 e.2
 verified_count v last n known rest (inr (inl e)) = absurd (never_garbled n e.0 e.2)
 verified_count v last n known rest (inr (inr e)) = absurd (never_bad n e.0.title e.2 e.5)
 
 -- ---- the whole
 
-passes_again : (job : Job) (v w : Version) (f : List Headed → Entry → Script) → Again job v w f → Same job f → head_of job ≡ texts.head_line w → ((n : ℕ) → verified_end job n ≡ texts.accepted_line n)
-    → (last : ℕ) (lines : Rest) (ts : List Entry) (now : List Headed) (rest : Rest) → Passes v last [] lines ts now rest → AreOfSecond job [] ts → IsVerifiedText (length ts) (written_with job ts (verified_end job (length ts)))
+passes_again : (job : Job) (v w : Version) (f : List TitledStatement → TheoremView → Script) → Again job v w f → Same job f → head_of job ≡ texts.head_line w → ((n : ℕ) → verified_end job n ≡ texts.accepted_line n)
+    → (last : ℕ) (lines : Rest) (ts : List TheoremView) (now : List TitledStatement) (rest : Rest) → Passes v last [] lines ts now rest → AreOfSecond job [] ts → IsVerifiedText (length ts) (written_with job ts (verified_end job (length ts)))
 passes_again job v w f can same head end last lines ts now rest r h =
     let ps = pairs f [] ts in
     let count : length ps ≡ length ts = pairs_length f [] ts in
@@ -123,8 +123,8 @@ passes_again job v w f can same head end last lines ts now rest r h =
     subst (λ (k : ℕ). JudgesText (written_with job ts (verified_end job (length ts))) (Verified k)) count
     (subst (λ (out : List ℕ). JudgesText out (Verified (length ps))) bytes (written_is_verified w ps (all_can job v w f can last [] lines ts now rest r h refl)))
 
-pub verified_again : (job : Job) (w : Version) (f : List Headed → Entry → Script) → ((v : Version) → IsReadFor job v → Again job v w f) → Same job f → head_of job ≡ texts.head_line w → ((n : ℕ) → verified_end job n ≡ texts.accepted_line n)
-    → (text : List ℕ) (n : ℕ) (ts : List Entry) → EndsAfter job (lines_of_text text) ts (Verified n) → AreOfSecond job [] ts → IsVerifiedText n (written_with job ts (verified_end job n))
+pub verified_again : (job : Job) (w : Version) (f : List TitledStatement → TheoremView → Script) → ((v : Version) → IsReadFor job v → Again job v w f) → Same job f → head_of job ≡ texts.head_line w → ((n : ℕ) → verified_end job n ≡ texts.accepted_line n)
+    → (text : List ℕ) (n : ℕ) (ts : List TheoremView) → EndsAfter job (lines_of_text text) ts (Verified n) → AreOfSecond job [] ts → IsVerifiedText n (written_with job ts (verified_end job n))
 verified_again job w f can same head end text n ts h second = by (lines_of_text text) h
   where
     counted : (k : ℕ) → length ts ≡ k → IsVerifiedText (length ts) (written_with job ts (verified_end job (length ts))) → IsVerifiedText k (written_with job ts (verified_end job k))

@@ -3,9 +3,9 @@ use Rattle.std.proofs.Common.{◌≡◌, true, ℕ, suc, ◌+◌, List, [], ◌�
 use Rattle.e_clause.specs.declared.cert.Version.TheVariants.{One}
 use Rattle.e_deriv.specs.Script.{Script}
 use Rattle.e_theorem.specs.Statements.{stated}
-use Rattle.e_names.specs.Headed.{Headed, headed, stated_by}
+use Rattle.e_names.specs.TitledStatements.{TitledStatement, headed, stated_by}
 use Rattle.e_names.specs.declared.known.Known.{Known}
-use Rattle.e_book.specs.Entry.{Entry}
+use Rattle.e_book.specs.TheoremViews.{TheoremView}
 use Rattle.e_book.specs.HasSpelling.{HasSpelling}
 use Rattle.e_names.specs.Taken.{nothing_known}
 use Rattle.e_names.specs.Titled.{Titled, are_notions}
@@ -24,11 +24,11 @@ use Rattle.e_run.specs.Outcome as outcome
 use Rattle.e_run.proofs.History.{defined_same}
 use Rattle.e_run.specs.Answers.{Derived, IsDerived, AllDerived, OutcomeAfter, IsVerifiedText, theorems_of, blocks_of, written_with}
 
-abbrev pairs : List Derived → List (Entry × Script)
+abbrev pairs : List Derived → List (TheoremView × Script)
 pairs ds = map (λ d. (d.theorem, d.derivation)) ds
 
 -- a derivation that was found can be spelled, and is certified
-found_spelled : (known : List Headed) (d : Derived) → HasSpelling known d.theorem → IsDerived known d → CanBeVerified One known d.theorem d.derivation
+found_spelled : (known : List TitledStatement) (d : Derived) → HasSpelling known d.theorem → IsDerived known d → CanBeVerified One known d.theorem d.derivation
 found_spelled known d spelled h = record {
   spelled = record {
     plain = filled_has_spelling known d.theorem d.derivation spelled h.own h.certified;
@@ -49,18 +49,18 @@ all_spelled last known lines [] now rest all r h = tt
 all_spelled last known lines (d ∷ ds) now rest all r h =
     let same = defined_same last known lines r.0 r.1 r.2 in
     let notions = notions_read last known lines r.2.notions r.0 r.1 all r.2.defines in
-    let spelled = subst (λ (k : List Headed). HasSpelling k d.theorem) (sym same) (spelled_grammar r.0 last d.theorem r.1 r.3 notions r.4) in
-    let later = subst (λ (k : List Headed). AllDerived (with_theorem k d.theorem) ds) same h.1 in (
+    let spelled = subst (λ (k : List TitledStatement). HasSpelling k d.theorem) (sym same) (spelled_grammar r.0 last d.theorem r.1 r.3 notions r.4) in
+    let later = subst (λ (k : List TitledStatement). AllDerived (with_theorem k d.theorem) ds) same h.1 in (
       found_spelled known.theorems d spelled h.0,
-      subst (λ (k : List Headed). AllCanBeVerified One (with_theorem k d.theorem) (pairs ds)) (sym same) (all_spelled last (and_theorem r.0 d.theorem) r.3 ds now rest notions r.6 later),
+      subst (λ (k : List TitledStatement). AllCanBeVerified One (with_theorem k d.theorem) (pairs ds)) (sym same) (all_spelled last (and_theorem r.0 d.theorem) r.3 ds now rest notions r.6 later),
     )
 
-blocks_same : (known : List Headed) (ds : List Derived) → texts.blocks_of known (pairs ds) ≡ blocks_of known ds
+blocks_same : (known : List TitledStatement) (ds : List Derived) → texts.blocks_of known (pairs ds) ≡ blocks_of known ds
 blocks_same known [] = refl
 blocks_same known (d ∷ ds) = ap (λ (x : List ℕ). Rattle.e_spell.specs.Spelling.spelled known d.theorem d.derivation ++ x) (blocks_same (with_theorem known d.theorem) ds)
 
 -- one more is known after each theorem
-pub known_grows : (last : ℕ) (known : Known) (lines : Rest) (ts : List Entry) (now : Known) (rest : Rest) → Takes last known lines ts now rest → length now.theorems ≡ length known.theorems + length ts
+pub known_grows : (last : ℕ) (known : Known) (lines : Rest) (ts : List TheoremView) (now : Known) (rest : Rest) → Takes last known lines ts now rest → length now.theorems ≡ length known.theorems + length ts
 known_grows last known lines [] now rest r = omega (arith, ap length (defined_same last known lines now rest r))
 known_grows last known lines (t ∷ ts) now rest r =
     omega (

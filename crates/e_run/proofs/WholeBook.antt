@@ -13,7 +13,7 @@ use Rattle.e_text.proofs.WholeLines.{lines_of-closed, lines_of-open, spot_behind
 use Rattle.e_line.specs.declared.fault.BookFault.{BookFault}
 use Rattle.e_names.specs.declared.known.Known.{Known}
 use Rattle.e_line.specs.Reading.{◌>>=◌}
-use Rattle.e_book.specs.Entry.{Entry}
+use Rattle.e_book.specs.TheoremViews.{TheoremView}
 use Rattle.e_book.specs.Grammar.{is_skipped, put_at}
 use Rattle.e_names.specs.Taken.{nothing_known}
 use Rattle.e_names.specs.Titled.{Titled}
@@ -87,13 +87,13 @@ good_defined last known lines [] now rest d good = subst HaveNoFault (sym d.1) g
 good_defined last known lines (n ∷ ns) now rest d good =
     good_before known last None lines (OfNotion n) d.0 d.1 (good_defined last (and_notion known n) d.0 ns now rest d.2 good)
 
-good_taken : (last : ℕ) (known : Known) (lines : Rest) (ts : List Entry) (now : Known) (rest : Rest) → Takes last known lines ts now rest → HaveNoFault rest → HaveNoFault lines
+good_taken : (last : ℕ) (known : Known) (lines : Rest) (ts : List TheoremView) (now : Known) (rest : Rest) → Takes last known lines ts now rest → HaveNoFault rest → HaveNoFault lines
 good_taken last known lines [] now rest h good = good_defined last known lines h.notions now rest h.defines good
 good_taken last known lines (t ∷ ts) now rest h good =
     good_defined last known lines h.2.notions h.0 h.1 h.2.defines
     (good_before h.0 last None h.1 (OfTheorem t) h.3 h.4 (good_taken last (and_theorem h.0 t) h.3 ts now rest h.6 good))
 
-pub good_accepted : (lines : Rest) (ts : List Entry) (n : ℕ) → IsOutcome lines ts (Accepted n) → HaveNoFault lines
+pub good_accepted : (lines : Rest) (ts : List TheoremView) (n : ℕ) → IsOutcome lines ts (Accepted n) → HaveNoFault lines
 good_accepted lines ts n h = good_taken _ nothing_known lines ts h.known h.rest h.begins (good_at_end h.known (end_line_number lines) None h.rest h.ends.0)
 
 -- ---- a text without a faulty line is short enough
@@ -139,7 +139,7 @@ short_by_size (suc size) w at (b ∷ bs) le within good =
     ]
 
 -- an accepted book has at most as many bytes as a book may have
-pub accepted_is_short : (text : List ℕ) (ts : List Entry) (n : ℕ) → IsOutcome (lines_of_book text) ts (Accepted n) → length text ≤ 4194304
+pub accepted_is_short : (text : List ℕ) (ts : List TheoremView) (n : ℕ) → IsOutcome (lines_of_book text) ts (Accepted n) → length text ≤ 4194304
 accepted_is_short text ts n h =
     omega (arith, short_by_size (length text) (record { longest = 1600; most = 4194304 }) (record { line = 1; before = 0 }) text (omega arith) (omega arith) (good_accepted (lines_of_book text) ts n h))
 

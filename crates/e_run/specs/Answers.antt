@@ -14,8 +14,8 @@ use Rattle.e_deriv.specs.Certified.{Certified}
 use Rattle.e_deriv.specs.Written.{is_written_well}
 use Rattle.e_deriv.specs.Versions.{has_certs_of}
 use Rattle.e_names.specs.declared.known.Known.{Known}
-use Rattle.e_names.specs.Headed.{Headed, stated_by}
-use Rattle.e_book.specs.Entry.{Entry}
+use Rattle.e_names.specs.TitledStatements.{TitledStatement, stated_by}
+use Rattle.e_book.specs.TheoremViews.{TheoremView}
 use Rattle.e_spell.specs.Spelling.{spelled, unlicensed_text, too_wide_text}
 use Rattle.e_judgement.specs.declared.judgement.Judgement.TheVariants as judgements
 use Rattle.e_judgement.specs.Judged.{JudgesText}
@@ -28,14 +28,14 @@ use Rattle.e_run.specs.LastLines.{head_line, accepted_line, fault_line, read_fau
 
 -- a theorem with a derivation of it
 pub record Derived : Type 0 where
-  pub theorem : Entry
+  pub theorem : TheoremView
   pub derivation : Script
 
 -- The derivation proves the theorem's statement from those that are known, and each of its certificates certifies at its own line.
 -- Without its certificates it is the theorem's own script, with its blanks filled, and so filled each line of the script is licensed:
 -- the arguments of each application are the least good choice. The literals that its certificates name are well formed, and no fact is
 -- named by its place.
-pub record IsDerived (known : List Headed) (d : Derived) : Type 0 where
+pub record IsDerived (known : List TitledStatement) (d : Derived) : Type 0 where
   pub proves : IsProof (stated_by known) (stated d.theorem.statement) d.derivation
   pub certified : Certified (stated_by known) (stated d.theorem.statement) d.derivation
   pub own : erased d.derivation ≡ filled_by (erased d.theorem.script) d.derivation
@@ -44,11 +44,11 @@ pub record IsDerived (known : List Headed) (d : Derived) : Type 0 where
   pub version : IsTrue (has_certs_of One d.derivation)
 
 -- each by those before it
-abbrev pub AllDerived : List Headed → List Derived → Type 0
+abbrev pub AllDerived : List TitledStatement → List Derived → Type 0
 AllDerived known [] = Unit {0}
 AllDerived known (d ∷ ds) = IsDerived known d × AllDerived (with_theorem known d.theorem) ds
 
-abbrev pub theorems_of : List Derived → List Entry
+abbrev pub theorems_of : List Derived → List TheoremView
 theorems_of ds = map (λ d. d.theorem) ds
 
 -- the step and close lines of their theorems
@@ -57,16 +57,16 @@ steps_of [] = 0
 steps_of (d ∷ ds) = steps_of ds + size d.theorem.script
 
 -- the block of a derivation
-abbrev pub block_of : List Headed → Derived → List ℕ
+abbrev pub block_of : List TitledStatement → Derived → List ℕ
 block_of known d = spelled known d.theorem d.derivation
 
 -- the blocks of derivations, one after the other
-abbrev pub blocks_of : List Headed → List Derived → List ℕ
+abbrev pub blocks_of : List TitledStatement → List Derived → List ℕ
 blocks_of known [] = []
 blocks_of known (d ∷ ds) = block_of known d ++ blocks_of (with_theorem known d.theorem) ds
 
 -- with this known, these bytes are the block of a derivation of the theorem
-pub record HasBlock (known : List Headed) (theorem : Entry) (bytes : List ℕ) : Type 0 where
+pub record HasBlock (known : List TitledStatement) (theorem : TheoremView) (bytes : List ℕ) : Type 0 where
   pub derivation : Script
   pub sound : IsDerived known (record { theorem = theorem; derivation = derivation })
   pub spells : bytes ≡ spelled known theorem derivation

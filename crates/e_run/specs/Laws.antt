@@ -1,7 +1,7 @@
 -- A book has one outcome, and what is answered at a refusal and at a line that is too wide is its own.
 use Rattle.std.specs.Prelude.{◌≡◌, ℕ, List, Option}
 use Rattle.e_names.specs.declared.known.Known.{Known}
-use Rattle.e_book.specs.Entry.{Entry}
+use Rattle.e_book.specs.TheoremViews.{TheoremView}
 use Rattle.e_literal.specs.declared.object.Term.{Term}
 use Rattle.e_deriv.specs.declared.stop.Wanted.{Wanted}
 use Rattle.e_deriv.specs.declared.names.Names.{Names}
@@ -11,13 +11,13 @@ use Rattle.e_run.specs.Answers.{Refuses, Widens}
 -- where the next theorem is refused, the book's outcome is that stop
 abbrev pub RefusalIsOutcome : Type 0
 RefusalIsOutcome =
-    (lines : Rest) (theorems : List Entry) (known : Known) (rest : Rest) (title : List ℕ) (step : ℕ) (wanted : Wanted) (values : Option (List (Term × ℕ))) (names : Names) →
+    (lines : Rest) (theorems : List TheoremView) (known : Known) (rest : Rest) (title : List ℕ) (step : ℕ) (wanted : Wanted) (values : Option (List (Term × ℕ))) (names : Names) →
     Begins lines theorems known rest → Refuses lines title step wanted values names known rest → IsOutcome lines theorems (Unlicensed title step wanted names)
 
 -- where a line is too wide that is reached, the lines have a wide one
 abbrev pub TooWideIsWide : Type 0
 TooWideIsWide =
-    (lines : Rest) (theorems : List Entry) (known : Known) (rest : Rest) (title : List ℕ) (step : ℕ) (wanted : Wanted) (width : ℕ) (names : Names) →
+    (lines : Rest) (theorems : List TheoremView) (known : Known) (rest : Rest) (title : List ℕ) (step : ℕ) (wanted : Wanted) (width : ℕ) (names : Names) →
     Begins lines theorems known rest → Widens lines title step wanted width names known rest → HasWide lines
 
 -- no book is accepted and stopped, stopped at two lines, or has two first faults

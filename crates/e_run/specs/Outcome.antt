@@ -12,8 +12,8 @@ use Rattle.e_deriv.specs.Naming.{names_lines, declared_names}
 use Rattle.e_deriv.specs.Licensed.{AllLicensed, IsContext, IsFirstUnlicensed}
 use Rattle.e_deriv.specs.Refused.{IsRefused, IsWideLine, IsTooWideAt}
 use Rattle.e_line.specs.declared.fault.BookFault.{BookFault}
-use Rattle.e_names.specs.Headed.{Headed, headed, stated_by}
-use Rattle.e_book.specs.Entry.{Entry}
+use Rattle.e_names.specs.TitledStatements.{TitledStatement, headed, stated_by}
+use Rattle.e_book.specs.TheoremViews.{TheoremView}
 use Rattle.e_names.specs.declared.known.Known.{Known}
 use Rattle.e_names.specs.Taken.{nothing_known}
 use Rattle.e_names.specs.Titled.{Titled}
@@ -24,16 +24,16 @@ abbrev pub Rest : Type 0
 Rest = List (Result Seen LineFault)
 
 -- after a theorem it is known
-abbrev pub with_theorem : List Headed → Entry → List Headed
+abbrev pub with_theorem : List TitledStatement → TheoremView → List TitledStatement
 with_theorem known t = known ++ headed t.title t.statement ∷ []
 
 -- with this known, each line of the theorem's script is licensed, with its blanks filled
-pub record IsLicensed (known : List Headed) (t : Entry) : Type 0 where
+pub record IsLicensed (known : List TitledStatement) (t : TheoremView) : Type 0 where
   pub filled : Script
   pub licensed : AllLicensed (stated_by known) (proof_lines (stated_by known) (stated t.statement) t.script filled)
 
 -- after a theorem, and after a definition, this is known
-abbrev pub and_theorem : Known → Entry → Known
+abbrev pub and_theorem : Known → TheoremView → Known
 and_theorem known t = record known { theorems = with_theorem known.theorems t }
 
 abbrev pub and_notion : Known → Titled → Known
@@ -51,7 +51,7 @@ pub record AreDefined (last : ℕ) (known : Known) (lines : Rest) (now : Known) 
 
 -- these theorems are read one after another, and definitions between them, and each theorem is licensed by those before it; then this is
 -- known, and these lines are left
-abbrev pub Takes : ℕ → Known → Rest → List Entry → Known → Rest → Type 0
+abbrev pub Takes : ℕ → Known → Rest → List TheoremView → Known → Rest → Type 0
 Takes last known lines [] now rest = AreDefined last known lines now rest
 Takes last known lines (t ∷ ts) now rest =
     (here : Known) × (before : Rest) × AreDefined last known lines here before
@@ -66,14 +66,14 @@ pub data BookOutcome : Type 0 where
 
 -- with this known, the next theorem has this title, its line of this number is the first unlicensed one and lacks this, and these
 -- are the names of the objects in scope before it
-pub record StopsAt (known : List Headed) (t : Entry) (title : List ℕ) (step : ℕ) (wanted : Wanted) (names : Names) : Type 0 where
+pub record StopsAt (known : List TitledStatement) (t : TheoremView) (title : List ℕ) (step : ℕ) (wanted : Wanted) (names : Names) : Type 0 where
   pub titled : t.title ≡ title
   pub first : IsFirstUnlicensed (stated_by known) (stated t.statement) t.script step wanted
   pub named : Some names ≡ slice_get (names_lines (stated_by known) (declared_names (stated t.statement) t.names) t.script) (step - 1)
 
 -- with this known, the next theorem of these lines is one of which this holds
-abbrev pub NextIs : ℕ → Known → Rest → (Entry → Type 0) → Type 0
-NextIs last known lines P = (t : Entry) × (after : Rest) × (item_from known last None lines ≡ Ok (Some (OfTheorem t, after))) × P t
+abbrev pub NextIs : ℕ → Known → Rest → (TheoremView → Type 0) → Type 0
+NextIs last known lines P = (t : TheoremView) × (after : Rest) × (item_from known last None lines ≡ Ok (Some (OfTheorem t, after))) × P t
 
 -- with this known, these lines end so
 abbrev pub OutcomeAt : ℕ → Known → Rest → BookOutcome → Type 0
@@ -87,18 +87,18 @@ abbrev pub end_line_number : Rest → ℕ
 end_line_number lines = 1 + length lines
 
 -- these are the first theorems of the lines, each licensed, with definitions between them; then this is known, and these lines are left
-abbrev pub Begins : Rest → List Entry → Known → Rest → Type 0
+abbrev pub Begins : Rest → List TheoremView → Known → Rest → Type 0
 Begins lines theorems known rest = Takes (end_line_number lines) nothing_known lines theorems known rest
 
 -- the lines are these theorems, each licensed, and then end so
-pub record IsOutcome (lines : Rest) (theorems : List Entry) (end : BookOutcome) : Type 0 where
+pub record IsOutcome (lines : Rest) (theorems : List TheoremView) (end : BookOutcome) : Type 0 where
   pub known : Known
   pub rest : Rest
   pub begins : Begins lines theorems known rest
   pub ends : OutcomeAt (end_line_number lines) known rest end
 
 -- these are the first theorems of the lines, each licensed
-pub record IsFront (lines : Rest) (theorems : List Entry) : Type 0 where
+pub record IsFront (lines : Rest) (theorems : List TheoremView) : Type 0 where
   pub known : Known
   pub rest : Rest
   pub begins : Begins lines theorems known rest
@@ -109,26 +109,26 @@ lines_of_book text = lines_of (record { longest = 1600; most = 4194304 }) (recor
 
 -- the outcome of a book is this
 pub record IsOutcomeOf (text : List ℕ) (end : BookOutcome) : Type 0 where
-  pub theorems : List Entry
+  pub theorems : List TheoremView
   pub outcome : IsOutcome (lines_of_book text) theorems end
 
 -- ---- how the check of a theorem breaks off
 
 -- with this known, the theorem has this title, its line of this number is the first unlicensed one and lacks this, these values show
 -- it, and these are the names of the objects in scope before it
-pub record RefusedAt (known : List Headed) (t : Entry) (title : List ℕ) (step : ℕ) (wanted : Wanted) (values : Option (List (Term × ℕ))) (names : Names) : Type 0 where
+pub record RefusedAt (known : List TitledStatement) (t : TheoremView) (title : List ℕ) (step : ℕ) (wanted : Wanted) (values : Option (List (Term × ℕ))) (names : Names) : Type 0 where
   pub titled : t.title ≡ title
   pub refused : IsRefused (stated_by known) (stated t.statement) t.script step wanted values
   pub named : Some names ≡ slice_get (names_lines (stated_by known) (declared_names (stated t.statement) t.names) t.script) (step - 1)
 
 -- with this known, each line before is licensed, and this one is too wide at what is wanted there
-pub record TooWideAt (known : List Headed) (t : Entry) (title : List ℕ) (step : ℕ) (wanted : Wanted) (width : ℕ) (names : Names) : Type 0 where
+pub record TooWideAt (known : List TitledStatement) (t : TheoremView) (title : List ℕ) (step : ℕ) (wanted : Wanted) (width : ℕ) (names : Names) : Type 0 where
   pub titled : t.title ≡ title
   pub too_wide : IsTooWideAt (stated_by known) (stated t.statement) t.script step wanted width
   pub named : Some names ≡ slice_get (names_lines (stated_by known) (declared_names (stated t.statement) t.names) t.script) (step - 1)
 
 -- with this known, a line of the theorem is wide, and each line before it is licensed
-pub record HasWideLine (known : List Headed) (t : Entry) : Type 0 where
+pub record HasWideLine (known : List TitledStatement) (t : TheoremView) : Type 0 where
   pub step : ℕ
   pub line : Line
   pub context : IsContext (stated_by known) (stated t.statement) t.script step line
@@ -136,7 +136,7 @@ pub record HasWideLine (known : List Headed) (t : Entry) : Type 0 where
 
 -- in a theorem of these lines whose earlier ones are licensed, a line is wide, and each line before it is licensed
 pub record HasWide (lines : Rest) : Type 0 where
-  pub theorems : List Entry
+  pub theorems : List TheoremView
   pub known : Known
   pub rest : Rest
   pub begins : Begins lines theorems known rest

@@ -3,8 +3,8 @@ use Rattle.std.specs.Prelude.{◌≡◌, ◌⊎◌, ℕ, ◌+◌, ◌<◌, ◌�
 use Rattle.e_clause.specs.declared.cert.Version.{Version}
 use Rattle.e_clause.specs.declared.cert.Version.TheVariants.{One, Two}
 use Rattle.e_theorem.specs.Statements.{stated}
-use Rattle.e_names.specs.Headed.{Headed, stated_by, title_at}
-use Rattle.e_book.specs.Entry.{Entry}
+use Rattle.e_names.specs.TitledStatements.{TitledStatement, stated_by, title_at}
+use Rattle.e_book.specs.TheoremViews.{TheoremView}
 use Rattle.e_spell.specs.Spelling.{spelled}
 use Rattle.e_verify.specs.Numbered.{derivation_with_places}
 use Rattle.e_trim.specs.Trimmed.{trimmed}
@@ -24,27 +24,27 @@ use Rattle.e_run.specs.VerifierAnswers.{IsFailure}
 -- ---- what is written of a theorem
 
 -- its block, where the derivation cites facts by their places
-abbrev pub upgraded_block : List Headed → Entry → List ℕ
+abbrev pub upgraded_block : List TitledStatement → TheoremView → List ℕ
 upgraded_block known t = spelled known t (derivation_with_places (stated_by known) (stated t.statement) t.script)
 
 -- its block, where the derivation has no step that nothing needs
-abbrev pub trimmed_block : List Headed → Entry → List ℕ
+abbrev pub trimmed_block : List TitledStatement → TheoremView → List ℕ
 trimmed_block known t = spelled known t (trimmed (stated_by known) (stated t.statement) t.script)
 
 -- its line: its title, and those of the theorems that its derivation applies, each behind a space
-abbrev pub title_word : List Headed → ℕ → List ℕ
+abbrev pub title_word : List TitledStatement → ℕ → List ℕ
 title_word known k = 32 ∷ title_at known k
 
-abbrev pub uses_line : List Headed → Entry → List ℕ
+abbrev pub uses_line : List TitledStatement → TheoremView → List ℕ
 uses_line known t = codes "uses " ++ (t.title ++ (flat_map (title_word known) (applied_by t.script) ++ 10 ∷ []))
 
-abbrev pub block_of : Job → List Headed → Entry → List ℕ
+abbrev pub block_of : Job → List TitledStatement → TheoremView → List ℕ
 block_of Upgrade known t = upgraded_block known t
 block_of Trim known t = trimmed_block known t
 block_of Uses known t = uses_line known t
 
 -- of theorems, each where those before it are known
-abbrev pub blocks_of : Job → List Headed → List Entry → List ℕ
+abbrev pub blocks_of : Job → List TitledStatement → List TheoremView → List ℕ
 blocks_of job known [] = []
 blocks_of job known (t ∷ ts) = block_of job known t ++ blocks_of job (with_theorem known t) ts
 
@@ -78,7 +78,7 @@ answer_of job (judgements.Bad title step) = status.Bad title step
 answer_of job (judgements.Garbled line) = status.Garbled line
 
 -- the head, what is written of the theorems, and the last line
-abbrev pub written_with : Job → List Entry → List ℕ → List ℕ
+abbrev pub written_with : Job → List TheoremView → List ℕ → List ℕ
 written_with job ts last = head_of job ++ (blocks_of job [] ts ++ last)
 
 -- ---- the theorems of a text
@@ -97,25 +97,25 @@ read_as Uses head = head
 
 -- these theorems come first in lines behind the head of this version, each certified by those before it; then this is known, and these
 -- lines are left
-abbrev pub Begins : Version → Rest → List Entry → List Headed → Rest → Type 0
+abbrev pub Begins : Version → Rest → List TheoremView → List TitledStatement → Rest → Type 0
 Begins v lines ts known rest = Passes v (2 + length lines) [] lines ts known rest
 
-abbrev pub AreFirstBehindHead : Option Version → Rest → List Entry → Type 0
+abbrev pub AreFirstBehindHead : Option Version → Rest → List TheoremView → Type 0
 AreFirstBehindHead None lines ts = ts ≡ []
-AreFirstBehindHead (Some v) lines ts = (known : List Headed) × (rest : Rest) × Begins v lines ts known rest
+AreFirstBehindHead (Some v) lines ts = (known : List TitledStatement) × (rest : Rest) × Begins v lines ts known rest
 
 -- some theorems of a text, the first ones; without a head line that the command takes it has none
-abbrev pub AreFirst : Job → Rest → List Entry → Type 0
+abbrev pub AreFirst : Job → Rest → List TheoremView → Type 0
 AreFirst job [] ts = ts ≡ []
 AreFirst job (Err f ∷ lines) ts = ts ≡ []
 AreFirst job (Ok l ∷ lines) ts = AreFirstBehindHead (read_as job (version_of l)) lines ts
 
-abbrev pub EndsBehindHead : Option Version → Rest → List Entry → Judgement → Type 0
+abbrev pub EndsBehindHead : Option Version → Rest → List TheoremView → Judgement → Type 0
 EndsBehindHead None lines ts j = (ts ≡ []) × (j ≡ judgements.Garbled 1)
-EndsBehindHead (Some v) lines ts j = (known : List Headed) × (rest : Rest) × Begins v lines ts known rest × Closes v (2 + length lines) known rest j
+EndsBehindHead (Some v) lines ts j = (known : List TitledStatement) × (rest : Rest) × Begins v lines ts known rest × Closes v (2 + length lines) known rest j
 
 -- all theorems of a text before the place where it ends so; without a head line that the command takes it is garbled at line 1
-abbrev pub EndsAfter : Job → Rest → List Entry → Judgement → Type 0
+abbrev pub EndsAfter : Job → Rest → List TheoremView → Judgement → Type 0
 EndsAfter job [] ts j = (ts ≡ []) × (j ≡ judgements.Garbled 1)
 EndsAfter job (Err f ∷ lines) ts j = (ts ≡ []) × (j ≡ judgements.Garbled 1)
 EndsAfter job (Ok l ∷ lines) ts j = EndsBehindHead (read_as job (version_of l)) lines ts j
@@ -124,13 +124,13 @@ EndsAfter job (Ok l ∷ lines) ts j = EndsBehindHead (read_as job (version_of l)
 
 -- theorems of the text, all before the place where it ends so, what is written of them, and the last line
 pub record RewroteUpTo (job : Job) (text : List ℕ) (j : Judgement) (out : List ℕ) : Type 0 where
-  pub theorems : List Entry
+  pub theorems : List TheoremView
   pub ends : EndsAfter job (lines_of_text text) theorems j
   pub bytes : out ≡ written_with job theorems (line_of job j)
 
 -- some of the first theorems of the text, what is written of them, and the last line
 pub record RewroteSome (job : Job) (text : List ℕ) (last out : List ℕ) : Type 0 where
-  pub theorems : List Entry
+  pub theorems : List TheoremView
   pub first : AreFirst job (lines_of_text text) theorems
   pub bytes : out ≡ written_with job theorems last
 

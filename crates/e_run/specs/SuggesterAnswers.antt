@@ -15,8 +15,8 @@ use Rattle.e_deriv.specs.Naming.{names_lines, declared_names}
 use Rattle.e_deriv.specs.Licensed.{IsContext}
 use Rattle.e_deriv.specs.Refused.{IsWideLine}
 use Rattle.e_line.specs.declared.fault.BookFault.{BookFault}
-use Rattle.e_names.specs.Headed.{Headed, is_known, stated_by}
-use Rattle.e_book.specs.Entry.{Entry}
+use Rattle.e_names.specs.TitledStatements.{TitledStatement, is_known, stated_by}
+use Rattle.e_book.specs.TheoremViews.{TheoremView}
 use Rattle.e_names.specs.declared.known.Known.{Known}
 use Rattle.e_book.specs.Definitions.{item_from}
 use Rattle.e_names.specs.Canonical.{name_of_object}
@@ -35,7 +35,7 @@ use Rattle.e_run.specs.Answers.{IsAllOf}
 -- the first theorems of the lines are licensed, with definitions between them and behind them, and no theorem has the title; then this is
 -- known, and this holds of what is left
 pub record UpTo (lines : Rest) (title : List ℕ) (Holds : Known → Rest → Type 0) : Type 0 where
-  pub theorems : List Entry
+  pub theorems : List TheoremView
   pub known : Known
   pub rest : Rest
   pub begins : Begins lines theorems known rest
@@ -43,25 +43,25 @@ pub record UpTo (lines : Rest) (title : List ℕ) (Holds : Known → Rest → Ty
   pub holds : Holds known rest
 
 -- and this holds of the next theorem, with the theorems that are known before it
-abbrev pub NextUpTo : Rest → List ℕ → (List Headed → Entry → Type 0) → Type 0
+abbrev pub NextUpTo : Rest → List ℕ → (List TitledStatement → TheoremView → Type 0) → Type 0
 NextUpTo lines title Holds = UpTo lines title (λ known rest. NextIs (end_line_number lines) known rest (Holds known.theorems))
 
 -- step n of the theorem comes before the step that is asked for: the theorem has another title; or it has that step, and n is less
-abbrev pub IsEarlier : List ℕ → ℕ → Entry → ℕ → Type 0
+abbrev pub IsEarlier : List ℕ → ℕ → TheoremView → ℕ → Type 0
 IsEarlier title step t n = MatchBool (bytes_eq t.title title) ((step ≤ size t.script) × (n < step)) (Unit {0})
 
 -- the theorem has the title, and this line is its step, before which all steps are licensed
-pub record IsAsked (title : List ℕ) (step : ℕ) (known : List Headed) (t : Entry) (x : Line) : Type 0 where
+pub record IsAsked (title : List ℕ) (step : ℕ) (known : List TitledStatement) (t : TheoremView) (x : Line) : Type 0 where
   pub titled : t.title ≡ title
   pub context : IsContext (stated_by known) (stated t.statement) t.script step x
 
 -- the theorem has the title, and fewer steps
-pub record IsShort (title : List ℕ) (step : ℕ) (t : Entry) : Type 0 where
+pub record IsShort (title : List ℕ) (step : ℕ) (t : TheoremView) : Type 0 where
   pub titled : t.title ≡ title
   pub short : size t.script < step
 
 -- these are the names of the objects in scope before the step
-abbrev pub HasNamesAt : List Headed → Entry → ℕ → Names → Type 0
+abbrev pub HasNamesAt : List TitledStatement → TheoremView → ℕ → Names → Type 0
 HasNamesAt known t step names = Some names ≡ slice_get (names_lines (stated_by known) (declared_names (stated t.statement) t.names) t.script) (step - 1)
 
 -- what is due before anything is suggested: the step is reached; there is no such step; an earlier step is not licensed; a line has a fault
@@ -90,12 +90,12 @@ abbrev pub apply_lines : List ℕ → Names → List (List Obj) → List (List �
 apply_lines title names choices = map (apply_line title names) choices
 
 -- the theorem is asked: it has at most six declared objects
-abbrev pub is_asked_for : Headed → Bool
+abbrev pub is_asked_for : TitledStatement → Bool
 is_asked_for h = nat_le (length h.statement.declared) 6
 
 -- The lines of these theorems, in order, and whether some are left out: each theorem that is asked gives the first of its choices, as many as
 -- are left of the most, and one that has more is the last to be asked.
-abbrev pub Lists : Names → Scope → List Lit → List Headed → ℕ → List (List ℕ) → Bool → Type 0
+abbrev pub Lists : Names → Scope → List Lit → List TitledStatement → ℕ → List (List ℕ) → Bool → Type 0
 Lists names scope facts [] left lines more = (lines ≡ []) × (more ≡ false)
 Lists names scope facts (h ∷ hs) left lines more =
     MatchBool (is_asked_for h)
@@ -107,7 +107,7 @@ Lists names scope facts (h ∷ hs) left lines more =
 -- ---- what is due
 
 -- at the step these lines are suggested, at most a thousand, and this is written
-pub record Suggests (title : List ℕ) (step n : ℕ) (more : Bool) (out : List ℕ) (known : List Headed) (t : Entry) : Type 0 where
+pub record Suggests (title : List ℕ) (step n : ℕ) (more : Bool) (out : List ℕ) (known : List TitledStatement) (t : TheoremView) : Type 0 where
   pub line : Line
   pub asked : IsAsked title step known t line
   pub names : Names
@@ -118,17 +118,17 @@ pub record Suggests (title : List ℕ) (step n : ℕ) (more : Bool) (out : List 
   pub bytes : out ≡ text_of lines ++ suggested_line n more
 
 -- at the step some choice of arguments for a theorem that is asked is too wide
-pub record WidensAtStep (title : List ℕ) (step width : ℕ) (names : Names) (known : List Headed) (t : Entry) : Type 0 where
+pub record WidensAtStep (title : List ℕ) (step width : ℕ) (names : Names) (known : List TitledStatement) (t : TheoremView) : Type 0 where
   pub line : Line
   pub asked : IsAsked title step known t line
   pub named : HasNamesAt known t step names
-  pub theorem : Headed
+  pub theorem : TitledStatement
   pub is_one : Contains known theorem
   pub is_asked_for : length theorem.statement.declared ≤ 6
   pub too_wide : SomeArgsAreTooWide (stated theorem.statement) line.scope line.facts width
 
 -- an earlier step is too wide; or it is the step itself, where a match is wanted, and a choice there is too wide
-abbrev pub Widens : List ℕ → ℕ → List ℕ → ℕ → Wanted → ℕ → Names → List Headed → Entry → Type 0
+abbrev pub Widens : List ℕ → ℕ → List ℕ → ℕ → Wanted → ℕ → Names → List TitledStatement → TheoremView → Type 0
 Widens title step p n wanted width names known t =
     (TooWideAt known t p n wanted width names × IsEarlier title step t n)
     ⊎ ((p ≡ title) × (n ≡ step) × (wanted ≡ Match) × WidensAtStep title step width names known t)
@@ -156,14 +156,14 @@ SuggestsBook title step left old new answer =
 -- ---- the other way round
 
 -- a step that comes before the asked one, or that one, is wide: the former as a line, the latter under some choice for a theorem that is asked
-pub record HasWideEarlier (title : List ℕ) (step : ℕ) (known : List Headed) (t : Entry) : Type 0 where
+pub record HasWideEarlier (title : List ℕ) (step : ℕ) (known : List TitledStatement) (t : TheoremView) : Type 0 where
   pub number : ℕ
   pub line : Line
   pub earlier : IsEarlier title step t number
   pub context : IsContext (stated_by known) (stated t.statement) t.script number line
   pub is_wide : IsWideLine (stated_by known) line
 
-abbrev pub HasWideOnWay : List ℕ → ℕ → List Headed → Entry → Type 0
+abbrev pub HasWideOnWay : List ℕ → ℕ → List TitledStatement → TheoremView → Type 0
 HasWideOnWay title step known t = HasWideEarlier title step known t ⊎ ((width : ℕ) × (names : Names) × WidensAtStep title step width names known t)
 
 -- the answer of an outcome; or a step on the way is wide; a fault of the source or the sink, and out of memory, can come in place of it

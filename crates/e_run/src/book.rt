@@ -5,7 +5,7 @@ ghost use Rattle.e_io.specs.Bytes.{Rose};
 ghost use Rattle.e_book.specs.Grammar.{last_line};
 ghost use Rattle.e_names.specs.Titled.{defines};
 ghost use Rattle.e_book.specs.Definitions.{OfTheorem, view_of, item_from, IsGoodItem};
-ghost use Rattle.e_book.specs.Entry.{entry_of};
+ghost use Rattle.e_book.specs.TheoremViews.{entry_of};
 ghost use Rattle.e_book.specs.HasSpelling.{HasSpelling};
 ghost use Rattle.e_run.specs.Outcome.{Rest, end_line_number};
 ghost use Rattle.e_run.specs.inner.BookResults.{BlocksAre};

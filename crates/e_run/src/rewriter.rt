@@ -1,7 +1,7 @@
 //! A derivation text is read and verified, and something of each theorem is written as soon as it is verified.
 ghost use Rattle.std.specs.Prelude.{◌≡◌, ◌≤◌, ◌^◌, [], length, IfErr, OnOk, IsErrOf};
 ghost use Rattle.e_io.specs.Bytes.{Rose};
-ghost use Rattle.e_book.specs.Entry.{entry_of};
+ghost use Rattle.e_book.specs.TheoremViews.{entry_of};
 ghost use Rattle.e_book.specs.Grammar.{last_line};
 ghost use Rattle.e_run.specs.Answers.{IsReadFault, IsWriteFault};
 ghost use Rattle.e_run.specs.Input.{IsAtEnd};

@@ -4,7 +4,7 @@ ghost use Rattle.std.specs.List.{list_all};
 ghost use Rattle.e_literal.specs.Use.{is_statement};
 ghost use Rattle.e_theorem.specs.Statements.{stated};
 ghost use Rattle.e_deriv.specs.Fitting.{is_small_statement};
-ghost use Rattle.e_names.specs.Headed.{stated_by};
+ghost use Rattle.e_names.specs.TitledStatements.{stated_by};
 ghost use Rattle.e_line.specs.Canonical.{argument_word};
 ghost use Rattle.e_names.specs.Canonical.{name_of_object};
 ghost use Rattle.e_book.specs.Canonical.{text_of};

@@ -8,7 +8,7 @@ use Rattle.e_literal.specs.declared.object.Obj.{Obj}
 use Rattle.e_literal.specs.Scopes.{same_sort}
 use Rattle.e_literal.proofs.Sorts.{same_sort_is}
 use Rattle.e_deriv.specs.declared.names.Names.{Names}
-use Rattle.e_line.specs.declared.form.Form.{Form}
+use Rattle.e_line.specs.declared.raw_line.RawLine.{RawLine}
 use Rattle.e_line.specs.Canonical.{line_of}
 use Rattle.e_names.specs.Canonical.{name_of_object}
 use Rattle.e_book.specs.Canonical.{Group, group, grouped_before, grouped, declare_form, made_form, text_of}
@@ -17,7 +17,7 @@ use Rattle.e_spell.specs.declared.declarations.Role.TheVariants.{Declared, Made}
 use Rattle.e_spell.specs.inner.Parts.{role_words, opening, objects_rest, objects_text}
 
 -- the text of forms
-abbrev pub text : List Form → List ℕ
+abbrev pub text : List RawLine → List ℕ
 text fs = text_of (map line_of fs)
 
 abbrev group_text : Role → Group → List ℕ

@@ -10,11 +10,11 @@ use Rattle.e_construct.specs.Construct.{sorts_made}
 use Rattle.e_construct.specs.Superposing as superposing
 use Rattle.e_deriv.specs.Naming.{named}
 use Rattle.e_deriv.specs.Script.{Script, Cite, Hence, Make, Apply, Claim, Superposed, Qed, Contradiction, Cases, erased}
-use Rattle.e_line.specs.declared.form.Form.{Form}
-use Rattle.e_line.specs.declared.form.Form.TheVariants as forms
+use Rattle.e_line.specs.declared.raw_line.RawLine.{RawLine}
+use Rattle.e_line.specs.declared.raw_line.RawLine.TheVariants as rawlines
 use Rattle.e_deriv.specs.Parts.{filled_by}
-use Rattle.e_names.specs.Headed.{Headed, theorem_of}
-use Rattle.e_book.specs.Entry.{Entry}
+use Rattle.e_names.specs.TitledStatements.{TitledStatement, theorem_of}
+use Rattle.e_book.specs.TheoremViews.{TheoremView}
 use Rattle.e_line.specs.Canonical.{line_of}
 use Rattle.e_names.specs.Canonical.{by_form, hence_form, let_form, apply_form, claim_form, superpose_form, qed_form, contradiction_form, cases_form, else_form, end_form}
 use Rattle.e_book.specs.Canonical.{head_forms, script_forms, names_of_proof, forms_of}
@@ -23,35 +23,35 @@ use Rattle.e_spell.specs.Spelling.{script_lines, spelled_lines}
 use Rattle.e_spell.specs.Laws.{is_plain, filled_entry}
 use Rattle.e_spell.proofs.CertLines.{certs_go, contradiction_goes}
 
-form_is_plain : (f : Form) → is_plain (line_of f) ≡ true
-form_is_plain (forms.Theorem t) = refl
-form_is_plain (forms.Declare Point ns) = refl
-form_is_plain (forms.Declare Line ns) = refl
-form_is_plain (forms.Declare Circle ns) = refl
-form_is_plain (forms.Given ls) = refl
-form_is_plain (forms.Made sort ns) = refl
-form_is_plain (forms.Show ls) = refl
-form_is_plain forms.Proof = refl
-form_is_plain (forms.By r ns l) = refl
-form_is_plain (forms.Hence l) = refl
-form_is_plain (forms.Let l) = refl
-form_is_plain (forms.Apply a) = refl
-form_is_plain (forms.Qed ns) = refl
-form_is_plain forms.Contradiction = refl
-form_is_plain (forms.Claim ls) = refl
-form_is_plain (forms.Superpose s) = refl
-form_is_plain (forms.Cases l) = refl
-form_is_plain forms.Else = refl
-form_is_plain forms.End = refl
+form_is_plain : (f : RawLine) → is_plain (line_of f) ≡ true
+form_is_plain (rawlines.Theorem t) = refl
+form_is_plain (rawlines.Declare Point ns) = refl
+form_is_plain (rawlines.Declare Line ns) = refl
+form_is_plain (rawlines.Declare Circle ns) = refl
+form_is_plain (rawlines.Given ls) = refl
+form_is_plain (rawlines.Made sort ns) = refl
+form_is_plain (rawlines.Show ls) = refl
+form_is_plain rawlines.Proof = refl
+form_is_plain (rawlines.By r ns l) = refl
+form_is_plain (rawlines.Hence l) = refl
+form_is_plain (rawlines.Let l) = refl
+form_is_plain (rawlines.Apply a) = refl
+form_is_plain (rawlines.Qed ns) = refl
+form_is_plain rawlines.Contradiction = refl
+form_is_plain (rawlines.Claim ls) = refl
+form_is_plain (rawlines.Superpose s) = refl
+form_is_plain (rawlines.Cases l) = refl
+form_is_plain rawlines.Else = refl
+form_is_plain rawlines.End = refl
 
 keep : (line : List ℕ) (lines : List (List ℕ)) → is_plain line ≡ true → filter is_plain (line ∷ lines) ≡ line ∷ filter is_plain lines
 keep line lines e = rw e refl
 
-forms_stay : (fs : List Form) → filter is_plain (map line_of fs) ≡ map line_of fs
+forms_stay : (fs : List RawLine) → filter is_plain (map line_of fs) ≡ map line_of fs
 forms_stay [] = refl
 forms_stay (f ∷ fs) = keep (line_of f) (map line_of fs) (form_is_plain f) ∙ ap (λ (x : List (List ℕ)). line_of f ∷ x) (forms_stay fs)
 
-lines_append : (fs gs : List Form) → map line_of (fs ++ gs) ≡ map line_of fs ++ map line_of gs
+lines_append : (fs gs : List RawLine) → map line_of (fs ++ gs) ≡ map line_of fs ++ map line_of gs
 lines_append [] gs = refl
 lines_append (f ∷ fs) gs = ap (λ (x : List (List ℕ)). line_of f ∷ x) (lines_append fs gs)
 
@@ -60,11 +60,11 @@ certified_stay : (ns : Names) (cs : List Cert) (lines : List (List ℕ)) → fil
 certified_stay ns cs lines = filter-append is_plain (certs_lines ns cs) lines ∙ ap (λ (x : List (List ℕ)). x ++ filter is_plain lines) (certs_go ns cs)
 
 -- lines of two parts
-both_stay : (xs ys : List (List ℕ)) (fs gs : List Form) → filter is_plain xs ≡ map line_of fs → filter is_plain ys ≡ map line_of gs → filter is_plain (xs ++ ys) ≡ map line_of (fs ++ gs)
+both_stay : (xs ys : List (List ℕ)) (fs gs : List RawLine) → filter is_plain xs ≡ map line_of fs → filter is_plain ys ≡ map line_of gs → filter is_plain (xs ++ ys) ≡ map line_of (fs ++ gs)
 both_stay xs ys fs gs x y =
     filter-append is_plain xs ys ∙ ap (λ (l : List (List ℕ)). l ++ filter is_plain ys) x ∙ ap (λ (l : List (List ℕ)). map line_of fs ++ l) y ∙ sym (lines_append fs gs)
 
-script_stays : (known : List Headed) (ns : Names) (d : Script) → filter is_plain (script_lines known ns d) ≡ map line_of (script_forms known ns (erased d))
+script_stays : (known : List TitledStatement) (ns : Names) (d : Script) → filter is_plain (script_lines known ns d) ≡ map line_of (script_forms known ns (erased d))
 unfolding script_lines script_forms erased
 script_stays known ns (Cite by rest) = ap (λ (x : List (List ℕ)). line_of (by_form ns by) ∷ x) (script_stays known ns rest)
 script_stays known ns (Hence lit cert rest) =
@@ -90,7 +90,7 @@ script_stays known ns (Cases lit first second) =
     (both_stay (script_lines known ns first) (line_of else_form ∷ script_lines known ns second) (script_forms known ns (erased first)) (else_form ∷ script_forms known ns (erased second)) (script_stays known ns first)
     (ap (λ (x : List (List ℕ)). line_of else_form ∷ x) (script_stays known ns second)))
 
-pub plain_lines : (known : List Headed) (t : Entry) (d : Script) → erased d ≡ filled_by t.script d → filter is_plain (spelled_lines known t d) ≡ map line_of (forms_of known (filled_entry t d))
+pub plain_lines : (known : List TitledStatement) (t : TheoremView) (d : Script) → erased d ≡ filled_by t.script d → filter is_plain (spelled_lines known t d) ≡ map line_of (forms_of known (filled_entry t d))
 plain_lines known t d e =
     let end = line_of end_form ∷ [] in
     let ns = names_of_proof t in

@@ -14,8 +14,8 @@ use Rattle.e_deriv.specs.declared.block.Step.{Step}
 use Rattle.e_deriv.specs.Script.{Script, Qed, Contradiction, Cases, steps_script}
 use Rattle.e_deriv.specs.PlainStep.{PlainStep, Cited, Inferred, Made, Applied, Claimed, Copied, plain_step, before}
 use Rattle.e_deriv.proofs.Scripts.{scripts, plain_steps, step_script-plain}
-use Rattle.e_line.specs.declared.form.Form.{Form}
-use Rattle.e_names.specs.Headed.{Headed, theorem_of}
+use Rattle.e_line.specs.declared.raw_line.RawLine.{RawLine}
+use Rattle.e_names.specs.TitledStatements.{TitledStatement, theorem_of}
 use Rattle.e_line.specs.Canonical.{line_of}
 use Rattle.e_names.specs.Canonical.{hence_form, let_form, apply_form, claim_form, superpose_form, cases_form, else_form, qed_form, contradiction_form}
 use Rattle.e_book.specs.Canonical.{text_of}
@@ -35,10 +35,10 @@ of_certified ns cs rest = of_lines (certs_lines ns cs) rest ∙ ap (λ (t : List
 -- ---- steps
 
 -- a line, its certificates, and what comes after them
-line_certified : (f : Form) (ns : Names) (cs : List Cert) (rest : List (List ℕ)) → text_of (line_of f ∷ (certs_lines ns cs ++ rest)) ≡ (form_text f ++ certs_text ns cs) ++ text_of rest
+line_certified : (f : RawLine) (ns : Names) (cs : List Cert) (rest : List (List ℕ)) → text_of (line_of f ∷ (certs_lines ns cs ++ rest)) ≡ (form_text f ++ certs_text ns cs) ++ text_of rest
 line_certified f ns cs rest = ap (λ (t : List ℕ). form_text f ++ t) (of_certified ns cs rest) ∙ sym (append_assoc (form_text f) (certs_text ns cs) (text_of rest))
 
-before_text : (known : List Headed) (ns : Names) (s : PlainStep) (rest : Script) → script_text known ns (before s rest) ≡ step_text known ns s ++ script_text known (names_behind known ns s) rest
+before_text : (known : List TitledStatement) (ns : Names) (s : PlainStep) (rest : Script) → script_text known ns (before s rest) ≡ step_text known ns s ++ script_text known (names_behind known ns s) rest
 unfolding script_text script_lines superposition_text
 before_text known ns (Cited by) rest = refl
 before_text known ns (Inferred lit cert) rest = line_certified (hence_form ns lit) ns (option_to_list cert) (script_lines known ns rest)
@@ -57,7 +57,7 @@ before_text known ns (Copied form names shown certs inner) rest =
     ap (λ (t : List ℕ). line ++ t) (of_certified ns certs (inside ++ after) ∙ ap (λ (t : List ℕ). certs_text ns certs ++ t) (of_lines inside after) ∙ sym (append_assoc (certs_text ns certs) (text_of inside) (text_of after)))
     ∙ sym (append_assoc line (certs_text ns certs ++ text_of inside) (text_of after))
 
-pub of_steps : (known : List Headed) (ns : Names) (ss : List Step) (rest : Script)
+pub of_steps : (known : List TitledStatement) (ns : Names) (ss : List Step) (rest : Script)
     → script_text known ns (steps_script ss rest) ≡ steps_text known ns (map plain_step ss) ++ script_text known (names_after known ns (map plain_step ss)) rest
 of_steps known ns [] rest = refl
 of_steps known ns (s ∷ ss) rest =
@@ -72,15 +72,15 @@ pub ruleset blocks = (common_steps, of_steps)
 
 -- ---- closes
 
-pub script_text-Qed : (known : List Headed) (ns : Names) (objects : List Obj) (cs : List Cert) → script_text known ns (Qed objects cs) ≡ qed_text ns objects cs
+pub script_text-Qed : (known : List TitledStatement) (ns : Names) (objects : List Obj) (cs : List Cert) → script_text known ns (Qed objects cs) ≡ qed_text ns objects cs
 unfolding script_text script_lines
 script_text-Qed known ns objects cs = ap (λ (t : List ℕ). form_text (qed_form ns objects) ++ t) (of_certs ns cs)
 
-pub script_text-Contradiction : (known : List Headed) (ns : Names) (against : Option Against) → script_text known ns (Contradiction against) ≡ contradicted_text ns against
+pub script_text-Contradiction : (known : List TitledStatement) (ns : Names) (against : Option Against) → script_text known ns (Contradiction against) ≡ contradicted_text ns against
 unfolding script_text script_lines
 script_text-Contradiction known ns against = ap (λ (t : List ℕ). form_text contradiction_form ++ t) (of_contradiction ns against)
 
-pub script_text-Cases : (known : List Headed) (ns : Names) (lit : Lit) (first second : Script) → script_text known ns (Cases lit first second) ≡ split_text known ns lit first second
+pub script_text-Cases : (known : List TitledStatement) (ns : Names) (lit : Lit) (first second : Script) → script_text known ns (Cases lit first second) ≡ split_text known ns lit first second
 unfolding script_text script_lines
 script_text-Cases known ns lit first second =
     ap (λ (t : List ℕ). form_text (cases_form ns lit) ++ t) (of_lines (script_lines known ns first) (line_of else_form ∷ script_lines known ns second))

@@ -6,10 +6,10 @@ use Rattle.e_literal.specs.declared.literal.Lit.{Lit}
 use Rattle.e_deriv.specs.declared.names.Names.{Names}
 use Rattle.e_deriv.specs.Script.{Script}
 use Rattle.e_theorem.specs.declared.statement.Statement.{Statement}
-use Rattle.e_line.specs.declared.form.Form.{Form}
-use Rattle.e_line.specs.declared.form.Form.TheVariants as forms
-use Rattle.e_names.specs.Headed.{Headed}
-use Rattle.e_book.specs.Entry.{Entry}
+use Rattle.e_line.specs.declared.raw_line.RawLine.{RawLine}
+use Rattle.e_line.specs.declared.raw_line.RawLine.TheVariants as rawlines
+use Rattle.e_names.specs.TitledStatements.{TitledStatement}
+use Rattle.e_book.specs.TheoremViews.{TheoremView}
 use Rattle.e_text.specs.Tokens.{spaced}
 use Rattle.e_line.specs.Canonical.{line_of, lit_words}
 use Rattle.e_names.specs.Canonical.{raw_of, given_form, show_form, end_form}
@@ -20,7 +20,7 @@ use Rattle.e_spell.specs.inner.Parts.{lits_text, script_text, proof_text, object
 use Rattle.e_spell.proofs.ScriptTexts.{of_lines}
 use Rattle.e_spell.proofs.Declared.{text, declared_text, made_text}
 
-of_forms : (fs gs : List Form) → text (fs ++ gs) ≡ text fs ++ text gs
+of_forms : (fs gs : List RawLine) → text (fs ++ gs) ≡ text fs ++ text gs
 of_forms [] gs = refl
 of_forms (f ∷ fs) gs = ap (λ (t : List ℕ). (line_of f ++ 10 ∷ []) ++ t) (of_forms fs gs) ∙ sym (append_assoc (line_of f ++ 10 ∷ []) (text fs) (text gs))
 
@@ -37,7 +37,7 @@ show_text ns [] = refl
 show_text ns (l ∷ ls) =
     ap (λ (t : List ℕ). t ++ lits_text (codes "show") ns ls) (sym (one_literal (codes "show") (lit_words (raw_of ns l)))) ∙ ap (λ (t : List ℕ). (line_of (show_form ns l) ++ 10 ∷ []) ++ t) (show_text ns ls)
 
-title_line : (title : List ℕ) → title_text title ≡ line_of (forms.Theorem title) ++ 10 ∷ []
+title_line : (title : List ℕ) → title_text title ≡ line_of (rawlines.Theorem title) ++ 10 ∷ []
 title_line title = rw (append-nil title) (sym (append_assoc (codes "theorem") (32 ∷ title) (10 ∷ [])))
 
 -- what is given, and what is shown
@@ -51,26 +51,26 @@ of_shown ns t =
     ap (λ (x : List ℕ). x ++ lits_text (codes "show") ns t.shown) (made_text ns (made_objects t)) ∙ ap (λ (x : List ℕ). text (map made_form (grouped ns (made_objects t))) ++ x) (show_text ns t.shown)
     ∙ sym (of_forms (map made_form (grouped ns (made_objects t))) (map (show_form ns) t.shown))
 
-of_statement : (ns : Names) (t : Statement) → statement_text ns t ++ (codes "proof" ++ 10 ∷ []) ≡ text (given_forms ns t ++ (shown_forms ns t ++ forms.Proof ∷ []))
+of_statement : (ns : Names) (t : Statement) → statement_text ns t ++ (codes "proof" ++ 10 ∷ []) ≡ text (given_forms ns t ++ (shown_forms ns t ++ rawlines.Proof ∷ []))
 of_statement ns t =
     let given = objects_text Declared ns (declared_objects t) in
     let lits = lits_text (codes "given") ns t.given in
     let shown = objects_text Made ns (made_objects t) ++ lits_text (codes "show") ns t.shown in
     let end = codes "proof" ++ 10 ∷ [] in
     ap (λ (x : List ℕ). x ++ end) (sym (append_assoc given lits shown)) ∙ append_assoc (given ++ lits) shown end ∙ ap (λ (x : List ℕ). x ++ (shown ++ end)) (of_given ns t)
-    ∙ ap (λ (x : List ℕ). text (given_forms ns t) ++ (x ++ end)) (of_shown ns t) ∙ ap (λ (x : List ℕ). text (given_forms ns t) ++ x) (sym (of_forms (shown_forms ns t) (forms.Proof ∷ [])))
-    ∙ sym (of_forms (given_forms ns t) (shown_forms ns t ++ forms.Proof ∷ []))
+    ∙ ap (λ (x : List ℕ). text (given_forms ns t) ++ (x ++ end)) (of_shown ns t) ∙ ap (λ (x : List ℕ). text (given_forms ns t) ++ x) (sym (of_forms (shown_forms ns t) (rawlines.Proof ∷ [])))
+    ∙ sym (of_forms (given_forms ns t) (shown_forms ns t ++ rawlines.Proof ∷ []))
 
-of_head : (t : Entry) → head_text t.title t.names t.statement ≡ text (head_forms t)
+of_head : (t : TheoremView) → head_text t.title t.names t.statement ≡ text (head_forms t)
 of_head t =
     ap (λ (x : List ℕ). x ++ (statement_text t.names t.statement ++ (codes "proof" ++ 10 ∷ []))) (title_line t.title)
-    ∙ ap (λ (x : List ℕ). (line_of (forms.Theorem t.title) ++ 10 ∷ []) ++ x) (of_statement t.names t.statement)
+    ∙ ap (λ (x : List ℕ). (line_of (rawlines.Theorem t.title) ++ 10 ∷ []) ++ x) (of_statement t.names t.statement)
 
-of_proof : (known : List Headed) (ns : Names) (d : Script) → proof_text known ns d ≡ text_of (script_lines known ns d ++ line_of end_form ∷ [])
+of_proof : (known : List TitledStatement) (ns : Names) (d : Script) → proof_text known ns d ≡ text_of (script_lines known ns d ++ line_of end_form ∷ [])
 unfolding script_text
 of_proof known ns d = sym (of_lines (script_lines known ns d) (line_of end_form ∷ []))
 
-pub spelled_parts : (known : List Headed) (t : Entry) (d : Script) → theorem_text known t d ≡ spelled known t d
+pub spelled_parts : (known : List TitledStatement) (t : TheoremView) (d : Script) → theorem_text known t d ≡ spelled known t d
 spelled_parts known t d =
     ap (λ (x : List ℕ). x ++ proof_text known (names_of_proof t) d) (of_head t) ∙ ap (λ (x : List ℕ). text (head_forms t) ++ x) (of_proof known (names_of_proof t) d)
     ∙ sym (of_lines (map line_of (head_forms t)) (script_lines known (names_of_proof t) d ++ line_of end_form ∷ []))

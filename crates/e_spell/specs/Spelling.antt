@@ -12,8 +12,8 @@ use Rattle.e_construct.specs.Construct.{sorts_made}
 use Rattle.e_construct.specs.Superposing as superposing
 use Rattle.e_deriv.specs.Naming.{named}
 use Rattle.e_deriv.specs.Script.{Script, Cite, Hence, Make, Apply, Claim, Superposed, Qed, Contradiction, Cases}
-use Rattle.e_names.specs.Headed.{Headed, theorem_of}
-use Rattle.e_book.specs.Entry.{Entry}
+use Rattle.e_names.specs.TitledStatements.{TitledStatement, theorem_of}
+use Rattle.e_book.specs.TheoremViews.{TheoremView}
 use Rattle.e_text.specs.Tokens.{joined}
 use Rattle.e_line.specs.Canonical.{line_of, lit_words}
 use Rattle.e_names.specs.Canonical.{raw_of, by_form, hence_form, let_form, apply_form, claim_form, superpose_form, qed_form, contradiction_form, cases_form, else_form, end_form}
@@ -23,7 +23,7 @@ use Rattle.e_spell.specs.Certificates.{named_term, certs_lines, contradiction_li
 -- each line of a derivation, and below it one certificate for each literal that it needs, or that of a contradiction, where
 -- these theorems are known and these names are in scope before the first: those of new objects come into scope behind the
 -- certificates of the line that makes them, and those of an inner block are gone behind it
-unfoldable pub script_lines : List Headed → Names → Script → List (List ℕ)
+unfoldable pub script_lines : List TitledStatement → Names → Script → List (List ℕ)
 script_lines known ns (Cite by rest) = line_of (by_form ns by) ∷ script_lines known ns rest
 script_lines known ns (Hence lit cert rest) = line_of (hence_form ns lit) ∷ (certs_lines ns (option_to_list cert) ++ script_lines known ns rest)
 script_lines known ns (Make form names certs rest) =
@@ -40,10 +40,10 @@ script_lines known ns (Cases lit first second) =
     line_of (cases_form ns lit) ∷ (script_lines known ns first ++ line_of else_form ∷ script_lines known ns second)
 
 -- the lines of a theorem behind those that are known, with its derivation, in order
-abbrev pub spelled_lines : List Headed → Entry → Script → List (List ℕ)
+abbrev pub spelled_lines : List TitledStatement → TheoremView → Script → List (List ℕ)
 spelled_lines known t d = map line_of (head_forms t) ++ (script_lines known (names_of_proof t) d ++ line_of end_form ∷ [])
 
-abbrev pub spelled : List Headed → Entry → Script → List ℕ
+abbrev pub spelled : List TitledStatement → TheoremView → Script → List ℕ
 spelled known t d = text_of (spelled_lines known t d)
 
 -- what a line lacks

@@ -3,7 +3,7 @@ ghost use Rattle.std.specs.Prelude.{◌≡◌, take, IfOk, OnOk};
 ghost use Rattle.e_construct.specs.Superposing.{sorts_copied};
 ghost use Rattle.e_deriv.specs.Naming.{first_names, named};
 ghost use Rattle.e_deriv.specs.PlainStep.{plain_step};
-ghost use Rattle.e_names.specs.Headed.{theorem_of};
+ghost use Rattle.e_names.specs.TitledStatements.{theorem_of};
 ghost use Rattle.e_spell.specs.inner.Counts.{scope_of_counts};
 ghost use Rattle.e_spell.specs.inner.Parts.{names_behind};
 

@@ -1,7 +1,7 @@
 //! The lines of steps and closes, without certificates.
 ghost use Rattle.std.specs.Prelude.{◌≡◌, ◌++◌, OnOk};
-ghost use Rattle.e_line.specs.declared.form.Form.TheVariants as forms;
-ghost use Rattle.e_names.specs.Headed.{title_at};
+ghost use Rattle.e_line.specs.declared.raw_line.RawLine.TheVariants as rawlines;
+ghost use Rattle.e_names.specs.TitledStatements.{title_at};
 ghost use Rattle.e_line.specs.Canonical.{line_of};
 ghost use Rattle.e_names.specs.Canonical.{by_form, let_form, apply_form, claim_form, qed_form};
 ghost use Rattle.e_spell.specs.inner.Parts.{form_text, superposition_text};
@@ -78,7 +78,7 @@ fn put_by_title(
     args: &[Option<Name>],
     new: &[Name],
 ) -> Result<(), AllocError>
-    ensures { OnOk result (out.new.items ≡ out.old.items ++ line_of (forms.Apply (record { title = title_at known.now place; args = args.now; new = new.now }))) }
+    ensures { OnOk result (out.new.items ≡ out.old.items ++ line_of (rawlines.Apply (record { title = title_at known.now place; args = args.now; new = new.now }))) }
 {
     if place < known.len() {
         put_apply(out, known.title(place).bytes(), args, new)

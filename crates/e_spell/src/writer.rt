@@ -1,7 +1,7 @@
 //! Derivations as texts.
 ghost use Rattle.std.specs.Prelude.{◌≡◌, ◌++◌, IfOk, OnOk};
 ghost use Rattle.e_deriv.specs.Script.{script_of};
-ghost use Rattle.e_book.specs.Entry.{entry_of};
+ghost use Rattle.e_book.specs.TheoremViews.{entry_of};
 ghost use Rattle.e_spell.specs.inner.Parts.{theorem_text};
 ghost use Rattle.e_spell.specs.Spelling.{spelled};
 

@@ -9,14 +9,14 @@ use std::io::ErrorKind;
 use std::process::ExitCode;
 
 /// The words behind the program's name.
-fn behind_the_name(alloc: Global, mut args: env::Args) -> Result<Vec<String>, AllocError> {
+fn program_args(alloc: Global, mut args: env::Args) -> Result<Vec<String>, AllocError> {
     args.next();
     args.collect(alloc)
 }
 
 fn main(rt: HostRuntime) -> ExitCode {
     let words = match env::args(&rt) {
-        Ok(args) => behind_the_name(rt.alloc(), args),
+        Ok(args) => program_args(rt.alloc(), args),
         // A word that is no text is no command.
         Err(error) if error.kind() == ErrorKind::InvalidData => Ok(Vec::new(rt.alloc())),
         Err(error) if error.kind() == ErrorKind::OutOfMemory => Err(AllocError),

@@ -3,23 +3,23 @@ use Rattle.std.specs.Prelude.{◌≡◌, ℕ, ◌+◌, ◌≤◌, Bool, true, fa
 use Rattle.e_text.specs.Tokens.{tokens_of}
 use Rattle.e_text.specs.Lines.{Seen, HaveNoFault}
 use Rattle.e_deriv.specs.declared.names.Names.{Names}
-use Rattle.e_line.specs.declared.fault.Kind.{Kind}
-use Rattle.e_line.specs.declared.fault.Kind.TheVariants.{Malformed, NameTaken}
+use Rattle.e_line.specs.declared.fault.FaultKind.{FaultKind}
+use Rattle.e_line.specs.declared.fault.FaultKind.TheVariants.{Malformed, NameTaken}
 use Rattle.e_line.specs.declared.fault.What.TheVariants as limits
 use Rattle.e_line.specs.declared.fault.BookFault.{BookFault}
 use Rattle.e_line.specs.declared.fault.BookFault.TheVariants as faults
-use Rattle.e_line.specs.declared.form.Form.{Form}
-use Rattle.e_line.specs.declared.form.Form.TheVariants as forms
+use Rattle.e_line.specs.declared.raw_line.RawLine.{RawLine}
+use Rattle.e_line.specs.declared.raw_line.RawLine.TheVariants as rawlines
 use Rattle.e_line.specs.declared.items.RawItem.{RawItem}
 use Rattle.e_line.specs.declared.items.Listing.{Listing}
 use Rattle.e_line.specs.declared.items.Listing.TheVariants as listings
-use Rattle.e_line.specs.declared.items.RawLine.{RawLine}
-use Rattle.e_line.specs.declared.items.RawLine.TheVariants.{Plain, Define, Listed}
+use Rattle.e_line.specs.declared.items.BookLine.{BookLine}
+use Rattle.e_line.specs.declared.items.BookLine.TheVariants.{Plain, Define, Listed}
 use Rattle.e_book.specs.declared.item.Item.{Item}
 use Rattle.e_names.specs.declared.known.Known.{Known}
-use Rattle.e_book.specs.declared.draft.Place.{Place}
-use Rattle.e_book.specs.declared.draft.Place.TheVariants.{Showing, Proving, Done}
-use Rattle.e_book.specs.declared.draft.Draft.{Draft}
+use Rattle.e_book.specs.declared.draft.Section.{Section}
+use Rattle.e_book.specs.declared.draft.Section.TheVariants.{Showing, Proving, Done}
+use Rattle.e_book.specs.declared.draft.TheoremParser.{TheoremParser}
 use Rattle.e_book.specs.declared.coming.Coming.{Coming}
 use Rattle.e_line.specs.Reading.{◌>>=◌}
 use Rattle.e_line.specs.Faults.{line_fault}
@@ -40,66 +40,66 @@ use Rattle.e_book.specs.Definitions.{BookItem, OfTheorem, OfNotion, Answer, has_
 
 -- ---- a line with items
 
-abbrev pub names_at_place : Place → (names in_scope : Names) → Names
+abbrev pub names_at_place : Section → (names in_scope : Names) → Names
 names_at_place Proving names in_scope = in_scope
 names_at_place p names in_scope = names
 
 -- the names of the objects that the next line may name
-abbrev pub names_there : Draft → Names
+abbrev pub names_there : TheoremParser → Names
 names_there d = names_at_place d.place d.names d.in_scope
 
 -- the names before the literals, from left to right
-abbrev pub head_names : Names → Listing → Result (Unit {0}) Kind
+abbrev pub head_names : Names → Listing → Result (Unit {0}) FaultKind
 head_names ns (listings.Superpose args new) = placed_in ns args >>= λ form. fresh ns [] new
 head_names ns line = Ok tt
 
 -- a line that takes literals may come here
-abbrev pub is_ready : Draft → Listing → Result (Unit {0}) Kind
+abbrev pub is_ready : TheoremParser → Listing → Result (Unit {0}) FaultKind
 is_ready d line = right_count (allowed d.place (listing_form line [])) >>= λ right. head_names d.in_scope line
 
 -- the line with its items written out, and how many literals are of notions
-abbrev pub written : List Titled → Draft → Listing → List RawItem → Result (Form × ℕ) Kind
+abbrev pub written : List Titled → TheoremParser → Listing → List RawItem → Result (RawLine × ℕ) FaultKind
 written notions d line is =
     is_ready d line >>= λ ready. items_in notions (names_there d) 0 is >>= λ p. Ok (listing_form line (map (raw_of (names_there d)) p.0), p.1)
 
 -- ---- the first line
 
-abbrev pub coming : Bool → Draft → Coming
+abbrev pub coming : Bool → TheoremParser → Coming
 coming defines d = record { defines = defines; draft = d; expanded = 0 }
 
-unfoldable pub begins_theorem : Known → Form → Result Coming Kind
+unfoldable pub begins_theorem : Known → RawLine → Result Coming FaultKind
 begins_theorem known f = if has_notion_title known.notions f then Err NameTaken else (begin known.theorems f >>= λ d. Ok (coming false d))
 
-unfoldable pub begins_definition : Known → List ℕ → Result Coming Kind
+unfoldable pub begins_definition : Known → List ℕ → Result Coming FaultKind
 begins_definition known t =
     if is_taken known t then Err NameTaken else (within (length known.notions + 1) most_notions limits.Notions >>= λ few. Ok (coming true (begun t)))
 
-unfoldable pub begins : Known → RawLine → Result Coming Kind
+unfoldable pub begins : Known → BookLine → Result Coming FaultKind
 begins known (Plain f) = begins_theorem known f
 begins known (Define t) = begins_definition known t
 begins known (Listed line is) = Err Malformed
 
 -- ---- each other line
 
-abbrev pub is_showing : Place → Bool
+abbrev pub is_showing : Section → Bool
 is_showing Showing = true
 is_showing p = false
 
-unfoldable pub defines_on : Draft → Form → Result Draft Kind
-defines_on d (forms.Declare sort new) = right_count (allowed d.place (forms.Declare sort new)) >>= λ right. declares d sort new
-defines_on d (forms.Show raws) = right_count (allowed d.place (forms.Show raws)) >>= λ right. shows d raws
-defines_on d forms.End = right_count (is_showing d.place) >>= λ right. Ok (record d { place = Done })
+unfoldable pub defines_on : TheoremParser → RawLine → Result TheoremParser FaultKind
+defines_on d (rawlines.Declare sort new) = right_count (allowed d.place (rawlines.Declare sort new)) >>= λ right. declares d sort new
+defines_on d (rawlines.Show raws) = right_count (allowed d.place (rawlines.Show raws)) >>= λ right. shows d raws
+defines_on d rawlines.End = right_count (is_showing d.place) >>= λ right. Ok (record d { place = Done })
 defines_on d f = Err Malformed
 
-abbrev pub with_draft : Coming → Draft → Coming
+abbrev pub with_draft : Coming → TheoremParser → Coming
 with_draft c d = record c { draft = d }
 
-unfoldable pub goes_on : Known → Coming → Form → Result Coming Kind
+unfoldable pub goes_on : Known → Coming → RawLine → Result Coming FaultKind
 goes_on known c f =
     if c.defines then (defines_on c.draft f >>= λ d. Ok (with_draft c d)) else (steps.step known.theorems c.draft f >>= λ d. Ok (with_draft c d))
 
 -- it is taken as it is written out, and then the limit of what items stand for
-unfoldable pub lists : Known → Coming → Listing → List RawItem → Result Coming Kind
+unfoldable pub lists : Known → Coming → Listing → List RawItem → Result Coming FaultKind
 lists known c line is = do
   right ← right_count (not c.defines || is_show line)
   w ← written known.notions c.draft line is
@@ -107,7 +107,7 @@ lists known c line is = do
   few ← within (e.expanded + w.1) most_expanded limits.Expanded
   Ok (record e { expanded = e.expanded + w.1 })
 
-unfoldable pub step : Known → Coming → RawLine → Result Coming Kind
+unfoldable pub step : Known → Coming → BookLine → Result Coming FaultKind
 step known c (Plain f) = goes_on known c f
 step known c (Define t) = Err Malformed
 step known c (Listed line is) = lists known c line is
@@ -119,14 +119,14 @@ pub record FitsComing (known : Known) (c : Coming) : Type 0 where
 
 -- ---- lines
 
-unfoldable pub line_step : Known → Option Coming → List (List ℕ) → Result Coming Kind
+unfoldable pub line_step : Known → Option Coming → List (List ℕ) → Result Coming FaultKind
 line_step known None words = line_of words >>= λ l. begins known l
 line_step known (Some c) words = line_of words >>= λ l. step known c l
 
 abbrev pub is_done : Coming → Bool
 is_done c = is_last c.draft.place
 
-abbrev pub notion_of_draft : Draft → Titled
+abbrev pub notion_of_draft : TheoremParser → Titled
 notion_of_draft d = titled d.title (record { declared = d.declared; means = d.shown })
 
 -- what the lines make

@@ -3,17 +3,17 @@ use Rattle.std.proofs.Common.{◌≡◌, List, [], ◌∷◌, ◌++◌, Option, 
 use Rattle.std.specs.Option.{option_to_list}
 use Rattle.e_clause.specs.declared.cert.Against.{Against}
 use Rattle.e_deriv.specs.Script.{Script, Cite, Hence, Make, Apply, Claim, Superposed, Qed, Contradiction, Cases, erased}
-use Rattle.e_cert.specs.declared.kept.Kept.{Kept}
-use Rattle.e_cert.specs.declared.kept.Kept.TheVariants.{Certs, Against as OfContradiction}
+use Rattle.e_cert.specs.declared.kept.StepCerts.{StepCerts}
+use Rattle.e_cert.specs.declared.kept.StepCerts.TheVariants.{Certs, Against as OfContradiction}
 use Rattle.e_read.specs.Filled.{filled}
 
 -- a contradiction without its certificate keeps none
-abbrev pub kept_against : Option Against → Kept
+abbrev pub kept_against : Option Against → StepCerts
 kept_against None = Certs []
 kept_against (Some a) = OfContradiction a
 
 -- what is kept of the lines of a derivation, in order
-unfoldable pub kepts : Script → List Kept
+unfoldable pub kepts : Script → List StepCerts
 kepts (Cite by rest) = kepts rest
 kepts (Hence lit cert rest) = Certs (option_to_list cert) ∷ kepts rest
 kepts (Make form names certs rest) = Certs certs ∷ kepts rest
@@ -24,7 +24,7 @@ kepts (Qed objects certs) = Certs certs ∷ []
 kepts (Contradiction against) = kept_against against ∷ []
 kepts (Cases lit first second) = kepts first ++ kepts second
 
-pub filled_back : (d : Script) (ks : List Kept) → filled (erased d) (kepts d ++ ks) ≡ (d, ks)
+pub filled_back : (d : Script) (ks : List StepCerts) → filled (erased d) (kepts d ++ ks) ≡ (d, ks)
 unfolding erased filled kepts
 filled_back (Cite by rest) ks = rw (filled_back rest ks) refl
 filled_back (Hence lit None rest) ks = rw (filled_back rest ks) refl

@@ -11,35 +11,35 @@ use Rattle.e_literal.specs.declared.object.Sort.TheVariants as sorts
 use Rattle.e_construct.specs.declared.construction.Shape.{Shape}
 use Rattle.e_construct.specs.Lines.{Piece, pieces}
 use Rattle.e_line.specs.declared.lets.RawLet.{RawLet}
-use Rattle.e_line.specs.declared.form.Form.{Form}
-use Rattle.e_line.specs.declared.form.Form.TheVariants as forms
-use Rattle.e_book.specs.declared.draft.Draft.{Draft}
-use Rattle.e_names.specs.Headed.{Headed}
+use Rattle.e_line.specs.declared.raw_line.RawLine.{RawLine}
+use Rattle.e_line.specs.declared.raw_line.RawLine.TheVariants as rawlines
+use Rattle.e_book.specs.declared.draft.TheoremParser.{TheoremParser}
+use Rattle.e_names.specs.TitledStatements.{TitledStatement}
 use Rattle.e_book.specs.Steps.{step}
 use Rattle.e_book.specs.Book.{is_done}
-use Rattle.e_line.specs.Canonical.{filled, line_pieces, avoid_words, let_words, form_words, line_of}
+use Rattle.e_line.specs.Canonical.{filled, line_pieces, avoid_words, let_words, raw_line_words, line_of}
 use Rattle.e_line.proofs.Bound.{same_bytes}
 use Rattle.e_line.proofs.Pieces.{alike, first_alike}
 use Rattle.e_line.proofs.LetsAgain.{LetNamed, as_read as let_as_read}
 use Rattle.e_line.proofs.Respelled.{GoodForm, as_read, form_again}
 use Rattle.e_book.proofs.LineWords.{words_again}
-use Rattle.e_cert.specs.declared.mark.Mark.{Mark}
-use Rattle.e_cert.specs.declared.owed.Due.{Due}
-use Rattle.e_cert.specs.declared.owed.Owed.{Owed}
-use Rattle.e_cert.specs.declared.kept.Kept.{Kept}
-use Rattle.e_read.specs.declared.reading.Reading.{Reading}
+use Rattle.e_cert.specs.declared.cert_line.CertLine.{CertLine}
+use Rattle.e_cert.specs.declared.owed.Obligation.{Obligation}
+use Rattle.e_cert.specs.declared.owed.Pending.{Pending}
+use Rattle.e_cert.specs.declared.kept.StepCerts.{StepCerts}
+use Rattle.e_read.specs.declared.reading.BlockParser.{BlockParser}
 use Rattle.e_clause.specs.declared.cert.Version.{Version}
-use Rattle.e_cert.specs.Marks.{mark_line, mark_is_of}
+use Rattle.e_cert.specs.CertLines.{cert_line_text, cert_line_is_of}
 use Rattle.e_cert.proofs.GoodKept.{is_good_kept, AreGood}
-use Rattle.e_line.specs.Strict.{is_strict, strict_of, strict_form}
+use Rattle.e_line.specs.Strict.{is_strict, exact_line_of, exact_line}
 use Rattle.e_read.specs.Strict.{is_apart}
-use Rattle.e_cert.specs.Owed.{marked, settled}
+use Rattle.e_cert.specs.Owed.{after_cert_line, finish_certs}
 use Rattle.e_read.specs.Needs.{due_of}
-use Rattle.e_read.specs.Text.{certified, with_mark, owed_by, with_form, stepped, worded}
-use Rattle.e_roundtrip.proofs.Certificates.MarksAgain.{MarkNamed, mark_tokens_again, strict_mark_again}
-use Rattle.e_roundtrip.proofs.Certificates.Feeding.{OneMark, Fed, owing}
+use Rattle.e_read.specs.Text.{certified, with_cert_line, owed_by, with_form, stepped, worded}
+use Rattle.e_roundtrip.proofs.Certificates.CertLinesAgain.{CertLineNamed, cert_line_tokens_again, strict_cert_line_again}
+use Rattle.e_roundtrip.proofs.Certificates.Feeding.{OneCertLine, Fed, owing}
 use Rattle.e_roundtrip.proofs.Certificates.CertsPut.{Keeps}
-use Rattle.e_roundtrip.proofs.Certificates.VersionLines.{LineOf, LinesOf, same_mark}
+use Rattle.e_roundtrip.proofs.Certificates.VersionLines.{LineOf, LinesOf, same_cert_line}
 
 -- ---- lines of the script are in the one spelling
 
@@ -58,94 +58,94 @@ let_line l g =
     subst (λ (shapes : List Shape). let_words (let_as_read (line_of_shapes shapes l.new l.args l.avoid)) ≡ let_words (line_of_shapes shapes l.new l.args l.avoid)) (sym g.alone) (let_alike g.shape l.new l.args l.avoid)
 
 -- a form is spelled as it is read
-line_again : (f : Form) → GoodForm f → line_of (as_read f) ≡ line_of f
-line_again (forms.Let l) g = ap (λ (ws : List (List ℕ)). joined (codes "let" ∷ ws)) (let_line l g)
-line_again (forms.Theorem t) g = refl
-line_again (forms.Declare sort ns) g = refl
-line_again (forms.Given ls) g = refl
-line_again (forms.Made sort ns) g = refl
-line_again (forms.Show ls) g = refl
-line_again forms.Proof g = refl
-line_again (forms.By r ns l) g = refl
-line_again (forms.Hence l) g = refl
-line_again (forms.Apply a) g = refl
-line_again (forms.Qed ns) g = refl
-line_again forms.Contradiction g = refl
-line_again (forms.Claim ls) g = refl
-line_again (forms.Superpose s) g = refl
-line_again (forms.Cases l) g = refl
-line_again forms.Else g = refl
-line_again forms.End g = refl
+line_again : (f : RawLine) → GoodForm f → line_of (as_read f) ≡ line_of f
+line_again (rawlines.Let l) g = ap (λ (ws : List (List ℕ)). joined (codes "let" ∷ ws)) (let_line l g)
+line_again (rawlines.Theorem t) g = refl
+line_again (rawlines.Declare sort ns) g = refl
+line_again (rawlines.Given ls) g = refl
+line_again (rawlines.Made sort ns) g = refl
+line_again (rawlines.Show ls) g = refl
+line_again rawlines.Proof g = refl
+line_again (rawlines.By r ns l) g = refl
+line_again (rawlines.Hence l) g = refl
+line_again (rawlines.Apply a) g = refl
+line_again (rawlines.Qed ns) g = refl
+line_again rawlines.Contradiction g = refl
+line_again (rawlines.Claim ls) g = refl
+line_again (rawlines.Superpose s) g = refl
+line_again (rawlines.Cases l) g = refl
+line_again rawlines.Else g = refl
+line_again rawlines.End g = refl
 
-pub strict_form_again : (f : Form) → GoodForm f → is_strict (as_read f) ≡ true → strict_form (line_of f) ≡ Ok (as_read f)
-unfolding strict_of
+pub strict_form_again : (f : RawLine) → GoodForm f → is_strict (as_read f) ≡ true → exact_line (line_of f) ≡ Ok (as_read f)
+unfolding exact_line_of
 strict_form_again f g s =
     let same : bytes_eq (line_of f) (line_of (as_read f)) ≡ true = ap (bytes_eq (line_of f)) (line_again f g) ∙ same_bytes (line_of f) in
     rw (words_again f g, form_again f g, s, same) refl
 
 -- no such line begins with the sign of certificates
-pub no_bar : (known : List Headed) (r : Reading) (line : List ℕ) (f : Form) → worded known r line (form_words f) ≡ stepped known r line
+pub no_bar : (known : List TitledStatement) (r : BlockParser) (line : List ℕ) (f : RawLine) → worded known r line (raw_line_words f) ≡ stepped known r line
 unfolding worded
-no_bar known r line (forms.Theorem t) = refl
-no_bar known r line (forms.Declare sorts.Point ns) = refl
-no_bar known r line (forms.Declare sorts.Line ns) = refl
-no_bar known r line (forms.Declare sorts.Circle ns) = refl
-no_bar known r line (forms.Given ls) = refl
-no_bar known r line (forms.Made sort ns) = refl
-no_bar known r line (forms.Show ls) = refl
-no_bar known r line forms.Proof = refl
-no_bar known r line (forms.By rule ns l) = refl
-no_bar known r line (forms.Hence l) = refl
-no_bar known r line (forms.Let l) = refl
-no_bar known r line (forms.Apply a) = refl
-no_bar known r line (forms.Qed ns) = refl
-no_bar known r line forms.Contradiction = refl
-no_bar known r line (forms.Claim ls) = refl
-no_bar known r line (forms.Superpose s) = refl
-no_bar known r line (forms.Cases l) = refl
-no_bar known r line forms.Else = refl
-no_bar known r line forms.End = refl
+no_bar known r line (rawlines.Theorem t) = refl
+no_bar known r line (rawlines.Declare sorts.Point ns) = refl
+no_bar known r line (rawlines.Declare sorts.Line ns) = refl
+no_bar known r line (rawlines.Declare sorts.Circle ns) = refl
+no_bar known r line (rawlines.Given ls) = refl
+no_bar known r line (rawlines.Made sort ns) = refl
+no_bar known r line (rawlines.Show ls) = refl
+no_bar known r line rawlines.Proof = refl
+no_bar known r line (rawlines.By rule ns l) = refl
+no_bar known r line (rawlines.Hence l) = refl
+no_bar known r line (rawlines.Let l) = refl
+no_bar known r line (rawlines.Apply a) = refl
+no_bar known r line (rawlines.Qed ns) = refl
+no_bar known r line rawlines.Contradiction = refl
+no_bar known r line (rawlines.Claim ls) = refl
+no_bar known r line (rawlines.Superpose s) = refl
+no_bar known r line (rawlines.Cases l) = refl
+no_bar known r line rawlines.Else = refl
+no_bar known r line rawlines.End = refl
 
 -- ---- lines in the middle of a theorem
 
 -- a line is taken, and the theorem goes on
-pub record OneLine (known : List Headed) (r : Reading) (line : List ℕ) (next : Reading) : Type 0 where
-  pub before : Draft
+pub record OneLine (known : List TitledStatement) (r : BlockParser) (line : List ℕ) (next : BlockParser) : Type 0 where
+  pub before : TheoremParser
   pub here : r.draft ≡ Some before
   pub leads : worded known r line (tokens_of line) ≡ Ok next
-  pub after : Draft
+  pub after : TheoremParser
   pub there : next.draft ≡ Some after
   pub going : is_done after ≡ false
 
-abbrev pub AllTaken : List Headed → Reading → List (List ℕ) → Reading → Type 0
+abbrev pub AllTaken : List TitledStatement → BlockParser → List (List ℕ) → BlockParser → Type 0
 AllTaken known r [] last = r ≡ last
-AllTaken known r (line ∷ more) last = (next : Reading) × OneLine known r line next × AllTaken known next more last
+AllTaken known r (line ∷ more) last = (next : BlockParser) × OneLine known r line next × AllTaken known next more last
 
-pub taken_append : (known : List Headed) (r next last : Reading) (xs ys : List (List ℕ)) → AllTaken known r xs next → AllTaken known next ys last → AllTaken known r (xs ++ ys) last
-taken_append known r next last [] ys a b = subst (λ (x : Reading). AllTaken known x ys last) (sym a) b
+pub taken_append : (known : List TitledStatement) (r next last : BlockParser) (xs ys : List (List ℕ)) → AllTaken known r xs next → AllTaken known next ys last → AllTaken known r (xs ++ ys) last
+taken_append known r next last [] ys a b = subst (λ (x : BlockParser). AllTaken known x ys last) (sym a) b
 taken_append known r next last (x ∷ xs) ys a b = (a.0, a.1, taken_append known a.0 next last xs ys a.2 b)
 
 -- the draft that has come, and what is kept of its lines once nothing more is owed
-pub record Stands (r : Reading) (d : Draft) (ks : List Kept) : Type 0 where
+pub record Stands (r : BlockParser) (d : TheoremParser) (ks : List StepCerts) : Type 0 where
   pub draft : r.draft ≡ Some d
-  pub read : Option Kept
-  pub settles : settled r.owed ≡ Ok read
+  pub read : Option StepCerts
+  pub settles : finish_certs r.owed ≡ Ok read
   pub kept : r.kept ++ option_to_list read ≡ ks
 
-pub record Reached (known : List Headed) (r : Reading) (lines : List (List ℕ)) (e : Draft) (ks : List Kept) : Type 0 where
-  pub last : Reading
+pub record Reached (known : List TitledStatement) (r : BlockParser) (lines : List (List ℕ)) (e : TheoremParser) (ks : List StepCerts) : Type 0 where
+  pub last : BlockParser
   pub version : last.version ≡ r.version
   pub taken : AllTaken known r lines last
   pub stands : Stands last e ks
 
 -- the lines lead from one draft to another, and so much more is kept, where that is of the version of the text
-abbrev pub Along : List Headed → Draft → List (List ℕ) → Draft → List Kept → Type 0
-Along known d lines e more = (r : Reading) (ks : List Kept) → AreGood r.version more → Stands r d ks → Reached known r lines e (ks ++ more)
+abbrev pub Along : List TitledStatement → TheoremParser → List (List ℕ) → TheoremParser → List StepCerts → Type 0
+Along known d lines e more = (r : BlockParser) (ks : List StepCerts) → AreGood r.version more → Stands r d ks → Reached known r lines e (ks ++ more)
 
-abbrev AreOf : Version → List Kept → Bool
+abbrev AreOf : Version → List StepCerts → Bool
 AreOf v ks = list_all (is_good_kept v) ks
 
-pub along_append : (known : List Headed) (d e f : Draft) (xs ys : List (List ℕ)) (js ls : List Kept) → Along known d xs e js → Along known e ys f ls → Along known d (xs ++ ys) f (js ++ ls)
+pub along_append : (known : List TitledStatement) (d e f : TheoremParser) (xs ys : List (List ℕ)) (js ls : List StepCerts) → Along known d xs e js → Along known e ys f ls → Along known d (xs ++ ys) f (js ++ ls)
 along_append known d e f xs ys js ls p q = λ r ks of s.
     let both = and_parts (AreOf r.version js) (AreOf r.version ls) (sym (list_all-append (is_good_kept r.version) js ls) ∙ of) in
     let a = p r ks both.0 s in
@@ -154,50 +154,50 @@ along_append known d e f xs ys js ls p q = λ r ks of s.
       last = b.last;
       version = b.version ∙ a.version;
       taken = taken_append known r a.last b.last xs ys a.taken b.taken;
-      stands = subst (λ (x : List Kept). Stands b.last f x) (append_assoc ks js ls) b.stands;
+      stands = subst (λ (x : List StepCerts). Stands b.last f x) (append_assoc ks js ls) b.stands;
     }
 
 -- ---- lines of certificates
 
-mark_leads : (known : List Headed) (r : Reading) (m : Mark) (o : Owed) → MarkNamed m → mark_is_of r.version m ≡ true → marked r.owed m ≡ Ok o → worded known r (mark_line m) (tokens_of (mark_line m)) ≡ Ok (record r { owed = o })
-unfolding with_mark certified worded
-mark_leads known r m o h of e =
-    ap (λ (ws : List (List ℕ)). worded known r (mark_line m) ws) (mark_tokens_again m h) ∙ rw (strict_mark_again m h, of, e) refl
+cert_line_leads : (known : List TitledStatement) (r : BlockParser) (m : CertLine) (o : Pending) → CertLineNamed m → cert_line_is_of r.version m ≡ true → after_cert_line r.owed m ≡ Ok o → worded known r (cert_line_text m) (tokens_of (cert_line_text m)) ≡ Ok (record r { owed = o })
+unfolding with_cert_line certified worded
+cert_line_leads known r m o h of e =
+    ap (λ (ws : List (List ℕ)). worded known r (cert_line_text m) ws) (cert_line_tokens_again m h) ∙ rw (strict_cert_line_again m h, of, e) refl
 
-words_lead : (known : List Headed) (r : Reading) (words : List (List ℕ)) (o : Owed) → LineOf r.version words → OneMark r.owed words o → worded known r (joined words) (tokens_of (joined words)) ≡ Ok (record r { owed = o })
+words_lead : (known : List TitledStatement) (r : BlockParser) (words : List (List ℕ)) (o : Pending) → LineOf r.version words → OneCertLine r.owed words o → worded known r (joined words) (tokens_of (joined words)) ≡ Ok (record r { owed = o })
 words_lead known r words o l m =
-    let same : l.0 ≡ m.mark = same_mark l.0 m.mark l.2 m.named (sym l.1 ∙ m.spelled) in
-    let of : mark_is_of r.version m.mark ≡ true = sym (ap (mark_is_of r.version) same) ∙ l.3 in
-    subst (λ (ws : List (List ℕ)). worded known r (joined ws) (tokens_of (joined ws)) ≡ Ok (record r { owed = o })) (sym m.spelled) (mark_leads known r m.mark o m.named of m.leads)
+    let same : l.0 ≡ m.cert_line = same_cert_line l.0 m.cert_line l.2 m.named (sym l.1 ∙ m.spelled) in
+    let of : cert_line_is_of r.version m.cert_line ≡ true = sym (ap (cert_line_is_of r.version) same) ∙ l.3 in
+    subst (λ (ws : List (List ℕ)). worded known r (joined ws) (tokens_of (joined ws)) ≡ Ok (record r { owed = o })) (sym m.spelled) (cert_line_leads known r m.cert_line o m.named of m.leads)
 
-marks_taken : (known : List Headed) (r : Reading) (d : Draft) (lines : List (List (List ℕ))) (last : Owed) → r.draft ≡ Some d → is_done d ≡ false → LinesOf r.version lines → Fed r.owed lines last → AllTaken known r (map joined lines) (record r { owed = last })
-marks_taken known r d [] last here going of fed = ap (λ (o : Owed). record r { owed = o }) fed
-marks_taken known r d (words ∷ lines) last here going of fed = (
+cert_lines_taken : (known : List TitledStatement) (r : BlockParser) (d : TheoremParser) (lines : List (List (List ℕ))) (last : Pending) → r.draft ≡ Some d → is_done d ≡ false → LinesOf r.version lines → Fed r.owed lines last → AllTaken known r (map joined lines) (record r { owed = last })
+cert_lines_taken known r d [] last here going of fed = ap (λ (o : Pending). record r { owed = o }) fed
+cert_lines_taken known r d (words ∷ lines) last here going of fed = (
   record r { owed = fed.0 },
   record { before = d; here = here; leads = words_lead known r words fed.0 of.0 fed.1; after = d; there = here; going = going },
-  marks_taken known (record r { owed = fed.0 }) d lines last here going of.1 fed.2,
+  cert_lines_taken known (record r { owed = fed.0 }) d lines last here going of.1 fed.2,
 )
 
 -- ---- a line of the script with its certificates
 
-pub form_leads : (known : List Headed) (r : Reading) (d e : Draft) (ks : List Kept) (f : Form) (owed : Due) → Stands r d ks → GoodForm f → is_strict (as_read f) ≡ true → is_apart d (as_read f) ≡ true → due_of known d (as_read f) ≡ Ok owed
+pub form_leads : (known : List TitledStatement) (r : BlockParser) (d e : TheoremParser) (ks : List StepCerts) (f : RawLine) (owed : Obligation) → Stands r d ks → GoodForm f → is_strict (as_read f) ≡ true → is_apart d (as_read f) ≡ true → due_of known d (as_read f) ≡ Ok owed
     → step known d (as_read f) ≡ Ok e → worded known r (line_of f) (tokens_of (line_of f)) ≡ Ok (record { version = r.version; draft = Some e; owed = owing d.in_scope owed None; kept = ks })
 unfolding with_form owed_by stepped
 form_leads known r d e ks f owed s good strict apart due steps =
     ap (worded known r (line_of f)) (words_again f good) ∙ no_bar known r (line_of f) f
-    ∙ rw (strict_form_again f good strict, s.settles, s.draft, apart, due, steps) (ap (λ (x : List Kept). Ok (record { version = r.version; draft = Some e; owed = owing d.in_scope owed None; kept = x })) s.kept)
+    ∙ rw (strict_form_again f good strict, s.settles, s.draft, apart, due, steps) (ap (λ (x : List StepCerts). Ok (record { version = r.version; draft = Some e; owed = owing d.in_scope owed None; kept = x })) s.kept)
 
-pub step_along : (known : List Headed) (d e : Draft) (f : Form) (owed : Due) (lines : List (List (List ℕ))) (k : Option Kept) → GoodForm f → is_strict (as_read f) ≡ true → is_apart d (as_read f) ≡ true → due_of known d (as_read f) ≡ Ok owed
+pub step_along : (known : List TitledStatement) (d e : TheoremParser) (f : RawLine) (owed : Obligation) (lines : List (List (List ℕ))) (k : Option StepCerts) → GoodForm f → is_strict (as_read f) ≡ true → is_apart d (as_read f) ≡ true → due_of known d (as_read f) ≡ Ok owed
     → step known d (as_read f) ≡ Ok e → is_done e ≡ false → Keeps d.in_scope owed lines k → Along known d (line_of f ∷ map joined lines) e (option_to_list k)
 step_along known d e f owed lines k good strict apart due steps going keeps = λ r ks of s.
-    let begun : Reading = record { version = r.version; draft = Some e; owed = owing d.in_scope owed None; kept = ks } in
+    let begun : BlockParser = record { version = r.version; draft = Some e; owed = owing d.in_scope owed None; kept = ks } in
     record {
       last = record begun { owed = keeps.last };
       version = refl;
       taken = (
         begun,
         record { before = d; here = s.draft; leads = form_leads known r d e ks f owed s good strict apart due steps; after = e; there = refl; going = going },
-        marks_taken known begun e lines keeps.last refl going (keeps.of r.version of) keeps.fed,
+        cert_lines_taken known begun e lines keeps.last refl going (keeps.of r.version of) keeps.fed,
       );
       stands = record { draft = refl; read = k; settles = keeps.settles; kept = refl };
     }

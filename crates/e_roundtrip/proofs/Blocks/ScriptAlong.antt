@@ -26,12 +26,12 @@ use Rattle.e_deriv.specs.Goal.{Goal, goal_of, goal_with}
 use Rattle.e_deriv.specs.Lines.{line, lines}
 use Rattle.e_deriv.specs.Parts.{written as written_args}
 use Rattle.e_deriv.specs.Steps.{is_citation}
-use Rattle.e_book.specs.declared.blocks.Opened.TheVariants as opened
+use Rattle.e_book.specs.declared.blocks.BlockKind.TheVariants as opened
 use Rattle.e_book.specs.declared.steps.CloseLine.TheVariants as closes
-use Rattle.e_book.specs.declared.draft.Draft.{Draft}
+use Rattle.e_book.specs.declared.draft.TheoremParser.{TheoremParser}
 use Rattle.e_line.specs.Limits.{most_facts, most_terms, monomials}
 use Rattle.e_book.specs.Blocks.{made_in}
-use Rattle.e_names.specs.Headed.{Headed, stated_by, theorem_of}
+use Rattle.e_names.specs.TitledStatements.{TitledStatement, stated_by, theorem_of}
 use Rattle.e_names.specs.Scope.{scope_of_names}
 use Rattle.e_names.specs.Fits.{is_diagram_lit}
 use Rattle.e_book.specs.Fits.{few_facts, few_terms, has_good_literals, NewNamesFit}
@@ -49,8 +49,8 @@ use Rattle.e_names.proofs.Applied.{apply_named}
 use Rattle.e_book.proofs.FittingScripts.{line_fits}
 use Rattle.e_book.proofs.ScriptParts.{steps_of, close_of, same_script, at_least, deep_at_least}
 use Rattle.e_book.proofs.LinesRead.{Inside, proving, splitting, behind, deep, copied, resume, second, applied_behind, step_cite, step_hence, step_let, step_apply, step_claim, step_superpose, step_cases, step_else, step_qed, step_contradiction, claim_closed, superpose_closed, first_closed, second_closed}
-use Rattle.e_cert.specs.declared.owed.Due.TheVariants as due
-use Rattle.e_cert.specs.declared.kept.Kept.TheVariants as kept
+use Rattle.e_cert.specs.declared.owed.Obligation.TheVariants as due
+use Rattle.e_cert.specs.declared.kept.StepCerts.TheVariants as kept
 use Rattle.e_read.specs.Needs.{one_each, due_of}
 use Rattle.e_spell.specs.Certificates.{cert_lines, against_lines}
 use Rattle.e_spell.specs.Spelling.{script_lines}
@@ -66,7 +66,7 @@ use Rattle.e_roundtrip.proofs.Formed.Standing.{Stood, first_of, both_of, one_for
 
 -- ---- citations
 
-pub cite_next : (known : List Headed) (d : Draft) (i : Inside) (b : By) (rest : Script) (given : List Lit) (goal : Goal) → Stood known d i (Cite b rest) given goal → Stood known d (behind i (Cited b) 1) rest (joined given b.lit) goal
+pub cite_next : (known : List TitledStatement) (d : TheoremParser) (i : Inside) (b : By) (rest : Script) (given : List Lit) (goal : Goal) → Stood known d i (Cite b rest) given goal → Stood known d (behind i (Cited b) 1) rest (joined given b.lit) goal
 unfolding erased lines
 cite_next known d i b rest given goal s =
     let before = stated_by known in
@@ -77,7 +77,7 @@ cite_next known d i b rest given goal s =
       formed = (first_of (is_formed before) (line (Cite b rest) (Cite b rest) sc given goal) (lines before rest rest sc (joined given b.lit) goal) s.formed).1;
     }
 
-cite_along : (known : List Headed) (d : Draft) (i : Inside) (b : By) (rest : Script) (given : List Lit) (goal : Goal) → Stood known d i (Cite b rest) given goal → Spelled known d (behind i (Cited b) 1) rest → Spelled known d i (Cite b rest)
+cite_along : (known : List TitledStatement) (d : TheoremParser) (i : Inside) (b : By) (rest : Script) (given : List Lit) (goal : Goal) → Stood known d i (Cite b rest) given goal → Spelled known d (behind i (Cited b) 1) rest → Spelled known d i (Cite b rest)
 unfolding erased script_lines kepts lines size has_good_literals few_facts due_of
 cite_along known d i b rest given goal s t =
     let r = s.ready in
@@ -102,7 +102,7 @@ cite_along known d i b rest given goal s t =
 
 -- ---- inferences
 
-pub hence_next : (known : List Headed) (d : Draft) (i : Inside) (l : Lit) (c : Cert) (rest : Script) (given : List Lit) (goal : Goal) → Stood known d i (Hence l (Some c) rest) given goal → Stood known d (inferred i l) rest (joined given l) goal
+pub hence_next : (known : List TitledStatement) (d : TheoremParser) (i : Inside) (l : Lit) (c : Cert) (rest : Script) (given : List Lit) (goal : Goal) → Stood known d i (Hence l (Some c) rest) given goal → Stood known d (inferred i l) rest (joined given l) goal
 unfolding erased lines
 hence_next known d i l c rest given goal s =
     let before = stated_by known in
@@ -113,7 +113,7 @@ hence_next known d i l c rest given goal s =
       formed = (first_of (is_formed before) (line (Hence l (Some c) rest) (Hence l (Some c) rest) sc given goal) (lines before rest rest sc (joined given l) goal) s.formed).1;
     }
 
-hence_along : (known : List Headed) (d : Draft) (i : Inside) (l : Lit) (c : Cert) (rest : Script) (given : List Lit) (goal : Goal) → Stood known d i (Hence l (Some c) rest) given goal → Spelled known d (inferred i l) rest
+hence_along : (known : List TitledStatement) (d : TheoremParser) (i : Inside) (l : Lit) (c : Cert) (rest : Script) (given : List Lit) (goal : Goal) → Stood known d i (Hence l (Some c) rest) given goal → Spelled known d (inferred i l) rest
     → Spelled known d i (Hence l (Some c) rest)
 unfolding erased script_lines kepts lines size has_good_literals few_facts few_terms
 hence_along known d i l c rest given goal s t =
@@ -144,7 +144,7 @@ hence_along known d i l c rest given goal s t =
 
 -- ---- constructions
 
-pub make_next : (known : List Headed) (d : Draft) (i : Inside) (form : Construction) (names : List (List ℕ)) (certs : List Cert) (rest : Script) (given : List Lit) (goal : Goal) → Stood known d i (Make form names certs rest) given goal
+pub make_next : (known : List TitledStatement) (d : TheoremParser) (i : Inside) (form : Construction) (names : List (List ℕ)) (certs : List Cert) (rest : Script) (given : List Lit) (goal : Goal) → Stood known d i (Make form names certs rest) given goal
     → Stood known d (constructed i form names) rest (joined_all given (gives_of_construction form (scope_of_names i.in_scope))) goal
 unfolding erased lines NewNamesFit
 make_next known d i form names certs rest given goal s =
@@ -159,7 +159,7 @@ make_next known d i form names certs rest given goal s =
       formed = subst (λ (z : Scope). list_all (is_formed before) (lines before rest rest z facts goal) ≡ true) scope (first_of (is_formed before) here (lines before rest rest (grown sc (sorts_made form)) facts goal) s.formed).1;
     }
 
-make_along : (known : List Headed) (d : Draft) (i : Inside) (form : Construction) (names : List (List ℕ)) (certs : List Cert) (rest : Script) (given : List Lit) (goal : Goal) → Stood known d i (Make form names certs rest) given goal
+make_along : (known : List TitledStatement) (d : TheoremParser) (i : Inside) (form : Construction) (names : List (List ℕ)) (certs : List Cert) (rest : Script) (given : List Lit) (goal : Goal) → Stood known d i (Make form names certs rest) given goal
     → Spelled known d (constructed i form names) rest → Spelled known d i (Make form names certs rest)
 unfolding erased script_lines kepts lines is_plain NewNamesFit size few_facts
 make_along known d i form names certs rest given goal s t =
@@ -189,7 +189,7 @@ make_along known d i form names certs rest given goal s t =
 
 -- ---- uses of earlier theorems
 
-pub apply_next : (known : List Headed) (d : Draft) (i : Inside) (theorem : ℕ) (args : List (Option Obj)) (names : List (List ℕ)) (certs : List Cert) (rest : Script) (given : List Lit) (goal : Goal)
+pub apply_next : (known : List TitledStatement) (d : TheoremParser) (i : Inside) (theorem : ℕ) (args : List (Option Obj)) (names : List (List ℕ)) (certs : List Cert) (rest : Script) (given : List Lit) (goal : Goal)
     → Stood known d i (Apply theorem args names certs rest) given goal
     → Stood known d (applied_behind i (theorem_of known theorem) theorem args names) rest (joined_all given (gives_of_use (theorem_of known theorem) (written_args args) (scope_of_names i.in_scope))) goal
 unfolding erased lines NewNamesFit
@@ -206,7 +206,7 @@ apply_next known d i theorem args names certs rest given goal s =
       formed = subst (λ (z : Scope). list_all (is_formed before) (lines before rest rest z facts goal) ≡ true) scope (first_of (is_formed before) here (lines before rest rest (grown sc t.made) facts goal) s.formed).1;
     }
 
-apply_along : (known : List Headed) (d : Draft) (i : Inside) (theorem : ℕ) (args : List (Option Obj)) (names : List (List ℕ)) (certs : List Cert) (rest : Script) (given : List Lit) (goal : Goal)
+apply_along : (known : List TitledStatement) (d : TheoremParser) (i : Inside) (theorem : ℕ) (args : List (Option Obj)) (names : List (List ℕ)) (certs : List Cert) (rest : Script) (given : List Lit) (goal : Goal)
     → Stood known d i (Apply theorem args names certs rest) given goal → Spelled known d (applied_behind i (theorem_of known theorem) theorem args names) rest → Spelled known d i (Apply theorem args names certs rest)
 unfolding erased script_lines kepts lines size
 apply_along known d i theorem args names certs rest given goal s u =
@@ -238,7 +238,7 @@ apply_along known d i theorem args names certs rest given goal s u =
 
 -- ---- claims
 
-claim_formed : (known : List Headed) (d : Draft) (i : Inside) (shown : List Lit) (inner rest : Script) (given : List Lit) (goal : Goal) → Stood known d i (Claim shown inner rest) given goal
+claim_formed : (known : List TitledStatement) (d : TheoremParser) (i : Inside) (shown : List Lit) (inner rest : Script) (given : List Lit) (goal : Goal) → Stood known d i (Claim shown inner rest) given goal
     → (list_all (is_formed (stated_by known)) (lines (stated_by known) inner inner (scope_of_names i.in_scope) given (goal_of shown)) ≡ true)
     × (list_all (is_formed (stated_by known)) (lines (stated_by known) rest rest (scope_of_names i.in_scope) (joined_all given shown) goal) ≡ true)
 unfolding lines
@@ -249,7 +249,7 @@ claim_formed known d i shown inner rest given goal s =
     let after = lines before rest rest sc (joined_all given shown) goal in
     both_of (is_formed before) inside after (first_of (is_formed before) (line (Claim shown inner rest) (Claim shown inner rest) sc given goal) (inside ++ after) s.formed).1
 
-pub claim_inside : (known : List Headed) (d : Draft) (i : Inside) (shown : List Lit) (inner rest : Script) (given : List Lit) (goal : Goal) → Stood known d i (Claim shown inner rest) given goal
+pub claim_inside : (known : List TitledStatement) (d : TheoremParser) (i : Inside) (shown : List Lit) (inner rest : Script) (given : List Lit) (goal : Goal) → Stood known d i (Claim shown inner rest) given goal
     → Stood known d (deep i (opened.Claim shown) 0) inner given (goal_of shown)
 unfolding erased
 claim_inside known d i shown inner rest given goal s = record {
@@ -258,7 +258,7 @@ claim_inside known d i shown inner rest given goal s = record {
   formed = (claim_formed known d i shown inner rest given goal s).0;
 }
 
-pub claim_next : (known : List Headed) (d : Draft) (i : Inside) (n : ℕ) (shown : List Lit) (inner rest : Script) (given : List Lit) (goal : Goal) → n ≡ i.lines + 1 + size (erased inner) → Stood known d i (Claim shown inner rest) given goal
+pub claim_next : (known : List TitledStatement) (d : TheoremParser) (i : Inside) (n : ℕ) (shown : List Lit) (inner rest : Script) (given : List Lit) (goal : Goal) → n ≡ i.lines + 1 + size (erased inner) → Stood known d i (Claim shown inner rest) given goal
     → Stood known d (resume i n (Claimed shown (erased inner)) shown) rest (joined_all given shown) goal
 unfolding erased
 claim_next known d i n shown inner rest given goal count s = record {
@@ -267,7 +267,7 @@ claim_next known d i n shown inner rest given goal count s = record {
   formed = (claim_formed known d i shown inner rest given goal s).1;
 }
 
-claim_along : (known : List Headed) (d : Draft) (i : Inside) (shown : List Lit) (inner rest : Script) (given : List Lit) (goal : Goal) → Stood known d i (Claim shown inner rest) given goal
+claim_along : (known : List TitledStatement) (d : TheoremParser) (i : Inside) (shown : List Lit) (inner rest : Script) (given : List Lit) (goal : Goal) → Stood known d i (Claim shown inner rest) given goal
     → (t : Spelled known d (deep i (opened.Claim shown) 0) inner) → Spelled known d (resume i t.last.lines (Claimed shown (erased inner)) shown) rest → Spelled known d i (Claim shown inner rest)
 unfolding erased script_lines kepts size depth due_of
 claim_along known d i shown inner rest given goal s t u =
@@ -295,7 +295,7 @@ claim_along known d i shown inner rest given goal s t u =
 
 -- ---- superpositions
 
-pub copy_formed : (known : List Headed) (d : Draft) (i : Inside) (form : Superpose) (names : List (List ℕ)) (shown : List Lit) (certs : List Cert) (inner rest : Script) (given : List Lit) (goal : Goal)
+pub copy_formed : (known : List TitledStatement) (d : TheoremParser) (i : Inside) (form : Superpose) (names : List (List ℕ)) (shown : List Lit) (certs : List Cert) (inner rest : Script) (given : List Lit) (goal : Goal)
     → Stood known d i (Superposed form names shown certs inner rest) given goal
     → (list_all (is_formed (stated_by known)) (lines (stated_by known) inner inner (grown (scope_of_names i.in_scope) superposing.sorts_copied) (joined_all given (superposing.gives_of_superposition form (scope_of_names i.in_scope))) (goal_of shown)) ≡ true)
     × (list_all (is_formed (stated_by known)) (lines (stated_by known) rest rest (scope_of_names i.in_scope) (joined_all given shown) goal) ≡ true)
@@ -311,7 +311,7 @@ copy_formed known d i form names shown certs inner rest given goal s =
     let b = both_of (is_formed before) inside after a.1 in
     (b.0, b.1, (one_formed before here a.0).certs)
 
-pub copy_inside : (known : List Headed) (d : Draft) (i : Inside) (form : Superpose) (names : List (List ℕ)) (shown : List Lit) (certs : List Cert) (inner rest : Script) (given : List Lit) (goal : Goal)
+pub copy_inside : (known : List TitledStatement) (d : TheoremParser) (i : Inside) (form : Superpose) (names : List (List ℕ)) (shown : List Lit) (certs : List Cert) (inner rest : Script) (given : List Lit) (goal : Goal)
     → Stood known d i (Superposed form names shown certs inner rest) given goal
     → Stood known d (copied i form names shown) inner (joined_all given (superposing.gives_of_superposition form (scope_of_names i.in_scope))) (goal_of shown)
 unfolding erased NewNamesFit
@@ -325,7 +325,7 @@ copy_inside known d i form names shown certs inner rest given goal s =
       formed = subst (λ (z : Scope). list_all (is_formed before) (lines before inner inner z (joined_all given (superposing.gives_of_superposition form sc)) (goal_of shown)) ≡ true) scope (copy_formed known d i form names shown certs inner rest given goal s).0;
     }
 
-pub copy_next : (known : List Headed) (d : Draft) (i : Inside) (n : ℕ) (form : Superpose) (names : List (List ℕ)) (shown : List Lit) (certs : List Cert) (inner rest : Script) (given : List Lit) (goal : Goal) → n ≡ i.lines + 1 + size (erased inner)
+pub copy_next : (known : List TitledStatement) (d : TheoremParser) (i : Inside) (n : ℕ) (form : Superpose) (names : List (List ℕ)) (shown : List Lit) (certs : List Cert) (inner rest : Script) (given : List Lit) (goal : Goal) → n ≡ i.lines + 1 + size (erased inner)
     → Stood known d i (Superposed form names shown certs inner rest) given goal → Stood known d (resume i n (Copied form names shown [] (erased inner)) shown) rest (joined_all given shown) goal
 unfolding erased
 copy_next known d i n form names shown certs inner rest given goal count s = record {
@@ -334,7 +334,7 @@ copy_next known d i n form names shown certs inner rest given goal count s = rec
   formed = (copy_formed known d i form names shown certs inner rest given goal s).1;
 }
 
-copy_along : (known : List Headed) (d : Draft) (i : Inside) (form : Superpose) (names : List (List ℕ)) (shown : List Lit) (certs : List Cert) (inner rest : Script) (given : List Lit) (goal : Goal)
+copy_along : (known : List TitledStatement) (d : TheoremParser) (i : Inside) (form : Superpose) (names : List (List ℕ)) (shown : List Lit) (certs : List Cert) (inner rest : Script) (given : List Lit) (goal : Goal)
     → Stood known d i (Superposed form names shown certs inner rest) given goal
     → (t : Spelled known d (copied i form names shown) inner) → Spelled known d (resume i t.last.lines (Copied form names shown [] (erased inner)) shown) rest → Spelled known d i (Superposed form names shown certs inner rest)
 unfolding erased script_lines kepts size depth
@@ -365,7 +365,7 @@ copy_along known d i form names shown certs inner rest given goal s t u =
 
 -- ---- splits
 
-cases_formed : (known : List Headed) (d : Draft) (i : Inside) (l : Lit) (one two : Script) (given : List Lit) (goal : Goal) → Stood known d i (Cases l one two) given goal
+cases_formed : (known : List TitledStatement) (d : TheoremParser) (i : Inside) (l : Lit) (one two : Script) (given : List Lit) (goal : Goal) → Stood known d i (Cases l one two) given goal
     → (list_all (is_formed (stated_by known)) (lines (stated_by known) one one (scope_of_names i.in_scope) (joined given l) goal) ≡ true)
     × (list_all (is_formed (stated_by known)) (lines (stated_by known) two two (scope_of_names i.in_scope) (joined given (negation l)) goal) ≡ true)
 unfolding lines
@@ -376,7 +376,7 @@ cases_formed known d i l one two given goal s =
     let in_two = lines before two two sc (joined given (negation l)) goal in
     both_of (is_formed before) in_one in_two (first_of (is_formed before) (line (Cases l one two) (Cases l one two) sc given goal) (in_one ++ in_two) s.formed).1
 
-pub cases_one : (known : List Headed) (d : Draft) (i : Inside) (l : Lit) (one two : Script) (given : List Lit) (goal : Goal) → Stood known d i (Cases l one two) given goal → Stood known d (opens i l) one (joined given l) goal
+pub cases_one : (known : List TitledStatement) (d : TheoremParser) (i : Inside) (l : Lit) (one two : Script) (given : List Lit) (goal : Goal) → Stood known d i (Cases l one two) given goal → Stood known d (opens i l) one (joined given l) goal
 unfolding erased
 cases_one known d i l one two given goal s = record {
   ready = cases_first known d i l (erased one) (erased two) given goal s.ready;
@@ -384,7 +384,7 @@ cases_one known d i l one two given goal s = record {
   formed = (cases_formed known d i l one two given goal s).0;
 }
 
-pub cases_two : (known : List Headed) (d : Draft) (i : Inside) (n : ℕ) (l : Lit) (one two : Script) (given : List Lit) (goal : Goal) → n ≡ i.lines + 1 + size (erased one) → Stood known d i (Cases l one two) given goal
+pub cases_two : (known : List TitledStatement) (d : TheoremParser) (i : Inside) (n : ℕ) (l : Lit) (one two : Script) (given : List Lit) (goal : Goal) → n ≡ i.lines + 1 + size (erased one) → Stood known d i (Cases l one two) given goal
     → Stood known d (second i n l (erased one)) two (joined given (negation l)) goal
 unfolding erased
 cases_two known d i n l one two given goal count s = record {
@@ -393,7 +393,7 @@ cases_two known d i n l one two given goal count s = record {
   formed = (cases_formed known d i l one two given goal s).1;
 }
 
-cases_along : (known : List Headed) (d : Draft) (i : Inside) (l : Lit) (one two : Script) (given : List Lit) (goal : Goal) → Stood known d i (Cases l one two) given goal
+cases_along : (known : List TitledStatement) (d : TheoremParser) (i : Inside) (l : Lit) (one two : Script) (given : List Lit) (goal : Goal) → Stood known d i (Cases l one two) given goal
     → (t : Spelled known d (opens i l) one) → Spelled known d (second i t.last.lines l (erased one)) two → Spelled known d i (Cases l one two)
 unfolding erased script_lines kepts size depth due_of
 cases_along known d i l one two given goal s t u =
@@ -429,7 +429,7 @@ cases_along known d i l one two given goal s t u =
 
 -- ---- other lines that close a block
 
-qed_along : (known : List Headed) (d : Draft) (i : Inside) (os : List Obj) (certs : List Cert) (given : List Lit) (goal : Goal) → Stood known d i (Qed os certs) given goal → Spelled known d i (Qed os certs)
+qed_along : (known : List TitledStatement) (d : TheoremParser) (i : Inside) (os : List Obj) (certs : List Cert) (given : List Lit) (goal : Goal) → Stood known d i (Qed os certs) given goal → Spelled known d i (Qed os certs)
 unfolding erased script_lines kepts lines size
 qed_along known d i os certs given goal s =
     let before = stated_by known in
@@ -455,7 +455,7 @@ qed_along known d i os certs given goal s =
           });
     }
 
-contradiction_along : (known : List Headed) (d : Draft) (i : Inside) (a : Against) (given : List Lit) (goal : Goal) → Stood known d i (Contradiction (Some a)) given goal → Spelled known d i (Contradiction (Some a))
+contradiction_along : (known : List TitledStatement) (d : TheoremParser) (i : Inside) (a : Against) (given : List Lit) (goal : Goal) → Stood known d i (Contradiction (Some a)) given goal → Spelled known d i (Contradiction (Some a))
 unfolding erased script_lines kepts lines size due_of
 contradiction_along known d i a given goal s =
     let before = stated_by known in
@@ -481,7 +481,7 @@ contradiction_along known d i a given goal s =
 -- ---- all lines
 
 -- a line that lacks its certificate has not the form
-pub no_hence : (known : List Headed) (d : Draft) (i : Inside) (l : Lit) (rest : Script) (given : List Lit) (goal : Goal) → Stood known d i (Hence l None rest) given goal → ⊥
+pub no_hence : (known : List TitledStatement) (d : TheoremParser) (i : Inside) (l : Lit) (rest : Script) (given : List Lit) (goal : Goal) → Stood known d i (Hence l None rest) given goal → ⊥
 unfolding lines
 no_hence known d i l rest given goal s =
     let before = stated_by known in
@@ -490,7 +490,7 @@ no_hence known d i l rest given goal s =
     let c = (one_formed before here (first_of (is_formed before) here (lines before rest rest sc (joined given l) goal) s.formed).0).certs in
     absurd cc
 
-pub no_contradiction : (known : List Headed) (d : Draft) (i : Inside) (given : List Lit) (goal : Goal) → Stood known d i (Contradiction None) given goal → ⊥
+pub no_contradiction : (known : List TitledStatement) (d : TheoremParser) (i : Inside) (given : List Lit) (goal : Goal) → Stood known d i (Contradiction None) given goal → ⊥
 unfolding lines
 no_contradiction known d i given goal s =
     let before = stated_by known in
@@ -498,7 +498,7 @@ no_contradiction known d i given goal s =
     let c = (one_formed before here (first_of (is_formed before) here [] s.formed).0).beside in
     absurd cc
 
-pub script_spelled : (known : List Headed) (d : Draft) (i : Inside) (script : Script) (given : List Lit) (goal : Goal) → Stood known d i script given goal → Spelled known d i script
+pub script_spelled : (known : List TitledStatement) (d : TheoremParser) (i : Inside) (script : Script) (given : List Lit) (goal : Goal) → Stood known d i script given goal → Spelled known d i script
 script_spelled known d i (Cite b rest) given goal s =
     cite_along known d i b rest given goal s (script_spelled known d (behind i (Cited b) 1) rest (joined given b.lit) goal (cite_next known d i b rest given goal s))
 script_spelled known d i (Hence l None rest) given goal s = absurd (no_hence known d i l rest given goal s)

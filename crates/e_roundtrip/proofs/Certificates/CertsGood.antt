@@ -28,7 +28,7 @@ use Rattle.e_clause.specs.Written.{is_writable_name, is_writable_sum}
 use Rattle.e_clause.proofs.Refuted.{found}
 use Rattle.e_names.specs.Scope.{scope_of_names}
 use Rattle.e_names.specs.Fits.{is_diagram_atom}
-use Rattle.e_cert.specs.Marks.{may_differ}
+use Rattle.e_cert.specs.CertLines.{may_differ}
 use Rattle.e_roundtrip.specs.Formed.{sum_formed, names_difference, difference_formed, sums_formed, part_formed, has_parts, cert_formed, certs_formed, against_formed}
 use Rattle.e_roundtrip.proofs.Certificates.RowsAgain.{raw_row}
 use Rattle.e_roundtrip.proofs.Certificates.Feeding.{GoodRow, GoodSum, GoodSums, GoodPart}

@@ -14,19 +14,19 @@ use Rattle.e_clause.specs.declared.cert.Cert.TheVariants.{Plain, Transfer}
 use Rattle.e_clause.specs.declared.cert.Against.{Against}
 use Rattle.e_clause.specs.declared.cert.Against.TheVariants as against
 use Rattle.e_deriv.specs.declared.names.Names.{Names}
-use Rattle.e_line.specs.declared.fault.Kind.{Kind}
+use Rattle.e_line.specs.declared.fault.FaultKind.{FaultKind}
 use Rattle.e_names.specs.Scope.{scope_of_names}
 use Rattle.e_names.specs.Fits.{is_diagram_lit}
 use Rattle.e_names.specs.Canonical.{raw_of, name_of_object, rule_name}
 use Rattle.e_names.proofs.Lookups.{InOrder, objects_named}
 use Rattle.e_names.proofs.LitLookups.{lit_number_again, lit_named, diagram_is_good, diagram_is_raw}
-use Rattle.e_cert.specs.declared.mark.Mark.TheVariants as marks
-use Rattle.e_cert.specs.declared.owed.Due.{Due}
-use Rattle.e_cert.specs.declared.owed.Due.TheVariants as due
-use Rattle.e_cert.specs.declared.owed.Owed.{Owed}
-use Rattle.e_cert.specs.declared.kept.Kept.{Kept}
-use Rattle.e_cert.specs.declared.kept.Kept.TheVariants as kept
-use Rattle.e_cert.specs.Owed.{certificate, transfer_put, part_put, marked, settled}
+use Rattle.e_cert.specs.declared.cert_line.CertLine.TheVariants as certlines
+use Rattle.e_cert.specs.declared.owed.Obligation.{Obligation}
+use Rattle.e_cert.specs.declared.owed.Obligation.TheVariants as due
+use Rattle.e_cert.specs.declared.owed.Pending.{Pending}
+use Rattle.e_cert.specs.declared.kept.StepCerts.{StepCerts}
+use Rattle.e_cert.specs.declared.kept.StepCerts.TheVariants as kept
+use Rattle.e_cert.specs.Owed.{certificate, transfer_put, part_put, after_cert_line, finish_certs}
 use Rattle.e_read.specs.Needs.{one_each}
 use Rattle.e_spell.specs.Certificates.{part_lines, cert_lines, against_lines}
 use Rattle.e_roundtrip.proofs.Certificates.Feeding.{Fed, owing, Ends, Puts, puts_append, GoodSums, metric_fed, GoodPart, part_fed}
@@ -39,12 +39,12 @@ use Rattle.e_roundtrip.proofs.Certificates.TransfersAgain.{GoodTransfer, part_wa
 -- ---- transfers
 
 -- what is due behind these parts of a transfer that has so many in all
-abbrev behind : List Lit → List Cert → ℕ → List Obj → ℕ → List Part → Due
+abbrev behind : List Lit → List Cert → ℕ → List Obj → ℕ → List Part → Obligation
 behind wanted certs rule args n done =
     let t = part_way rule args done n in
     cond (eqb (length done) n) (due.Literals wanted (certs ++ certificate t ∷ []) None) (due.Literals wanted certs (Some t))
 
-chosen : (b : Bool) (x y : Due) → let ok : Due → Result Due Kind = λ d. Ok d in cond b (ok x) (ok y) ≡ ok (cond b x y)
+chosen : (b : Bool) (x y : Obligation) → let ok : Obligation → Result Obligation FaultKind = λ d. Ok d in cond b (ok x) (ok y) ≡ ok (cond b x y)
 chosen true x y = refl
 chosen false x y = refl
 
@@ -57,19 +57,19 @@ put_is wanted certs rule args n done =
 abbrev whole : ℕ → List Obj → List Part → Cert
 whole rule args done = Transfer (record { rule = rule; args = args; parts = done })
 
-parts_fed : (ns : Names) (o : Owed) (wanted : List Lit) (certs : List Cert) (rule : ℕ) (args : List Obj) (n : ℕ) (done more : List Part) → InOrder ns → Ends ns o (behind wanted certs rule args n done)
+parts_fed : (ns : Names) (o : Pending) (wanted : List Lit) (certs : List Cert) (rule : ℕ) (args : List Obj) (n : ℕ) (done more : List Part) → InOrder ns → Ends ns o (behind wanted certs rule args n done)
     → AllByRecursion (GoodPart ns) more → length done + length more ≡ n → Puts ns o (flat_map (part_lines ns) more) (due.Literals wanted (certs ++ whole rule args (done ++ more) ∷ []) None)
 parts_fed ns o wanted certs rule args n done [] order ends g count =
     let all : eqb (length done) n ≡ true = eq-eqb _ _ (omega (arith, count)) in
     let is : behind wanted certs rule args n done ≡ due.Literals wanted (certs ++ whole rule args (done ++ []) ∷ []) None =
     rw all (ap (λ (ps : List Part). due.Literals wanted (certs ++ whole rule args ps ∷ []) None) (sym (append-nil done))) in
-    record { last = o; fed = refl; ends = ends ∙ ap (λ (d : Due). Ok (owing ns d None)) is }
+    record { last = o; fed = refl; ends = ends ∙ ap (λ (d : Obligation). Ok (owing ns d None)) is }
 parts_fed ns o wanted certs rule args n done (p ∷ more) order ends g count =
     let next = done ++ p ∷ [] in
     let part : eqb (length done) n ≡ false = ne_eqb _ _ (λ e. absurd (omega (arith, e, count))) in
-    let begun : Due = due.Literals wanted certs (Some (part_way rule args done n)) in
+    let begun : Obligation = due.Literals wanted certs (Some (part_way rule args done n)) in
     let is : behind wanted certs rule args n done ≡ begun = rw part refl in
-    let one = part_fed ns o begun (behind wanted certs rule args n next) p order (ends ∙ ap (λ (d : Due). Ok (owing ns d None)) is) g.0 (put_is wanted certs rule args n next) in
+    let one = part_fed ns o begun (behind wanted certs rule args n next) p order (ends ∙ ap (λ (d : Obligation). Ok (owing ns d None)) is) g.0 (put_is wanted certs rule args n next) in
     let rest = parts_fed ns one.last wanted certs rule args n next more order one.ends g.1 (omega (arith, count, length-append done (p ∷ []))) in
     let all = puts_append ns o (part_lines ns p) (flat_map (part_lines ns) more) (behind wanted certs rule args n next) (due.Literals wanted (certs ++ whole rule args (next ++ more) ∷ []) None) one rest in
     subst (λ (ps : List Part). Puts ns o (flat_map (part_lines ns) (p ∷ more)) (due.Literals wanted (certs ++ whole rule args ps ∷ []) None)) (append_assoc done (p ∷ []) more) all
@@ -81,9 +81,9 @@ abbrev pub GoodCert : Names → Lit → Cert → Type 0
 GoodCert ns l (Plain p) = GoodPart ns p
 GoodCert ns l (Transfer t) = GoodTransfer ns l t
 
-cert_fed : (ns : Names) (o : Owed) (wanted : List Lit) (done : List Cert) (l : Lit) (c : Cert) → InOrder ns → Ends ns o (due.Literals wanted done None) → slice_get wanted (length done) ≡ Some l → length done < length wanted
+cert_fed : (ns : Names) (o : Pending) (wanted : List Lit) (done : List Cert) (l : Lit) (c : Cert) → InOrder ns → Ends ns o (due.Literals wanted done None) → slice_get wanted (length done) ≡ Some l → length done < length wanted
     → GoodCert ns l c → Puts ns o (cert_lines ns c) (due.Literals wanted (done ++ c ∷ []) None)
-unfolding marked
+unfolding after_cert_line
 cert_fed ns o wanted done l (Plain p) order ends at more g =
     let room : ltb (length done) (length wanted) ≡ true = lt-ltb _ _ more in
     let put : part_put (due.Literals wanted done None) p ≡ Ok (due.Literals wanted (done ++ Plain p ∷ []) None) = rw room refl in
@@ -97,7 +97,7 @@ cert_fed ns o wanted done l (Transfer t) order ends at more g =
       fed = (
         begun,
         record {
-          mark = marks.Transfer (rule_name t.rule) (map (name_of_object ns) t.args);
+          cert_line = certlines.Transfer (rule_name t.rule) (map (name_of_object ns) t.args);
           spelled = refl;
           named = (rule_titled t.rule t.args g.lits g.instance, objects_named ns t.args order g.args);
           leads = rw (ends, at, transfer_again ns l t order g, put_is wanted done t.rule t.args n []) refl;
@@ -124,7 +124,7 @@ at_front : (front : List Lit) (l : Lit) (ls : List Lit) → slice_get (front ++ 
 at_front [] l ls = refl
 at_front (x ∷ front) l ls = at_front front l ls
 
-certs_fed : (ns : Names) (o : Owed) (front ls : List Lit) (done cs : List Cert) → InOrder ns → Ends ns o (due.Literals (front ++ ls) done None) → length done ≡ length front → GoodCerts ns ls cs
+certs_fed : (ns : Names) (o : Pending) (front ls : List Lit) (done cs : List Cert) → InOrder ns → Ends ns o (due.Literals (front ++ ls) done None) → length done ≡ length front → GoodCerts ns ls cs
     → Puts ns o (flat_map (cert_lines ns) cs) (due.Literals (front ++ ls) (done ++ cs) None)
 certs_fed ns o front [] done [] order ends count g =
     subst (λ (all : List Cert). Puts ns o [] (due.Literals (front ++ []) all None)) (sym (append-nil done)) (record { last = o; fed = refl; ends = ends })
@@ -148,7 +148,7 @@ cert_of : (v : Version) (ns : Names) (l : Lit) (c : Cert) → InOrder ns → Goo
 cert_of v ns l (Plain p) o g h = part_of v ns p o g h
 cert_of v ns l (Transfer t) o g h = (
   (
-    marks.Transfer (rule_name t.rule) (map (name_of_object ns) t.args),
+    certlines.Transfer (rule_name t.rule) (map (name_of_object ns) t.args),
     refl,
     (rule_titled t.rule t.args g.lits g.instance, objects_named ns t.args o g.args),
     refl,
@@ -167,21 +167,21 @@ certs_of v ns (l ∷ ls) (c ∷ cs) o g h =
 -- ---- what is kept behind them
 
 -- the lines are taken, and then this is kept; where that is of a version, the lines have a form in it
-pub record Keeps (ns : Names) (d : Due) (lines : List (List (List ℕ))) (k : Option Kept) : Type 0 where
-  pub last : Owed
+pub record Keeps (ns : Names) (d : Obligation) (lines : List (List (List ℕ))) (k : Option StepCerts) : Type 0 where
+  pub last : Pending
   pub fed : Fed (owing ns d None) lines last
-  pub settles : settled last ≡ Ok k
+  pub settles : finish_certs last ≡ Ok k
   pub of : (v : Version) → AreGood v (option_to_list k) → LinesOf v lines
 
 pub certs_kept : (ns : Names) (wanted : List Lit) (cs : List Cert) → InOrder ns → GoodCerts ns wanted cs → Keeps ns (one_each wanted) (flat_map (cert_lines ns) cs) (Some (kept.Certs cs))
-unfolding settled
+unfolding finish_certs
 certs_kept ns wanted cs order g =
     let p = certs_fed ns (owing ns (one_each wanted) None) [] wanted [] cs order refl refl g in
     let all : ltb (length cs) (length wanted) ≡ false = le-ltb _ _ (omega (arith, as_many ns wanted cs g)) in
     record { last = p.last; fed = p.fed; settles = rw (p.ends, all) refl; of = λ v h. certs_of v ns wanted cs order g (and_parts (list_all (is_cert_of v) cs) true h).0 }
 
 pub nothing_kept : (ns : Names) → Keeps ns due.Nothing [] None
-unfolding settled
+unfolding finish_certs
 nothing_kept ns = record { last = owing ns due.Nothing None; fed = refl; settles = refl; of = λ v h. tt }
 
 -- a certificate of a contradiction that has a form
@@ -190,7 +190,7 @@ GoodAgainst ns (against.Clash l) = (all_in_scope (scope_of_names ns) l ≡ true)
 GoodAgainst ns (against.Metric m) = GoodSums ns m.sums
 
 pub against_kept : (ns : Names) (a : Against) → InOrder ns → GoodAgainst ns a → Keeps ns (due.Contradiction None) (against_lines ns a) (Some (kept.Against a))
-unfolding marked settled
+unfolding after_cert_line finish_certs
 against_kept ns (against.Clash l) order g =
     let good = diagram_is_good l g.1 in
     record {
@@ -198,7 +198,7 @@ against_kept ns (against.Clash l) order g =
       fed = (
         owing ns (due.Contradiction (Some (against.Clash l))) None,
         record {
-          mark = marks.Clash (raw_of ns l);
+          cert_line = certlines.Clash (raw_of ns l);
           spelled = refl;
           named = (lit_named ns l order g.0 good, diagram_is_raw ns l g.1);
           leads = rw (lit_number_again ns l order g.0 good) refl;
@@ -206,7 +206,7 @@ against_kept ns (against.Clash l) order g =
         refl,
       );
       settles = refl;
-      of = λ v h. ((marks.Clash (raw_of ns l), refl, (lit_named ns l order g.0 good, diagram_is_raw ns l g.1), refl), tt);
+      of = λ v h. ((certlines.Clash (raw_of ns l), refl, (lit_named ns l order g.0 good, diagram_is_raw ns l g.1), refl), tt);
     }
 against_kept ns (against.Metric m) order g =
     let p = metric_fed ns (owing ns (due.Contradiction None) None) (due.Contradiction None) (due.Contradiction (Some (against.Metric m))) m order refl g refl in

@@ -16,9 +16,9 @@ use Rattle.e_construct.specs.Superposing as superposing
 use Rattle.e_deriv.specs.declared.names.Names.{Names}
 use Rattle.e_deriv.specs.Goal.{Goal, goal_with}
 use Rattle.e_deriv.specs.Parts.{written, has_no_blank}
-use Rattle.e_book.specs.declared.draft.Draft.{Draft}
+use Rattle.e_book.specs.declared.draft.TheoremParser.{TheoremParser}
 use Rattle.e_line.specs.Reading.{each, or_malformed}
-use Rattle.e_names.specs.Headed.{Headed, theorem_of}
+use Rattle.e_names.specs.TitledStatements.{TitledStatement, theorem_of}
 use Rattle.e_book.specs.Blocks.{made_in}
 use Rattle.e_names.specs.Scope.{scope_of_names, qed_in}
 use Rattle.e_names.specs.Canonical.{raw_of, name_of_object, argument_name, hence_form, let_form, apply_form, superpose_form, qed_form}
@@ -47,11 +47,11 @@ all_written ns (Some o ∷ args) h = all_written ns args h
 
 -- ---- what is due
 
-pub hence_due : (known : List Headed) (d : Draft) (l : Lit) → InOrder d.in_scope → PlainLit d.in_scope l → due_of known d (hence_form d.in_scope l) ≡ Ok (one_each (l ∷ []))
+pub hence_due : (known : List TitledStatement) (d : TheoremParser) (l : Lit) → InOrder d.in_scope → PlainLit d.in_scope l → due_of known d (hence_form d.in_scope l) ≡ Ok (one_each (l ∷ []))
 unfolding due_of
 hence_due known d l o p = rw (lit_number_again d.in_scope l o p.within p.good) refl
 
-pub let_due : (known : List Headed) (d : Draft) (form : Construction) (names : List (List ℕ)) → InOrder d.in_scope → GoodLet d.in_scope form names → due_of known d (as_read (let_form d.in_scope form names)) ≡ Ok (one_each (needs_of_construction form))
+pub let_due : (known : List TitledStatement) (d : TheoremParser) (form : Construction) (names : List (List ℕ)) → InOrder d.in_scope → GoodLet d.in_scope form names → due_of known d (as_read (let_form d.in_scope form names)) ≡ Ok (one_each (needs_of_construction form))
 unfolding due_of
 let_due known d form names o g = rw (let_number_again d.in_scope form names o g) refl
 
@@ -63,18 +63,18 @@ each_written (Some o ∷ args) h = rw (each_written args h) refl
 needed : (s : Scope) (t : Stated) (args : List (Option Obj)) → has_no_blank args ≡ true → are_arguments t s (written args) ≡ true → needs_in s t args ≡ Ok (needs_of_use t (written args) s)
 needed s t args h fit = rw (each_written args h, fit) refl
 
-pub apply_due : (known : List Headed) (d : Draft) (theorem : ℕ) (args : List (Option Obj)) (names : List (List ℕ)) → InOrder d.in_scope → GoodApply known d.in_scope theorem args names → has_no_blank args ≡ true
+pub apply_due : (known : List TitledStatement) (d : TheoremParser) (theorem : ℕ) (args : List (Option Obj)) (names : List (List ℕ)) → InOrder d.in_scope → GoodApply known d.in_scope theorem args names → has_no_blank args ≡ true
     → are_arguments (theorem_of known theorem) (scope_of_names d.in_scope) (written args) ≡ true
     → due_of known d (apply_form known d.in_scope theorem args names) ≡ Ok (one_each (needs_of_use (theorem_of known theorem) (written args) (scope_of_names d.in_scope)))
 unfolding due_of needs_of_line
 apply_due known d theorem args names o g full fit = rw (apply_number_again known d.in_scope theorem args names o g, needed (scope_of_names d.in_scope) (theorem_of known theorem) args full fit) refl
 
-pub superpose_due : (known : List Headed) (d : Draft) (form : Superpose) (names : List (List ℕ)) (shown : List Lit) → GoodSuperpose d.in_scope form names shown
+pub superpose_due : (known : List TitledStatement) (d : TheoremParser) (form : Superpose) (names : List (List ℕ)) (shown : List Lit) → GoodSuperpose d.in_scope form names shown
     → due_of known d (superpose_form d.in_scope form names shown) ≡ Ok (one_each (superposing.needs_of_superposition form))
 unfolding due_of
 superpose_due known d form names shown g = rw (superpose_number_again d.in_scope form names shown g) refl
 
-pub qed_due : (known : List Headed) (d : Draft) (goal : Goal) (os : List Obj) → InOrder d.in_scope → are_of_sorts (scope_of_names d.in_scope) (made_in d.outers d.made) os ≡ true → open_goal d ≡ goal
+pub qed_due : (known : List TitledStatement) (d : TheoremParser) (goal : Goal) (os : List Obj) → InOrder d.in_scope → are_of_sorts (scope_of_names d.in_scope) (made_in d.outers d.made) os ≡ true → open_goal d ≡ goal
     → due_of known d (qed_form d.in_scope os) ≡ Ok (one_each (goal_with goal os))
 unfolding due_of needs_at_qed qed_in
 qed_due known d goal os o h is =

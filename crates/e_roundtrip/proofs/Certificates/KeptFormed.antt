@@ -25,25 +25,25 @@ use Rattle.e_clause.specs.Sum.{is_nonzero_bounded, is_limited_sum}
 use Rattle.e_clause.specs.MetricCertificate.{row_name_in, sum_in}
 use Rattle.e_clause.specs.Written.{is_writable_name, is_writable_sum}
 use Rattle.e_deriv.specs.declared.names.Names.{Names}
-use Rattle.e_line.specs.declared.fault.Kind.TheVariants.{Malformed}
+use Rattle.e_line.specs.declared.fault.FaultKind.TheVariants.{Malformed}
 use Rattle.e_line.specs.Reading.{◌>>=◌}
 use Rattle.e_line.specs.LineLimits.{few_monos}
 use Rattle.e_names.specs.Scope.{scope_of_names, lit_in, term_in}
 use Rattle.e_line.proofs.Bound.{bind_ok, ok_is, read_ok}
 use Rattle.e_names.proofs.InScope.{term_in_scope, lit_in_scope}
 use Rattle.e_line.proofs.Choices.{passed}
-use Rattle.e_cert.specs.declared.mark.RawRow.{RawRow}
-use Rattle.e_cert.specs.declared.mark.RawRow.TheVariants as rows
+use Rattle.e_cert.specs.declared.cert_line.RawRow.{RawRow}
+use Rattle.e_cert.specs.declared.cert_line.RawRow.TheVariants as rows
 use Rattle.e_cert.specs.declared.owed.OpenSums.{OpenSums}
 use Rattle.e_cert.specs.declared.owed.OpenSums.TheVariants as sums
 use Rattle.e_cert.specs.declared.owed.OpenTransfer.{OpenTransfer}
-use Rattle.e_cert.specs.declared.owed.Due.{Due}
-use Rattle.e_cert.specs.declared.owed.Due.TheVariants as due
-use Rattle.e_cert.specs.declared.kept.Kept.{Kept}
-use Rattle.e_cert.specs.declared.kept.Kept.TheVariants as kept
-use Rattle.e_cert.specs.Marks.{may_differ}
+use Rattle.e_cert.specs.declared.owed.Obligation.{Obligation}
+use Rattle.e_cert.specs.declared.owed.Obligation.TheVariants as due
+use Rattle.e_cert.specs.declared.kept.StepCerts.{StepCerts}
+use Rattle.e_cert.specs.declared.kept.StepCerts.TheVariants as kept
+use Rattle.e_cert.specs.CertLines.{may_differ}
 use Rattle.e_cert.specs.Owed.{most_rows, fact_in, row_in, with_row, row_put, sum_begun, differs_put, sums_ended, has_more, certificate, transfer_put, part_put, metric_put, kept_of}
-use Rattle.e_cert.proofs.GoodMarks.{RowSaid, good_row}
+use Rattle.e_cert.proofs.GoodCertLines.{RowSaid, good_row}
 use Rattle.e_roundtrip.specs.Formed.{sum_formed, names_difference, difference_formed, sums_formed, part_formed, has_parts, cert_formed, certs_formed, against_formed}
 use Rattle.e_roundtrip.proofs.Formed.CertifiedFormed.{on_found}
 
@@ -220,14 +220,14 @@ pub record TransferFormed (s : Scope) (l : Lit) (t : OpenTransfer) : Type 0 wher
 abbrev pub NextTransfer : Scope → List Lit → List Cert → OpenTransfer → Type 0
 NextTransfer s wanted cs t = (l : Lit) × (slice_get wanted (length cs) ≡ Some l) × TransferFormed s l t
 
-abbrev pub DueFormed : Scope → Due → Type 0
+abbrev pub DueFormed : Scope → Obligation → Type 0
 DueFormed s due.Nothing = Unit {0}
 DueFormed s (due.Literals wanted cs None) = front_formed s wanted cs ≡ true
 DueFormed s (due.Literals wanted cs (Some t)) = (front_formed s wanted cs ≡ true) × NextTransfer s wanted cs t
 DueFormed s (due.Contradiction None) = Unit {0}
 DueFormed s (due.Contradiction (Some a)) = against_formed s a ≡ true
 
-to_due : (s : Scope) (x d : Due) → DueFormed s x → read_ok x ≡ Ok d → DueFormed s d
+to_due : (s : Scope) (x d : Obligation) → DueFormed s x → read_ok x ≡ Ok d → DueFormed s d
 to_due s x d h e = subst (DueFormed s) (ok_is x d e) h
 
 -- a transfer that has all its parts
@@ -239,7 +239,7 @@ transfer_whole s l t h count =
     (on_found (has_parts l t.parts) (Inst t.rule t.args) h.lits h.instance (eq-eqb (length t.parts) (length (others h.lits l)) (count ∙ h.owed)))
     (and_from (list_all (is_in_scope s) t.args) (list_all (part_formed s) t.parts) h.args h.parts))
 
-pub transfer_put_formed : (s : Scope) (wanted : List Lit) (cs : List Cert) (t : OpenTransfer) (new : Due) → front_formed s wanted cs ≡ true → NextTransfer s wanted cs t → transfer_put wanted cs t ≡ Ok new → DueFormed s new
+pub transfer_put_formed : (s : Scope) (wanted : List Lit) (cs : List Cert) (t : OpenTransfer) (new : Obligation) → front_formed s wanted cs ≡ true → NextTransfer s wanted cs t → transfer_put wanted cs t ≡ Ok new → DueFormed s new
 transfer_put_formed s wanted cs t new h k e = by_count (eqb (length t.parts) t.owed) refl e
   where
     by_count : (b : Bool) → eqb (length t.parts) t.owed ≡ b → cond b (read_ok (due.Literals wanted (cs ++ certificate t ∷ []) None)) (read_ok (due.Literals wanted cs (Some t))) ≡ Ok new → DueFormed s new
@@ -263,7 +263,7 @@ next_more s wanted cs t p n k = (n.0, n.1, part_more s n.0 t p n.2 k)
 second_of : {A B : Type 0} → A × B → B
 second_of {A} {B} p = p.1
 
-pub part_put_formed : (s : Scope) (d : Due) (p : Part) (new : Due) → DueFormed s d → part_formed s p ≡ true → part_put d p ≡ Ok new → DueFormed s new
+pub part_put_formed : (s : Scope) (d : Obligation) (p : Part) (new : Obligation) → DueFormed s d → part_formed s p ≡ true → part_put d p ≡ Ok new → DueFormed s new
 part_put_formed s (due.Literals wanted cs None) p new h k e =
     let x = passed (has_more wanted cs) (read_ok (due.Literals wanted (cs ++ Plain p ∷ []) None)) new e in
     let l = next_lit wanted (length cs) (ltb-true (length cs) (length wanted) x.0) in
@@ -273,7 +273,7 @@ part_put_formed s (due.Literals wanted cs (Some t)) p new h k e =
     transfer_put_formed s wanted cs (record t { parts = t.parts ++ p ∷ [] }) new h.0 (next_more s wanted cs t p next k) e
 part_put_formed s d p new h k e = absurd cc
 
-pub metric_put_formed : (s : Scope) (d : Due) (m : MetricCert) (new : Due) → DueFormed s d → sums_formed s m.sums ≡ true → metric_put d m ≡ Ok new → DueFormed s new
+pub metric_put_formed : (s : Scope) (d : Obligation) (m : MetricCert) (new : Obligation) → DueFormed s d → sums_formed s m.sums ≡ true → metric_put d m ≡ Ok new → DueFormed s new
 metric_put_formed s (due.Contradiction None) m new h k e = to_due s (due.Contradiction (Some (against.Metric m))) new k e
 metric_put_formed s (due.Contradiction (Some a)) m new h k e = part_put_formed s (due.Contradiction (Some a)) (parts.Metric m) new h k e
 metric_put_formed s due.Nothing m new h k e = part_put_formed s due.Nothing (parts.Metric m) new h k e
@@ -282,16 +282,16 @@ metric_put_formed s (due.Literals wanted cs t) m new h k e = part_put_formed s (
 -- ---- what is kept
 
 -- what is kept for a line that owes this, with these names in scope
-abbrev pub KeptIsFormed : Scope → Due → Option Kept → Type 0
+abbrev pub KeptIsFormed : Scope → Obligation → Option StepCerts → Type 0
 KeptIsFormed s due.Nothing None = Unit {0}
 KeptIsFormed s (due.Literals wanted cs t) (Some (kept.Certs certs)) = certs_formed s wanted certs ≡ true
 KeptIsFormed s (due.Contradiction a) (Some (kept.Against b)) = against_formed s b ≡ true
 KeptIsFormed s d k = ⊥
 
-to_kept : (s : Scope) (d : Due) (x k : Option Kept) → KeptIsFormed s d x → read_ok x ≡ Ok k → KeptIsFormed s d k
+to_kept : (s : Scope) (d : Obligation) (x k : Option StepCerts) → KeptIsFormed s d x → read_ok x ≡ Ok k → KeptIsFormed s d k
 to_kept s d x k h e = subst (KeptIsFormed s d) (ok_is x k e) h
 
-pub kept_formed : (s : Scope) (d : Due) (k : Option Kept) → DueFormed s d → kept_of d ≡ Ok k → KeptIsFormed s d k
+pub kept_formed : (s : Scope) (d : Obligation) (k : Option StepCerts) → DueFormed s d → kept_of d ≡ Ok k → KeptIsFormed s d k
 kept_formed s due.Nothing k h e = to_kept s due.Nothing None k tt e
 kept_formed s (due.Literals wanted cs None) k h e = by_more (has_more wanted cs) refl e
   where

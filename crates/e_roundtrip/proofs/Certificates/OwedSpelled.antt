@@ -23,8 +23,8 @@ use Rattle.e_clause.specs.Instance.{Inst, number_of_rule}
 use Rattle.e_clause.specs.Sigs.{sig_of}
 use Rattle.e_clause.specs.RuleKinds.{is_transfer}
 use Rattle.e_deriv.specs.declared.names.Names.{Names}
-use Rattle.e_line.specs.declared.fault.Kind.{Kind}
-use Rattle.e_line.specs.declared.fault.Kind.TheVariants.{Malformed}
+use Rattle.e_line.specs.declared.fault.FaultKind.{FaultKind}
+use Rattle.e_line.specs.declared.fault.FaultKind.TheVariants.{Malformed}
 use Rattle.e_line.specs.declared.sum.RawTerm.{RawTerm}
 use Rattle.e_line.specs.declared.literal.RawLit.{RawLit}
 use Rattle.e_line.specs.Reading.{◌>>=◌, or_malformed}
@@ -34,26 +34,26 @@ use Rattle.e_line.specs.Canonical.{lit_words, term_words}
 use Rattle.e_names.specs.Canonical.{raw_of, rule_name, name_of_object}
 use Rattle.e_line.proofs.Bound.{bind_ok, ok_is, read_ok}
 use Rattle.e_line.proofs.Choices.{passed}
-use Rattle.e_cert.specs.declared.mark.RawRow.{RawRow}
-use Rattle.e_cert.specs.declared.mark.RawRow.TheVariants as rows
-use Rattle.e_cert.specs.declared.mark.Mark.{Mark}
-use Rattle.e_cert.specs.declared.mark.Mark.TheVariants as marks
+use Rattle.e_cert.specs.declared.cert_line.RawRow.{RawRow}
+use Rattle.e_cert.specs.declared.cert_line.RawRow.TheVariants as rows
+use Rattle.e_cert.specs.declared.cert_line.CertLine.{CertLine}
+use Rattle.e_cert.specs.declared.cert_line.CertLine.TheVariants as certlines
 use Rattle.e_cert.specs.declared.owed.OpenSums.{OpenSums}
 use Rattle.e_cert.specs.declared.owed.OpenSums.TheVariants as sums
 use Rattle.e_cert.specs.declared.owed.OpenTransfer.{OpenTransfer}
-use Rattle.e_cert.specs.declared.owed.Due.{Due}
-use Rattle.e_cert.specs.declared.owed.Due.TheVariants as due
-use Rattle.e_cert.specs.declared.owed.Owed.{Owed}
-use Rattle.e_cert.specs.declared.kept.Kept.{Kept}
-use Rattle.e_cert.specs.declared.kept.Kept.TheVariants as kept
-use Rattle.e_cert.specs.Marks.{mark_words, mark_line}
-use Rattle.e_cert.specs.Marks as reading
-use Rattle.e_cert.specs.Owed.{most_rows, fact_in, row_in, with_row, row_put, sum_begun, differs_put, sums_ended, has_more, certificate, transfer_put, part_put, metric_put, takes_metric, clash_put, transfer_rule, count_others, transfer_at, transfer_in, transfer_begun, ended, sums_behind, due_behind, marked, kept_of, settled}
+use Rattle.e_cert.specs.declared.owed.Obligation.{Obligation}
+use Rattle.e_cert.specs.declared.owed.Obligation.TheVariants as due
+use Rattle.e_cert.specs.declared.owed.Pending.{Pending}
+use Rattle.e_cert.specs.declared.kept.StepCerts.{StepCerts}
+use Rattle.e_cert.specs.declared.kept.StepCerts.TheVariants as kept
+use Rattle.e_cert.specs.CertLines.{cert_line_words, cert_line_text}
+use Rattle.e_cert.specs.CertLines as reading
+use Rattle.e_cert.specs.Owed.{most_rows, fact_in, row_in, with_row, row_put, sum_begun, differs_put, sums_ended, has_more, certificate, transfer_put, part_put, metric_put, takes_metric, clash_put, transfer_rule, count_others, transfer_at, transfer_in, transfer_begun, ended, sums_behind, due_behind, after_cert_line, kept_of, finish_certs}
 use Rattle.e_spell.specs.Certificates.{row_words, row_line, sum_lines, metric_lines, part_lines, transfer_lines, cert_lines, certs_lines, against_lines, contradiction_lines}
 use Rattle.e_roundtrip.proofs.OneLine.NamesSpelled.{keeps_all}
 use Rattle.e_roundtrip.proofs.OneLine.LitsSpelled.{term_named, lit_named}
 use Rattle.e_roundtrip.proofs.OneLine.RulesSpelled.{rule_named, args_named}
-use Rattle.e_roundtrip.proofs.Certificates.MarksRead.{CanonicalRow, CanonicalMark}
+use Rattle.e_roundtrip.proofs.Certificates.CertLinesRead.{CanonicalRow, CanonicalCertLine}
 
 -- ---- what was said so far
 
@@ -83,33 +83,33 @@ abbrev begun_lines : Names → OpenTransfer → Lines
 begun_lines ns t = transfer_lines ns (record { rule = t.rule; args = t.args; parts = t.parts })
 
 -- the lines of certificates, and of a transfer that is begun
-abbrev due_lines : Names → Due → Lines
+abbrev due_lines : Names → Obligation → Lines
 due_lines ns due.Nothing = []
 due_lines ns (due.Literals wanted cs None) = all_lines ns cs
 due_lines ns (due.Literals wanted cs (Some t)) = all_lines ns cs ++ begun_lines ns t
 due_lines ns (due.Contradiction None) = []
 due_lines ns (due.Contradiction (Some a)) = against_lines ns a
 
-abbrev owed_lines : Owed → Lines
+abbrev owed_lines : Pending → Lines
 owed_lines o = due_lines o.names o.due ++ open_lines o.names o.sums
 
 -- what the lines of certificates are that were taken
-abbrev pub owed_text : Owed → List (List ℕ)
+abbrev pub owed_text : Pending → List (List ℕ)
 owed_text o = map joined (owed_lines o)
 
-abbrev pub kept_text : Names → Option Kept → List (List ℕ)
+abbrev pub kept_text : Names → Option StepCerts → List (List ℕ)
 kept_text ns None = []
 kept_text ns (Some (kept.Certs cs)) = certs_lines ns cs
 kept_text ns (Some (kept.Against a)) = contradiction_lines ns (Some a)
 
 -- what was owed before the first certificate
-abbrev pub due_at_first : Due → Due
+abbrev pub due_at_first : Obligation → Obligation
 due_at_first due.Nothing = due.Nothing
 due_at_first (due.Literals wanted cs t) = due.Literals wanted [] None
 due_at_first (due.Contradiction a) = due.Contradiction None
 
 -- not more certificates than literals
-abbrev pub FitsDue : Due → Type 0
+abbrev pub FitsDue : Obligation → Type 0
 FitsDue (due.Literals wanted cs None) = length cs ≤ length wanted
 FitsDue (due.Literals wanted cs (Some t)) = length cs < length wanted
 FitsDue d = Unit {0}
@@ -119,7 +119,7 @@ FitsDue d = Unit {0}
 pub row_spelled : (ns : Names) (raw : RawRow) (r : RowName) → CanonicalRow raw → row_in ns raw ≡ Ok r → row_words ns r ≡ reading.row_words raw
 unfolding row_in
 row_spelled ns (rows.Fact l) r c e =
-    let fact : Lit → Result RowName Kind = λ x. read_ok (names.Fact x) in
+    let fact : Lit → Result RowName FaultKind = λ x. read_ok (names.Fact x) in
     let a = bind_ok (fact_in ns l) fact r e in
     let b = bind_ok (lit_in ns l) (λ x. few_monos (l ∷ []) >>= λ few. read_ok x) a.0 a.1 in
     let f = bind_ok (few_monos (l ∷ [])) (λ few. read_ok b.0) a.0 b.2 in
@@ -198,7 +198,7 @@ sums_ended_spelled ns (sums.Above d sum) all e = absurd cc
 -- ---- certificates
 
 -- what is owed grows by these lines
-record Grows (ns : Names) (d new : Due) (more : Lines) : Type 0 where
+record Grows (ns : Names) (d new : Obligation) (more : Lines) : Type 0 where
   lines : due_lines ns new ≡ due_lines ns d ++ more
   first : due_at_first new ≡ due_at_first d
   fits : FitsDue new
@@ -210,20 +210,20 @@ one_longer : (cs : List Cert) (c : Cert) (wanted : List Lit) → length cs < len
 one_longer cs c wanted lt = omega (arith, lt, length-append cs (c ∷ []))
 
 -- a transfer with its parts so far stands behind the certificates
-abbrev TransferStands : Names → List Lit → List Cert → OpenTransfer → Due → Type 0
+abbrev TransferStands : Names → List Lit → List Cert → OpenTransfer → Obligation → Type 0
 TransferStands ns wanted cs t x = (due_lines ns x ≡ all_lines ns cs ++ begun_lines ns t) × (due_at_first x ≡ due.Literals wanted [] None) × FitsDue x
 
-transfer_put_spelled : (ns : Names) (wanted : List Lit) (cs : List Cert) (t : OpenTransfer) (new : Due) → length cs < length wanted → transfer_put wanted cs t ≡ Ok new → TransferStands ns wanted cs t new
+transfer_put_spelled : (ns : Names) (wanted : List Lit) (cs : List Cert) (t : OpenTransfer) (new : Obligation) → length cs < length wanted → transfer_put wanted cs t ≡ Ok new → TransferStands ns wanted cs t new
 transfer_put_spelled ns wanted cs t new lt e = by_test (eqb (length t.parts) t.owed) e
   where
     by_test : (b : Bool) → cond b (read_ok (due.Literals wanted (cs ++ certificate t ∷ []) None)) (read_ok (due.Literals wanted cs (Some t))) ≡ Ok new → TransferStands ns wanted cs t new
-    by_test true h = subst (λ (x : Due). TransferStands ns wanted cs t x) (ok_is (due.Literals wanted (cs ++ certificate t ∷ []) None) new h) (certs_more ns cs (certificate t), refl, one_longer cs (certificate t) wanted lt)
-    by_test false h = subst (λ (x : Due). TransferStands ns wanted cs t x) (ok_is (due.Literals wanted cs (Some t)) new h) (refl, refl, lt)
+    by_test true h = subst (λ (x : Obligation). TransferStands ns wanted cs t x) (ok_is (due.Literals wanted (cs ++ certificate t ∷ []) None) new h) (certs_more ns cs (certificate t), refl, one_longer cs (certificate t) wanted lt)
+    by_test false h = subst (λ (x : Obligation). TransferStands ns wanted cs t x) (ok_is (due.Literals wanted cs (Some t)) new h) (refl, refl, lt)
 
-part_put_spelled : (ns : Names) (d new : Due) (p : Part) → FitsDue d → part_put d p ≡ Ok new → Grows ns d new (part_lines ns p)
+part_put_spelled : (ns : Names) (d new : Obligation) (p : Part) → FitsDue d → part_put d p ≡ Ok new → Grows ns d new (part_lines ns p)
 part_put_spelled ns (due.Literals wanted cs None) new p f e =
     let t = passed (has_more wanted cs) (read_ok (due.Literals wanted (cs ++ Plain p ∷ []) None)) new e in
-    subst (λ (x : Due). Grows ns (due.Literals wanted cs None) x (part_lines ns p)) (ok_is (due.Literals wanted (cs ++ Plain p ∷ []) None) new t.1)
+    subst (λ (x : Obligation). Grows ns (due.Literals wanted cs None) x (part_lines ns p)) (ok_is (due.Literals wanted (cs ++ Plain p ∷ []) None) new t.1)
     (record { lines = certs_more ns cs (Plain p); first = refl; fits = one_longer cs (Plain p) wanted (ltb-true (length cs) (length wanted) t.0) })
 part_put_spelled ns (due.Literals wanted cs (Some t)) new p f e =
     let g = transfer_put_spelled ns wanted cs (record t { parts = t.parts ++ p ∷ [] }) new f e in
@@ -236,16 +236,16 @@ part_put_spelled ns (due.Literals wanted cs (Some t)) new p f e =
 part_put_spelled ns due.Nothing new p f e = absurd cc
 part_put_spelled ns (due.Contradiction a) new p f e = absurd cc
 
-metric_put_spelled : (ns : Names) (d new : Due) (m : MetricCert) → FitsDue d → metric_put d m ≡ Ok new → Grows ns d new (metric_lines ns m)
+metric_put_spelled : (ns : Names) (d new : Obligation) (m : MetricCert) → FitsDue d → metric_put d m ≡ Ok new → Grows ns d new (metric_lines ns m)
 metric_put_spelled ns (due.Contradiction None) new m f e =
-    subst (λ (x : Due). Grows ns (due.Contradiction None) x (metric_lines ns m)) (ok_is (due.Contradiction (Some (against.Metric m))) new e) (record { lines = refl; first = refl; fits = tt })
+    subst (λ (x : Obligation). Grows ns (due.Contradiction None) x (metric_lines ns m)) (ok_is (due.Contradiction (Some (against.Metric m))) new e) (record { lines = refl; first = refl; fits = tt })
 metric_put_spelled ns (due.Contradiction (Some a)) new m f e = absurd cc
 metric_put_spelled ns due.Nothing new m f e = absurd cc
 metric_put_spelled ns (due.Literals wanted cs t) new m f e = part_put_spelled ns (due.Literals wanted cs t) new (parts.Metric m) f e
 
-clash_put_spelled : (ns : Names) (d new : Due) (l : Lit) → clash_put d l ≡ Ok new → Grows ns d new ((codes "|" ∷ codes "clash" ∷ lit_words (raw_of ns l)) ∷ [])
+clash_put_spelled : (ns : Names) (d new : Obligation) (l : Lit) → clash_put d l ≡ Ok new → Grows ns d new ((codes "|" ∷ codes "clash" ∷ lit_words (raw_of ns l)) ∷ [])
 clash_put_spelled ns (due.Contradiction None) new l e =
-    subst (λ (x : Due). Grows ns (due.Contradiction None) x ((codes "|" ∷ codes "clash" ∷ lit_words (raw_of ns l)) ∷ [])) (ok_is (due.Contradiction (Some (against.Clash l))) new e)
+    subst (λ (x : Obligation). Grows ns (due.Contradiction None) x ((codes "|" ∷ codes "clash" ∷ lit_words (raw_of ns l)) ∷ [])) (ok_is (due.Contradiction (Some (against.Clash l))) new e)
     (record { lines = refl; first = refl; fits = tt })
 clash_put_spelled ns (due.Contradiction (Some a)) new l e = absurd cc
 clash_put_spelled ns due.Nothing new l e = absurd cc
@@ -283,7 +283,7 @@ more_at [] n l e = absurd cc
 more_at (w ∷ ws) zero l e = omega arith
 more_at (w ∷ ws) (suc n) l e = let lt = more_at ws n l e in omega (arith, lt)
 
-transfer_begun_spelled : (ns : Names) (d new : Due) (title : List ℕ) (raws : List (List ℕ)) → FitsDue d → transfer_begun ns d title raws ≡ Ok new → Grows ns d new ((codes "|" ∷ codes "transfer" ∷ title ∷ raws) ∷ [])
+transfer_begun_spelled : (ns : Names) (d new : Obligation) (title : List ℕ) (raws : List (List ℕ)) → FitsDue d → transfer_begun ns d title raws ≡ Ok new → Grows ns d new ((codes "|" ∷ codes "transfer" ∷ title ∷ raws) ∷ [])
 transfer_begun_spelled ns (due.Literals wanted cs None) new title raws f e =
     let l = bind_ok (or_malformed (slice_get wanted (length cs))) (λ l. transfer_in ns l title raws >>= λ t. transfer_put wanted cs t) new e in
     let t = bind_ok (transfer_in ns l.0 title raws) (λ t. transfer_put wanted cs t) new l.2 in
@@ -301,121 +301,121 @@ transfer_begun_spelled ns (due.Contradiction a) new title raws f e = absurd cc
 -- ---- what is owed behind a line
 
 -- what is owed where no sums are open
-record Ended (o e : Owed) : Type 0 where
+record Ended (o e : Pending) : Type 0 where
   names : e.names ≡ o.names
   sums : e.sums ≡ None
   lines : due_lines o.names e.due ≡ owed_lines o
   first : due_at_first e.due ≡ due_at_first o.due
   fits : FitsDue e.due
 
-abbrev owed : Names → Due → Option OpenSums → Owed
+abbrev owed : Names → Obligation → Option OpenSums → Pending
 owed ns d s = record { names = ns; due = d; sums = s }
 
-ended_spelled : (ns : Names) (d : Due) (s : Option OpenSums) (e : Owed) → FitsDue d → ended (owed ns d s) s ≡ Ok e → Ended (owed ns d s) e
+ended_spelled : (ns : Names) (d : Obligation) (s : Option OpenSums) (e : Pending) → FitsDue d → ended (owed ns d s) s ≡ Ok e → Ended (owed ns d s) e
 ended_spelled ns d None e f h =
-    subst (λ (x : Owed). Ended (owed ns d None) x) (ok_is (owed ns d None) e h) (record { names = refl; sums = refl; lines = sym (append-nil (due_lines ns d)); first = refl; fits = f })
+    subst (λ (x : Pending). Ended (owed ns d None) x) (ok_is (owed ns d None) e h) (record { names = refl; sums = refl; lines = sym (append-nil (due_lines ns d)); first = refl; fits = f })
 ended_spelled ns d (Some s) e f h =
     let all = bind_ok (sums_ended s) (λ all. metric_put d (metric all) >>= λ x. read_ok (owed ns x None)) e h in
     let x = bind_ok (metric_put d (metric all.0)) (λ x. read_ok (owed ns x None)) e all.2 in
     let g = metric_put_spelled ns d x.0 (metric all.0) f x.1 in
-    subst (λ (y : Owed). Ended (owed ns d (Some s)) y) (ok_is (owed ns x.0 None) e x.2)
+    subst (λ (y : Pending). Ended (owed ns d (Some s)) y) (ok_is (owed ns x.0 None) e x.2)
     (record { names = refl; sums = refl; lines = g.lines ∙ ap (λ (l : Lines). due_lines ns d ++ l) (sym (sums_ended_spelled ns s all.0 all.1)); first = g.first; fits = g.fits })
 
 -- a line of a certificate is one more line of what is owed
-pub record Marked (o new : Owed) (m : Mark) : Type 0 where
+pub record Marked (o new : Pending) (m : CertLine) : Type 0 where
   pub names : new.names ≡ o.names
-  pub lines : owed_text new ≡ owed_text o ++ mark_line m ∷ []
+  pub lines : owed_text new ≡ owed_text o ++ cert_line_text m ∷ []
   pub first : due_at_first new.due ≡ due_at_first o.due
   pub fits : FitsDue new.due
 
 -- the words of one more line
-one_more : (o new : Owed) (m : Mark) → new.names ≡ o.names → due_at_first new.due ≡ due_at_first o.due → FitsDue new.due → owed_lines new ≡ owed_lines o ++ (codes "|" ∷ mark_words m) ∷ [] → Marked o new m
-one_more o new m n f g e = record { names = n; lines = ap (map joined) e ∙ map-append joined (owed_lines o) ((codes "|" ∷ mark_words m) ∷ []); first = f; fits = g }
+one_more : (o new : Pending) (m : CertLine) → new.names ≡ o.names → due_at_first new.due ≡ due_at_first o.due → FitsDue new.due → owed_lines new ≡ owed_lines o ++ (codes "|" ∷ cert_line_words m) ∷ [] → Marked o new m
+one_more o new m n f g e = record { names = n; lines = ap (map joined) e ∙ map-append joined (owed_lines o) ((codes "|" ∷ cert_line_words m) ∷ []); first = f; fits = g }
 
 -- behind the end of the sums what is due grows
-due_marked : (o e : Owed) (d : Due) (m : Mark) → Ended o e → Grows e.names e.due d ((codes "|" ∷ mark_words m) ∷ []) → Marked o (due_behind e d) m
-due_marked o e d m h g =
+due_after_cert_line : (o e : Pending) (d : Obligation) (m : CertLine) → Ended o e → Grows e.names e.due d ((codes "|" ∷ cert_line_words m) ∷ []) → Marked o (due_behind e d) m
+due_after_cert_line o e d m h g =
     one_more o (due_behind e d) m h.names (g.first ∙ h.first) g.fits
     (ap (λ (s : Option OpenSums). due_lines e.names d ++ open_lines e.names s) h.sums ∙ append-nil (due_lines e.names d) ∙ g.lines
-    ∙ ap (λ (l : Lines). l ++ (codes "|" ∷ mark_words m) ∷ []) (ap (λ (ns : Names). due_lines ns e.due) h.names ∙ h.lines))
+    ∙ ap (λ (l : Lines). l ++ (codes "|" ∷ cert_line_words m) ∷ []) (ap (λ (ns : Names). due_lines ns e.due) h.names ∙ h.lines))
 
 -- or sums go on
-sums_marked : (o : Owed) (s : OpenSums) (m : Mark) → FitsDue o.due → open_lines o.names (Some s) ≡ open_lines o.names o.sums ++ (codes "|" ∷ mark_words m) ∷ [] → Marked o (sums_behind o s) m
-sums_marked o s m f e =
+sums_after_cert_line : (o : Pending) (s : OpenSums) (m : CertLine) → FitsDue o.due → open_lines o.names (Some s) ≡ open_lines o.names o.sums ++ (codes "|" ∷ cert_line_words m) ∷ [] → Marked o (sums_behind o s) m
+sums_after_cert_line o s m f e =
     one_more o (sums_behind o s) m refl refl f
-    (ap (λ (l : Lines). due_lines o.names o.due ++ l) e ∙ sym (append_assoc (due_lines o.names o.due) (open_lines o.names o.sums) ((codes "|" ∷ mark_words m) ∷ [])))
+    (ap (λ (l : Lines). due_lines o.names o.due ++ l) e ∙ sym (append_assoc (due_lines o.names o.due) (open_lines o.names o.sums) ((codes "|" ∷ cert_line_words m) ∷ [])))
 
 abbrev line_of_row : ℤ → List (List ℕ) → List (List ℕ)
 line_of_row m words = codes "|" ∷ signed_decimal m ∷ words
 
-pub marked_spelled : (o new : Owed) (m : Mark) → FitsDue o.due → CanonicalMark m → marked o m ≡ Ok new → Marked o new m
-unfolding marked
-marked_spelled o new marks.Fact f c h =
+pub after_cert_line_spelled : (o new : Pending) (m : CertLine) → FitsDue o.due → CanonicalCertLine m → after_cert_line o m ≡ Ok new → Marked o new m
+unfolding after_cert_line
+after_cert_line_spelled o new certlines.Fact f c h =
     let e = bind_ok (ended o o.sums) (λ e. part_put e.due parts.Fact >>= λ d. read_ok (due_behind e d)) new h in
     let d = bind_ok (part_put e.0.due parts.Fact) (λ d. read_ok (due_behind e.0 d)) new e.2 in
     let end = ended_spelled o.names o.due o.sums e.0 f e.1 in
-    subst (λ (x : Owed). Marked o x marks.Fact) (ok_is (due_behind e.0 d.0) new d.2) (due_marked o e.0 d.0 marks.Fact end (part_put_spelled e.0.names e.0.due d.0 parts.Fact end.fits d.1))
-marked_spelled o new (marks.FactAt k) f c h =
+    subst (λ (x : Pending). Marked o x certlines.Fact) (ok_is (due_behind e.0 d.0) new d.2) (due_after_cert_line o e.0 d.0 certlines.Fact end (part_put_spelled e.0.names e.0.due d.0 parts.Fact end.fits d.1))
+after_cert_line_spelled o new (certlines.FactAt k) f c h =
     let e = bind_ok (ended o o.sums) (λ e. part_put e.due (parts.FactAt k) >>= λ d. read_ok (due_behind e d)) new h in
     let d = bind_ok (part_put e.0.due (parts.FactAt k)) (λ d. read_ok (due_behind e.0 d)) new e.2 in
     let end = ended_spelled o.names o.due o.sums e.0 f e.1 in
-    subst (λ (x : Owed). Marked o x (marks.FactAt k)) (ok_is (due_behind e.0 d.0) new d.2) (due_marked o e.0 d.0 (marks.FactAt k) end (part_put_spelled e.0.names e.0.due d.0 (parts.FactAt k) end.fits d.1))
-marked_spelled o new marks.Metric f c h =
+    subst (λ (x : Pending). Marked o x (certlines.FactAt k)) (ok_is (due_behind e.0 d.0) new d.2) (due_after_cert_line o e.0 d.0 (certlines.FactAt k) end (part_put_spelled e.0.names e.0.due d.0 (parts.FactAt k) end.fits d.1))
+after_cert_line_spelled o new certlines.Metric f c h =
     let e = bind_ok (ended o o.sums) (λ e. cond (takes_metric e.due) (read_ok (sums_behind e sums.Begun)) (Err Malformed)) new h in
     let t = passed (takes_metric e.0.due) (read_ok (sums_behind e.0 sums.Begun)) new e.2 in
     let end = ended_spelled o.names o.due o.sums e.0 f e.1 in
-    subst (λ (x : Owed). Marked o x marks.Metric) (ok_is (sums_behind e.0 sums.Begun) new t.1)
-    (one_more o (sums_behind e.0 sums.Begun) marks.Metric end.names end.first end.fits
+    subst (λ (x : Pending). Marked o x certlines.Metric) (ok_is (sums_behind e.0 sums.Begun) new t.1)
+    (one_more o (sums_behind e.0 sums.Begun) certlines.Metric end.names end.first end.fits
     (ap (λ (l : Lines). l ++ metric_head ∷ []) (ap (λ (ns : Names). due_lines ns e.0.due) end.names ∙ end.lines)))
-marked_spelled o new (marks.Transfer title raws) f c h =
+after_cert_line_spelled o new (certlines.Transfer title raws) f c h =
     let e = bind_ok (ended o o.sums) (λ e. transfer_begun e.names e.due title raws >>= λ d. read_ok (due_behind e d)) new h in
     let d = bind_ok (transfer_begun e.0.names e.0.due title raws) (λ d. read_ok (due_behind e.0 d)) new e.2 in
     let end = ended_spelled o.names o.due o.sums e.0 f e.1 in
-    subst (λ (x : Owed). Marked o x (marks.Transfer title raws)) (ok_is (due_behind e.0 d.0) new d.2)
-    (due_marked o e.0 d.0 (marks.Transfer title raws) end (transfer_begun_spelled e.0.names e.0.due d.0 title raws end.fits d.1))
-marked_spelled o new (marks.Clash raw) f c h =
+    subst (λ (x : Pending). Marked o x (certlines.Transfer title raws)) (ok_is (due_behind e.0 d.0) new d.2)
+    (due_after_cert_line o e.0 d.0 (certlines.Transfer title raws) end (transfer_begun_spelled e.0.names e.0.due d.0 title raws end.fits d.1))
+after_cert_line_spelled o new (certlines.Clash raw) f c h =
     let e = bind_ok (ended o o.sums) (λ e. lit_in e.names raw >>= λ l. clash_put e.due l >>= λ d. read_ok (due_behind e d)) new h in
     let l = bind_ok (lit_in e.0.names raw) (λ l. clash_put e.0.due l >>= λ d. read_ok (due_behind e.0 d)) new e.2 in
     let d = bind_ok (clash_put e.0.due l.0) (λ d. read_ok (due_behind e.0 d)) new l.2 in
     let end = ended_spelled o.names o.due o.sums e.0 f e.1 in
     let named = lit_named e.0.names e.0.names raw l.0 (keeps_all e.0.names) c l.1 in
-    subst (λ (x : Owed). Marked o x (marks.Clash raw)) (ok_is (due_behind e.0 d.0) new d.2)
-    (due_marked o e.0 d.0 (marks.Clash raw) end
+    subst (λ (x : Pending). Marked o x (certlines.Clash raw)) (ok_is (due_behind e.0 d.0) new d.2)
+    (due_after_cert_line o e.0 d.0 (certlines.Clash raw) end
     (subst (λ (x : RawLit). Grows e.0.names e.0.due d.0 ((codes "|" ∷ codes "clash" ∷ lit_words x) ∷ [])) named (clash_put_spelled e.0.names e.0.due d.0 l.0 d.1)))
-marked_spelled o new marks.Sum f c h =
+after_cert_line_spelled o new certlines.Sum f c h =
     let s = bind_ok (sum_begun o.sums) (λ s. read_ok (sums_behind o s)) new h in
-    subst (λ (x : Owed). Marked o x marks.Sum) (ok_is (sums_behind o s.0) new s.2) (sums_marked o s.0 marks.Sum f (sum_begun_spelled o.names o.sums s.0 s.1))
-marked_spelled o new (marks.Differs raw) f c h =
+    subst (λ (x : Pending). Marked o x certlines.Sum) (ok_is (sums_behind o s.0) new s.2) (sums_after_cert_line o s.0 certlines.Sum f (sum_begun_spelled o.names o.sums s.0 s.1))
+after_cert_line_spelled o new (certlines.Differs raw) f c h =
     let r = bind_ok (row_in o.names raw) (λ r. differs_put o.sums r >>= λ s. read_ok (sums_behind o s)) new h in
     let s = bind_ok (differs_put o.sums r.0) (λ s. read_ok (sums_behind o s)) new r.2 in
-    subst (λ (x : Owed). Marked o x (marks.Differs raw)) (ok_is (sums_behind o s.0) new s.2)
-    (sums_marked o s.0 (marks.Differs raw) f
+    subst (λ (x : Pending). Marked o x (certlines.Differs raw)) (ok_is (sums_behind o s.0) new s.2)
+    (sums_after_cert_line o s.0 (certlines.Differs raw) f
     (differs_put_spelled o.names o.sums r.0 s.0 s.1 ∙ ap (λ (w : List (List ℕ)). open_lines o.names o.sums ++ (codes "|" ∷ codes "differs" ∷ w) ∷ []) (row_spelled o.names raw r.0 c r.1)))
-marked_spelled o new (marks.Row m raw) f c h =
+after_cert_line_spelled o new (certlines.Row m raw) f c h =
     let r = bind_ok (row_in o.names raw) (λ r. row_put o.sums m r >>= λ s. read_ok (sums_behind o s)) new h in
     let s = bind_ok (row_put o.sums m r.0) (λ s. read_ok (sums_behind o s)) new r.2 in
-    subst (λ (x : Owed). Marked o x (marks.Row m raw)) (ok_is (sums_behind o s.0) new s.2)
-    (sums_marked o s.0 (marks.Row m raw) f
+    subst (λ (x : Pending). Marked o x (certlines.Row m raw)) (ok_is (sums_behind o s.0) new s.2)
+    (sums_after_cert_line o s.0 (certlines.Row m raw) f
     (row_put_spelled o.names o.sums m r.0 s.0 s.1 ∙ ap (λ (w : List (List ℕ)). open_lines o.names o.sums ++ line_of_row m w ∷ []) (row_spelled o.names raw r.0 c r.1)))
 
 -- ---- where nothing is owed any more
 
-kept_spelled : (ns : Names) (d : Due) (k : Option Kept) → kept_of d ≡ Ok k → map joined (due_lines ns d) ≡ kept_text ns k
-kept_spelled ns due.Nothing k h = subst (λ (x : Option Kept). [] ≡ kept_text ns x) (ok_is None k h) refl
+kept_spelled : (ns : Names) (d : Obligation) (k : Option StepCerts) → kept_of d ≡ Ok k → map joined (due_lines ns d) ≡ kept_text ns k
+kept_spelled ns due.Nothing k h = subst (λ (x : Option StepCerts). [] ≡ kept_text ns x) (ok_is None k h) refl
 kept_spelled ns (due.Literals wanted cs None) k h =
     let t = opened (has_more wanted cs) (read_ok (Some (kept.Certs cs))) k h in
-    subst (λ (x : Option Kept). map joined (all_lines ns cs) ≡ kept_text ns x) (ok_is (Some (kept.Certs cs)) k t) refl
+    subst (λ (x : Option StepCerts). map joined (all_lines ns cs) ≡ kept_text ns x) (ok_is (Some (kept.Certs cs)) k t) refl
   where
-    opened : (b : Bool) (x : Result (Option Kept) Kind) (y : Option Kept) → cond b (Err Malformed) x ≡ Ok y → x ≡ Ok y
+    opened : (b : Bool) (x : Result (Option StepCerts) FaultKind) (y : Option StepCerts) → cond b (Err Malformed) x ≡ Ok y → x ≡ Ok y
     opened true x y e = absurd cc
     opened false x y e = e
 kept_spelled ns (due.Literals wanted cs (Some t)) k h = absurd cc
 kept_spelled ns (due.Contradiction None) k h = absurd cc
-kept_spelled ns (due.Contradiction (Some a)) k h = subst (λ (x : Option Kept). map joined (against_lines ns a) ≡ kept_text ns x) (ok_is (Some (kept.Against a)) k h) refl
+kept_spelled ns (due.Contradiction (Some a)) k h = subst (λ (x : Option StepCerts). map joined (against_lines ns a) ≡ kept_text ns x) (ok_is (Some (kept.Against a)) k h) refl
 
 -- what is kept is what the lines spell
-pub settled_spelled : (o : Owed) (k : Option Kept) → FitsDue o.due → settled o ≡ Ok k → owed_text o ≡ kept_text o.names k
-unfolding settled
+pub settled_spelled : (o : Pending) (k : Option StepCerts) → FitsDue o.due → finish_certs o ≡ Ok k → owed_text o ≡ kept_text o.names k
+unfolding finish_certs
 settled_spelled o k f h =
     let e = bind_ok (ended o o.sums) (λ e. kept_of e.due) k h in
     let end = ended_spelled o.names o.due o.sums e.0 f e.1 in

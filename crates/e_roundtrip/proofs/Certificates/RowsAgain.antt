@@ -18,13 +18,13 @@ use Rattle.e_line.proofs.SumsAgain.{TermNamed}
 use Rattle.e_names.proofs.Lookups.{InOrder, number_again, named_at}
 use Rattle.e_names.proofs.LitLookups.{lit_number_again, lit_named, TermWithin, two, three}
 use Rattle.e_names.proofs.ShortLits.{few_again}
-use Rattle.e_cert.specs.declared.mark.RawRow.{RawRow}
-use Rattle.e_cert.specs.declared.mark.RawRow.TheVariants as rows
-use Rattle.e_cert.specs.Marks.{row_words}
+use Rattle.e_cert.specs.declared.cert_line.RawRow.{RawRow}
+use Rattle.e_cert.specs.declared.cert_line.RawRow.TheVariants as rows
+use Rattle.e_cert.specs.CertLines.{row_words}
 use Rattle.e_line.specs.Strict.{is_direct}
 use Rattle.e_cert.specs.Owed.{row_in}
 use Rattle.e_spell.specs.Certificates.{row_words as spelled_row}
-use Rattle.e_roundtrip.proofs.Certificates.MarksAgain.{RowNamed}
+use Rattle.e_roundtrip.proofs.Certificates.CertLinesAgain.{RowNamed}
 
 -- a row with the names of its objects
 abbrev pub raw_row : Names → RowName → RawRow

@@ -15,20 +15,20 @@ use Rattle.e_clause.specs.declared.cert.Part.{Part}
 use Rattle.e_clause.specs.declared.cert.Part.TheVariants as parts
 use Rattle.e_clause.specs.Versions.{by_literals, by_places, is_name_of, is_sum_of, are_sums_of, is_part_of}
 use Rattle.e_deriv.specs.declared.names.Names.{Names}
-use Rattle.e_line.specs.declared.fault.Kind.{Kind}
+use Rattle.e_line.specs.declared.fault.FaultKind.{FaultKind}
 use Rattle.e_names.proofs.Lookups.{InOrder}
 use Rattle.e_line.proofs.Bound.{ok_is}
-use Rattle.e_cert.specs.declared.mark.Mark.{Mark}
-use Rattle.e_cert.specs.declared.mark.Mark.TheVariants as marks
-use Rattle.e_cert.specs.Marks.{mark_of, mark_words, row_is_of, mark_is_of}
+use Rattle.e_cert.specs.declared.cert_line.CertLine.{CertLine}
+use Rattle.e_cert.specs.declared.cert_line.CertLine.TheVariants as certlines
+use Rattle.e_cert.specs.CertLines.{cert_line_of, cert_line_words, row_is_of, cert_line_is_of}
 use Rattle.e_spell.specs.Certificates.{row_line, sum_lines, sums_lines, metric_lines, part_lines}
-use Rattle.e_roundtrip.proofs.Certificates.MarksAgain.{MarkNamed, mark_again}
+use Rattle.e_roundtrip.proofs.Certificates.CertLinesAgain.{CertLineNamed, cert_line_again}
 use Rattle.e_roundtrip.proofs.Certificates.RowsAgain.{raw_row, row_spelled, row_named_again}
 use Rattle.e_roundtrip.proofs.Certificates.Feeding.{bar_words, GoodRow, GoodSum, GoodSums, GoodPart}
 
 -- the words are those of a line that has a form in the version
 abbrev pub LineOf : Version → List (List ℕ) → Type 0
-LineOf v words = (m : Mark) × (words ≡ bar_words m) × MarkNamed m × (mark_is_of v m ≡ true)
+LineOf v words = (m : CertLine) × (words ≡ bar_words m) × CertLineNamed m × (cert_line_is_of v m ≡ true)
 
 abbrev pub LinesOf : Version → List (List (List ℕ)) → Type 0
 LinesOf v lines = AllByRecursion (LineOf v) lines
@@ -43,12 +43,12 @@ behind_bar : List (List ℕ) → List (List ℕ)
 behind_bar [] = []
 behind_bar (w ∷ ws) = ws
 
-pub same_mark : (a b : Mark) → MarkNamed a → MarkNamed b → bar_words a ≡ bar_words b → a ≡ b
+pub same_cert_line : (a b : CertLine) → CertLineNamed a → CertLineNamed b → bar_words a ≡ bar_words b → a ≡ b
 unfolding behind_bar
-same_mark a b h k e =
-    let read : Mark → Result Mark Kind = λ m. Ok m in
-    let words : mark_words a ≡ mark_words b = ap behind_bar e in
-    let is : read a ≡ read b = sym (mark_again a h) ∙ ap mark_of words ∙ mark_again b k in
+same_cert_line a b h k e =
+    let read : CertLine → Result CertLine FaultKind = λ m. Ok m in
+    let words : cert_line_words a ≡ cert_line_words b = ap behind_bar e in
+    let is : read a ≡ read b = sym (cert_line_again a h) ∙ ap cert_line_of words ∙ cert_line_again b k in
     ok_is a b is
 
 -- ---- rows
@@ -69,7 +69,7 @@ rows_of v ns [] o g h = tt
 rows_of v ns (x ∷ xs) o g h =
     let p = and_parts (is_name_of v x.1) (is_sum_of v xs) h in (
       (
-        marks.Row x.0 (raw_row ns x.1),
+        certlines.Row x.0 (raw_row ns x.1),
         ap (λ (ws : List (List ℕ)). codes "|" ∷ signed_decimal x.0 ∷ ws) (row_spelled ns x.1),
         (g.0.size, row_named_again ns x.1 o g.0.name),
         row_version v ns x.1 p.0,
@@ -78,7 +78,7 @@ rows_of v ns (x ∷ xs) o g h =
     )
 
 sum_of : (v : Version) (ns : Names) (xs : List (ℤ × RowName)) → InOrder ns → GoodSum ns xs → is_sum_of v xs ≡ true → LinesOf v (sum_lines ns xs)
-sum_of v ns xs o g h = ((marks.Sum, refl, tt, refl), rows_of v ns xs o g.each h)
+sum_of v ns xs o g h = ((certlines.Sum, refl, tt, refl), rows_of v ns xs o g.each h)
 
 sums_of : (v : Version) (ns : Names) (s : Sums) → InOrder ns → GoodSums ns s → are_sums_of v s ≡ true → LinesOf v (sums_lines ns s)
 sums_of v ns (One xs) o g h = sum_of v ns xs o g h
@@ -86,7 +86,7 @@ sums_of v ns (Two differs above below) o g h =
     let p = and_parts (is_name_of v differs) _ h in
     let q = and_parts (is_sum_of v above) (is_sum_of v below) p.1 in (
       (
-        marks.Differs (raw_row ns differs),
+        certlines.Differs (raw_row ns differs),
         ap (λ (ws : List (List ℕ)). codes "|" ∷ codes "differs" ∷ ws) (row_spelled ns differs),
         (row_named_again ns differs o g.name, g.may),
         row_version v ns differs p.0,
@@ -95,13 +95,13 @@ sums_of v ns (Two differs above below) o g h =
     )
 
 pub metric_of : (v : Version) (ns : Names) (m : MetricCert) → InOrder ns → GoodSums ns m.sums → are_sums_of v m.sums ≡ true → LinesOf v (metric_lines ns m)
-metric_of v ns m o g h = ((marks.Metric, refl, tt, refl), sums_of v ns m.sums o g h)
+metric_of v ns m o g h = ((certlines.Metric, refl, tt, refl), sums_of v ns m.sums o g h)
 
 -- ---- parts
 
 pub part_of : (v : Version) (ns : Names) (p : Part) → InOrder ns → GoodPart ns p → is_part_of v p ≡ true → LinesOf v (part_lines ns p)
-part_of v ns parts.Fact o g h = ((marks.Fact, refl, tt, h), tt)
-part_of v ns (parts.FactAt k) o g h = ((marks.FactAt k, refl, g, (and_parts (by_places v) (ltb k (2 ^ 32)) h).0), tt)
+part_of v ns parts.Fact o g h = ((certlines.Fact, refl, tt, h), tt)
+part_of v ns (parts.FactAt k) o g h = ((certlines.FactAt k, refl, g, (and_parts (by_places v) (ltb k (2 ^ 32)) h).0), tt)
 part_of v ns (parts.Metric m) o g h = metric_of v ns m o g h
 
 pub parts_of : (v : Version) (ns : Names) (ps : List Part) → InOrder ns → AllByRecursion (GoodPart ns) ps → list_all (is_part_of v) ps ≡ true → LinesOf v (flat_map (part_lines ns) ps)

@@ -16,7 +16,7 @@ use Rattle.e_deriv.specs.Lines.{theorem_at}
 use Rattle.e_deriv.specs.Parts.{rest_of, inner_of, args_of, filled_in, filled_by}
 use Rattle.e_line.specs.Limits.{most_facts, most_terms, most_blanks, monomials, count_monomials}
 use Rattle.e_names.specs.Applies.{count_blanks}
-use Rattle.e_names.specs.Headed.{Headed}
+use Rattle.e_names.specs.TitledStatements.{TitledStatement}
 use Rattle.e_book.specs.Fits.{NewNamesFit, few_facts, few_terms, few_blanks}
 use Rattle.e_names.specs.HasSpelling.{is_named_by_title}
 use Rattle.e_book.specs.HasSpelling.{is_plain, names_theorems}
@@ -122,7 +122,7 @@ filled_new_names before ns (Contradiction against) f h = h
 filled_new_names before ns (Cases lit first second) f h =
     (filled_new_names before ns first (inner_of f) h.0, filled_new_names before ns second (rest_of f) h.1)
 
-pub filled_theorems : (known : List Headed) (s f : Script) → names_theorems known (filled_by s f) ≡ names_theorems known s
+pub filled_theorems : (known : List TitledStatement) (s f : Script) → names_theorems known (filled_by s f) ≡ names_theorems known s
 unfolding names_theorems filled_by
 filled_theorems known (Cite by rest) f = filled_theorems known rest (rest_of f)
 filled_theorems known (Hence lit cert rest) f = filled_theorems known rest (rest_of f)

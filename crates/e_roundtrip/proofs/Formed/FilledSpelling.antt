@@ -8,8 +8,8 @@ use Rattle.e_deriv.specs.Goal.{goal_of_statement, facts_of_statement}
 use Rattle.e_deriv.specs.Parts.{filled_by}
 use Rattle.e_deriv.specs.Certified.{Certified}
 use Rattle.e_line.specs.Limits.{most_steps, most_depth, count_monomials}
-use Rattle.e_names.specs.Headed.{Headed, stated_by}
-use Rattle.e_book.specs.Entry.{Entry}
+use Rattle.e_names.specs.TitledStatements.{TitledStatement, stated_by}
+use Rattle.e_book.specs.TheoremViews.{TheoremView}
 use Rattle.e_book.specs.Fits.{Fits, NewNamesFit, few_facts, few_terms, few_blanks, has_good_literals}
 use Rattle.e_book.specs.HasSpelling.{is_plain, names_theorems}
 use Rattle.e_book.proofs.WrittenScripts.{filled_literals}
@@ -22,7 +22,7 @@ use Rattle.e_roundtrip.proofs.Formed.FilledForms.{forms_of_certified}
 without_certificates : (s d : Script) → is_plain s ≡ true → erased d ≡ filled_by (erased s) d → erased d ≡ filled_by s d
 without_certificates s d p e = e ∙ ap (λ (x : Script). filled_by x d) (erased_plain s p)
 
-filled_fits : (known : List Headed) (t : Entry) (d : Script) → Fits known t → erased d ≡ filled_by t.script d → Certified (stated_by known) (stated t.statement) d → Fits known (record t { script = erased d })
+filled_fits : (known : List TitledStatement) (t : TheoremView) (d : Script) → Fits known t → erased d ≡ filled_by t.script d → Certified (stated_by known) (stated t.statement) d → Fits known (record t { script = erased d })
 filled_fits known t d h e c =
     let before = stated_by known in
     let st = stated t.statement in

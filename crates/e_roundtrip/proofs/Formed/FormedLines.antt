@@ -30,7 +30,7 @@ use Rattle.e_deriv.specs.Steps.{are_over, is_citation, is_applied, fits, needs}
 use Rattle.e_deriv.specs.Certified.{certs_of}
 use Rattle.e_line.specs.Reading.{◌>>=◌, each, or_malformed}
 use Rattle.e_names.specs.Scope.{scope_of_names}
-use Rattle.e_names.specs.Headed.{Headed, stated_by, theorem_of}
+use Rattle.e_names.specs.TitledStatements.{TitledStatement, stated_by, theorem_of}
 use Rattle.e_line.proofs.Bound.{bind_ok, ok_is, read_ok}
 use Rattle.e_names.proofs.Building.{named_scope}
 use Rattle.e_cert.specs.Owed.{first_cert}
@@ -39,7 +39,7 @@ use Rattle.e_roundtrip.specs.Formed.{cert_formed, certs_formed, against_formed, 
 use Rattle.e_roundtrip.proofs.Formed.CertifiedFormed.{then_lines}
 
 -- the lines of a script that stands where these names are in scope have their form, whatever facts hold before it
-abbrev pub FormedHere : List Headed → Names → Goal → Script → Type 0
+abbrev pub FormedHere : List TitledStatement → Names → Goal → Script → Type 0
 FormedHere known ns goal x = (facts : List Lit) → list_all (is_formed (stated_by known)) (lines (stated_by known) x x (scope_of_names ns) facts goal) ≡ true
 
 -- a line that fits, with certificates of their form, and with what stands beside
@@ -51,7 +51,7 @@ one_formed before x f c b =
 
 -- ---- steps
 
-pub cited_formed : (known : List Headed) (ns : Names) (goal : Goal) (by : By) (x : Script) → is_citation (scope_of_names ns) by ≡ true → FormedHere known ns goal x → FormedHere known ns goal (Cite by x)
+pub cited_formed : (known : List TitledStatement) (ns : Names) (goal : Goal) (by : By) (x : Script) → is_citation (scope_of_names ns) by ≡ true → FormedHere known ns goal x → FormedHere known ns goal (Cite by x)
 unfolding lines
 cited_formed known ns goal by x w h facts =
     let before = stated_by known in
@@ -64,7 +64,7 @@ one_each_formed s l [] h = absurd (true≢false (sym h))
 one_each_formed s l (c ∷ []) h = omega arith
 one_each_formed s l (c ∷ d ∷ cs) h = let p = and_parts (cert_formed s l c) (certs_formed s [] (d ∷ cs)) h in absurd (true≢false (sym p.1))
 
-pub inferred_formed : (known : List Headed) (ns : Names) (goal : Goal) (lit : Lit) (cs : List Cert) (x : Script) → all_in_scope (scope_of_names ns) lit ≡ true → certs_formed (scope_of_names ns) (lit ∷ []) cs ≡ true
+pub inferred_formed : (known : List TitledStatement) (ns : Names) (goal : Goal) (lit : Lit) (cs : List Cert) (x : Script) → all_in_scope (scope_of_names ns) lit ≡ true → certs_formed (scope_of_names ns) (lit ∷ []) cs ≡ true
     → FormedHere known ns goal x → FormedHere known ns goal (Hence lit (first_cert cs) x)
 unfolding lines
 inferred_formed known ns goal lit [] x w c h facts = absurd (true≢false (sym c))
@@ -82,7 +82,7 @@ pub record MadeFormed (ns : Names) (form : Construction) (names : List (List ℕ
   pub count : length names ≡ length (sorts_made form)
   pub certs : certs_formed (scope_of_names ns) (needs_of_form form) cs ≡ true
 
-pub made_formed : (known : List Headed) (ns : Names) (goal : Goal) (form : Construction) (names : List (List ℕ)) (cs : List Cert) (x : Script) → MadeFormed ns form names cs → FormedHere known (named ns (sorts_made form) names) goal x
+pub made_formed : (known : List TitledStatement) (ns : Names) (goal : Goal) (form : Construction) (names : List (List ℕ)) (cs : List Cert) (x : Script) → MadeFormed ns form names cs → FormedHere known (named ns (sorts_made form) names) goal x
     → FormedHere known ns goal (Make form names cs x)
 unfolding lines
 made_formed known ns goal form names cs x m h facts =
@@ -94,13 +94,13 @@ made_formed known ns goal form names cs x m h facts =
     then_lines before l (lines before x x (grown s (sorts_made form)) more goal) (one_formed before l m.fits m.certs refl) behind
 
 -- a use of an earlier theorem, with its certificates: it fits without blanks, and has one new name for each made object
-pub record UseFormed (known : List Headed) (ns : Names) (theorem : ℕ) (args : List (Option Obj)) (names : List (List ℕ)) (cs : List Cert) : Type 0 where
+pub record UseFormed (known : List TitledStatement) (ns : Names) (theorem : ℕ) (args : List (Option Obj)) (names : List (List ℕ)) (cs : List Cert) : Type 0 where
   pub fits : is_applied (stated_by known) theorem (scope_of_names ns) args (written args) ≡ true
   pub full : has_no_blank args ≡ true
   pub count : length names ≡ length (theorem_of known theorem).made
   pub certs : certs_formed (scope_of_names ns) (needs_of_use (theorem_of known theorem) (written args) (scope_of_names ns)) cs ≡ true
 
-pub applied_formed : (known : List Headed) (ns : Names) (goal : Goal) (theorem : ℕ) (args : List (Option Obj)) (names : List (List ℕ)) (cs : List Cert) (x : Script) → UseFormed known ns theorem args names cs
+pub applied_formed : (known : List TitledStatement) (ns : Names) (goal : Goal) (theorem : ℕ) (args : List (Option Obj)) (names : List (List ℕ)) (cs : List Cert) (x : Script) → UseFormed known ns theorem args names cs
     → FormedHere known (named ns (theorem_of known theorem).made names) goal x → FormedHere known ns goal (Apply theorem args names cs x)
 unfolding lines
 applied_formed known ns goal theorem args names cs x u h facts =
@@ -112,7 +112,7 @@ applied_formed known ns goal theorem args names cs x u h facts =
     let behind = subst (λ (z : Scope). list_all (is_formed before) (lines before x x z more goal) ≡ true) (sym (named_scope ns t.made names u.count)) (h more) in
     then_lines before l (lines before x x (grown s t.made) more goal) (one_formed before l u.fits u.certs u.full) behind
 
-pub claimed_formed : (known : List Headed) (ns : Names) (goal : Goal) (shown : List Lit) (inner x : Script) → are_over (scope_of_names ns) shown ≡ true → FormedHere known ns (goal_of shown) inner → FormedHere known ns goal x
+pub claimed_formed : (known : List TitledStatement) (ns : Names) (goal : Goal) (shown : List Lit) (inner x : Script) → are_over (scope_of_names ns) shown ≡ true → FormedHere known ns (goal_of shown) inner → FormedHere known ns goal x
     → FormedHere known ns goal (Claim shown inner x)
 unfolding lines
 claimed_formed known ns goal shown inner x w i h facts =
@@ -130,7 +130,7 @@ pub record CopyFormed (ns : Names) (form : Superpose) (names : List (List ℕ)) 
   pub count : length names ≡ length superposing.sorts_copied
   pub certs : certs_formed (scope_of_names ns) (superposing.needs_of_superposition form) cs ≡ true
 
-pub copied_formed : (known : List Headed) (ns : Names) (goal : Goal) (form : Superpose) (names : List (List ℕ)) (shown : List Lit) (cs : List Cert) (inner x : Script) → CopyFormed ns form names shown cs
+pub copied_formed : (known : List TitledStatement) (ns : Names) (goal : Goal) (form : Superpose) (names : List (List ℕ)) (shown : List Lit) (cs : List Cert) (inner x : Script) → CopyFormed ns form names shown cs
     → FormedHere known (named ns superposing.sorts_copied names) (goal_of shown) inner → FormedHere known ns goal x → FormedHere known ns goal (Superposed form names shown cs inner x)
 unfolding lines
 copied_formed known ns goal form names shown cs inner x c i h facts =
@@ -146,7 +146,7 @@ copied_formed known ns goal form names shown cs inner x c i h facts =
 
 -- ---- closes
 
-pub qed_formed : (known : List Headed) (ns : Names) (goal : Goal) (objects : List Obj) (cs : List Cert) → are_for goal (scope_of_names ns) objects ≡ true → certs_formed (scope_of_names ns) (goal_with goal objects) cs ≡ true
+pub qed_formed : (known : List TitledStatement) (ns : Names) (goal : Goal) (objects : List Obj) (cs : List Cert) → are_for goal (scope_of_names ns) objects ≡ true → certs_formed (scope_of_names ns) (goal_with goal objects) cs ≡ true
     → FormedHere known ns goal (Qed objects cs)
 unfolding lines
 qed_formed known ns goal objects cs w c facts =
@@ -154,14 +154,14 @@ qed_formed known ns goal objects cs w c facts =
     let l = line (Qed objects cs) (Qed objects cs) (scope_of_names ns) facts goal in
     then_lines before l [] (one_formed before l w c refl) refl
 
-pub contradiction_formed : (known : List Headed) (ns : Names) (goal : Goal) (a : Against) → against_formed (scope_of_names ns) a ≡ true → FormedHere known ns goal (Contradiction (Some a))
+pub contradiction_formed : (known : List TitledStatement) (ns : Names) (goal : Goal) (a : Against) → against_formed (scope_of_names ns) a ≡ true → FormedHere known ns goal (Contradiction (Some a))
 unfolding lines
 contradiction_formed known ns goal a c facts =
     let before = stated_by known in
     let l = line (Contradiction (Some a)) (Contradiction (Some a)) (scope_of_names ns) facts goal in
     then_lines before l [] (one_formed before l refl refl c) refl
 
-pub cases_formed : (known : List Headed) (ns : Names) (goal : Goal) (lit : Lit) (first second : Script) → all_in_scope (scope_of_names ns) lit ≡ true → FormedHere known ns goal first → FormedHere known ns goal second
+pub cases_formed : (known : List TitledStatement) (ns : Names) (goal : Goal) (lit : Lit) (first second : Script) → all_in_scope (scope_of_names ns) lit ≡ true → FormedHere known ns goal first → FormedHere known ns goal second
     → FormedHere known ns goal (Cases lit first second)
 unfolding lines
 cases_formed known ns goal lit first second w h k facts =

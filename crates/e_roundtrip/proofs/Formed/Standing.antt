@@ -13,9 +13,9 @@ use Rattle.e_deriv.specs.Goal.{Goal}
 use Rattle.e_deriv.specs.Lines.{Line, lines}
 use Rattle.e_deriv.specs.Steps.{fits, needs}
 use Rattle.e_deriv.specs.Certified.{certs_of, certified_beside, is_certified}
-use Rattle.e_line.specs.declared.form.Form.{Form}
-use Rattle.e_book.specs.declared.draft.Draft.{Draft}
-use Rattle.e_names.specs.Headed.{Headed, stated_by}
+use Rattle.e_line.specs.declared.raw_line.RawLine.{RawLine}
+use Rattle.e_book.specs.declared.draft.TheoremParser.{TheoremParser}
+use Rattle.e_names.specs.TitledStatements.{TitledStatement, stated_by}
 use Rattle.e_names.specs.Scope.{scope_of_names}
 use Rattle.e_book.specs.Steps.{closed, step}
 use Rattle.e_book.specs.Book.{is_done}
@@ -24,8 +24,8 @@ use Rattle.e_line.proofs.Respelled.{GoodForm, as_read}
 use Rattle.e_book.proofs.LinesRead.{Inside, proving}
 use Rattle.e_book.proofs.ScriptParts.{steps_of, close_of}
 use Rattle.e_book.proofs.ScriptRead.{Ready}
-use Rattle.e_cert.specs.declared.owed.Due.{Due}
-use Rattle.e_cert.specs.declared.kept.Kept.{Kept}
+use Rattle.e_cert.specs.declared.owed.Obligation.{Obligation}
+use Rattle.e_cert.specs.declared.kept.StepCerts.{StepCerts}
 use Rattle.e_line.specs.Strict.{is_strict}
 use Rattle.e_read.specs.Strict.{is_apart}
 use Rattle.e_read.specs.Needs.{open_goal, due_of}
@@ -38,7 +38,7 @@ use Rattle.e_roundtrip.proofs.Blocks.LinesTaken.{Along, along_append, step_along
 -- ---- where its first line comes
 
 -- its plain script is ready, the goal is that of the open block, and the certificates of each line have their form
-pub record Stood (known : List Headed) (d : Draft) (i : Inside) (script : Script) (given : List Lit) (goal : Goal) : Type 0 where
+pub record Stood (known : List TitledStatement) (d : TheoremParser) (i : Inside) (script : Script) (given : List Lit) (goal : Goal) : Type 0 where
   pub ready : Ready known d i (erased script) given goal
   pub goal_is : open_goal (proving d i) ≡ goal
   pub formed : list_all (is_formed (stated_by known)) (lines (stated_by known) script script (scope_of_names i.in_scope) given goal) ≡ true
@@ -76,16 +76,16 @@ one_formed before x h =
 -- ---- what its lines lead to
 
 -- its lines with their certificates are taken, up to the line that closes its block, and what closing the block leaves
-pub record Spelled (known : List Headed) (d : Draft) (i : Inside) (script : Script) : Type 0 where
+pub record Spelled (known : List TitledStatement) (d : TheoremParser) (i : Inside) (script : Script) : Type 0 where
   pub last : Inside
   pub lines : last.lines ≡ i.lines + size (erased script)
-  pub along : (e : Draft) → closed (proving d last) i.outers (i.steps ++ steps_of (erased script)) (close_of (erased script)) ≡ Ok e → is_done e ≡ false
+  pub along : (e : TheoremParser) → closed (proving d last) i.outers (i.steps ++ steps_of (erased script)) (close_of (erased script)) ≡ Ok e → is_done e ≡ false
       → Along known (proving d i) (script_lines known i.in_scope script) e (kepts script)
 
 -- ---- one line
 
 -- a line of the script that is taken where this draft has come, with its certificates
-pub record Goes (known : List Headed) (d e : Draft) (f : Form) (owed : Due) (certs : List (List (List ℕ))) (k : Option Kept) : Type 0 where
+pub record Goes (known : List TitledStatement) (d e : TheoremParser) (f : RawLine) (owed : Obligation) (certs : List (List (List ℕ))) (k : Option StepCerts) : Type 0 where
   pub good : GoodForm f
   pub strict : is_strict (as_read f) ≡ true
   pub apart : is_apart d (as_read f) ≡ true
@@ -94,10 +94,10 @@ pub record Goes (known : List Headed) (d e : Draft) (f : Form) (owed : Due) (cer
   pub going : is_done e ≡ false
   pub keeps : Keeps d.in_scope owed certs k
 
-pub goes_along : (known : List Headed) (d e : Draft) (f : Form) (owed : Due) (certs : List (List (List ℕ))) (k : Option Kept) → Goes known d e f owed certs k → Along known d (line_of f ∷ map joined certs) e (option_to_list k)
+pub goes_along : (known : List TitledStatement) (d e : TheoremParser) (f : RawLine) (owed : Obligation) (certs : List (List (List ℕ))) (k : Option StepCerts) → Goes known d e f owed certs k → Along known d (line_of f ∷ map joined certs) e (option_to_list k)
 goes_along known d e f owed certs k g = step_along known d e f owed certs k g.good g.strict g.apart g.owes g.steps g.going g.keeps
 
 -- and more lines behind it
-pub then_along : (known : List Headed) (d e last : Draft) (f : Form) (owed : Due) (certs : List (List (List ℕ))) (k : Option Kept) (more : List (List ℕ)) (ks : List Kept) → Goes known d e f owed certs k → Along known e more last ks
+pub then_along : (known : List TitledStatement) (d e last : TheoremParser) (f : RawLine) (owed : Obligation) (certs : List (List (List ℕ))) (k : Option StepCerts) (more : List (List ℕ)) (ks : List StepCerts) → Goes known d e f owed certs k → Along known e more last ks
     → Along known d (line_of f ∷ (map joined certs ++ more)) last (option_to_list k ++ ks)
 then_along known d e last f owed certs k more ks g rest = along_append known d e last (line_of f ∷ map joined certs) more (option_to_list k) ks (goes_along known d e f owed certs k g) rest

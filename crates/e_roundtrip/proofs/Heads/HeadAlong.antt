@@ -7,16 +7,16 @@ use Rattle.e_literal.specs.declared.literal.Lit.{Lit}
 use Rattle.e_literal.specs.Scopes.{same_sort}
 use Rattle.e_deriv.specs.declared.names.Names.{Names}
 use Rattle.e_theorem.specs.declared.statement.Statement.{Statement}
-use Rattle.e_line.specs.declared.fault.Kind.{Kind}
+use Rattle.e_line.specs.declared.fault.FaultKind.{FaultKind}
 use Rattle.e_line.specs.declared.literal.RawLit.{RawLit}
-use Rattle.e_line.specs.declared.form.Form.{Form}
-use Rattle.e_line.specs.declared.form.Form.TheVariants as forms
-use Rattle.e_book.specs.declared.draft.Draft.{Draft}
-use Rattle.e_book.specs.declared.draft.Place.TheVariants.{Giving, Making, Showing}
+use Rattle.e_line.specs.declared.raw_line.RawLine.{RawLine}
+use Rattle.e_line.specs.declared.raw_line.RawLine.TheVariants as rawlines
+use Rattle.e_book.specs.declared.draft.TheoremParser.{TheoremParser}
+use Rattle.e_book.specs.declared.draft.Section.TheVariants.{Giving, Making, Showing}
 use Rattle.e_line.specs.declared.fault.What.TheVariants as limits
 use Rattle.e_line.specs.Reading.{◌>>=◌, with_front}
 use Rattle.e_line.specs.Limits.{within, most_facts}
-use Rattle.e_names.specs.Headed.{Headed}
+use Rattle.e_names.specs.TitledStatements.{TitledStatement}
 use Rattle.e_names.specs.Scope.{lits_in}
 use Rattle.e_line.specs.LineLimits.{few_monos}
 use Rattle.e_book.specs.Steps.{terms_behind, with_terms, allowed, declared, declares, supposes, makes, shows, proof_begun, stepped, step}
@@ -28,8 +28,8 @@ use Rattle.e_line.proofs.Respelled.{GoodForm, as_read}
 use Rattle.e_book.proofs.Declared.{Runs}
 use Rattle.e_line.proofs.Bound.{bind_ok, ok_is}
 use Rattle.e_line.proofs.Choices.{passed}
-use Rattle.e_cert.specs.declared.owed.Due.TheVariants as due
-use Rattle.e_cert.specs.declared.kept.Kept.{Kept}
+use Rattle.e_cert.specs.declared.owed.Obligation.TheVariants as due
+use Rattle.e_cert.specs.declared.kept.StepCerts.{StepCerts}
 use Rattle.e_line.specs.Strict.{is_strict}
 use Rattle.e_read.specs.Strict.{ends_with, is_apart}
 use Rattle.e_read.specs.Needs.{due_of}
@@ -42,108 +42,108 @@ use Rattle.e_roundtrip.proofs.Formed.Standing.{then_along}
 
 -- lines of a statement, behind objects of these sorts that are declared and made: no line of objects goes on with the sort of the
 -- line before
-abbrev pub Heads : (declared made : List Sort) → List Form → Type 0
+abbrev pub Heads : (declared made : List Sort) → List RawLine → Type 0
 Heads ds ms [] = Unit {0}
-Heads ds ms (forms.Declare sort ns ∷ fs) = (ends_with ds sort ≡ false) × Heads (ds ++ replicate (length ns) sort) ms fs
-Heads ds ms (forms.Made sort ns ∷ fs) = (ends_with ms sort ≡ false) × Heads ds (ms ++ replicate (length ns) sort) fs
-Heads ds ms (forms.Given ls ∷ fs) = (is_strict (forms.Given ls) ≡ true) × Heads ds ms fs
-Heads ds ms (forms.Show ls ∷ fs) = (is_strict (forms.Show ls) ≡ true) × Heads ds ms fs
-Heads ds ms (forms.Proof ∷ fs) = Heads ds ms fs
+Heads ds ms (rawlines.Declare sort ns ∷ fs) = (ends_with ds sort ≡ false) × Heads (ds ++ replicate (length ns) sort) ms fs
+Heads ds ms (rawlines.Made sort ns ∷ fs) = (ends_with ms sort ≡ false) × Heads ds (ms ++ replicate (length ns) sort) fs
+Heads ds ms (rawlines.Given ls ∷ fs) = (is_strict (rawlines.Given ls) ≡ true) × Heads ds ms fs
+Heads ds ms (rawlines.Show ls ∷ fs) = (is_strict (rawlines.Show ls) ≡ true) × Heads ds ms fs
+Heads ds ms (rawlines.Proof ∷ fs) = Heads ds ms fs
 Heads ds ms (f ∷ fs) = ⊥
 
 -- ---- what a line leaves of the sorts that came before
 
-record Sorts (d : Draft) (ds ms : List Sort) : Type 0 where
+record Sorts (d : TheoremParser) (ds ms : List Sort) : Type 0 where
   declared : d.declared ≡ ds
   made : d.made ≡ ms
 
-same_sorts : (x y : Draft) (ds ms : List Sort) → (let ok : Draft → Result Draft Kind = λ d. Ok d in ok x ≡ ok y) → x.declared ≡ ds → x.made ≡ ms → Sorts y ds ms
+same_sorts : (x y : TheoremParser) (ds ms : List Sort) → (let ok : TheoremParser → Result TheoremParser FaultKind = λ d. Ok d in ok x ≡ ok y) → x.declared ≡ ds → x.made ≡ ms → Sorts y ds ms
 same_sorts x y ds ms e a b =
     let is : x ≡ y = ok_is x y e in
-    record { declared = sym (ap (λ (d : Draft). d.declared) is) ∙ a; made = sym (ap (λ (d : Draft). d.made) is) ∙ b }
+    record { declared = sym (ap (λ (d : TheoremParser). d.declared) is) ∙ a; made = sym (ap (λ (d : TheoremParser). d.made) is) ∙ b }
 
-declare_sorts : (known : List Headed) (d e : Draft) (sort : Sort) (ns : List (List ℕ)) → step known d (forms.Declare sort ns) ≡ Ok e → Sorts e (d.declared ++ replicate (length ns) sort) d.made
+declare_sorts : (known : List TitledStatement) (d e : TheoremParser) (sort : Sort) (ns : List (List ℕ)) → step known d (rawlines.Declare sort ns) ≡ Ok e → Sorts e (d.declared ++ replicate (length ns) sort) d.made
 unfolding step stepped
 declare_sorts known d e sort ns h =
-    let p = passed (allowed d.place (forms.Declare sort ns)) (declares d sort ns) e h in
-    let with_new : Names → Draft = λ names. record d { names = names; declared = d.declared ++ replicate (length ns) sort } in
+    let p = passed (allowed d.place (rawlines.Declare sort ns)) (declares d sort ns) e h in
+    let with_new : Names → TheoremParser = λ names. record d { names = names; declared = d.declared ++ replicate (length ns) sort } in
     let n = bind_ok (declared d.names sort ns) (λ names. Ok (with_new names)) e p.1 in
     same_sorts (with_new n.0) e (d.declared ++ replicate (length ns) sort) d.made n.2 refl refl
 
-made_sorts : (known : List Headed) (d e : Draft) (sort : Sort) (ns : List (List ℕ)) → step known d (forms.Made sort ns) ≡ Ok e → Sorts e d.declared (d.made ++ replicate (length ns) sort)
+made_sorts : (known : List TitledStatement) (d e : TheoremParser) (sort : Sort) (ns : List (List ℕ)) → step known d (rawlines.Made sort ns) ≡ Ok e → Sorts e d.declared (d.made ++ replicate (length ns) sort)
 unfolding step stepped
 made_sorts known d e sort ns h =
-    let p = passed (allowed d.place (forms.Made sort ns)) (makes d sort ns) e h in
-    let with_new : Names → Draft = λ names. record d { names = names; made = d.made ++ replicate (length ns) sort; place = Making } in
+    let p = passed (allowed d.place (rawlines.Made sort ns)) (makes d sort ns) e h in
+    let with_new : Names → TheoremParser = λ names. record d { names = names; made = d.made ++ replicate (length ns) sort; place = Making } in
     let n = bind_ok (declared d.names sort ns) (λ names. Ok (with_new names)) e p.1 in
     same_sorts (with_new n.0) e d.declared (d.made ++ replicate (length ns) sort) n.2 refl refl
 
-terms_sorts : (d e : Draft) (raws : List RawLit) → with_terms d raws ≡ Ok e → Sorts e d.declared d.made
+terms_sorts : (d e : TheoremParser) (raws : List RawLit) → with_terms d raws ≡ Ok e → Sorts e d.declared d.made
 unfolding with_terms
 terms_sorts d e raws h =
-    let with_count : ℕ → Draft = λ n. record d { terms = n } in
+    let with_count : ℕ → TheoremParser = λ n. record d { terms = n } in
     let a = bind_ok (few_monos raws) (λ few. terms_behind d.terms raws >>= λ n. Ok (with_count n)) e h in
     let b = bind_ok (terms_behind d.terms raws) (λ n. Ok (with_count n)) e a.2 in
     same_sorts (with_count b.0) e d.declared d.made b.2 refl refl
 
-given_sorts : (known : List Headed) (d e : Draft) (raws : List RawLit) → step known d (forms.Given raws) ≡ Ok e → Sorts e d.declared d.made
+given_sorts : (known : List TitledStatement) (d e : TheoremParser) (raws : List RawLit) → step known d (rawlines.Given raws) ≡ Ok e → Sorts e d.declared d.made
 unfolding step stepped
 given_sorts known d e raws h =
-    let p = passed (allowed d.place (forms.Given raws)) (supposes d raws) e h in
-    let with_given : List Lit → Draft = λ ls. record d { given = ls; facts = d.facts + length raws; place = Giving } in
+    let p = passed (allowed d.place (rawlines.Given raws)) (supposes d raws) e h in
+    let with_given : List Lit → TheoremParser = λ ls. record d { given = ls; facts = d.facts + length raws; place = Giving } in
     let a = bind_ok (with_front d.given (lits_in d.names raws)) (λ ls. within (d.facts + length raws) most_facts limits.Facts >>= λ few. with_terms (with_given ls) raws) e p.1 in
     let b = bind_ok (within (d.facts + length raws) most_facts limits.Facts) (λ few. with_terms (with_given a.0) raws) e a.2 in
     terms_sorts (with_given a.0) e raws b.2
 
-show_sorts : (known : List Headed) (d e : Draft) (raws : List RawLit) → step known d (forms.Show raws) ≡ Ok e → Sorts e d.declared d.made
+show_sorts : (known : List TitledStatement) (d e : TheoremParser) (raws : List RawLit) → step known d (rawlines.Show raws) ≡ Ok e → Sorts e d.declared d.made
 unfolding step stepped
 show_sorts known d e raws h =
-    let p = passed (allowed d.place (forms.Show raws)) (shows d raws) e h in
-    let with_shown : List Lit → Draft = λ ls. record d { shown = ls; place = Showing } in
+    let p = passed (allowed d.place (rawlines.Show raws)) (shows d raws) e h in
+    let with_shown : List Lit → TheoremParser = λ ls. record d { shown = ls; place = Showing } in
     let a = bind_ok (with_front d.shown (lits_in d.names raws)) (λ ls. few_monos raws >>= λ few. Ok (with_shown ls)) e p.1 in
     let b = bind_ok (few_monos raws) (λ few. Ok (with_shown a.0)) e a.2 in
     same_sorts (with_shown a.0) e d.declared d.made b.2 refl refl
 
-proof_sorts : (known : List Headed) (d e : Draft) → step known d forms.Proof ≡ Ok e → Sorts e d.declared d.made
+proof_sorts : (known : List TitledStatement) (d e : TheoremParser) → step known d rawlines.Proof ≡ Ok e → Sorts e d.declared d.made
 unfolding step stepped
 proof_sorts known d e h =
-    let p = passed (allowed d.place forms.Proof) (proof_begun d) e h in
+    let p = passed (allowed d.place rawlines.Proof) (proof_begun d) e h in
     same_sorts _ e d.declared d.made p.1 refl refl
 
 -- ---- the lines are taken
 
-plain_along : (known : List Headed) (d e last : Draft) (f : Form) (fs : List Form) → GoodForm f → is_strict (as_read f) ≡ true → is_apart d (as_read f) ≡ true → due_of known d (as_read f) ≡ Ok due.Nothing → step known d (as_read f) ≡ Ok e
+plain_along : (known : List TitledStatement) (d e last : TheoremParser) (f : RawLine) (fs : List RawLine) → GoodForm f → is_strict (as_read f) ≡ true → is_apart d (as_read f) ≡ true → due_of known d (as_read f) ≡ Ok due.Nothing → step known d (as_read f) ≡ Ok e
     → is_done e ≡ false → Along known e (map line_of fs) last [] → Along known d (map line_of (f ∷ fs)) last []
 plain_along known d e last f fs good strict apart owes steps going rest =
     then_along known d e last f due.Nothing [] None (map line_of fs) [] (record { good = good; strict = strict; apart = apart; owes = owes; steps = steps; going = going; keeps = nothing_kept d.in_scope }) rest
 
-pub draft_is : (x y : Draft) → (let some : Draft → Option Draft = λ d. Some d in some x ≡ some y) → x ≡ y
+pub draft_is : (x y : TheoremParser) → (let some : TheoremParser → Option TheoremParser = λ d. Some d in some x ≡ some y) → x ≡ y
 draft_is x y e = cc
 
-none_along : (known : List Headed) (d : Draft) → Along known d [] d []
-none_along known d = λ r ks of s. record { last = r; version = refl; taken = refl; stands = subst (λ (x : List Kept). Stands r d x) (sym (append-nil ks)) s }
+none_along : (known : List TitledStatement) (d : TheoremParser) → Along known d [] d []
+none_along known d = λ r ks of s. record { last = r; version = refl; taken = refl; stands = subst (λ (x : List StepCerts). Stands r d x) (sym (append-nil ks)) s }
 
-moved : (ds es ms ns : List Sort) (fs : List Form) → ds ≡ es → ms ≡ ns → Heads es ns fs → Heads ds ms fs
+moved : (ds es ms ns : List Sort) (fs : List RawLine) → ds ≡ es → ms ≡ ns → Heads es ns fs → Heads ds ms fs
 moved ds es ms ns fs a b h = subst (λ (x : List Sort). Heads x ms fs) (sym a) (subst (λ (x : List Sort). Heads es x fs) (sym b) h)
 
-pub head_along : (known : List Headed) (d last : Draft) (fs : List Form) → Runs known (Some d) fs (Some last) → Heads d.declared d.made fs → Along known d (map line_of fs) last []
+pub head_along : (known : List TitledStatement) (d last : TheoremParser) (fs : List RawLine) → Runs known (Some d) fs (Some last) → Heads d.declared d.made fs → Along known d (map line_of fs) last []
 unfolding due_of
-head_along known d last [] r h = subst (λ (e : Draft). Along known d [] e []) (draft_is d last r) (none_along known d)
-head_along known d last (forms.Declare sort ns ∷ fs) r h =
+head_along known d last [] r h = subst (λ (e : TheoremParser). Along known d [] e []) (draft_is d last r) (none_along known d)
+head_along known d last (rawlines.Declare sort ns ∷ fs) r h =
     let s = declare_sorts known d r.0 sort ns r.2 in
-    plain_along known d r.0 last (forms.Declare sort ns) fs r.1 refl (rw h.0 refl) refl r.2 r.3 (head_along known r.0 last fs r.4 (moved r.0.declared (d.declared ++ replicate (length ns) sort) r.0.made d.made fs s.declared s.made h.1))
-head_along known d last (forms.Made sort ns ∷ fs) r h =
+    plain_along known d r.0 last (rawlines.Declare sort ns) fs r.1 refl (rw h.0 refl) refl r.2 r.3 (head_along known r.0 last fs r.4 (moved r.0.declared (d.declared ++ replicate (length ns) sort) r.0.made d.made fs s.declared s.made h.1))
+head_along known d last (rawlines.Made sort ns ∷ fs) r h =
     let s = made_sorts known d r.0 sort ns r.2 in
-    plain_along known d r.0 last (forms.Made sort ns) fs r.1 refl (rw h.0 refl) refl r.2 r.3 (head_along known r.0 last fs r.4 (moved r.0.declared d.declared r.0.made (d.made ++ replicate (length ns) sort) fs s.declared s.made h.1))
-head_along known d last (forms.Given ls ∷ fs) r h =
+    plain_along known d r.0 last (rawlines.Made sort ns) fs r.1 refl (rw h.0 refl) refl r.2 r.3 (head_along known r.0 last fs r.4 (moved r.0.declared d.declared r.0.made (d.made ++ replicate (length ns) sort) fs s.declared s.made h.1))
+head_along known d last (rawlines.Given ls ∷ fs) r h =
     let s = given_sorts known d r.0 ls r.2 in
-    plain_along known d r.0 last (forms.Given ls) fs r.1 h.0 refl refl r.2 r.3 (head_along known r.0 last fs r.4 (moved r.0.declared d.declared r.0.made d.made fs s.declared s.made h.1))
-head_along known d last (forms.Show ls ∷ fs) r h =
+    plain_along known d r.0 last (rawlines.Given ls) fs r.1 h.0 refl refl r.2 r.3 (head_along known r.0 last fs r.4 (moved r.0.declared d.declared r.0.made d.made fs s.declared s.made h.1))
+head_along known d last (rawlines.Show ls ∷ fs) r h =
     let s = show_sorts known d r.0 ls r.2 in
-    plain_along known d r.0 last (forms.Show ls) fs r.1 h.0 refl refl r.2 r.3 (head_along known r.0 last fs r.4 (moved r.0.declared d.declared r.0.made d.made fs s.declared s.made h.1))
-head_along known d last (forms.Proof ∷ fs) r h =
+    plain_along known d r.0 last (rawlines.Show ls) fs r.1 h.0 refl refl r.2 r.3 (head_along known r.0 last fs r.4 (moved r.0.declared d.declared r.0.made d.made fs s.declared s.made h.1))
+head_along known d last (rawlines.Proof ∷ fs) r h =
     let s = proof_sorts known d r.0 r.2 in
-    plain_along known d r.0 last forms.Proof fs r.1 refl refl refl r.2 r.3 (head_along known r.0 last fs r.4 (moved r.0.declared d.declared r.0.made d.made fs s.declared s.made h))
+    plain_along known d r.0 last rawlines.Proof fs r.1 refl refl refl r.2 r.3 (head_along known r.0 last fs r.4 (moved r.0.declared d.declared r.0.made d.made fs s.declared s.made h))
 head_along known d last (f ∷ fs) r h = absurd h
 
 -- ---- neighbouring lines of objects are of different sorts
@@ -198,21 +198,21 @@ fresh_behind : (ss : List Sort) (names : List (List ℕ)) (sort : Sort) (gs : Li
 fresh_behind ss names sort [] n b = tt
 fresh_behind ss names sort (g ∷ gs) n b = last_is ss names sort g.sort n ∙ b
 
-declared_heads : (ds ms : List Sort) (gs : List Group) (more : List Form) → Fresh ds gs → Differ gs → ((es : List Sort) → Heads es ms more) → Heads ds ms (map declare_form gs ++ more)
+declared_heads : (ds ms : List Sort) (gs : List Group) (more : List RawLine) → Fresh ds gs → Differ gs → ((es : List Sort) → Heads es ms more) → Heads ds ms (map declare_form gs ++ more)
 declared_heads ds ms [] more f h rest = rest ds
 declared_heads ds ms (g ∷ gs) more f h rest = (f, declared_heads (ds ++ replicate (length g.names) g.sort) ms gs more (fresh_behind ds g.names g.sort gs h.0 h.1) h.2 rest)
 
-made_heads : (ds ms : List Sort) (gs : List Group) (more : List Form) → Fresh ms gs → Differ gs → ((es : List Sort) → Heads ds es more) → Heads ds ms (map made_form gs ++ more)
+made_heads : (ds ms : List Sort) (gs : List Group) (more : List RawLine) → Fresh ms gs → Differ gs → ((es : List Sort) → Heads ds es more) → Heads ds ms (map made_form gs ++ more)
 made_heads ds ms [] more f h rest = rest ms
 made_heads ds ms (g ∷ gs) more f h rest = (f, made_heads ds (ms ++ replicate (length g.names) g.sort) gs more (fresh_behind ms g.names g.sort gs h.0 h.1) h.2 rest)
 
 -- ---- the whole
 
-given_heads : (ds ms : List Sort) (ns : Names) (ls : List Lit) (more : List Form) → Heads ds ms more → Heads ds ms (map (given_form ns) ls ++ more)
+given_heads : (ds ms : List Sort) (ns : Names) (ls : List Lit) (more : List RawLine) → Heads ds ms more → Heads ds ms (map (given_form ns) ls ++ more)
 given_heads ds ms ns [] more h = h
 given_heads ds ms ns (l ∷ ls) more h = (rw (lit_direct ns l) refl, given_heads ds ms ns ls more h)
 
-shown_heads : (ds ms : List Sort) (ns : Names) (ls : List Lit) (more : List Form) → Heads ds ms more → Heads ds ms (map (show_form ns) ls ++ more)
+shown_heads : (ds ms : List Sort) (ns : Names) (ls : List Lit) (more : List RawLine) → Heads ds ms more → Heads ds ms (map (show_form ns) ls ++ more)
 shown_heads ds ms ns [] more h = h
 shown_heads ds ms ns (l ∷ ls) more h = (rw (lit_direct ns l) refl, shown_heads ds ms ns ls more h)
 
@@ -220,18 +220,18 @@ first_fresh : (gs : List Group) → Fresh [] gs
 first_fresh [] = tt
 first_fresh (g ∷ gs) = refl
 
-shown_part : (ds : List Sort) (ns : Names) (t : Statement) → Heads ds [] (shown_forms ns t ++ forms.Proof ∷ [])
+shown_part : (ds : List Sort) (ns : Names) (t : Statement) → Heads ds [] (shown_forms ns t ++ rawlines.Proof ∷ [])
 shown_part ds ns t =
     let gs = grouped ns (made_objects t) in
     let shown = map (show_form ns) t.shown in
-    subst (λ (fs : List Form). Heads ds [] fs) (sym (append_assoc (map made_form gs) shown (forms.Proof ∷ [])))
-    (made_heads ds [] gs (shown ++ forms.Proof ∷ []) (first_fresh gs) (groups_differ ns (made_objects t)) (λ ms. shown_heads ds ms ns t.shown (forms.Proof ∷ []) tt))
+    subst (λ (fs : List RawLine). Heads ds [] fs) (sym (append_assoc (map made_form gs) shown (rawlines.Proof ∷ [])))
+    (made_heads ds [] gs (shown ++ rawlines.Proof ∷ []) (first_fresh gs) (groups_differ ns (made_objects t)) (λ ms. shown_heads ds ms ns t.shown (rawlines.Proof ∷ []) tt))
 
 -- all lines of a statement behind its title
-pub statement_heads : (ns : Names) (t : Statement) → Heads [] [] (given_forms ns t ++ (shown_forms ns t ++ forms.Proof ∷ []))
+pub statement_heads : (ns : Names) (t : Statement) → Heads [] [] (given_forms ns t ++ (shown_forms ns t ++ rawlines.Proof ∷ []))
 statement_heads ns t =
     let gs = grouped ns (declared_objects t) in
     let given = map (given_form ns) t.given in
-    let more = shown_forms ns t ++ forms.Proof ∷ [] in
-    subst (λ (fs : List Form). Heads [] [] fs) (sym (append_assoc (map declare_form gs) given more))
+    let more = shown_forms ns t ++ rawlines.Proof ∷ [] in
+    subst (λ (fs : List RawLine). Heads [] [] fs) (sym (append_assoc (map declare_form gs) given more))
     (declared_heads [] [] gs (given ++ more) (first_fresh gs) (groups_differ ns (declared_objects t)) (λ ds. given_heads ds [] ns t.given more (shown_part ds ns t)))

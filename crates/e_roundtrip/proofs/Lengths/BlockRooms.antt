@@ -6,8 +6,8 @@ use Rattle.e_clause.specs.declared.cert.Version.{Version}
 use Rattle.e_theorem.specs.Statements.{stated}
 use Rattle.e_deriv.specs.Script.{Script, erased}
 use Rattle.e_deriv.specs.Goal.{goal_of_statement, facts_of_statement}
-use Rattle.e_names.specs.Headed.{Headed}
-use Rattle.e_book.specs.Entry.{Entry}
+use Rattle.e_names.specs.TitledStatements.{TitledStatement}
+use Rattle.e_book.specs.TheoremViews.{TheoremView}
 use Rattle.e_line.specs.Canonical.{line_of}
 use Rattle.e_names.specs.Canonical.{end_form}
 use Rattle.e_book.specs.Canonical.{head_forms, names_of_proof}
@@ -24,7 +24,7 @@ use Rattle.e_roundtrip.proofs.Lengths.HeadRooms.{IsFew, few_objects, length_next
 use Rattle.e_roundtrip.proofs.Lengths.ScriptRooms.{AllFew, short_script}
 
 -- the lines of one block
-short_block : (v : Version) (known : List Headed) (t : Entry) (d : Script) → AllFew known → CanBeSpelled v known t d → AreShort 262144 (spelled_lines known t d)
+short_block : (v : Version) (known : List TitledStatement) (t : TheoremView) (d : Script) → AllFew known → CanBeSpelled v known t d → AreShort 262144 (spelled_lines known t d)
 short_block v known t d k c =
     let h = c.plain in
     let st = stated t.statement in
@@ -36,17 +36,17 @@ short_block v known t d k c =
     (short_script known (started t) (begins t) d (facts_of_statement st) (goal_of_statement st) k (omega (arith, few, length_next (scope_of st) st.made)) (stood v known t d c o)) (short_end, tt))
 
 -- one more statement with few objects
-one_more : (known : List Headed) (t : Entry) → AllFew known → IsFew t.statement → AllFew (with_theorem known t)
+one_more : (known : List TitledStatement) (t : TheoremView) → AllFew known → IsFew t.statement → AllFew (with_theorem known t)
 one_more [] t k few = (few, tt)
 one_more (h ∷ known) t k few = (k.0, one_more known t k.1 few)
 
 -- the lines of blocks, one behind the other
-abbrev pub lines_of_blocks : List Headed → List (Entry × Script) → List (List ℕ)
+abbrev pub lines_of_blocks : List TitledStatement → List (TheoremView × Script) → List (List ℕ)
 lines_of_blocks known [] = []
 lines_of_blocks known (p ∷ ps) = spelled_lines known p.0 p.1 ++ lines_of_blocks (with_theorem known p.0) ps
 
 -- the lines of all blocks
-pub short_blocks : (v : Version) (known : List Headed) (ps : List (Entry × Script)) → AllFew known → AllCanBeSpelled v known ps → AreShort 262144 (lines_of_blocks known ps)
+pub short_blocks : (v : Version) (known : List TitledStatement) (ps : List (TheoremView × Script)) → AllFew known → AllCanBeSpelled v known ps → AreShort 262144 (lines_of_blocks known ps)
 short_blocks v known [] k h = tt
 short_blocks v known (p ∷ ps) k h =
     let few = few_objects known (record p.0 { script = erased p.1 }) h.0.plain in

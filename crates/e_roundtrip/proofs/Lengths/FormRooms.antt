@@ -23,7 +23,7 @@ use Rattle.e_construct.specs.Lines.{Piece, New, Argument, Word, pieces}
 use Rattle.e_deriv.specs.declared.names.Names.{Names}
 use Rattle.e_line.specs.Limits.{most_facts, most_terms, count_monomials}
 use Rattle.e_line.specs.Superposes.{superpose_pieces}
-use Rattle.e_names.specs.Headed.{Headed, title_at}
+use Rattle.e_names.specs.TitledStatements.{TitledStatement, title_at}
 use Rattle.e_line.specs.Canonical.{filled, avoid_words, argument_word, made_words, lit_words, lits_words, line_of}
 use Rattle.e_names.specs.Canonical.{argument_name, name_at, name_of_object, raw_of, rule_name, placed_names, by_form, hence_form, let_form, apply_form, claim_form, superpose_form, qed_form, contradiction_form, cases_form, else_form, end_form}
 use Rattle.e_line.specs.HasSpelling.{AreNames}
@@ -201,7 +201,7 @@ room_made [] h = room_more 0 3 [] (omega arith) room_none
 room_made (n ∷ ns) h = room_word 2 (17 * length (n ∷ ns)) (codes "as") (n ∷ ns) refl (room_words (n ∷ ns) h)
 
 -- the use of an earlier theorem
-pub short_apply : (known : List Headed) (ns : Names) (theorem : ℕ) (args : List (Option Obj)) (names : List (List ℕ)) → InOrder ns → is_title (title_at known theorem) ≡ true → AreNames names → length args ≤ 80 → length names ≤ 80
+pub short_apply : (known : List TitledStatement) (ns : Names) (theorem : ℕ) (args : List (Option Obj)) (names : List (List ℕ)) → InOrder ns → is_title (title_at known theorem) ≡ true → AreNames names → length args ≤ 80 → length names ≤ 80
     → IsShortLine (line_of (apply_form known ns theorem args names))
 short_apply known ns theorem args names o t h few less =
     let words = map argument_word (map (argument_name ns) args) in

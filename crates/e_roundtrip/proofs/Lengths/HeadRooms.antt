@@ -16,10 +16,10 @@ use Rattle.e_literal.proofs.Growing.{total_grown}
 use Rattle.e_theorem.specs.declared.statement.Statement.{Statement}
 use Rattle.e_theorem.specs.Statements.{stated}
 use Rattle.e_deriv.specs.declared.names.Names.{Names}
-use Rattle.e_line.specs.declared.form.Form.{Form}
-use Rattle.e_line.specs.declared.form.Form.TheVariants as forms
-use Rattle.e_names.specs.Headed.{Headed}
-use Rattle.e_book.specs.Entry.{Entry}
+use Rattle.e_line.specs.declared.raw_line.RawLine.{RawLine}
+use Rattle.e_line.specs.declared.raw_line.RawLine.TheVariants as rawlines
+use Rattle.e_names.specs.TitledStatements.{TitledStatement}
+use Rattle.e_book.specs.TheoremViews.{TheoremView}
 use Rattle.e_line.specs.Canonical.{lit_words, sort_word, line_of}
 use Rattle.e_names.specs.Canonical.{raw_of, name_of_object, given_form, show_form}
 use Rattle.e_book.specs.Canonical.{Group, group, grouped_before, grouped, declare_form, made_form, declared_objects, made_objects, given_forms, shown_forms, head_forms}
@@ -44,7 +44,7 @@ abbrev pub IsFew : Statement → Type 0
 IsFew t = length t.declared + length t.made ≤ 80
 
 -- a theorem with a spelling has few objects
-pub few_objects : (known : List Headed) (t : Entry) → HasSpelling known t → IsFew t.statement
+pub few_objects : (known : List TitledStatement) (t : TheoremView) → HasSpelling known t → IsFew t.statement
 few_objects known t h =
     let s = scope_of (stated t.statement) in
     let inner : total s ≡ length t.statement.declared = omega (arith, total_grown nothing t.statement.declared) in
@@ -104,11 +104,11 @@ lit_line : (word : List ℕ) (ns : Names) (l : Lit) → is_short 16 word ≡ tru
 lit_line word ns l e o g = room_word 16 2177 word _ e (room_append 2177 0 (lit_words (raw_of ns l)) [] (room_one ns l o g) room_none)
 
 -- the lines of these forms
-abbrev AreShortForms : List Form → Type 0
+abbrev AreShortForms : List RawLine → Type 0
 AreShortForms fs = AreShort 262144 (map line_of fs)
 
 -- forms behind forms
-forms_append : (fs gs : List Form) → AreShortForms fs → AreShortForms gs → AreShortForms (fs ++ gs)
+forms_append : (fs gs : List RawLine) → AreShortForms fs → AreShortForms gs → AreShortForms (fs ++ gs)
 forms_append [] gs h k = k
 forms_append (f ∷ fs) gs h k = (h.0, forms_append fs gs h.1 k)
 
@@ -139,7 +139,7 @@ all_shown ns (l ∷ ls) o g =
 -- ---- the whole
 
 -- the lines from the title to the word proof
-pub short_head : (known : List Headed) (t : Entry) → HasSpelling known t → AreShort 262144 (map line_of (head_forms t))
+pub short_head : (known : List TitledStatement) (t : TheoremView) → HasSpelling known t → AreShort 262144 (map line_of (head_forms t))
 short_head known t h =
     let ns = t.names in
     let st = t.statement in
@@ -147,7 +147,7 @@ short_head known t h =
     let few = few_objects known t h in
     let declared = declared_objects st in
     let made = made_objects st in
-    let proof : List Form = forms.Proof ∷ [] in
+    let proof : List RawLine = rawlines.Proof ∷ [] in
     let given = forms_append (map declare_form (grouped ns declared)) (map (given_form ns) st.given)
     (all_declare (length declared) (grouped ns declared) (omega (arith, few, length_next nothing st.declared)) (groups_of ns declared o)) (all_given ns st.given o h.fits.good_given) in
     let shown = forms_append (map made_form (grouped ns made)) (map (show_form ns) st.shown)

@@ -31,10 +31,10 @@ use Rattle.e_deriv.specs.Lines.{line, lines}
 use Rattle.e_deriv.specs.Naming.{named}
 use Rattle.e_deriv.specs.Parts.{written as written_args}
 use Rattle.e_roundtrip.specs.Formed.{is_formed}
-use Rattle.e_book.specs.declared.blocks.Opened.TheVariants as opened
-use Rattle.e_book.specs.declared.draft.Draft.{Draft}
+use Rattle.e_book.specs.declared.blocks.BlockKind.TheVariants as opened
+use Rattle.e_book.specs.declared.draft.TheoremParser.{TheoremParser}
 use Rattle.e_line.specs.Limits.{most_facts}
-use Rattle.e_names.specs.Headed.{Headed, stated_by, theorem_of, title_at}
+use Rattle.e_names.specs.TitledStatements.{TitledStatement, stated_by, theorem_of, title_at}
 use Rattle.e_names.specs.Scope.{scope_of_names}
 use Rattle.e_names.specs.Fits.{is_diagram_lit}
 use Rattle.e_book.specs.Fits.{few_facts, has_good_literals, NewNamesFit}
@@ -60,7 +60,7 @@ use Rattle.e_roundtrip.proofs.Lengths.HeadRooms.{IsFew}
 -- ---- what is known
 
 -- each statement has few objects
-abbrev pub AllFew : List Headed → Type 0
+abbrev pub AllFew : List TitledStatement → Type 0
 AllFew known = AllByRecursion (λ h. IsFew h.statement) known
 
 -- a theorem has few objects
@@ -69,7 +69,7 @@ record FewAt (t : Stated) : Type 0 where
   made : length t.made ≤ 80
 
 -- each theorem that is known, or is past the last, has few objects
-few_at : (known : List Headed) (k : ℕ) → AllFew known → FewAt (theorem_of known k)
+few_at : (known : List TitledStatement) (k : ℕ) → AllFew known → FewAt (theorem_of known k)
 few_at [] k h = record { declared = omega arith; made = omega arith }
 few_at (x ∷ known) zero h = record { declared = omega (arith, h.0); made = omega (arith, h.0) }
 few_at (x ∷ known) (suc k) h = few_at known k h.1
@@ -77,7 +77,7 @@ few_at (x ∷ known) (suc k) h = few_at known k h.1
 -- ---- lines
 
 -- the lines of a script where these names are in scope
-abbrev AreShortLines : List Headed → Inside → Script → Type 0
+abbrev AreShortLines : List TitledStatement → Inside → Script → Type 0
 AreShortLines known i script = AreShort 262144 (script_lines known i.in_scope script)
 
 -- a choice has an object for each entry
@@ -90,7 +90,7 @@ as_many (None ∷ xs) (o ∷ os) h = ap suc (as_many xs os h)
 as_many (Some x ∷ xs) (o ∷ os) h = ap suc (as_many xs os (and_parts (same_obj x o) (fills xs os) h).1)
 
 -- a citation
-cite_short : (known : List Headed) (d : Draft) (i : Inside) (b : By) (rest : Script) (given : List Lit) (goal : Goal) → Stood known d i (Cite b rest) given goal → AreShortLines known i rest → AreShortLines known i (Cite b rest)
+cite_short : (known : List TitledStatement) (d : TheoremParser) (i : Inside) (b : By) (rest : Script) (given : List Lit) (goal : Goal) → Stood known d i (Cite b rest) given goal → AreShortLines known i rest → AreShortLines known i (Cite b rest)
 unfolding erased script_lines lines has_good_literals
 cite_short known d i b rest given goal s more =
     let before = stated_by known in
@@ -104,7 +104,7 @@ cite_short known d i b rest given goal s more =
     (short_by i.in_scope b s.ready.order (diagram_is_good b.lit good) (few_cited b.rule b.args r.1), more)
 
 -- an inference with its certificate
-hence_short : (known : List Headed) (d : Draft) (i : Inside) (l : Lit) (c : Cert) (rest : Script) (given : List Lit) (goal : Goal) → Stood known d i (Hence l (Some c) rest) given goal → AreShortLines known i rest → AreShortLines known i (Hence l (Some c) rest)
+hence_short : (known : List TitledStatement) (d : TheoremParser) (i : Inside) (l : Lit) (c : Cert) (rest : Script) (given : List Lit) (goal : Goal) → Stood known d i (Hence l (Some c) rest) given goal → AreShortLines known i rest → AreShortLines known i (Hence l (Some c) rest)
 unfolding erased script_lines lines has_good_literals
 hence_short known d i l c rest given goal s more =
     let before = stated_by known in
@@ -117,7 +117,7 @@ hence_short known d i l c rest given goal s more =
     (short_hence ns l s.ready.order good, short_append (certs_lines ns (c ∷ [])) (script_lines known ns rest) certs more)
 
 -- a construction: what it avoids is bounded by the facts that it gives
-make_short : (known : List Headed) (d : Draft) (i : Inside) (form : Construction) (names : List (List ℕ)) (certs : List Cert) (rest : Script) (given : List Lit) (goal : Goal) → Stood known d i (Make form names certs rest) given goal
+make_short : (known : List TitledStatement) (d : TheoremParser) (i : Inside) (form : Construction) (names : List (List ℕ)) (certs : List Cert) (rest : Script) (given : List Lit) (goal : Goal) → Stood known d i (Make form names certs rest) given goal
     → AreShortLines known (constructed i form names) rest → AreShortLines known i (Make form names certs rest)
 unfolding erased script_lines lines is_plain few_facts
 make_short known d i form names certs rest given goal s more =
@@ -134,7 +134,7 @@ make_short known d i form names certs rest given goal s more =
     (short_let ns form names r.order words (omega (arith, most, avoided_give form sc)), short_append (certs_lines ns certs) (script_lines known (named ns (sorts_made form) names) rest) own more)
 
 -- the use of an earlier theorem
-apply_short : (known : List Headed) (d : Draft) (i : Inside) (theorem : ℕ) (args : List (Option Obj)) (names : List (List ℕ)) (certs : List Cert) (rest : Script) (given : List Lit) (goal : Goal) → AllFew known
+apply_short : (known : List TitledStatement) (d : TheoremParser) (i : Inside) (theorem : ℕ) (args : List (Option Obj)) (names : List (List ℕ)) (certs : List Cert) (rest : Script) (given : List Lit) (goal : Goal) → AllFew known
     → Stood known d i (Apply theorem args names certs rest) given goal → AreShortLines known (applied_behind i (theorem_of known theorem) theorem args names) rest → AreShortLines known i (Apply theorem args names certs rest)
 unfolding erased script_lines lines NewNamesFit names_theorems
 apply_short known d i theorem args names certs rest given goal k s more =
@@ -158,7 +158,7 @@ apply_short known d i theorem args names certs rest given goal k s more =
     )
 
 -- a claim
-claim_short : (known : List Headed) (d : Draft) (i : Inside) (shown : List Lit) (inner rest : Script) (given : List Lit) (goal : Goal) → Stood known d i (Claim shown inner rest) given goal
+claim_short : (known : List TitledStatement) (d : TheoremParser) (i : Inside) (shown : List Lit) (inner rest : Script) (given : List Lit) (goal : Goal) → Stood known d i (Claim shown inner rest) given goal
     → AreShortLines known i inner → AreShortLines known i rest → AreShortLines known i (Claim shown inner rest)
 unfolding erased script_lines
 claim_short known d i shown inner rest given goal s inside more =
@@ -167,7 +167,7 @@ claim_short known d i shown inner rest given goal s inside more =
     (short_claim ns shown s.ready.order p.plain.good (omega (arith, p.facts)) (omega (arith, p.terms)), short_append (script_lines known ns inner) (script_lines known ns rest) inside more)
 
 -- a superposition
-copy_short : (known : List Headed) (d : Draft) (i : Inside) (form : Superpose) (names : List (List ℕ)) (shown : List Lit) (certs : List Cert) (inner rest : Script) (given : List Lit) (goal : Goal)
+copy_short : (known : List TitledStatement) (d : TheoremParser) (i : Inside) (form : Superpose) (names : List (List ℕ)) (shown : List Lit) (certs : List Cert) (inner rest : Script) (given : List Lit) (goal : Goal)
     → Stood known d i (Superposed form names shown certs inner rest) given goal → AreShortLines known (copied i form names shown) inner → AreShortLines known i rest → AreShortLines known i (Superposed form names shown certs inner rest)
 unfolding erased script_lines
 copy_short known d i form names shown certs inner rest given goal s inside more =
@@ -183,7 +183,7 @@ copy_short known d i form names shown certs inner rest given goal s inside more 
     )
 
 -- the close line that shows the goal
-qed_short : (known : List Headed) (d : Draft) (i : Inside) (os : List Obj) (certs : List Cert) (given : List Lit) (goal : Goal) → Stood known d i (Qed os certs) given goal → length goal.made ≤ 80 → AreShortLines known i (Qed os certs)
+qed_short : (known : List TitledStatement) (d : TheoremParser) (i : Inside) (os : List Obj) (certs : List Cert) (given : List Lit) (goal : Goal) → Stood known d i (Qed os certs) given goal → length goal.made ≤ 80 → AreShortLines known i (Qed os certs)
 unfolding script_lines lines
 qed_short known d i os certs given goal s few =
     let before = stated_by known in
@@ -198,7 +198,7 @@ qed_short known d i os certs given goal s few =
     (short_qed ns os r.order (omega (arith, few, count, length-map goal.made (λ o. o.sort))), short_certs ns wanted certs r.order (good_certs ns wanted certs one.certs))
 
 -- a contradiction
-contradiction_short : (known : List Headed) (d : Draft) (i : Inside) (a : Against) (given : List Lit) (goal : Goal) → Stood known d i (Contradiction (Some a)) given goal → AreShortLines known i (Contradiction (Some a))
+contradiction_short : (known : List TitledStatement) (d : TheoremParser) (i : Inside) (a : Against) (given : List Lit) (goal : Goal) → Stood known d i (Contradiction (Some a)) given goal → AreShortLines known i (Contradiction (Some a))
 unfolding script_lines lines
 contradiction_short known d i a given goal s =
     let before = stated_by known in
@@ -208,7 +208,7 @@ contradiction_short known d i a given goal s =
     (short_contradiction, short_against ns a s.ready.order (good_against ns a one.beside))
 
 -- a split
-cases_short : (known : List Headed) (d : Draft) (i : Inside) (l : Lit) (one two : Script) (given : List Lit) (goal : Goal) → Stood known d i (Cases l one two) given goal → AreShortLines known i one → AreShortLines known i two
+cases_short : (known : List TitledStatement) (d : TheoremParser) (i : Inside) (l : Lit) (one two : Script) (given : List Lit) (goal : Goal) → Stood known d i (Cases l one two) given goal → AreShortLines known i one → AreShortLines known i two
     → AreShortLines known i (Cases l one two)
 unfolding erased script_lines
 cases_short known d i l one two given goal s first second =
@@ -219,7 +219,7 @@ cases_short known d i l one two given goal s first second =
 -- ---- all lines
 
 -- each line of a script that stands there, and of its certificates
-pub short_script : (known : List Headed) (d : Draft) (i : Inside) (script : Script) (given : List Lit) (goal : Goal) → AllFew known → length goal.made ≤ 80 → Stood known d i script given goal → AreShortLines known i script
+pub short_script : (known : List TitledStatement) (d : TheoremParser) (i : Inside) (script : Script) (given : List Lit) (goal : Goal) → AllFew known → length goal.made ≤ 80 → Stood known d i script given goal → AreShortLines known i script
 short_script known d i (Cite b rest) given goal k m s =
     cite_short known d i b rest given goal s (short_script known d (behind i (Cited b) 1) rest (joined given b.lit) goal k m (cite_next known d i b rest given goal s))
 short_script known d i (Hence l None rest) given goal k m s = absurd (no_hence known d i l rest given goal s)

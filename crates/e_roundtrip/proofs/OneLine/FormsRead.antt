@@ -2,13 +2,13 @@
 use Rattle.std.proofs.Common.{◌≡◌, ℕ, ◌<◌, true, List, [], ◌∷◌, length, take, drop, Ok, subst, arith}
 use Rattle.e_line.specs.declared.literal.RawLit.{RawLit}
 use Rattle.e_line.specs.declared.superposes.RawSuperpose.{RawSuperpose}
-use Rattle.e_line.specs.declared.form.Form.{Form}
-use Rattle.e_line.specs.declared.form.Form.TheVariants as forms
+use Rattle.e_line.specs.declared.raw_line.RawLine.{RawLine}
+use Rattle.e_line.specs.declared.raw_line.RawLine.TheVariants as rawlines
 use Rattle.e_line.specs.Reading.{◌>>=◌, names_of, not_empty, some_names}
 use Rattle.e_line.specs.Literals.{is_diagram_raw, lits_of}
 use Rattle.e_line.specs.Superposes.{superpose_pieces, head_of, superpose_of}
 use Rattle.e_line.specs.Lets.{are_words_of, new_words, argument_words}
-use Rattle.e_line.specs.Forms.{form_of}
+use Rattle.e_line.specs.RawLines.{raw_line_of}
 use Rattle.e_line.proofs.Bound.{bind_ok, ok_is, read_ok}
 use Rattle.e_line.proofs.Choices.{passed}
 use Rattle.e_line.proofs.FormsByWord.{OfEachForm, form_by_word}
@@ -19,17 +19,17 @@ use Rattle.e_roundtrip.proofs.OneLine.LinePieces.{OneLine, let_line}
 
 -- lines of objects have names, no <= is negated, a citation compares no sums, a construction has one line, and a superposition two new
 -- names
-abbrev pub Read : Form → Type 0
-Read (forms.Declare sort ns) = 0 < length ns
-Read (forms.Made sort ns) = 0 < length ns
-Read (forms.Given raws) = AllSigned raws
-Read (forms.Show raws) = AllSigned raws
-Read (forms.By r ns l) = is_diagram_raw l.atom ≡ true
-Read (forms.Hence l) = Signed l
-Read (forms.Let l) = OneLine l
-Read (forms.Claim raws) = AllSigned raws
-Read (forms.Superpose s) = AllSigned s.shown × (length s.new ≡ 2)
-Read (forms.Cases l) = Signed l
+abbrev pub Read : RawLine → Type 0
+Read (rawlines.Declare sort ns) = 0 < length ns
+Read (rawlines.Made sort ns) = 0 < length ns
+Read (rawlines.Given raws) = AllSigned raws
+Read (rawlines.Show raws) = AllSigned raws
+Read (rawlines.By r ns l) = is_diagram_raw l.atom ≡ true
+Read (rawlines.Hence l) = Signed l
+Read (rawlines.Let l) = OneLine l
+Read (rawlines.Claim raws) = AllSigned raws
+Read (rawlines.Superpose s) = AllSigned s.shown × (length s.new ≡ 2)
+Read (rawlines.Cases l) = Signed l
 Read f = Unit {0}
 
 some_are : (ns ms : List (List ℕ)) → not_empty ns ≡ Ok ms → 0 < length ms
@@ -52,7 +52,7 @@ head_read head rest s e =
     let l = bind_ok (lits_of rest) (λ ls. read_ok (made n.0 a.0 ls)) s a.2 in
     subst (λ (x : RawSuperpose). AllSigned x.shown) (ok_is (made n.0 a.0 l.0) s l.2) (lits_signed rest l.0 l.1)
 
-superpose_read : (ws : List (List ℕ)) (s : RawSuperpose) → superpose_of ws ≡ Ok s → Read (forms.Superpose s)
+superpose_read : (ws : List (List ℕ)) (s : RawSuperpose) → superpose_of ws ≡ Ok s → Read (rawlines.Superpose s)
 unfolding superpose_of
 superpose_read ws s e = (head_read (take 13 ws) (drop 13 ws) s e, (superpose_said ws s e).1)
 
@@ -77,5 +77,5 @@ each_read = record {
   of_end = tt;
 }
 
-pub form_facts : (words : List (List ℕ)) (f : Form) → form_of words ≡ Ok f → Read f
+pub form_facts : (words : List (List ℕ)) (f : RawLine) → raw_line_of words ≡ Ok f → Read f
 form_facts = form_by_word Read each_read

@@ -18,15 +18,15 @@ use Rattle.e_construct.specs.declared.superpose.Superpose.{Superpose}
 use Rattle.e_construct.specs.Construct.{fits_construction, sorts_made}
 use Rattle.e_construct.specs.Lines.{Piece, pieces, takes}
 use Rattle.e_deriv.specs.declared.names.Names.{Names}
-use Rattle.e_line.specs.declared.fault.Kind.{Kind}
-use Rattle.e_line.specs.declared.fault.Kind.TheVariants.{UnknownName}
+use Rattle.e_line.specs.declared.fault.FaultKind.{FaultKind}
+use Rattle.e_line.specs.declared.fault.FaultKind.TheVariants.{UnknownName}
 use Rattle.e_line.specs.declared.literal.RawLit.{RawLit}
 use Rattle.e_line.specs.declared.lets.RawLet.{RawLet}
 use Rattle.e_line.specs.declared.superposes.RawSuperpose.{RawSuperpose}
 use Rattle.e_line.specs.declared.applies.RawApply.{RawApply}
-use Rattle.e_line.specs.declared.form.Form.TheVariants as forms
+use Rattle.e_line.specs.declared.raw_line.RawLine.TheVariants as rawlines
 use Rattle.e_line.specs.Reading.{◌>>=◌, each}
-use Rattle.e_names.specs.Headed.{Headed, theorem_of, place_in}
+use Rattle.e_names.specs.TitledStatements.{TitledStatement, theorem_of, place_in}
 use Rattle.e_line.specs.Literals.{is_diagram_raw}
 use Rattle.e_names.specs.Superposes.{placed_in, superpose_in}
 use Rattle.e_names.specs.Scope.{scope_of_names, used, fresh, lit_in, lits_in, object_as, known_rule, variables_of, right_count, args_in, by_in, right_sort, arguments_in, construction, first_fitting, let_in, objects_of_sorts, qed_in}
@@ -46,14 +46,14 @@ use Rattle.e_roundtrip.proofs.OneLine.LinePieces.{AllHave, OneLine}
 
 -- ---- literals
 
-pub hence_spelled : (ns : Names) (r : RawLit) (l : Lit) → is_direct r ≡ true → Signed r → lit_in ns r ≡ Ok l → hence_form ns l ≡ forms.Hence r
-hence_spelled ns r l d s e = ap (λ (x : RawLit). forms.Hence x) (lit_named ns ns r l (keeps_all ns) (canonical r d s) e)
+pub hence_spelled : (ns : Names) (r : RawLit) (l : Lit) → is_direct r ≡ true → Signed r → lit_in ns r ≡ Ok l → hence_form ns l ≡ rawlines.Hence r
+hence_spelled ns r l d s e = ap (λ (x : RawLit). rawlines.Hence x) (lit_named ns ns r l (keeps_all ns) (canonical r d s) e)
 
-pub cases_spelled : (ns : Names) (r : RawLit) (l : Lit) → is_direct r ≡ true → Signed r → lit_in ns r ≡ Ok l → cases_form ns l ≡ forms.Cases r
-cases_spelled ns r l d s e = ap (λ (x : RawLit). forms.Cases x) (lit_named ns ns r l (keeps_all ns) (canonical r d s) e)
+pub cases_spelled : (ns : Names) (r : RawLit) (l : Lit) → is_direct r ≡ true → Signed r → lit_in ns r ≡ Ok l → cases_form ns l ≡ rawlines.Cases r
+cases_spelled ns r l d s e = ap (λ (x : RawLit). rawlines.Cases x) (lit_named ns ns r l (keeps_all ns) (canonical r d s) e)
 
-pub claim_spelled : (ns : Names) (rs : List RawLit) (ls : List Lit) → are_direct rs ≡ true → AllSigned rs → lits_in ns rs ≡ Ok ls → claim_form ns ls ≡ forms.Claim rs
-claim_spelled ns rs ls d s e = ap (λ (x : List RawLit). forms.Claim x) (lits_named ns ns rs ls (keeps_all ns) d s e)
+pub claim_spelled : (ns : Names) (rs : List RawLit) (ls : List Lit) → are_direct rs ≡ true → AllSigned rs → lits_in ns rs ≡ Ok ls → claim_form ns ls ≡ rawlines.Claim rs
+claim_spelled ns rs ls d s e = ap (λ (x : List RawLit). rawlines.Claim x) (lits_named ns ns rs ls (keeps_all ns) d s e)
 
 -- ---- citations
 
@@ -68,7 +68,7 @@ known_rule_is (Some k) r e = by_test (is_diagram_rule k) e
     by_test true h = ap (λ (n : ℕ). Some n) (ok_is k r h)
     by_test false h = absurd cc
 
-pub by_spelled : (ns : Names) (rule : List ℕ) (names : List (List ℕ)) (r : RawLit) (b : By) → is_diagram_raw r.atom ≡ true → by_in ns rule names r ≡ Ok b → by_form ns b ≡ forms.By rule names r
+pub by_spelled : (ns : Names) (rule : List ℕ) (names : List (List ℕ)) (r : RawLit) (b : By) → is_diagram_raw r.atom ≡ true → by_in ns rule names r ≡ Ok b → by_form ns b ≡ rawlines.By rule names r
 unfolding by_in
 by_spelled ns rule names r b d e =
     let k = keeps_all ns in
@@ -109,11 +109,11 @@ chosen ps s args avoid (x ∷ shapes) form h e = by_test (fits_construction (con
     by_test true more k = subst (λ (f : Construction). Chosen ps args avoid f) (ok_is (construction x args avoid) form k) (record { line = h.0; args_are = refl; avoid_are = refl })
     by_test false more k = more k
 
-pub let_spelled : (ns : Names) (l : RawLet) (form : Construction) → OneLine l → let_in ns l ≡ Ok form → line_of (let_form ns form l.new) ≡ line_of (forms.Let l)
+pub let_spelled : (ns : Names) (l : RawLet) (form : Construction) → OneLine l → let_in ns l ≡ Ok form → line_of (let_form ns form l.new) ≡ line_of (rawlines.Let l)
 unfolding let_in
 let_spelled ns l form h e =
     let s = scope_of_names ns in
-    let count : Construction → Result Construction Kind = λ f. right_count (eqb (length l.new) (length (sorts_made f))) >>= λ right. read_ok f in
+    let count : Construction → Result Construction FaultKind = λ f. right_count (eqb (length l.new) (length (sorts_made f))) >>= λ right. read_ok f in
     let a = bind_ok (fresh ns [] l.new) (λ free. arguments_in ns l.shapes [] l.args >>= λ args. each (used ns) l.avoid >>= λ avoid. first_fitting s args avoid l.shapes >>= count) form e in
     let b = bind_ok (arguments_in ns l.shapes [] l.args) (λ args. each (used ns) l.avoid >>= λ avoid. first_fitting s args avoid l.shapes >>= count) form a.2 in
     let c = bind_ok (each (used ns) l.avoid) (λ avoid. first_fitting s b.0 avoid l.shapes >>= count) form b.2 in
@@ -144,10 +144,10 @@ entries_named ns (sort ∷ sorts) (name ∷ names) os n e =
 abbrev applied : ℕ → List (Option Obj) → ℕ × List (Option Obj)
 applied k args = (k, args)
 
-pub apply_spelled : (known : List Headed) (ns : Names) (raw : RawApply) (p : ℕ × List (Option Obj)) → apply_in known ns raw ≡ Ok p → apply_form known ns p.0 p.1 raw.new ≡ forms.Apply raw
+pub apply_spelled : (known : List TitledStatement) (ns : Names) (raw : RawApply) (p : ℕ × List (Option Obj)) → apply_in known ns raw ≡ Ok p → apply_form known ns p.0 p.1 raw.new ≡ rawlines.Apply raw
 unfolding apply_in
 apply_spelled known ns raw p e =
-    let counts : ℕ → Result (ℕ × List (Option Obj)) Kind = λ k. right_count (eqb (length raw.args) (length (theorem_of known k).declared)) >>= λ some. right_count (eqb (length raw.new) (length (theorem_of known k).made)) >>= λ more. entries_in ns (theorem_of known k).declared raw.args >>= λ args. fresh ns [] raw.new >>= λ free. read_ok (applied k args) in
+    let counts : ℕ → Result (ℕ × List (Option Obj)) FaultKind = λ k. right_count (eqb (length raw.args) (length (theorem_of known k).declared)) >>= λ some. right_count (eqb (length raw.new) (length (theorem_of known k).made)) >>= λ more. entries_in ns (theorem_of known k).declared raw.args >>= λ args. fresh ns [] raw.new >>= λ free. read_ok (applied k args) in
     let k = bind_ok (known_place (place_in known raw.title)) counts p e in
     let t = theorem_of known k.0 in
     let s = bind_ok (right_count (eqb (length raw.args) (length t.declared))) (λ some. right_count (eqb (length raw.new) (length t.made)) >>= λ more. entries_in ns t.declared raw.args >>= λ args. fresh ns [] raw.new >>= λ free. read_ok (applied k.0 args)) p k.2 in
@@ -177,7 +177,7 @@ placed_named ns (a ∷ b ∷ c ∷ k ∷ d ∷ g ∷ h ∷ l ∷ []) form e =
     (number_named ns ns Point d p.nd keeps p.d_is) (number_named ns ns Point g p.ng keeps p.g_is) (number_named ns ns Point h p.nh keeps p.h_is) (number_named ns ns Line l p.nl keeps p.l_is)
 placed_named ns args form e = absurd cc
 
-pub superpose_spelled : (ns : Names) (raw : RawSuperpose) (p : Superpose × List Lit) → are_direct raw.shown ≡ true → AllSigned raw.shown → superpose_in ns raw ≡ Ok p → superpose_form ns p.0 raw.new p.1 ≡ forms.Superpose raw
+pub superpose_spelled : (ns : Names) (raw : RawSuperpose) (p : Superpose × List Lit) → are_direct raw.shown ≡ true → AllSigned raw.shown → superpose_in ns raw ≡ Ok p → superpose_form ns p.0 raw.new p.1 ≡ rawlines.Superpose raw
 unfolding superpose_in
 superpose_spelled ns raw p d s e =
     let both_of : Superpose → List Lit → Superpose × List Lit = λ form ls. (form, ls) in
@@ -198,8 +198,8 @@ of_sorts_named ns (sort ∷ sorts) (name ∷ names) os n e =
     let b = bind_ok (objects_of_sorts ns sorts names) (λ xs. read_ok (a.0 ∷ xs)) os a.2 in
     ap (map (name_of_object ns)) (sym (ok_is (a.0 ∷ b.0) os b.2)) ∙ rw (object_named ns ns sort name a.0 (keeps_all ns) a.1, of_sorts_named ns sorts names b.0 (omega (arith, n)) b.1) refl
 
-pub qed_spelled : (ns : Names) (sorts : List Sort) (names : List (List ℕ)) (os : List Obj) → qed_in ns sorts names ≡ Ok os → qed_form ns os ≡ forms.Qed names
+pub qed_spelled : (ns : Names) (sorts : List Sort) (names : List (List ℕ)) (os : List Obj) → qed_in ns sorts names ≡ Ok os → qed_form ns os ≡ rawlines.Qed names
 unfolding qed_in
 qed_spelled ns sorts names os e =
     let r = bind_ok (right_count (eqb (length names) (length sorts))) (λ right. objects_of_sorts ns sorts names) os e in
-    ap (λ (l : List (List ℕ)). forms.Qed l) (of_sorts_named ns sorts names os (eqb-true (length names) (length sorts) (counted _ r.0 r.1)) r.2)
+    ap (λ (l : List (List ℕ)). rawlines.Qed l) (of_sorts_named ns sorts names os (eqb-true (length names) (length sorts) (counted _ r.0 r.1)) r.2)

@@ -4,8 +4,8 @@ use Rattle.std.specs.Prelude.{codes}
 use Rattle.std.specs.List.{slice_split, position_or_len, AllByRecursion}
 use Rattle.std.specs.Str.{bytes_eq}
 use Rattle.std.proofs.lemmas.Option.{same_Some}
-use Rattle.e_line.specs.declared.fault.Kind.{Kind}
-use Rattle.e_line.specs.declared.fault.Kind.TheVariants.{Malformed}
+use Rattle.e_line.specs.declared.fault.FaultKind.{FaultKind}
+use Rattle.e_line.specs.declared.fault.FaultKind.TheVariants.{Malformed}
 use Rattle.e_line.specs.declared.sum.RawMono.{RawMono}
 use Rattle.e_line.specs.declared.literal.RawLit.{RawLit}
 use Rattle.e_line.specs.declared.literal.RawAtom.{RawAtom}
@@ -62,7 +62,7 @@ sign_found None s e = absurd cc
 sign_found (Some x) s e = ap Some (ok_is x s e)
 
 -- the answer at <=
-abbrev negation_at_most : Bool → Result Bool Kind
+abbrev negation_at_most : Bool → Result Bool FaultKind
 negation_at_most true = Err Malformed
 negation_at_most false = Ok false
 

@@ -14,8 +14,8 @@ use Rattle.e_literal.specs.declared.literal.Lit.{Lit}
 use Rattle.e_literal.specs.Literal.{obj}
 use Rattle.e_literal.specs.WellFormed.{same_kind}
 use Rattle.e_deriv.specs.declared.names.Names.{Names}
-use Rattle.e_line.specs.declared.fault.Kind.{Kind}
-use Rattle.e_line.specs.declared.fault.Kind.TheVariants.{WrongSort}
+use Rattle.e_line.specs.declared.fault.FaultKind.{FaultKind}
+use Rattle.e_line.specs.declared.fault.FaultKind.TheVariants.{WrongSort}
 use Rattle.e_line.specs.declared.sum.RawTerm.{RawTerm}
 use Rattle.e_line.specs.declared.sum.RawTerm.TheVariants as rawterms
 use Rattle.e_line.specs.declared.sum.RawMono.{RawMono}
@@ -32,7 +32,7 @@ use Rattle.e_roundtrip.proofs.OneLine.NamesSpelled.{Keeps, used_named, number_na
 use Rattle.e_roundtrip.proofs.OneLine.LitsRead.{is_at_most, Signed, AllSigned}
 
 -- what each of a list was read from
-pub each_back : {X Y : Type 0} (f : X → Result Y Kind) (g : Y → X) → ((x : X) (y : Y) → f x ≡ Ok y → g y ≡ x) → (xs : List X) (ys : List Y) → each f xs ≡ Ok ys → map g ys ≡ xs
+pub each_back : {X Y : Type 0} (f : X → Result Y FaultKind) (g : Y → X) → ((x : X) (y : Y) → f x ≡ Ok y → g y ≡ x) → (xs : List X) (ys : List Y) → each f xs ≡ Ok ys → map g ys ≡ xs
 each_back f g h [] ys e = ap (map g) (sym (ok_is [] ys e))
 each_back f g h (x ∷ xs) ys e =
     let a = bind_ok (f x) (λ y. each f xs >>= λ ys. read_ok (y ∷ ys)) ys e in
@@ -62,7 +62,7 @@ term_named ns more (rawterms.Area x y z) t k e =
     to_term more (terms.Area a.0 b.0 c.0) t (rawterms.Area x y z) (rw (number_named ns more Point x a.0 k a.1, number_named ns more Point y b.0 k b.1, number_named ns more Point z c.0 k c.1) refl) c.2
 term_named ns more rawterms.Right t k e = to_term more terms.Right t rawterms.Right refl e
 
-passed : {A : Type 0} (b : Bool) (x : Result A Kind) (y : A) → cond b x (Err WrongSort) ≡ Ok y → x ≡ Ok y
+passed : {A : Type 0} (b : Bool) (x : Result A FaultKind) (y : A) → cond b x (Err WrongSort) ≡ Ok y → x ≡ Ok y
 passed true x y e = e
 passed false x y e = absurd cc
 

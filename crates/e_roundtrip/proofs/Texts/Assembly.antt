@@ -7,8 +7,8 @@ use Rattle.e_theorem.specs.Statements.{stated}
 use Rattle.e_deriv.specs.Script.{Script}
 use Rattle.e_deriv.specs.Lines.{Line, first_failure}
 use Rattle.e_deriv.specs.Certified.{is_certified, derivation_lines, verdict}
-use Rattle.e_names.specs.Headed.{Headed, headed, stated_by}
-use Rattle.e_book.specs.Entry.{Entry}
+use Rattle.e_names.specs.TitledStatements.{TitledStatement, headed, stated_by}
+use Rattle.e_book.specs.TheoremViews.{TheoremView}
 use Rattle.e_line.proofs.Bound.{same_bytes}
 use Rattle.e_read.specs.Text.{piece_from, last_line_of}
 use Rattle.e_spell.specs.Spelling.{spelled_lines}
@@ -36,7 +36,7 @@ shown_front k (x ∷ xs) ys = let more = shown_front (k + 1) xs ys in (more.0, (
 -- ---- the theorems
 
 -- a theorem with a derivation for its script
-abbrev pub entry_with : Entry × Script → Entry
+abbrev pub entry_with : TheoremView × Script → TheoremView
 entry_with p = record p.0 { script = p.1 }
 
 -- ---- verdicts
@@ -57,21 +57,21 @@ module _ (v : Version) where
   -- ---- the last line
 
   -- the last line comes where as many theorems are known as it says
-  ends : (last : ℕ) (known : List Headed) (k : ℕ) → EndsThere v last known (numbered k (last_line_of (length known) ∷ [])) (Verified (length known))
+  ends : (last : ℕ) (known : List TitledStatement) (k : ℕ) → EndsThere v last known (numbered k (last_line_of (length known) ∷ [])) (Verified (length known))
   unfolding piece_from
   ends last known k = ([], rw (same_bytes (last_line_of (length known))) refl, refl)
 
   -- ---- the theorems, one after another
 
   -- these lines are judged so where this is known
-  record JudgedFrom (last : ℕ) (known : List Headed) (lines : Rest) (j : Judgement) : Type 0 where
-    theorems : List Entry
-    now : List Headed
+  record JudgedFrom (last : ℕ) (known : List TitledStatement) (lines : Rest) (j : Judgement) : Type 0 where
+    theorems : List TheoremView
+    now : List TitledStatement
     rest : Rest
     passes : Passes v last known lines theorems now rest
     closes : Closes v last now rest j
 
-  after_verdict : (last : ℕ) (known : List Headed) (p : Entry × Script) (lines after : Rest) (j : Judgement) → ReadsNext v last known lines (entry_with p) after → JudgedFrom last (with_theorem known p.0) after j
+  after_verdict : (last : ℕ) (known : List TitledStatement) (p : TheoremView × Script) (lines after : Rest) (j : Judgement) → ReadsNext v last known lines (entry_with p) after → JudgedFrom last (with_theorem known p.0) after j
       → (a : Result ℕ ℕ) → verdict (stated_by known) (stated p.0.statement) p.1 ≡ a → JudgedFrom last known lines (judged_after p.0.title a j)
   after_verdict last known p lines after j reads more (Ok n) e = record {
     theorems = entry_with p ∷ more.theorems;
@@ -89,7 +89,7 @@ module _ (v : Version) where
   }
 
   -- the lines of the blocks, and the last line, which says how many are known behind them
-  judged_from : (last : ℕ) (known : List Headed) (k n : ℕ) (ps : List (Entry × Script)) → AllCanBeSpelled v known ps → length known + length ps ≡ n
+  judged_from : (last : ℕ) (known : List TitledStatement) (k n : ℕ) (ps : List (TheoremView × Script)) → AllCanBeSpelled v known ps → length known + length ps ≡ n
       → JudgedFrom last known (numbered k (lines_of_blocks known ps ++ last_line_of n ∷ [])) (judgement_of known ps)
   judged_from last known k n [] h e =
       let count : length known ≡ n = omega (arith, e) in
@@ -113,19 +113,19 @@ module _ (v : Version) where
   -- ---- the whole
 
   -- the lines of blocks and the last line are judged as the verdicts say
-  pub judged : (last k : ℕ) (ps : List (Entry × Script)) → AllCanBeSpelled v [] ps → IsJudged v last (numbered k (lines_of_blocks [] ps ++ last_line_of (length ps) ∷ [])) (judgement_of [] ps)
+  pub judged : (last k : ℕ) (ps : List (TheoremView × Script)) → AllCanBeSpelled v [] ps → IsJudged v last (numbered k (lines_of_blocks [] ps ++ last_line_of (length ps) ∷ [])) (judgement_of [] ps)
   judged last k ps h =
       let j = judged_from last [] k (length ps) ps h (omega arith) in
       record { theorems = j.theorems; known = j.now; rest = j.rest; passes = j.passes; closes = j.closes }
 
   -- ---- certified derivations
 
-  pub all_spelled : (known : List Headed) (ps : List (Entry × Script)) → AllCanBeVerified v known ps → AllCanBeSpelled v known ps
+  pub all_spelled : (known : List TitledStatement) (ps : List (TheoremView × Script)) → AllCanBeVerified v known ps → AllCanBeSpelled v known ps
   all_spelled known [] h = tt
   all_spelled known (p ∷ ps) h = (h.0.spelled, all_spelled (with_theorem known p.0) ps h.1)
 
   -- where all are certified they are judged verified
-  pub all_verified : (known : List Headed) (ps : List (Entry × Script)) → AllCanBeVerified v known ps → judgement_of known ps ≡ Verified (length known + length ps)
+  pub all_verified : (known : List TitledStatement) (ps : List (TheoremView × Script)) → AllCanBeVerified v known ps → judgement_of known ps ≡ Verified (length known + length ps)
   all_verified known [] h = let n : length known ≡ length known + 0 = omega arith in ap (λ (k : ℕ). Verified k) n
   all_verified known (p ∷ ps) h =
       let next = with_theorem known p.0 in

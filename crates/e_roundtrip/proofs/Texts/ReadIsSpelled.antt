@@ -17,15 +17,15 @@ use Rattle.e_theorem.specs.Statements.{stated}
 use Rattle.e_deriv.specs.declared.names.Names.{Names}
 use Rattle.e_deriv.specs.Goal.{goal_of_statement, facts_of_statement}
 use Rattle.e_deriv.specs.Lines.{lines as lines_from}
-use Rattle.e_line.specs.declared.form.Form.{Form}
-use Rattle.e_book.specs.declared.draft.Place.{Place}
-use Rattle.e_book.specs.declared.draft.Place.TheVariants.{Done}
-use Rattle.e_book.specs.declared.draft.Draft.{Draft}
+use Rattle.e_line.specs.declared.raw_line.RawLine.{RawLine}
+use Rattle.e_book.specs.declared.draft.Section.{Section}
+use Rattle.e_book.specs.declared.draft.Section.TheVariants.{Done}
+use Rattle.e_book.specs.declared.draft.TheoremParser.{TheoremParser}
 use Rattle.e_line.specs.Reading.{◌>>=◌}
 use Rattle.e_names.specs.Scope.{scope_of_names}
-use Rattle.e_names.specs.Headed.{Headed, stated_by}
+use Rattle.e_names.specs.TitledStatements.{TitledStatement, stated_by}
 use Rattle.e_book.specs.DraftViews.{entry_of_draft}
-use Rattle.e_book.specs.Entry.{Entry}
+use Rattle.e_book.specs.TheoremViews.{TheoremView}
 use Rattle.e_book.specs.Book.{is_last, is_done}
 use Rattle.e_book.specs.Steps.{begin, step}
 use Rattle.e_line.specs.Canonical.{line_of}
@@ -34,12 +34,12 @@ use Rattle.e_book.specs.Canonical.{head_forms, names_of_proof}
 use Rattle.e_line.proofs.Bound.{bind_ok, ok_is, read_ok}
 use Rattle.e_names.proofs.Building.{declared_scope}
 use Rattle.e_line.proofs.Choices.{passed}
-use Rattle.e_cert.specs.declared.owed.Due.{Due}
-use Rattle.e_cert.specs.declared.owed.Due.TheVariants as due
-use Rattle.e_cert.specs.declared.owed.Owed.{Owed}
-use Rattle.e_cert.specs.declared.kept.Kept.{Kept}
-use Rattle.e_read.specs.declared.reading.Reading.{Reading}
-use Rattle.e_cert.specs.Marks.{mark_line}
+use Rattle.e_cert.specs.declared.owed.Obligation.{Obligation}
+use Rattle.e_cert.specs.declared.owed.Obligation.TheVariants as due
+use Rattle.e_cert.specs.declared.owed.Pending.{Pending}
+use Rattle.e_cert.specs.declared.kept.StepCerts.{StepCerts}
+use Rattle.e_read.specs.declared.reading.BlockParser.{BlockParser}
+use Rattle.e_cert.specs.CertLines.{cert_line_text}
 use Rattle.e_line.specs.Strict.{is_strict}
 use Rattle.e_read.specs.Strict.{is_apart}
 use Rattle.e_read.specs.Needs.{due_of}
@@ -55,75 +55,75 @@ use Rattle.e_roundtrip.specs.Formed.{is_formed}
 use Rattle.e_roundtrip.specs.Spelled.{ShowsEnded, CanBeSpelled}
 use Rattle.e_roundtrip.proofs.Formed.FormedLines.{FormedHere}
 use Rattle.e_roundtrip.proofs.Certificates.KeptFormed.{DueFormed, KeptIsFormed}
-use Rattle.e_roundtrip.proofs.Certificates.MarksFormed.{OwedFormed, strict_formed, settled_formed}
+use Rattle.e_roundtrip.proofs.Certificates.CertLinesFormed.{OwedFormed, strict_formed, settled_formed}
 use Rattle.e_roundtrip.proofs.OneLine.FormsRead.{Read, form_facts}
-use Rattle.e_roundtrip.proofs.Certificates.MarksRead.{strict_mark_read}
-use Rattle.e_roundtrip.proofs.Certificates.OwedSpelled.{owed_text, kept_text, due_at_first, FitsDue, marked_spelled, settled_spelled}
+use Rattle.e_roundtrip.proofs.Certificates.CertLinesRead.{strict_cert_line_read}
+use Rattle.e_roundtrip.proofs.Certificates.OwedSpelled.{owed_text, kept_text, due_at_first, FitsDue, after_cert_line_spelled, settled_spelled}
 use Rattle.e_roundtrip.proofs.Heads.HeadTaken.{InProof, DraftSaid, puts_begun}
 use Rattle.e_roundtrip.proofs.Blocks.LinesSaid.{Leaves, step_left, due_at_start}
 
 -- ---- what was said so far
 
-abbrev StateSaid : List Headed → Option Draft → List Kept → List (List ℕ) → Type 0
+abbrev StateSaid : List TitledStatement → Option TheoremParser → List StepCerts → List (List ℕ) → Type 0
 StateSaid known None ks ls = (ks ≡ []) × (ls ≡ [])
 StateSaid known (Some d) ks ls = DraftSaid known d.place d ks ls
 
 -- These lines were taken: those behind which something was owed, and those of what is owed so far. Whatever is kept for that and has
 -- its form, all together is said.
-record SaidSoFar (known : List Headed) (draft : Option Draft) (o : Owed) (ks : List Kept) (done : List (List ℕ)) : Type 0 where
+record SaidSoFar (known : List TitledStatement) (draft : Option TheoremParser) (o : Pending) (ks : List StepCerts) (done : List (List ℕ)) : Type 0 where
   before : List (List ℕ)
   all : done ≡ before ++ owed_text o
   fits : FitsDue o.due
   formed : OwedFormed o
-  said : (k : Option Kept) → KeptIsFormed (scope_of_names o.names) (due_at_first o.due) k → StateSaid known draft (ks ++ option_to_list k) (before ++ kept_text o.names k)
+  said : (k : Option StepCerts) → KeptIsFormed (scope_of_names o.names) (due_at_first o.due) k → StateSaid known draft (ks ++ option_to_list k) (before ++ kept_text o.names k)
 
 -- before the first line
-start_said : (known : List Headed) → SaidSoFar known None owes_nothing [] []
+start_said : (known : List TitledStatement) → SaidSoFar known None owes_nothing [] []
 start_said known = record { before = []; all = refl; fits = tt; formed = record { certs = tt; rows_of_sums = tt }; said = λ k a. by_kept k a } where
-  by_kept : (k : Option Kept) → KeptIsFormed (scope_of_names owes_nothing.names) due.Nothing k → ([] ++ option_to_list k ≡ []) × ([] ++ kept_text owes_nothing.names k ≡ [])
+  by_kept : (k : Option StepCerts) → KeptIsFormed (scope_of_names owes_nothing.names) due.Nothing k → ([] ++ option_to_list k ≡ []) × ([] ++ kept_text owes_nothing.names k ≡ [])
   by_kept None a = (refl, refl)
   by_kept (Some k) a = absurd a
 
 -- ---- a line of a certificate
 
-same_names : (known : List Headed) (draft : Option Draft) (ks : List Kept) (before : List (List ℕ)) (o new : Owed) → new.names ≡ o.names → due_at_first new.due ≡ due_at_first o.due
-    → ((k : Option Kept) → KeptIsFormed (scope_of_names o.names) (due_at_first o.due) k → StateSaid known draft (ks ++ option_to_list k) (before ++ kept_text o.names k))
-    → (k : Option Kept) → KeptIsFormed (scope_of_names new.names) (due_at_first new.due) k → StateSaid known draft (ks ++ option_to_list k) (before ++ kept_text new.names k)
+same_names : (known : List TitledStatement) (draft : Option TheoremParser) (ks : List StepCerts) (before : List (List ℕ)) (o new : Pending) → new.names ≡ o.names → due_at_first new.due ≡ due_at_first o.due
+    → ((k : Option StepCerts) → KeptIsFormed (scope_of_names o.names) (due_at_first o.due) k → StateSaid known draft (ks ++ option_to_list k) (before ++ kept_text o.names k))
+    → (k : Option StepCerts) → KeptIsFormed (scope_of_names new.names) (due_at_first new.due) k → StateSaid known draft (ks ++ option_to_list k) (before ++ kept_text new.names k)
 same_names known draft ks before o new n f said k a =
     subst (λ (ns : Names). StateSaid known draft (ks ++ option_to_list k) (before ++ kept_text ns k)) (sym n)
-    (said k (subst (λ (ns : Names). KeptIsFormed (scope_of_names ns) (due_at_first o.due) k) n (subst (λ (d : Due). KeptIsFormed (scope_of_names new.names) d k) f a)))
+    (said k (subst (λ (ns : Names). KeptIsFormed (scope_of_names ns) (due_at_first o.due) k) n (subst (λ (d : Obligation). KeptIsFormed (scope_of_names new.names) d k) f a)))
 
-certified_said : (known : List Headed) (r next : Reading) (line : List ℕ) (words : List (List ℕ)) (done : List (List ℕ)) → SaidSoFar known r.draft r.owed r.kept done → Certified r next line words
+certified_said : (known : List TitledStatement) (r next : BlockParser) (line : List ℕ) (words : List (List ℕ)) (done : List (List ℕ)) → SaidSoFar known r.draft r.owed r.kept done → Certified r next line words
     → SaidSoFar known next.draft next.owed next.kept (done ++ line ∷ [])
 certified_said known r next line words done s c =
-    let m = strict_mark_read line words c.mark c.spelled in
-    let o = marked_spelled r.owed next.owed c.mark s.fits m.1 c.owed in
+    let m = strict_cert_line_read line words c.cert_line c.spelled in
+    let o = after_cert_line_spelled r.owed next.owed c.cert_line s.fits m.1 c.owed in
     let here : SaidSoFar known r.draft next.owed r.kept (done ++ line ∷ []) = record {
       before = s.before;
-      all = ap (λ (l : List ℕ). done ++ l ∷ []) m.0 ∙ ap (λ (l : List (List ℕ)). l ++ mark_line c.mark ∷ []) s.all ∙ append_assoc s.before (owed_text r.owed) (mark_line c.mark ∷ []) ∙ ap (λ (l : List (List ℕ)). s.before ++ l) (sym o.lines);
+      all = ap (λ (l : List ℕ). done ++ l ∷ []) m.0 ∙ ap (λ (l : List (List ℕ)). l ++ cert_line_text c.cert_line ∷ []) s.all ∙ append_assoc s.before (owed_text r.owed) (cert_line_text c.cert_line ∷ []) ∙ ap (λ (l : List (List ℕ)). s.before ++ l) (sym o.lines);
       fits = o.fits;
-      formed = strict_formed r.owed line words c.mark next.owed s.formed c.spelled c.owed;
+      formed = strict_formed r.owed line words c.cert_line next.owed s.formed c.spelled c.owed;
       said = same_names known r.draft r.kept s.before r.owed next.owed o.names o.first s.said;
     } in
-    subst (λ (d : Option Draft). SaidSoFar known d next.owed next.kept (done ++ line ∷ [])) (sym c.draft)
-    (subst (λ (ks : List Kept). SaidSoFar known r.draft next.owed ks (done ++ line ∷ [])) (sym c.kept) here)
+    subst (λ (d : Option TheoremParser). SaidSoFar known d next.owed next.kept (done ++ line ∷ [])) (sym c.draft)
+    (subst (λ (ks : List StepCerts). SaidSoFar known r.draft next.owed ks (done ++ line ∷ [])) (sym c.kept) here)
 
 -- ---- any other line
 
-abbrev with_owed : Draft → Owed → Draft × Owed
+abbrev with_owed : TheoremParser → Pending → TheoremParser × Pending
 with_owed d o = (d, o)
 
-abbrev owed : Names → Due → Owed
+abbrev owed : Names → Obligation → Pending
 owed ns d = record { names = ns; due = d; sums = None }
 
 -- a line that was taken, and nothing is owed behind the last line
-record StepSaid (known : List Headed) (d : Draft) (o : Owed) (ks : List Kept) (done : List (List ℕ)) : Type 0 where
+record StepSaid (known : List TitledStatement) (d : TheoremParser) (o : Pending) (ks : List StepCerts) (done : List (List ℕ)) : Type 0 where
   so_far : SaidSoFar known (Some d) o ks done
   names : Names
   last : is_done d ≡ true → o ≡ owed names due.Nothing
 
 -- behind a line nothing of what it owes has come
-step_said : (known : List Headed) (d e : Draft) (f : Form) (owes : Due) (ks : List Kept) (done : List (List ℕ)) → Leaves known d e f owes ks done → owed_text (owed d.in_scope owes) ≡ [] → FitsDue owes → DueFormed (scope_of_names d.in_scope) owes
+step_said : (known : List TitledStatement) (d e : TheoremParser) (f : RawLine) (owes : Obligation) (ks : List StepCerts) (done : List (List ℕ)) → Leaves known d e f owes ks done → owed_text (owed d.in_scope owes) ≡ [] → FitsDue owes → DueFormed (scope_of_names d.in_scope) owes
     → StepSaid known e (owed d.in_scope owes) ks (done ++ line_of f ∷ [])
 step_said known d e f owes ks done l none fits formed =
     record {
@@ -135,47 +135,47 @@ step_said known d e f owes ks done l none fits formed =
         said = l.said;
       };
       names = d.in_scope;
-      last = λ h. ap (λ (x : Due). owed d.in_scope x) (l.last h);
+      last = λ h. ap (λ (x : Obligation). owed d.in_scope x) (l.last h);
     }
 
 -- the first line
-first_said : (known : List Headed) (e : Draft) (f : Form) (ks : List Kept) (done : List (List ℕ)) → ks ≡ [] → done ≡ [] → begin known f ≡ Ok e → StepSaid known e owes_nothing ks (done ++ line_of f ∷ [])
+first_said : (known : List TitledStatement) (e : TheoremParser) (f : RawLine) (ks : List StepCerts) (done : List (List ℕ)) → ks ≡ [] → done ≡ [] → begin known f ≡ Ok e → StepSaid known e owes_nothing ks (done ++ line_of f ∷ [])
 first_said known e f ks done k n b =
     subst (λ (l : List (List ℕ)). StepSaid known e owes_nothing ks (l ++ line_of f ∷ [])) (sym n)
-    (subst (λ (j : List Kept). StepSaid known e owes_nothing j (line_of f ∷ [])) (sym k)
+    (subst (λ (j : List StepCerts). StepSaid known e owes_nothing j (line_of f ∷ [])) (sym k)
     (record {
       so_far = record { before = line_of f ∷ []; all = refl; fits = tt; formed = record { certs = tt; rows_of_sums = tt }; said = λ j a. by_kept j a };
       names = owes_nothing.names;
       last = λ h. refl;
     }))
   where
-    by_kept : (j : Option Kept) → KeptIsFormed (scope_of_names owes_nothing.names) due.Nothing j → DraftSaid known e.place e ([] ++ option_to_list j) ((line_of f ∷ []) ++ kept_text owes_nothing.names j)
+    by_kept : (j : Option StepCerts) → KeptIsFormed (scope_of_names owes_nothing.names) due.Nothing j → DraftSaid known e.place e ([] ++ option_to_list j) ((line_of f ∷ []) ++ kept_text owes_nothing.names j)
     by_kept None a = puts_begun known e f b
     by_kept (Some j) a = absurd a
 
 -- what a line owes, with the names before it
-owed_is : (known : List Headed) (d : Draft) (f : Form) (o : Owed) → owed_by known d f ≡ Ok o → (new : Due) × (due_of known d f ≡ Ok new) × (owed d.in_scope new ≡ o)
+owed_is : (known : List TitledStatement) (d : TheoremParser) (f : RawLine) (o : Pending) → owed_by known d f ≡ Ok o → (new : Obligation) × (due_of known d f ≡ Ok new) × (owed d.in_scope new ≡ o)
 unfolding owed_by
 owed_is known d f o e =
     let n = bind_ok (due_of known d f) (λ new. read_ok (owed d.in_scope new)) o e in
     (n.0, n.1, ok_is (owed d.in_scope n.0) o n.2)
 
-gone_said : (known : List Headed) (draft : Option Draft) (e : Draft) (f : Form) (o : Owed) (ks : List Kept) (done : List (List ℕ)) → StateSaid known draft ks done → Read f → is_strict f ≡ true → gone_on known draft f ≡ Ok (e, o)
+gone_said : (known : List TitledStatement) (draft : Option TheoremParser) (e : TheoremParser) (f : RawLine) (o : Pending) (ks : List StepCerts) (done : List (List ℕ)) → StateSaid known draft ks done → Read f → is_strict f ≡ true → gone_on known draft f ≡ Ok (e, o)
     → StepSaid known e o ks (done ++ line_of f ∷ [])
 gone_said known None e f o ks done s r st g =
     let b = bind_ok (begin known f) (λ x. read_ok (with_owed x owes_nothing)) (e, o) g in
     let is = ok_is (with_owed b.0 owes_nothing) (e, o) b.2 in
-    subst (λ (p : Draft × Owed). StepSaid known p.0 p.1 ks (done ++ line_of f ∷ [])) is (first_said known b.0 f ks done s.0 s.1 b.1)
+    subst (λ (p : TheoremParser × Pending). StepSaid known p.0 p.1 ks (done ++ line_of f ∷ [])) is (first_said known b.0 f ks done s.0 s.1 b.1)
 gone_said known (Some d) e f o ks done s r st g =
     let p = passed (is_apart d f) (owed_by known d f >>= λ w. step known d f >>= λ x. read_ok (with_owed x w)) (e, o) g in
     let w = bind_ok (owed_by known d f) (λ w. step known d f >>= λ x. read_ok (with_owed x w)) (e, o) p.1 in
     let x = bind_ok (step known d f) (λ x. read_ok (with_owed x w.0)) (e, o) w.2 in
     let n = owed_is known d f w.0 w.1 in
     let at = due_at_start known d f n.0 d.in_scope n.1 in
-    subst (λ (q : Draft × Owed). StepSaid known q.0 q.1 ks (done ++ line_of f ∷ [])) (ap (λ (v : Owed). with_owed x.0 v) n.2 ∙ ok_is (with_owed x.0 w.0) (e, o) x.2)
+    subst (λ (q : TheoremParser × Pending). StepSaid known q.0 q.1 ks (done ++ line_of f ∷ [])) (ap (λ (v : Pending). with_owed x.0 v) n.2 ∙ ok_is (with_owed x.0 w.0) (e, o) x.2)
     (step_said known d x.0 f n.0 ks done (step_left known d x.0 f n.0 ks done s r st p.0 n.1 x.1) at.none at.fits at.formed)
 
-stepped_said : (known : List Headed) (r next : Reading) (line : List ℕ) (done : List (List ℕ)) → SaidSoFar known r.draft r.owed r.kept done → (s : Stepped known r next line) → StepSaid known s.draft s.owed (r.kept ++ option_to_list s.read) (done ++ line ∷ [])
+stepped_said : (known : List TitledStatement) (r next : BlockParser) (line : List ℕ) (done : List (List ℕ)) → SaidSoFar known r.draft r.owed r.kept done → (s : Stepped known r next line) → StepSaid known s.draft s.owed (r.kept ++ option_to_list s.read) (done ++ line ∷ [])
 stepped_said known r next line done so s =
     let f = form_read line s.form s.spelled in
     let b = and_parts (is_strict s.form) (bytes_eq line (line_of s.form)) f.1 in
@@ -189,44 +189,44 @@ stepped_said known r next line done so s =
 
 -- ---- the last line
 
-at_done : (known : List Headed) (p : Place) (d : Draft) (ks : List Kept) (ls : List (List ℕ)) → is_last p ≡ true → DraftSaid known p d ks ls → InProof known Done d ks ls
+at_done : (known : List TitledStatement) (p : Section) (d : TheoremParser) (ks : List StepCerts) (ls : List (List ℕ)) → is_last p ≡ true → DraftSaid known p d ks ls → InProof known Done d ks ls
 at_done known Done d ks ls l h = h
 at_done known p d ks ls l h = absurd cc
 
 -- behind the last line the lines are those of the theorem
-all_said : (known : List Headed) (d : Draft) (o : Owed) (ks : List Kept) (done : List (List ℕ)) → StepSaid known d o ks done → is_done d ≡ true → done ≡ spelled_lines known (derived d ks) (derived d ks).script
+all_said : (known : List TitledStatement) (d : TheoremParser) (o : Pending) (ks : List StepCerts) (done : List (List ℕ)) → StepSaid known d o ks done → is_done d ≡ true → done ≡ spelled_lines known (derived d ks) (derived d ks).script
 all_said known d o ks done s l =
-    let so = subst (λ (x : Owed). SaidSoFar known (Some d) x ks done) (s.last l) s.so_far in
+    let so = subst (λ (x : Pending). SaidSoFar known (Some d) x ks done) (s.last l) s.so_far in
     let i = at_done known d.place d (ks ++ []) (so.before ++ []) l (so.said None tt) in
     let t = derived d ks in
     let head = map line_of (head_forms t) in
     let end = line_of end_form ∷ [] in
     let script : script_lines known (names_of_proof t) (filled (entry_of_draft d).script ks).0 ≡ i.body.0 =
-    ap (λ (x : List Kept). script_lines known (names_of_proof t) (filled (entry_of_draft d).script x).0) (sym (append-nil ks) ∙ sym (append-nil (ks ++ []))) ∙ i.body.1.spelled [] in
+    ap (λ (x : List StepCerts). script_lines known (names_of_proof t) (filled (entry_of_draft d).script x).0) (sym (append-nil ks) ∙ sym (append-nil (ks ++ []))) ∙ i.body.1.spelled [] in
     so.all ∙ i.lines ∙ ap (λ (l : List (List ℕ)). head ++ l) i.body.2 ∙ ap (λ (l : List (List ℕ)). head ++ (l ++ end)) (sym script)
 
 -- the derivation has the form that its lines owe, where the names of its proof are in scope
-abbrev EntryFormed : List Headed → Entry → Type 0
+abbrev EntryFormed : List TitledStatement → TheoremView → Type 0
 EntryFormed known t = FormedHere known (names_of_proof t) (goal_of_statement (stated t.statement)) t.script
 
-all_formed : (known : List Headed) (d : Draft) (o : Owed) (ks : List Kept) (done : List (List ℕ)) → StepSaid known d o ks done → is_done d ≡ true → EntryFormed known (derived d ks)
+all_formed : (known : List TitledStatement) (d : TheoremParser) (o : Pending) (ks : List StepCerts) (done : List (List ℕ)) → StepSaid known d o ks done → is_done d ≡ true → EntryFormed known (derived d ks)
 all_formed known d o ks done s l =
-    let so = subst (λ (x : Owed). SaidSoFar known (Some d) x ks done) (s.last l) s.so_far in
+    let so = subst (λ (x : Pending). SaidSoFar known (Some d) x ks done) (s.last l) s.so_far in
     let i = at_done known d.place d (ks ++ []) (so.before ++ []) l (so.said None tt) in
     let t = derived d ks in
-    subst (λ (x : List Kept). FormedHere known (names_of_proof t) (goal_of_statement (stated t.statement)) (filled (entry_of_draft d).script x).0) (append-nil (ks ++ []) ∙ append-nil ks) (i.body.1.formed [])
+    subst (λ (x : List StepCerts). FormedHere known (names_of_proof t) (goal_of_statement (stated t.statement)) (filled (entry_of_draft d).script x).0) (append-nil (ks ++ []) ∙ append-nil ks) (i.body.1.formed [])
 
 -- ---- all lines
 
 -- the lines that are still taken, with those before them, are the spelling, and the derivation has the form
-record Rest (known : List Headed) (done : List (List ℕ)) (t : Entry) (lines rest : List (Result Seen LineFault)) : Type 0 where
+record Rest (known : List TitledStatement) (done : List (List ℕ)) (t : TheoremView) (lines rest : List (Result Seen LineFault)) : Type 0 where
   texts : List (List ℕ)
   shows : ShowsEnded lines texts rest
   all : done ++ texts ≡ spelled_lines known t t.script
   formed : EntryFormed known t
 
 -- a line that is taken ends with a line feed
-ends_with_lf : (known : List Headed) (r next : Reading) (l : Seen) → taken known r l ≡ Ok next → l.end ≡ ends.Lf
+ends_with_lf : (known : List TitledStatement) (r next : BlockParser) (l : Seen) → taken known r l ≡ Ok next → l.end ≡ ends.Lf
 unfolding taken spelled
 ends_with_lf known r next l e = is_lf l.end (passed (is_lf_end l.end) (worded known r l.bytes (tokens_of l.bytes)) next e).0
   where
@@ -235,17 +235,17 @@ ends_with_lf known r next l e = is_lf l.end (passed (is_lf_end l.end) (worded kn
     is_lf x h = absurd cc
 
 -- one line more
-one_more : (known : List Headed) (done : List (List ℕ)) (t : Entry) (l : Seen) (lines rest : List (Result Seen LineFault)) → l.end ≡ ends.Lf → Rest known (done ++ l.bytes ∷ []) t lines rest → Rest known done t (Ok l ∷ lines) rest
+one_more : (known : List TitledStatement) (done : List (List ℕ)) (t : TheoremView) (l : Seen) (lines rest : List (Result Seen LineFault)) → l.end ≡ ends.Lf → Rest known (done ++ l.bytes ∷ []) t lines rest → Rest known done t (Ok l ∷ lines) rest
 one_more known done t l lines rest end r =
     record { texts = l.bytes ∷ r.texts; shows = (refl, end, r.shows); all = sym (append_assoc done (l.bytes ∷ []) r.texts) ∙ r.all; formed = r.formed }
 
 -- how reading goes on behind a line
-abbrev After : List Headed → ℕ → Reading → List (Result Seen LineFault) → List (Result Seen LineFault) → Entry → Type 0
+abbrev After : List TitledStatement → ℕ → BlockParser → List (Result Seen LineFault) → List (Result Seen LineFault) → TheoremView → Type 0
 After known last next lines rest t =
-    ((x : Entry) × (finished next.draft next.kept ≡ Some x) × (derives x lines ≡ derives t rest)) ⊎ ((finished next.draft next.kept ≡ None) × (piece_from known last next lines ≡ derives t rest))
+    ((x : TheoremView) × (finished next.draft next.kept ≡ Some x) × (derives x lines ≡ derives t rest)) ⊎ ((finished next.draft next.kept ≡ None) × (piece_from known last next lines ≡ derives t rest))
 
 -- behind a line of a certificate
-certificate_rest : (known : List Headed) (last : ℕ) (r next : Reading) (lines rest : List (Result Seen LineFault)) (t : Entry) (done : List (List ℕ)) → is_finished r.draft ≡ false → next.draft ≡ r.draft → After known last next lines rest t
+certificate_rest : (known : List TitledStatement) (last : ℕ) (r next : BlockParser) (lines rest : List (Result Seen LineFault)) (t : TheoremView) (done : List (List ℕ)) → is_finished r.draft ≡ false → next.draft ≡ r.draft → After known last next lines rest t
     → (is_finished next.draft ≡ false → piece_from known last next lines ≡ derives t rest → Rest known done t lines rest) → Rest known done t lines rest
 certificate_rest known last r next lines rest t done unended same goes more =
     let unended_still : is_finished next.draft ≡ false = ap is_finished same ∙ unended in
@@ -255,26 +255,26 @@ certificate_rest known last r next lines rest t done unended same goes more =
     ]
 
 -- behind any other line
-step_rest : (known : List Headed) (last : ℕ) (next : Reading) (d : Draft) (o : Owed) (lines rest : List (Result Seen LineFault)) (t : Entry) (done : List (List ℕ)) → next.draft ≡ Some d → StepSaid known d o next.kept done → After known last next lines rest t
+step_rest : (known : List TitledStatement) (last : ℕ) (next : BlockParser) (d : TheoremParser) (o : Pending) (lines rest : List (Result Seen LineFault)) (t : TheoremView) (done : List (List ℕ)) → next.draft ≡ Some d → StepSaid known d o next.kept done → After known last next lines rest t
     → (is_finished next.draft ≡ false → piece_from known last next lines ≡ derives t rest → Rest known done t lines rest) → Rest known done t lines rest
 step_rest known last next d o lines rest t done draft_is s goes more =
     elim goes [
       | inl q ↦
-          let c = closed_is d next.kept q.0 (sym (ap (λ (x : Option Draft). finished x next.kept) draft_is) ∙ q.1) in
+          let c = closed_is d next.kept q.0 (sym (ap (λ (x : Option TheoremParser). finished x next.kept) draft_is) ∙ q.1) in
           let p = derived_is q.0 t lines rest q.2 in
           let is : derived d next.kept ≡ t = c.1 ∙ p.0 in
-          record { texts = []; shows = p.1; all = append-nil done ∙ all_said known d o next.kept done s c.0 ∙ ap (λ (x : Entry). spelled_lines known x x.script) is; formed = subst (EntryFormed known) is (all_formed known d o next.kept done s c.0) }
+          record { texts = []; shows = p.1; all = append-nil done ∙ all_said known d o next.kept done s c.0 ∙ ap (λ (x : TheoremView). spelled_lines known x x.script) is; formed = subst (EntryFormed known) is (all_formed known d o next.kept done s c.0) }
       | inr q ↦ more (still next.draft next.kept q.0) q.1
     ]
 
-whole : (known : List Headed) (last : ℕ) (r : Reading) (lines rest : List (Result Seen LineFault)) (t : Entry) (done : List (List ℕ)) → SaidSoFar known r.draft r.owed r.kept done → is_finished r.draft ≡ false
+whole : (known : List TitledStatement) (last : ℕ) (r : BlockParser) (lines rest : List (Result Seen LineFault)) (t : TheoremView) (done : List (List ℕ)) → SaidSoFar known r.draft r.owed r.kept done → is_finished r.draft ≡ false
     → piece_from known last r lines ≡ derives t rest → Rest known done t lines rest
 unfolding piece_from
 whole known last r [] rest t done s unended e = absurd cc
 whole known last r (Err f ∷ lines) rest t done s unended e = absurd cc
 whole known last r (Ok l ∷ lines) rest t done s unended e =
-    let next : Result Reading ℕ = garbled_at l.number (taken known r l) in
-    let then : Reading → Result Answer ℕ = λ x. or_on (finished x.draft x.kept) lines (piece_from known last x lines) in
+    let next : Result BlockParser ℕ = garbled_at l.number (taken known r l) in
+    let then : BlockParser → Result Answer ℕ = λ x. or_on (finished x.draft x.kept) lines (piece_from known last x lines) in
     elim (either (is_end known r.draft l) (Ok (Last, lines)) (next >>= then) (derives t rest) e) [
       | inl p ↦ absurd (no_last lines rest t p.1)
       | inr p ↦
@@ -289,22 +289,22 @@ whole known last r (Ok l ∷ lines) rest t done s unended e =
                 certificate_rest known last r x.0 lines rest t now unended c.2.draft goes (λ n h. whole known last x.0 lines rest t now so n h)
             | inr c ↦
                 let st = stepped_said known r x.0 l.bytes done s c.1 in
-                let kept_is : r.kept ++ option_to_list c.1.read ≡ x.0.kept = sym (ap (λ (y : Reading). y.kept) c.1.next_is) in
-                let owed_is : c.1.owed ≡ x.0.owed = sym (ap (λ (y : Reading). y.owed) c.1.next_is) in
-                let draft_is : x.0.draft ≡ Some c.1.draft = ap (λ (y : Reading). y.draft) c.1.next_is in
-                let here = subst (λ (ks : List Kept). StepSaid known c.1.draft c.1.owed ks now) kept_is st in
-                let so = subst (λ (y : Option Draft). SaidSoFar known y x.0.owed x.0.kept now) (sym draft_is) (subst (λ (y : Owed). SaidSoFar known (Some c.1.draft) y x.0.kept now) owed_is here.so_far) in
+                let kept_is : r.kept ++ option_to_list c.1.read ≡ x.0.kept = sym (ap (λ (y : BlockParser). y.kept) c.1.next_is) in
+                let owed_is : c.1.owed ≡ x.0.owed = sym (ap (λ (y : BlockParser). y.owed) c.1.next_is) in
+                let draft_is : x.0.draft ≡ Some c.1.draft = ap (λ (y : BlockParser). y.draft) c.1.next_is in
+                let here = subst (λ (ks : List StepCerts). StepSaid known c.1.draft c.1.owed ks now) kept_is st in
+                let so = subst (λ (y : Option TheoremParser). SaidSoFar known y x.0.owed x.0.kept now) (sym draft_is) (subst (λ (y : Pending). SaidSoFar known (Some c.1.draft) y x.0.kept now) owed_is here.so_far) in
                 step_rest known last x.0 c.1.draft c.1.owed lines rest t now draft_is here goes (λ n h. whole known last x.0 lines rest t now so n h)
           ])
     ]
 
-pub read_is_spelled_so : (v : Version) (known : List Headed) (last : ℕ) (t : Entry) (lines rest : List (Result Seen LineFault)) → piece_from known last (at_start v) lines ≡ derives t rest → ShowsEnded lines (spelled_lines known t t.script) rest
+pub read_is_spelled_so : (v : Version) (known : List TitledStatement) (last : ℕ) (t : TheoremView) (lines rest : List (Result Seen LineFault)) → piece_from known last (at_start v) lines ≡ derives t rest → ShowsEnded lines (spelled_lines known t t.script) rest
 read_is_spelled_so v known last t lines rest e =
     let r = whole known last (at_start v) lines rest t [] (start_said known) refl e in
     subst (λ (texts : List (List ℕ)). ShowsEnded lines texts rest) r.all r.shows
 
 -- what is read can be spelled, by its form
-pub read_is_formed_so : (v : Version) (known : List Headed) (last : ℕ) (t : Entry) (lines rest : List (Result Seen LineFault)) → piece_from known last (at_start v) lines ≡ derives t rest → CanBeSpelled v known t t.script
+pub read_is_formed_so : (v : Version) (known : List TitledStatement) (last : ℕ) (t : TheoremView) (lines rest : List (Result Seen LineFault)) → piece_from known last (at_start v) lines ≡ derives t rest → CanBeSpelled v known t t.script
 read_is_formed_so v known last t lines rest e =
     let r = whole known last (at_start v) lines rest t [] (start_said known) refl e in
     let plain = text_spelled v known last lines rest t e in

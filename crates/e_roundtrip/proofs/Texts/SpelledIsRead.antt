@@ -15,13 +15,13 @@ use Rattle.e_theorem.specs.Statements.{stated}
 use Rattle.e_deriv.specs.Script.{Script, erased, Cite, Hence, Make, Apply, Claim, Superposed, Qed, Contradiction, Cases}
 use Rattle.e_deriv.specs.Goal.{Goal, goal_of_statement, facts_of_statement}
 use Rattle.e_deriv.specs.Lines.{lines}
-use Rattle.e_line.specs.declared.form.Form.TheVariants as forms
-use Rattle.e_book.specs.declared.draft.Place.TheVariants.{Closed, Done}
-use Rattle.e_book.specs.declared.draft.Draft.{Draft}
-use Rattle.e_names.specs.Headed.{Headed, stated_by}
+use Rattle.e_line.specs.declared.raw_line.RawLine.TheVariants as rawlines
+use Rattle.e_book.specs.declared.draft.Section.TheVariants.{Closed, Done}
+use Rattle.e_book.specs.declared.draft.TheoremParser.{TheoremParser}
+use Rattle.e_names.specs.TitledStatements.{TitledStatement, stated_by}
 use Rattle.e_names.specs.Scope.{scope_of_names}
 use Rattle.e_book.specs.Steps.{begin, begun, closed, stepped, step}
-use Rattle.e_book.specs.Entry.{Entry}
+use Rattle.e_book.specs.TheoremViews.{TheoremView}
 use Rattle.e_line.specs.Limits.{count_monomials}
 use Rattle.e_book.specs.Fits.{few_facts, few_terms}
 use Rattle.e_book.specs.Book.{is_done}
@@ -39,11 +39,11 @@ use Rattle.e_book.proofs.LinesRead.{Inside, proving}
 use Rattle.e_book.proofs.ScriptParts.{steps_of, close_of, same_script}
 use Rattle.e_book.proofs.ScriptRead.{Ready}
 use Rattle.e_book.proofs.CanonicalRead.{stating_forms, run_statement, started, begins}
-use Rattle.e_cert.specs.declared.owed.Due.TheVariants as due
-use Rattle.e_cert.specs.declared.kept.Kept.{Kept}
-use Rattle.e_read.specs.declared.reading.Reading.{Reading}
+use Rattle.e_cert.specs.declared.owed.Obligation.TheVariants as due
+use Rattle.e_cert.specs.declared.kept.StepCerts.{StepCerts}
+use Rattle.e_read.specs.declared.reading.BlockParser.{BlockParser}
 use Rattle.e_read.specs.Filled.{filled}
-use Rattle.e_cert.specs.Owed.{settled}
+use Rattle.e_cert.specs.Owed.{finish_certs}
 use Rattle.e_read.specs.Needs.{due_of}
 use Rattle.e_read.specs.Text.{stepped as line_stepped, spelled, with_form, Derived, owes_nothing, at_start, worded, taken, derived, finished, is_end, piece_from}
 use Rattle.e_spell.specs.Spelling.{script_lines}
@@ -68,10 +68,10 @@ use Rattle.e_roundtrip.proofs.Heads.HeadAlong.{draft_is, head_along, statement_h
 -- ---- the proof
 
 -- the entry without certificates
-abbrev plain_entry : Entry → Script → Entry
+abbrev plain_entry : TheoremView → Script → TheoremView
 plain_entry t d = record t { script = erased d }
 
-pub stood : (v : Version) (known : List Headed) (t : Entry) (d : Script) → CanBeSpelled v known t d → InOrder t.names → Stood known (started t) (begins t) d (facts_of_statement (stated t.statement)) (goal_of_statement (stated t.statement))
+pub stood : (v : Version) (known : List TitledStatement) (t : TheoremView) (d : Script) → CanBeSpelled v known t d → InOrder t.names → Stood known (started t) (begins t) d (facts_of_statement (stated t.statement)) (goal_of_statement (stated t.statement))
 stood v known t d c o =
     let h = c.plain in
     let s : Scope = scope_of (stated t.statement) in
@@ -100,22 +100,22 @@ stood v known t d c o =
     }
 
 -- the draft behind the last close line
-abbrev shut_draft : Entry → Script → Inside → Draft
+abbrev shut_draft : TheoremView → Script → Inside → TheoremParser
 shut_draft t d last = record (proving (started t) last) { steps = steps_of (erased d); outers = []; close = close_of (erased d); place = Closed }
 
-closed_last : (t : Entry) (d : Script) (last : Inside) → closed (proving (started t) last) [] (steps_of (erased d)) (close_of (erased d)) ≡ Ok (shut_draft t d last)
+closed_last : (t : TheoremView) (d : Script) (last : Inside) → closed (proving (started t) last) [] (steps_of (erased d)) (close_of (erased d)) ≡ Ok (shut_draft t d last)
 unfolding closed
 closed_last t d last = refl
 
 -- all lines between the first and the last
-abbrev middle : List Headed → Entry → Script → List (List ℕ)
+abbrev middle : List TitledStatement → TheoremView → Script → List (List ℕ)
 middle known t d = map line_of (stating_forms t) ++ script_lines known (names_of_proof t) d
 
-record Middle (known : List Headed) (t : Entry) (d : Script) : Type 0 where
+record Middle (known : List TitledStatement) (t : TheoremView) (d : Script) : Type 0 where
   last : Inside
   along : Along known (begun t.title) (middle known t d) (shut_draft t d last) (kepts d)
 
-middle_along : (v : Version) (known : List Headed) (t : Entry) (d : Script) → CanBeSpelled v known t d → InOrder t.names → Middle known t d
+middle_along : (v : Version) (known : List TitledStatement) (t : TheoremView) (d : Script) → CanBeSpelled v known t d → InOrder t.names → Middle known t d
 middle_along v known t d c o =
     let proof = script_spelled known (started t) (begins t) d (facts_of_statement (stated t.statement)) (goal_of_statement (stated t.statement)) (stood v known t d c o) in
     let p = proving (started t) (begins t) in
@@ -155,32 +155,32 @@ kepts_of v (Cases lit first second) h =
 
 -- ---- lines that are read
 
-record Left (known : List Headed) (number : ℕ) (r next : Reading) (all : List (Result Seen LineFault)) (more : List (List ℕ)) (rest : List (Result Seen LineFault)) : Type 0 where
+record Left (known : List TitledStatement) (number : ℕ) (r next : BlockParser) (all : List (Result Seen LineFault)) (more : List (List ℕ)) (rest : List (Result Seen LineFault)) : Type 0 where
   ahead : List (Result Seen LineFault)
   shown : ShowsEnded ahead more rest
   same : piece_from known number r all ≡ piece_from known number next ahead
 
-taken_is : (known : List Headed) (r next : Reading) (l : Seen) (text : List ℕ) → l.bytes ≡ text → l.end ≡ Lf → worded known r text (tokens_of text) ≡ Ok next → taken known r l ≡ Ok next
+taken_is : (known : List TitledStatement) (r next : BlockParser) (l : Seen) (text : List ℕ) → l.bytes ≡ text → l.end ≡ Lf → worded known r text (tokens_of text) ≡ Ok next → taken known r l ≡ Ok next
 unfolding taken spelled
 taken_is known r next l text b e leads =
     let w : worded known r l.bytes (tokens_of l.bytes) ≡ Ok next = ap (λ (x : List ℕ). worded known r x (tokens_of x)) b ∙ leads in
     rw (e, w) refl
 
-unfinished : (draft : Option Draft) (d : Draft) (kept : List Kept) → draft ≡ Some d → is_done d ≡ false → finished draft kept ≡ None
-unfinished draft d kept e going = ap (λ (x : Option Draft). finished x kept) e ∙ rw going refl
+unfinished : (draft : Option TheoremParser) (d : TheoremParser) (kept : List StepCerts) → draft ≡ Some d → is_done d ≡ false → finished draft kept ≡ None
+unfinished draft d kept e going = ap (λ (x : Option TheoremParser). finished x kept) e ∙ rw going refl
 
-one_read : (known : List Headed) (number : ℕ) (r next : Reading) (l : Seen) (after : List (Result Seen LineFault)) (text : List ℕ) → is_end known r.draft l ≡ false → l.bytes ≡ text → l.end ≡ Lf → worded known r text (tokens_of text) ≡ Ok next
+one_read : (known : List TitledStatement) (number : ℕ) (r next : BlockParser) (l : Seen) (after : List (Result Seen LineFault)) (text : List ℕ) → is_end known r.draft l ≡ false → l.bytes ≡ text → l.end ≡ Lf → worded known r text (tokens_of text) ≡ Ok next
     → finished next.draft next.kept ≡ None → piece_from known number r (Ok l ∷ after) ≡ piece_from known number next after
 unfolding piece_from
 one_read known number r next l after text here b e leads more = rw (here, taken_is known r next l text b e leads, more) refl
 
-all_read : (known : List Headed) (number : ℕ) (r next : Reading) (texts more : List (List ℕ)) (all rest : List (Result Seen LineFault)) → AllTaken known r texts next → ShowsEnded all (texts ++ more) rest → Left known number r next all more rest
-all_read known number r next [] more all rest a sh = record { ahead = all; shown = sh; same = ap (λ (x : Reading). piece_from known number x all) a }
+all_read : (known : List TitledStatement) (number : ℕ) (r next : BlockParser) (texts more : List (List ℕ)) (all rest : List (Result Seen LineFault)) → AllTaken known r texts next → ShowsEnded all (texts ++ more) rest → Left known number r next all more rest
+all_read known number r next [] more all rest a sh = record { ahead = all; shown = sh; same = ap (λ (x : BlockParser). piece_from known number x all) a }
 all_read known number r next (text ∷ texts) more [] rest a sh = absurd sh
 all_read known number r next (text ∷ texts) more (Err f ∷ all) rest a sh = absurd sh
 all_read known number r next (text ∷ texts) more (Ok l ∷ all) rest a sh =
     let one = a.1 in
-    let here : is_end known r.draft l ≡ false = ap (λ (x : Option Draft). is_end known x l) one.here in
+    let here : is_end known r.draft l ≡ false = ap (λ (x : Option TheoremParser). is_end known x l) one.here in
     let left = all_read known number a.0 next texts more all rest a.2 sh.2 in
     record {
       ahead = left.ahead;
@@ -190,23 +190,23 @@ all_read known number r next (text ∷ texts) more (Ok l ∷ all) rest a sh =
 
 -- ---- the first line
 
-abbrev titled : Version → Entry → Reading
+abbrev titled : Version → TheoremView → BlockParser
 titled v t = record { version = v; draft = Some (begun t.title); owed = owes_nothing; kept = [] }
 
-title_stands : (v : Version) (t : Entry) → Stands (titled v t) (begun t.title) []
-unfolding settled
+title_stands : (v : Version) (t : TheoremView) → Stands (titled v t) (begun t.title) []
+unfolding finish_certs
 title_stands v t = record { draft = refl; read = None; settles = refl; kept = refl }
 
-title_leads : (v : Version) (known : List Headed) (t : Entry) (d : Script) → HasSpelling known (plain_entry t d) → worded known (at_start v) (line_of (forms.Theorem t.title)) (tokens_of (line_of (forms.Theorem t.title))) ≡ Ok (titled v t)
-unfolding settled with_form line_stepped
+title_leads : (v : Version) (known : List TitledStatement) (t : TheoremView) (d : Script) → HasSpelling known (plain_entry t d) → worded known (at_start v) (line_of (rawlines.Theorem t.title)) (tokens_of (line_of (rawlines.Theorem t.title))) ≡ Ok (titled v t)
+unfolding finish_certs with_form line_stepped
 title_leads v known t d h =
-    let f = forms.Theorem t.title in
+    let f = rawlines.Theorem t.title in
     let r = run_title known t.title h.title h.fits.new h.few_theorems in
-    let begins : begin known f ≡ Ok (begun t.title) = r.2 ∙ ap (λ (x : Draft). Ok x) (draft_is r.0 (begun t.title) r.4) in
+    let begins : begin known f ≡ Ok (begun t.title) = r.2 ∙ ap (λ (x : TheoremParser). Ok x) (draft_is r.0 (begun t.title) r.4) in
     ap (worded known (at_start v) (line_of f)) (words_again f h.title) ∙ no_bar known (at_start v) (line_of f) f ∙ rw (strict_form_again f h.title refl, begins) refl
 
 -- a first line of a theorem is no last line of a text
-not_last : (known : List Headed) (l : Seen) (title : List ℕ) → l.bytes ≡ line_of (forms.Theorem title) → is_end known None l ≡ false
+not_last : (known : List TitledStatement) (l : Seen) (title : List ℕ) → l.bytes ≡ line_of (rawlines.Theorem title) → is_end known None l ≡ false
 not_last known l title b = by_end l.end
   where
     by_end : (e : LineEnd) → is_end known None (record l { end = e }) ≡ false
@@ -215,40 +215,40 @@ not_last known l title b = by_end l.end
 
 -- ---- the last line
 
-step_end : (known : List Headed) (t : Entry) (d : Script) (last : Inside) → step known (shut_draft t d last) forms.End ≡ Ok (record (shut_draft t d last) { place = Done })
+step_end : (known : List TitledStatement) (t : TheoremView) (d : Script) (last : Inside) → step known (shut_draft t d last) rawlines.End ≡ Ok (record (shut_draft t d last) { place = Done })
 unfolding step stepped
 step_end known t d last = refl
 
 -- the certificates at their lines
-script_whole : (t : Entry) (d : Script) (known : List Headed) → HasSpelling known (plain_entry t d) → (last : Inside) → derived (record (shut_draft t d last) { place = Done }) (kepts d) ≡ record t { script = d }
+script_whole : (t : TheoremView) (d : Script) (known : List TitledStatement) → HasSpelling known (plain_entry t d) → (last : Inside) → derived (record (shut_draft t d last) { place = Done }) (kepts d) ≡ record t { script = d }
 script_whole t d known h last =
     let same = same_script (erased d) h.script in
     let back : filled (erased d) (kepts d) ≡ (d, []) = ap (filled (erased d)) (sym (append-nil (kepts d))) ∙ filled_back d [] in
-    ap (λ (x : Script). record t { script = (filled x (kepts d)).0 }) same ∙ ap (λ (x : Script × List Kept). record t { script = x.0 }) back
+    ap (λ (x : Script). record t { script = (filled x (kepts d)).0 }) same ∙ ap (λ (x : Script × List StepCerts). record t { script = x.0 }) back
 
-end_leads : (known : List Headed) (t : Entry) (d : Script) (last : Inside) (r : Reading) → Stands r (shut_draft t d last) (kepts d)
-    → (next : Reading) × (worded known r (line_of forms.End) (tokens_of (line_of forms.End)) ≡ Ok next) × (next.draft ≡ Some (record (shut_draft t d last) { place = Done })) × (next.kept ≡ kepts d)
+end_leads : (known : List TitledStatement) (t : TheoremView) (d : Script) (last : Inside) (r : BlockParser) → Stands r (shut_draft t d last) (kepts d)
+    → (next : BlockParser) × (worded known r (line_of rawlines.End) (tokens_of (line_of rawlines.End)) ≡ Ok next) × (next.draft ≡ Some (record (shut_draft t d last) { place = Done })) × (next.kept ≡ kepts d)
 unfolding due_of
 end_leads known t d last r s =
     let e = shut_draft t d last in
-    let leads = form_leads known r e (record e { place = Done }) (kepts d) forms.End due.Nothing s tt refl refl refl (step_end known t d last) in
+    let leads = form_leads known r e (record e { place = Done }) (kepts d) rawlines.End due.Nothing s tt refl refl refl (step_end known t d last) in
     (_, leads, refl, refl)
 
-end_read : (known : List Headed) (number : ℕ) (t : Entry) (d : Script) (last : Inside) (r : Reading) (all rest : List (Result Seen LineFault)) → HasSpelling known (plain_entry t d) → Stands r (shut_draft t d last) (kepts d)
-    → ShowsEnded all (line_of forms.End ∷ []) rest → piece_from known number r all ≡ Ok (Derived (record t { script = d }), rest)
+end_read : (known : List TitledStatement) (number : ℕ) (t : TheoremView) (d : Script) (last : Inside) (r : BlockParser) (all rest : List (Result Seen LineFault)) → HasSpelling known (plain_entry t d) → Stands r (shut_draft t d last) (kepts d)
+    → ShowsEnded all (line_of rawlines.End ∷ []) rest → piece_from known number r all ≡ Ok (Derived (record t { script = d }), rest)
 unfolding piece_from
 end_read known number t d last r [] rest h s sh = absurd sh
 end_read known number t d last r (Err f ∷ all) rest h s sh = absurd sh
 end_read known number t d last r (Ok l ∷ all) rest h s sh =
     let e = end_leads known t d last r s in
-    let here : is_end known r.draft l ≡ false = ap (λ (x : Option Draft). is_end known x l) s.draft in
+    let here : is_end known r.draft l ≡ false = ap (λ (x : Option TheoremParser). is_end known x l) s.draft in
     let done : finished e.0.draft e.0.kept ≡ Some (record t { script = d }) =
-    ap (λ (x : Option Draft). finished x e.0.kept) e.2 ∙ ap (λ (ks : List Kept). finished (Some (record (shut_draft t d last) { place = Done })) ks) e.3 ∙ ap (λ (x : Entry). Some x) (script_whole t d known h last) in
-    rw (here, taken_is known r e.0 l (line_of forms.End) sh.0 sh.1 e.1, done) (ap (λ (ls : List (Result Seen LineFault)). Ok (Derived (record t { script = d }), ls)) sh.2)
+    ap (λ (x : Option TheoremParser). finished x e.0.kept) e.2 ∙ ap (λ (ks : List StepCerts). finished (Some (record (shut_draft t d last) { place = Done })) ks) e.3 ∙ ap (λ (x : TheoremView). Some x) (script_whole t d known h last) in
+    rw (here, taken_is known r e.0 l (line_of rawlines.End) sh.0 sh.1 e.1, done) (ap (λ (ls : List (Result Seen LineFault)). Ok (Derived (record t { script = d }), ls)) sh.2)
 
 -- ---- the law
 
-whole_read : (v : Version) (known : List Headed) (number : ℕ) (t : Entry) (d : Script) (all rest : List (Result Seen LineFault)) → CanBeSpelled v known t d → ShowsEnded all (line_of (forms.Theorem t.title) ∷ (middle known t d ++ line_of forms.End ∷ [])) rest
+whole_read : (v : Version) (known : List TitledStatement) (number : ℕ) (t : TheoremView) (d : Script) (all rest : List (Result Seen LineFault)) → CanBeSpelled v known t d → ShowsEnded all (line_of (rawlines.Theorem t.title) ∷ (middle known t d ++ line_of rawlines.End ∷ [])) rest
     → piece_from known number (at_start v) all ≡ Ok (Derived (record t { script = d }), rest)
 unfolding piece_from
 whole_read v known number t d [] rest c sh = absurd sh
@@ -258,8 +258,8 @@ whole_read v known number t d (Ok l ∷ all) rest c sh =
     let o = in_order t.names h.point_names h.line_names h.circle_names h.fits.differ in
     let m = middle_along v known t d c o in
     let reached = m.along (titled v t) [] (kepts_of v d c.version) (title_stands v t) in
-    let left = all_read known number (titled v t) reached.last (middle known t d) (line_of forms.End ∷ []) all rest reached.taken sh.2 in
-    one_read known number (at_start v) (titled v t) l all (line_of (forms.Theorem t.title)) (not_last known l t.title sh.0) sh.0 sh.1 (title_leads v known t d h) refl
+    let left = all_read known number (titled v t) reached.last (middle known t d) (line_of rawlines.End ∷ []) all rest reached.taken sh.2 in
+    one_read known number (at_start v) (titled v t) l all (line_of (rawlines.Theorem t.title)) (not_last known l t.title sh.0) sh.0 sh.1 (title_leads v known t d h) refl
     ∙ left.same ∙ end_read known number t d m.last reached.last left.ahead rest h reached.stands left.shown
 
 pub spelled_is_read : SpelledIsRead
@@ -267,4 +267,4 @@ spelled_is_read v known last t d lines rest c sh =
     let a = map line_of (stating_forms t) in
     let b = script_lines known (names_of_proof t) d in
     let end = line_of end_form ∷ [] in
-    whole_read v known last t d lines rest c (subst (λ (x : List (List ℕ)). ShowsEnded lines (line_of (forms.Theorem t.title) ∷ x) rest) (sym (append_assoc a b end)) sh)
+    whole_read v known last t d lines rest c (subst (λ (x : List (List ℕ)). ShowsEnded lines (line_of (rawlines.Theorem t.title) ∷ x) rest) (sym (append_assoc a b end)) sh)

@@ -13,8 +13,8 @@ use Rattle.e_clause.specs.declared.cert.Version.TheVariants.{One, Two}
 use Rattle.e_theorem.specs.Statements.{stated}
 use Rattle.e_deriv.specs.Script.{Script}
 use Rattle.e_deriv.proofs.Agreement.{proof_of_certified}
-use Rattle.e_names.specs.Headed.{Headed, headed, stated_by}
-use Rattle.e_book.specs.Entry.{Entry}
+use Rattle.e_names.specs.TitledStatements.{TitledStatement, headed, stated_by}
+use Rattle.e_book.specs.TheoremViews.{TheoremView}
 use Rattle.e_read.specs.Text.{is_lf_end, last_line_of}
 use Rattle.e_spell.specs.Spelling.{spelled, spelled_lines}
 use Rattle.e_roundtrip.specs.Spelled.{ShowsEnded}
@@ -45,7 +45,7 @@ behind m n (x ∷ xs) e = absurd (not_garbled n (number_of x) e)
 
 module _ (v : Version) where
   -- and its last line says how many theorems are known
-  closed_so : (last : ℕ) (known : List Headed) (lines : Rest) (n : ℕ) → Closes v last known lines (Verified n) → (length known ≡ n) × ShowsEnded lines (last_line_of (length known) ∷ []) []
+  closed_so : (last : ℕ) (known : List TitledStatement) (lines : Rest) (n : ℕ) → Closes v last known lines (Verified n) → (length known ≡ n) × ShowsEnded lines (last_line_of (length known) ∷ []) []
   closed_so last known lines n (inl c) =
       let b = behind (length known) n c.0 c.2 in
       (b.0, subst (λ (r : Rest). ShowsEnded lines (last_line_of (length known) ∷ []) r) b.1 (last_shown v known last lines c.0 c.1))
@@ -55,21 +55,21 @@ module _ (v : Version) where
   -- ---- the theorems
 
   -- each with its derivation
-  abbrev pairs : List Entry → List (Entry × Script)
+  abbrev pairs : List TheoremView → List (TheoremView × Script)
   pairs ts = map (λ t. (t, t.script)) ts
 
-  length-pairs : (ts : List Entry) → length (pairs ts) ≡ length ts
+  length-pairs : (ts : List TheoremView) → length (pairs ts) ≡ length ts
   length-pairs [] = refl
   length-pairs (t ∷ ts) = ap suc (length-pairs ts)
 
   -- one more is known behind each
-  known_grows : (last : ℕ) (known : List Headed) (lines : Rest) (ts : List Entry) (now : List Headed) (rest : Rest) → Passes v last known lines ts now rest → length now ≡ length known + length ts
+  known_grows : (last : ℕ) (known : List TitledStatement) (lines : Rest) (ts : List TheoremView) (now : List TitledStatement) (rest : Rest) → Passes v last known lines ts now rest → length now ≡ length known + length ts
   known_grows last known lines [] now rest p = omega (arith, ap length p.0)
   known_grows last known lines (t ∷ ts) now rest p =
       omega (arith, known_grows last (with_theorem known t) p.0 ts now rest p.3, length-append known (headed t.title t.statement ∷ []))
 
   -- what is certified is proved
-  all_proved : (last : ℕ) (known : List Headed) (lines : Rest) (ts : List Entry) (now : List Headed) (rest : Rest) → Passes v last known lines ts now rest → AllProved known (pairs ts)
+  all_proved : (last : ℕ) (known : List TitledStatement) (lines : Rest) (ts : List TheoremView) (now : List TitledStatement) (rest : Rest) → Passes v last known lines ts now rest → AllProved known (pairs ts)
   all_proved last known lines [] now rest p = tt
   all_proved last known lines (t ∷ ts) now rest p =
       (proof_of_certified (stated_by known) (stated t.statement) t.script p.2, all_proved last (with_theorem known t) p.0 ts now rest p.3)
@@ -81,13 +81,13 @@ module _ (v : Version) where
   good_shown (Err f ∷ lines) rest (x ∷ texts) s g = absurd s
   good_shown (Ok l ∷ lines) rest (x ∷ texts) s g = good_shown lines rest texts s.2 g
 
-  good_passed : (last : ℕ) (known : List Headed) (lines : Rest) (ts : List Entry) (now : List Headed) (rest : Rest) → Passes v last known lines ts now rest → HaveNoFault rest → HaveNoFault lines
+  good_passed : (last : ℕ) (known : List TitledStatement) (lines : Rest) (ts : List TheoremView) (now : List TitledStatement) (rest : Rest) → Passes v last known lines ts now rest → HaveNoFault rest → HaveNoFault lines
   good_passed last known lines [] now rest p g = subst HaveNoFault (sym p.1) g
   good_passed last known lines (t ∷ ts) now rest p g =
       good_shown lines p.0 (spelled_lines known t t.script) (read_is_spelled_so v known last t lines p.0 p.1) (good_passed last (with_theorem known t) p.0 ts now rest p.3 g)
 
   -- their bytes are their blocks
-  blocks_text : (last : ℕ) (known : List Headed) (lines : Rest) (ts : List Entry) (now : List Headed) (rest : Rest) → Passes v last known lines ts now rest
+  blocks_text : (last : ℕ) (known : List TitledStatement) (lines : Rest) (ts : List TheoremView) (now : List TitledStatement) (rest : Rest) → Passes v last known lines ts now rest
       → text_of_lines lines ≡ blocks_of known (pairs ts) ++ text_of_lines rest
   blocks_text last known lines [] now rest p = ap text_of_lines p.1
   blocks_text last known lines (t ∷ ts) now rest p =

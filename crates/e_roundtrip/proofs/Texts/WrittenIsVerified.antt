@@ -8,8 +8,8 @@ use Rattle.std.proofs.lemmas.List.{append-nil}
 use Rattle.e_text.specs.Lines.{Bounds, Spot, AreShort, lf_text, numbered}
 use Rattle.e_text.proofs.WrittenLines.{lines_of-lf_text}
 use Rattle.e_deriv.specs.Script.{Script}
-use Rattle.e_names.specs.Headed.{Headed, headed}
-use Rattle.e_book.specs.Entry.{Entry}
+use Rattle.e_names.specs.TitledStatements.{TitledStatement, headed}
+use Rattle.e_book.specs.TheoremViews.{TheoremView}
 use Rattle.e_line.specs.Limits.{most_theorems}
 use Rattle.e_book.specs.Canonical.{text_of}
 use Rattle.e_read.specs.Text.{last_line_of}
@@ -35,7 +35,7 @@ lf_text_append [] ys = refl
 lf_text_append (x ∷ xs) ys = ap (λ (t : List ℕ). x ++ 10 ∷ t) (lf_text_append xs ys) ∙ sym (append_assoc x (10 ∷ lf_text xs) (lf_text ys))
 
 -- the blocks are lines
-blocks_are_lines : (known : List Headed) (ps : List (Entry × Script)) → blocks_of known ps ≡ lf_text (lines_of_blocks known ps)
+blocks_are_lines : (known : List TitledStatement) (ps : List (TheoremView × Script)) → blocks_of known ps ≡ lf_text (lines_of_blocks known ps)
 blocks_are_lines known [] = refl
 blocks_are_lines known (p ∷ ps) =
     let own = spelled_lines known p.0 p.1 in
@@ -57,11 +57,11 @@ says Two = refl
 
 module _ (v : Version) where
   -- all lines of the text
-  abbrev all_lines : List (Entry × Script) → List (List ℕ)
+  abbrev all_lines : List (TheoremView × Script) → List (List ℕ)
   all_lines ps = head_of v ∷ (lines_of_blocks [] ps ++ last_line_of (length ps) ∷ [])
 
   -- the text is these lines
-  written_is : (ps : List (Entry × Script)) → written v ps ≡ lf_text (all_lines ps)
+  written_is : (ps : List (TheoremView × Script)) → written v ps ≡ lf_text (all_lines ps)
   written_is ps =
       ap (λ (t : List ℕ). head_line v ++ t)
       (ap (λ (t : List ℕ). t ++ accepted_line (length ps)) (blocks_are_lines [] ps) ∙ ap (λ (t : List ℕ). lf_text (lines_of_blocks [] ps) ++ t) (last_is_line (length ps))
@@ -71,11 +71,11 @@ module _ (v : Version) where
   -- ---- the whole
 
   -- the lines are judged so
-  judged_lines : (ps : List (Entry × Script)) → AllCanBeSpelled v [] ps → JudgesLines (numbered 1 (all_lines ps)) (judgement_of [] ps)
+  judged_lines : (ps : List (TheoremView × Script)) → AllCanBeSpelled v [] ps → JudgesLines (numbered 1 (all_lines ps)) (judgement_of [] ps)
   judged_lines ps h = subst (λ (o : Option Version). JudgedBehindHead o (numbered 2 (lines_of_blocks [] ps ++ last_line_of (length ps) ∷ [])) (judgement_of [] ps)) (sym (says v)) (judged v _ 2 ps h)
 
   -- a text has few theorems
-  few_theorems : (known : List Headed) (ps : List (Entry × Script)) → AllCanBeSpelled v known ps → length known ≤ most_theorems → length known + length ps ≤ most_theorems
+  few_theorems : (known : List TitledStatement) (ps : List (TheoremView × Script)) → AllCanBeSpelled v known ps → length known ≤ most_theorems → length known + length ps ≤ most_theorems
   few_theorems known [] h le = omega (arith, le)
   few_theorems known (p ∷ ps) h le =
       let n = length-append known (headed p.0.title p.0.statement ∷ []) in
@@ -86,7 +86,7 @@ module _ (v : Version) where
   short_last n le = room_line 13 _ (omega arith) (room_word 8 4 (codes "accepted") _ refl (room_word 3 0 (decimal n) [] (short_number 3 n (omega arith) (omega (arith, le)) (omega (arith, le))) room_none))
 
   -- so is each line
-  all_short : (ps : List (Entry × Script)) → AllCanBeSpelled v [] ps → AreShort 262144 (all_lines ps)
+  all_short : (ps : List (TheoremView × Script)) → AllCanBeSpelled v [] ps → AreShort 262144 (all_lines ps)
   all_short ps h =
       (short_head v, short_append (lines_of_blocks [] ps) (last_line_of (length ps) ∷ []) (short_blocks v [] ps tt h) (short_last (length ps) (omega (arith, few_theorems [] ps h (omega arith))), tt))
 
@@ -101,6 +101,6 @@ written_is_judged v ps h =
 
 pub written_is_verified : WrittenIsVerified
 written_is_verified v ps h =
-    let known : List Headed = [] in
+    let known : List TitledStatement = [] in
     let n : length known + length ps ≡ length ps = omega arith in
     subst (JudgesText (written v ps)) (all_verified v [] ps h ∙ ap (λ (k : ℕ). Verified k) n) (written_is_judged v ps (all_spelled v [] ps h))

@@ -19,8 +19,8 @@ use Rattle.e_deriv.specs.Naming.{with_names, named}
 use Rattle.e_deriv.specs.Script.{Script, Cite, Hence, Make, Apply, Claim, Superposed, Qed, Contradiction, Cases, erased}
 use Rattle.e_deriv.specs.Goal.{Goal, goal_of}
 use Rattle.e_deriv.specs.Lines.{theorem_at}
-use Rattle.e_line.specs.declared.fault.Kind.{Kind}
-use Rattle.e_line.specs.declared.fault.Kind.TheVariants.{NameTaken}
+use Rattle.e_line.specs.declared.fault.FaultKind.{FaultKind}
+use Rattle.e_line.specs.declared.fault.FaultKind.TheVariants.{NameTaken}
 use Rattle.e_line.specs.declared.fault.What.{What}
 use Rattle.e_line.specs.declared.fault.What.TheVariants as limits
 use Rattle.e_line.specs.Limits.{most_of, within}
@@ -110,8 +110,8 @@ still_few less ns f h =
     let a = still_within (length less.points) (length ns.points) (most_of Point) limits.Points p.0 f.points.short p.1 in
     let b = still_within (length less.lines) (length ns.lines) (most_of Line) limits.Lines l.0 f.lines.short l.1 in
     let c = still_within (length less.circles) (length ns.circles) (most_of Circle) limits.Circles tt f.circles.short l.2 in
-    ap (λ (r : Result (Unit {0}) Kind). r >>= λ points. within (length less.lines) (most_of Line) limits.Lines >>= λ lines. within (length less.circles) (most_of Circle) limits.Circles) a
-    ∙ ap (λ (r : Result (Unit {0}) Kind). r >>= λ lines. within (length less.circles) (most_of Circle) limits.Circles) b ∙ c
+    ap (λ (r : Result (Unit {0}) FaultKind). r >>= λ points. within (length less.lines) (most_of Line) limits.Lines >>= λ lines. within (length less.circles) (most_of Circle) limits.Circles) a
+    ∙ ap (λ (r : Result (Unit {0}) FaultKind). r >>= λ lines. within (length less.circles) (most_of Circle) limits.Circles) b ∙ c
 
 -- ---- the script
 

@@ -28,8 +28,8 @@ use Rattle.e_deriv.specs.Fitting.{all_objects, is_small, is_small_statement}
 use Rattle.e_deriv.specs.Versions.{has_certs_of}
 use Rattle.e_deriv.proofs.Versions.{good_of_version}
 use Rattle.e_line.specs.Limits.{count_monomials}
-use Rattle.e_names.specs.Headed.{Headed, stated_by}
-use Rattle.e_book.specs.Entry.{Entry}
+use Rattle.e_names.specs.TitledStatements.{TitledStatement, stated_by}
+use Rattle.e_book.specs.TheoremViews.{TheoremView}
 use Rattle.e_book.specs.Fits.{Fits, has_good_literals}
 use Rattle.e_names.specs.HasSpelling.{is_named_by_title}
 use Rattle.e_book.specs.HasSpelling.{HasSpelling, is_plain, names_theorems}
@@ -51,7 +51,7 @@ use Rattle.e_roundtrip.proofs.Trimmed.TrimmedNames.{fewer_own, names_left}
 
 -- ---- the theorems that it uses have titles
 
-theorems_left : (known : List Headed) (before : List Stated) (d : Script) (kept : List Obj) (s : Scope) (facts : List Lit) (goal : Goal) → names_theorems known (erased d) ≡ true → names_theorems known (erased (trimmed_from before kept d s facts goal)) ≡ true
+theorems_left : (known : List TitledStatement) (before : List Stated) (d : Script) (kept : List Obj) (s : Scope) (facts : List Lit) (goal : Goal) → names_theorems known (erased d) ≡ true → names_theorems known (erased (trimmed_from before kept d s facts goal)) ≡ true
 unfolding trimmed_from erased names_theorems
 theorems_left known before (Cite by rest) kept s facts goal h =
     let r = theorems_left known before rest kept s (joined facts by.lit) goal h in
@@ -141,13 +141,13 @@ are_statements : (ts : List Stated) → list_all is_small_statement ts ≡ true 
 are_statements ts h = every is_small_statement is_statement (λ t k. (and_parts (is_statement t) (is_small (all_objects t)) k).0) ts h
 
 -- a theorem that can be spelled states something small
-states : (known : List Headed) (t : Entry) → HasSpelling known (record t { script = erased t.script }) → is_statement (stated t.statement) ≡ true
+states : (known : List TitledStatement) (t : TheoremView) → HasSpelling known (record t { script = erased t.script }) → is_statement (stated t.statement) ≡ true
 states known t h = (and_parts (is_statement (stated t.statement)) (is_small (all_objects (stated t.statement))) (small_statement known (record t { script = erased t.script }) h.fits)).0
 
-abbrev left_of : List Headed → Entry → Script
+abbrev left_of : List TitledStatement → TheoremView → Script
 left_of known t = trimmed (stated_by known) (stated t.statement) t.script
 
-trimmed_fits : (known : List Headed) (t : Entry) → Fits known (record t { script = erased t.script }) → has_good_literals t.script ≡ true → Certified (stated_by known) (stated t.statement) (left_of known t) → Fits known (record t { script = erased (left_of known t) })
+trimmed_fits : (known : List TitledStatement) (t : TheoremView) → Fits known (record t { script = erased t.script }) → has_good_literals t.script ≡ true → Certified (stated_by known) (stated t.statement) (left_of known t) → Fits known (record t { script = erased (left_of known t) })
 trimmed_fits known t h good c =
     let before = stated_by known in
     let st = stated t.statement in
@@ -203,7 +203,7 @@ trimmed_has_spelling known t small h first c =
     }
 
 -- what is left of a theorem that was read and is certified can be verified
-pub trimmed_can_be_verified : (known : List Headed) (last : ℕ) (t : Entry) (lines after : List (Result Seen LineFault)) → IsTrue (list_all is_small_statement (stated_by known)) → piece_from known last (at_start One) lines ≡ derives t after
+pub trimmed_can_be_verified : (known : List TitledStatement) (last : ℕ) (t : TheoremView) (lines after : List (Result Seen LineFault)) → IsTrue (list_all is_small_statement (stated_by known)) → piece_from known last (at_start One) lines ≡ derives t after
     → Certified (stated_by known) (stated t.statement) t.script → CanBeVerified One known t (left_of known t)
 trimmed_can_be_verified known last t lines after small read c =
     let before = stated_by known in

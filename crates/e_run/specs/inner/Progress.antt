@@ -7,7 +7,7 @@ use Rattle.e_deriv.specs.Fitting.{is_small_statement}
 use Rattle.e_book.specs.declared.coming.Coming.{Coming}
 use Rattle.e_names.specs.declared.known.Known.{Known}
 use Rattle.e_line.specs.declared.fault.BookFault.TheVariants.{Unended}
-use Rattle.e_names.specs.Headed.{stated_by}
+use Rattle.e_names.specs.TitledStatements.{stated_by}
 use Rattle.e_names.specs.Taken.{nothing_known}
 use Rattle.e_names.specs.Titled.{are_notions}
 use Rattle.e_book.specs.Grammar.{last_line}

@@ -6,8 +6,8 @@ use Rattle.e_clause.specs.declared.cert.Version.TheVariants.{One, Two}
 use Rattle.e_theorem.specs.Statements.{stated}
 use Rattle.e_deriv.specs.Script.{Script}
 use Rattle.e_deriv.specs.Versions.{has_certs_of}
-use Rattle.e_names.specs.Headed.{Headed, stated_by, is_known}
-use Rattle.e_book.specs.Entry.{Entry}
+use Rattle.e_names.specs.TitledStatements.{TitledStatement, stated_by, is_known}
+use Rattle.e_book.specs.TheoremViews.{TheoremView}
 use Rattle.e_verify.specs.Numbered.{derivation_with_places}
 use Rattle.e_verify.specs.Verdicts.{IsVerifiable}
 use Rattle.e_judgement.specs.declared.judgement.Judgement.{Judgement}
@@ -37,30 +37,30 @@ HasVersionFor Trim d = IsTrue (has_certs_of One d)
 HasVersionFor Uses d = Unit {0}
 
 -- a theorem that was read and is certified
-pub record IsVerified (job : Job) (known : List Headed) (t : Entry) : Type 0 where
+pub record IsVerified (job : Job) (known : List TitledStatement) (t : TheoremView) : Type 0 where
   pub verifiable : IsVerifiable (stated_by known) (stated t.statement) t.script
   pub certified : IsCertified known t
   pub version : HasVersionFor job t.script
   pub new : is_known known t.title ≡ false
 
 -- what `upgrade` writes is of the second version
-abbrev pub IsOfSecond : Job → List Headed → Entry → Type 0
+abbrev pub IsOfSecond : Job → List TitledStatement → TheoremView → Type 0
 IsOfSecond Upgrade known t = IsTrue (has_certs_of Two (derivation_with_places (stated_by known) (stated t.statement) t.script))
 IsOfSecond Trim known t = Unit {0}
 IsOfSecond Uses known t = Unit {0}
 
-abbrev pub AreOfSecond : Job → List Headed → List Entry → Type 0
+abbrev pub AreOfSecond : Job → List TitledStatement → List TheoremView → Type 0
 AreOfSecond job known [] = Unit {0}
 AreOfSecond job known (t ∷ ts) = IsOfSecond job known t × AreOfSecond job (with_theorem known t) ts
 
 -- what is due of the theorem was written, and it is known
-pub record Passed (job : Job) (known : List Headed) (t : Entry) (now : List Headed) (old new : Option (List ℕ)) : Type 0 where
+pub record Passed (job : Job) (known : List TitledStatement) (t : TheoremView) (now : List TitledStatement) (old new : Option (List ℕ)) : Type 0 where
   pub known_now : now ≡ with_theorem known t
   pub second : IsOfSecond job known t
   pub grew : Grew old new (block_of job known t)
 
 -- where memory gave out nothing was written, or all of it, and where the sink gave out a front
-abbrev pub Broke : Job → List Headed → Entry → Option (List ℕ) → Option (List ℕ) → RunError → Type 0
+abbrev pub Broke : Job → List TitledStatement → TheoremView → Option (List ℕ) → Option (List ℕ) → RunError → Type 0
 Broke job known t old new NoMemory = Grew old new [] ⊎ Grew old new (block_of job known t)
 Broke job known t old new WriteFault = GrewByFront old new (block_of job known t)
 Broke job known t old new ReadFault = ⊥
@@ -68,27 +68,27 @@ Broke job known t old new ReadFault = ⊥
 -- ---- theorems one after another
 
 -- what is due of some such theorems was written
-abbrev pub WroteOf : Job → (List Entry → Type 0) → Option (List ℕ) → Option (List ℕ) → Type 0
-WroteOf job Are old new = (ts : List Entry) × Are ts × Grew old new (blocks_of job [] ts)
+abbrev pub WroteOf : Job → (List TheoremView → Type 0) → Option (List ℕ) → Option (List ℕ) → Type 0
+WroteOf job Are old new = (ts : List TheoremView) × Are ts × Grew old new (blocks_of job [] ts)
 
 -- some first bytes of it were written, and not all
-abbrev pub WroteFrontOf : Job → (List Entry → Type 0) → Option (List ℕ) → Option (List ℕ) → Type 0
-WroteFrontOf job Are old new = (ts : List Entry) × Are ts × GrewByFront old new (blocks_of job [] ts)
+abbrev pub WroteFrontOf : Job → (List TheoremView → Type 0) → Option (List ℕ) → Option (List ℕ) → Type 0
+WroteFrontOf job Are old new = (ts : List TheoremView) × Are ts × GrewByFront old new (blocks_of job [] ts)
 
 -- what was written with a result: where the lines end so, what is due of the theorems before their end, else of some first ones
-abbrev pub WroteTheorems : Job → (List Entry → Judgement → Type 0) → (List Entry → Type 0) → Option (List ℕ) → Option (List ℕ) → Result Judgement RunError → Type 0
+abbrev pub WroteTheorems : Job → (List TheoremView → Judgement → Type 0) → (List TheoremView → Type 0) → Option (List ℕ) → Option (List ℕ) → Result Judgement RunError → Type 0
 WroteTheorems job End Are old new (Ok j) = WroteOf job (λ ts. End ts j × AreOfSecond job [] ts) old new
 WroteTheorems job End Are old new (Err NoMemory) = WroteOf job Are old new
 WroteTheorems job End Are old new (Err WriteFault) = WroteFrontOf job Are old new
 WroteTheorems job End Are old new (Err ReadFault) = ⊥
 
 -- these theorems come first in lines behind a head
-abbrev pub ComeFirst : Version → ℕ → Rest → List Entry → Type 0
-ComeFirst v last lines ts = (known : List Headed) × (rest : Rest) × Passes v last [] lines ts known rest
+abbrev pub ComeFirst : Version → ℕ → Rest → List TheoremView → Type 0
+ComeFirst v last lines ts = (known : List TitledStatement) × (rest : Rest) × Passes v last [] lines ts known rest
 
 -- and then the lines end so
-abbrev pub ComeAll : Version → ℕ → Rest → List Entry → Judgement → Type 0
-ComeAll v last lines ts j = (known : List Headed) × (rest : Rest) × Passes v last [] lines ts known rest × Closes v last known rest j
+abbrev pub ComeAll : Version → ℕ → Rest → List TheoremView → Judgement → Type 0
+ComeAll v last lines ts j = (known : List TitledStatement) × (rest : Rest) × Passes v last [] lines ts known rest × Closes v last known rest j
 
 -- of lines behind a head
 abbrev pub TheoremsWritten : Job → Version → ℕ → Rest → Option (List ℕ) → Option (List ℕ) → Result Judgement RunError → Type 0
@@ -99,8 +99,8 @@ abbrev pub BlocksWritten : Job → List ℕ → Option (List ℕ) → Option (Li
 BlocksWritten job text old new result = WroteTheorems job (EndsAfter job (lines_of_text text)) (AreFirst job (lines_of_text text)) old new result
 
 -- theorems that are certified one after another, and what is due of them was written; these lines are left
-pub record Progress (job : Job) (v : Version) (last : ℕ) (lines : Rest) (old new : Option (List ℕ)) (known : List Headed) (rest : Rest) : Type 0 where
-  pub theorems : List Entry
+pub record Progress (job : Job) (v : Version) (last : ℕ) (lines : Rest) (old new : Option (List ℕ)) (known : List TitledStatement) (rest : Rest) : Type 0 where
+  pub theorems : List TheoremView
   pub passes : Passes v last [] lines theorems known rest
   pub second : AreOfSecond job [] theorems
   pub grew : Grew old new (blocks_of job [] theorems)

@@ -10,8 +10,8 @@ use Rattle.e_deriv.specs.declared.stop.Stop.{Stop}
 use Rattle.e_deriv.specs.declared.stop.Stop.TheVariants as stops
 use Rattle.e_deriv.specs.declared.stop.Wanted.TheVariants.{Match}
 use Rattle.e_deriv.specs.Fitting.{is_small_statement}
-use Rattle.e_names.specs.Headed.{Headed, is_known, stated_by}
-use Rattle.e_book.specs.Entry.{Entry}
+use Rattle.e_names.specs.TitledStatements.{TitledStatement, is_known, stated_by}
+use Rattle.e_book.specs.TheoremViews.{TheoremView}
 use Rattle.e_names.specs.declared.known.Known.{Known}
 use Rattle.e_names.specs.Titled.{are_notions}
 use Rattle.e_book.specs.Definitions.{BookItem, OfTheorem, item_from}
@@ -34,13 +34,13 @@ use Rattle.e_run.specs.inner.BookResults.{stop_answer}
 -- with these lines of it, those of the theorems after it are the lines from it on
 abbrev pub GoesOn : Names → Scope → List Lit → List ℕ → Stated → ℕ → List (List ℕ) → Type 0
 GoesOn names scope facts title t left lines =
-    (h : Headed) → h.title ≡ title → stated h.statement ≡ t → (hs : List Headed) (others : List (List ℕ)) (more : Bool)
+    (h : TitledStatement) → h.title ≡ title → stated h.statement ≡ t → (hs : List TitledStatement) (others : List (List ℕ)) (more : Bool)
     → Lists names scope facts hs (left - length lines) others more → Lists names scope facts (h ∷ hs) left (lines ++ others) more
 
 -- with these lines of it there are more, and none of the theorems after it is asked
 abbrev pub EndsWith : Names → Scope → List Lit → List ℕ → Stated → ℕ → List (List ℕ) → Type 0
 EndsWith names scope facts title t left lines =
-    (h : Headed) → h.title ≡ title → stated h.statement ≡ t → (hs : List Headed) → Lists names scope facts (h ∷ hs) left lines true
+    (h : TitledStatement) → h.title ≡ title → stated h.statement ≡ t → (hs : List TitledStatement) → Lists names scope facts (h ∷ hs) left lines true
 
 -- what was written of one theorem
 abbrev pub IsListedOne : Names → Scope → List Lit → List ℕ → Stated → ℕ → List ℕ → List ℕ → Listed → Type 0
@@ -53,13 +53,13 @@ IsListedOne names scope facts title t left old new (listed.TooWide w) = (length 
 -- ---- all theorems
 
 -- a theorem is asked, and a choice for it is too wide
-pub record SomeIsTooWide (scope : Scope) (facts : List Lit) (known : List Headed) (w : ℕ) : Type 0 where
-  pub theorem : Headed
+pub record SomeIsTooWide (scope : Scope) (facts : List Lit) (known : List TitledStatement) (w : ℕ) : Type 0 where
+  pub theorem : TitledStatement
   pub is_one : Contains known theorem
   pub is_asked_for : length theorem.statement.declared ≤ 6
   pub too_wide : SomeArgsAreTooWide (stated theorem.statement) scope facts w
 
-abbrev pub IsListed : Names → Scope → List Lit → List Headed → List ℕ → Listed → Type 0
+abbrev pub IsListed : Names → Scope → List Lit → List TitledStatement → List ℕ → Listed → Type 0
 IsListed names scope facts known out (listed.All n) =
     (lines : List (List ℕ)) × (out ≡ text_of lines) × (n ≡ length lines) × (n ≤ 1000) × Lists names scope facts known 1000 lines false
 IsListed names scope facts known out (listed.Full n) =
@@ -67,7 +67,7 @@ IsListed names scope facts known out (listed.Full n) =
 IsListed names scope facts known out (listed.TooWide w) = SomeIsTooWide scope facts known w
 
 -- what is known where the theorems before the one at this place were asked, and these lines are of them
-pub record IsListedTo (names : Names) (scope : Scope) (facts : List Lit) (known left : List Headed) (out : List ℕ) (count : ℕ) : Type 0 where
+pub record IsListedTo (names : Names) (scope : Scope) (facts : List Lit) (known left : List TitledStatement) (out : List ℕ) (count : ℕ) : Type 0 where
   pub lines : List (List ℕ)
   pub bytes : out ≡ text_of lines
   pub counted : count ≡ length lines
@@ -76,7 +76,7 @@ pub record IsListedTo (names : Names) (scope : Scope) (facts : List Lit) (known 
 
 -- ---- the answer at a place
 
-abbrev pub AnswersAt : Names → Scope → List Lit → List Headed → List ℕ → ℕ → Status → List ℕ → Type 0
+abbrev pub AnswersAt : Names → Scope → List Lit → List TitledStatement → List ℕ → ℕ → Status → List ℕ → Type 0
 AnswersAt names scope facts known title step (status.Suggested n more) out =
     (lines : List (List ℕ)) × (n ≡ length lines) × Lists names scope facts known 1000 lines more × (out ≡ text_of lines ++ suggested_line n more)
 AnswersAt names scope facts known title step (status.TooWide p n wanted width) out =
@@ -94,7 +94,7 @@ pub record IsBookAnswer (lines : Rest) (title : List ℕ) (step : ℕ) (answer :
 
 -- theorems and definitions of these lines were taken, no theorem has the title, and these lines are left
 pub record IsOnWay (lines : Rest) (title : List ℕ) (known : Known) (rest : Rest) : Type 0 where
-  pub theorems : List Entry
+  pub theorems : List TheoremView
   pub begins : Begins lines theorems known rest
   pub untitled : IsFalse (is_known known.theorems title)
   pub small : IsTrue (list_all is_small_statement (stated_by known.theorems))
@@ -103,7 +103,7 @@ pub record IsOnWay (lines : Rest) (title : List ℕ) (known : Known) (rest : Res
 -- ---- the answer on the next theorem
 
 -- the theorems before were taken, none of them has the title, and this is the next one
-pub record IsNext (lines : Rest) (title : List ℕ) (before : List Headed) (t : Entry) : Type 0 where
+pub record IsNext (lines : Rest) (title : List ℕ) (before : List TitledStatement) (t : TheoremView) : Type 0 where
   pub known : Known
   pub rest : Rest
   pub after : Rest
@@ -112,7 +112,7 @@ pub record IsNext (lines : Rest) (title : List ℕ) (before : List Headed) (t : 
   pub read : item_from known (end_line_number lines) None rest ≡ Ok (Some (OfTheorem t, after))
 
 -- where it is the next one, that is due
-abbrev pub AnswersNext : List Headed → Entry → List ℕ → ℕ → Status → List ℕ → Type 0
+abbrev pub AnswersNext : List TitledStatement → TheoremView → List ℕ → ℕ → Status → List ℕ → Type 0
 AnswersNext before t title step answer out = (lines : Rest) → IsNext lines title before t → IsBookAnswer lines title step answer out
 
 -- the stop is want of memory, which says nothing of the book

@@ -28,9 +28,9 @@ use Rattle.e_deriv.specs.Script.{Script}
 use Rattle.e_deriv.specs.PlainStep.{PlainStep, Cited, Inferred, Made as MadeStep, Applied, Claimed, Copied}
 use Rattle.e_deriv.specs.declared.stop.Wanted.{Wanted}
 use Rattle.e_theorem.specs.declared.statement.Statement.{Statement}
-use Rattle.e_line.specs.declared.form.Form.{Form}
-use Rattle.e_names.specs.Headed.{Headed, theorem_of}
-use Rattle.e_book.specs.Entry.{Entry}
+use Rattle.e_line.specs.declared.raw_line.RawLine.{RawLine}
+use Rattle.e_names.specs.TitledStatements.{TitledStatement, theorem_of}
+use Rattle.e_book.specs.TheoremViews.{TheoremView}
 use Rattle.e_text.specs.Tokens.{spaced}
 use Rattle.e_line.specs.Canonical.{lit_words, sort_word, line_of}
 use Rattle.e_names.specs.Canonical.{raw_of, rule_name, name_of_object, by_form, hence_form, let_form, apply_form, claim_form, superpose_form, cases_form, else_form, qed_form, contradiction_form, end_form}
@@ -106,7 +106,7 @@ contradiction_text ns None = []
 contradiction_text ns (Some a) = against_text ns a
 
 -- a line with its end
-abbrev pub form_text : Form → List ℕ
+abbrev pub form_text : RawLine → List ℕ
 form_text f = line_of f ++ 10 ∷ []
 
 -- the line of a superposition
@@ -114,11 +114,11 @@ unfoldable pub superposition_text : Names → Superpose → List (List ℕ) → 
 superposition_text ns form names shown = form_text (superpose_form ns form names shown)
 
 -- the lines of a script with its certificates
-unfoldable pub script_text : List Headed → Names → Script → List ℕ
+unfoldable pub script_text : List TitledStatement → Names → Script → List ℕ
 script_text known ns d = text_of (script_lines known ns d)
 
 -- a step with its certificates, and the block inside it
-abbrev pub step_text : List Headed → Names → PlainStep → List ℕ
+abbrev pub step_text : List TitledStatement → Names → PlainStep → List ℕ
 step_text known ns (Cited by) = form_text (by_form ns by)
 step_text known ns (Inferred lit cert) = form_text (hence_form ns lit) ++ certs_text ns (option_to_list cert)
 step_text known ns (MadeStep form names certs) = form_text (let_form ns form names) ++ certs_text ns certs
@@ -128,7 +128,7 @@ step_text known ns (Copied form names shown certs inner) =
     superposition_text ns form names shown ++ (certs_text ns certs ++ script_text known (named ns superposing.sorts_copied names) inner)
 
 -- the names in scope behind a step: those of an inner block are gone
-abbrev pub names_behind : List Headed → Names → PlainStep → Names
+abbrev pub names_behind : List TitledStatement → Names → PlainStep → Names
 names_behind known ns (Cited by) = ns
 names_behind known ns (Inferred lit cert) = ns
 names_behind known ns (MadeStep form names certs) = named ns (sorts_made form) names
@@ -137,11 +137,11 @@ names_behind known ns (Claimed shown inner) = ns
 names_behind known ns (Copied form names shown certs inner) = ns
 
 -- and behind several
-abbrev pub names_after : List Headed → Names → List PlainStep → Names
+abbrev pub names_after : List TitledStatement → Names → List PlainStep → Names
 names_after known ns [] = ns
 names_after known ns (s ∷ steps) = names_after known (names_behind known ns s) steps
 
-abbrev pub steps_text : List Headed → Names → List PlainStep → List ℕ
+abbrev pub steps_text : List TitledStatement → Names → List PlainStep → List ℕ
 steps_text known ns [] = []
 steps_text known ns (s ∷ steps) = step_text known ns s ++ steps_text known (names_behind known ns s) steps
 
@@ -152,10 +152,10 @@ abbrev pub contradicted_text : Names → Option Against → List ℕ
 contradicted_text ns against = form_text contradiction_form ++ contradiction_text ns against
 
 -- two blocks behind the line of a split
-abbrev pub split_text : List Headed → Names → Lit → Script → Script → List ℕ
+abbrev pub split_text : List TitledStatement → Names → Lit → Script → Script → List ℕ
 split_text known ns lit first second = form_text (cases_form ns lit) ++ (script_text known ns first ++ (form_text else_form ++ script_text known ns second))
 
-abbrev pub proof_text : List Headed → Names → Script → List ℕ
+abbrev pub proof_text : List TitledStatement → Names → Script → List ℕ
 proof_text known ns d = script_text known ns d ++ form_text end_form
 
 -- the first words of a line of objects
@@ -193,7 +193,7 @@ abbrev pub head_text : List ℕ → Names → Statement → List ℕ
 head_text title ns t = title_text title ++ (statement_text ns t ++ (codes "proof" ++ 10 ∷ []))
 
 -- the spelling in its parts
-abbrev pub theorem_text : List Headed → Entry → Script → List ℕ
+abbrev pub theorem_text : List TitledStatement → TheoremView → Script → List ℕ
 theorem_text known t d = head_text t.title t.names t.statement ++ proof_text known (names_of_proof t) d
 
 -- ---- the last lines of a stop

@@ -1,7 +1,7 @@
 use Rattle.std.proofs.Common.{[], ◌∷◌, ap, ◌∙◌, arith, length, length-append}
 use Rattle.e_book.specs.Grammar.{last_line}
-use Rattle.e_names.specs.Headed.{headed}
-use Rattle.e_book.specs.Entry.{entry_of}
+use Rattle.e_names.specs.TitledStatements.{headed}
+use Rattle.e_book.specs.TheoremViews.{entry_of}
 use Rattle.e_judgement.proofs.Passing.{closes_so, reads_on, closes_at, goes_on, small_more}
 use Rattle.e_judgement.proofs.judging.judge_theorems.Goals as goal
 

@@ -3,7 +3,7 @@ use Rattle.std.specs.Prelude.{IsTrue}
 use Rattle.std.specs.List.{list_all}
 use Rattle.e_deriv.specs.Fitting.{is_small_statement}
 use Rattle.e_book.specs.Grammar.{last_line}
-use Rattle.e_names.specs.Headed.{stated_by}
+use Rattle.e_names.specs.TitledStatements.{stated_by}
 use Rattle.e_line.specs.Limits.{most_theorems}
 use Rattle.e_judgement.proofs.Passing.{History}
 use Rattle.e_judgement.proofs.judging.judge_theorems.Given as goal

@@ -1,7 +1,7 @@
 use Rattle.std.proofs.Common.{◌+◌, [], get_or, drop, sym, ap, ◌∙◌, arith}
 use Rattle.e_text.specs.Names.{name_of}
-use Rattle.e_line.specs.declared.fault.Kind.TheVariants.{Malformed}
-use Rattle.e_line.specs.declared.fault.Trouble.TheVariants.{Fault}
+use Rattle.e_line.specs.declared.fault.FaultKind.TheVariants.{Malformed}
+use Rattle.e_line.specs.declared.fault.LineError.TheVariants.{Fault}
 use Rattle.e_line.specs.Reading.{texts, or_malformed, names_of}
 use Rattle.e_line.proofs.Loops.{goes_on, fails, rest_at}
 use Rattle.e_line.proofs.Texts.{text_at, length-texts}

@@ -1,6 +1,6 @@
 use Rattle.std.proofs.Common.{ap, length, arith}
 use Rattle.e_literal.specs.Use.{Stated}
-use Rattle.e_names.specs.Headed.{stated_by}
+use Rattle.e_names.specs.TitledStatements.{stated_by}
 use Rattle.e_read.proofs.Rooms.{few_at}
 use Rattle.e_read.proofs.needs.needs_of_use.Goals as goal
 

@@ -2,7 +2,7 @@ use Rattle.e_theorem.specs.Statements.{stated}
 use Rattle.e_deriv.specs.Certified.{Certified}
 use Rattle.e_deriv.specs.Script.{script_of}
 use Rattle.e_deriv.proofs.Agreement.{proof_of_certified}
-use Rattle.e_names.specs.Headed.{stated_by}
+use Rattle.e_names.specs.TitledStatements.{stated_by}
 use Rattle.e_run.proofs.blocks.block.Goals as goal
 
 pub returns-clause-block : goal.returns-clause-block

@@ -1,7 +1,7 @@
 use Rattle.std.proofs.Common.{sym, subst}
 use Rattle.std.specs.Prelude.{OnOk}
 use Rattle.e_deriv.specs.Script.{script_of}
-use Rattle.e_book.specs.Entry.{entry_of}
+use Rattle.e_book.specs.TheoremViews.{entry_of}
 use Rattle.e_run.specs.declared.command.Job.{Job}
 use Rattle.e_run.specs.inner.Rewriting.{HasVersionFor, IsOfSecond}
 use Rattle.e_run.proofs.UpgradedTexts.{holds_on_ok}

@@ -1,5 +1,5 @@
 use Rattle.std.proofs.Common.{arith}
-use Rattle.e_book.specs.Entry.{entry_of}
+use Rattle.e_book.specs.TheoremViews.{entry_of}
 use Rattle.e_run.proofs.SuggesterAnswers.{too_short_next, stopped_next, answered_next}
 use Rattle.e_run.proofs.suggester.answer_on.Goals as goal
 

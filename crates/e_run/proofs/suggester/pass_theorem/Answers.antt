@@ -1,7 +1,7 @@
 use Rattle.std.proofs.Common.{◌∙◌, sym}
 use Rattle.e_deriv.specs.Script.{script_of}
-use Rattle.e_book.specs.Entry.{entry_of}
-use Rattle.e_names.specs.Headed.{is_known}
+use Rattle.e_book.specs.TheoremViews.{entry_of}
+use Rattle.e_names.specs.TitledStatements.{is_known}
 use Rattle.e_names.specs.Titled.{defines}
 use Rattle.e_names.proofs.FreshTitles.{both}
 use Rattle.e_run.proofs.SuggesterAnswers.{titled_passes, stopped_passes, licensed_passes}

@@ -1,4 +1,4 @@
-use Rattle.e_names.specs.Headed.{is_known}
+use Rattle.e_names.specs.TitledStatements.{is_known}
 use Rattle.e_names.specs.Titled.{defines}
 use Rattle.e_names.proofs.FreshTitles.{neither}
 use Rattle.e_names.proofs.known.Known.add.Goals as goal

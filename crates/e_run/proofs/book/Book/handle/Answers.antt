@@ -1,8 +1,8 @@
 use Rattle.std.proofs.Common.{[], ◌∷◌, length, length-append, ap, arith}
 use Rattle.e_names.specs.declared.known.Known.{Known}
-use Rattle.e_names.specs.Headed.{headed, is_known}
+use Rattle.e_names.specs.TitledStatements.{headed, is_known}
 use Rattle.e_names.specs.Titled.{defines}
-use Rattle.e_book.specs.Entry.{entry_of}
+use Rattle.e_book.specs.TheoremViews.{entry_of}
 use Rattle.e_names.proofs.FreshTitles.{both}
 use Rattle.e_book.proofs.Fitting.{fitting, small_statement, one_more_stated}
 use Rattle.e_book.proofs.ReadingOn.{begun_first}

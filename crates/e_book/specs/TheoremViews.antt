@@ -5,12 +5,12 @@ use Rattle.e_deriv.specs.Script.{Script, script_of}
 use Rattle.e_theorem.specs.declared.statement.Statement.{Statement}
 use Rattle.e_book.specs.declared.theorem.Theorem.{Theorem}
 
-pub record Entry : Type 0 where
+pub record TheoremView : Type 0 where
   pub title : List ℕ
   pub names : Names
   pub statement : Statement
   pub script : Script
 
 -- a theorem of the code, without where its steps lie
-abbrev pub entry_of : Theorem → Entry
+abbrev pub entry_of : Theorem → TheoremView
 entry_of t = record { title = t.title; names = t.names; statement = t.statement; script = script_of t.block }

@@ -27,13 +27,13 @@ use Rattle.e_line.proofs.NamesAgain.{titled, names_again}
 use Rattle.e_line.proofs.SumsAgain.{TermNamed, term_again, term_tokens}
 use Rattle.e_line.proofs.LitsAgain.{LitNamed, lit_again, diagram_again, lit_tokens}
 use Rattle.e_line.proofs.LetsAgain.{names_tokens}
-use Rattle.e_cert.specs.declared.mark.RawRow.{RawRow}
-use Rattle.e_cert.specs.declared.mark.RawRow.TheVariants as rows
-use Rattle.e_cert.specs.declared.mark.Mark.{Mark}
-use Rattle.e_cert.specs.declared.mark.Mark.TheVariants as marks
-use Rattle.e_cert.specs.Marks.{size_of, multiplier_of, place_of, fact_row_of, fact_mark_of, row_named, row_of, may_differ, differs_of, transfer_of, row_mark_of, mark_named, mark_of, row_words, mark_words, mark_line}
+use Rattle.e_cert.specs.declared.cert_line.RawRow.{RawRow}
+use Rattle.e_cert.specs.declared.cert_line.RawRow.TheVariants as rows
+use Rattle.e_cert.specs.declared.cert_line.CertLine.{CertLine}
+use Rattle.e_cert.specs.declared.cert_line.CertLine.TheVariants as certlines
+use Rattle.e_cert.specs.CertLines.{size_of, multiplier_of, place_of, fact_row_of, fact_cert_line_of, row_named, row_of, may_differ, differs_of, transfer_of, row_cert_line_of, cert_line_named, cert_line_of, row_words, cert_line_words, cert_line_text}
 use Rattle.e_line.specs.Strict.{is_direct}
-use Rattle.e_cert.specs.Strict.{is_strict_row, is_strict_mark, strict_mark}
+use Rattle.e_cert.specs.Strict.{is_strict_row, is_strict_cert_line, exact_cert_line}
 
 -- ---- what is known of the lines of certificates
 
@@ -46,13 +46,13 @@ RowNamed (rows.Least t) = TermNamed t
 RowNamed (rows.FactAt k) = ltb k (2 ^ 32) ≡ true
 RowNamed row = Unit {0}
 
-abbrev pub MarkNamed : Mark → Type 0
-MarkNamed (marks.Transfer rule ns) = (is_title rule ≡ true) × AreNames ns
-MarkNamed (marks.Clash l) = LitNamed l × (is_diagram_raw l.atom ≡ true)
-MarkNamed (marks.Differs r) = RowNamed r × (may_differ r ≡ true)
-MarkNamed (marks.Row m r) = (is_nonzero_bounded m ≡ true) × RowNamed r
-MarkNamed (marks.FactAt k) = ltb k (2 ^ 32) ≡ true
-MarkNamed mark = Unit {0}
+abbrev pub CertLineNamed : CertLine → Type 0
+CertLineNamed (certlines.Transfer rule ns) = (is_title rule ≡ true) × AreNames ns
+CertLineNamed (certlines.Clash l) = LitNamed l × (is_diagram_raw l.atom ≡ true)
+CertLineNamed (certlines.Differs r) = RowNamed r × (may_differ r ≡ true)
+CertLineNamed (certlines.Row m r) = (is_nonzero_bounded m ≡ true) × RowNamed r
+CertLineNamed (certlines.FactAt k) = ltb k (2 ^ 32) ≡ true
+CertLineNamed cert_line = Unit {0}
 
 -- ---- multipliers
 
@@ -212,16 +212,16 @@ row_again (rows.Least t) h = rw (term_again t h) refl
 row_again rows.Above h = refl
 row_again rows.Below h = refl
 
-pub mark_again : (m : Mark) → MarkNamed m → mark_of (mark_words m) ≡ Ok m
-unfolding mark_of mark_named fact_mark_of transfer_of differs_of row_mark_of title_at word_at end_at
-mark_again marks.Fact h = refl
-mark_again (marks.FactAt k) h = rw (place_again k h) refl
-mark_again marks.Metric h = refl
-mark_again (marks.Transfer rule ns) h = rw (titled rule h.0, names_again ns h.1) refl
-mark_again (marks.Clash l) h = rw (diagram_again l h.0 h.1) refl
-mark_again marks.Sum h = refl
-mark_again (marks.Differs r) h = rw (row_again r h.0, h.1) refl
-mark_again (marks.Row m r) h =
+pub cert_line_again : (m : CertLine) → CertLineNamed m → cert_line_of (cert_line_words m) ≡ Ok m
+unfolding cert_line_of cert_line_named fact_cert_line_of transfer_of differs_of row_cert_line_of title_at word_at end_at
+cert_line_again certlines.Fact h = refl
+cert_line_again (certlines.FactAt k) h = rw (place_again k h) refl
+cert_line_again certlines.Metric h = refl
+cert_line_again (certlines.Transfer rule ns) h = rw (titled rule h.0, names_again ns h.1) refl
+cert_line_again (certlines.Clash l) h = rw (diagram_again l h.0 h.1) refl
+cert_line_again certlines.Sum h = refl
+cert_line_again (certlines.Differs r) h = rw (row_again r h.0, h.1) refl
+cert_line_again (certlines.Row m r) h =
     let apart : (c : ℕ) (cs : List ℕ) → 97 ≤ c → bytes_eq (signed_decimal m) (c ∷ cs) ≡ false = λ c cs k. word_apart m c cs h.0 k in
     let a : bytes_eq (signed_decimal m) (codes "fact") ≡ false = apart _ _ (omega arith) in
     let b : bytes_eq (signed_decimal m) (codes "metric") ≡ false = apart _ _ (omega arith) in
@@ -255,19 +255,19 @@ multiplier_token (negsuc n) h =
     let s : eqb (length (45 ∷ decimal (suc n))) 0 ≡ false = ne_eqb _ _ (λ e. absurd (omega (arith, e))) in
     rw (s, u) refl
 
-mark_tokens : (m : Mark) → MarkNamed m → AreTokens (mark_words m)
-mark_tokens marks.Fact h = (refl, tt)
-mark_tokens marks.Metric h = (refl, tt)
-mark_tokens (marks.FactAt k) h = (refl, (place_token k h, tt))
-mark_tokens (marks.Transfer rule ns) h = (refl, (is_token-title rule h.0, names_tokens ns h.1))
-mark_tokens (marks.Clash l) h = (refl, lit_tokens l h.0)
-mark_tokens marks.Sum h = (refl, tt)
-mark_tokens (marks.Differs r) h = (refl, row_tokens r h.0)
-mark_tokens (marks.Row m r) h = (multiplier_token m h.0, row_tokens r h.1)
+cert_line_tokens : (m : CertLine) → CertLineNamed m → AreTokens (cert_line_words m)
+cert_line_tokens certlines.Fact h = (refl, tt)
+cert_line_tokens certlines.Metric h = (refl, tt)
+cert_line_tokens (certlines.FactAt k) h = (refl, (place_token k h, tt))
+cert_line_tokens (certlines.Transfer rule ns) h = (refl, (is_token-title rule h.0, names_tokens ns h.1))
+cert_line_tokens (certlines.Clash l) h = (refl, lit_tokens l h.0)
+cert_line_tokens certlines.Sum h = (refl, tt)
+cert_line_tokens (certlines.Differs r) h = (refl, row_tokens r h.0)
+cert_line_tokens (certlines.Row m r) h = (multiplier_token m h.0, row_tokens r h.1)
 
 -- the words of its line
-pub mark_tokens_again : (m : Mark) → MarkNamed m → tokens_of (mark_line m) ≡ codes "|" ∷ mark_words m
-mark_tokens_again m h = tokens_of-joined (codes "|" ∷ mark_words m) (refl, mark_tokens m h)
+pub cert_line_tokens_again : (m : CertLine) → CertLineNamed m → tokens_of (cert_line_text m) ≡ codes "|" ∷ cert_line_words m
+cert_line_tokens_again m h = tokens_of-joined (codes "|" ∷ cert_line_words m) (refl, cert_line_tokens m h)
 
 -- ---- the line is spelled as the mark is
 
@@ -282,16 +282,16 @@ strict_row rows.Above h = refl
 strict_row rows.Below h = refl
 strict_row (rows.FactAt k) h = refl
 
-strict : (m : Mark) → MarkNamed m → is_strict_mark m ≡ true
-strict marks.Fact h = refl
-strict marks.Metric h = refl
-strict (marks.FactAt k) h = refl
-strict (marks.Transfer rule ns) h = refl
-strict (marks.Clash l) h = refl
-strict marks.Sum h = refl
-strict (marks.Differs r) h = strict_row r h.0
-strict (marks.Row m r) h = strict_row r h.1
+strict : (m : CertLine) → CertLineNamed m → is_strict_cert_line m ≡ true
+strict certlines.Fact h = refl
+strict certlines.Metric h = refl
+strict (certlines.FactAt k) h = refl
+strict (certlines.Transfer rule ns) h = refl
+strict (certlines.Clash l) h = refl
+strict certlines.Sum h = refl
+strict (certlines.Differs r) h = strict_row r h.0
+strict (certlines.Row m r) h = strict_row r h.1
 
-pub strict_mark_again : (m : Mark) → MarkNamed m → strict_mark (mark_line m) (mark_words m) ≡ Ok m
-unfolding strict_mark
-strict_mark_again m h = rw (mark_again m h, strict m h, same_bytes (mark_line m)) refl
+pub strict_cert_line_again : (m : CertLine) → CertLineNamed m → exact_cert_line (cert_line_text m) (cert_line_words m) ≡ Ok m
+unfolding exact_cert_line
+strict_cert_line_again m h = rw (cert_line_again m h, strict m h, same_bytes (cert_line_text m)) refl

@@ -2,9 +2,9 @@
 ghost use Rattle.std.specs.Prelude.{◌≡◌, ◌++◌, ◌∷◌, [], codes, decimal, OnOk};
 ghost use Rattle.e_text.specs.Tokens.{spaced};
 ghost use Rattle.e_line.specs.Canonical.{term_words};
-ghost use Rattle.e_cert.specs.Marks.{row_words, mark_words, mark_line};
+ghost use Rattle.e_cert.specs.CertLines.{row_words, cert_line_words, cert_line_text};
 
-use crate::mark::{Mark, RawRow};
+use crate::cert_line::{CertLine, RawRow};
 use e_line::{RawTerm, put_literal, put_term};
 use e_words::{put, put_names, put_number};
 use std::alloc::AllocError;
@@ -45,38 +45,38 @@ fn put_row(out: &mut Vec<u8>, row: &RawRow) -> Result<(), AllocError>
 }
 
 /// A line of a certificate behind its sign.
-fn put_words(out: &mut Vec<u8>, mark: &Mark) -> Result<(), AllocError>
-    ensures { OnOk result (out.new.items ≡ out.old.items ++ spaced (mark_words mark.now)) }
+fn put_words(out: &mut Vec<u8>, cert_line: &CertLine) -> Result<(), AllocError>
+    ensures { OnOk result (out.new.items ≡ out.old.items ++ spaced (cert_line_words cert_line.now)) }
 {
-    match mark {
-        Mark::Fact => put(out, b"fact"),
-        Mark::Metric => put(out, b"metric"),
-        Mark::Transfer(rule, names) => {
+    match cert_line {
+        CertLine::Fact => put(out, b"fact"),
+        CertLine::Metric => put(out, b"metric"),
+        CertLine::Transfer(rule, names) => {
             put(out, b"transfer")?;
             put(out, rule.bytes())?;
             put_names(out, names.items())
         }
-        Mark::Clash(lit) => {
+        CertLine::Clash(lit) => {
             put(out, b"clash")?;
             put_literal(out, lit)
         }
-        Mark::Sum => put(out, b"sum"),
-        Mark::Differs(row) => {
+        CertLine::Sum => put(out, b"sum"),
+        CertLine::Differs(row) => {
             put(out, b"differs")?;
             put_row(out, row)
         }
-        Mark::Row(multiplier, row) => {
+        CertLine::Row(multiplier, row) => {
             put_number(out, *multiplier)?;
             put_row(out, row)
         }
-        Mark::FactAt(place) => put_place(out, *place),
+        CertLine::FactAt(place) => put_place(out, *place),
     }
 }
 
 /// The line of a certificate, without its end.
-pub(crate) fn put_mark(out: &mut Vec<u8>, mark: &Mark) -> Result<(), AllocError>
-    ensures { OnOk result (out.new.items ≡ out.old.items ++ mark_line mark.now) }
+pub(crate) fn put_cert_line(out: &mut Vec<u8>, cert_line: &CertLine) -> Result<(), AllocError>
+    ensures { OnOk result (out.new.items ≡ out.old.items ++ cert_line_text cert_line.now) }
 {
     out.extend_from_slice(b"|")?;
-    put_words(out, mark)
+    put_words(out, cert_line)
 }

@@ -1,9 +1,9 @@
 use Rattle.std.proofs.Common.{Result, subst, arith}
-use Rattle.e_book.specs.declared.draft.Draft.{Draft}
-use Rattle.e_line.specs.declared.fault.Kind.{Kind}
+use Rattle.e_book.specs.declared.draft.TheoremParser.{TheoremParser}
+use Rattle.e_line.specs.declared.fault.FaultKind.{FaultKind}
 use Rattle.e_line.specs.Reading.{Moves}
 use Rattle.e_book.proofs.Copies.{superposed_is}
-use Rattle.e_book.proofs.draft.Draft.superpose.Goals as goal
+use Rattle.e_book.proofs.draft.TheoremParser.on_superpose.Goals as goal
 
 pub returns-clause-value : goal.returns-clause-value
 returns-clause-value c =
@@ -12,4 +12,4 @@ returns-clause-value c =
     let form = c.in_ok-form.field-0.form in
     let shown = c.in_ok-form.field-0.shown in
     let is = superposed_is d raw form shown tt c.in_ok-form.ensures (grind arith) in
-    subst (λ (r : Result Draft Kind). Moves c.begin_copies.result c.begin_copies.new.self r) (grind (arith, is)) c.begin_copies.ensures.value
+    subst (λ (r : Result TheoremParser FaultKind). Moves c.begin_copies.result c.begin_copies.new.self r) (grind (arith, is)) c.begin_copies.ensures.value

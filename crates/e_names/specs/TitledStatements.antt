@@ -8,41 +8,41 @@ use Rattle.e_theorem.specs.Statements.{all_stated}
 use Rattle.e_deriv.specs.Lines.{theorem_at}
 
 -- a statement under its title
-pub record Headed : Type 0 where
+pub record TitledStatement : Type 0 where
   pub title : List ℕ
   pub statement : Statement
 
-abbrev pub headed : List ℕ → Statement → Headed
+abbrev pub headed : List ℕ → Statement → TitledStatement
 headed title statement = record { title = title; statement = statement }
 
 -- the titles and the statements side by side
-abbrev pub side_by_side : List (List ℕ) → List Statement → List Headed
+abbrev pub side_by_side : List (List ℕ) → List Statement → List TitledStatement
 side_by_side (t ∷ ts) (s ∷ ss) = headed t s ∷ side_by_side ts ss
 side_by_side (t ∷ ts) [] = []
 side_by_side [] ss = []
 
-abbrev pub titles : List Headed → List (List ℕ)
+abbrev pub titles : List TitledStatement → List (List ℕ)
 titles known = map (λ h. h.title) known
 
-abbrev pub statements : List Headed → List Statement
+abbrev pub statements : List TitledStatement → List Statement
 statements known = map (λ h. h.statement) known
 
 -- what they state
-abbrev pub stated_by : List Headed → List Stated
+abbrev pub stated_by : List TitledStatement → List Stated
 stated_by known = all_stated (statements known)
 
 -- what the theorem at a place states; past the end one that says nothing
-abbrev pub theorem_of : List Headed → ℕ → Stated
+abbrev pub theorem_of : List TitledStatement → ℕ → Stated
 theorem_of known k = theorem_at (stated_by known) k
 
 -- an earlier theorem has this title
-abbrev pub is_known : List Headed → List ℕ → Bool
+abbrev pub is_known : List TitledStatement → List ℕ → Bool
 is_known known title = list_any (bytes_eq title) (titles known)
 
 -- the title of the theorem at a place; past the end no word
-abbrev pub title_at : List Headed → ℕ → List ℕ
+abbrev pub title_at : List TitledStatement → ℕ → List ℕ
 title_at known k = slice_index_or (titles known) k []
 
 -- where the theorem with this title stands
-abbrev pub place_in : List Headed → List ℕ → Option ℕ
+abbrev pub place_in : List TitledStatement → List ℕ → Option ℕ
 place_in known title = position (bytes_eq title) (titles known)

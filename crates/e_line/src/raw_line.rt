@@ -1,10 +1,10 @@
 //! The forms of lines, told from their words by spelling alone.
 ghost use Rattle.std.specs.Prelude.{◌≡◌, List, length, IfOk, [], ◌∷◌, ◌==◌};
 ghost use Rattle.e_line.specs.Reading.{texts, Gives};
-ghost use Rattle.e_line.specs.Forms.{declare_of, sort_of, made_of, by_of, form_of, form_named, theorem_of, bare};
+ghost use Rattle.e_line.specs.RawLines.{declare_of, sort_of, made_of, by_of, raw_line_of, raw_line_named, theorem_of, bare};
 
 use crate::applies::{RawApply, apply_of};
-use crate::fault::{Kind, Trouble};
+use crate::fault::{FaultKind, LineError};
 use crate::lets::{RawLet, let_of};
 use crate::literal::{RawLit, diagram_lit_of, lit_of, lits_of};
 use crate::superposes::{RawSuperpose, superpose_of};
@@ -16,7 +16,7 @@ use std::mem;
 
 /// A line, by its first word.
 #[derive(Drop)]
-pub enum Form {
+pub enum RawLine {
     /// `theorem TITLE`
     Theorem(Title),
     /// `points NAMES`, `lines NAMES` or `circles NAMES`
@@ -53,17 +53,17 @@ pub enum Form {
     End,
 }
 
-#[tactic(auto, unfolding(crate::specs::Forms::declare_of))]
-fn declare_of(alloc: Global, sort: Sort, words: &[&[u8]]) -> Result<Form, Trouble>
+#[tactic(auto, unfolding(crate::specs::RawLines::declare_of))]
+fn declare_of(alloc: Global, sort: Sort, words: &[&[u8]]) -> Result<RawLine, LineError>
     ensures { Gives (λ f. f) result (declare_of sort (texts words.now)) }
 {
     let names = some_names(alloc, words)?;
-    Ok(Form::Declare(sort, names))
+    Ok(RawLine::Declare(sort, names))
 }
 
 /// The sort whose objects a word declares.
-#[tactic(auto, unfolding(crate::specs::Forms::sort_of))]
-fn sort_of(word: &[u8]) -> Result<Sort, Trouble>
+#[tactic(auto, unfolding(crate::specs::RawLines::sort_of))]
+fn sort_of(word: &[u8]) -> Result<Sort, LineError>
     ensures { Gives (λ s. s) result (sort_of word.now) }
 {
     if is(word, b"points") {
@@ -75,51 +75,51 @@ fn sort_of(word: &[u8]) -> Result<Sort, Trouble>
     if is(word, b"circles") {
         return Ok(Sort::Circle);
     }
-    Err(Trouble::Fault(Kind::Malformed))
+    Err(LineError::Fault(FaultKind::Malformed))
 }
 
-#[tactic(auto, unfolding(crate::specs::Forms::made_of, crate::specs::Reading::word_at))]
-fn made_of(alloc: Global, words: &[&[u8]]) -> Result<Form, Trouble>
+#[tactic(auto, unfolding(crate::specs::RawLines::made_of, crate::specs::Reading::word_at))]
+fn made_of(alloc: Global, words: &[&[u8]]) -> Result<RawLine, LineError>
     ensures { Gives (λ f. f) result (made_of (texts words.now)) }
 {
     let [word, rest @ ..] = words else {
-        return Err(Trouble::Fault(Kind::Malformed));
+        return Err(LineError::Fault(FaultKind::Malformed));
     };
     let sort = sort_of(word)?;
     let names = some_names(alloc, rest)?;
-    Ok(Form::Made(sort, names))
+    Ok(RawLine::Made(sort, names))
 }
 
-#[tactic(auto, unfolding(crate::specs::Forms::by_of, crate::specs::Reading::title_at, crate::specs::Reading::word_at))]
-fn by_of(alloc: Global, words: &[&[u8]]) -> Result<Form, Trouble>
+#[tactic(auto, unfolding(crate::specs::RawLines::by_of, crate::specs::Reading::title_at, crate::specs::Reading::word_at))]
+fn by_of(alloc: Global, words: &[&[u8]]) -> Result<RawLine, LineError>
     ensures { Gives (λ f. f) result (by_of (texts words.now)) }
 {
     let [rule, rest @ ..] = words else {
-        return Err(Trouble::Fault(Kind::Malformed));
+        return Err(LineError::Fault(FaultKind::Malformed));
     };
     let Some(rule) = Title::read(rule) else {
-        return Err(Trouble::Fault(Kind::Malformed));
+        return Err(LineError::Fault(FaultKind::Malformed));
     };
     let (names, lit, found) = cut(rest, b":");
     if !found {
-        return Err(Trouble::Fault(Kind::Malformed));
+        return Err(LineError::Fault(FaultKind::Malformed));
     }
     let names = names_of(alloc, names)?;
     let lit = diagram_lit_of(alloc, lit)?;
-    Ok(Form::By(rule, names, lit))
+    Ok(RawLine::By(rule, names, lit))
 }
 
-#[tactic(auto, unfolding(crate::specs::Forms::theorem_of))]
-fn theorem_of(mut words: Words) -> Result<Form, Trouble>
+#[tactic(auto, unfolding(crate::specs::RawLines::theorem_of))]
+fn theorem_of(mut words: Words) -> Result<RawLine, LineError>
     ensures { Gives (λ f. f) result (theorem_of words.entry) }
 {
     let title = words.title()?;
     words.end()?;
-    Ok(Form::Theorem(title))
+    Ok(RawLine::Theorem(title))
 }
 
-#[tactic(auto, unfolding(crate::specs::Forms::bare))]
-fn bare(words: Words, form: Form) -> Result<Form, Trouble>
+#[tactic(auto, unfolding(crate::specs::RawLines::bare))]
+fn bare(words: Words, form: RawLine) -> Result<RawLine, LineError>
     ensures { Gives (λ f. f) result (bare words.entry form) }
 {
     match words.end() {
@@ -131,9 +131,9 @@ fn bare(words: Words, form: Form) -> Result<Form, Trouble>
     }
 }
 
-#[tactic(auto, unfolding(crate::specs::Forms::form_named))]
-fn form_named(alloc: Global, word: &[u8], rest: &[&[u8]]) -> Result<Form, Trouble>
-    ensures { Gives (λ f. f) result (form_named word.now (texts rest.now)) }
+#[tactic(auto, unfolding(crate::specs::RawLines::raw_line_named))]
+fn raw_line_named(alloc: Global, word: &[u8], rest: &[&[u8]]) -> Result<RawLine, LineError>
+    ensures { Gives (λ f. f) result (raw_line_named word.now (texts rest.now)) }
 {
     let words = Words::new(rest);
     if is(word, b"theorem") {
@@ -149,60 +149,60 @@ fn form_named(alloc: Global, word: &[u8], rest: &[&[u8]]) -> Result<Form, Troubl
         return declare_of(alloc, Sort::Circle, rest);
     }
     if is(word, b"given") {
-        return Ok(Form::Given(lits_of(alloc, rest)?));
+        return Ok(RawLine::Given(lits_of(alloc, rest)?));
     }
     if is(word, b"made") {
         return made_of(alloc, rest);
     }
     if is(word, b"show") {
-        return Ok(Form::Show(lits_of(alloc, rest)?));
+        return Ok(RawLine::Show(lits_of(alloc, rest)?));
     }
     if is(word, b"proof") {
-        return bare(words, Form::Proof);
+        return bare(words, RawLine::Proof);
     }
     if is(word, b"by") {
         return by_of(alloc, rest);
     }
     if is(word, b"hence") {
-        return Ok(Form::Hence(lit_of(alloc, rest)?));
+        return Ok(RawLine::Hence(lit_of(alloc, rest)?));
     }
     if is(word, b"let") {
-        return Ok(Form::Let(let_of(alloc, rest)?));
+        return Ok(RawLine::Let(let_of(alloc, rest)?));
     }
     if is(word, b"apply") {
-        return Ok(Form::Apply(apply_of(alloc, rest)?));
+        return Ok(RawLine::Apply(apply_of(alloc, rest)?));
     }
     if is(word, b"qed") {
-        return Ok(Form::Qed(names_of(alloc, rest)?));
+        return Ok(RawLine::Qed(names_of(alloc, rest)?));
     }
     if is(word, b"contradiction") {
-        return bare(words, Form::Contradiction);
+        return bare(words, RawLine::Contradiction);
     }
     if is(word, b"claim") {
-        return Ok(Form::Claim(lits_of(alloc, rest)?));
+        return Ok(RawLine::Claim(lits_of(alloc, rest)?));
     }
     if is(word, b"superpose") {
-        return Ok(Form::Superpose(superpose_of(alloc, rest)?));
+        return Ok(RawLine::Superpose(superpose_of(alloc, rest)?));
     }
     if is(word, b"cases") {
-        return Ok(Form::Cases(lit_of(alloc, rest)?));
+        return Ok(RawLine::Cases(lit_of(alloc, rest)?));
     }
     if is(word, b"else") {
-        return bare(words, Form::Else);
+        return bare(words, RawLine::Else);
     }
     if is(word, b"end") {
-        return bare(words, Form::End);
+        return bare(words, RawLine::End);
     }
-    Err(Trouble::Fault(Kind::Malformed))
+    Err(LineError::Fault(FaultKind::Malformed))
 }
 
 /// The form of a line, by its words alone.
-#[tactic(auto, unfolding(crate::specs::Forms::form_of))]
-pub fn form_of(alloc: Global, words: &[&[u8]]) -> Result<Form, Trouble>
-    ensures { Gives (λ f. f) result (form_of (texts words.now)) }
+#[tactic(auto, unfolding(crate::specs::RawLines::raw_line_of))]
+pub fn raw_line_of(alloc: Global, words: &[&[u8]]) -> Result<RawLine, LineError>
+    ensures { Gives (λ f. f) result (raw_line_of (texts words.now)) }
 {
     match words {
-        [] => Err(Trouble::Fault(Kind::Malformed)),
-        [word, rest @ ..] => form_named(alloc, word, rest),
+        [] => Err(LineError::Fault(FaultKind::Malformed)),
+        [word, rest @ ..] => raw_line_named(alloc, word, rest),
     }
 }

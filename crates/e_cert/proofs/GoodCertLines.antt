@@ -23,8 +23,8 @@ use Rattle.e_clause.specs.declared.rule.Sig.{Sig}
 use Rattle.e_clause.specs.Instance.{Inst, number_of_rule}
 use Rattle.e_clause.specs.Sigs.{sig_of}
 use Rattle.e_deriv.specs.declared.names.Names.{Names}
-use Rattle.e_line.specs.declared.fault.Kind.{Kind}
-use Rattle.e_line.specs.declared.fault.Kind.TheVariants.{Malformed}
+use Rattle.e_line.specs.declared.fault.FaultKind.{FaultKind}
+use Rattle.e_line.specs.declared.fault.FaultKind.TheVariants.{Malformed}
 use Rattle.e_line.specs.declared.literal.RawLit.{RawLit}
 use Rattle.e_line.specs.Reading.{◌>>=◌, or_malformed}
 use Rattle.e_names.specs.Scope.{lit_in, term_in, args_in, variables_of, right_count}
@@ -34,26 +34,26 @@ use Rattle.e_names.proofs.FewSums.{few_ok, one_lit}
 use Rattle.e_line.proofs.SaidLits.{AtomSaid, lit_said}
 use Rattle.e_names.proofs.WellRead.{good_lits}
 use Rattle.e_line.proofs.Choices.{either, passed}
-use Rattle.e_cert.specs.declared.mark.RawRow.{RawRow}
-use Rattle.e_cert.specs.declared.mark.RawRow.TheVariants as rows
-use Rattle.e_cert.specs.declared.mark.Mark.{Mark}
-use Rattle.e_cert.specs.declared.mark.Mark.TheVariants as marks
+use Rattle.e_cert.specs.declared.cert_line.RawRow.{RawRow}
+use Rattle.e_cert.specs.declared.cert_line.RawRow.TheVariants as rows
+use Rattle.e_cert.specs.declared.cert_line.CertLine.{CertLine}
+use Rattle.e_cert.specs.declared.cert_line.CertLine.TheVariants as certlines
 use Rattle.e_cert.specs.declared.owed.OpenSums.{OpenSums}
 use Rattle.e_cert.specs.declared.owed.OpenSums.TheVariants as sums
 use Rattle.e_cert.specs.declared.owed.OpenTransfer.{OpenTransfer}
-use Rattle.e_cert.specs.declared.owed.Due.{Due}
-use Rattle.e_cert.specs.declared.owed.Due.TheVariants as due
-use Rattle.e_cert.specs.declared.owed.Owed.{Owed}
-use Rattle.e_cert.specs.declared.kept.Kept.{Kept}
-use Rattle.e_cert.specs.declared.kept.Kept.TheVariants as kept
-use Rattle.e_cert.specs.Marks.{mark_of, mark_line, row_is_of, mark_is_of}
-use Rattle.e_cert.specs.Strict.{is_strict_mark, strict_mark}
-use Rattle.e_cert.specs.Owed.{most_rows, fact_in, row_in, with_row, row_put, sum_begun, differs_put, sums_ended, has_more, certificate, transfer_put, part_put, metric_put, takes_metric, clash_put, transfer_rule, count_others, transfer_at, transfer_in, transfer_begun, ended, sums_behind, due_behind, marked, kept_of, settled}
+use Rattle.e_cert.specs.declared.owed.Obligation.{Obligation}
+use Rattle.e_cert.specs.declared.owed.Obligation.TheVariants as due
+use Rattle.e_cert.specs.declared.owed.Pending.{Pending}
+use Rattle.e_cert.specs.declared.kept.StepCerts.{StepCerts}
+use Rattle.e_cert.specs.declared.kept.StepCerts.TheVariants as kept
+use Rattle.e_cert.specs.CertLines.{cert_line_of, cert_line_text, row_is_of, cert_line_is_of}
+use Rattle.e_cert.specs.Strict.{is_strict_cert_line, exact_cert_line}
+use Rattle.e_cert.specs.Owed.{most_rows, fact_in, row_in, with_row, row_put, sum_begun, differs_put, sums_ended, has_more, certificate, transfer_put, part_put, metric_put, takes_metric, clash_put, transfer_rule, count_others, transfer_at, transfer_in, transfer_begun, ended, sums_behind, due_behind, after_cert_line, kept_of, finish_certs}
 use Rattle.e_clause.specs.Written.{is_writable_name}
 use Rattle.e_clause.specs.declared.cert.Version.{Version}
 use Rattle.e_clause.specs.Versions.{by_literals, by_places, is_name_of, is_sum_of, are_sums_of, is_part_of, is_cert_of, is_against_of}
 use Rattle.e_cert.proofs.GoodKept.{AreGood}
-use Rattle.e_cert.proofs.MarkLits.{OfRow, OfMark, mark_lit}
+use Rattle.e_cert.proofs.CertLineLits.{OfRow, OfCertLine, cert_line_lit}
 
 -- ---- what is said: no coefficient of a row's literal is 0
 
@@ -66,15 +66,15 @@ Anything l = Unit {0}
 abbrev pub RowSaid : RawRow → Type 0
 RowSaid row = OfRow Said row
 
-abbrev pub MarkSaid : Mark → Type 0
-MarkSaid mark = OfMark Said Anything mark
+abbrev pub CertLineSaid : CertLine → Type 0
+CertLineSaid cert_line = OfCertLine Said Anything cert_line
 
-pub strict_said : (line : List ℕ) (ws : List (List ℕ)) (m : Mark) → strict_mark line ws ≡ Ok m → MarkSaid m
-unfolding strict_mark
+pub strict_said : (line : List ℕ) (ws : List (List ℕ)) (m : CertLine) → exact_cert_line line ws ≡ Ok m → CertLineSaid m
+unfolding exact_cert_line
 strict_said line ws m e =
-    let x = bind_ok (mark_of ws) (λ m. cond (is_strict_mark m && bytes_eq line (mark_line m)) (read_ok m) (Err Malformed)) m e in
-    subst MarkSaid (ok_is x.0 m (passed (is_strict_mark x.0 && bytes_eq line (mark_line x.0)) (read_ok x.0) m x.2).1)
-    (mark_lit Said lit_said Anything (λ ws l h. tt) ws x.0 x.1)
+    let x = bind_ok (cert_line_of ws) (λ m. cond (is_strict_cert_line m && bytes_eq line (cert_line_text m)) (read_ok m) (Err Malformed)) m e in
+    subst CertLineSaid (ok_is x.0 m (passed (is_strict_cert_line x.0 && bytes_eq line (cert_line_text x.0)) (read_ok x.0) m x.2).1)
+    (cert_line_lit Said lit_said Anything (λ ws l h. tt) ws x.0 x.1)
 
 -- ---- rows
 
@@ -135,7 +135,7 @@ module _ (v : Version) where
   abbrev pub are_good_parts : List Part → Bool
   are_good_parts ps = list_all (is_part_of v) ps
 
-  abbrev pub is_good_due : Due → Bool
+  abbrev pub is_good_due : Obligation → Bool
   is_good_due due.Nothing = true
   is_good_due (due.Literals wanted certs None) = are_good_certs certs
   is_good_due (due.Literals wanted certs (Some t)) = are_good_certs certs && are_good_parts t.parts
@@ -145,20 +145,20 @@ module _ (v : Version) where
   abbrev pub GoodOpen : Option OpenSums → Type 0
   GoodOpen s = is_good_open s ≡ true
 
-  abbrev pub GoodDue : Due → Type 0
+  abbrev pub GoodDue : Obligation → Type 0
   GoodDue d = is_good_due d ≡ true
 
-  pub record GoodOwed (o : Owed) : Type 0 where
+  pub record GoodOwed (o : Pending) : Type 0 where
     pub certs : GoodDue o.due
     pub rows_of_sums : GoodOpen o.sums
 
   to_open : (x s : OpenSums) → GoodOpen (Some x) → read_ok x ≡ Ok s → GoodOpen (Some s)
   to_open x s h e = subst (λ (y : OpenSums). GoodOpen (Some y)) (ok_is x s e) h
 
-  to_due : (x d : Due) → GoodDue x → read_ok x ≡ Ok d → GoodDue d
+  to_due : (x d : Obligation) → GoodDue x → read_ok x ≡ Ok d → GoodDue d
   to_due x d h e = subst GoodDue (ok_is x d e) h
 
-  to_owed : (x o : Owed) → GoodOwed x → read_ok x ≡ Ok o → GoodOwed o
+  to_owed : (x o : Pending) → GoodOwed x → read_ok x ≡ Ok o → GoodOwed o
   to_owed x o h e = subst GoodOwed (ok_is x o e) h
 
   with_row_good : (sum new : List (ℤ × RowName)) (m : ℤ) (r : RowName) → is_sum_of v sum ≡ true → is_name_of v r ≡ true → with_row sum m r ≡ Ok new → is_sum_of v new ≡ true
@@ -205,13 +205,13 @@ module _ (v : Version) where
 
   -- ---- certificates
 
-  transfer_put_good : (wanted : List Lit) (certs : List Cert) (t : OpenTransfer) (new : Due) → are_good_certs certs ≡ true → are_good_parts t.parts ≡ true → transfer_put wanted certs t ≡ Ok new → GoodDue new
+  transfer_put_good : (wanted : List Lit) (certs : List Cert) (t : OpenTransfer) (new : Obligation) → are_good_certs certs ≡ true → are_good_parts t.parts ≡ true → transfer_put wanted certs t ≡ Ok new → GoodDue new
   transfer_put_good wanted certs t new h k e =
       either GoodDue (length t.parts == t.owed) (read_ok (due.Literals wanted (certs ++ certificate t ∷ []) None)) (read_ok (due.Literals wanted certs (Some t))) new e
       (to_due (due.Literals wanted (certs ++ certificate t ∷ []) None) new (all_both (is_cert_of v) certs (certificate t ∷ []) h (and_from _ _ k refl)))
       (to_due (due.Literals wanted certs (Some t)) new (and_from _ _ h k))
 
-  part_put_good : (d : Due) (p : Part) (new : Due) → GoodDue d → is_part_of v p ≡ true → part_put d p ≡ Ok new → GoodDue new
+  part_put_good : (d : Obligation) (p : Part) (new : Obligation) → GoodDue d → is_part_of v p ≡ true → part_put d p ≡ Ok new → GoodDue new
   part_put_good (due.Literals wanted certs None) p new h k e =
       let x = passed (has_more wanted certs) (read_ok (due.Literals wanted (certs ++ Plain p ∷ []) None)) new e in
       to_due (due.Literals wanted (certs ++ Plain p ∷ []) None) new (all_both (is_cert_of v) certs (Plain p ∷ []) h (and_from _ _ k refl)) x.1
@@ -220,13 +220,13 @@ module _ (v : Version) where
       transfer_put_good wanted certs (record t { parts = t.parts ++ p ∷ [] }) new q.0 (all_both (is_part_of v) t.parts (p ∷ []) q.1 (and_from _ _ k refl)) e
   part_put_good d p new h k e = absurd cc
 
-  metric_put_good : (d : Due) (m : MetricCert) (new : Due) → GoodDue d → are_sums_of v m.sums ≡ true → metric_put d m ≡ Ok new → GoodDue new
+  metric_put_good : (d : Obligation) (m : MetricCert) (new : Obligation) → GoodDue d → are_sums_of v m.sums ≡ true → metric_put d m ≡ Ok new → GoodDue new
   metric_put_good (due.Contradiction None) m new h k e = to_due (due.Contradiction (Some (against.Metric m))) new k e
   metric_put_good (due.Contradiction (Some a)) m new h k e = part_put_good (due.Contradiction (Some a)) (parts.Metric m) new h k e
   metric_put_good due.Nothing m new h k e = part_put_good due.Nothing (parts.Metric m) new h k e
   metric_put_good (due.Literals wanted certs t) m new h k e = part_put_good (due.Literals wanted certs t) (parts.Metric m) new h k e
 
-  clash_put_good : (d : Due) (l : Lit) (new : Due) → clash_put d l ≡ Ok new → GoodDue new
+  clash_put_good : (d : Obligation) (l : Lit) (new : Obligation) → clash_put d l ≡ Ok new → GoodDue new
   clash_put_good (due.Contradiction None) l new e = to_due (due.Contradiction (Some (against.Clash l))) new refl e
   clash_put_good d l new e = absurd cc
 
@@ -235,9 +235,9 @@ module _ (v : Version) where
   unfolding transfer_in transfer_at
   no_parts ns l title raws t e =
       let then : ℕ → List Obj → List Lit → OpenTransfer = λ r args lits. record { rule = r; args = args; parts = []; owed = count_others l lits } in
-      let last : ℕ → List Obj → Result OpenTransfer Kind = λ r args. transfer_at l r args in
-      let third : ℕ → Sig → Result OpenTransfer Kind = λ r s. args_in ns s raws >>= λ args. last r args in
-      let second : ℕ → Sig → Result OpenTransfer Kind = λ r s. right_count (length raws == s.points + s.lines + s.circles) >>= λ right. third r s in
+      let last : ℕ → List Obj → Result OpenTransfer FaultKind = λ r args. transfer_at l r args in
+      let third : ℕ → Sig → Result OpenTransfer FaultKind = λ r s. args_in ns s raws >>= λ args. last r args in
+      let second : ℕ → Sig → Result OpenTransfer FaultKind = λ r s. right_count (length raws == s.points + s.lines + s.circles) >>= λ right. third r s in
       let r = bind_ok (transfer_rule (number_of_rule title)) (λ r. variables_of (sig_of r) >>= λ s. second r s) t e in
       let s = bind_ok (variables_of (sig_of r.0)) (λ s. second r.0 s) t r.2 in
       let right = bind_ok (right_count (length raws == s.0.points + s.0.lines + s.0.circles)) (λ right. third r.0 s.0) t s.2 in
@@ -245,7 +245,7 @@ module _ (v : Version) where
       let lits = bind_ok (or_malformed (Inst r.0 args.0)) (λ lits. read_ok (then r.0 args.0 lits)) t args.2 in
       subst (λ (x : OpenTransfer). are_good_parts x.parts ≡ true) (ok_is (then r.0 args.0 lits.0) t lits.2) refl
 
-  transfer_begun_good : (ns : Names) (d : Due) (title : List ℕ) (raws : List (List ℕ)) (new : Due) → GoodDue d → transfer_begun ns d title raws ≡ Ok new → GoodDue new
+  transfer_begun_good : (ns : Names) (d : Obligation) (title : List ℕ) (raws : List (List ℕ)) (new : Obligation) → GoodDue d → transfer_begun ns d title raws ≡ Ok new → GoodDue new
   transfer_begun_good ns (due.Literals wanted certs None) title raws new h e =
       let l = bind_ok (or_malformed (slice_get wanted (length certs))) (λ l. transfer_in ns l title raws >>= λ t. transfer_put wanted certs t) new e in
       let t = bind_ok (transfer_in ns l.0 title raws) (λ t. transfer_put wanted certs t) new l.2 in
@@ -254,62 +254,62 @@ module _ (v : Version) where
 
   -- ---- lines
 
-  ended_good : (o : Owed) (s : Option OpenSums) (e : Owed) → GoodOwed o → GoodOpen s → ended o s ≡ Ok e → GoodOwed e
+  ended_good : (o : Pending) (s : Option OpenSums) (e : Pending) → GoodOwed o → GoodOpen s → ended o s ≡ Ok e → GoodOwed e
   ended_good o None e h k same = to_owed o e h same
   ended_good o (Some s) e h k same =
-      let then : Due → Owed = λ d. record o { due = d; sums = None } in
+      let then : Obligation → Pending = λ d. record o { due = d; sums = None } in
       let all = bind_ok (sums_ended s) (λ all. metric_put o.due (record { sums = all }) >>= λ d. read_ok (then d)) e same in
       let d = bind_ok (metric_put o.due (record { sums = all.0 })) (λ d. read_ok (then d)) e all.2 in
       to_owed (then d.0) e (record { certs = metric_put_good o.due (record { sums = all.0 }) d.0 h.certs (sums_ended_good s all.0 k all.1) d.1; rows_of_sums = refl }) d.2
 
   -- behind a line of a certificate what was read is good
-  marked_good : (o : Owed) (m : Mark) (new : Owed) → GoodOwed o → mark_is_of v m ≡ true → MarkSaid m → marked o m ≡ Ok new → GoodOwed new
-  unfolding marked
-  marked_good o marks.Fact new h of said same =
+  after_cert_line_good : (o : Pending) (m : CertLine) (new : Pending) → GoodOwed o → cert_line_is_of v m ≡ true → CertLineSaid m → after_cert_line o m ≡ Ok new → GoodOwed new
+  unfolding after_cert_line
+  after_cert_line_good o certlines.Fact new h of said same =
       let e = bind_ok (ended o o.sums) (λ e. part_put e.due parts.Fact >>= λ d. read_ok (due_behind e d)) new same in
       let g = ended_good o o.sums e.0 h h.rows_of_sums e.1 in
       let d = bind_ok (part_put e.0.due parts.Fact) (λ d. read_ok (due_behind e.0 d)) new e.2 in
       to_owed (due_behind e.0 d.0) new (record { certs = part_put_good e.0.due parts.Fact d.0 g.certs of d.1; rows_of_sums = g.rows_of_sums }) d.2
-  marked_good o (marks.FactAt k) new h of said same =
+  after_cert_line_good o (certlines.FactAt k) new h of said same =
       let e = bind_ok (ended o o.sums) (λ e. part_put e.due (parts.FactAt k) >>= λ d. read_ok (due_behind e d)) new same in
       let g = ended_good o o.sums e.0 h h.rows_of_sums e.1 in
       let d = bind_ok (part_put e.0.due (parts.FactAt k)) (λ d. read_ok (due_behind e.0 d)) new e.2 in
       to_owed (due_behind e.0 d.0) new (record { certs = part_put_good e.0.due (parts.FactAt k) d.0 g.certs (and_from (by_places v) (ltb k (2 ^ 32)) of said) d.1; rows_of_sums = g.rows_of_sums }) d.2
-  marked_good o marks.Metric new h of said same =
+  after_cert_line_good o certlines.Metric new h of said same =
       let e = bind_ok (ended o o.sums) (λ e. cond (takes_metric e.due) (read_ok (sums_behind e sums.Begun)) (Err Malformed)) new same in
       let g = ended_good o o.sums e.0 h h.rows_of_sums e.1 in
       let p = passed (takes_metric e.0.due) (read_ok (sums_behind e.0 sums.Begun)) new e.2 in
       to_owed (sums_behind e.0 sums.Begun) new (record { certs = g.certs; rows_of_sums = refl }) p.1
-  marked_good o (marks.Transfer title raws) new h of said same =
+  after_cert_line_good o (certlines.Transfer title raws) new h of said same =
       let e = bind_ok (ended o o.sums) (λ e. transfer_begun e.names e.due title raws >>= λ d. read_ok (due_behind e d)) new same in
       let g = ended_good o o.sums e.0 h h.rows_of_sums e.1 in
       let d = bind_ok (transfer_begun e.0.names e.0.due title raws) (λ d. read_ok (due_behind e.0 d)) new e.2 in
       to_owed (due_behind e.0 d.0) new (record { certs = transfer_begun_good e.0.names e.0.due title raws d.0 g.certs d.1; rows_of_sums = g.rows_of_sums }) d.2
-  marked_good o (marks.Clash raw) new h of said same =
+  after_cert_line_good o (certlines.Clash raw) new h of said same =
       let e = bind_ok (ended o o.sums) (λ e. lit_in e.names raw >>= λ l. clash_put e.due l >>= λ d. read_ok (due_behind e d)) new same in
       let g = ended_good o o.sums e.0 h h.rows_of_sums e.1 in
       let l = bind_ok (lit_in e.0.names raw) (λ l. clash_put e.0.due l >>= λ d. read_ok (due_behind e.0 d)) new e.2 in
       let d = bind_ok (clash_put e.0.due l.0) (λ d. read_ok (due_behind e.0 d)) new l.2 in
       to_owed (due_behind e.0 d.0) new (record { certs = clash_put_good e.0.due l.0 d.0 d.1; rows_of_sums = g.rows_of_sums }) d.2
-  marked_good o marks.Sum new h of said same =
+  after_cert_line_good o certlines.Sum new h of said same =
       let s = bind_ok (sum_begun o.sums) (λ s. read_ok (sums_behind o s)) new same in
       to_owed (sums_behind o s.0) new (record { certs = h.certs; rows_of_sums = sum_begun_good o.sums s.0 h.rows_of_sums s.1 }) s.2
-  marked_good o (marks.Differs raw) new h of said same =
+  after_cert_line_good o (certlines.Differs raw) new h of said same =
       let r = bind_ok (row_in o.names raw) (λ r. differs_put o.sums r >>= λ s. read_ok (sums_behind o s)) new same in
       let s = bind_ok (differs_put o.sums r.0) (λ s. read_ok (sums_behind o s)) new r.2 in
       to_owed (sums_behind o s.0) new (record { certs = h.certs; rows_of_sums = differs_put_good o.sums r.0 s.0 (version_row v o.names raw r.0 of said r.1) s.1 }) s.2
-  marked_good o (marks.Row m raw) new h of said same =
+  after_cert_line_good o (certlines.Row m raw) new h of said same =
       let r = bind_ok (row_in o.names raw) (λ r. row_put o.sums m r >>= λ s. read_ok (sums_behind o s)) new same in
       let s = bind_ok (row_put o.sums m r.0) (λ s. read_ok (sums_behind o s)) new r.2 in
       to_owed (sums_behind o s.0) new (record { certs = h.certs; rows_of_sums = row_put_good o.sums m r.0 s.0 h.rows_of_sums (version_row v o.names raw r.0 of said r.1) s.1 }) s.2
 
-  pub strict_good : (o : Owed) (line : List ℕ) (ws : List (List ℕ)) (m : Mark) (new : Owed) → GoodOwed o → mark_is_of v m ≡ true → strict_mark line ws ≡ Ok m → marked o m ≡ Ok new → GoodOwed new
-  strict_good o line ws m new h of e same = marked_good o m new h of (strict_said line ws m e) same
+  pub strict_good : (o : Pending) (line : List ℕ) (ws : List (List ℕ)) (m : CertLine) (new : Pending) → GoodOwed o → cert_line_is_of v m ≡ true → exact_cert_line line ws ≡ Ok m → after_cert_line o m ≡ Ok new → GoodOwed new
+  strict_good o line ws m new h of e same = after_cert_line_good o m new h of (strict_said line ws m e) same
 
-  to_kept : (x k : Option Kept) → AreGood v (option_to_list x) → read_ok x ≡ Ok k → AreGood v (option_to_list k)
-  to_kept x k h e = subst (λ (y : Option Kept). AreGood v (option_to_list y)) (ok_is x k e) h
+  to_kept : (x k : Option StepCerts) → AreGood v (option_to_list x) → read_ok x ≡ Ok k → AreGood v (option_to_list k)
+  to_kept x k h e = subst (λ (y : Option StepCerts). AreGood v (option_to_list y)) (ok_is x k e) h
 
-  kept_good : (d : Due) (k : Option Kept) → GoodDue d → kept_of d ≡ Ok k → AreGood v (option_to_list k)
+  kept_good : (d : Obligation) (k : Option StepCerts) → GoodDue d → kept_of d ≡ Ok k → AreGood v (option_to_list k)
   kept_good due.Nothing k h e = to_kept None k refl e
   kept_good (due.Literals wanted certs None) k h e = by (has_more wanted certs) e
     where
@@ -320,8 +320,8 @@ module _ (v : Version) where
   kept_good (due.Contradiction None) k h e = absurd cc
   kept_good (due.Contradiction (Some a)) k h e = to_kept (Some (kept.Against a)) k (and_from _ _ h refl) e
 
-  pub settled_good : (o : Owed) (k : Option Kept) → GoodOwed o → settled o ≡ Ok k → AreGood v (option_to_list k)
-  unfolding settled
+  pub settled_good : (o : Pending) (k : Option StepCerts) → GoodOwed o → finish_certs o ≡ Ok k → AreGood v (option_to_list k)
+  unfolding finish_certs
   settled_good o k h same =
       let e = bind_ok (ended o o.sums) (λ e. kept_of e.due) k same in
       kept_good e.0.due k (ended_good o o.sums e.0 h h.rows_of_sums e.1).certs e.2

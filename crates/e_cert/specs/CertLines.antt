@@ -6,29 +6,29 @@ use Rattle.e_text.specs.Tokens.{joined}
 use Rattle.e_text.specs.Numerals.{number_of}
 use Rattle.e_clause.specs.declared.cert.Version.{Version}
 use Rattle.e_clause.specs.Versions.{by_literals, by_places}
-use Rattle.e_line.specs.declared.fault.Kind.{Kind}
-use Rattle.e_line.specs.declared.fault.Kind.TheVariants.{Malformed}
+use Rattle.e_line.specs.declared.fault.FaultKind.{FaultKind}
+use Rattle.e_line.specs.declared.fault.FaultKind.TheVariants.{Malformed}
 use Rattle.e_line.specs.Reading.{◌>>=◌, title_at, end_at, names_of}
 use Rattle.e_line.specs.Sums.{term_of}
 use Rattle.e_line.specs.Literals.{lit_of, diagram_lit_of}
 use Rattle.e_line.specs.Canonical.{term_words, lit_words}
-use Rattle.e_cert.specs.declared.mark.RawRow.{RawRow}
-use Rattle.e_cert.specs.declared.mark.RawRow.TheVariants as rows
-use Rattle.e_cert.specs.declared.mark.Mark.{Mark}
-use Rattle.e_cert.specs.declared.mark.Mark.TheVariants as marks
+use Rattle.e_cert.specs.declared.cert_line.RawRow.{RawRow}
+use Rattle.e_cert.specs.declared.cert_line.RawRow.TheVariants as rows
+use Rattle.e_cert.specs.declared.cert_line.CertLine.{CertLine}
+use Rattle.e_cert.specs.declared.cert_line.CertLine.TheVariants as certlines
 
 -- ---- multipliers
 
 -- the size of a multiplier: a numeral from 1 to 2 ^ 80
-abbrev pub sized : Option ℕ → Result ℕ Kind
+abbrev pub sized : Option ℕ → Result ℕ FaultKind
 sized None = Err Malformed
 sized (Some n) = if nat_lt 0 n && nat_le n (2 ^ 80) then Ok n else Err Malformed
 
-abbrev pub size_of : List ℕ → Result ℤ Kind
+abbrev pub size_of : List ℕ → Result ℤ FaultKind
 size_of digits = sized (number_of digits) >>= λ n. Ok (pos n)
 
 -- a whole number other than 0, with a minus sign where it is negative
-abbrev pub multiplier_of : List ℕ → Result ℤ Kind
+abbrev pub multiplier_of : List ℕ → Result ℤ FaultKind
 multiplier_of [] = Err Malformed
 multiplier_of (b ∷ bs) =
     if b == 45 then (size_of bs >>= λ n. Ok (neg_ℤ n)) else size_of (b ∷ bs)
@@ -36,23 +36,23 @@ multiplier_of (b ∷ bs) =
 -- ---- rows
 
 -- a place among the facts: a numeral below 2 ^ 32
-abbrev pub placed : Option ℕ → Result ℕ Kind
+abbrev pub placed : Option ℕ → Result ℕ FaultKind
 placed None = Err Malformed
 placed (Some n) = if nat_lt n (2 ^ 32) then Ok n else Err Malformed
 
-abbrev pub place_of : List ℕ → Result ℕ Kind
+abbrev pub place_of : List ℕ → Result ℕ FaultKind
 place_of digits = placed (number_of digits)
 
 -- the row of a fact: one word is its place, and a literal has more
-unfoldable pub fact_row_of : List (List ℕ) → Result RawRow Kind
+unfoldable pub fact_row_of : List (List ℕ) → Result RawRow FaultKind
 fact_row_of [] = Err Malformed
 fact_row_of (w ∷ ws) = if length ws == 0 then (place_of w >>= λ k. Ok (rows.FactAt k)) else (lit_of (w ∷ ws) >>= λ l. Ok (rows.Fact l))
 
-abbrev pub bare_row : List (List ℕ) → RawRow → Result RawRow Kind
+abbrev pub bare_row : List (List ℕ) → RawRow → Result RawRow FaultKind
 bare_row words row = end_at words >>= λ none. Ok row
 
 -- a row, by its first word
-unfoldable pub row_named : List ℕ → List (List ℕ) → Result RawRow Kind
+unfoldable pub row_named : List ℕ → List (List ℕ) → Result RawRow FaultKind
 row_named w ws =
     if bytes_eq w (codes "fact") then fact_row_of ws else
     if bytes_eq w (codes "goal") then bare_row ws rows.Goal else
@@ -63,7 +63,7 @@ row_named w ws =
     if bytes_eq w (codes "above") then bare_row ws rows.Above else
     if bytes_eq w (codes "below") then bare_row ws rows.Below else Err Malformed
 
-unfoldable pub row_of : List (List ℕ) → Result RawRow Kind
+unfoldable pub row_of : List (List ℕ) → Result RawRow FaultKind
 row_of [] = Err Malformed
 row_of (w ∷ ws) = row_named w ws
 
@@ -76,44 +76,44 @@ may_differ row = false
 
 -- ---- lines
 
-abbrev pub bare : List (List ℕ) → Mark → Result Mark Kind
-bare words mark = end_at words >>= λ none. Ok mark
+abbrev pub bare : List (List ℕ) → CertLine → Result CertLine FaultKind
+bare words cert_line = end_at words >>= λ none. Ok cert_line
 
-unfoldable pub differs_of : List (List ℕ) → Result Mark Kind
-differs_of words = row_of words >>= λ r. if may_differ r then Ok (marks.Differs r) else Err Malformed
+unfoldable pub differs_of : List (List ℕ) → Result CertLine FaultKind
+differs_of words = row_of words >>= λ r. if may_differ r then Ok (certlines.Differs r) else Err Malformed
 
 -- a rule, and the names of its arguments
-unfoldable pub transfer_of : List (List ℕ) → Result Mark Kind
+unfoldable pub transfer_of : List (List ℕ) → Result CertLine FaultKind
 transfer_of words = do
   t ← title_at words
   ns ← names_of t.1
-  Ok (marks.Transfer t.0 ns)
+  Ok (certlines.Transfer t.0 ns)
 
 -- a fact, or the one at a place
-unfoldable pub fact_mark_of : List (List ℕ) → Result Mark Kind
-fact_mark_of [] = Ok marks.Fact
-fact_mark_of (w ∷ ws) = end_at ws >>= λ none. place_of w >>= λ k. Ok (marks.FactAt k)
+unfoldable pub fact_cert_line_of : List (List ℕ) → Result CertLine FaultKind
+fact_cert_line_of [] = Ok certlines.Fact
+fact_cert_line_of (w ∷ ws) = end_at ws >>= λ none. place_of w >>= λ k. Ok (certlines.FactAt k)
 
 -- a row behind its multiplier
-unfoldable pub row_mark_of : List ℕ → List (List ℕ) → Result Mark Kind
-row_mark_of w ws = do
+unfoldable pub row_cert_line_of : List ℕ → List (List ℕ) → Result CertLine FaultKind
+row_cert_line_of w ws = do
   m ← multiplier_of w
   r ← row_of ws
-  Ok (marks.Row m r)
+  Ok (certlines.Row m r)
 
 -- a line of a certificate, by the first word behind the sign `|`
-unfoldable pub mark_named : List ℕ → List (List ℕ) → Result Mark Kind
-mark_named w ws =
-    if bytes_eq w (codes "fact") then fact_mark_of ws else
-    if bytes_eq w (codes "metric") then bare ws marks.Metric else
+unfoldable pub cert_line_named : List ℕ → List (List ℕ) → Result CertLine FaultKind
+cert_line_named w ws =
+    if bytes_eq w (codes "fact") then fact_cert_line_of ws else
+    if bytes_eq w (codes "metric") then bare ws certlines.Metric else
     if bytes_eq w (codes "transfer") then transfer_of ws else
-    if bytes_eq w (codes "clash") then (diagram_lit_of ws >>= λ l. Ok (marks.Clash l)) else
-    if bytes_eq w (codes "sum") then bare ws marks.Sum else
-    if bytes_eq w (codes "differs") then differs_of ws else row_mark_of w ws
+    if bytes_eq w (codes "clash") then (diagram_lit_of ws >>= λ l. Ok (certlines.Clash l)) else
+    if bytes_eq w (codes "sum") then bare ws certlines.Sum else
+    if bytes_eq w (codes "differs") then differs_of ws else row_cert_line_of w ws
 
-unfoldable pub mark_of : List (List ℕ) → Result Mark Kind
-mark_of [] = Err Malformed
-mark_of (w ∷ ws) = mark_named w ws
+unfoldable pub cert_line_of : List (List ℕ) → Result CertLine FaultKind
+cert_line_of [] = Err Malformed
+cert_line_of (w ∷ ws) = cert_line_named w ws
 
 -- ---- how they are spelled
 
@@ -129,19 +129,19 @@ row_words rows.Below = codes "below" ∷ []
 row_words (rows.FactAt k) = codes "fact" ∷ decimal k ∷ []
 
 -- the words behind the sign
-abbrev pub mark_words : Mark → List (List ℕ)
-mark_words marks.Fact = codes "fact" ∷ []
-mark_words marks.Metric = codes "metric" ∷ []
-mark_words (marks.Transfer rule ns) = codes "transfer" ∷ rule ∷ ns
-mark_words (marks.Clash l) = codes "clash" ∷ lit_words l
-mark_words marks.Sum = codes "sum" ∷ []
-mark_words (marks.Differs r) = codes "differs" ∷ row_words r
-mark_words (marks.Row m r) = signed_decimal m ∷ row_words r
-mark_words (marks.FactAt k) = codes "fact" ∷ decimal k ∷ []
+abbrev pub cert_line_words : CertLine → List (List ℕ)
+cert_line_words certlines.Fact = codes "fact" ∷ []
+cert_line_words certlines.Metric = codes "metric" ∷ []
+cert_line_words (certlines.Transfer rule ns) = codes "transfer" ∷ rule ∷ ns
+cert_line_words (certlines.Clash l) = codes "clash" ∷ lit_words l
+cert_line_words certlines.Sum = codes "sum" ∷ []
+cert_line_words (certlines.Differs r) = codes "differs" ∷ row_words r
+cert_line_words (certlines.Row m r) = signed_decimal m ∷ row_words r
+cert_line_words (certlines.FactAt k) = codes "fact" ∷ decimal k ∷ []
 
 -- a line without its end
-abbrev pub mark_line : Mark → List ℕ
-mark_line mark = joined (codes "|" ∷ mark_words mark)
+abbrev pub cert_line_text : CertLine → List ℕ
+cert_line_text cert_line = joined (codes "|" ∷ cert_line_words cert_line)
 
 -- ---- versions
 
@@ -152,9 +152,9 @@ row_is_of v (rows.FactAt k) = by_places v
 row_is_of v row = true
 
 -- the line has a form in this version
-abbrev pub mark_is_of : Version → Mark → Bool
-mark_is_of v marks.Fact = by_literals v
-mark_is_of v (marks.FactAt k) = by_places v
-mark_is_of v (marks.Differs r) = row_is_of v r
-mark_is_of v (marks.Row m r) = row_is_of v r
-mark_is_of v mark = true
+abbrev pub cert_line_is_of : Version → CertLine → Bool
+cert_line_is_of v certlines.Fact = by_literals v
+cert_line_is_of v (certlines.FactAt k) = by_places v
+cert_line_is_of v (certlines.Differs r) = row_is_of v r
+cert_line_is_of v (certlines.Row m r) = row_is_of v r
+cert_line_is_of v cert_line = true

@@ -5,7 +5,7 @@ use Rattle.e_book.specs.Grammar.{last_line}
 use Rattle.e_read.specs.Text.{piece_from}
 use Rattle.e_read.proofs.Bridge.{Answer}
 use Rattle.e_read.proofs.Pieces.{piece_none, piece_fault}
-use Rattle.e_read.proofs.reader.seen_line.Goals as goal
+use Rattle.e_read.proofs.reader.next_line.Goals as goal
 
 abbrev garbled : ℕ → Result Answer ℕ
 garbled n = Err n

@@ -1,11 +1,13 @@
 //! The lines of certificates, told from their words by spelling alone.
 ghost use Rattle.std.specs.Prelude.{◌≡◌};
 ghost use Rattle.e_line.specs.Reading.{texts, Gives};
-ghost use Rattle.e_cert.specs.Marks.{size_of, multiplier_of, place_of, fact_row_of, bare_row, row_named, row_of, may_differ, bare, differs_of, transfer_of, fact_mark_of, row_mark_of, mark_named, mark_of, row_is_of, mark_is_of};
+ghost use Rattle.e_cert.specs.CertLines.{size_of, multiplier_of, place_of, fact_row_of, bare_row, row_named, row_of, may_differ, bare, differs_of, transfer_of, fact_cert_line_of, row_cert_line_of, cert_line_named, cert_line_of, row_is_of, cert_line_is_of};
 ghost use Rattle.e_clause.specs.Versions.{by_literals, by_places};
 
 use e_clause::Version;
-use e_line::{Kind, RawLit, RawTerm, Trouble, Words, diagram_lit_of, lit_of, names_of, term_of};
+use e_line::{
+    FaultKind, LineError, RawLit, RawTerm, Words, diagram_lit_of, lit_of, names_of, term_of,
+};
 use e_literal::Items;
 use e_text::{Name, Title, is, number};
 use std::alloc::Global;
@@ -36,7 +38,7 @@ pub enum RawRow {
 
 /// A line of a certificate, behind its sign.
 #[derive(Drop)]
-pub enum Mark {
+pub enum CertLine {
     /// `fact`
     Fact,
     /// `metric`
@@ -62,21 +64,21 @@ const MAX_MULTIPLIER: u128 = 1_208_925_819_614_629_174_706_176;
 const MAX_PLACES: u128 = 4_294_967_296;
 
 /// The size of a multiplier.
-fn size_of(digits: &[u8]) -> Result<i128, Trouble>
+fn size_of(digits: &[u8]) -> Result<i128, LineError>
     ensures { Gives (λ z. z) result (size_of digits.now) }
 {
     match number(digits) {
         Some(size) if size > 0 && size <= MAX_MULTIPLIER => Ok(size as i128),
-        _ => Err(Trouble::Fault(Kind::Malformed)),
+        _ => Err(LineError::Fault(FaultKind::Malformed)),
     }
 }
 
 /// A whole number other than 0, with a minus sign where it is negative.
-fn multiplier_of(word: &[u8]) -> Result<i128, Trouble>
+fn multiplier_of(word: &[u8]) -> Result<i128, LineError>
     ensures { Gives (λ m. m) result (multiplier_of word.now) }
 {
     match word {
-        [] => Err(Trouble::Fault(Kind::Malformed)),
+        [] => Err(LineError::Fault(FaultKind::Malformed)),
         [b'-', digits @ ..] => {
             let size = size_of(digits)?;
             Ok(-size)
@@ -86,22 +88,22 @@ fn multiplier_of(word: &[u8]) -> Result<i128, Trouble>
 }
 
 /// A place among the facts.
-fn place_of(digits: &[u8]) -> Result<u32, Trouble>
+fn place_of(digits: &[u8]) -> Result<u32, LineError>
     ensures { Gives (λ k. k) result (place_of digits.now) }
 {
     match number(digits) {
         Some(place) if place < MAX_PLACES => Ok(place as u32),
-        _ => Err(Trouble::Fault(Kind::Malformed)),
+        _ => Err(LineError::Fault(FaultKind::Malformed)),
     }
 }
 
 /// The row of a fact: one word is its place, and a literal has more.
-#[tactic(auto, unfolding(crate::specs::Marks::fact_row_of))]
-fn fact_row_of(alloc: Global, words: &[&[u8]]) -> Result<RawRow, Trouble>
+#[tactic(auto, unfolding(crate::specs::CertLines::fact_row_of))]
+fn fact_row_of(alloc: Global, words: &[&[u8]]) -> Result<RawRow, LineError>
     ensures { Gives (λ r. r) result (fact_row_of (texts words.now)) }
 {
     match words {
-        [] => Err(Trouble::Fault(Kind::Malformed)),
+        [] => Err(LineError::Fault(FaultKind::Malformed)),
         [word, rest @ ..] => {
             if rest.is_empty() {
                 return Ok(RawRow::FactAt(place_of(word)?));
@@ -111,7 +113,7 @@ fn fact_row_of(alloc: Global, words: &[&[u8]]) -> Result<RawRow, Trouble>
     }
 }
 
-fn bare_row(words: Words, row: RawRow) -> Result<RawRow, Trouble>
+fn bare_row(words: Words, row: RawRow) -> Result<RawRow, LineError>
     ensures { Gives (λ r. r) result (bare_row words.entry row) }
 {
     match words.end() {
@@ -124,8 +126,8 @@ fn bare_row(words: Words, row: RawRow) -> Result<RawRow, Trouble>
 }
 
 /// A row, by its first word.
-#[tactic(auto, unfolding(crate::specs::Marks::row_named))]
-fn row_named(alloc: Global, word: &[u8], rest: &[&[u8]]) -> Result<RawRow, Trouble>
+#[tactic(auto, unfolding(crate::specs::CertLines::row_named))]
+fn row_named(alloc: Global, word: &[u8], rest: &[&[u8]]) -> Result<RawRow, LineError>
     ensures { Gives (λ r. r) result (row_named word.now (texts rest.now)) }
 {
     let words = Words::new(rest);
@@ -153,15 +155,15 @@ fn row_named(alloc: Global, word: &[u8], rest: &[&[u8]]) -> Result<RawRow, Troub
     if is(word, b"below") {
         return bare_row(words, RawRow::Below);
     }
-    Err(Trouble::Fault(Kind::Malformed))
+    Err(LineError::Fault(FaultKind::Malformed))
 }
 
-#[tactic(auto, unfolding(crate::specs::Marks::row_of))]
-fn row_of(alloc: Global, words: &[&[u8]]) -> Result<RawRow, Trouble>
+#[tactic(auto, unfolding(crate::specs::CertLines::row_of))]
+fn row_of(alloc: Global, words: &[&[u8]]) -> Result<RawRow, LineError>
     ensures { Gives (λ r. r) result (row_of (texts words.now)) }
 {
     match words {
-        [] => Err(Trouble::Fault(Kind::Malformed)),
+        [] => Err(LineError::Fault(FaultKind::Malformed)),
         [word, rest @ ..] => row_named(alloc, word, rest),
     }
 }
@@ -173,104 +175,104 @@ fn may_differ(row: &RawRow) -> bool
     matches!(row, RawRow::Fact(_) | RawRow::Goal | RawRow::FactAt(_))
 }
 
-fn bare(words: Words, mark: Mark) -> Result<Mark, Trouble>
-    ensures { Gives (λ m. m) result (bare words.entry mark) }
+fn bare(words: Words, cert_line: CertLine) -> Result<CertLine, LineError>
+    ensures { Gives (λ m. m) result (bare words.entry cert_line) }
 {
     match words.end() {
-        Ok(()) => Ok(mark),
+        Ok(()) => Ok(cert_line),
         Err(trouble) => {
-            mem::drop(mark);
+            mem::drop(cert_line);
             Err(trouble)
         }
     }
 }
 
-#[tactic(auto, unfolding(crate::specs::Marks::differs_of))]
-fn differs_of(alloc: Global, words: &[&[u8]]) -> Result<Mark, Trouble>
+#[tactic(auto, unfolding(crate::specs::CertLines::differs_of))]
+fn differs_of(alloc: Global, words: &[&[u8]]) -> Result<CertLine, LineError>
     ensures { Gives (λ m. m) result (differs_of (texts words.now)) }
 {
     let row = row_of(alloc, words)?;
     if may_differ(&row) {
-        Ok(Mark::Differs(row))
+        Ok(CertLine::Differs(row))
     } else {
         mem::drop(row);
-        Err(Trouble::Fault(Kind::Malformed))
+        Err(LineError::Fault(FaultKind::Malformed))
     }
 }
 
 /// A rule, and the names of its arguments.
-#[tactic(auto, unfolding(crate::specs::Marks::transfer_of, e_line::specs::Reading::title_at, e_line::specs::Reading::word_at))]
-fn transfer_of(alloc: Global, words: &[&[u8]]) -> Result<Mark, Trouble>
+#[tactic(auto, unfolding(crate::specs::CertLines::transfer_of, e_line::specs::Reading::title_at, e_line::specs::Reading::word_at))]
+fn transfer_of(alloc: Global, words: &[&[u8]]) -> Result<CertLine, LineError>
     ensures { Gives (λ m. m) result (transfer_of (texts words.now)) }
 {
     let [title, rest @ ..] = words else {
-        return Err(Trouble::Fault(Kind::Malformed));
+        return Err(LineError::Fault(FaultKind::Malformed));
     };
     let Some(title) = Title::read(title) else {
-        return Err(Trouble::Fault(Kind::Malformed));
+        return Err(LineError::Fault(FaultKind::Malformed));
     };
     let names = names_of(alloc, rest)?;
-    Ok(Mark::Transfer(title, names))
+    Ok(CertLine::Transfer(title, names))
 }
 
 /// A fact, or the one at a place.
-#[tactic(auto, unfolding(crate::specs::Marks::fact_mark_of))]
-fn fact_mark_of(words: &[&[u8]]) -> Result<Mark, Trouble>
-    ensures { Gives (λ m. m) result (fact_mark_of (texts words.now)) }
+#[tactic(auto, unfolding(crate::specs::CertLines::fact_cert_line_of))]
+fn fact_cert_line_of(words: &[&[u8]]) -> Result<CertLine, LineError>
+    ensures { Gives (λ m. m) result (fact_cert_line_of (texts words.now)) }
 {
     match words {
-        [] => Ok(Mark::Fact),
+        [] => Ok(CertLine::Fact),
         [word, rest @ ..] => {
             Words::new(rest).end()?;
-            Ok(Mark::FactAt(place_of(word)?))
+            Ok(CertLine::FactAt(place_of(word)?))
         }
     }
 }
 
 /// A row behind its multiplier.
-#[tactic(auto, unfolding(crate::specs::Marks::row_mark_of))]
-fn row_mark_of(alloc: Global, word: &[u8], rest: &[&[u8]]) -> Result<Mark, Trouble>
-    ensures { Gives (λ m. m) result (row_mark_of word.now (texts rest.now)) }
+#[tactic(auto, unfolding(crate::specs::CertLines::row_cert_line_of))]
+fn row_cert_line_of(alloc: Global, word: &[u8], rest: &[&[u8]]) -> Result<CertLine, LineError>
+    ensures { Gives (λ m. m) result (row_cert_line_of word.now (texts rest.now)) }
 {
     let multiplier = multiplier_of(word)?;
     let row = row_of(alloc, rest)?;
-    Ok(Mark::Row(multiplier, row))
+    Ok(CertLine::Row(multiplier, row))
 }
 
-#[tactic(auto, unfolding(crate::specs::Marks::mark_named))]
-fn mark_named(alloc: Global, word: &[u8], rest: &[&[u8]]) -> Result<Mark, Trouble>
-    ensures { Gives (λ m. m) result (mark_named word.now (texts rest.now)) }
+#[tactic(auto, unfolding(crate::specs::CertLines::cert_line_named))]
+fn cert_line_named(alloc: Global, word: &[u8], rest: &[&[u8]]) -> Result<CertLine, LineError>
+    ensures { Gives (λ m. m) result (cert_line_named word.now (texts rest.now)) }
 {
     let words = Words::new(rest);
     if is(word, b"fact") {
-        return fact_mark_of(rest);
+        return fact_cert_line_of(rest);
     }
     if is(word, b"metric") {
-        return bare(words, Mark::Metric);
+        return bare(words, CertLine::Metric);
     }
     if is(word, b"transfer") {
         return transfer_of(alloc, rest);
     }
     if is(word, b"clash") {
-        return Ok(Mark::Clash(diagram_lit_of(alloc, rest)?));
+        return Ok(CertLine::Clash(diagram_lit_of(alloc, rest)?));
     }
     if is(word, b"sum") {
-        return bare(words, Mark::Sum);
+        return bare(words, CertLine::Sum);
     }
     if is(word, b"differs") {
         return differs_of(alloc, rest);
     }
-    row_mark_of(alloc, word, rest)
+    row_cert_line_of(alloc, word, rest)
 }
 
 /// The form of a line of a certificate, by the words behind its sign alone.
-#[tactic(auto, unfolding(crate::specs::Marks::mark_of))]
-pub(crate) fn mark_of(alloc: Global, words: &[&[u8]]) -> Result<Mark, Trouble>
-    ensures { Gives (λ m. m) result (mark_of (texts words.now)) }
+#[tactic(auto, unfolding(crate::specs::CertLines::cert_line_of))]
+pub(crate) fn cert_line_of(alloc: Global, words: &[&[u8]]) -> Result<CertLine, LineError>
+    ensures { Gives (λ m. m) result (cert_line_of (texts words.now)) }
 {
     match words {
-        [] => Err(Trouble::Fault(Kind::Malformed)),
-        [word, rest @ ..] => mark_named(alloc, word, rest),
+        [] => Err(LineError::Fault(FaultKind::Malformed)),
+        [word, rest @ ..] => cert_line_named(alloc, word, rest),
     }
 }
 
@@ -300,13 +302,13 @@ fn row_is_of(version: Version, row: &RawRow) -> bool
 }
 
 /// Whether the line has a form in this version.
-pub fn mark_is_of(version: Version, mark: &Mark) -> bool
-    ensures { result ≡ mark_is_of version mark.now }
+pub fn cert_line_is_of(version: Version, cert_line: &CertLine) -> bool
+    ensures { result ≡ cert_line_is_of version cert_line.now }
 {
-    match mark {
-        Mark::Fact => by_literals(version),
-        Mark::FactAt(_) => by_places(version),
-        Mark::Differs(row) | Mark::Row(_, row) => row_is_of(version, row),
+    match cert_line {
+        CertLine::Fact => by_literals(version),
+        CertLine::FactAt(_) => by_places(version),
+        CertLine::Differs(row) | CertLine::Row(_, row) => row_is_of(version, row),
         _ => true,
     }
 }

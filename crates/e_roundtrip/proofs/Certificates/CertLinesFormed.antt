@@ -25,8 +25,8 @@ use Rattle.e_clause.specs.Sigs.{sig_of}
 use Rattle.e_clause.specs.RuleKinds.{is_transfer}
 use Rattle.e_clause.specs.Sum.{is_nonzero_bounded}
 use Rattle.e_deriv.specs.declared.names.Names.{Names}
-use Rattle.e_line.specs.declared.fault.Kind.{Kind}
-use Rattle.e_line.specs.declared.fault.Kind.TheVariants.{Malformed}
+use Rattle.e_line.specs.declared.fault.FaultKind.{FaultKind}
+use Rattle.e_line.specs.declared.fault.FaultKind.TheVariants.{Malformed}
 use Rattle.e_line.specs.Reading.{◌>>=◌, or_malformed, title_at, names_of, end_at}
 use Rattle.e_line.specs.Literals.{diagram_lit_of}
 use Rattle.e_names.specs.Scope.{scope_of_names, lit_in, args_in, variables_of, right_count}
@@ -36,22 +36,22 @@ use Rattle.e_names.proofs.InScope.{lit_in_scope}
 use Rattle.e_line.proofs.Choices.{either, passed}
 use Rattle.e_names.proofs.Citations.{good_args}
 use Rattle.e_names.proofs.SaidForms.{lit_plain}
-use Rattle.e_cert.specs.declared.mark.Mark.{Mark}
-use Rattle.e_cert.specs.declared.mark.Mark.TheVariants as marks
+use Rattle.e_cert.specs.declared.cert_line.CertLine.{CertLine}
+use Rattle.e_cert.specs.declared.cert_line.CertLine.TheVariants as certlines
 use Rattle.e_cert.specs.declared.owed.OpenSums.{OpenSums}
 use Rattle.e_cert.specs.declared.owed.OpenSums.TheVariants as sums
 use Rattle.e_cert.specs.declared.owed.OpenTransfer.{OpenTransfer}
-use Rattle.e_cert.specs.declared.owed.Due.{Due}
-use Rattle.e_cert.specs.declared.owed.Due.TheVariants as due
-use Rattle.e_cert.specs.declared.owed.Owed.{Owed}
-use Rattle.e_cert.specs.declared.kept.Kept.{Kept}
-use Rattle.e_cert.specs.declared.kept.Kept.TheVariants as kept
-use Rattle.e_cert.specs.Marks.{sized, size_of, multiplier_of, row_of, may_differ, bare, differs_of, transfer_of, row_mark_of, mark_named, mark_of, mark_line, place_of as place_in, fact_mark_of}
-use Rattle.e_cert.specs.Strict.{is_strict_mark, strict_mark}
-use Rattle.e_cert.specs.Owed.{has_more, certificate, row_in, row_put, sum_begun, differs_put, sums_ended, transfer_put, part_put, metric_put, takes_metric, clash_put, transfer_rule, count_others, transfer_at, transfer_in, transfer_begun, ended, sums_behind, due_behind, marked, kept_of, settled}
-use Rattle.e_cert.proofs.GoodMarks.{MarkSaid, strict_said}
+use Rattle.e_cert.specs.declared.owed.Obligation.{Obligation}
+use Rattle.e_cert.specs.declared.owed.Obligation.TheVariants as due
+use Rattle.e_cert.specs.declared.owed.Pending.{Pending}
+use Rattle.e_cert.specs.declared.kept.StepCerts.{StepCerts}
+use Rattle.e_cert.specs.declared.kept.StepCerts.TheVariants as kept
+use Rattle.e_cert.specs.CertLines.{sized, size_of, multiplier_of, row_of, may_differ, bare, differs_of, transfer_of, row_cert_line_of, cert_line_named, cert_line_of, cert_line_text, place_of as place_in, fact_cert_line_of}
+use Rattle.e_cert.specs.Strict.{is_strict_cert_line, exact_cert_line}
+use Rattle.e_cert.specs.Owed.{has_more, certificate, row_in, row_put, sum_begun, differs_put, sums_ended, transfer_put, part_put, metric_put, takes_metric, clash_put, transfer_rule, count_others, transfer_at, transfer_in, transfer_begun, ended, sums_behind, due_behind, after_cert_line, kept_of, finish_certs}
+use Rattle.e_cert.proofs.GoodCertLines.{CertLineSaid, strict_said}
 use Rattle.e_roundtrip.specs.Formed.{against_formed}
-use Rattle.e_roundtrip.proofs.Certificates.MarksRead.{MarkSigned, mark_signed}
+use Rattle.e_roundtrip.proofs.Certificates.CertLinesRead.{CertLineSigned, cert_line_signed}
 use Rattle.e_roundtrip.proofs.Certificates.OwedSpelled.{due_at_first}
 use Rattle.e_roundtrip.proofs.Certificates.KeptFormed.{row_formed, difference_put, OpenFormed, row_put_formed, sum_begun_formed, differs_put_formed, sums_ended_formed, TransferFormed, DueFormed, transfer_put_formed, part_put_formed, metric_put_formed, KeptIsFormed, kept_formed}
 
@@ -100,82 +100,82 @@ multiplier_good (b ∷ bs) m e = by_sign (eqb b 45) e
 -- ---- lines by their words
 
 -- the multiplier of a row, and the row that differs
-abbrev Numbers : Mark → Type 0
-Numbers (marks.Differs r) = may_differ r ≡ true
-Numbers (marks.Row m r) = is_nonzero_bounded m ≡ true
-Numbers mark = Unit {0}
+abbrev Numbers : CertLine → Type 0
+Numbers (certlines.Differs r) = may_differ r ≡ true
+Numbers (certlines.Row m r) = is_nonzero_bounded m ≡ true
+Numbers cert_line = Unit {0}
 
-bare_numbers : (ws : List (List ℕ)) (mark m : Mark) → Numbers mark → bare ws mark ≡ Ok m → Numbers m
-bare_numbers ws mark m h e = let n = bind_ok (end_at ws) (λ none. read_ok mark) m e in subst Numbers (ok_is mark m n.2) h
+bare_numbers : (ws : List (List ℕ)) (cert_line m : CertLine) → Numbers cert_line → bare ws cert_line ≡ Ok m → Numbers m
+bare_numbers ws cert_line m h e = let n = bind_ok (end_at ws) (λ none. read_ok cert_line) m e in subst Numbers (ok_is cert_line m n.2) h
 
-differs_numbers : (ws : List (List ℕ)) (m : Mark) → differs_of ws ≡ Ok m → Numbers m
+differs_numbers : (ws : List (List ℕ)) (m : CertLine) → differs_of ws ≡ Ok m → Numbers m
 unfolding differs_of
 differs_numbers ws m e =
-    let r = bind_ok (row_of ws) (λ r. cond (may_differ r) (read_ok (marks.Differs r)) (Err Malformed)) m e in
-    let p = passed (may_differ r.0) (read_ok (marks.Differs r.0)) m r.2 in
-    subst Numbers (ok_is (marks.Differs r.0) m p.1) p.0
+    let r = bind_ok (row_of ws) (λ r. cond (may_differ r) (read_ok (certlines.Differs r)) (Err Malformed)) m e in
+    let p = passed (may_differ r.0) (read_ok (certlines.Differs r.0)) m r.2 in
+    subst Numbers (ok_is (certlines.Differs r.0) m p.1) p.0
 
-row_numbers : (w : List ℕ) (ws : List (List ℕ)) (m : Mark) → row_mark_of w ws ≡ Ok m → Numbers m
-unfolding row_mark_of
+row_numbers : (w : List ℕ) (ws : List (List ℕ)) (m : CertLine) → row_cert_line_of w ws ≡ Ok m → Numbers m
+unfolding row_cert_line_of
 row_numbers w ws m e =
-    let n = bind_ok (multiplier_of w) (λ n. row_of ws >>= λ r. read_ok (marks.Row n r)) m e in
-    let r = bind_ok (row_of ws) (λ r. read_ok (marks.Row n.0 r)) m n.2 in
-    subst Numbers (ok_is (marks.Row n.0 r.0) m r.2) (multiplier_good w n.0 n.1)
+    let n = bind_ok (multiplier_of w) (λ n. row_of ws >>= λ r. read_ok (certlines.Row n r)) m e in
+    let r = bind_ok (row_of ws) (λ r. read_ok (certlines.Row n.0 r)) m n.2 in
+    subst Numbers (ok_is (certlines.Row n.0 r.0) m r.2) (multiplier_good w n.0 n.1)
 
-fact_numbers : (ws : List (List ℕ)) (m : Mark) → fact_mark_of ws ≡ Ok m → Numbers m
-unfolding fact_mark_of
-fact_numbers [] m e = subst Numbers (ok_is marks.Fact m e) tt
+fact_numbers : (ws : List (List ℕ)) (m : CertLine) → fact_cert_line_of ws ≡ Ok m → Numbers m
+unfolding fact_cert_line_of
+fact_numbers [] m e = subst Numbers (ok_is certlines.Fact m e) tt
 fact_numbers (w ∷ ws) m e =
-    let n = bind_ok (end_at ws) (λ none. place_in w >>= λ k. read_ok (marks.FactAt k)) m e in
-    let k = bind_ok (place_in w) (λ k. read_ok (marks.FactAt k)) m n.2 in
-    subst Numbers (ok_is (marks.FactAt k.0) m k.2) tt
+    let n = bind_ok (end_at ws) (λ none. place_in w >>= λ k. read_ok (certlines.FactAt k)) m e in
+    let k = bind_ok (place_in w) (λ k. read_ok (certlines.FactAt k)) m n.2 in
+    subst Numbers (ok_is (certlines.FactAt k.0) m k.2) tt
 
-transfer_numbers : (ws : List (List ℕ)) (m : Mark) → transfer_of ws ≡ Ok m → Numbers m
+transfer_numbers : (ws : List (List ℕ)) (m : CertLine) → transfer_of ws ≡ Ok m → Numbers m
 unfolding transfer_of
 transfer_numbers ws m e =
-    let t = bind_ok (title_at ws) (λ t. names_of t.1 >>= λ ns. read_ok (marks.Transfer t.0 ns)) m e in
-    let ns = bind_ok (names_of t.0.1) (λ ns. read_ok (marks.Transfer t.0.0 ns)) m t.2 in
-    subst Numbers (ok_is (marks.Transfer t.0.0 ns.0) m ns.2) tt
+    let t = bind_ok (title_at ws) (λ t. names_of t.1 >>= λ ns. read_ok (certlines.Transfer t.0 ns)) m e in
+    let ns = bind_ok (names_of t.0.1) (λ ns. read_ok (certlines.Transfer t.0.0 ns)) m t.2 in
+    subst Numbers (ok_is (certlines.Transfer t.0.0 ns.0) m ns.2) tt
 
-clash_numbers : (ws : List (List ℕ)) (m : Mark) → (diagram_lit_of ws >>= λ l. read_ok (marks.Clash l)) ≡ Ok m → Numbers m
+clash_numbers : (ws : List (List ℕ)) (m : CertLine) → (diagram_lit_of ws >>= λ l. read_ok (certlines.Clash l)) ≡ Ok m → Numbers m
 clash_numbers ws m e =
-    let l = bind_ok (diagram_lit_of ws) (λ l. read_ok (marks.Clash l)) m e in
-    subst Numbers (ok_is (marks.Clash l.0) m l.2) tt
+    let l = bind_ok (diagram_lit_of ws) (λ l. read_ok (certlines.Clash l)) m e in
+    subst Numbers (ok_is (certlines.Clash l.0) m l.2) tt
 
-named_numbers : (w : List ℕ) (ws : List (List ℕ)) (m : Mark) → mark_named w ws ≡ Ok m → Numbers m
-unfolding mark_named
+named_numbers : (w : List ℕ) (ws : List (List ℕ)) (m : CertLine) → cert_line_named w ws ≡ Ok m → Numbers m
+unfolding cert_line_named
 named_numbers w ws m e =
-    let m5 : Result Mark Kind = cond (bytes_eq w (codes "differs")) (differs_of ws) (row_mark_of w ws) in
-    let m4 : Result Mark Kind = cond (bytes_eq w (codes "sum")) (bare ws marks.Sum) m5 in
-    let m3 : Result Mark Kind = cond (bytes_eq w (codes "clash")) (diagram_lit_of ws >>= λ l. read_ok (marks.Clash l)) m4 in
-    let m2 : Result Mark Kind = cond (bytes_eq w (codes "transfer")) (transfer_of ws) m3 in
-    let m1 : Result Mark Kind = cond (bytes_eq w (codes "metric")) (bare ws marks.Metric) m2 in
-    either Numbers (bytes_eq w (codes "fact")) (fact_mark_of ws) m1 m e (fact_numbers ws m) (λ e1.
-    either Numbers (bytes_eq w (codes "metric")) (bare ws marks.Metric) m2 m e1 (bare_numbers ws marks.Metric m tt) (λ e2.
+    let m5 : Result CertLine FaultKind = cond (bytes_eq w (codes "differs")) (differs_of ws) (row_cert_line_of w ws) in
+    let m4 : Result CertLine FaultKind = cond (bytes_eq w (codes "sum")) (bare ws certlines.Sum) m5 in
+    let m3 : Result CertLine FaultKind = cond (bytes_eq w (codes "clash")) (diagram_lit_of ws >>= λ l. read_ok (certlines.Clash l)) m4 in
+    let m2 : Result CertLine FaultKind = cond (bytes_eq w (codes "transfer")) (transfer_of ws) m3 in
+    let m1 : Result CertLine FaultKind = cond (bytes_eq w (codes "metric")) (bare ws certlines.Metric) m2 in
+    either Numbers (bytes_eq w (codes "fact")) (fact_cert_line_of ws) m1 m e (fact_numbers ws m) (λ e1.
+    either Numbers (bytes_eq w (codes "metric")) (bare ws certlines.Metric) m2 m e1 (bare_numbers ws certlines.Metric m tt) (λ e2.
     either Numbers (bytes_eq w (codes "transfer")) (transfer_of ws) m3 m e2 (transfer_numbers ws m) (λ e3.
-    either Numbers (bytes_eq w (codes "clash")) (diagram_lit_of ws >>= λ l. read_ok (marks.Clash l)) m4 m e3 (clash_numbers ws m) (λ e4.
-    either Numbers (bytes_eq w (codes "sum")) (bare ws marks.Sum) m5 m e4 (bare_numbers ws marks.Sum m tt) (λ e5.
-    either Numbers (bytes_eq w (codes "differs")) (differs_of ws) (row_mark_of w ws) m e5 (differs_numbers ws m) (row_numbers w ws m))))))
+    either Numbers (bytes_eq w (codes "clash")) (diagram_lit_of ws >>= λ l. read_ok (certlines.Clash l)) m4 m e3 (clash_numbers ws m) (λ e4.
+    either Numbers (bytes_eq w (codes "sum")) (bare ws certlines.Sum) m5 m e4 (bare_numbers ws certlines.Sum m tt) (λ e5.
+    either Numbers (bytes_eq w (codes "differs")) (differs_of ws) (row_cert_line_of w ws) m e5 (differs_numbers ws m) (row_numbers w ws m))))))
 
-mark_numbers : (ws : List (List ℕ)) (m : Mark) → mark_of ws ≡ Ok m → Numbers m
-unfolding mark_of
-mark_numbers [] m e = absurd cc
-mark_numbers (w ∷ ws) m e = named_numbers w ws m e
+cert_line_numbers : (ws : List (List ℕ)) (m : CertLine) → cert_line_of ws ≡ Ok m → Numbers m
+unfolding cert_line_of
+cert_line_numbers [] m e = absurd cc
+cert_line_numbers (w ∷ ws) m e = named_numbers w ws m e
 
 -- ---- what is owed
 
-pub record OwedFormed (o : Owed) : Type 0 where
+pub record OwedFormed (o : Pending) : Type 0 where
   pub certs : DueFormed (scope_of_names o.names) o.due
   pub rows_of_sums : OpenFormed (scope_of_names o.names) o.sums
 
-to_owed : (x o : Owed) → OwedFormed x → read_ok x ≡ Ok o → OwedFormed o
+to_owed : (x o : Pending) → OwedFormed x → read_ok x ≡ Ok o → OwedFormed o
 to_owed x o h e = subst OwedFormed (ok_is x o e) h
 
-ended_formed : (o : Owed) (s : Option OpenSums) (e : Owed) → OwedFormed o → OpenFormed (scope_of_names o.names) s → ended o s ≡ Ok e → OwedFormed e
+ended_formed : (o : Pending) (s : Option OpenSums) (e : Pending) → OwedFormed o → OpenFormed (scope_of_names o.names) s → ended o s ≡ Ok e → OwedFormed e
 ended_formed o None e h k same = to_owed o e h same
 ended_formed o (Some s) e h k same =
     let ns = scope_of_names o.names in
-    let then : Due → Owed = λ d. record o { due = d; sums = None } in
+    let then : Obligation → Pending = λ d. record o { due = d; sums = None } in
     let all = bind_ok (sums_ended s) (λ all. metric_put o.due (record { sums = all }) >>= λ d. read_ok (then d)) e same in
     let d = bind_ok (metric_put o.due (record { sums = all.0 })) (λ d. read_ok (then d)) e all.2 in
     to_owed (then d.0) e (record { certs = metric_put_formed ns o.due (record { sums = all.0 }) d.0 h.certs (sums_ended_formed ns s all.0 k all.1) d.1; rows_of_sums = tt }) d.2
@@ -199,9 +199,9 @@ begun_formed : (ns : Names) (l : Lit) (title : List ℕ) (raws : List (List ℕ)
 unfolding transfer_in transfer_at
 begun_formed ns l title raws t e =
     let then : ℕ → List Obj → List Lit → OpenTransfer = λ r args lits. record { rule = r; args = args; parts = []; owed = count_others l lits } in
-    let last : ℕ → List Obj → Result OpenTransfer Kind = λ r args. transfer_at l r args in
-    let third : ℕ → Sig → Result OpenTransfer Kind = λ r s. args_in ns s raws >>= λ args. last r args in
-    let second : ℕ → Sig → Result OpenTransfer Kind = λ r s. right_count (length raws == s.points + s.lines + s.circles) >>= λ right. third r s in
+    let last : ℕ → List Obj → Result OpenTransfer FaultKind = λ r args. transfer_at l r args in
+    let third : ℕ → Sig → Result OpenTransfer FaultKind = λ r s. args_in ns s raws >>= λ args. last r args in
+    let second : ℕ → Sig → Result OpenTransfer FaultKind = λ r s. right_count (length raws == s.points + s.lines + s.circles) >>= λ right. third r s in
     let r = bind_ok (transfer_rule (number_of_rule title)) (λ r. variables_of (sig_of r) >>= λ s. second r s) t e in
     let s = bind_ok (variables_of (sig_of r.0)) (λ s. second r.0 s) t r.2 in
     let right = bind_ok (right_count (length raws == s.0.points + s.0.lines + s.0.circles)) (λ right. third r.0 s.0) t s.2 in
@@ -217,7 +217,7 @@ begun_formed ns l title raws t e =
       parts = refl;
     })
 
-transfer_begun_formed : (ns : Names) (d : Due) (title : List ℕ) (raws : List (List ℕ)) (new : Due) → DueFormed (scope_of_names ns) d → transfer_begun ns d title raws ≡ Ok new → DueFormed (scope_of_names ns) new
+transfer_begun_formed : (ns : Names) (d : Obligation) (title : List ℕ) (raws : List (List ℕ)) (new : Obligation) → DueFormed (scope_of_names ns) d → transfer_begun ns d title raws ≡ Ok new → DueFormed (scope_of_names ns) new
 transfer_begun_formed ns (due.Literals wanted certs None) title raws new h e =
     let l = bind_ok (or_malformed (slice_get wanted (length certs))) (λ l. transfer_in ns l title raws >>= λ t. transfer_put wanted certs t) new e in
     let t = bind_ok (transfer_in ns l.0 title raws) (λ t. transfer_put wanted certs t) new l.2 in
@@ -230,35 +230,35 @@ not_metric (atoms.MagEq x y) h = absurd cc
 not_metric (atoms.MagLt x y) h = absurd cc
 not_metric a h = refl
 
-clash_put_formed : (s : Scope) (d : Due) (l : Lit) (new : Due) → against_formed s (against.Clash l) ≡ true → clash_put d l ≡ Ok new → DueFormed s new
+clash_put_formed : (s : Scope) (d : Obligation) (l : Lit) (new : Obligation) → against_formed s (against.Clash l) ≡ true → clash_put d l ≡ Ok new → DueFormed s new
 clash_put_formed s (due.Contradiction None) l new k e = subst (DueFormed s) (ok_is (due.Contradiction (Some (against.Clash l))) new e) k
 clash_put_formed s d l new k e = absurd cc
 
 -- ---- a line
 
-marked_formed : (o : Owed) (m : Mark) (new : Owed) → OwedFormed o → MarkSaid m → MarkSigned m → Numbers m → marked o m ≡ Ok new → OwedFormed new
-unfolding marked
-marked_formed o marks.Fact new h said signed numbers same =
+after_cert_line_formed : (o : Pending) (m : CertLine) (new : Pending) → OwedFormed o → CertLineSaid m → CertLineSigned m → Numbers m → after_cert_line o m ≡ Ok new → OwedFormed new
+unfolding after_cert_line
+after_cert_line_formed o certlines.Fact new h said signed numbers same =
     let e = bind_ok (ended o o.sums) (λ e. part_put e.due parts.Fact >>= λ d. read_ok (due_behind e d)) new same in
     let g = ended_formed o o.sums e.0 h h.rows_of_sums e.1 in
     let d = bind_ok (part_put e.0.due parts.Fact) (λ d. read_ok (due_behind e.0 d)) new e.2 in
     to_owed (due_behind e.0 d.0) new (record { certs = part_put_formed (scope_of_names e.0.names) e.0.due parts.Fact d.0 g.certs refl d.1; rows_of_sums = g.rows_of_sums }) d.2
-marked_formed o (marks.FactAt k) new h said signed numbers same =
+after_cert_line_formed o (certlines.FactAt k) new h said signed numbers same =
     let e = bind_ok (ended o o.sums) (λ e. part_put e.due (parts.FactAt k) >>= λ d. read_ok (due_behind e d)) new same in
     let g = ended_formed o o.sums e.0 h h.rows_of_sums e.1 in
     let d = bind_ok (part_put e.0.due (parts.FactAt k)) (λ d. read_ok (due_behind e.0 d)) new e.2 in
     to_owed (due_behind e.0 d.0) new (record { certs = part_put_formed (scope_of_names e.0.names) e.0.due (parts.FactAt k) d.0 g.certs said d.1; rows_of_sums = g.rows_of_sums }) d.2
-marked_formed o marks.Metric new h said signed numbers same =
+after_cert_line_formed o certlines.Metric new h said signed numbers same =
     let e = bind_ok (ended o o.sums) (λ e. cond (takes_metric e.due) (read_ok (sums_behind e sums.Begun)) (Err Malformed)) new same in
     let g = ended_formed o o.sums e.0 h h.rows_of_sums e.1 in
     let p = passed (takes_metric e.0.due) (read_ok (sums_behind e.0 sums.Begun)) new e.2 in
     to_owed (sums_behind e.0 sums.Begun) new (record { certs = g.certs; rows_of_sums = tt }) p.1
-marked_formed o (marks.Transfer title raws) new h said signed numbers same =
+after_cert_line_formed o (certlines.Transfer title raws) new h said signed numbers same =
     let e = bind_ok (ended o o.sums) (λ e. transfer_begun e.names e.due title raws >>= λ d. read_ok (due_behind e d)) new same in
     let g = ended_formed o o.sums e.0 h h.rows_of_sums e.1 in
     let d = bind_ok (transfer_begun e.0.names e.0.due title raws) (λ d. read_ok (due_behind e.0 d)) new e.2 in
     to_owed (due_behind e.0 d.0) new (record { certs = transfer_begun_formed e.0.names e.0.due title raws d.0 g.certs d.1; rows_of_sums = g.rows_of_sums }) d.2
-marked_formed o (marks.Clash raw) new h said signed numbers same =
+after_cert_line_formed o (certlines.Clash raw) new h said signed numbers same =
     let e = bind_ok (ended o o.sums) (λ e. lit_in e.names raw >>= λ l. clash_put e.due l >>= λ d. read_ok (due_behind e d)) new same in
     let g = ended_formed o o.sums e.0 h h.rows_of_sums e.1 in
     let l = bind_ok (lit_in e.0.names raw) (λ l. clash_put e.0.due l >>= λ d. read_ok (due_behind e.0 d)) new e.2 in
@@ -267,63 +267,63 @@ marked_formed o (marks.Clash raw) new h said signed numbers same =
     let formed : against_formed s (against.Clash l.0) ≡ true =
     and_from (all_in_scope s l.0) (not (is_metric l.0)) (lit_in_scope e.0.names raw l.0 l.1) (not_metric l.0.atom (lit_plain e.0.names raw l.0 signed l.1)) in
     to_owed (due_behind e.0 d.0) new (record { certs = clash_put_formed s e.0.due l.0 d.0 formed d.1; rows_of_sums = g.rows_of_sums }) d.2
-marked_formed o marks.Sum new h said signed numbers same =
+after_cert_line_formed o certlines.Sum new h said signed numbers same =
     let s = bind_ok (sum_begun o.sums) (λ s. read_ok (sums_behind o s)) new same in
     to_owed (sums_behind o s.0) new (record { certs = h.certs; rows_of_sums = sum_begun_formed (scope_of_names o.names) o.sums s.0 h.rows_of_sums s.1 }) s.2
-marked_formed o (marks.Differs raw) new h said signed numbers same =
+after_cert_line_formed o (certlines.Differs raw) new h said signed numbers same =
     let r = bind_ok (row_in o.names raw) (λ r. differs_put o.sums r >>= λ s. read_ok (sums_behind o s)) new same in
     let s = bind_ok (differs_put o.sums r.0) (λ s. read_ok (sums_behind o s)) new r.2 in
     to_owed (sums_behind o s.0) new (record { certs = h.certs; rows_of_sums = differs_put_formed (scope_of_names o.names) o.sums r.0 s.0 (difference_put o.names raw r.0 numbers said r.1) s.1 }) s.2
-marked_formed o (marks.Row m raw) new h said signed numbers same =
+after_cert_line_formed o (certlines.Row m raw) new h said signed numbers same =
     let r = bind_ok (row_in o.names raw) (λ r. row_put o.sums m r >>= λ s. read_ok (sums_behind o s)) new same in
     let s = bind_ok (row_put o.sums m r.0) (λ s. read_ok (sums_behind o s)) new r.2 in
     to_owed (sums_behind o s.0) new (record { certs = h.certs; rows_of_sums = row_put_formed (scope_of_names o.names) o.sums m r.0 s.0 h.rows_of_sums (row_formed o.names m raw r.0 numbers said r.1) s.1 }) s.2
 
 -- a line of a certificate by its bytes
-pub strict_formed : (o : Owed) (line : List ℕ) (ws : List (List ℕ)) (m : Mark) (new : Owed) → OwedFormed o → strict_mark line ws ≡ Ok m → marked o m ≡ Ok new → OwedFormed new
-unfolding strict_mark
+pub strict_formed : (o : Pending) (line : List ℕ) (ws : List (List ℕ)) (m : CertLine) (new : Pending) → OwedFormed o → exact_cert_line line ws ≡ Ok m → after_cert_line o m ≡ Ok new → OwedFormed new
+unfolding exact_cert_line
 strict_formed o line ws m new h e same =
-    let x = bind_ok (mark_of ws) (λ m. cond (is_strict_mark m && bytes_eq line (mark_line m)) (read_ok m) (Err Malformed)) m e in
-    let is : x.0 ≡ m = ok_is x.0 m (passed (is_strict_mark x.0 && bytes_eq line (mark_line x.0)) (read_ok x.0) m x.2).1 in
-    marked_formed o m new h (strict_said line ws m e) (subst MarkSigned is (mark_signed ws x.0 x.1)) (subst Numbers is (mark_numbers ws x.0 x.1)) same
+    let x = bind_ok (cert_line_of ws) (λ m. cond (is_strict_cert_line m && bytes_eq line (cert_line_text m)) (read_ok m) (Err Malformed)) m e in
+    let is : x.0 ≡ m = ok_is x.0 m (passed (is_strict_cert_line x.0 && bytes_eq line (cert_line_text x.0)) (read_ok x.0) m x.2).1 in
+    after_cert_line_formed o m new h (strict_said line ws m e) (subst CertLineSigned is (cert_line_signed ws x.0 x.1)) (subst Numbers is (cert_line_numbers ws x.0 x.1)) same
 
 -- ---- what is kept
 
 -- what was owed at first, whatever has been put
-put_first : (wanted : List Lit) (cs : List Cert) (t : OpenTransfer) (new : Due) → transfer_put wanted cs t ≡ Ok new → due_at_first new ≡ due.Literals wanted [] None
+put_first : (wanted : List Lit) (cs : List Cert) (t : OpenTransfer) (new : Obligation) → transfer_put wanted cs t ≡ Ok new → due_at_first new ≡ due.Literals wanted [] None
 put_first wanted cs t new e = by_count (eqb (length t.parts) t.owed) e
   where
     by_count : (b : Bool) → cond b (read_ok (due.Literals wanted (cs ++ certificate t ∷ []) None)) (read_ok (due.Literals wanted cs (Some t))) ≡ Ok new → due_at_first new ≡ due.Literals wanted [] None
     by_count true f = ap due_at_first (sym (ok_is (due.Literals wanted (cs ++ certificate t ∷ []) None) new f))
     by_count false f = ap due_at_first (sym (ok_is (due.Literals wanted cs (Some t)) new f))
 
-part_first : (d : Due) (p : Part) (new : Due) → part_put d p ≡ Ok new → due_at_first new ≡ due_at_first d
+part_first : (d : Obligation) (p : Part) (new : Obligation) → part_put d p ≡ Ok new → due_at_first new ≡ due_at_first d
 part_first (due.Literals wanted cs None) p new e =
     let x = passed (has_more wanted cs) (read_ok (due.Literals wanted (cs ++ Plain p ∷ []) None)) new e in
     ap due_at_first (sym (ok_is (due.Literals wanted (cs ++ Plain p ∷ []) None) new x.1))
 part_first (due.Literals wanted cs (Some t)) p new e = put_first wanted cs (record t { parts = t.parts ++ p ∷ [] }) new e
 part_first d p new e = absurd cc
 
-metric_first : (d : Due) (m : MetricCert) (new : Due) → metric_put d m ≡ Ok new → due_at_first new ≡ due_at_first d
+metric_first : (d : Obligation) (m : MetricCert) (new : Obligation) → metric_put d m ≡ Ok new → due_at_first new ≡ due_at_first d
 metric_first (due.Contradiction None) m new e = ap due_at_first (sym (ok_is (due.Contradiction (Some (against.Metric m))) new e))
 metric_first (due.Contradiction (Some a)) m new e = part_first (due.Contradiction (Some a)) (parts.Metric m) new e
 metric_first due.Nothing m new e = part_first due.Nothing (parts.Metric m) new e
 metric_first (due.Literals wanted cs t) m new e = part_first (due.Literals wanted cs t) (parts.Metric m) new e
 
 -- where the sums end the names are the same, and what was owed at first
-record SameOwed (o e : Owed) : Type 0 where
+record SameOwed (o e : Pending) : Type 0 where
   names : e.names ≡ o.names
   first : due_at_first e.due ≡ due_at_first o.due
 
-ended_same : (o : Owed) (s : Option OpenSums) (e : Owed) → ended o s ≡ Ok e → SameOwed o e
+ended_same : (o : Pending) (s : Option OpenSums) (e : Pending) → ended o s ≡ Ok e → SameOwed o e
 ended_same o None e same = subst (SameOwed o) (ok_is o e same) (record { names = refl; first = refl })
 ended_same o (Some s) e same =
-    let then : Due → Owed = λ d. record o { due = d; sums = None } in
+    let then : Obligation → Pending = λ d. record o { due = d; sums = None } in
     let all = bind_ok (sums_ended s) (λ all. metric_put o.due (record { sums = all }) >>= λ d. read_ok (then d)) e same in
     let d = bind_ok (metric_put o.due (record { sums = all.0 })) (λ d. read_ok (then d)) e all.2 in
     subst (SameOwed o) (ok_is (then d.0) e d.2) (record { names = refl; first = metric_first o.due (record { sums = all.0 }) d.0 d.1 })
 
-at_first : (s : Scope) (d : Due) (k : Option Kept) → KeptIsFormed s d k → KeptIsFormed s (due_at_first d) k
+at_first : (s : Scope) (d : Obligation) (k : Option StepCerts) → KeptIsFormed s d k → KeptIsFormed s (due_at_first d) k
 at_first s due.Nothing None h = h
 at_first s due.Nothing (Some k) h = absurd h
 at_first s (due.Literals wanted cs t) None h = absurd h
@@ -334,14 +334,14 @@ at_first s (due.Contradiction a) (Some (kept.Certs certs)) h = absurd h
 at_first s (due.Contradiction a) (Some (kept.Against b)) h = h
 
 -- what is kept for a line has the form of what it owes
-pub settled_formed : (o : Owed) (k : Option Kept) → OwedFormed o → settled o ≡ Ok k → KeptIsFormed (scope_of_names o.names) (due_at_first o.due) k
-unfolding settled
+pub settled_formed : (o : Pending) (k : Option StepCerts) → OwedFormed o → finish_certs o ≡ Ok k → KeptIsFormed (scope_of_names o.names) (due_at_first o.due) k
+unfolding finish_certs
 settled_formed o k h same =
     let e = bind_ok (ended o o.sums) (λ e. kept_of e.due) k same in
     let g = ended_formed o o.sums e.0 h h.rows_of_sums e.1 in
     let is = ended_same o o.sums e.0 e.1 in
     subst (λ (ns : Names). KeptIsFormed (scope_of_names ns) (due_at_first o.due) k) is.names
-    (subst (λ (d : Due). KeptIsFormed (scope_of_names e.0.names) d k) is.first
+    (subst (λ (d : Obligation). KeptIsFormed (scope_of_names e.0.names) d k) is.first
     (at_first (scope_of_names e.0.names) e.0.due k (kept_formed (scope_of_names e.0.names) e.0.due k g.certs e.2)))
 
 -- before its first certificate a line owes nothing wrong

@@ -1,9 +1,9 @@
 use Rattle.std.proofs.Common.{refl, []}
 use Rattle.std.proofs.lemmas.Result.{err_from_is_err_and}
 use Rattle.e_deriv.specs.PlainStep.{Claimed, Copied}
-use Rattle.e_book.specs.declared.blocks.Opened.TheVariants as opened
+use Rattle.e_book.specs.declared.blocks.BlockKind.TheVariants as opened
 use Rattle.e_book.proofs.Interrupted.{resumed_fails}
-use Rattle.e_book.proofs.draft.Draft.close_inside.Goals as goal
+use Rattle.e_book.proofs.draft.TheoremParser.close_inside.Goals as goal
 
 pub returns-in_err-end_claim-in-Claim-clause-value :
     goal.returns-in_err-end_claim-in-Claim-clause-value
