@@ -29,7 +29,7 @@ impl Model for Closed {
 }
 
 impl Closed {
-    /// The block, closed. It fails only for want of memory.
+    /// The block, closed. It fails only out of memory.
     pub fn new(alloc: Global, block: Block) -> Result<Closed, AllocError>
         ensures { IfOk result (λ c. c ≡ script_of block) }
     {
@@ -128,7 +128,7 @@ impl BlockStack {
         &self.outers
     }
 
-    /// One more, which is the innermost now. It fails only for want of memory.
+    /// One more, which is the innermost now. It fails only out of memory.
     pub(crate) fn push(&mut self, outer: OpenBlock) -> Result<(), AllocError>
         ensures { OnOk result (self.new ≡ outer ∷ self.old) }
     {

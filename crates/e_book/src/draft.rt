@@ -35,17 +35,17 @@ pub enum Section {
     Making,
     Showing,
     Proving,
-    /// Behind the first block of a split.
+    /// After the first block of a split.
     Splitting,
     Closed,
     Done,
 }
 
-/// What the lines of a theorem have said so far.
+/// What has come of the lines of a theorem.
 #[derive(Drop)]
 pub struct TheoremParser {
     pub title: Title,
-    /// The names of the statement's objects: of the declared ones and, behind them, of the made ones.
+    /// The names of the statement's objects: of the declared ones and, after them, of the made ones.
     pub names: Names,
     /// The names of the objects in scope in the block that is open, once the proof has begun.
     pub in_scope: Names,
@@ -109,7 +109,7 @@ pub fn no_names(alloc: Global) -> Names
     }
 }
 
-/// Names put behind those of their sort.
+/// Names put after those of their sort.
 fn append_names(names: &mut Names, sort: Sort, new: &[Name]) -> Result<(), AllocError>
     ensures count { OnOk result (count_names names.new ≡ count_names names.old + length new.now) }
     ensures value { OnOk result (names.new ≡ with_names names.old sort (names_of_sort names.old sort ++ new.now)) }
@@ -137,7 +137,7 @@ pub fn declare(names: &mut Names, sort: Sort, new: &[Name]) -> Result<(), LineEr
     Ok(())
 }
 
-/// A sort, once for each of so many objects.
+/// A sort, once for each of this many objects.
 fn repeated(alloc: Global, sort: Sort, count: usize) -> Result<Items<Sort>, AllocError>
     ensures { IfOk result (λ s. s ≡ replicate count sort) }
 {
@@ -413,7 +413,7 @@ impl TheoremParser {
         self.add_step(step, given)
     }
 
-    /// New names come into scope, each behind those of its sort: the limits of objects. It gives a copy of the names.
+    /// New names come into scope, each after those of its sort: the limits of objects. It gives a copy of the names.
     fn bring_in(
         &mut self,
         alloc: Global,
@@ -472,7 +472,7 @@ impl TheoremParser {
         within(blanks, MAX_BLANKS, What::Blanks)
     }
 
-    /// A step that gives so many facts: the limit of steps, and then that of facts.
+    /// A step that gives this many facts: the limit of steps, and then that of facts.
     #[tactic(auto, unfolding(crate::specs::Steps::with_step))]
     fn add_step(&mut self, step: Step, given: usize) -> Result<(), LineError>
         requires { FitsScope self.old }

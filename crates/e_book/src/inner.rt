@@ -28,7 +28,7 @@ pub struct Saved {
     terms: usize,
 }
 
-/// The names with new ones, each behind those of its sort: the limits of objects.
+/// The names with new ones, each after those of its sort: the limits of objects.
 fn names_with(
     alloc: Global,
     names: &Names,
@@ -60,7 +60,8 @@ impl TheoremParser {
     ghost use Rattle.e_book.specs.Blocks.{made_in};
     ghost use Rattle.e_book.specs.DraftViews.{script_of_close};
 
-    /// The limits of a line that begins an inner block with so many facts: of steps, of depth and of facts.
+    /// The limits of a line that begins an inner block with this many facts: of steps, of depth and of
+    /// facts.
     #[tactic(auto, unfolding(crate::specs::Steps::room_inside))]
     fn room_inside(&self, given: usize) -> Result<(), LineError>
         requires { FitsScope self.now }
@@ -75,7 +76,7 @@ impl TheoremParser {
         Ok(())
     }
 
-    /// An inner block begins, in which so many literals are facts at once.
+    /// An inner block begins, in which this many literals are facts at once.
     fn interrupt(
         &mut self,
         alloc: Global,
@@ -430,7 +431,8 @@ impl TheoremParser {
         Ok(())
     }
 
-    /// The block around one that is closed goes on with a step, and with so many facts and monomials.
+    /// The block around one that is closed goes on with a step, and with this many facts and
+    /// monomials.
     fn resume(
         &mut self,
         around: Saved,
@@ -456,7 +458,7 @@ impl TheoremParser {
         Ok(())
     }
 
-    /// The first block of a split is closed. Behind `else` comes the other one, which begins with as many literals.
+    /// The first block of a split is closed. After `else` comes the other one, which begins with as many literals.
     fn begin_second(
         &mut self,
         alloc: Global,

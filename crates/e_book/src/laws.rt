@@ -1,7 +1,7 @@
 //! What holds of the grammar: each law is the contract of a function.
 ghost use Rattle.e_book.specs.Laws.{CanonicalLinesAreRead, ReadTheoremsHaveASpelling, ReadDefinitionsAreNotions, LiteralsAreReadAsNamed, FaultIsFirst, FaultIsOfTheFront};
 
-/// A theorem that has a spelling, and no definition's title, is read from its canonical lines, and the lines behind
+/// A theorem that has a spelling, and no definition's title, is read from its canonical lines, and the lines after
 /// them are left.
 pub fn canonical_lines_are_read()
     ensures { CanonicalLinesAreRead }

@@ -25,10 +25,10 @@ pub const MAX_CIRCLES: usize = 16;
 /// How many step and close lines a theorem may have.
 pub const MAX_STEPS: usize = 1_024;
 
-/// How many blocks may stand one inside the other.
+/// How many blocks may be one inside the other.
 pub const MAX_DEPTH: usize = 32;
 
-/// How many blanks may stand on a line.
+/// How many blanks may be on a line.
 pub const MAX_BLANKS: usize = 6;
 
 /// How many literals may be facts, repeats counted.

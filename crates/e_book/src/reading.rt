@@ -89,7 +89,7 @@ impl Reading {
     /// what comes begins the next.
     ///
     /// Whether the line is skipped, goes on with it, ends it or has a fault does not depend on the
-    /// lines behind it.
+    /// lines after it.
     pub fn take(
         &mut self,
         alloc: Global,
@@ -152,7 +152,7 @@ impl Reading {
         Ok(None)
     }
 
-    /// Takes lines up to the end of a theorem or a definition, or all that are ahead.
+    /// Takes lines up to the end of a theorem or a definition, or all that are there.
     fn read_lines(
         &mut self,
         alloc: Global,
@@ -180,7 +180,7 @@ impl Reading {
         Ok(None)
     }
 
-    /// Takes lines up to the end of a theorem or a definition, or all that are ahead: then it may go on
+    /// Takes lines up to the end of a theorem or a definition, or all that are there: then it may go on
     /// with lines that come later.
     ///
     /// A fault is the first from here on, whatever lines come later; after it the lines are not used

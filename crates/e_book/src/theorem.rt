@@ -8,7 +8,7 @@ use e_theorem::Statement;
 #[derive(Drop)]
 pub struct Theorem {
     pub title: Title,
-    /// The names of the declared objects and, behind them, of the made ones.
+    /// The names of the declared objects and, after them, of the made ones.
     pub names: Names,
     pub statement: Statement,
     pub block: Block,

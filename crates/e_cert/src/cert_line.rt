@@ -1,4 +1,4 @@
-//! The lines of certificates, told from their words by spelling alone.
+//! The lines of certificates, known from their words by spelling alone.
 ghost use Rattle.std.specs.Prelude.{◌≡◌};
 ghost use Rattle.e_line.specs.Reading.{texts, Gives};
 ghost use Rattle.e_cert.specs.CertLines.{size_of, multiplier_of, place_of, fact_row_of, bare_row, row_named, row_of, may_differ, bare, differs_of, transfer_of, fact_cert_line_of, row_cert_line_of, cert_line_named, cert_line_of, row_is_of, cert_line_is_of};
@@ -36,7 +36,7 @@ pub enum RawRow {
     FactAt(u32),
 }
 
-/// A line of a certificate, behind its sign.
+/// A line of a certificate, after its sign.
 #[derive(Drop)]
 pub enum CertLine {
     /// `fact`
@@ -229,7 +229,7 @@ fn fact_cert_line_of(words: &[&[u8]]) -> Result<CertLine, LineError>
     }
 }
 
-/// A row behind its multiplier.
+/// A row after its multiplier.
 #[tactic(auto, unfolding(crate::specs::CertLines::row_cert_line_of))]
 fn row_cert_line_of(alloc: Global, word: &[u8], rest: &[&[u8]]) -> Result<CertLine, LineError>
     ensures { Gives (λ m. m) result (row_cert_line_of word.now (texts rest.now)) }
@@ -265,7 +265,7 @@ fn cert_line_named(alloc: Global, word: &[u8], rest: &[&[u8]]) -> Result<CertLin
     row_cert_line_of(alloc, word, rest)
 }
 
-/// The form of a line of a certificate, by the words behind its sign alone.
+/// The form of a line of a certificate, by the words after its sign alone.
 #[tactic(auto, unfolding(crate::specs::CertLines::cert_line_of))]
 pub(crate) fn cert_line_of(alloc: Global, words: &[&[u8]]) -> Result<CertLine, LineError>
     ensures { Gives (λ m. m) result (cert_line_of (texts words.now)) }

@@ -44,7 +44,7 @@ fn put_row(out: &mut Vec<u8>, row: &RawRow) -> Result<(), AllocError>
     }
 }
 
-/// A line of a certificate behind its sign.
+/// A line of a certificate after its sign.
 fn put_words(out: &mut Vec<u8>, cert_line: &CertLine) -> Result<(), AllocError>
     ensures { OnOk result (out.new.items ≡ out.old.items ++ spaced (cert_line_words cert_line.now)) }
 {

@@ -25,15 +25,15 @@ const MAX_ROWS: usize = 4_096;
 /// The sums of a metric certificate while they come.
 #[derive(Drop)]
 pub enum OpenSums {
-    /// Behind the head.
+    /// After the head.
     Begun,
     /// The rows of the one sum so far.
     One(Rows),
-    /// Behind the row that differs.
+    /// After the row that differs.
     Differs(RowName),
-    /// The rows of the first of two sums so far, behind the row that differs.
+    /// The rows of the first of two sums so far, after the row that differs.
     Above(RowName, Rows),
-    /// The rows of the second, behind those of the first.
+    /// The rows of the second, after those of the first.
     Below(RowName, Rows, Rows),
 }
 
@@ -139,7 +139,7 @@ fn row_put(sums: Option<OpenSums>, multiplier: i128, row: RowName) -> Result<Ope
     }
 }
 
-/// A row comes behind what has come of the sums.
+/// A row comes after what has come of the sums.
 fn row_behind(sums: OpenSums, multiplier: i128, row: RowName) -> Result<OpenSums, LineError>
     ensures { Gives (λ s. s) result (row_put (Some sums) multiplier row) }
 {
@@ -182,7 +182,7 @@ fn sum_begun(alloc: Global, sums: Option<OpenSums>) -> Result<OpenSums, LineErro
     }
 }
 
-/// A sum is begun behind what has come of the sums.
+/// A sum is begun after what has come of the sums.
 fn sum_behind(alloc: Global, sums: OpenSums) -> Result<OpenSums, LineError>
     ensures { Gives (λ s. s) result (sum_begun (Some sums)) }
 {
@@ -203,7 +203,7 @@ fn sum_behind(alloc: Global, sums: OpenSums) -> Result<OpenSums, LineError>
     }
 }
 
-/// A row that differs comes right behind the head.
+/// A row that differs comes right after the head.
 fn differs_put(sums: Option<OpenSums>, differs: RowName) -> Result<OpenSums, LineError>
     ensures { Gives (λ s. s) result (differs_put sums differs) }
 {
@@ -495,7 +495,7 @@ impl Pending {
         }
     }
 
-    /// What is owed behind a line of a certificate.
+    /// What is owed after a line of a certificate.
     #[tactic(auto, unfolding(crate::specs::Owed::after_cert_line))]
     pub fn after_cert_line(self, alloc: Global, cert_line: &CertLine) -> Result<Pending, LineError>
         requires { FewNames self.names }

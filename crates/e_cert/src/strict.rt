@@ -30,7 +30,7 @@ fn is_strict_cert_line(cert_line: &CertLine) -> bool
     }
 }
 
-/// The line of a certificate, made in room for so many bytes.
+/// The line of a certificate, made in room for this many bytes.
 fn cert_line_text(alloc: Global, cert_line: &CertLine, room: usize) -> Result<Vec<u8>, AllocError>
     ensures { IfOk result (λ line. line.items ≡ cert_line_text cert_line.now) }
 {
@@ -39,7 +39,7 @@ fn cert_line_text(alloc: Global, cert_line: &CertLine, room: usize) -> Result<Ve
     Ok(line)
 }
 
-/// The same of a line of a certificate, where these are the words behind its sign.
+/// The same of a line of a certificate, where these are the words after its sign.
 #[tactic(auto, unfolding(crate::specs::Strict::exact_cert_line))]
 pub fn exact_cert_line(alloc: Global, line: &[u8], words: &[&[u8]]) -> Result<CertLine, LineError>
     ensures { Gives (λ m. m) result (exact_cert_line line.now (texts words.now)) }

@@ -12,8 +12,8 @@ use crate::pattern::Avoids;
 use crate::shapes::row;
 use e_literal::Obj;
 
-/// A piece of a line behind the word `let`: the name of a new object, the name of the next
-/// argument, or a word.
+/// A piece of a line after the word `let`: the name of a new object, the name of the next argument,
+/// or a word.
 #[derive(Clone, Copy)]
 pub enum Piece {
     New,
@@ -110,7 +110,7 @@ pub fn all_shapes() -> &'static [Shape]
     &SHAPES
 }
 
-/// The line of a shape, behind the word `let`.
+/// The line of a shape, after the word `let`.
 #[tactic(auto, unfolding(crate::specs::Lines::pieces))]
 pub fn pieces(shape: Shape) -> &'static [Piece]
     ensures { map piece_view result.now ≡ Lines.pieces shape }

@@ -26,7 +26,7 @@ pub fn licensed_has_no_stop()
     ensures { LicensedHasNoStop }
 {}
 
-/// The first line that is not licensed, and what it lacks, are determined by the script.
+/// The first step that is not licensed, and what it lacks, are determined by the script.
 pub fn stop_is_one()
     ensures { StopIsOne }
 {}

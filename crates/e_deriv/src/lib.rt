@@ -1,4 +1,5 @@
-//! Scripts and derivations: blocks of steps, without and with their certificates.
+//! Scripts and derivations: blocks of steps, without and with their certificates, and what it means
+//! that one proves, is licensed or is certified.
 #![tactic(auto)]
 
 mod block;

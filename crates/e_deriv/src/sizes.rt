@@ -25,7 +25,7 @@ pub fn size(block: &Block) -> u32
     }
 }
 
-/// How many blocks stand one inside the other, itself included.
+/// How many blocks are one inside the other, itself included.
 #[tactic(auto, using(crate::proofs::Scripts::depths))]
 pub fn depth(block: &Block) -> u32
     requires { Rattle.e_deriv.specs.Script.depth (script_of block.now) < 2 ^ 32 }

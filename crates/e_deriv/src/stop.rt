@@ -17,7 +17,7 @@ pub enum Wanted {
     Contradiction,
 }
 
-/// The first line that is not licensed, or one that is too wide to be judged, or want of memory.
+/// The first step that is not licensed, or one that is too wide to be licensed, or out of memory.
 #[derive(Drop)]
 pub enum Stop {
     Unlicensed {
@@ -30,7 +30,7 @@ pub enum Stop {
         /// The names of the objects in scope before the line.
         names: Names,
     },
-    /// Each line before is licensed, and a minor of a system of this one has size at least 2^63.
+    /// Each step before is licensed, and a minor of a system of this one has size at least 2^63.
     TooWide {
         /// The line's number among the step and close lines, from 1.
         step: u32,

@@ -33,7 +33,7 @@ pub enum Place {
     Done,
 }
 
-/// What the lines of a figure text have said so far.
+/// What has come of the lines of a figure text.
 #[derive(Drop)]
 pub struct Plan {
     pub names: Names,

@@ -1,4 +1,4 @@
-//! The lines of a figure text, told from their words by spelling alone.
+//! The lines of a figure text, known from their words by spelling alone.
 ghost use Rattle.std.specs.Prelude.{IfOk};
 ghost use Rattle.e_line.specs.Reading.{texts, Gives};
 ghost use Rattle.e_drawing.specs.inner.Good.{IsGoodLine};

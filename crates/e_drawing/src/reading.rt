@@ -72,7 +72,7 @@ fn end(plan: &Plan, line: u64) -> Result<(), BookFault>
     Ok(())
 }
 
-/// Takes all lines that are ahead. After a fault the plan is not used again.
+/// Takes all lines that are there. After a fault the plan is not used again.
 pub fn read_plan(alloc: Global, lines: &mut Lines, plan: &mut Plan) -> Result<(), BookFault>
     requires lines { last_line lines.old < 2 ^ 32 }
     requires fits { FitsPlan plan.old }

@@ -58,7 +58,7 @@ impl Model for Figure {
 }
 
 impl Figure {
-    /// The figure of these objects, numbered as they stand: none exactly where a coordinate or a number of a direction is
+    /// The figure of these objects, numbered as they come: none exactly where a coordinate or a number of a direction is
     /// past plus or minus 1,000,000, a direction is two zeros, a square is 0 or past 10^12, or there are more than 40
     /// points, 24 lines or 16 circles.
     pub fn new(points: Vec<Point>, lines: Vec<Straight>, circles: Vec<Round>) -> Option<Figure>
@@ -95,7 +95,7 @@ impl Figure {
         }
     }
 
-    /// Puts a point behind the others. It fails only for want of memory, and then the figure is as before.
+    /// Puts a point after the others. It fails only out of memory, and then the figure is as before.
     pub fn add_point(&mut self, a: Point) -> Result<(), AllocError>
         requires few { length self.old.points < 40 }
         requires small { IsTrue (spec.is_small_point a) }
@@ -106,7 +106,7 @@ impl Figure {
         Ok(())
     }
 
-    /// Puts a line behind the others. It fails only for want of memory, and then the figure is as before.
+    /// Puts a line after the others. It fails only out of memory, and then the figure is as before.
     pub fn add_line(&mut self, l: Straight) -> Result<(), AllocError>
         requires few { length self.old.lines < 24 }
         requires small { IsTrue (spec.is_small_line l) }
@@ -118,7 +118,7 @@ impl Figure {
         Ok(())
     }
 
-    /// Puts a circle behind the others. It fails only for want of memory, and then the figure is as before.
+    /// Puts a circle after the others. It fails only out of memory, and then the figure is as before.
     pub fn add_circle(&mut self, c: Round) -> Result<(), AllocError>
         requires few { length self.old.circles < 16 }
         requires small { IsTrue (spec.is_small_circle c) }

@@ -76,7 +76,7 @@ fn coefficient_in(summands: &[(i64, Term)], term: Term) -> i64
     0
 }
 
-/// Whether no term stands twice.
+/// Whether no term comes twice.
 pub fn are_distinct(summands: &[(i64, Term)]) -> bool
     ensures { result ≡ have_distinct_terms summands.now }
 {
@@ -86,7 +86,7 @@ pub fn are_distinct(summands: &[(i64, Term)]) -> bool
     }
 }
 
-/// Whether the term stands in the form.
+/// Whether the term is in the form.
 pub fn stands_in(summands: &[(i64, Term)], term: Term) -> bool
     ensures { result ≡ list_any (λ q. term_eq q.1 term) summands.now }
 {

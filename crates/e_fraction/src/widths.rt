@@ -64,7 +64,7 @@ fn times_weights(product: u128, rows: &[Row], i: usize) -> u128
     product
 }
 
-/// Whether the term stands neither in one of the rows nor in the form.
+/// Whether the term is neither in one of the rows nor in the form.
 fn is_new(rows: &[Row], form: &[(i64, Term)], term: Term) -> bool
     ensures { result
         ≡ not (is_among (terms_of_rows (all_seen rows.now) ++ map (λ p. p.1) form.now) term) }
@@ -72,7 +72,7 @@ fn is_new(rows: &[Row], form: &[(i64, Term)], term: Term) -> bool
     !stands_in(form, term) && !occurs(rows, term)
 }
 
-/// Whether the term stands in one of the rows.
+/// Whether the term is in one of the rows.
 fn occurs(rows: &[Row], term: Term) -> bool
     ensures { result ≡ list_any (λ r. list_any (λ q. term_eq q.1 term) r.form) rows.now }
 {

@@ -6,7 +6,7 @@ ghost use Rattle.e_generate.specs.Generated.{numbers};
 use std::alloc::{AllocError, Global};
 use std::fmt::Write;
 
-/// A point behind a space.
+/// A point after a space.
 fn put_point(out: &mut String, number: u32) -> Result<(), AllocError>
     ensures { OnOk result (string_bytes out.new ≡ string_bytes out.old ++ Generated.point number) }
 {
@@ -23,7 +23,7 @@ fn put_points(out: &mut String, count: u32) -> Result<(), AllocError>
     Ok(())
 }
 
-/// A segment behind a space.
+/// A segment after a space.
 fn put_segment(out: &mut String, from: u32, to: u32) -> Result<(), AllocError>
     ensures { OnOk result (string_bytes out.new ≡ string_bytes out.old ++ Generated.segment from to) }
 {
@@ -59,7 +59,7 @@ fn put_added(out: &mut String, i: u32) -> Result<(), AllocError>
     write!(out, " + seg p{i} p{after}")
 }
 
-/// The lengths between neighbours behind the first.
+/// The lengths between neighbours after the first.
 fn put_sum(out: &mut String, last: u32) -> Result<(), AllocError>
     requires { (3 ≤ last) × (last < 2 ^ 16) }
     ensures { OnOk result (string_bytes out.new ≡ string_bytes out.old ++ flat_map Generated.added (numbers 1 (last - 1))) }
@@ -209,7 +209,7 @@ fn put_theorem(out: &mut String, number: u32) -> Result<(), AllocError>
     put_proof(out, number, last)
 }
 
-/// The book of so many theorems. It fails only for want of memory.
+/// The book of this many theorems. It fails only out of memory.
 pub fn generated(alloc: Global, theorems: u32) -> Result<Vec<u8>, AllocError>
     requires { theorems ≤ 500 }
     ensures { IfOk result (λ v. v.items ≡ Generated.generated_text theorems) }

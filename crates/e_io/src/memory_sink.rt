@@ -31,10 +31,10 @@ impl Model for MemSink {
 }
 
 impl MemSink {
-    /// An empty store with room for so many bytes. A call fails exactly where its number, from 0, is
-    /// in `fail`, or where `room` bytes are already written; each other call takes the least of
+    /// An empty store with room for this many bytes. A call fails exactly where its number, from 0,
+    /// is in `fail`, or where `room` bytes are already written; each other call takes the least of
     /// `piece`, the bytes offered and the room left. The memory for `room` bytes is taken here and
-    /// none later. The number of the next call and the count of faults stand still at 2^64 - 1.
+    /// none later. The number of the next call and the count of faults stay at 2^64 - 1.
     pub fn new(
         alloc: Global,
         room: usize,

@@ -5,10 +5,10 @@ use e_text::Title;
 /// How a derivation text is judged.
 #[derive(Clone, Copy, Debug, PartialEq, Eq)]
 pub enum Judgement {
-    /// Each line has a form, and each certificate certifies at its own line.
+    /// No line is malformed at its place, and each certificate certifies at its own step.
     Verified { theorems: u32 },
-    /// The first line that is not certified: the theorem, and the number of the line among its steps and closes.
+    /// The first step that is not certified: the theorem, and the number of the line among its steps and closes.
     Bad { title: Title, step: u32 },
-    /// The first line that has no form at its place.
+    /// The first line that is malformed at its place.
     Garbled { line: u64 },
 }

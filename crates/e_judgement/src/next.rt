@@ -32,7 +32,7 @@ pub enum NextItem {
     End(Judgement),
 }
 
-/// Behind the last line of a text nothing stands.
+/// After the last line of a text nothing comes.
 fn after_last_line(lines: &mut Lines, theorems: u32) -> Judgement
     ensures { result ≡ JudgedBehind theorems lines.old.lines }
 {
@@ -59,7 +59,8 @@ fn check(alloc: Global, known: &Theorems, theorem: &Theorem) -> Result<(), Rejec
     )
 }
 
-/// The next theorem of a text of this version, if it is certified by those that are known; else how the text is judged. It fails only for want of memory.
+/// The next theorem of a text of this version, if it is certified by those that are known; else how the text is judged. It fails only out
+/// of memory.
 pub fn next_item(
     alloc: Global,
     version: Version,

@@ -43,7 +43,7 @@ fn arguments_of(alloc: Global, words: &[&[u8]]) -> Result<Items<Option<Name>>, L
     Ok(args)
 }
 
-/// The words behind `as`, at least one name.
+/// The words after `as`, at least one name.
 fn made_names(alloc: Global, making: bool, words: &[&[u8]]) -> Result<Items<Name>, LineError>
     ensures { Gives (λ n. n) result (made_names making (texts words.now)) }
 {
@@ -54,7 +54,7 @@ fn made_names(alloc: Global, making: bool, words: &[&[u8]]) -> Result<Items<Name
     }
 }
 
-/// What stands behind `apply`: a title, arguments, and perhaps `as` with names behind it.
+/// What comes after `apply`: a title, arguments, and perhaps `as` with names after it.
 #[tactic(auto, unfolding(crate::specs::Applies::apply_of, crate::specs::Reading::title_at, crate::specs::Reading::word_at))]
 pub(crate) fn apply_of(alloc: Global, words: &[&[u8]]) -> Result<RawApply, LineError>
     ensures { Gives (λ a. a) result (apply_of (texts words.now)) }

@@ -56,7 +56,7 @@ pub enum What {
     Number,
 }
 
-/// What is wrong with a line, or want of memory.
+/// What is wrong with a line, or out of memory.
 #[derive(Drop)]
 pub enum LineError {
     NoMemory,
@@ -79,10 +79,10 @@ impl<T: Drop> From<AllocFailed<T>> for LineError {
     }
 }
 
-/// What is wrong with a book, and at which line; or want of memory.
+/// What is wrong with a book, and at which line; or out of memory.
 #[derive(Clone, Copy, Debug, PartialEq, Eq, Error)]
 pub enum BookFault {
-    /// The line has no form at its place, or a wrong number of names.
+    /// The line is malformed at its place, or has a wrong number of names.
     #[error("line {line} has no form here")]
     Malformed { line: u32 },
     /// A name that is not in scope, or a rule, a theorem or a definition that there is not.
@@ -97,7 +97,7 @@ pub enum BookFault {
     WrongSort { line: u32 },
     #[error("line {line} passes the limit on {what:?}")]
     Limit { line: u32, what: What },
-    /// The text ends inside a theorem or a definition; the line is the one behind the last.
+    /// The text ends inside a theorem or a definition; the line is the one after the last.
     #[error("the text ends inside a theorem or a definition, at line {line}")]
     Unended { line: u32 },
     #[error("out of memory")]

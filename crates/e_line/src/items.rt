@@ -1,5 +1,5 @@
-//! The lines of a book, told from their words by spelling alone: those of theorems, with items among their literals,
-//! and the first line of a definition.
+//! The lines of a book, known from their words by spelling alone: those of theorems, with items among their
+//! literals, and the first line of a definition.
 ghost use Rattle.std.specs.Prelude.{◌≡◌, ◌&&◌, [], ◌∷◌};
 ghost use Rattle.std.specs.Str.{bytes_eq};
 ghost use Rattle.e_line.specs.Reading.{texts, Gives, Moves, with_front};
@@ -23,7 +23,7 @@ pub struct RawAs {
     pub args: Items<Name>,
 }
 
-/// What stands between two semicolons.
+/// What is between two semicolons.
 #[derive(Drop)]
 pub enum RawItem {
     Literal(RawLit),
@@ -52,7 +52,7 @@ pub enum BookLine {
     Listed(Listing, Items<RawItem>),
 }
 
-/// What stands behind `as` in a list of literals: a title and names.
+/// What comes after `as` in a list of literals: a title and names.
 #[tactic(auto, unfolding(crate::specs::Items::as_of, crate::specs::Reading::title_at, crate::specs::Reading::word_at))]
 fn as_of(alloc: Global, words: &[&[u8]]) -> Result<RawAs, LineError>
     ensures { Gives (λ a. a) result (as_of (texts words.now)) }
@@ -116,7 +116,7 @@ fn begins_item(words: &[&[u8]]) -> bool
     }
 }
 
-/// Whether an item stands among the literals.
+/// Whether an item is among the literals.
 fn has_item(words: &[&[u8]]) -> bool
     ensures { result ≡ has_item (texts words.now) }
 {

@@ -1,4 +1,4 @@
-//! The lines of constructions, told from their words by spelling alone.
+//! The lines of constructions, known from their words by spelling alone.
 ghost use Rattle.std.specs.Prelude.{◌≡◌, List, map, slice_get, false, IfOk};
 ghost use Rattle.std.specs.Option.{option_map_or};
 ghost use Rattle.e_construct.specs.Views.{piece_view};
@@ -15,7 +15,7 @@ use std::alloc::{AllocError, Global};
 /// A construction with its names as they are spelled, each list from left to right.
 #[derive(Drop)]
 pub struct RawLet {
-    /// The shapes whose line it is, in the order of their table: which one is told by the sorts of the arguments.
+    /// The shapes whose line it is, in the order of their table: the sorts of the arguments say which one.
     pub shapes: Items<Shape>,
     /// The names of the new objects.
     pub new: Items<Name>,
@@ -114,7 +114,7 @@ pub(crate) fn names_at(
     Ok(names)
 }
 
-/// The words behind `avoid`, where that stands there.
+/// The words after `avoid`, where it is there.
 fn avoided_of(alloc: Global, avoiding: bool, words: &[&[u8]]) -> Result<Items<Name>, LineError>
     ensures { Gives (λ n. n) result (avoided_of avoiding (texts words.now)) }
 {
@@ -148,7 +148,7 @@ fn let_named(
     })
 }
 
-/// What stands behind `let`: the line of a shape or of several, and perhaps `avoid` with names behind it.
+/// What comes after `let`: the line of a shape or of several, and perhaps `avoid` with names after it.
 #[tactic(auto, unfolding(crate::specs::Lets::let_of))]
 pub(crate) fn let_of(alloc: Global, words: &[&[u8]]) -> Result<RawLet, LineError>
     ensures { Gives (λ l. l) result (let_of (texts words.now)) }

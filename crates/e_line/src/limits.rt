@@ -13,7 +13,7 @@ use crate::sum::{MAX_COEFFICIENT, RawMono};
 /// How many monomials a literal may have, as it is written.
 pub const MAX_MONOMIALS: usize = 32;
 
-/// At most so many, or the limit.
+/// At most this many, or the limit.
 pub fn within(count: usize, most: usize, what: What) -> Result<(), LineError>
     ensures { Gives (λ u. u) result (within count most what) }
 {

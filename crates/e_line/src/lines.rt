@@ -1,4 +1,4 @@
-//! The line of each form, with the names that it has, and without its end. It fails only for want of memory.
+//! The line of each form, with the names that it has, and without its end. It fails only out of memory.
 ghost use Rattle.std.specs.Prelude.{◌≡◌, ◌++◌, ◌∷◌, [], codes, map, OnOk};
 ghost use Rattle.e_text.specs.Tokens.{spaced};
 ghost use Rattle.e_construct.specs.Views.{piece_view};
@@ -16,7 +16,7 @@ use e_text::Name;
 use e_words::{put, put_names};
 use std::alloc::AllocError;
 
-/// A citation behind its first word.
+/// A citation after its first word.
 fn put_citation(
     out: &mut Vec<u8>,
     rule: &[u8],
@@ -105,7 +105,7 @@ fn put_avoided(out: &mut Vec<u8>, avoid: &[Name]) -> Result<(), AllocError>
     put_names(out, avoid)
 }
 
-/// A construction behind its first word.
+/// A construction after its first word.
 fn put_construction(
     out: &mut Vec<u8>,
     shapes: &[Shape],
@@ -164,7 +164,7 @@ fn put_made(out: &mut Vec<u8>, new: &[Name]) -> Result<(), AllocError>
     put_names(out, new)
 }
 
-/// The use of an earlier theorem behind its first word.
+/// The use of an earlier theorem after its first word.
 fn put_use(
     out: &mut Vec<u8>,
     title: &[u8],
@@ -192,7 +192,7 @@ pub fn put_apply(
     put_use(out, title, args, new)
 }
 
-/// A superposition behind its first word.
+/// A superposition after its first word.
 #[tactic(auto, using(e_words::proofs::Spaced::spaced_append))]
 fn put_superposition(
     out: &mut Vec<u8>,

@@ -1,4 +1,4 @@
-//! The forms of literals, told from their words by spelling alone.
+//! The forms of literals, known from their words by spelling alone.
 ghost use Rattle.std.specs.Prelude.{◌≡◌, ◌∷◌, ◌≤◌, List, length};
 ghost use Rattle.std.specs.List.{list_all, position_or_len};
 ghost use Rattle.e_line.specs.Reading.{texts, Gives, Moves, with_front};
@@ -158,7 +158,7 @@ fn sides_of(
     }
 }
 
-/// Whether it is a negation: `!=` is one, and `not` may stand before neither it nor `<=`.
+/// Whether it is a negation: `!=` is one, and `not` may come before neither it nor `<=`.
 fn negation_of(negated: bool, sign: Sign) -> Result<bool, LineError>
     ensures { Gives (λ n. n) result (negation_of negated sign) }
 {
@@ -252,7 +252,7 @@ fn signed_of(alloc: Global, neg: bool, words: &[&[u8]]) -> Result<RawLit, LineEr
     }
 }
 
-/// A literal; `not` stands once before any form but those with `!=` and `<=`.
+/// A literal; `not` comes once before any form but those with `!=` and `<=`.
 #[tactic(auto, unfolding(crate::specs::Literals::lit_of))]
 pub fn lit_of(alloc: Global, words: &[&[u8]]) -> Result<RawLit, LineError>
     ensures { Gives (λ l. l) result (lit_of (texts words.now)) }

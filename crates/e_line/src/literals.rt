@@ -9,7 +9,7 @@ use e_text::Name;
 use e_words::{put, put_coefficient, put_four, put_three};
 use std::alloc::AllocError;
 
-/// Writes a term, each word behind a space. It fails only for want of memory.
+/// Writes a term, each word after a space. It fails only out of memory.
 pub fn put_term(out: &mut Vec<u8>, term: &RawTerm) -> Result<(), AllocError>
     ensures { OnOk result (out.new.items ≡ out.old.items ++ spaced (term_words term.now)) }
 {
@@ -29,7 +29,7 @@ fn put_mono(out: &mut Vec<u8>, mono: &RawMono) -> Result<(), AllocError>
     put_term(out, &mono.term)
 }
 
-/// More monomials, each behind a plus.
+/// More monomials, each after a plus.
 #[tactic(auto, using(e_words::proofs::Spaced::spaced_append))]
 fn put_more(out: &mut Vec<u8>, monos: &[RawMono]) -> Result<(), AllocError>
     ensures { OnOk result (out.new.items ≡ out.old.items ++ spaced (more_monos monos.now)) }
@@ -55,7 +55,7 @@ fn put_sum(out: &mut Vec<u8>, sum: &[RawMono]) -> Result<(), AllocError>
     }
 }
 
-/// A sum behind a sign.
+/// A sum after a sign.
 fn put_side(out: &mut Vec<u8>, sign: &[u8], sum: &[RawMono]) -> Result<(), AllocError>
     ensures { OnOk result (out.new.items ≡ out.old.items ++ spaced (sign.now ∷ sum_words sum.now)) }
 {
@@ -115,7 +115,7 @@ fn put_not(out: &mut Vec<u8>, atom: &RawAtom) -> Result<(), AllocError>
     }
 }
 
-/// Writes a literal, each word behind a space. It fails only for want of memory.
+/// Writes a literal, each word after a space. It fails only out of memory.
 pub fn put_literal(out: &mut Vec<u8>, lit: &RawLit) -> Result<(), AllocError>
     ensures { OnOk result (out.new.items ≡ out.old.items ++ spaced (lit_words lit.now)) }
 {
@@ -126,7 +126,7 @@ pub fn put_literal(out: &mut Vec<u8>, lit: &RawLit) -> Result<(), AllocError>
     }
 }
 
-/// More literals, each behind a semicolon.
+/// More literals, each after a semicolon.
 fn put_more_literals(out: &mut Vec<u8>, lits: &[RawLit]) -> Result<(), AllocError>
     ensures { OnOk result (out.new.items ≡ out.old.items ++ spaced (more_words lits.now)) }
 {

@@ -1,4 +1,4 @@
-//! The forms of lines, told from their words by spelling alone.
+//! The forms of lines, known from their words by spelling alone.
 ghost use Rattle.std.specs.Prelude.{◌≡◌, List, length, IfOk, [], ◌∷◌, ◌==◌};
 ghost use Rattle.e_line.specs.Reading.{texts, Gives};
 ghost use Rattle.e_line.specs.RawLines.{declare_of, sort_of, made_of, by_of, raw_line_of, raw_line_named, theorem_of, bare};
@@ -35,7 +35,7 @@ pub enum RawLine {
     Hence(RawLit),
     /// `let ..`, a construction
     Let(RawLet),
-    /// `apply TITLE ARGUMENTS`, or with `as NAMES` behind
+    /// `apply TITLE ARGUMENTS`, or with `as NAMES` after
     Apply(RawApply),
     /// `qed`, or `qed NAMES`
     Qed(Items<Name>),

@@ -54,7 +54,7 @@ fn is_strict(form: &RawLine) -> bool
     }
 }
 
-/// The line of a form, made in room for so many bytes.
+/// The line of a form, made in room for this many bytes.
 fn line_of(alloc: Global, form: &RawLine, room: usize) -> Result<Vec<u8>, AllocError>
     ensures { IfOk result (λ line. line.items ≡ line_of form.now) }
 {

@@ -1,4 +1,4 @@
-//! The forms of sums, told from their words by spelling alone.
+//! The forms of sums, known from their words by spelling alone.
 ghost use Rattle.std.specs.Prelude.{◌≡◌, true};
 ghost use Rattle.e_line.specs.Reading.{texts, Gives, Moves, with_front, each};
 ghost use Rattle.e_line.specs.Sums.{term_named, term_of, coefficient_of, counted_term, mono_of, is_plus, is_zero, sum_of};
@@ -80,7 +80,7 @@ fn coefficient_of(word: &[u8]) -> u32
     }
 }
 
-/// A term behind a numeral.
+/// A term after a numeral.
 #[tactic(auto, unfolding(crate::specs::Sums::counted_term))]
 fn counted_term(word: &[u8], rest: &[&[u8]]) -> Result<RawMono, LineError>
     requires { is_numeral word.now ≡ true }

@@ -23,7 +23,7 @@ pub struct RawSuperpose {
     pub shown: Items<RawLit>,
 }
 
-/// How many words stand before the literals.
+/// How many words come before the literals.
 const HEAD: usize = 13;
 
 static PIECES: [Piece; 13] = [
@@ -42,7 +42,7 @@ static PIECES: [Piece; 13] = [
     Piece::Word(b"show"),
 ];
 
-/// The words of a superposition from behind its first word to the literals that its block shows: the triangle and its line, the
+/// The words of a superposition after its first word, up to the literals that its block shows: the triangle and its line, the
 /// place and its line, and the names of the copied points. They are thirteen.
 pub fn superposition_pieces() -> &'static [Piece]
     ensures { map piece_view result.now ≡ superpose_pieces }
@@ -50,7 +50,7 @@ pub fn superposition_pieces() -> &'static [Piece]
     &PIECES
 }
 
-/// The words up to `show`, and those behind them.
+/// The words up to `show`, and those after them.
 pub(crate) fn parted<'a, 'b>(words: &'a [&'b [u8]]) -> (&'a [&'b [u8]], &'a [&'b [u8]])
     ensures head { texts result.0.now ≡ take 13 (texts words.now) }
     ensures rest { texts result.1.now ≡ drop 13 (texts words.now) }
@@ -72,7 +72,7 @@ fn head_of(alloc: Global, head: &[&[u8]], rest: &[&[u8]]) -> Result<RawSuperpose
     Ok(RawSuperpose { args, new, shown })
 }
 
-/// What stands behind `superpose`: the objects, the new names, and at least one literal.
+/// What comes after `superpose`: the objects, the new names, and at least one literal.
 #[tactic(auto, unfolding(crate::specs::Superposes::superpose_of))]
 pub(crate) fn superpose_of(alloc: Global, words: &[&[u8]]) -> Result<RawSuperpose, LineError>
     ensures { Gives (λ s. s) result (superpose_of (texts words.now)) }

@@ -24,7 +24,7 @@ pub fn sort_word(sort: Sort) -> &'static [u8]
     }
 }
 
-/// The tokens of a line, kept in room for as many as the line can have. It fails only for want of memory.
+/// The tokens of a line, kept in room for as many as the line can have. It fails only out of memory.
 pub fn collected(alloc: Global, line: &[u8]) -> Result<Vec<&[u8]>, AllocError>
     ensures { IfOk result (λ v. texts v.items ≡ tokens_of line.now) }
 {
@@ -35,7 +35,7 @@ pub fn collected(alloc: Global, line: &[u8]) -> Result<Vec<&[u8]>, AllocError>
     Ok(words)
 }
 
-/// Where a word stands first, or the number of words.
+/// Where a word comes first, or the number of words.
 pub fn place_of(words: &[&[u8]], word: &[u8]) -> usize
     ensures place { result ≡ position_or_len (λ w. bytes_eq w word.now) (texts words.now) }
     ensures within { result ≤ length words.now }
@@ -48,7 +48,7 @@ pub fn place_of(words: &[&[u8]], word: &[u8]) -> usize
     words.len()
 }
 
-/// The words before a word, those behind it, and whether it is there.
+/// The words before a word, those after it, and whether it is there.
 pub fn cut<'b, 'a>(words: &'b [&'a [u8]], word: &[u8]) -> (&'b [&'a [u8]], &'b [&'a [u8]], bool)
     ensures cut { cut_at word.now (texts words.now) ≡ (texts result.0.now, texts result.1.now, result.2) }
     ensures shorter { IsTrue result.2 → length result.1.now < length words.now }

@@ -43,7 +43,7 @@ impl Map {
         }
     }
 
-    /// The map that sends each object to the one in its place, and an object that stands twice to
+    /// The map that sends each object to the one in its place, and an object that comes twice to
     /// that of its first place.
     ///
     /// It fails only when out of memory.

@@ -12,9 +12,9 @@ use std::collections::BTreeMap;
 /// The normal form of a literal. Those of two literals are equal exactly where the literals are the
 /// same.
 ///
-/// A diagram literal is its own normal form. Of a metric one all terms stand on one side, each in
-/// its normal order and once, and those with coefficient 0 are dropped; an equation has one normal
-/// form for both signs.
+/// A diagram literal is its own normal form. Of a metric one all terms are on one side, each in its
+/// normal order and once, and those with coefficient 0 are dropped; an equation has one normal form
+/// for both signs.
 #[derive(PartialEq, Eq, Drop)]
 pub struct Normal {
     pub(crate) negated: bool,

@@ -36,7 +36,7 @@ impl Known {
         self.theorems.is_known(title) || self.notions.is_known(title)
     }
 
-    /// Puts a theorem last. After want of memory all is as before.
+    /// Puts a theorem last. When memory runs out all is as before.
     pub fn add(&mut self, title: Title, statement: Statement) -> Result<(), AllocError>
         requires new { is_taken self.old title ≡ false }
         ensures ok { OnOk result (self.new ≡ record self.old { theorems = self.old.theorems ++ headed title statement ∷ [] }) }
@@ -45,7 +45,7 @@ impl Known {
         self.theorems.add(title, statement)
     }
 
-    /// Puts a definition last. After want of memory all is as before.
+    /// Puts a definition last. When memory runs out all is as before.
     pub fn add_notion(&mut self, title: Title, notion: Notion) -> Result<(), AllocError>
         requires new { is_taken self.old title ≡ false }
         ensures ok { OnOk result (self.new ≡ record self.old { notions = self.old.notions ++ titled title notion ∷ [] }) }

@@ -59,7 +59,7 @@ fn meant_in(
     }
 }
 
-/// Puts last what an item stands for, with names; so many literals of the line are of notions, and with it so many.
+/// Puts last what an item stands for, with names, and counts on: how many literals of the line are of notions.
 fn put_item(
     alloc: Global,
     notions: &Notions,

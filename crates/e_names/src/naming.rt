@@ -141,7 +141,7 @@ fn raw_negated(alloc: Global, names: &Names, atom: &Atom) -> Result<RawLit, Allo
     }
 }
 
-/// A literal with the names of its objects. It fails only for want of memory.
+/// A literal with the names of its objects. It fails only out of memory.
 pub fn raw_of(alloc: Global, names: &Names, lit: &Lit) -> Result<RawLit, AllocError>
     ensures { IfOk result (λ l. l ≡ raw_of names.now lit.now) }
 {
@@ -168,7 +168,7 @@ pub(crate) fn put_named(
     Ok(())
 }
 
-/// The literals with the names of their objects. It fails only for want of memory.
+/// The literals with the names of their objects. It fails only out of memory.
 pub fn raw_lits(alloc: Global, names: &Names, lits: &[Lit]) -> Result<Items<RawLit>, AllocError>
     ensures { IfOk result (λ r. r ≡ map (raw_of names.now) lits.now) }
 {

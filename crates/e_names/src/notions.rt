@@ -46,7 +46,7 @@ impl Notions {
         self.notions.len()
     }
 
-    /// Puts a notion last. After want of memory all is as before.
+    /// Puts a notion last. When memory runs out all is as before.
     pub fn add(&mut self, title: Title, notion: Notion) -> Result<(), AllocError>
         requires new { defines self.old title ≡ false }
         ensures ok { OnOk result (self.new ≡ self.old ++ titled title notion ∷ []) }

@@ -29,7 +29,7 @@ pub fn scope_of_names(names: &Names) -> Scope
     }
 }
 
-/// New names, each behind those of its sort.
+/// New names, each after those of its sort.
 pub fn put_names(names: &mut Names, sorts: &[Sort], new: &[Name]) -> Result<(), AllocError>
     ensures { OnOk result (names.new ≡ named names.old sorts.now new.now) }
 {
@@ -109,7 +109,7 @@ fn line_meets(line: u16, object: Obj) -> Result<Atom, LineError>
     }
 }
 
-/// What meets the first object: behind a line a line or a circle, behind a circle a circle.
+/// What meets the first object: after a line a line or a circle, after a circle a circle.
 fn meets_from(names: &Names, first: Obj, second: Name) -> Result<Atom, LineError>
     requires { FewNames names.now }
     ensures { Gives (λ a. a) result (meets_from names.now first.sort first.num second) }
@@ -338,7 +338,7 @@ pub fn by_in(
     Ok(By { rule, args, lit })
 }
 
-/// The arguments of a construction: each has a sort that one of the shapes takes behind the earlier arguments.
+/// The arguments of a construction: each has a sort that one of the shapes takes after the earlier arguments.
 fn arguments_in(
     alloc: Global,
     names: &Names,
@@ -435,7 +435,7 @@ pub(crate) fn objects_of_sorts(
     Ok(found)
 }
 
-/// The objects behind `qed`: as many as there are made ones, and then each of its sort.
+/// The objects after `qed`: as many as there are made ones, and then each of its sort.
 #[tactic(auto, unfolding(crate::specs::Scope::qed_in))]
 pub fn qed_in(
     alloc: Global,

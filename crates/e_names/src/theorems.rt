@@ -46,7 +46,7 @@ impl Theorems {
         self.statements.len()
     }
 
-    /// Puts a theorem last. After want of memory all is as before.
+    /// Puts a theorem last. When memory runs out all is as before.
     pub fn add(&mut self, title: Title, statement: Statement) -> Result<(), AllocError>
         requires new { is_known self.old title ≡ false }
         ensures ok { OnOk result (self.new ≡ self.old ++ headed title statement ∷ []) }
@@ -66,7 +66,7 @@ impl Theorems {
         self.titles.contains(&title)
     }
 
-    /// Where the theorem with this title stands.
+    /// Where the theorem with this title is.
     pub fn place(&self, title: Title) -> Option<usize>
         ensures { result ≡ place_in self.now title }
     {

@@ -6,7 +6,7 @@ pub fn derivations_are_of_books()
     ensures { DerivationsAreOfBooks }
 {}
 
-/// The garbled line is the first that has no form at its place, and depends on the lines up to it
+/// The garbled line is the first that is malformed at its place, and depends on the lines up to it
 /// alone; or no line is wrong, and they end too soon.
 pub fn garbled_line_is_first()
     ensures { GarbledLineIsFirst }

@@ -23,7 +23,7 @@ use std::alloc::{AllocError, Global};
 use std::mem;
 use thiserror::Error;
 
-/// What stands in a derivation text.
+/// What is in a derivation text.
 #[derive(Drop)]
 pub enum Piece {
     /// A theorem with its derivation.
@@ -35,7 +35,7 @@ pub enum Piece {
 /// Why a derivation text is refused.
 #[derive(Clone, Copy, Debug, PartialEq, Eq, Error)]
 pub enum TextFault {
-    /// The first line that has no form at its place; or, where the text ends too early, the line behind its last.
+    /// The first line that is malformed at its place; or, where the text ends too early, the line after its last.
     #[error("line {line} has no form here")]
     Garbled { line: u64 },
     #[error("out of memory")]
@@ -167,9 +167,10 @@ fn read_piece(
 
 /// The next theorem with its derivation, or the last line, in a text of this version.
 ///
-/// It takes the lines up to the theorem's `end`, or the last line alone. A line is garbled where it is the first that has no form
-/// at its place; after that the lines are not used again. The lines are those of a text with at most 262,144 bytes a line.
-/// The known theorems are statements, as each is that is read, and may be more than a text may have: then none is read any more.
+/// It takes the lines up to the theorem's `end`, or the last line alone. A line is garbled where it is the first that is
+/// malformed at its place; after that the lines are not used again. The lines are those of a text with at most 262,144 bytes a
+/// line. The known theorems are statements, as each is that is read, and may be more than a text may have: then none is read any
+/// more.
 pub fn read(
     alloc: Global,
     lines: &mut Lines,

@@ -28,7 +28,7 @@ use e_words::put_number;
 use std::alloc::{AllocError, Global};
 use std::mem;
 
-/// What the lines of a block have said so far.
+/// What has come of the lines of a block.
 #[derive(Drop)]
 pub struct BlockParser {
     /// The version of the text.
@@ -367,7 +367,7 @@ impl BlockParser {
     }
 }
 
-/// The last line of a text with so many theorems.
+/// The last line of a text with this many theorems.
 fn last_line_of(alloc: Global, theorems: usize) -> Result<Vec<u8>, AllocError>
     ensures { IfOk result (λ v. v.items ≡ last_line_of theorems) }
 {

@@ -1,4 +1,4 @@
-//! What holds between reading, spelling and judging: each law is the contract of a function.
+//! What holds between reading, spelling and verifying: each law is the contract of a function.
 ghost use Rattle.e_roundtrip.specs.Laws.{ReadIsSpelled, ReadTextIsSpelled, ReadCanBeSpelled, SpelledIsRead, CertifiedIsFormed, FilledHasSpelling, TrimmedHasSpelling, WrittenIsJudged, WrittenIsVerified, VerifiedIsWritten};
 
 /// The lines that are read as a theorem with its derivation are exactly the lines of its one spelling.

@@ -1,4 +1,4 @@
-//! The laws between reading, spelling and judging.
+//! The laws between reading, spelling and verifying.
 #![tactic(auto)]
 
 mod laws;

@@ -15,7 +15,7 @@ use e_io::{Sink, Source};
 use e_line::BookFault;
 use std::alloc::Global;
 
-/// Whether the fault is want of memory, which says nothing of the text.
+/// Whether the fault is out of memory, which says nothing of the text.
 pub fn lacks_memory(fault: BookFault) -> bool
     ensures { result ≡ lacks_memory fault }
 {

@@ -54,7 +54,7 @@ pub fn verified(alloc: Global, theorems: u32) -> Result<Vec<u8>, AllocError>
     line_with(alloc, b"verified ", u64::from(theorems), b"\n")
 }
 
-/// The line behind the lines of the theorems that a derivation text applies.
+/// The line after the lines of the theorems that a derivation text applies.
 pub fn listed(alloc: Global, theorems: u32) -> Result<Vec<u8>, AllocError>
     ensures { IfOk result (λ v. v.items ≡ listed_line theorems) }
 {
@@ -72,7 +72,7 @@ pub fn bad(alloc: Global, title: Title, step: u32) -> Result<Vec<u8>, AllocError
     Ok(line)
 }
 
-/// The line of a line that has no form at its place.
+/// The line of a line that is malformed at its place.
 pub fn garbled(alloc: Global, number: u64) -> Result<Vec<u8>, AllocError>
     ensures { IfOk result (λ v. v.items ≡ garbled_line number) }
 {

@@ -86,7 +86,7 @@ fn trimmed_block(alloc: Global, known: &Theorems, theorem: &Theorem) -> Result<V
     block
 }
 
-/// The title at a place, behind a space; past the end no word.
+/// The title at a place, after a space; past the end no word.
 #[tactic(auto, using(crate::proofs::UsedTitles::titles_at))]
 fn put_title_at(out: &mut Vec<u8>, known: &Theorems, place: usize) -> Result<(), AllocError>
     ensures { OnOk result (out.new.items ≡ out.old.items ++ Rewrites.title_word known.now place) }
@@ -99,7 +99,7 @@ fn put_title_at(out: &mut Vec<u8>, known: &Theorems, place: usize) -> Result<(),
     }
 }
 
-/// The titles at the places, each behind a space.
+/// The titles at the places, each after a space.
 fn put_titles(out: &mut Vec<u8>, known: &Theorems, places: &[u32]) -> Result<(), AllocError>
     ensures { OnOk result (out.new.items ≡ out.old.items ++ flat_map (Rewrites.title_word known.now) places.now) }
 {

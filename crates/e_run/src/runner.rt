@@ -39,17 +39,17 @@ use std::alloc::Global;
 ///
 /// - `Accepted`: each theorem of the book has a derivation that proves it, each certificate of which is right at its own line; the
 ///   bytes written spell them, and are verified.
-/// - `Unlicensed`: all lines before the named one are licensed, and the named literal is not allowed there, or the facts there do not
+/// - `Unlicensed`: all steps before the named one are licensed, and the named literal is not allowed there, or the facts there do not
 ///   contradict each other where a contradiction is wanted. The values, which are in the last lines for a metric literal and for a
 ///   contradiction and for nothing else, make the facts true and the literal false.
-/// - `TooWide`: all lines before the named one are licensed, and a minor of a linear system of what is wanted there has size at least
+/// - `TooWide`: all steps before the named one are licensed, and a minor of a linear system of what is wanted there has size at least
 ///   2^63; the width is that of such a system.
 /// - `Fault`: that is the first fault of the book, or of the figure text.
 /// - `Drawn`: what was written is what the figure text has as its answer.
 /// - `Verified`, `Bad`, `Garbled`: that is the judgement of the derivation text, found without any search; a text that is verified
 ///   spells proofs.
-/// - `Made`: that book was written. `Tried`: it is accepted, with the N theorems that were asked for and so many steps, and what
-///   `check` writes of it is verified.
+/// - `Made`: that book was written. `Tried`: it is accepted, with the N theorems that were asked for and this many steps, and
+///   what `check` writes of it is verified.
 /// - `Suggested`: the lines apply earlier theorems of at most six declared objects before the step, each at a choice of arguments at which
 ///   each given literal is allowed: the first 1,000 of all these choices, and none is missing before the last.
 /// - `NoStep`: the theorem has fewer steps, or the whole book is accepted and no theorem of it has this title.

@@ -14,7 +14,8 @@ pub enum Status {
     Accepted {
         theorems: u32,
     },
-    /// Each line of the derivation text has a form, and each certificate certifies at its own line.
+    /// No line of the derivation text is malformed at its place, and each certificate certifies at
+    /// its own step.
     Verified {
         theorems: u32,
     },
@@ -27,12 +28,12 @@ pub enum Status {
         theorems: u32,
         steps: u32,
     },
-    /// Each line of the derivation text has a form, and each certificate certifies at its own line; its theorems are written in the
-    /// second version.
+    /// No line of the derivation text is malformed at its place, and each certificate certifies at its own step; its theorems are
+    /// written in the second version.
     Upgraded {
         theorems: u32,
     },
-    /// The figure text is answered, with so many shown literals.
+    /// The figure text is answered, with this many shown literals.
     Drawn {
         shown: u64,
     },
@@ -51,7 +52,7 @@ pub enum Status {
     Listed {
         theorems: u32,
     },
-    /// The first line that is not licensed, and what it lacks.
+    /// The first step that is not licensed, and what it lacks.
     Unlicensed {
         title: Title,
         step: u32,
@@ -60,7 +61,7 @@ pub enum Status {
         /// follow.
         values: Option<Values>,
     },
-    /// Each line before is licensed, and a minor of a system of this one has size at least 2^63.
+    /// Each step before is licensed, and a minor of a system of this one has size at least 2^63.
     TooWide {
         title: Title,
         step: u32,
@@ -75,7 +76,7 @@ pub enum Status {
     },
     /// The first fault of the book, or of the figure text.
     Fault(BookFault),
-    /// The first line of the derivation text that has no form at its place.
+    /// The first line of the derivation text that is malformed at its place.
     Garbled {
         line: u64,
     },

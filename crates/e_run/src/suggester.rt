@@ -48,7 +48,7 @@ fn no_step(alloc: Global) -> Result<Answer, AllocError>
     })
 }
 
-/// A fault, which is not want of memory.
+/// A fault other than out of memory.
 fn faulty(alloc: Global, at: BookFault) -> Result<Answer, AllocError>
     ensures { IfOk result (λ a. (lacks_memory at ≡ false) × (a.status ≡ Fault at) × (a.line.items ≡ fault_line at)) }
 {
@@ -62,14 +62,14 @@ fn faulty(alloc: Global, at: BookFault) -> Result<Answer, AllocError>
     })
 }
 
-/// Whether the stop is want of memory, which says nothing of the book.
+/// Whether the stop is out of memory, which says nothing of the book.
 fn is_out_of_memory(stop: &Stop) -> bool
     ensures { result ≡ is_out_of_memory stop.now }
 {
     matches!(stop, Stop::NoMemory)
 }
 
-/// A stop, which is not want of memory.
+/// A stop other than out of memory.
 fn stopped(alloc: Global, title: Title, stop: Stop) -> Result<Answer, AllocError>
     ensures { IfOk result (λ a. IsStopAnswer title stop a.status a.line.items) }
 {

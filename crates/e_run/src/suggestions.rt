@@ -88,7 +88,8 @@ fn put_applications(
     Ok(())
 }
 
-/// The lines of one theorem, at most so many. One of more than six declared objects is passed over.
+/// The lines of one theorem, at most this many. One of more than six declared objects is passed
+/// over.
 fn list_theorem(
     alloc: Global,
     title: Title,

@@ -16,7 +16,7 @@ use std::alloc::{AllocError, Global};
 /// The most terms of a form: the sums of a longer one could leave 128 bits.
 const MOST_TERMS: usize = 0x1_0000_0000;
 
-/// Where the term stands first, or how many terms there are.
+/// Where the term comes first, or how many terms there are.
 pub fn place(terms: &[Term], term: Term) -> usize
     ensures value { result ≡ place_of terms.now term }
     ensures counted { length terms.now < 2 ^ 64 }
@@ -49,7 +49,7 @@ fn with_terms(mut terms: Vec<Term>, rows: &[Row], i: usize) -> Result<Vec<Term>,
 }
 
 /// The terms, and after them those of the rows that are not among them, in the order in which they
-/// stand first.
+/// come first.
 pub fn terms_with(alloc: Global, terms: &[Term], rows: &[Row]) -> Result<Vec<Term>, AllocError>
     requires { AreOnce terms.now }
     ensures once { IfOk result (λ v. AreOnce v.items) }
@@ -63,7 +63,7 @@ pub fn terms_with(alloc: Global, terms: &[Term], rows: &[Row]) -> Result<Vec<Ter
     Ok(all)
 }
 
-/// The terms of the rows, each once, in the order in which they stand first.
+/// The terms of the rows, each once, in the order in which they come first.
 pub fn terms_of(alloc: Global, rows: &[Row]) -> Result<Vec<Term>, AllocError>
     ensures once { IfOk result (λ v. AreOnce v.items) }
     ensures all { IfOk result (λ v. AllNamed v.items (all_seen rows.now)) }

@@ -230,7 +230,7 @@ impl SolvedRows {
         })
     }
 
-    /// [`decide`] of the rows and more behind them, from the solved table; the rows stay as they
+    /// [`decide`] of the rows and more after them, from the solved table; the rows stay as they
     /// are. Where `more` has over 8 terms that no row here has, all rows are decided from nothing.
     pub fn decide_with(&self, alloc: Global, more: &[Row]) -> Result<Verdict, AllocError>
         requires few { length (self.now ++ more.now) ≤ 4096 }
@@ -245,7 +245,7 @@ impl SolvedRows {
         Ok(verdict)
     }
 
-    /// [`prepare`] of the rows and more behind them, from the solved table; the rows stay as they
+    /// [`prepare`] of the rows and more after them, from the solved table; the rows stay as they
     /// are. Where `more` has over 8 terms that no row here has, all rows are solved from nothing.
     pub fn with(&self, alloc: Global, more: &[Row]) -> Result<Prepared, AllocError>
         requires few { length (self.now ++ more.now) ≤ 4096 }

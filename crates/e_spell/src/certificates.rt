@@ -60,7 +60,7 @@ fn put_row(alloc: Global, out: &mut Vec<u8>, names: &Names, row: &RowName) -> Re
     }
 }
 
-/// A row behind its multiplier.
+/// A row after its multiplier.
 fn put_row_line(
     alloc: Global,
     out: &mut Vec<u8>,

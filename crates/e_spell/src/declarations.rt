@@ -19,7 +19,7 @@ pub(crate) enum Role {
     Made,
 }
 
-/// How many objects of each sort stand before.
+/// How many objects of each sort come before.
 #[derive(Clone, Copy)]
 pub(crate) struct Counts {
     pub(crate) points: usize,
@@ -71,7 +71,7 @@ fn put_role(out: &mut Vec<u8>, role: Role, sort: Sort) -> Result<(), AllocError>
     }
 }
 
-/// What stands before a name: a new line's words, or nothing behind an object of the same sort.
+/// What comes before a name: a new line's words, or nothing after an object of the same sort.
 fn put_opening(
     out: &mut Vec<u8>,
     role: Role,
@@ -115,8 +115,8 @@ fn put_object(
     put(out, name)
 }
 
-/// The lines of the next objects, which are of these sorts: neighbours of one sort stand on one line. It answers how
-/// many objects stand before the ones that come then.
+/// The lines of the next objects, which are of these sorts: neighbours of one sort are on one line. It answers how
+/// many objects come before the ones that come then.
 pub(crate) fn put_objects_of(
     out: &mut Vec<u8>,
     role: Role,

@@ -26,7 +26,7 @@ pub(crate) fn name_of(names: &Names, sort: Sort, num: usize) -> Name
     name_at(names.of_sort(sort), num)
 }
 
-/// The names of objects, each behind a space.
+/// The names of objects, each after a space.
 pub(crate) fn put_objects(
     out: &mut Vec<u8>,
     names: &Names,

@@ -148,7 +148,7 @@ fn put_step(
     }
 }
 
-/// The steps, each with the names in scope before it: those of new objects come into scope behind the step.
+/// The steps, each with the names in scope before it: those of new objects come into scope after the step.
 #[cycle(put_block)]
 fn put_steps(
     alloc: Global,
@@ -240,7 +240,7 @@ fn put_block(
     put
 }
 
-/// The lines from behind the word proof to the theorem's end, where these names are in scope before the first.
+/// The lines after the word proof, to the theorem's end, where these names are in scope before the first.
 pub(crate) fn put_proof(
     alloc: Global,
     out: &mut Vec<u8>,

@@ -13,7 +13,7 @@ pub(crate) fn rule_name(rule: Rule) -> &'static [u8]
     rule.name().as_bytes()
 }
 
-/// The name of a rule, behind a space.
+/// The name of a rule, after a space.
 pub(crate) fn put_rule(out: &mut Vec<u8>, rule: Rule) -> Result<(), AllocError>
     ensures { OnOk result (out.new.items ≡ out.old.items ++ 32 ∷ rule_name rule) }
 {

@@ -118,9 +118,9 @@ fn spell_too_wide(
 /// number; below it what the line lacks, or what is wanted where it is too wide; and the values that show that it does
 /// not follow, one a line in their order where there are any, or the width.
 ///
-/// An object without a name is written as `nameless`. It fails only for want of memory.
+/// An object without a name is written as `nameless`. It fails only out of memory.
 pub fn spell_stop(alloc: Global, title: Title, stop: &Stop) -> Result<Vec<u8>, AllocError>
-    // The stop is at a line: want of memory has no last lines of a theorem.
+    // The stop is at a line: out of memory has no last lines of a theorem.
     requires { IsStop stop.now }
     ensures { IfOk result (λ v. v.items ≡ stop_text title stop.now) }
 {

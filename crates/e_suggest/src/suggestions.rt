@@ -21,7 +21,7 @@ pub enum Suggested {
     TooWide(u128),
 }
 
-/// The first of all choices of arguments at which each given literal of the statement is allowed, at most so many, and
+/// The first of all choices of arguments at which each given literal of the statement is allowed, at most this many, and
 /// whether there are more. They are compared in declared order by the objects' numbers. The statement has at most 6 declared
 /// objects. It fails only out of memory.
 ///

@@ -9,12 +9,12 @@ pub fn lines_make_the_text()
     ensures { LinesMakeTheText }
 {}
 
-/// Lines of allowed bytes that are written with a line feed behind each are read as these lines.
+/// Lines of allowed bytes that are written with a line feed after each are read as these lines.
 pub fn written_lines_are_read()
     ensures { WrittenLinesAreRead }
 {}
 
-/// The lines of a text, with their faults, are known from its bytes up to one behind the last that
+/// The lines of a text, with their faults, are known from its bytes up to one after the last that
 /// counts.
 pub fn one_byte_more_is_enough()
     ensures { OneByteMoreIsEnough }

@@ -1,10 +1,9 @@
-//! Transfer consequence: whether one instance of a transfer clause, between diagrams and
-//! magnitudes, gives a literal from the facts of a step, and why; complete over all instances of a
-//! scope.
+//! Transfer consequence: whether one instance of a transfer rule, between diagrams and magnitudes,
+//! gives a literal from the facts of a step, and why; complete over all instances of a scope.
 //!
-//! A literal is searched for at each place of each clause. What it says of the variables binds
-//! them, and the others are chosen one by one: a choice is given up at the first literal of the
-//! clause that cannot hold.
+//! A literal is searched for at each place of each rule. What it says of the variables binds them,
+//! and the others are chosen one by one: a choice is given up at the first literal of the clause
+//! that cannot hold.
 #![tactic(auto)]
 
 mod areas;

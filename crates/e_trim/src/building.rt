@@ -81,7 +81,7 @@ fn take_flag(flags: &mut Vec<bool>) -> bool
     }
 }
 
-/// Puts the kept ones of the steps behind those that are there, and gives the close. The flags are taken from the pile.
+/// Puts the kept ones of the steps after those that are there, and gives the close. The flags are taken from the pile.
 #[cycle(build)]
 fn build(
     alloc: Global,

@@ -18,14 +18,14 @@ use e_literal::{Atom, Lit, Mono, Term, copy, negate};
 use std::alloc::{AllocError, Global};
 use std::mem;
 
-/// Whether the term stands in the sum, as it is written.
+/// Whether the term is in the sum, as it is written.
 fn is_among(sum: &[Mono], term: Term) -> bool
     ensures { result ≡ list_any (λ m. term_eq term m.term) sum.now }
 {
     sum.iter().any(|m| term == m.term)
 }
 
-/// Whether the term stands in the literal, as it is written.
+/// Whether the term is in the literal, as it is written.
 #[tactic(auto, using(crate::proofs::TermsWritten::standing))]
 fn has_written(lit: &Lit, term: Term) -> bool
     ensures { result ≡ has_written term lit.now }
@@ -38,7 +38,7 @@ fn has_written(lit: &Lit, term: Term) -> bool
     }
 }
 
-/// Whether the term stands in the wanted literal, as it is written.
+/// Whether the term is in the wanted literal, as it is written.
 fn is_wanted<'a>(wanted: Option<&'a Lit>, term: Term) -> bool
     ensures { result ≡ list_any (term_eq term) (terms_of_wanted (option_copied wanted.entry)) }
 {

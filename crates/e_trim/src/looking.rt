@@ -1,4 +1,4 @@
-// Which steps are kept: from the close backwards, by what is wanted behind each.
+// Which steps are kept: from the close backwards, by what is wanted after each.
 
 ghost use Rattle.std.specs.Prelude.{◌≡◌, ◌++◌, ◌<◌, ◌^◌, IfOk, OnOk, IsTrue, length};
 ghost use Rattle.std.specs.List.{list_all};
@@ -51,7 +51,7 @@ pub fn look(
     }
 }
 
-/// Whether the step is kept, where this is wanted behind it: its flag is put onto the pile, and what it wants is wanted too.
+/// Whether the step is kept, where this is wanted after it: its flag is put onto the pile, and what it wants is wanted too.
 #[cycle(look)]
 fn look_back(
     alloc: Global,

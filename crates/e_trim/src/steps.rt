@@ -119,7 +119,7 @@ pub fn joins(
     }
 }
 
-/// Behind the step: its objects are in scope, and what it gives are facts.
+/// After the step: its objects are in scope, and what it gives are facts.
 pub fn pass(
     alloc: Global,
     before: &[Statement],
@@ -152,7 +152,7 @@ fn are_needed(wanted: &Wanted, objects: &[Obj]) -> bool
     objects.iter().any(|object| wanted.needs(*object))
 }
 
-/// Whether the step is kept, where this is wanted behind it.
+/// Whether the step is kept, where this is wanted after it.
 pub fn is_kept(
     alloc: Global,
     before: &[Statement],

@@ -63,7 +63,7 @@ fn flags_of(
     Ok(flags)
 }
 
-/// The derivation without the steps that nothing needs. It fails only for want of memory.
+/// The derivation without the steps that nothing needs. It fails only out of memory.
 ///
 /// From the close of each block backwards, a step is kept exactly where it makes a literal a fact that a kept later step or the close
 /// looks up, and none the same was a fact before, or where it makes an object that one of them names. What is left is certified by the

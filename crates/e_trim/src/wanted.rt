@@ -1,4 +1,4 @@
-// What is wanted behind a line: literals that are looked up, and objects that are needed.
+// What is wanted after a line: literals that are looked up, and objects that are needed.
 
 ghost use Rattle.std.specs.Prelude.{◌≡◌, [], ◌∷◌, ◌++◌, OnOk, IfOk};
 ghost use Rattle.e_literal.specs.Facts.{has};

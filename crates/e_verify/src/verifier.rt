@@ -22,7 +22,7 @@ use std::alloc::{AllocError, Global};
 /// Checks the derivation of a statement from those before it, certificate by certificate, in text
 /// order.
 ///
-/// It is refused exactly at the first line that is not certified. What is verified is a proof.
+/// It is refused exactly at the first step that is not certified. What is verified is a proof.
 pub fn verify(
     alloc: Global,
     before: &[Statement],

@@ -1,5 +1,5 @@
-//! Words written behind spaces, and the ends of lines. Each of these functions adds bytes to what
-//! is written. It fails only when out of memory, and then what was written before is as it was.
+//! Words written after spaces, and the ends of lines. Each of these functions adds bytes to what is
+//! written. It fails only when out of memory, and then what was written before is as it was.
 #![tactic(auto)]
 
 ghost use Rattle.std.specs.Prelude.{◌≡◌, ◌≤◌, ◌++◌, ◌∷◌, [], ◌==◌, if◌then◌else◌, decimal, length, take, OnOk, OnErr};
@@ -9,8 +9,8 @@ use e_text::Name;
 use itoa::{Buffer, Integer};
 use std::alloc::AllocError;
 
-// Writes a word behind a space, or leaves only so many of the first bytes: what writes several words
-// says where it began, so that nothing of them is left.
+// Writes a word after a space, or leaves only this many of the first bytes: what writes several
+// words says where it began, so that nothing of them is left.
 fn put_or_cut(out: &mut Vec<u8>, word: &[u8], before: usize) -> Result<(), AllocError>
     requires { before ≤ length out.old.items }
     ensures ok { OnOk result (out.new.items ≡ out.old.items ++ 32 ∷ word.now) }
@@ -27,7 +27,7 @@ fn put_or_cut(out: &mut Vec<u8>, word: &[u8], before: usize) -> Result<(), Alloc
     Ok(())
 }
 
-/// Writes a word behind a space.
+/// Writes a word after a space.
 pub fn put(out: &mut Vec<u8>, word: &[u8]) -> Result<(), AllocError>
     ensures ok { OnOk result (out.new.items ≡ out.old.items ++ 32 ∷ word.now) }
     ensures err { OnErr result (out.new.items ≡ out.old.items) }
@@ -36,7 +36,7 @@ pub fn put(out: &mut Vec<u8>, word: &[u8]) -> Result<(), AllocError>
     put_or_cut(out, word, before)
 }
 
-// Writes two words, each behind a space.
+// Writes two words, each after a space.
 fn put_two(out: &mut Vec<u8>, x: &[u8], y: &[u8]) -> Result<(), AllocError>
     ensures ok { OnOk result (out.new.items ≡ out.old.items ++ spaced (x.now ∷ y.now ∷ [])) }
     ensures err { OnErr result (out.new.items ≡ out.old.items) }
@@ -46,7 +46,7 @@ fn put_two(out: &mut Vec<u8>, x: &[u8], y: &[u8]) -> Result<(), AllocError>
     put_or_cut(out, y, before)
 }
 
-/// Writes three words, each behind a space.
+/// Writes three words, each after a space.
 pub fn put_three(out: &mut Vec<u8>, x: &[u8], y: &[u8], z: &[u8]) -> Result<(), AllocError>
     ensures ok { OnOk result (out.new.items ≡ out.old.items ++ spaced (x.now ∷ y.now ∷ z.now ∷ [])) }
     ensures err { OnErr result (out.new.items ≡ out.old.items) }
@@ -56,7 +56,7 @@ pub fn put_three(out: &mut Vec<u8>, x: &[u8], y: &[u8], z: &[u8]) -> Result<(), 
     put_or_cut(out, z, before)
 }
 
-/// Writes four words, each behind a space.
+/// Writes four words, each after a space.
 pub fn put_four(
     out: &mut Vec<u8>,
     word: &[u8],
@@ -72,7 +72,7 @@ pub fn put_four(
     put_or_cut(out, z, before)
 }
 
-/// Writes a number behind a space, by its decimal digits.
+/// Writes a number after a space, by its decimal digits.
 pub fn put_number<I: Integer>(out: &mut Vec<u8>, number: I) -> Result<(), AllocError>
     ensures ok { OnOk result (out.new.items ≡ out.old.items ++ 32 ∷ I.text number) }
     ensures err { OnErr result (out.new.items ≡ out.old.items) }
@@ -81,7 +81,7 @@ pub fn put_number<I: Integer>(out: &mut Vec<u8>, number: I) -> Result<(), AllocE
     put(out, digits.format(number).as_bytes())
 }
 
-/// Writes a coefficient behind a space, and nothing for 1.
+/// Writes a coefficient after a space, and nothing for 1.
 pub fn put_coefficient(out: &mut Vec<u8>, coeff: u32) -> Result<(), AllocError>
     ensures ok { OnOk result (out.new.items ≡ out.old.items ++ spaced (if coeff == 1 then [] else decimal coeff ∷ [])) }
     ensures err { OnErr result (out.new.items ≡ out.old.items) }
@@ -92,7 +92,7 @@ pub fn put_coefficient(out: &mut Vec<u8>, coeff: u32) -> Result<(), AllocError>
     put_number(out, coeff)
 }
 
-/// Writes names in their order, each behind a space.
+/// Writes names in their order, each after a space.
 pub fn put_names(out: &mut Vec<u8>, names: &[Name]) -> Result<(), AllocError>
     ensures ok { OnOk result (out.new.items ≡ out.old.items ++ spaced names.now) }
     ensures err { OnErr result (out.new.items ≡ out.old.items) }

@@ -8,7 +8,7 @@ use std::env;
 use std::io::ErrorKind;
 use std::process::ExitCode;
 
-/// The words behind the program's name.
+/// The words after the program's name.
 fn program_args(alloc: Global, mut args: env::Args) -> Result<Vec<String>, AllocError> {
     args.next();
     args.collect(alloc)

@@ -80,7 +80,7 @@ fn told_by_known(
     told
 }
 
-// The same as `told`, where these facts come behind the others, and the question is asked before each too.
+// The same as `told`, where these facts come after the others, and the question is asked before each too.
 fn told_behind(
     rt: &impl Abort,
     alloc: Global,

@@ -44,7 +44,7 @@ fn mono(text: &str) -> Mono {
     }
 }
 
-// The sum of what stands between `+`; `0` is the empty sum.
+// The sum of what is between `+`; `0` is the empty sum.
 fn form(alloc: Global, text: &str) -> Result<Form, AllocError> {
     let mut monos = Vec::new(alloc);
     if text != "0" {

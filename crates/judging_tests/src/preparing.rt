@@ -66,7 +66,7 @@ fn further_rows(rt: HostRuntime) -> Result<(), Fail> {
     Ok(())
 }
 
-// Solved rows, further rows that are prepared behind them, a question, and what is answered of all.
+// Solved rows, further rows that are prepared after them, a question, and what is answered of all.
 fn grown_questions() -> &'static str {
     "\
 >a-b/>b-c/>a-c/holds
@@ -95,7 +95,7 @@ fn grown_answer(
     }
 }
 
-// The three lists of rows of a line, prepared one behind the other and asked.
+// The three lists of rows of a line, prepared one after the other and asked.
 fn answer_in_turn(
     rt: &impl Abort,
     alloc: Global,

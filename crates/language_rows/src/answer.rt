@@ -4,7 +4,7 @@ use e_literal::Lit;
 use std::alloc::{AllocError, Global};
 use std::fmt::{Debug, Write};
 
-/// Words, each behind a space. Where memory is wanted for one, the answer goes on without it, and is not whole.
+/// Words, each after a space. Where memory is wanted for one, the answer goes on without it, and is not whole.
 #[derive(Drop)]
 pub struct Answer {
     text: String,
@@ -26,7 +26,7 @@ impl Answer {
         }
     }
 
-    /// Puts a mark behind the last word.
+    /// Puts a mark after the last word.
     pub fn mark(&mut self, mark: &str) {
         if self.text.push_str(mark).is_err() {
             self.whole = false;

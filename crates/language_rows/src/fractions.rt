@@ -40,7 +40,7 @@ fn kind(word: &str) -> RowKind {
     }
 }
 
-// The row of these summands; the form is 0 where a term stands twice.
+// The row of these summands; the form is 0 where a term comes twice.
 fn row(alloc: Global, kind: RowKind, summands: &[(i64, Term)]) -> Result<Row, AllocError> {
     let mut form = Signed::empty(alloc);
     if are_distinct(summands) {

@@ -1,7 +1,7 @@
 //! Literals as rows write them, and what the crate of literals answers.
 //!
 //! A literal is `On ab`, with the name of its atom and a letter for each number, `a` for 0; or two sums with `=` or `<`
-//! between, as `1 ab + 2 angle-abc = 1 right`; the sum `0` is empty. Before each, `not` may stand.
+//! between, as `1 ab + 2 angle-abc = 1 right`; the sum `0` is empty. Before each, `not` may come.
 
 use crate::answer::Answer;
 use crate::rows::{three, two};

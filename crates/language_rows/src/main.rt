@@ -2,7 +2,7 @@
 //! they answer: their tests as data.
 //!
 //! A row is a line: the word for a crate, the word for a call, and what it is called on. It is printed with its answer
-//! behind `=>`. A line that begins with a star is printed as it is: it tells what the rows below it stand for.
+//! after `=>`. A line that begins with a star is printed as it is: it says what the rows below it show.
 #![tactic(auto)]
 
 mod answer;

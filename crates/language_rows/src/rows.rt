@@ -3,7 +3,7 @@
 use e_literal::{Obj, Sort};
 use std::alloc::{AllocError, Global};
 
-/// What stands before the first mark, and what stands behind it.
+/// What comes before the first mark, and what comes after it.
 pub fn two<'a>(text: &'a str, mark: &str) -> (&'a str, &'a str) {
     text.split_once(mark).unwrap_or((text, ""))
 }

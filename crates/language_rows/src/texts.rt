@@ -24,7 +24,7 @@ pub fn put(alloc: Global, out: &mut Answer, call: &str, on: &str) -> Result<(), 
     }
 }
 
-// A part of a text that begins with line 7, behind 9 bytes, where 12 bytes count.
+// A part of a text that begins with line 7, after 9 bytes, where 12 bytes count.
 fn put_part(out: &mut Answer) {
     put_lines(out, &mut Lines::at(b"a\nb\n", 1_600, 12, 7, 9));
 }

@@ -3,10 +3,11 @@
 //! A row is a line: the words of a command, the call of the source that fails, the call of the sink that fails (nothing
 //! where none does), and a text, with ` => ` between two. In a text a slash ends a line, a tilde is a byte that no text may
 //! hold, and `{N*TEXT}` is the text N times, with its number from 0 in the place of `$`. A line that begins with a star is
-//! printed as it is. In an answer a slash ends a line, and the exit status comes last; of a long one only the end is told.
+//! printed as it is. In an answer a slash ends a line, and the exit status comes last; of a long one only the end is
+//! printed.
 //!
 //! `5 by 4` in the place of a call is call 5, from 0, where each other one moves four bytes; `each by 4` is each call in
-//! turn, run after run, and the answer tells of all these runs. `nowhere` in the place of the call of the sink is a sink
+//! turn, run after run, and the answer is about all these runs. `nowhere` in the place of the call of the sink is a sink
 //! that keeps nothing.
 #![tactic(auto)]
 
@@ -24,10 +25,10 @@ const READ: usize = 1 << 12;
 /// How many bytes are written at a time, where a row says nothing else.
 const WRITTEN: usize = 16;
 
-/// How many bytes of an answer are told in full.
+/// How many bytes of an answer are printed in full.
 const TOLD: usize = 6_000;
 
-/// The part of a row that stands there between its marks.
+/// The part of a row between its marks.
 fn part<'a>(row: &'a str, number: usize) -> &'a str {
     row.split(" => ").nth(number).unwrap_or("")
 }

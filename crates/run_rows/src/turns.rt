@@ -1,4 +1,4 @@
-//! Runs of one text in which each call of the outside fails in turn, told in one line.
+//! Runs of one text in which each call of the outside fails in turn, in one line.
 
 use crate::runs::{Answered, Asked, Calls, are_alike, ran, ran_nowhere};
 use std::alloc::{AllocError, Global};
@@ -15,7 +15,7 @@ const WRITE_FAULT: u8 = 5;
 /// What a run shows in which a call of the source fails.
 #[derive(Clone, Copy)]
 struct Broken {
-    /// Whether it wrote a front of what is written where no call fails, and the line that tells the fault.
+    /// Whether it wrote a front of what is written where no call fails, and the line with the fault.
     front: bool,
     /// Whether it is answered alike where the bytes are kept nowhere.
     alike: bool,
@@ -69,7 +69,7 @@ pub fn each_write(
     format!(in alloc; "{calls} writes fail, {fronts} fronts of {bytes} bytes; else exit {exit}")
 }
 
-/// What was written before the line that tells a read fault, if that line is the last.
+/// What was written before the line of a read fault, if that line is the last.
 fn before_fault(written: &[u8]) -> Option<&str> {
     str::from_utf8(written)
         .unwrap_or("")

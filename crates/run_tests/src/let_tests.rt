@@ -62,14 +62,14 @@ fn drawing(
     )
 }
 
-/// How often the literal stands in the list.
+/// How often the literal is in the list.
 fn times(list: &str, literal: &str) -> usize {
     list.split_terminator(", ")
         .filter(|other| *other == literal)
         .count()
 }
 
-/// Whether the shape is refused without each of its needs, or stays accepted where the need stands there twice.
+/// Whether the shape is refused without each of its needs, or stays accepted where the need is there twice.
 fn needs_each(alloc: Global, shape: &str) -> Result<bool, AllocError> {
     for (place, need) in part(shape, 1).split_terminator(", ").enumerate() {
         let answer = answer(alloc, drawing(alloc, shape, place, "d = d")?.as_str())?;
@@ -86,7 +86,7 @@ fn needs_each(alloc: Global, shape: &str) -> Result<bool, AllocError> {
     Ok(true)
 }
 
-/// Whether the literal may be inferred right behind the shape exactly where its row has it.
+/// Whether the literal may be inferred right after the shape exactly where its row has it.
 fn gives_just(alloc: Global, shape: &str, literal: &str) -> Result<bool, AllocError> {
     let known = [1, 2, 3]
         .iter()

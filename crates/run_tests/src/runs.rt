@@ -58,7 +58,7 @@ pub fn answer(alloc: Global, book: &str) -> Result<String, AllocError> {
     Ok(text)
 }
 
-/// The part of a row of a test that stands there between its marks ` => `.
+/// The part of a row of a test between its marks ` => `.
 pub fn part<'a>(row: &'a str, number: usize) -> &'a str {
     row.split(" => ").nth(number).unwrap_or("")
 }
