@@ -7,7 +7,7 @@ use Rattle.e_deriv.specs.Naming.{names_of_sort, with_names}
 use Rattle.e_deriv.specs.Script.{Qed, Contradiction}
 use Rattle.e_deriv.specs.PlainStep.{PlainStep, Cited, Inferred, Made, Applied}
 use Rattle.e_text.specs.Tokens.{tokens_of}
-use Rattle.e_text.specs.Lines.{Seen, Ahead}
+use Rattle.e_text.specs.Lines.{LineView, Ahead}
 use Rattle.e_text.specs.declared.line.LineFault.{LineFault}
 use Rattle.e_line.specs.declared.fault.FaultKind.{FaultKind}
 use Rattle.e_line.specs.declared.fault.FaultKind.TheVariants.{Malformed, NameTaken}
@@ -123,7 +123,7 @@ put_at line (Ok x) = Ok x
 put_at line (Err kind) = Err (at_line line kind)
 
 abbrev pub Rest : Type 0
-Rest = List (Result Seen LineFault)
+Rest = List (Result LineView LineFault)
 
 abbrev pub ended : Open → Option TheoremView
 ended (Ended t) = Some t

@@ -3,7 +3,7 @@ use Rattle.std.specs.Prelude.{ℕ, ◌+◌, ◌≤◌, Bool, true, false, ◌≡
 use Rattle.e_literal.specs.declared.object.Sort.{Sort}
 use Rattle.e_literal.specs.declared.object.Obj.{Obj}
 use Rattle.e_literal.specs.declared.literal.Lit.{Lit}
-use Rattle.e_literal.specs.Use.{Stated}
+use Rattle.e_literal.specs.Use.{StatementView}
 use Rattle.e_construct.specs.Construct.{sorts_made, gives_of_construction}
 use Rattle.e_construct.specs.Superposing as superposing
 use Rattle.e_deriv.specs.declared.names.Names.{Names}
@@ -105,7 +105,7 @@ built d raw = do
 
 -- a theorem is used within the limits of objects, of steps, of facts, of monomials and of blanks. What it shows are facts, and its
 -- made objects are in scope behind the line.
-unfoldable pub used_by : TheoremParser → Stated → ℕ → List (Option Obj) → List (List ℕ) → Result TheoremParser FaultKind
+unfoldable pub used_by : TheoremParser → StatementView → ℕ → List (Option Obj) → List (List ℕ) → Result TheoremParser FaultKind
 used_by d t theorem args new = do
   let after = named d.in_scope t.made new
   few ← few_objects after

@@ -2,7 +2,7 @@
 -- its place or is not certified.
 use Rattle.std.specs.Prelude.{◌≡◌, ◌⊎◌, ℕ, ◌+◌, Bool, ◌&&◌, List, [], ◌∷◌, ◌++◌, length, codes, Option, Some, None, Result, Ok, Err, if◌then◌else◌}
 use Rattle.std.specs.Str.{bytes_eq}
-use Rattle.e_text.specs.Lines.{Seen, lines_of, fault_line}
+use Rattle.e_text.specs.Lines.{LineView, lines_of, fault_line}
 use Rattle.e_text.specs.declared.line.LineFault.{LineFault}
 use Rattle.e_clause.specs.declared.cert.Version.{Version}
 use Rattle.e_clause.specs.declared.cert.Version.TheVariants.{One, Two}
@@ -16,7 +16,7 @@ use Rattle.e_judgement.specs.declared.judgement.Judgement.TheVariants.{Verified,
 
 -- the lines ahead, cut off behind the first that has a fault
 abbrev pub Rest : Type 0
-Rest = List (Result Seen LineFault)
+Rest = List (Result LineView LineFault)
 
 -- behind a theorem it is known
 abbrev pub with_theorem : List TitledStatement → TheoremView → List TitledStatement
@@ -37,7 +37,7 @@ Passes v last known lines (t ∷ ts) now rest =
     (after : Rest) × ReadsNext v last known lines t after × IsCertified known t × Passes v last (with_theorem known t) after ts now rest
 
 -- the number of a line
-abbrev pub number_of : Result Seen LineFault → ℕ
+abbrev pub number_of : Result LineView LineFault → ℕ
 number_of (Ok l) = l.number
 number_of (Err f) = fault_line f
 
@@ -77,11 +77,11 @@ abbrev pub head_of : Version → List ℕ
 head_of One = codes "derivation 1"
 head_of Two = codes "derivation 2"
 
-abbrev pub is_head : Version → Seen → Bool
+abbrev pub is_head : Version → LineView → Bool
 is_head v l = is_lf_end l.end && bytes_eq l.bytes (head_of v)
 
 -- the version that it says
-abbrev pub version_of : Seen → Option Version
+abbrev pub version_of : LineView → Option Version
 version_of l = if is_head One l then Some One else if is_head Two l then Some Two else None
 
 -- behind a line that says this the lines are judged so

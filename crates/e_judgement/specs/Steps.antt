@@ -1,6 +1,6 @@
 -- A derivation text taken theorem by theorem: what each step of that says of the text's judgement.
 use Rattle.std.specs.Prelude.{◌≡◌, ℕ, ◌<◌, List, [], ◌∷◌, length, Option, Some, None, Ok, Err, IsTrue}
-use Rattle.e_text.specs.Lines.{Seen, Ahead}
+use Rattle.e_text.specs.Lines.{LineView, Ahead}
 use Rattle.e_clause.specs.declared.cert.Version.{Version}
 use Rattle.e_theorem.specs.Statements.{stated}
 use Rattle.e_deriv.specs.Fitting.{is_small_statement}
@@ -43,4 +43,4 @@ version_at (Ok l ∷ lines) = version_of l
 -- it was found so; where it is one, its line is taken, and line 2 is next
 pub record Begins (lines : Rest) (after : Ahead) (found : Option Version) : Type 0 where
   pub head : found ≡ version_at lines
-  pub taken : (v : Version) → found ≡ Some v → (l : Seen) × (lines ≡ Ok l ∷ after.lines) × (after.line ≡ 2)
+  pub taken : (v : Version) → found ≡ Some v → (l : LineView) × (lines ≡ Ok l ∷ after.lines) × (after.line ≡ 2)

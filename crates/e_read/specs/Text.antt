@@ -3,7 +3,7 @@ use Rattle.std.specs.Prelude.{◌≡◌, IfSome, IsTrue, ℕ, ◌≤◌, Bool, t
 use Rattle.std.specs.Option.{option_to_list}
 use Rattle.std.specs.Str.{bytes_eq}
 use Rattle.e_text.specs.Tokens.{tokens_of, joined}
-use Rattle.e_text.specs.Lines.{Seen, Ahead, seen, fault_line}
+use Rattle.e_text.specs.Lines.{LineView, Ahead, view_of_line, fault_line}
 use Rattle.e_text.specs.declared.line.Line.{Line}
 use Rattle.e_text.specs.declared.line.LineEnd.{LineEnd}
 use Rattle.e_text.specs.declared.line.LineEnd.TheVariants as ends
@@ -97,7 +97,7 @@ unfoldable pub spelled : List TitledStatement → BlockParser → List ℕ → R
 spelled known r line = worded known r line (tokens_of line)
 
 -- each line ends with a line feed
-unfoldable pub taken : List TitledStatement → BlockParser → Seen → Result BlockParser FaultKind
+unfoldable pub taken : List TitledStatement → BlockParser → LineView → Result BlockParser FaultKind
 taken known r l = if is_lf_end l.end then spelled known r l.bytes else Err Malformed
 
 -- ---- blocks
@@ -111,7 +111,7 @@ pub data Piece : Type 0 where
 abbrev pub last_line_of : ℕ → List ℕ
 last_line_of n = joined (codes "accepted" ∷ decimal n ∷ [])
 
-abbrev pub is_last_line : List TitledStatement → Seen → Bool
+abbrev pub is_last_line : List TitledStatement → LineView → Bool
 is_last_line known l = if is_lf_end l.end then bytes_eq l.bytes (last_line_of (length known)) else false
 
 -- a theorem with its certificates at their lines
@@ -131,18 +131,18 @@ abbrev pub finished : Option TheoremParser → List StepCerts → Option Theorem
 finished None kept = None
 finished (Some d) kept = if is_done d then Some (derived d kept) else None
 
-abbrev pub or_on : Option TheoremView → List (Result Seen LineFault) → Result (Piece × List (Result Seen LineFault)) ℕ → Result (Piece × List (Result Seen LineFault)) ℕ
+abbrev pub or_on : Option TheoremView → List (Result LineView LineFault) → Result (Piece × List (Result LineView LineFault)) ℕ → Result (Piece × List (Result LineView LineFault)) ℕ
 or_on None lines more = more
 or_on (Some t) lines more = Ok (Derived t, lines)
 
 -- the line is the last one of a text, at the place of a theorem's first line
-abbrev pub is_end : List TitledStatement → Option TheoremParser → Seen → Bool
+abbrev pub is_end : List TitledStatement → Option TheoremParser → LineView → Bool
 is_end known None l = is_last_line known l
 is_end known (Some d) l = false
 
 -- the rest of what stands ahead and the lines behind it, or the first line that has no form at its place; last is the number behind
 -- the last line
-unfoldable pub piece_from : List TitledStatement → ℕ → BlockParser → List (Result Seen LineFault) → Result (Piece × List (Result Seen LineFault)) ℕ
+unfoldable pub piece_from : List TitledStatement → ℕ → BlockParser → List (Result LineView LineFault) → Result (Piece × List (Result LineView LineFault)) ℕ
 piece_from known last r [] = Err last
 piece_from known last r (Err f ∷ lines) = Err (fault_line f)
 piece_from known last r (Ok line ∷ lines) =
@@ -157,22 +157,22 @@ LineReads (Err faults.NoMemory) new read = Unit {0}
 
 -- the next line, or what stands ahead is garbled whatever of a block has come
 abbrev pub LineIs : Result Line TextFault → Ahead → Ahead → Type 0
-LineIs (Ok line) old new = old.lines ≡ Ok (seen line) ∷ new.lines
+LineIs (Ok line) old new = old.lines ≡ Ok (view_of_line line) ∷ new.lines
 LineIs (Err (faults.Garbled n)) old new = (known : List TitledStatement) (r : BlockParser) → piece_from known (last_line old) r old.lines ≡ Err n
 LineIs (Err faults.NoMemory) old new = ⊥
 
 -- what stands ahead, where this line stands before any others and made this of the block, unless memory ran out
-abbrev pub ProgressIs : List TitledStatement → BlockParser → Seen → BlockParser → Result Progress TextFault → Type 0
-ProgressIs known old line new (Ok turns.Last) = (last : ℕ) (rest : List (Result Seen LineFault)) → piece_from known last old (Ok line ∷ rest) ≡ Ok (Last, rest)
+abbrev pub ProgressIs : List TitledStatement → BlockParser → LineView → BlockParser → Result Progress TextFault → Type 0
+ProgressIs known old line new (Ok turns.Last) = (last : ℕ) (rest : List (Result LineView LineFault)) → piece_from known last old (Ok line ∷ rest) ≡ Ok (Last, rest)
 ProgressIs known old line new (Ok turns.Complete) = IsTrue (is_finished new.draft)
-    × ((t : TheoremView) → finished new.draft new.kept ≡ Some t → (last : ℕ) (rest : List (Result Seen LineFault)) → piece_from known last old (Ok line ∷ rest) ≡ Ok (Derived t, rest))
+    × ((t : TheoremView) → finished new.draft new.kept ≡ Some t → (last : ℕ) (rest : List (Result LineView LineFault)) → piece_from known last old (Ok line ∷ rest) ≡ Ok (Derived t, rest))
 ProgressIs known old line new (Ok turns.Continue) =
-    (last : ℕ) (rest : List (Result Seen LineFault)) → piece_from known last old (Ok line ∷ rest) ≡ piece_from known last new rest
-ProgressIs known old line new (Err (faults.Garbled n)) = (last : ℕ) (rest : List (Result Seen LineFault)) → piece_from known last old (Ok line ∷ rest) ≡ Err n
+    (last : ℕ) (rest : List (Result LineView LineFault)) → piece_from known last old (Ok line ∷ rest) ≡ piece_from known last new rest
+ProgressIs known old line new (Err (faults.Garbled n)) = (last : ℕ) (rest : List (Result LineView LineFault)) → piece_from known last old (Ok line ∷ rest) ≡ Err n
 ProgressIs known old line new (Err faults.NoMemory) = Unit {0}
 
 -- what was answered is what stands ahead, unless memory ran out
-abbrev pub TextReads : List TitledStatement → Result PieceRead TextFault → Ahead → Result (Piece × List (Result Seen LineFault)) ℕ → Type 0
+abbrev pub TextReads : List TitledStatement → Result PieceRead TextFault → Ahead → Result (Piece × List (Result LineView LineFault)) ℕ → Type 0
 TextReads known (Ok (read.Theorem t)) new from = from ≡ Ok (Derived (entry_of t), new.lines)
 TextReads known (Ok (read.Last n)) new from = (n ≡ length known) × (from ≡ Ok (Last, new.lines))
 TextReads known (Err (faults.Garbled line)) new from = from ≡ Err line

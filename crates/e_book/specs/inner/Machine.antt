@@ -1,7 +1,7 @@
 -- A theorem or a definition as the parser holds it while its lines come.
 use Rattle.std.specs.Prelude.{◌≡◌, ℕ, ◌+◌, ◌≤◌, Bool, true, false, not, ◌||◌, List, [], ◌∷◌, ◌++◌, length, map, Option, Some, None, Result, Ok, Err, if◌then◌else◌}
 use Rattle.e_text.specs.Tokens.{tokens_of}
-use Rattle.e_text.specs.Lines.{Seen, HaveNoFault}
+use Rattle.e_text.specs.Lines.{LineView, HaveNoFault}
 use Rattle.e_deriv.specs.declared.names.Names.{Names}
 use Rattle.e_line.specs.declared.fault.FaultKind.{FaultKind}
 use Rattle.e_line.specs.declared.fault.FaultKind.TheVariants.{Malformed, NameTaken}
@@ -160,7 +160,7 @@ TakesWords known old number words (Err f) new = BookFails f (put_at number (line
 
 -- what a line makes of it: to read on from here through the line is to read on from there; or the line ends the theorem or the definition;
 -- or it is the first with a fault
-abbrev pub TakesLine : Known → Option Coming → Seen → Result (Option Item) BookFault → Option Coming → Type 0
+abbrev pub TakesLine : Known → Option Coming → LineView → Result (Option Item) BookFault → Option Coming → Type 0
 TakesLine known old l (Ok None) new = (last : ℕ) (more : Rest) → item_from known last old (Ok l ∷ more) ≡ item_from known last new more
 TakesLine known old l (Ok (Some i)) new = (new ≡ None) × ((last : ℕ) (more : Rest) → item_from known last old (Ok l ∷ more) ≡ Ok (Some (view_of i, more)))
 TakesLine known old l (Err f) new = (last : ℕ) (more : Rest) → BookFails f (item_from known last old (Ok l ∷ more))
