@@ -35,7 +35,7 @@ abbrev pub at_end : ℕ → Option TheoremParser → Result (Option (TheoremView
 at_end last None = Ok None
 at_end last (Some d) = Err (faults.Unended last)
 
--- the next theorem and the lines behind it, or the first fault; last is the number behind the last line
+-- the next theorem and the lines after it, or the first fault; last is the number after the last line
 abbrev pub read_from : List TitledStatement → ℕ → Option TheoremParser → List (Result LineView LineFault) → Result (Option (TheoremView × List (Result LineView LineFault))) BookFault
 read_from known last draft [] = at_end last draft
 read_from known last draft (Err f ∷ lines) = Err (line_fault f)

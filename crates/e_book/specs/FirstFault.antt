@@ -24,7 +24,7 @@ IsFaulty known o (Err f) fault = line_fault f ≡ fault
 IsFaulty known o (Ok line) fault =
     (is_skipped (tokens_of line.bytes) ≡ false) × (put_there line.number (line_said known o (tokens_of line.bytes)) ≡ Err fault)
 
--- the lines begin with a front that is taken, and the line behind it has this fault
+-- the lines begin with a front that is taken, and the line after it has this fault
 pub record BreaksAt (known : Known) (o : Option Coming) (lines : Rest) (fault : BookFault) : Type 0 where
   pub front : Rest
   pub line : Result LineView LineFault

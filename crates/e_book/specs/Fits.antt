@@ -46,7 +46,7 @@ NewNamesFit before ns (Qed objects certs) = Unit {0}
 NewNamesFit before ns (Contradiction against) = Unit {0}
 NewNamesFit before ns (Cases lit first second) = NewNamesFit before ns first × NewNamesFit before ns second
 
--- so many literals are facts before the script, repeats counted, and nowhere in it more than the limit
+-- this many literals are facts before the script, repeats counted, and nowhere in it more than the limit
 unfoldable pub few_facts : List StatementView → ℕ → Scope → Script → Bool
 few_facts before n s (Cite by rest) = nat_le (n + 1) most_facts && few_facts before (n + 1) s rest
 few_facts before n s (Hence lit cert rest) = nat_le (n + 1) most_facts && few_facts before (n + 1) s rest
@@ -79,7 +79,7 @@ has_good_literals (Qed objects certs) = true
 has_good_literals (Contradiction against) = true
 has_good_literals (Cases lit first second) = is_well_formed lit && (has_good_literals first && has_good_literals second)
 
--- the facts before the script have so many monomials, and nowhere in it more than the limit
+-- the facts before the script have this many monomials, and nowhere in it more than the limit
 unfoldable pub few_terms : List StatementView → ℕ → Scope → Script → Bool
 few_terms before n s (Cite by rest) = few_terms before n s rest
 few_terms before n s (Hence lit cert rest) = nat_le (n + monomials lit.atom) most_terms && few_terms before (n + monomials lit.atom) s rest

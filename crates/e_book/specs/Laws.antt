@@ -20,14 +20,14 @@ use Rattle.e_book.specs.Canonical.{forms_of}
 use Rattle.e_line.specs.HasSpelling.{AreNames}
 use Rattle.e_book.specs.HasSpelling.{HasSpelling}
 
--- the lines ahead begin with these texts, whatever their numbers and ends, and the rest follows
+-- the next lines begin with these texts, whatever their numbers and ends, and the rest follows
 abbrev pub Shows : List (Result LineView LineFault) → List (List ℕ) → List (Result LineView LineFault) → Type 0
 Shows lines [] rest = lines ≡ rest
 Shows [] (text ∷ texts) rest = ⊥
 Shows (Err f ∷ lines) (text ∷ texts) rest = ⊥
 Shows (Ok l ∷ lines) (text ∷ texts) rest = (l.bytes ≡ text) × Shows lines texts rest
 
--- a theorem that has a spelling, and no definition's title, is read from its canonical lines, and the lines behind them are left
+-- a theorem that has a spelling, and no definition's title, is read from its canonical lines, and the lines after them are left
 abbrev pub CanonicalLinesAreRead : Type 0
 CanonicalLinesAreRead =
     (known : Known) (last : ℕ) (t : TheoremView) (lines rest : List (Result LineView LineFault)) → IsTrue (are_notions known.notions) → HasSpelling known.theorems t → defines known.notions t.title ≡ false

@@ -46,6 +46,6 @@ derivation_lines before t d = proof_lines before t d d
 abbrev pub Certified : List StatementView → StatementView → Script → Type 0
 Certified before t d = IsTrue (list_all (is_certified before) (derivation_lines before t d))
 
--- the number of the first line that is not certified, or the number after the last
+-- the number of the first step that is not certified, or the number after the last
 abbrev pub verdict : List StatementView → StatementView → Script → Result ℕ ℕ
 verdict before t d = first_failure (is_certified before) (derivation_lines before t d) 1

@@ -39,7 +39,7 @@ LicensedHasNoStop =
     (before : List StatementView) (t : StatementView) (script filled : Script) (n : ℕ) (w : Wanted) → AllLicensed before (proof_lines before t script filled)
     → ¬ IsFirstUnlicensed before t script n w
 
--- the first line that is not licensed is one, and what it lacks too
+-- the first step that is not licensed is one, and what it lacks too
 abbrev pub StopIsOne : Type 0
 StopIsOne =
     (before : List StatementView) (t : StatementView) (script : Script) (n m : ℕ) (v w : Wanted) →

@@ -33,7 +33,7 @@ abbrev pub theorem_at : List StatementView → ℕ → StatementView
 theorem_at before k = unwrap_or (slice_get before k) no_statement
 
 -- The lines of a script, whose blanks are filled by the arguments that a second script has in the same places; a script without
--- blanks is its own second. An applied theorem's made objects come into scope behind the line, and what it shows joins the facts.
+-- blanks is its own second. An applied theorem's made objects come into scope after the line, and what it shows joins the facts.
 -- The block of a claim begins with what holds before it; when it is closed its objects and its facts are gone, and the claimed
 -- literals are facts. The block of a superposition begins with the two copied points too, and what it gives. The blocks of a
 -- split have the goal of the block that the split closes, the first with the literal for a fact, the second with its negation.

@@ -22,13 +22,13 @@ with_names ns sorts.Point new = record ns { points = new }
 with_names ns sorts.Line new = record ns { lines = new }
 with_names ns sorts.Circle new = record ns { circles = new }
 
--- each new name behind those of its sort, in order
+-- each new name after those of its sort, in order
 abbrev pub named : Names → List Sort → List (List ℕ) → Names
 named ns (sort ∷ kinds) (name ∷ names) = named (with_names ns sort (names_of_sort ns sort ++ name ∷ [])) kinds names
 named ns _ _ = ns
 
 -- the names in scope before each line, in text order, where these are in scope before the first; those that an inner block
--- brings are gone behind it
+-- brings are gone after it
 unfoldable pub names_lines : List StatementView → Names → Script → List Names
 names_lines before ns (Cite by rest) = ns ∷ names_lines before ns rest
 names_lines before ns (Hence lit cert rest) = ns ∷ names_lines before ns rest

@@ -1,4 +1,4 @@
--- Why a script is refused: its first line that is not licensed, with values that show it; or a line that is too wide.
+-- Why a script is refused: its first step that is not licensed, with values that show it; or a line that is too wide.
 use Rattle.std.specs.Prelude.{◌≡◌, ℕ, List, IsTrue, IsFalse, Contains, MatchBool, Option, Some, None}
 use Rattle.e_literal.specs.declared.object.Term.{Term}
 use Rattle.e_literal.specs.declared.literal.Lit.{Lit}

@@ -17,7 +17,7 @@ use Rattle.e_drawing.specs.Plans.{no_plan, step, is_done}
 unfoldable pub words_step : Plan → List (List ℕ) → Result Plan FaultKind
 words_step p words = line_of words >>= λ l. step p l
 
--- the lines end: behind the last line of the figure, or before it
+-- the lines end: after the last line of the figure, or before it
 abbrev pub at_end : ℕ → Plan → Result Plan BookFault
 at_end last p = if is_done p then Ok p else Err (faults.Unended last)
 

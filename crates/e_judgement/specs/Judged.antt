@@ -14,15 +14,15 @@ use Rattle.e_read.specs.Text.{at_start, piece_from, Derived, Last, is_lf_end}
 use Rattle.e_judgement.specs.declared.judgement.Judgement.{Judgement}
 use Rattle.e_judgement.specs.declared.judgement.Judgement.TheVariants.{Verified, Bad, Garbled}
 
--- the lines ahead, cut off behind the first that has a fault
+-- the next lines, cut off after the first that has a fault
 abbrev pub Rest : Type 0
 Rest = List (Result LineView LineFault)
 
--- behind a theorem it is known
+-- after a theorem it is known
 abbrev pub with_theorem : List TitledStatement → TheoremView → List TitledStatement
 with_theorem known t = known ++ headed t.title t.statement ∷ []
 
--- with this known, these lines begin with this theorem and its derivation, in this version, and those are left behind it
+-- with this known, these lines begin with this theorem and its derivation, in this version, and those are left after it
 abbrev pub ReadsNext : Version → ℕ → List TitledStatement → Rest → TheoremView → Rest → Type 0
 ReadsNext v last known lines t after = piece_from known last (at_start v) lines ≡ Ok (Derived t, after)
 
@@ -41,7 +41,7 @@ abbrev pub number_of : Result LineView LineFault → ℕ
 number_of (Ok l) = l.number
 number_of (Err f) = fault_line f
 
--- nothing stands behind the last line
+-- nothing stands after the last line
 abbrev pub JudgedBehind : ℕ → Rest → Judgement
 JudgedBehind n [] = Verified n
 JudgedBehind n (x ∷ xs) = Garbled (number_of x)
@@ -64,7 +64,7 @@ FailsThere v last known lines j =
 abbrev pub Closes : Version → ℕ → List TitledStatement → Rest → Judgement → Type 0
 Closes v last known lines j = EndsThere v last known lines j ⊎ (BreaksThere v last known lines j ⊎ FailsThere v last known lines j)
 
--- these lines behind the head of this version are theorems, each certified by those before it, and then end so
+-- these lines after the head of this version are theorems, each certified by those before it, and then end so
 pub record IsJudged (v : Version) (last : ℕ) (lines : Rest) (j : Judgement) : Type 0 where
   pub theorems : List TheoremView
   pub known : List TitledStatement
@@ -84,7 +84,7 @@ is_head v l = is_lf_end l.end && bytes_eq l.bytes (head_of v)
 abbrev pub version_of : LineView → Option Version
 version_of l = if is_head One l then Some One else if is_head Two l then Some Two else None
 
--- behind a line that says this the lines are judged so
+-- after a line that says this the lines are judged so
 abbrev pub JudgedBehindHead : Option Version → Rest → Judgement → Type 0
 JudgedBehindHead None lines j = j ≡ Garbled 1
 JudgedBehindHead (Some v) lines j = IsJudged v (2 + length lines) lines j

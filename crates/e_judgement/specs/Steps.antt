@@ -29,7 +29,7 @@ abbrev pub NextIs : Version → List TitledStatement → ℕ → Rest → Rest �
 NextIs v known last lines after (Theorem t) = IsNext v known last lines (entry_of t) after
 NextIs v known last lines after (End j) = Closes v last known lines j
 
--- behind a theorem fewer lines are ahead, and they are those of the same text
+-- after a theorem fewer lines come, and they are those of the same text
 abbrev pub GoesOn : NextItem → Ahead → Ahead → Type 0
 GoesOn (Theorem t) before after = (length after.lines < length before.lines) × (last_line after ≡ last_line before)
 GoesOn (End j) before after = Unit {0}

@@ -43,6 +43,6 @@ is_known known title = list_any (bytes_eq title) (titles known)
 abbrev pub title_at : List TitledStatement → ℕ → List ℕ
 title_at known k = slice_index_or (titles known) k []
 
--- where the theorem with this title stands
+-- where the theorem with this title is
 abbrev pub place_in : List TitledStatement → List ℕ → Option ℕ
 place_in known title = position (bytes_eq title) (titles known)

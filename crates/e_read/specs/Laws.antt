@@ -29,7 +29,7 @@ abbrev pub DerivationsAreOfBooks : Type 0
 DerivationsAreOfBooks = (v : Version) (known : List TitledStatement) (last : ℕ) (t : TheoremView) (lines rest : List (Result LineView LineFault)) → piece_from known last (at_start v) lines ≡ Ok (Derived t, rest)
     → ReadsAsBook known last t lines rest
 
--- The lines begin with a front of which no line is wrong: read alone it only ends too soon. The line behind the front has no form at its
+-- The lines begin with a front of which no line is wrong: read alone it only ends too soon. The line after the front has no form at its
 -- place, whatever follows it, and has this number.
 pub record GarblesAt (v : Version) (known : List TitledStatement) (lines : List (Result LineView LineFault)) (n : ℕ) : Type 0 where
   pub front : List (Result LineView LineFault)
@@ -39,7 +39,7 @@ pub record GarblesAt (v : Version) (known : List TitledStatement) (lines : List 
   pub before : (last : ℕ) → piece_from known last (at_start v) front ≡ Err last
   pub there : (last : ℕ) (other : List (Result LineView LineFault)) → piece_from known last (at_start v) (front ++ line ∷ other) ≡ Err n
 
--- no line is wrong, and they end inside a theorem: at the number behind the last line, whichever it is
+-- no line is wrong, and they end inside a theorem: at the number after the last line, whichever it is
 abbrev pub EndsTooSoon : Version → List TitledStatement → List (Result LineView LineFault) → Type 0
 EndsTooSoon v known lines = (last : ℕ) → piece_from known last (at_start v) lines ≡ Err last
 

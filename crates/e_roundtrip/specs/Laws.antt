@@ -1,4 +1,4 @@
--- What holds between reading, spelling and judging, whatever the code does.
+-- What holds between reading, spelling and verifying, whatever the code does.
 use Rattle.std.specs.Prelude.{◌≡◌, ℕ, IsTrue, List, [], ◌++◌, length, Result, Ok}
 use Rattle.std.specs.List.{list_all}
 use Rattle.e_text.specs.Lines.{LineView, text_of_lines}
@@ -70,7 +70,7 @@ TrimmedHasSpelling =
 -- ---- what is written is judged
 
 -- what is written of derivations that can be spelled is a derivation text that is judged as their verdicts say: verified, or bad at
--- the first line that is not certified, and never garbled, however long it is
+-- the first step that is not certified, and never garbled, however long it is
 abbrev pub WrittenIsJudged : Type 0
 WrittenIsJudged =
     (v : Version) (ps : List (TheoremView × Script)) → AllCanBeSpelled v [] ps → JudgesText (written v ps) (judgement_of [] ps)

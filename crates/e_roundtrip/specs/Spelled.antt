@@ -12,7 +12,7 @@ use Rattle.e_book.specs.TheoremViews.{TheoremView}
 use Rattle.e_book.specs.HasSpelling.{HasSpelling}
 use Rattle.e_roundtrip.specs.Formed.{Formed}
 
--- the lines ahead begin with these texts, whatever their numbers, each ended by a line feed, and the rest follows
+-- the next lines begin with these texts, whatever their numbers, each ended by a line feed, and the rest follows
 abbrev pub ShowsEnded : List (Result LineView LineFault) → List (List ℕ) → List (Result LineView LineFault) → Type 0
 ShowsEnded lines [] rest = lines ≡ rest
 ShowsEnded [] (text ∷ texts) rest = ⊥

@@ -54,14 +54,14 @@ makes_at before (Make form names certs rest) = sorts_made form
 makes_at before (Apply theorem args names certs rest) = (theorem_at before theorem).made
 makes_at before _ = []
 
--- it makes a literal a fact that is looked up behind it, and none the same was a fact before
+-- it makes a literal a fact that is looked up after it, and none the same was a fact before
 abbrev pub supplies : List Lit → Wants → Lit → Bool
 supplies facts w l = not (has facts l) && has w.lits l
 
 abbrev pub is_needed : Wants → Obj → Bool
 is_needed w o = list_any (same_obj o) w.objects
 
--- a step is kept where it supplies a literal, or makes an object, that is wanted behind it
+-- a step is kept where it supplies a literal, or makes an object, that is wanted after it
 abbrev pub is_kept : List StatementView → Script → Scope → List Lit → Wants → Bool
 is_kept before here s facts w =
     list_any (supplies facts w) (joins_at before here s) || list_any (is_needed w) (next_objects s (makes_at before here))
@@ -76,7 +76,7 @@ outside s facts w = record { lits = filter (has facts) w.lits; objects = filter 
 abbrev pub line_at : Script → Scope → List Lit → Goal → Line
 line_at here s facts goal = line here here s facts goal
 
--- Where this is wanted behind a step, and that by the block inside it, what is wanted from the step on: a step that is not kept
+-- Where this is wanted after a step, and that by the block inside it, what is wanted from the step on: a step that is not kept
 -- wants nothing.
 abbrev pub with_step : List StatementView → Script → Scope → List Lit → Goal → Wants → Wants → Wants
 with_step before here s facts goal inner w =

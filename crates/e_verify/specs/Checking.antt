@@ -21,7 +21,7 @@ line_in_state d x goal = line d d x.scope x.facts goal
 abbrev pub lines_in_state : List StatementView → Script → StepState → Goal → List Line
 lines_in_state before d x goal = lines before d d x.scope x.facts goal
 
--- the number of the script's first line that is not certified, or the number after the last, where the first has this number
+-- the number of the script's first step that is not certified, or the number after the last, where the first has this number
 abbrev pub verdict_at : List StatementView → Script → StepState → Goal → ℕ → Result ℕ ℕ
 verdict_at before d x goal first = first_failure (is_certified before) (lines_in_state before d x goal) first
 

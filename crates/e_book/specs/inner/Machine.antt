@@ -137,7 +137,7 @@ abbrev pub at_end : ℕ → Option Coming → Answer
 at_end last None = Ok None
 at_end last (Some c) = Err (faults.Unended last)
 
--- the next theorem or definition and the lines behind it, or the first fault
+-- the next theorem or definition and the lines after it, or the first fault
 abbrev pub item_from : Known → ℕ → Option Coming → Rest → Answer
 item_from known last c [] = at_end last c
 item_from known last c (Err f ∷ lines) = Err (line_fault f)
@@ -165,7 +165,7 @@ TakesLine known old l (Ok None) new = (last : ℕ) (more : Rest) → item_from k
 TakesLine known old l (Ok (Some i)) new = (new ≡ None) × ((last : ℕ) (more : Rest) → item_from known last old (Ok l ∷ more) ≡ Ok (Some (view_of i, more)))
 TakesLine known old l (Err f) new = (last : ℕ) (more : Rest) → BookFails f (item_from known last old (Ok l ∷ more))
 
--- what the lines that are ahead make of it: all are taken, and none has a fault; or a theorem or a definition ends, and these are left
+-- what the lines that come make of it: all are taken, and none has a fault; or a theorem or a definition ends, and these are left
 abbrev pub ReadsOn : Known → Option Coming → Rest → Result (Option Item) BookFault → Option Coming → Rest → Type 0
 ReadsOn known old lines (Ok None) new left =
     (left ≡ []) × HaveNoFault lines × ((last : ℕ) (more : Rest) → item_from known last old (lines ++ more) ≡ item_from known last new more)

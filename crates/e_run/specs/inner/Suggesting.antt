@@ -115,7 +115,7 @@ pub record IsNext (lines : Rest) (title : List ℕ) (before : List TitledStateme
 abbrev pub AnswersNext : List TitledStatement → TheoremView → List ℕ → ℕ → Status → List ℕ → Type 0
 AnswersNext before t title step answer out = (lines : Rest) → IsNext lines title before t → IsBookAnswer lines title step answer out
 
--- the stop is want of memory, which says nothing of the book
+-- the stop is out of memory, which says nothing of the book
 abbrev pub is_out_of_memory : Stop → Bool
 is_out_of_memory stops.NoMemory = true
 is_out_of_memory stop = false

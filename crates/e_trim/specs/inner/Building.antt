@@ -25,12 +25,12 @@ pub record AreSmall (before : List StatementView) (d : Script) (s : Scope) : Typ
   pub goal : Goal
   pub small : IsTrue (list_all (λ x. is_small x.scope) (lines before d d s facts goal))
 
--- with something behind it
+-- with something after it
 pub record IsSmallStep (before : List StatementView) (step : Step) (s : Scope) : Type 0 where
   pub rest : Script
   pub small : AreSmall before (step_script step rest) s
 
--- the kept step over the kept objects, with more behind it
+-- the kept step over the kept objects, with more after it
 abbrev pub kept_step : List StatementView → List Obj → Script → Scope → List Lit → Script → Script
 kept_step before kept (Cite by rest) s facts more = Cite (by_at kept by) more
 kept_step before kept (Hence lit cert rest) s facts more = Hence (lit_at kept lit) (option_map (cert_at kept) cert) more
@@ -49,7 +49,7 @@ abbrev pub TakesFlag : List Bool → List Bool → Bool → Type 0
 TakesFlag pile left kept =
     (under inner : List Bool) (b : Bool) → pile ≡ under ++ flag b inner → (kept ≡ b) × (left ≡ under ++ (if b then inner else []))
 
--- the flags of the script lie on the pile, over others, and are taken; behind the steps that were there stand what is left of it
+-- the flags of the script lie on the pile, over others, and are taken; after the steps that were there stand what is left of it
 abbrev pub IsBuilt : List StatementView → List Obj → Script → Scope → List Bool → List Bool → List Step → List Step → Close → Type 0
 IsBuilt before kept d s pile left done now close =
     (facts : List Lit) (goal : Goal) (under : List Bool) → pile ≡ under ++ flags_of before d s facts goal

@@ -19,7 +19,7 @@ abbrev pub flag : Bool → List Bool → List Bool
 flag true inner = inner ++ true ∷ []
 flag false inner = false ∷ []
 
--- the flags of a script: under those of a step are those of what comes behind it
+-- the flags of a script: under those of a step are those of what comes after it
 unfoldable pub flags_of : List StatementView → Script → Scope → List Lit → Goal → List Bool
 flags_of before (Cite by rest) s facts goal =
     let after = joined facts by.lit in

@@ -47,11 +47,11 @@ pub record IsReady (before : List StatementView) (d : Script) (s : Scope) (facts
   pub forms : IsTrue (list_all (fits before) (lines before d d s facts goal))
   pub scopes : IsTrue (list_all (λ x. is_small x.scope) (lines before d d s facts goal))
 
--- behind a step
+-- after a step
 abbrev pub passed : List StatementView → Script → Standing → Standing
 passed before here x = opened (makes_at before here) (joins_at before here x.scope) x
 
--- with something behind it and some goal the form of the step fits
+-- with something after it and some goal the form of the step fits
 pub record StepFits (before : List StatementView) (step : Step) (s : Scope) : Type 0 where
   pub rest : Script
   pub goal : Goal
@@ -66,13 +66,13 @@ pub record IsApplied (before : List StatementView) (theorem : ℕ) (args : List 
   pub place : theorem < length before
   pub fit : IsTrue (are_arguments (theorem_at before theorem) s (written args))
 
--- with something behind it and some goal the step is ready
+-- with something after it and some goal the step is ready
 pub record IsReadyStep (before : List StatementView) (step : Step) (x : Standing) : Type 0 where
   pub rest : Script
   pub goal : Goal
   pub ready : IsReady before (step_script step rest) x.scope x.facts goal
 
--- a kept step adds this to what is wanted, whatever comes behind it
+-- a kept step adds this to what is wanted, whatever comes after it
 abbrev pub StepWants : List StatementView → Step → Standing → Wants → Wants → Type 0
 StepWants before step x old new =
     (rest : Script) (goal : Goal) →
@@ -82,12 +82,12 @@ StepWants before step x old new =
 abbrev pub StepFlags : List StatementView → Step → Standing → List Bool → List Bool → Type 0
 StepFlags before step x old new = (rest : Script) → new ≡ old ++ step_flags before (step_script step rest) x.scope x.facts
 
--- a step adds what it wants to what is wanted behind it, if it is kept
+-- a step adds what it wants to what is wanted after it, if it is kept
 abbrev pub StepAdds : List StatementView → Step → Standing → Wants → Wants → Type 0
 StepAdds before step x old new =
     (rest : Script) (goal : Goal) → new ≡ with_step before (step_script step rest) x.scope x.facts goal (inside_of before (step_script step rest) x.scope x.facts) old
 
--- and its flag to the pile, where this is wanted behind it
+-- and its flag to the pile, where this is wanted after it
 abbrev pub FlagsAdded : List StatementView → Step → Standing → Wants → List Bool → List Bool → Type 0
 FlagsAdded before step x w old new =
     (rest : Script) → new ≡ old ++ flag (is_kept before (step_script step rest) x.scope x.facts w) (step_flags before (step_script step rest) x.scope x.facts)
