@@ -2,7 +2,7 @@
 use Rattle.std.proofs.Common.{◌≡◌, ℕ, ◌≤◌, Bool, true, false, cond, ltb, inl, inr, List, Option, Some, None, Result, Ok, Err, refl, ap, arith}
 use Rattle.std.specs.Prelude.{◌⊎◌}
 use Rattle.std.proofs.lemmas.Bool.{cases_lt, lt-ltb}
-use Rattle.e_text.specs.Lines.{Seen}
+use Rattle.e_text.specs.Lines.{LineView}
 use Rattle.e_text.specs.declared.line.LineFault.{LineFault}
 use Rattle.e_line.specs.declared.fault.FaultKind.{FaultKind}
 use Rattle.e_line.specs.declared.fault.FaultKind.TheVariants.{Malformed, NameTaken, Limit}
@@ -42,15 +42,15 @@ put_ok n (Ok x) d e = cc
 put_ok n (Err k) d e = absurd cc
 
 abbrev pub Answer : Type 0
-Answer = Option (TheoremView × List (Result Seen LineFault))
+Answer = Option (TheoremView × List (Result LineView LineFault))
 
 abbrev pub answered : Answer → Result Answer BookFault
 answered x = Ok x
 
-abbrev pub pair : TheoremView → List (Result Seen LineFault) → Answer
+abbrev pub pair : TheoremView → List (Result LineView LineFault) → Answer
 pair t rest = Some (t, rest)
 
-pub first_is : (t u : TheoremView) (ts us : List (Result Seen LineFault)) → answered (pair t ts) ≡ answered (pair u us) → t ≡ u
+pub first_is : (t u : TheoremView) (ts us : List (Result LineView LineFault)) → answered (pair t ts) ≡ answered (pair u us) → t ≡ u
 first_is t u ts us e = ap (λ (a : Answer). entry_in t a) (answer_is (pair t ts) (pair u us) e) where
   entry_in : TheoremView → Answer → TheoremView
   entry_in t None = t

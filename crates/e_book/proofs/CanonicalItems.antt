@@ -5,7 +5,7 @@ use Rattle.std.proofs.lemmas.Bool.{le-ltb}
 use Rattle.std.specs.List.{list_any, AllByRecursion}
 use Rattle.e_text.specs.Names.{reserved_words}
 use Rattle.e_text.specs.Tokens.{tokens_of}
-use Rattle.e_text.specs.Lines.{Seen}
+use Rattle.e_text.specs.Lines.{LineView}
 use Rattle.e_literal.specs.declared.literal.Lit.{Lit}
 use Rattle.e_literal.specs.Literal.{all_in_scope}
 use Rattle.e_literal.specs.WellFormed.{is_well_formed}
@@ -140,7 +140,7 @@ next_taken known d e f good h = rw (plain_again f good, h) refl
 abbrev found : BookItem → Rest → Answer
 found i rest = Ok (Some (i, rest))
 
-next_read : (known : Known) (last : ℕ) (d e : TheoremParser) (l : Seen) (after : Rest) (f : RawLine) → l.bytes ≡ written_line f → GoodForm f → step known.theorems d (as_read f) ≡ Ok e
+next_read : (known : Known) (last : ℕ) (d e : TheoremParser) (l : LineView) (after : Rest) (f : RawLine) → l.bytes ≡ written_line f → GoodForm f → step known.theorems d (as_read f) ≡ Ok e
     → item_from known last (Some (theorem d)) (Ok l ∷ after) ≡ cond (is_last e.place) (found (OfTheorem (entry_of_draft e)) after) (item_from known last (Some (theorem e)) after)
 next_read known last d e l after f b good h =
     let words : tokens_of l.bytes ≡ raw_line_words f = ap tokens_of b ∙ words_again f good in
@@ -188,7 +188,7 @@ begun_taken : (known : Known) (t : List ℕ) (e : TheoremParser) → GoodForm (r
 unfolding line_step begins_theorem
 begun_taken known t e good free h = rw (plain_again (rawlines.Theorem t) good) (begins_is known t ∙ rw (free, h) refl)
 
-first_read : (known : Known) (last : ℕ) (t : List ℕ) (e : TheoremParser) (l : Seen) (after : Rest) → l.bytes ≡ written_line (rawlines.Theorem t) → GoodForm (rawlines.Theorem t) → defines known.notions t ≡ false → begin known.theorems (rawlines.Theorem t) ≡ Ok e → is_last e.place ≡ false
+first_read : (known : Known) (last : ℕ) (t : List ℕ) (e : TheoremParser) (l : LineView) (after : Rest) → l.bytes ≡ written_line (rawlines.Theorem t) → GoodForm (rawlines.Theorem t) → defines known.notions t ≡ false → begin known.theorems (rawlines.Theorem t) ≡ Ok e → is_last e.place ≡ false
     → item_from known last None (Ok l ∷ after) ≡ item_from known last (Some (theorem e)) after
 first_read known last t e l after b good free h go =
     let words : tokens_of l.bytes ≡ raw_line_words (rawlines.Theorem t) = ap tokens_of b ∙ words_again (rawlines.Theorem t) good in

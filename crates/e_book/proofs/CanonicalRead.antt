@@ -3,7 +3,7 @@ use Rattle.std.proofs.Common.{◌≡◌, ℕ, true, cond, List, [], ◌∷◌, �
 use Rattle.std.specs.List.{list_all}
 use Rattle.std.proofs.lemmas.Bool.{and_parts}
 use Rattle.e_text.specs.Tokens.{tokens_of}
-use Rattle.e_text.specs.Lines.{Seen}
+use Rattle.e_text.specs.Lines.{LineView}
 use Rattle.e_text.specs.declared.line.LineFault.{LineFault}
 use Rattle.e_literal.specs.declared.object.Scope.{Scope}
 use Rattle.e_literal.specs.declared.literal.Lit.{Lit}
@@ -144,19 +144,19 @@ unfolding line_step
 line_taken known None f good = rw (form_again f good) refl
 line_taken known (Some d) f good = rw (form_again f good) refl
 
-record Left (known : List TitledStatement) (last : ℕ) (s u : Option TheoremParser) (all : List (Result Seen LineFault)) (gs : List RawLine) (rest : List (Result Seen LineFault)) : Type 0 where
-  ahead : List (Result Seen LineFault)
+record Left (known : List TitledStatement) (last : ℕ) (s u : Option TheoremParser) (all : List (Result LineView LineFault)) (gs : List RawLine) (rest : List (Result LineView LineFault)) : Type 0 where
+  ahead : List (Result LineView LineFault)
   shown : Shows ahead (map line_of gs) rest
   same : read_from known last s all ≡ read_from known last u ahead
 
-one_read : (known : List TitledStatement) (last : ℕ) (s : Option TheoremParser) (l : Seen) (after : List (Result Seen LineFault)) (f : RawLine) (e : TheoremParser) → l.bytes ≡ line_of f → GoodForm f → form_step known s (as_read f) ≡ Ok e
+one_read : (known : List TitledStatement) (last : ℕ) (s : Option TheoremParser) (l : LineView) (after : List (Result LineView LineFault)) (f : RawLine) (e : TheoremParser) → l.bytes ≡ line_of f → GoodForm f → form_step known s (as_read f) ≡ Ok e
     → read_from known last s (Ok l ∷ after) ≡ cond (is_done e) (Ok (Some (entry_of_draft e, after))) (read_from known last (Some e) after)
 one_read known last s l after f e b good h =
     let words : tokens_of l.bytes ≡ raw_line_words f = ap tokens_of b ∙ words_again f good in
     let next : line_step known s (raw_line_words f) ≡ Ok e = line_taken known s f good ∙ h in
     rw (words, not_skipped f, next) refl
 
-reads_runs : (known : List TitledStatement) (last : ℕ) (s u : Option TheoremParser) (fs gs : List RawLine) (all rest : List (Result Seen LineFault)) → Runs known s fs u → Shows all (map line_of (fs ++ gs)) rest → Left known last s u all gs rest
+reads_runs : (known : List TitledStatement) (last : ℕ) (s u : Option TheoremParser) (fs gs : List RawLine) (all rest : List (Result LineView LineFault)) → Runs known s fs u → Shows all (map line_of (fs ++ gs)) rest → Left known last s u all gs rest
 reads_runs known last s u [] gs all rest r sh = record { ahead = all; shown = sh; same = ap (λ (x : Option TheoremParser). read_from known last x all) r }
 reads_runs known last s u (f ∷ fs) gs [] rest r sh = absurd sh
 reads_runs known last s u (f ∷ fs) gs (Err x ∷ all) rest r sh = absurd sh
@@ -166,7 +166,7 @@ reads_runs known last s u (f ∷ fs) gs (Ok l ∷ all) rest r sh =
     let goes : cond (is_done r.0) (Ok (Some (entry_of_draft r.0, all))) (read_from known last (Some r.0) all) ≡ read_from known last (Some r.0) all = rw r.3 refl in
     record { ahead = more.ahead; shown = more.shown; same = here ∙ goes ∙ more.same }
 
-abbrev answered : TheoremView → List (Result Seen LineFault) → Result (Option (TheoremView × List (Result Seen LineFault))) BookFault
+abbrev answered : TheoremView → List (Result LineView LineFault) → Result (Option (TheoremView × List (Result LineView LineFault))) BookFault
 answered t rest = Ok (Some (t, rest))
 
 -- ---- the whole
@@ -183,16 +183,16 @@ pub step_end : (known : List TitledStatement) (t : TheoremView) (last : Inside) 
 unfolding step stepped
 step_end known t last = refl
 
-end_read : (known : List TitledStatement) (number : ℕ) (t : TheoremView) (last : Inside) (all rest : List (Result Seen LineFault)) → Closes (steps_of t.script) (close_of t.script) t.script → Shows all (line_of rawlines.End ∷ []) rest
+end_read : (known : List TitledStatement) (number : ℕ) (t : TheoremView) (last : Inside) (all rest : List (Result LineView LineFault)) → Closes (steps_of t.script) (close_of t.script) t.script → Shows all (line_of rawlines.End ∷ []) rest
     → read_from known number (Some (shut_draft t last)) all ≡ answered t rest
 end_read known number t last [] rest same sh = absurd sh
 end_read known number t last (Err x ∷ all) rest same sh = absurd sh
 end_read known number t last (Ok l ∷ all) rest same sh =
     let d = shut_draft t last in
     one_read known number (Some d) l all rawlines.End (record d { place = Done }) sh.0 tt (step_end known t last)
-    ∙ ap (λ (s : Script). answered (record t { script = s }) all) same ∙ ap (λ (ls : List (Result Seen LineFault)). answered t ls) sh.1
+    ∙ ap (λ (s : Script). answered (record t { script = s }) all) same ∙ ap (λ (ls : List (Result LineView LineFault)). answered t ls) sh.1
 
-pub canonical_lines_read : (known : List TitledStatement) (last : ℕ) (t : TheoremView) (all rest : List (Result Seen LineFault)) → HasSpelling known t → Shows all (map line_of (forms_of known t)) rest
+pub canonical_lines_read : (known : List TitledStatement) (last : ℕ) (t : TheoremView) (all rest : List (Result LineView LineFault)) → HasSpelling known t → Shows all (map line_of (forms_of known t)) rest
     → read_from known last None all ≡ Ok (Some (t, rest))
 canonical_lines_read known last t all rest h sh =
     let o = in_order t.names h.point_names h.line_names h.circle_names h.fits.differ in

@@ -2,7 +2,7 @@
 use Rattle.std.proofs.Common.{◌≡◌, ℕ, Bool, true, false, cond, inl, inr, [], ◌∷◌, ◌++◌, Option, Some, None, Result, Ok, Err, refl, sym, ap, subst}
 use Rattle.std.specs.Prelude.{◌⊎◌}
 use Rattle.e_text.specs.Tokens.{tokens_of}
-use Rattle.e_text.specs.Lines.{Seen}
+use Rattle.e_text.specs.Lines.{LineView}
 use Rattle.e_text.specs.declared.line.LineFault.{LineFault}
 use Rattle.e_line.specs.declared.fault.FaultKind.{FaultKind}
 use Rattle.e_line.specs.declared.fault.BookFault.{BookFault}
@@ -29,7 +29,7 @@ by_case false x y z P e t f = f refl e
 abbrev behind : Known → ℕ → Rest → Coming → Answer
 behind known last lines n = whole_or (whole n) lines (item_from known last (Some n) lines)
 
-pub front_fault : (known : Known) (o left : Option Coming) (front : Rest) (line : Result Seen LineFault) (fault : BookFault) → Leaves known o front left → IsFaulty known left line fault
+pub front_fault : (known : Known) (o left : Option Coming) (front : Rest) (line : Result LineView LineFault) (fault : BookFault) → Leaves known o front left → IsFaulty known left line fault
     → (last : ℕ) (other : Rest) → item_from known last o (front ++ line ∷ other) ≡ wrong fault
 front_fault known o left [] (Err f) fault e q last other = ap (λ (x : BookFault). wrong x) q
 front_fault known o left [] (Ok l) fault e q last other =
@@ -43,7 +43,7 @@ front_fault known o left (Ok l ∷ ls) line fault h q last other =
     (λ f. let s = h.1 f in rw (s.1, s.2) (front_fault known (Some s.0) left ls line fault s.3 q last other))
 
 -- one more line before the front
-longer : (known : Known) (last : ℕ) (o m : Option Coming) (l : Seen) (ls : Rest) (fault : BookFault)
+longer : (known : Known) (last : ℕ) (o m : Option Coming) (l : LineView) (ls : Rest) (fault : BookFault)
     → ((front : Rest) (left : Option Coming) → Leaves known m front left → Leaves known o (Ok l ∷ front) left) → IsFirst known last m ls fault → IsFirst known last o (Ok l ∷ ls) fault
 longer known last o m l ls fault more (inl b) =
     inl (record { front = Ok l ∷ b.front; line = b.line; rest = b.rest; all = ap (λ (x : Rest). Ok l ∷ x) b.all; left = b.left; taken = more b.front b.left b.taken; faulty = b.faulty })
@@ -62,7 +62,7 @@ unfinished known last n ls fault None is e = (is, e)
 unfinished known last n ls fault (Some t) is e = absurd cc
 
 -- what a line made of it, where it ends in a fault
-went : (known : Known) (last : ℕ) (l : Seen) (ls : Rest) (r : Result Coming FaultKind) (fault : BookFault) → (put_there l.number r >>= λ n. behind known last ls n) ≡ wrong fault
+went : (known : Known) (last : ℕ) (l : LineView) (ls : Rest) (r : Result Coming FaultKind) (fault : BookFault) → (put_there l.number r >>= λ n. behind known last ls n) ≡ wrong fault
     → (put_there l.number r ≡ Err fault) ⊎ ((n : Coming) × (r ≡ read_coming n) × (whole n ≡ None) × (item_from known last (Some n) ls ≡ wrong fault))
 went known last l ls (Err k) fault e = inl cc
 went known last l ls (Ok n) fault e = let u = unfinished known last n ls fault (whole n) refl e in inr (n, refl, u.0, u.1)

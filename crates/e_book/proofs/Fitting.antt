@@ -2,7 +2,7 @@
 use Rattle.std.proofs.Common.{◌≡◌, ℕ, ◌≤◌, Bool, true, ◌&&◌, List, [], ◌∷◌, ◌++◌, length, None, Result, Ok, refl, sym, ap, subst, arith}
 use Rattle.std.specs.List.{list_all}
 use Rattle.std.proofs.lemmas.Bool.{le-leb, and_parts, and_from}
-use Rattle.e_text.specs.Lines.{Seen}
+use Rattle.e_text.specs.Lines.{LineView}
 use Rattle.e_text.specs.declared.line.LineFault.{LineFault}
 use Rattle.e_literal.specs.declared.object.Sort.TheVariants as sorts
 use Rattle.e_literal.specs.declared.object.Scope.{Scope}
@@ -11,7 +11,7 @@ use Rattle.e_literal.specs.Literal.{negation, all_in_scope}
 use Rattle.e_literal.specs.Scopes.{grown}
 use Rattle.e_literal.specs.WellFormed.{is_well_formed}
 use Rattle.e_literal.specs.Facts.{joined, joined_all}
-use Rattle.e_literal.specs.Use.{Stated, scope_of, is_statement, gives_of_use}
+use Rattle.e_literal.specs.Use.{StatementView, scope_of, is_statement, gives_of_use}
 use Rattle.e_literal.proofs.Booleans.{all_both}
 use Rattle.e_construct.specs.Construct.{sorts_made, gives_of_construction}
 use Rattle.e_construct.specs.Superposing as superposing
@@ -56,7 +56,7 @@ few_named ns e =
     record { points = within_ok _ _ _ p.0 p.1; lines = within_ok _ _ _ l.0 l.1; circles = within_ok _ _ _ tt l.2 }
 
 -- before each line few objects are in scope
-small_scopes : (bs : List Stated) (script f : Script) (ns : Names) (facts : List Lit) (goal : Goal) → FewNamed ns → NewNamesFit bs ns script → list_all is_small_line (lines bs script f (scope_of_names ns) facts goal) ≡ true
+small_scopes : (bs : List StatementView) (script f : Script) (ns : Names) (facts : List Lit) (goal : Goal) → FewNamed ns → NewNamesFit bs ns script → list_all is_small_line (lines bs script f (scope_of_names ns) facts goal) ≡ true
 unfolding lines NewNamesFit
 small_scopes bs (Cite by rest) f ns facts goal few fit = and_from _ _ (few_is_small ns few) (small_scopes bs rest (rest_of f) ns (joined facts by.lit) goal few fit)
 small_scopes bs (Hence lit cert rest) f ns facts goal few fit = and_from _ _ (few_is_small ns few) (small_scopes bs rest (rest_of f) ns (joined facts lit) goal few fit)
@@ -153,7 +153,7 @@ scopes_fit known t f =
     subst (λ (z : Scope). list_all is_small_line (lines bs t.script t.script z (facts_of_statement st) (goal_of_statement st)) ≡ true) (declared_scope st t.names f.scope)
     (small_scopes bs t.script t.script (declared_names st t.names) (facts_of_statement st) (goal_of_statement st) (few_declared known t f) f.new_names)
 
-are_statements : (bs : List Stated) → list_all is_small_statement bs ≡ true → list_all is_statement bs ≡ true
+are_statements : (bs : List StatementView) → list_all is_small_statement bs ≡ true → list_all is_statement bs ≡ true
 are_statements bs h = every is_small_statement is_statement (λ t k. (and_parts (is_statement t) (is_small (all_objects t)) k).0) bs h
 
 lits_fit : (known : List TitledStatement) (t : TheoremView) → list_all is_small_statement (stated_by known) ≡ true → Fits known t → (filled : Script) → LitsFit (stated_by known) (proof_lines (stated_by known) (stated t.statement) t.script filled)
@@ -183,11 +183,11 @@ fitting known t states f =
     }
 
 -- and so can one that is read
-pub reading_fitting : (known : List TitledStatement) (last : ℕ) (ahead rest : List (Result Seen LineFault)) (t : TheoremView) → list_all is_small_statement (stated_by known) ≡ true
+pub reading_fitting : (known : List TitledStatement) (last : ℕ) (ahead rest : List (Result LineView LineFault)) (t : TheoremView) → list_all is_small_statement (stated_by known) ≡ true
     → read_from known last None ahead ≡ answered (pair t rest) → IsFitting (stated_by known) (stated t.statement) t.script
 reading_fitting known last ahead rest t states e = fitting known t states (reading_fits known last None ahead rest t tt e)
 
-pub reading_states : (known : List TitledStatement) (last : ℕ) (ahead rest : List (Result Seen LineFault)) (t : TheoremView) → read_from known last None ahead ≡ answered (pair t rest) → is_small_statement (stated t.statement) ≡ true
+pub reading_states : (known : List TitledStatement) (last : ℕ) (ahead rest : List (Result LineView LineFault)) (t : TheoremView) → read_from known last None ahead ≡ answered (pair t rest) → is_small_statement (stated t.statement) ≡ true
 reading_states known last ahead rest t e = small_statement known t (reading_fits known last None ahead rest t tt e)
 
 -- one more statement is known

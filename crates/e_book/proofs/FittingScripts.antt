@@ -12,7 +12,7 @@ use Rattle.e_literal.specs.Literal.{negation, all_in_scope}
 use Rattle.e_literal.specs.Facts.{joined, joined_all}
 use Rattle.e_literal.specs.Scopes.{grown, are_of_sorts}
 use Rattle.e_literal.specs.WellFormed.{is_well_formed}
-use Rattle.e_literal.specs.Use.{Stated, gives_of_use}
+use Rattle.e_literal.specs.Use.{StatementView, gives_of_use}
 use Rattle.e_literal.proofs.Booleans.{all_both}
 use Rattle.e_clause.specs.declared.cert.By.{By}
 use Rattle.e_clause.specs.declared.cert.Cert.{Cert}
@@ -39,12 +39,12 @@ use Rattle.e_names.proofs.Building.{GoodLet, named_scope}
 
 -- where a line stands: the earlier theorems, the names in scope, and how many literals are facts and how many monomials they have, repeats counted
 pub record Spot : Type 0 where
-  pub before : List Stated
+  pub before : List StatementView
   pub names : Names
   pub facts : ℕ
   pub terms : ℕ
 
-abbrev pub spot : List Stated → Names → ℕ → ℕ → Spot
+abbrev pub spot : List StatementView → Names → ℕ → ℕ → Spot
 spot before ns n m = record { before = before; names = ns; facts = n; terms = m }
 
 abbrev pub scope_at : Spot → Scope
@@ -71,7 +71,7 @@ with_use at theorem names =
     spot at.before (named at.names t.made names) (at.facts + length t.shown) (at.terms + count_monomials t.shown)
 
 -- the line's form fits, whatever its blanks are filled with
-abbrev pub line_fits : List Stated → Line → Bool
+abbrev pub line_fits : List StatementView → Line → Bool
 line_fits before x = form_fits before x x.here
 
 -- the made objects of the goal have these sorts

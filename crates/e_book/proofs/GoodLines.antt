@@ -21,7 +21,7 @@ use Rattle.e_literal.specs.Scopes.{grown, next_objects, are_of_sorts}
 use Rattle.e_literal.specs.WellFormed.{is_well_formed}
 use Rattle.e_literal.specs.Facts.{has, joined, joined_all}
 use Rattle.e_literal.specs.Rename.{mono_at, atom_at, number_at, renamed, image_in, paired}
-use Rattle.e_literal.specs.Use.{Stated, is_statement, are_arguments, image, gives_of_use}
+use Rattle.e_literal.specs.Use.{StatementView, is_statement, are_arguments, image, gives_of_use}
 use Rattle.e_literal.proofs.WithImages.{is_moved_in}
 use Rattle.e_literal.proofs.Growing.{sorts_next}
 use Rattle.e_literal.proofs.Booleans.{all_both}
@@ -140,7 +140,7 @@ good_goal before s sorts os (l ∷ shown) w f h k =
 -- ---- earlier theorems
 
 -- each of the earlier theorems is a statement
-stated_at : (bs : List Stated) (k : ℕ) → list_all is_statement bs ≡ true → ltb k (length bs) ≡ true → is_statement (theorem_at bs k) ≡ true
+stated_at : (bs : List StatementView) (k : ℕ) → list_all is_statement bs ≡ true → ltb k (length bs) ≡ true → is_statement (theorem_at bs k) ≡ true
 stated_at [] k h lt = let less = ltb-true k 0 lt in absurd (omega (arith, less))
 stated_at (b ∷ bs) zero h lt = (and_parts (is_statement b) (list_all is_statement bs) h).0
 stated_at (b ∷ bs) (suc k) h lt = let less = ltb-true (suc k) (length (b ∷ bs)) lt in stated_at bs k (and_parts (is_statement b) (list_all is_statement bs) h).1 (lt-ltb k (length bs) (omega (arith, less)))
@@ -176,7 +176,7 @@ cited_in_scope s by h =
 parted : (p : Line → Bool) (xs ys : List Line) → list_all p (xs ++ ys) ≡ true → (list_all p xs ≡ true) × (list_all p ys ≡ true)
 parted p xs ys h = and_parts (list_all p xs) (list_all p ys) (sym (list_all-append p xs ys) ∙ h)
 
-both_parts : (bs : List Stated) (xs ys : List Line) → LitsFit bs xs → LitsFit bs ys → LitsFit bs (xs ++ ys)
+both_parts : (bs : List StatementView) (xs ys : List Line) → LitsFit bs xs → LitsFit bs ys → LitsFit bs (xs ++ ys)
 both_parts bs [] ys h k = k
 both_parts bs (x ∷ xs) ys h k = (h.0, λ f. let r = h.1 f in (r.0, both_parts bs xs ys r.1 k))
 
@@ -185,7 +185,7 @@ room : (n : ℕ) (b : Bool) → (leb n most_terms && b) ≡ true → (n ≤ most
 room n b h = let p = and_parts (leb n most_terms) b h in (leb-true n most_terms p.0, p.1)
 
 -- what a line gives that uses an earlier theorem
-good_gifts : (bs : List Stated) (k : ℕ) (s : Scope) (args : List Obj) (facts : List Lit) (n : ℕ) → list_all is_statement bs ≡ true → ltb k (length bs) ≡ true → are_arguments (theorem_at bs k) s args ≡ true → GoodFacts s facts n
+good_gifts : (bs : List StatementView) (k : ℕ) (s : Scope) (args : List Obj) (facts : List Lit) (n : ℕ) → list_all is_statement bs ≡ true → ltb k (length bs) ≡ true → are_arguments (theorem_at bs k) s args ≡ true → GoodFacts s facts n
     → GoodFacts (grown s (theorem_at bs k).made) (joined_all facts (gives_of_use (theorem_at bs k) args s)) (n + count_monomials (theorem_at bs k).shown)
 good_gifts bs k s args facts n states lt fit g =
     let t = theorem_at bs k in
@@ -197,7 +197,7 @@ good_gifts bs k s args facts n states lt fit g =
 
 -- Where the forms of the lines fit, the literals do, whatever the blanks are filled with. The forms are those of the script with
 -- other fillings and other facts, which do not matter to them.
-pub lines_good : (bs : List Stated) → list_all is_statement bs ≡ true → (before : Scope) (sorts : List Sort) (shown : List Lit) → GoodGoal before sorts shown → (script g f : Script) (s : Scope) (other facts : List Lit) (n : ℕ)
+pub lines_good : (bs : List StatementView) → list_all is_statement bs ≡ true → (before : Scope) (sorts : List Sort) (shown : List Lit) → GoodGoal before sorts shown → (script g f : Script) (s : Scope) (other facts : List Lit) (n : ℕ)
     → GoodFacts s facts n → Within before s → n ≤ most_terms → few_terms bs n s script ≡ true → has_good_literals script ≡ true
     → list_all (line_fits bs) (lines bs script g s other (goal_for before sorts shown)) ≡ true → LitsFit bs (lines bs script f s facts (goal_for before sorts shown))
 unfolding lines has_good_literals few_terms

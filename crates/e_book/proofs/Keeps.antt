@@ -12,7 +12,7 @@ use Rattle.e_literal.specs.Use.{scope_of}
 use Rattle.e_literal.proofs.Growing.{grown-append, sorts_next}
 use Rattle.e_literal.proofs.Booleans.{all_both}
 use Rattle.e_text.specs.Tokens.{tokens_of}
-use Rattle.e_text.specs.Lines.{Seen}
+use Rattle.e_text.specs.Lines.{LineView}
 use Rattle.e_text.specs.declared.line.LineFault.{LineFault}
 use Rattle.e_theorem.specs.Statements.{stated}
 use Rattle.e_deriv.specs.declared.names.Names.{Names}
@@ -412,7 +412,7 @@ fits_read known d good a =
     }
 
 -- a theorem that is read fits
-pub reading_fits : (known : List TitledStatement) (last : ℕ) (draft : Option TheoremParser) (lines rest : List (Result Seen LineFault)) (t : TheoremView) → GoodSoFar known draft → read_from known last draft lines ≡ answered (pair t rest) → Fits known t
+pub reading_fits : (known : List TitledStatement) (last : ℕ) (draft : Option TheoremParser) (lines rest : List (Result LineView LineFault)) (t : TheoremView) → GoodSoFar known draft → read_from known last draft lines ≡ answered (pair t rest) → Fits known t
 reading_fits known last None [] rest t g e = absurd cc
 reading_fits known last (Some d) [] rest t g e = absurd cc
 reading_fits known last draft (Err f ∷ lines) rest t g e = absurd cc

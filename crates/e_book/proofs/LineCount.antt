@@ -4,11 +4,11 @@ use Rattle.std.specs.Prelude.{is_ok}
 use Rattle.std.specs.List.{slice_split}
 use Rattle.std.proofs.lemmas.List.Splits.{length-slice_split}
 use Rattle.std.proofs.lemmas.List.Sums.{count_by-le-length}
-use Rattle.e_text.specs.Lines.{is_lf, Bounds, Spot, Seen, closed, lines_of_parts, lines_of}
+use Rattle.e_text.specs.Lines.{is_lf, Bounds, Spot, LineView, closed, lines_of_parts, lines_of}
 use Rattle.e_text.specs.declared.line.LineFault.{LineFault}
 
 abbrev Checked : Type 0
-Checked = Result Seen LineFault
+Checked = Result LineView LineFault
 
 one_or_none : (b : Bool) (x : Checked) → length (cond b [] (x ∷ [])) ≤ 1
 one_or_none true x = omega arith

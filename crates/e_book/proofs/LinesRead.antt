@@ -12,7 +12,7 @@ use Rattle.e_construct.specs.declared.construction.Construction.{Construction}
 use Rattle.e_construct.specs.declared.superpose.Superpose.{Superpose}
 use Rattle.e_construct.specs.Construct.{sorts_made, gives_of_construction}
 use Rattle.e_construct.specs.Superposing as superposing
-use Rattle.e_literal.specs.Use.{Stated}
+use Rattle.e_literal.specs.Use.{StatementView}
 use Rattle.e_literal.proofs.Sorts.{same_sort_is}
 use Rattle.e_deriv.specs.declared.names.Names.{Names}
 use Rattle.e_deriv.specs.Naming.{named}
@@ -82,7 +82,7 @@ abbrev pub written : Inside → ℕ → Inside
 written i terms = record i { terms = i.terms + terms }
 
 -- behind a use of an earlier theorem, whose made objects have these names
-abbrev pub applied_behind : Inside → Stated → ℕ → List (Option Obj) → List (List ℕ) → Inside
+abbrev pub applied_behind : Inside → StatementView → ℕ → List (Option Obj) → List (List ℕ) → Inside
 applied_behind i t theorem args names =
     record (written (behind i (Applied theorem args names []) (length t.shown)) (count_monomials t.shown)) { in_scope = named i.in_scope t.made names }
 

@@ -1,7 +1,7 @@
 -- The blocks of a proof that are open while its lines come: what is known of them, and what each line makes of it.
 use Rattle.std.proofs.Common.{◌≡◌, ℕ, ◌+◌, ◌≤◌, List, [], ◌∷◌, ◌++◌, length, refl, sym, ap, subst, arith}
 use Rattle.e_literal.specs.declared.object.Sort.{Sort}
-use Rattle.e_literal.specs.Use.{Stated}
+use Rattle.e_literal.specs.Use.{StatementView}
 use Rattle.e_deriv.specs.Script.{Script, size}
 use Rattle.e_deriv.specs.PlainStep.{PlainStep, Cited, Inferred, Made, Applied, Claimed, Copied, before, all_before}
 use Rattle.e_book.specs.declared.blocks.OpenBlock.{OpenBlock}
@@ -30,7 +30,7 @@ OpenedFits at sorts level (opened.First lit) = SplitFits at lit
 OpenedFits at sorts level (opened.Second lit first) = SplitFits at lit × ScriptFits (with_lit at lit) sorts (level + 1) first
 
 -- where a block is interrupted
-abbrev pub spot_of : List Stated → OpenBlock → Spot
+abbrev pub spot_of : List StatementView → OpenBlock → Spot
 spot_of before o = spot before o.in_scope o.facts o.terms
 
 -- where the first line of the block inside these stands

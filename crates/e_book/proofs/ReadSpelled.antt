@@ -3,7 +3,7 @@ use Rattle.std.proofs.Common.{◌≡◌, ℕ, ◌+◌, ◌<◌, Bool, true, fals
 use Rattle.std.specs.List.{list_all}
 use Rattle.std.proofs.lemmas.Bool.{lt-ltb, and_parts, and_from}
 use Rattle.e_text.specs.Tokens.{tokens_of}
-use Rattle.e_text.specs.Lines.{Seen}
+use Rattle.e_text.specs.Lines.{LineView}
 use Rattle.e_text.specs.Names.{is_name, is_title}
 use Rattle.e_text.specs.declared.line.LineFault.{LineFault}
 use Rattle.e_literal.specs.declared.object.Sort.{Sort}
@@ -551,7 +551,7 @@ at_last p shown a s = absurd cc
 pub all_named : (known : List TitledStatement) (d : TheoremParser) → Spelled known d → is_done d ≡ true → Named known (entry_of_draft d)
 all_named known d g a = record { few = g.few; title = g.title; naming = g.naming; some = at_last d.place d.shown a g.some; said = plain_script known d.steps d.close g.blocks.inside g.blocks.shut }
 
-reading_names : (known : List TitledStatement) (last : ℕ) (draft : Option TheoremParser) (lines rest : List (Result Seen LineFault)) (t : TheoremView) → SpelledSoFar known draft → read_from known last draft lines ≡ answered (pair t rest) → Named known t
+reading_names : (known : List TitledStatement) (last : ℕ) (draft : Option TheoremParser) (lines rest : List (Result LineView LineFault)) (t : TheoremView) → SpelledSoFar known draft → read_from known last draft lines ≡ answered (pair t rest) → Named known t
 reading_names known last None [] rest t g e = absurd cc
 reading_names known last (Some d) [] rest t g e = absurd cc
 reading_names known last draft (Err f ∷ lines) rest t g e = absurd cc
@@ -589,5 +589,5 @@ has_spelling known t f n =
 pub done_spelled : (known : List TitledStatement) (d : TheoremParser) → Good known d → Spelled known d → is_done d ≡ true → HasSpelling known (entry_of_draft d)
 done_spelled known d good g a = has_spelling known (entry_of_draft d) (fits_read known d good a) (all_named known d g a)
 
-pub read_is_spelled : (known : List TitledStatement) (last : ℕ) (t : TheoremView) (lines rest : List (Result Seen LineFault)) → read_from known last None lines ≡ Ok (Some (t, rest)) → HasSpelling known t
+pub read_is_spelled : (known : List TitledStatement) (last : ℕ) (t : TheoremView) (lines rest : List (Result LineView LineFault)) → read_from known last None lines ≡ Ok (Some (t, rest)) → HasSpelling known t
 read_is_spelled known last t lines rest e = has_spelling known t (reading_fits known last None lines rest t tt e) (reading_names known last None lines rest t tt e)

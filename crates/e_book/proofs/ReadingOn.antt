@@ -3,7 +3,7 @@ use Rattle.std.proofs.Common.{◌≡◌, ℕ, Bool, true, false, cond, List, [],
 use Rattle.std.specs.Prelude.{IfOk, OnOk, IfSome}
 use Rattle.std.proofs.lemmas.List.{append-nil}
 use Rattle.e_text.specs.Tokens.{tokens_of}
-use Rattle.e_text.specs.Lines.{Seen, HaveNoFault}
+use Rattle.e_text.specs.Lines.{LineView, HaveNoFault}
 use Rattle.e_text.specs.declared.line.LineFault.{LineFault}
 use Rattle.e_line.specs.declared.fault.FaultKind.{FaultKind}
 use Rattle.e_line.specs.declared.fault.FaultKind.TheVariants as kinds
@@ -23,7 +23,7 @@ use Rattle.e_book.specs.inner.Machine.{line_step, is_done, item_of, at_end, item
 use Rattle.e_book.proofs.ComingKept.{read_is_good}
 
 abbrev Rest : Type 0
-Rest = List (Result Seen LineFault)
+Rest = List (Result LineView LineFault)
 
 abbrev Answer : Type 0
 Answer = Option (BookItem × Rest)
@@ -45,23 +45,23 @@ on_false true x y h = absurd cc
 on_false false x y h = refl
 
 -- what its words make of what has come
-abbrev put : Option Coming → Seen → Known → Result Coming BookFault
+abbrev put : Option Coming → LineView → Known → Result Coming BookFault
 put old l known = put_at l.number (line_step known old (tokens_of l.bytes))
 
 -- what follows
 abbrev then_on : Known → ℕ → Rest → Coming → Result Answer BookFault
 then_on known last more d = cond (is_done d) (answered (pair (item_of d) more)) (item_from known last (Some d) more)
 
-skipped : (known : Known) (last : ℕ) (old : Option Coming) (l : Seen) (more : Rest) → is_skipped (tokens_of l.bytes) ≡ true → item_from known last old (Ok l ∷ more) ≡ item_from known last old more
+skipped : (known : Known) (last : ℕ) (old : Option Coming) (l : LineView) (more : Rest) → is_skipped (tokens_of l.bytes) ≡ true → item_from known last old (Ok l ∷ more) ≡ item_from known last old more
 skipped known last old l more h =
     on_true (is_skipped (tokens_of l.bytes)) (item_from known last old more) (put old l known >>= (λ d. then_on known last more d)) h
 
-worded : (known : Known) (last : ℕ) (old : Option Coming) (l : Seen) (more : Rest) → is_skipped (tokens_of l.bytes) ≡ false → item_from known last old (Ok l ∷ more) ≡ (put old l known >>= (λ d. then_on known last more d))
+worded : (known : Known) (last : ℕ) (old : Option Coming) (l : LineView) (more : Rest) → is_skipped (tokens_of l.bytes) ≡ false → item_from known last old (Ok l ∷ more) ≡ (put old l known >>= (λ d. then_on known last more d))
 worded known last old l more h =
     on_false (is_skipped (tokens_of l.bytes)) (item_from known last old more) (put old l known >>= (λ d. then_on known last more d)) h
 
 -- the words made this draft
-worded_as : (known : Known) (last : ℕ) (old : Option Coming) (l : Seen) (more : Rest) (d : Coming) → is_skipped (tokens_of l.bytes) ≡ false → line_step known old (tokens_of l.bytes) ≡ Ok d → item_from known last old (Ok l ∷ more) ≡ then_on known last more d
+worded_as : (known : Known) (last : ℕ) (old : Option Coming) (l : LineView) (more : Rest) (d : Coming) → is_skipped (tokens_of l.bytes) ≡ false → line_step known old (tokens_of l.bytes) ≡ Ok d → item_from known last old (Ok l ∷ more) ≡ then_on known last more d
 worded_as known last old l more d h e =
     worded known last old l more h ∙ ap (λ (r : Result Coming FaultKind). put_at l.number r >>= (λ x. then_on known last more x)) e
 
@@ -99,10 +99,10 @@ fails_on (faults.Unended line) q then h = ap (λ (r : Result Coming BookFault). 
 
 -- ---- what a line makes of what has come
 
-pub takes_skipped : (known : Known) (old : Option Coming) (l : Seen) → is_skipped (tokens_of l.bytes) ≡ true → TakesLine known old l (Ok None) old
+pub takes_skipped : (known : Known) (old : Option Coming) (l : LineView) → is_skipped (tokens_of l.bytes) ≡ true → TakesLine known old l (Ok None) old
 takes_skipped known old l h = λ last more. skipped known last old l more h
 
-pub takes_words : (known : Known) (old new : Option Coming) (l : Seen) (r : Result (Option Item) BookFault) → is_skipped (tokens_of l.bytes) ≡ false → TakesWords known old l.number (tokens_of l.bytes) r new → TakesLine known old l r new
+pub takes_words : (known : Known) (old new : Option Coming) (l : LineView) (r : Result (Option Item) BookFault) → is_skipped (tokens_of l.bytes) ≡ false → TakesWords known old l.number (tokens_of l.bytes) r new → TakesLine known old l r new
 takes_words known old new l (Ok None) h w =
     λ last more. worded_as known last old l more w.0 h w.1 ∙ on_false (is_done w.0) (answered (pair (item_of w.0) more)) (item_from known last (Some w.0) more) w.2
     ∙ ap (λ (d : Option Coming). item_from known last d more) (sym w.3)
@@ -115,7 +115,7 @@ takes_words known old new l (Err f) h w =
     λ last more. subst (λ (q : Result Answer BookFault). BookFails f q) (sym (worded known last old l more h)) (fails_on f (put old l known) (λ d. then_on known last more d) w)
 
 -- want of memory says nothing
-pub takes_nothing : (known : Known) (old new : Option Coming) (l : Seen) (r : Result (Option Item) BookFault) → r ≡ Err faults.NoMemory → TakesLine known old l r new
+pub takes_nothing : (known : Known) (old new : Option Coming) (l : LineView) (r : Result (Option Item) BookFault) → r ≡ Err faults.NoMemory → TakesLine known old l r new
 takes_nothing known old new l r e = subst (λ (x : Result (Option Item) BookFault). TakesLine known old l x new) (sym e) (λ last more. tt)
 
 -- ---- line after line
@@ -125,22 +125,22 @@ abbrev pub Alike : Known → Option Coming → Rest → Option Coming → Rest �
 Alike known old lines new left = (last : ℕ) (more : Rest) → item_from known last old (lines ++ more) ≡ item_from known last new (left ++ more)
 
 -- through the first of what is left
-through : (known : Known) (old mid : Option Coming) (lines here left : Rest) (l : Seen) → here ≡ Ok l ∷ left → Alike known old lines mid here
+through : (known : Known) (old mid : Option Coming) (lines here left : Rest) (l : LineView) → here ≡ Ok l ∷ left → Alike known old lines mid here
     → (last : ℕ) (more : Rest) → item_from known last old (lines ++ more) ≡ item_from known last mid (Ok l ∷ (left ++ more))
 through known old mid lines here left l e h last more = h last more ∙ ap (λ (ls : Rest). item_from known last mid (ls ++ more)) e
 
-pub alike_more : (known : Known) (old mid new : Option Coming) (lines here left : Rest) (l : Seen) → here ≡ Ok l ∷ left → Alike known old lines mid here → TakesLine known mid l (Ok None) new → Alike known old lines new left
+pub alike_more : (known : Known) (old mid new : Option Coming) (lines here left : Rest) (l : LineView) → here ≡ Ok l ∷ left → Alike known old lines mid here → TakesLine known mid l (Ok None) new → Alike known old lines new left
 alike_more known old mid new lines here left l e h t = λ last more. through known old mid lines here left l e h last more ∙ t last (left ++ more)
 
-pub good_more : (lines here left : Rest) (l : Seen) → here ≡ Ok l ∷ left → (HaveNoFault here → HaveNoFault lines) → HaveNoFault left → HaveNoFault lines
+pub good_more : (lines here left : Rest) (l : LineView) → here ≡ Ok l ∷ left → (HaveNoFault here → HaveNoFault lines) → HaveNoFault left → HaveNoFault lines
 good_more lines here left l e good g = good (subst HaveNoFault (sym e) g)
 
-pub ends_item : (known : Known) (old mid new : Option Coming) (lines here left : Rest) (l : Seen) (t : Item) → here ≡ Ok l ∷ left → Alike known old lines mid here → (HaveNoFault here → HaveNoFault lines) → TakesLine known mid l (Ok (Some t)) new
+pub ends_item : (known : Known) (old mid new : Option Coming) (lines here left : Rest) (l : LineView) (t : Item) → here ≡ Ok l ∷ left → Alike known old lines mid here → (HaveNoFault here → HaveNoFault lines) → TakesLine known mid l (Ok (Some t)) new
     → ReadsOn known old lines (Ok (Some t)) new left
 ends_item known old mid new lines here left l t e h good taken =
     (taken.0, good_more lines here left l e good, λ last more. through known old mid lines here left l e h last more ∙ taken.1 last (left ++ more))
 
-pub fails_at_line : (known : Known) (old mid new other : Option Coming) (lines here left any : Rest) (l : Seen) (f : BookFault) → here ≡ Ok l ∷ left → Alike known old lines mid here → TakesLine known mid l (Err f) new → ReadsOn known old lines (Err f) other any
+pub fails_at_line : (known : Known) (old mid new other : Option Coming) (lines here left any : Rest) (l : LineView) (f : BookFault) → here ≡ Ok l ∷ left → Alike known old lines mid here → TakesLine known mid l (Err f) new → ReadsOn known old lines (Err f) other any
 fails_at_line known old mid new other lines here left any l f e h taken =
     λ last more. subst (λ (q : Result Answer BookFault). BookFails f q) (sym (through known old mid lines here left l e h last more)) (taken last (left ++ more))
 

@@ -1,7 +1,7 @@
 -- A theorem, line by line, as the parser reads it where no items and no definitions come.
 use Rattle.std.specs.Prelude.{ℕ, Bool, true, false, List, [], ◌∷◌, Option, Some, None, Result, Ok, Err, if◌then◌else◌}
 use Rattle.e_text.specs.Tokens.{tokens_of}
-use Rattle.e_text.specs.Lines.{Seen}
+use Rattle.e_text.specs.Lines.{LineView}
 use Rattle.e_text.specs.declared.line.LineFault.{LineFault}
 use Rattle.e_line.specs.declared.fault.FaultKind.{FaultKind}
 use Rattle.e_line.specs.declared.fault.BookFault.{BookFault}
@@ -31,12 +31,12 @@ abbrev pub is_done : TheoremParser → Bool
 is_done d = is_last d.place
 
 -- the lines end: before a theorem, or inside one
-abbrev pub at_end : ℕ → Option TheoremParser → Result (Option (TheoremView × List (Result Seen LineFault))) BookFault
+abbrev pub at_end : ℕ → Option TheoremParser → Result (Option (TheoremView × List (Result LineView LineFault))) BookFault
 at_end last None = Ok None
 at_end last (Some d) = Err (faults.Unended last)
 
--- the next theorem and the lines behind it, or the first fault; last is the number behind the last line
-abbrev pub read_from : List TitledStatement → ℕ → Option TheoremParser → List (Result Seen LineFault) → Result (Option (TheoremView × List (Result Seen LineFault))) BookFault
+-- the next theorem and the lines after it, or the first fault; last is the number after the last line
+abbrev pub read_from : List TitledStatement → ℕ → Option TheoremParser → List (Result LineView LineFault) → Result (Option (TheoremView × List (Result LineView LineFault))) BookFault
 read_from known last draft [] = at_end last draft
 read_from known last draft (Err f ∷ lines) = Err (line_fault f)
 read_from known last draft (Ok line ∷ lines) =

@@ -65,7 +65,7 @@ abbrev pub head_forms : TheoremView → List RawLine
 head_forms t = rawlines.Theorem t.title ∷ (given_forms t.names t.statement ++ (shown_forms t.names t.statement ++ rawlines.Proof ∷ []))
 
 -- the forms of a script's lines, where these names are in scope before the first: those of new objects come into scope
--- behind the line that makes them, and those of an inner block are gone behind it
+-- after the line that makes them, and those of an inner block are gone after it
 unfoldable pub script_forms : List TitledStatement → Names → Script → List RawLine
 script_forms known ns (Cite by rest) = by_form ns by ∷ script_forms known ns rest
 script_forms known ns (Hence lit cert rest) = hence_form ns lit ∷ script_forms known ns rest
@@ -83,7 +83,7 @@ script_forms known ns (Cases lit first second) = cases_form ns lit ∷ (script_f
 abbrev pub names_of_proof : TheoremView → Names
 names_of_proof t = declared_names (stated t.statement) t.names
 
--- the lines of a theorem behind those that are known, in order
+-- the lines of a theorem after those that are known, in order
 abbrev pub forms_of : List TitledStatement → TheoremView → List RawLine
 forms_of known t = head_forms t ++ (script_forms known (names_of_proof t) t.script ++ end_form ∷ [])
 

@@ -34,7 +34,7 @@ CloseLine = (List Obj × List Cert) ⊎ (Option Against ⊎ Lit)
 abbrev pub Line : Type 0
 Line = StepLine ⊎ CloseLine
 
--- the lines of a script, and more behind them
+-- the lines of a script, and more after them
 abbrev pub lines : Script → List Line → List Line
 lines (Cite by rest) more = inl (inl (inl by)) ∷ lines rest more
 lines (Hence lit cert rest) more = inl (inl (inr (lit, cert))) ∷ lines rest more

@@ -139,7 +139,7 @@ abbrev pub at_end : ℕ → Option Coming → Answer
 at_end last None = Ok None
 at_end last (Some c) = Err (faults.Unended last)
 
--- the next theorem or definition and the lines behind it, or the first fault; last is the number behind the last line
+-- the next theorem or definition and the lines after it, or the first fault; last is the number after the last line
 abbrev pub item_from : Known → ℕ → Option Coming → Rest → Answer
 item_from known last c [] = at_end last c
 item_from known last c (Err f ∷ lines) = Err (line_fault f)

@@ -1,7 +1,7 @@
 -- The first fault of lines, as the grammar reads them.
 use Rattle.std.specs.Prelude.{◌≡◌, ◌⊎◌, ℕ, true, false, [], ◌∷◌, ◌++◌, Option, Some, None, Result, Ok, Err}
 use Rattle.e_text.specs.Tokens.{tokens_of}
-use Rattle.e_text.specs.Lines.{Seen}
+use Rattle.e_text.specs.Lines.{LineView}
 use Rattle.e_text.specs.declared.line.LineFault.{LineFault}
 use Rattle.e_line.specs.declared.fault.BookFault.{BookFault}
 use Rattle.e_line.specs.declared.fault.BookFault.TheVariants as faults
@@ -19,15 +19,15 @@ Leaves known o (Ok line ∷ lines) left =
     × (is_skipped (tokens_of line.bytes) ≡ false → (n : Coming) × (line_said known o (tokens_of line.bytes) ≡ Ok n) × (whole n ≡ None) × Leaves known (Some n) lines left)
 
 -- a line has this fault here: its bytes, or its form, its names or a limit
-abbrev pub IsFaulty : Known → Option Coming → Result Seen LineFault → BookFault → Type 0
+abbrev pub IsFaulty : Known → Option Coming → Result LineView LineFault → BookFault → Type 0
 IsFaulty known o (Err f) fault = line_fault f ≡ fault
 IsFaulty known o (Ok line) fault =
     (is_skipped (tokens_of line.bytes) ≡ false) × (put_there line.number (line_said known o (tokens_of line.bytes)) ≡ Err fault)
 
--- the lines begin with a front that is taken, and the line behind it has this fault
+-- the lines begin with a front that is taken, and the line after it has this fault
 pub record BreaksAt (known : Known) (o : Option Coming) (lines : Rest) (fault : BookFault) : Type 0 where
   pub front : Rest
-  pub line : Result Seen LineFault
+  pub line : Result LineView LineFault
   pub rest : Rest
   pub all : lines ≡ front ++ line ∷ rest
   pub left : Option Coming

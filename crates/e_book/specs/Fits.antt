@@ -6,7 +6,7 @@ use Rattle.e_literal.specs.declared.object.Sort.TheVariants.{Point, Line, Circle
 use Rattle.e_literal.specs.Literal.{all_in_scope}
 use Rattle.e_literal.specs.WellFormed.{is_well_formed}
 use Rattle.e_literal.specs.Scopes.{grown}
-use Rattle.e_literal.specs.Use.{Stated, scope_of}
+use Rattle.e_literal.specs.Use.{StatementView, scope_of}
 use Rattle.e_construct.specs.Construct.{sorts_made, gives_of_construction}
 use Rattle.e_construct.specs.Superposing as superposing
 use Rattle.e_theorem.specs.Statements.{stated}
@@ -25,7 +25,7 @@ use Rattle.e_names.specs.Fits.{NamesDiffer, is_diagram_lit}
 
 -- at each construction, use of an earlier theorem and superposition none of the new names is in scope and no two are equal, there
 -- is one for each new object, and with them not too many objects are in scope
-unfoldable pub NewNamesFit : List Stated → Names → Script → Type 0
+unfoldable pub NewNamesFit : List StatementView → Names → Script → Type 0
 NewNamesFit before ns (Cite by rest) = NewNamesFit before ns rest
 NewNamesFit before ns (Hence lit cert rest) = NewNamesFit before ns rest
 NewNamesFit before ns (Make form names certs rest) =
@@ -46,8 +46,8 @@ NewNamesFit before ns (Qed objects certs) = Unit {0}
 NewNamesFit before ns (Contradiction against) = Unit {0}
 NewNamesFit before ns (Cases lit first second) = NewNamesFit before ns first × NewNamesFit before ns second
 
--- so many literals are facts before the script, repeats counted, and nowhere in it more than the limit
-unfoldable pub few_facts : List Stated → ℕ → Scope → Script → Bool
+-- this many literals are facts before the script, repeats counted, and nowhere in it more than the limit
+unfoldable pub few_facts : List StatementView → ℕ → Scope → Script → Bool
 few_facts before n s (Cite by rest) = nat_le (n + 1) most_facts && few_facts before (n + 1) s rest
 few_facts before n s (Hence lit cert rest) = nat_le (n + 1) most_facts && few_facts before (n + 1) s rest
 few_facts before n s (Make form names certs rest) =
@@ -79,8 +79,8 @@ has_good_literals (Qed objects certs) = true
 has_good_literals (Contradiction against) = true
 has_good_literals (Cases lit first second) = is_well_formed lit && (has_good_literals first && has_good_literals second)
 
--- the facts before the script have so many monomials, and nowhere in it more than the limit
-unfoldable pub few_terms : List Stated → ℕ → Scope → Script → Bool
+-- the facts before the script have this many monomials, and nowhere in it more than the limit
+unfoldable pub few_terms : List StatementView → ℕ → Scope → Script → Bool
 few_terms before n s (Cite by rest) = few_terms before n s rest
 few_terms before n s (Hence lit cert rest) = nat_le (n + monomials lit.atom) most_terms && few_terms before (n + monomials lit.atom) s rest
 few_terms before n s (Make form names certs rest) = few_terms before n (grown s (sorts_made form)) rest

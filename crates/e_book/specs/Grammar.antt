@@ -7,7 +7,7 @@ use Rattle.e_deriv.specs.Naming.{names_of_sort, with_names}
 use Rattle.e_deriv.specs.Script.{Qed, Contradiction}
 use Rattle.e_deriv.specs.PlainStep.{PlainStep, Cited, Inferred, Made, Applied}
 use Rattle.e_text.specs.Tokens.{tokens_of}
-use Rattle.e_text.specs.Lines.{Seen, Ahead}
+use Rattle.e_text.specs.Lines.{LineView, Ahead}
 use Rattle.e_text.specs.declared.line.LineFault.{LineFault}
 use Rattle.e_line.specs.declared.fault.FaultKind.{FaultKind}
 use Rattle.e_line.specs.declared.fault.FaultKind.TheVariants.{Malformed, NameTaken}
@@ -28,7 +28,7 @@ use Rattle.e_names.specs.Applies.{apply_in}
 use Rattle.e_book.specs.Open.{Head, Opener, ByClaim, BySuperposition, ByCase, Enclosing, Open, Stating, Proving, Splitting, Proved, Ended, made_inside, after_close}
 use Rattle.e_book.specs.Counts.{context_at, limits_kept, all_kept}
 
--- ---- a line at its place, with its names: what stands after it
+-- ---- a line at its place, with its names: what comes after it
 
 abbrev pub nothing_said : List ℕ → Head
 nothing_said title = record { title = title; names = record { points = []; lines = []; circles = [] }; statement = record { declared = []; given = []; made = []; shown = [] } }
@@ -43,7 +43,7 @@ abbrev pub is_empty : {A : Type 0} → List A → Bool
 is_empty [] = true
 is_empty (x ∷ xs) = false
 
--- nothing stands yet of what comes later in a statement
+-- nothing has come yet of what comes later in a statement
 abbrev pub none_made : Statement → Bool
 none_made t = is_empty t.made && is_empty t.shown
 
@@ -123,7 +123,7 @@ put_at line (Ok x) = Ok x
 put_at line (Err kind) = Err (at_line line kind)
 
 abbrev pub Rest : Type 0
-Rest = List (Result Seen LineFault)
+Rest = List (Result LineView LineFault)
 
 abbrev pub ended : Open → Option TheoremView
 ended (Ended t) = Some t
@@ -137,7 +137,7 @@ abbrev pub no_more : ℕ → Option Open → Result (Option (TheoremView × Rest
 no_more last None = Ok None
 no_more last (Some o) = Err (faults.Unended last)
 
--- the next theorem and the lines behind it, or the first fault; last is the number behind the last line
+-- the next theorem and the lines after it, or the first fault; last is the number after the last line
 abbrev pub read_from : List TitledStatement → ℕ → Option Open → Rest → Result (Option (TheoremView × Rest)) BookFault
 read_from known last o [] = no_more last o
 read_from known last o (Err f ∷ lines) = Err (line_fault f)

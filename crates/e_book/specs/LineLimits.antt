@@ -1,4 +1,4 @@
--- The limits of what is on a line, and of the objects in scope behind it.
+-- The limits of what is on a line, and of the objects in scope after it.
 use Rattle.std.specs.Prelude.{◌≤◌, length, Result}
 use Rattle.e_literal.specs.declared.object.Sort.TheVariants as sorts
 use Rattle.e_deriv.specs.declared.names.Names.{Names}

@@ -27,8 +27,8 @@ pub record Enclosing : Type 0 where
   pub steps : List PlainStep
   pub opener : Opener
 
--- before the proof; in a block, with those around it, the innermost first; behind the first block of a split; behind the proof;
--- behind the last line
+-- before the proof; in a block, with those around it, the innermost first; after the first block of a split; after the proof;
+-- after the last line
 pub data Open : Type 0 where
   Stating : (head : Head) → Open
   Proving : (head : Head) (around : List Enclosing) (steps : List PlainStep) → Open

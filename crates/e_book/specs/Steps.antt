@@ -3,7 +3,7 @@ use Rattle.std.specs.Prelude.{ℕ, ◌+◌, ◌≤◌, Bool, true, false, ◌≡
 use Rattle.e_literal.specs.declared.object.Sort.{Sort}
 use Rattle.e_literal.specs.declared.object.Obj.{Obj}
 use Rattle.e_literal.specs.declared.literal.Lit.{Lit}
-use Rattle.e_literal.specs.Use.{Stated}
+use Rattle.e_literal.specs.Use.{StatementView}
 use Rattle.e_construct.specs.Construct.{sorts_made, gives_of_construction}
 use Rattle.e_construct.specs.Superposing as superposing
 use Rattle.e_deriv.specs.declared.names.Names.{Names}
@@ -74,21 +74,21 @@ declared ns sort new = do
   few ← within (length (names_of_sort ns sort) + length new) (most_of sort) (what_of sort)
   Ok (with_names ns sort (names_of_sort ns sort ++ new))
 
--- one more step line, and so many more facts
+-- one more step line, and this many more facts
 unfoldable pub with_step : TheoremParser → PlainStep → ℕ → Result TheoremParser FaultKind
 with_step d s given = do
   few ← within (d.lines + 1) most_steps limits.Steps
   none ← within (d.facts + given) most_facts limits.Facts
   Ok (record d { lines = d.lines + 1; steps = d.steps ++ s ∷ []; facts = d.facts + given })
 
--- so many monomials and those of the literals, or the limit of all
+-- this many monomials and those of the literals, or the limit of all
 abbrev pub terms_behind : ℕ → List RawLit → Result ℕ FaultKind
 terms_behind n raws = within (n + count_monos raws) most_terms limits.Terms >>= λ few. Ok (n + count_monos raws)
 
 abbrev pub terms_after : ℕ → List Lit → Result ℕ FaultKind
 terms_after n ls = within (n + count_monomials ls) most_terms limits.Terms >>= λ few. Ok (n + count_monomials ls)
 
--- the limits of literals that become facts, behind that of facts
+-- the limits of literals that become facts, after that of facts
 unfoldable pub with_terms : TheoremParser → List RawLit → Result TheoremParser FaultKind
 with_terms d raws = do
   few ← few_monos raws
@@ -104,8 +104,8 @@ built d raw = do
   with_step (record d { in_scope = after }) (Made form raw.new []) (length (gives_of_construction form (scope_of_names d.in_scope)))
 
 -- a theorem is used within the limits of objects, of steps, of facts, of monomials and of blanks. What it shows are facts, and its
--- made objects are in scope behind the line.
-unfoldable pub used_by : TheoremParser → Stated → ℕ → List (Option Obj) → List (List ℕ) → Result TheoremParser FaultKind
+-- made objects are in scope after the line.
+unfoldable pub used_by : TheoremParser → StatementView → ℕ → List (Option Obj) → List (List ℕ) → Result TheoremParser FaultKind
 used_by d t theorem args new = do
   let after = named d.in_scope t.made new
   few ← few_objects after
@@ -126,7 +126,7 @@ applied known d raw = do
 abbrev pub outer_of : TheoremParser → BlockKind → OpenBlock
 outer_of d opened = record { steps = d.steps; in_scope = d.in_scope; facts = d.facts; terms = d.terms; opened = opened }
 
--- an inner block begins, in which so many literals are facts at once
+-- an inner block begins, in which this many literals are facts at once
 abbrev pub interrupted : TheoremParser → BlockKind → ℕ → TheoremParser
 interrupted d opened given = record d { lines = d.lines + 1; outers = outer_of d opened ∷ d.outers; steps = []; facts = d.facts + given }
 
@@ -145,7 +145,7 @@ deeper d opened given = do
   none ← within (d.facts + given) most_facts limits.Facts
   Ok (interrupted d opened given)
 
--- a claim: its literals are facts only behind its block
+-- a claim: its literals are facts only after its block
 unfoldable pub claimed : TheoremParser → List RawLit → Result TheoremParser FaultKind
 claimed d raws = do
   ls ← lits_in d.in_scope raws
@@ -180,7 +180,7 @@ split d raw = do
   e ← deeper d (opened.First l) 1
   with_terms e (raw ∷ [])
 
--- the counts behind a block that shows these literals: the limits of facts and of monomials
+-- the counts after a block that shows these literals: the limits of facts and of monomials
 unfoldable pub counted_from : TheoremParser → (facts terms : ℕ) → List Lit → Result TheoremParser FaultKind
 counted_from d facts terms shown = do
   few ← within (facts + length shown) most_facts limits.Facts
@@ -193,8 +193,8 @@ resumed d o os shown s = do
   e ← counted_from d o.facts o.terms shown
   Ok (record e { steps = o.steps ++ s ∷ []; in_scope = o.in_scope; outers = os })
 
--- A block inside another is closed. A claim or a superposition is a step of the block around it. Behind the first block of a
--- split comes `else`. Behind the second one the split closes the block around it.
+-- A block inside another is closed. A claim or a superposition is a step of the block around it. After the first block of a
+-- split comes `else`. After the second one the split closes the block around it.
 abbrev pub closed_inside : TheoremParser → OpenBlock → List OpenBlock → Script → (CloseLine → Result TheoremParser FaultKind) → BlockKind → Result TheoremParser FaultKind
 closed_inside d o os inner close (opened.Claim shown) = resumed d o os shown (Claimed shown inner)
 closed_inside d o os inner close (opened.Superpose form names shown) = resumed d o os shown (Copied form names shown [] inner)
@@ -211,7 +211,7 @@ closed d (o ∷ os) steps close = closed_inside d o os (all_before steps (script
 abbrev pub outer_with : Saved → BlockKind → OpenBlock
 outer_with around opened = record { steps = around.steps; in_scope = around.in_scope; facts = around.facts; terms = around.terms; opened = opened }
 
--- behind the first block of a split, where the second begins
+-- after the first block of a split, where the second begins
 abbrev pub second_begun : TheoremParser → Saved → Lit → Script → TheoremParser
 second_begun d around lit first =
     record d { in_scope = around.in_scope; facts = around.facts + 1; terms = around.terms + monomials lit.atom; outers = outer_with around (opened.Second lit first) ∷ d.outers; place = Splitting }
@@ -319,7 +319,7 @@ pub record FitsScope (d : TheoremParser) : Type 0 where
   pub outers : AllFit d.outers
   pub shallow : length d.outers + 1 ≤ most_depth
 
--- a block inside the open one, with so many facts, is within the limits
+-- a block inside the open one, with this many facts, is within the limits
 pub record HasRoom (d : TheoremParser) (given : ℕ) : Type 0 where
   pub lines : d.lines + 1 ≤ most_steps
   pub depth : length d.outers + 2 ≤ most_depth

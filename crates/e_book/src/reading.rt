@@ -1,6 +1,6 @@
 //! A theorem or a definition while its lines come, one after another.
 ghost use Rattle.std.specs.Prelude.{◌≡◌, ◌<◌, ◌^◌, length, None, IfOk, OnOk, IfSome, OnSome, IsTrue};
-ghost use Rattle.e_text.specs.Lines.{seen};
+ghost use Rattle.e_text.specs.Lines.{view_of_line};
 ghost use Rattle.e_text.specs.Tokens.{tokens_of};
 ghost use Rattle.e_line.specs.Reading.{texts, Gives};
 ghost use Rattle.e_book.specs.Grammar.{starts_with_hash, is_skipped, last_line};
@@ -99,7 +99,7 @@ impl Reading {
         requires number { line.now.number < 2 ^ 32 }
         requires coming { IfSome self.old.coming (FitsComing known.now) }
         requires notions { IsTrue (are_notions known.now.notions) }
-        ensures takes { TakesLine known.now self.old.coming (seen line.now) result self.new.coming }
+        ensures takes { TakesLine known.now self.old.coming (view_of_line line.now) result self.new.coming }
         ensures fits { OnOk result (IfSome self.new.coming (FitsComing known.now)) }
     {
         let words = collected(alloc, line.bytes)?;
@@ -118,7 +118,7 @@ impl Reading {
         requires number { line.now.number < 2 ^ 32 }
         requires coming { IfSome self.old.coming (FitsComing known.now) }
         requires notions { IsTrue (are_notions known.now.notions) }
-        ensures takes { TakesLine known.now self.old.coming (seen line.now) result self.new.coming }
+        ensures takes { TakesLine known.now self.old.coming (view_of_line line.now) result self.new.coming }
         ensures fits { OnOk result (IfSome self.new.coming (FitsComing known.now)) }
     {
         if is_skipped(words) {

@@ -94,14 +94,14 @@ unfoldable pub fact_cert_line_of : List (List ℕ) → Result CertLine FaultKind
 fact_cert_line_of [] = Ok certlines.Fact
 fact_cert_line_of (w ∷ ws) = end_at ws >>= λ none. place_of w >>= λ k. Ok (certlines.FactAt k)
 
--- a row behind its multiplier
+-- a row after its multiplier
 unfoldable pub row_cert_line_of : List ℕ → List (List ℕ) → Result CertLine FaultKind
 row_cert_line_of w ws = do
   m ← multiplier_of w
   r ← row_of ws
   Ok (certlines.Row m r)
 
--- a line of a certificate, by the first word behind the sign `|`
+-- a line of a certificate, by the first word after the sign `|`
 unfoldable pub cert_line_named : List ℕ → List (List ℕ) → Result CertLine FaultKind
 cert_line_named w ws =
     if bytes_eq w (codes "fact") then fact_cert_line_of ws else
@@ -128,7 +128,7 @@ row_words rows.Above = codes "above" ∷ []
 row_words rows.Below = codes "below" ∷ []
 row_words (rows.FactAt k) = codes "fact" ∷ decimal k ∷ []
 
--- the words behind the sign
+-- the words after the sign
 abbrev pub cert_line_words : CertLine → List (List ℕ)
 cert_line_words certlines.Fact = codes "fact" ∷ []
 cert_line_words certlines.Metric = codes "metric" ∷ []

@@ -69,7 +69,7 @@ row_put (Some (sums.Above differs sum)) m r = with_row sum m r >>= λ new. Ok (s
 row_put (Some (sums.Below differs above sum)) m r = with_row sum m r >>= λ new. Ok (sums.Below differs above new)
 row_put _ m r = Err Malformed
 
--- a sum is begun behind the head of a metric certificate, behind the row that differs, and behind the first of two sums, which
+-- a sum is begun after the head of a metric certificate, after the row that differs, and after the first of two sums, which
 -- has a row
 abbrev pub sum_begun : Option OpenSums → Result OpenSums FaultKind
 sum_begun (Some sums.Begun) = Ok (sums.One [])
@@ -77,7 +77,7 @@ sum_begun (Some (sums.Differs differs)) = Ok (sums.Above differs [])
 sum_begun (Some (sums.Above differs sum)) = if nat_lt 0 (length sum) then Ok (sums.Below differs sum []) else Err Malformed
 sum_begun _ = Err Malformed
 
--- a row that differs comes right behind the head
+-- a row that differs comes right after the head
 abbrev pub differs_put : Option OpenSums → RowName → Result OpenSums FaultKind
 differs_put (Some sums.Begun) differs = Ok (sums.Differs differs)
 differs_put _ differs = Err Malformed
@@ -164,7 +164,7 @@ sums_behind o s = record o { sums = Some s }
 abbrev pub due_behind : Pending → Obligation → Pending
 due_behind o d = record o { due = d }
 
--- what is owed behind a line of a certificate
+-- what is owed after a line of a certificate
 unfoldable pub after_cert_line : Pending → CertLine → Result Pending FaultKind
 after_cert_line o certlines.Fact = ended o o.sums >>= λ e. part_put e.due parts.Fact >>= λ d. Ok (due_behind e d)
 after_cert_line o (certlines.FactAt k) = ended o o.sums >>= λ e. part_put e.due (parts.FactAt k) >>= λ d. Ok (due_behind e d)

@@ -16,12 +16,12 @@ abbrev pub value_in : List (Term × ℕ) → Term → ℕ
 value_in [] t = 0
 value_in (p ∷ ps) t = if term_eq (canonical t) p.0 then p.1 else value_in ps t
 
--- segments stand before angles, angles before areas, and right is last; within a kind the points'
+-- segments come before angles, angles before areas, and right is last; within a kind the points'
 -- numbers decide
 abbrev pub is_before : Term → Term → Bool
 is_before s t = is_lt (slice_cmp nat_cmp (numbers_of s) (numbers_of t))
 
--- each term stands before all later ones
+-- each term comes before all later ones
 abbrev pub are_in_order : List Term → Bool
 are_in_order [] = true
 are_in_order (t ∷ ts) = list_all (is_before t) ts && are_in_order ts

@@ -14,7 +14,7 @@ is_well_formed_in s l = all_in_scope s l && is_well_formed l
 abbrev pub are_well_formed_in : Scope → List Lit → Bool
 are_well_formed_in s ls = list_all (is_well_formed_in s) ls
 
--- so many terms may stand in the facts of a step
+-- this many terms may be in the facts of a step
 abbrev pub most_terms : ℕ
 most_terms = 1100
 

@@ -1,4 +1,4 @@
--- The lines of the twenty constructions, piece by piece, behind the word let.
+-- The lines of the twenty constructions, piece by piece, after the word let.
 use Rattle.std.specs.Prelude.{ℕ, ◌+◌, List, [], ◌∷◌, codes, Bool, true, false, ◌&&◌}
 use Rattle.e_literal.specs.declared.object.Obj.{Obj}
 use Rattle.e_literal.specs.declared.object.Sort.{Sort}

@@ -9,7 +9,7 @@ use Rattle.e_literal.specs.declared.object.Scope.{Scope}
 use Rattle.e_literal.specs.Literal.{negation}
 use Rattle.e_literal.specs.Facts.{joined, joined_all}
 use Rattle.e_literal.specs.Scopes.{grown}
-use Rattle.e_literal.specs.Use.{Stated, are_arguments, needs_of_use, gives_of_use, scope_of}
+use Rattle.e_literal.specs.Use.{StatementView, are_arguments, needs_of_use, gives_of_use, scope_of}
 use Rattle.e_literal.proofs.Booleans.{and_left, and_right, all_left, all_right}
 use Rattle.e_clause.specs.Allowed.{AllAllowed}
 use Rattle.e_clause.specs.Certify.{certify_all}
@@ -29,28 +29,28 @@ use Rattle.e_deriv.proofs.Choices.{written_again, no_blank_again, fills_again, l
 
 -- ---- lists of lines, one behind the other
 
-pub both_licensed : (before : List Stated) (xs ys : List Line) → AllLicensed before xs → AllLicensed before ys → AllLicensed before (xs ++ ys)
+pub both_licensed : (before : List StatementView) (xs ys : List Line) → AllLicensed before xs → AllLicensed before ys → AllLicensed before (xs ++ ys)
 both_licensed before [] ys h k = k
 both_licensed before (x ∷ xs) ys h k = (h.0, both_licensed before xs ys h.1 k)
 
-pub first_licensed : (before : List Stated) (xs ys : List Line) → AllLicensed before (xs ++ ys) → AllLicensed before xs
+pub first_licensed : (before : List StatementView) (xs ys : List Line) → AllLicensed before (xs ++ ys) → AllLicensed before xs
 first_licensed before [] ys h = tt
 first_licensed before (x ∷ xs) ys h = (h.0, first_licensed before xs ys h.1)
 
-pub second_licensed : (before : List Stated) (xs ys : List Line) → AllLicensed before (xs ++ ys) → AllLicensed before ys
+pub second_licensed : (before : List StatementView) (xs ys : List Line) → AllLicensed before (xs ++ ys) → AllLicensed before ys
 second_licensed before [] ys h = h
 second_licensed before (x ∷ xs) ys h = second_licensed before xs ys h.1
 
 -- ---- one line
 
 -- what the test of a line says
-record Parts (before : List Stated) (x : Line) (more : List Line) : Type 0 where
+record Parts (before : List StatementView) (x : Line) (more : List Line) : Type 0 where
   form : IsTrue (fits before x)
   certs : IsTrue (certify_all x.scope x.facts (needs before x) (certs_of x.here))
   beside : IsTrue (certified_beside x.here x.scope x.facts)
   rest : IsTrue (list_all (is_certified before) more)
 
-parts_of : (before : List Stated) (x : Line) (rest : List Line) → list_all (is_certified before) (x ∷ rest) ≡ true → Parts before x rest
+parts_of : (before : List StatementView) (x : Line) (rest : List Line) → list_all (is_certified before) (x ∷ rest) ≡ true → Parts before x rest
 parts_of before x rest h =
     let c = certify_all x.scope x.facts (needs before x) (certs_of x.here) in
     let b = certified_beside x.here x.scope x.facts in
@@ -61,7 +61,7 @@ parts_of before x rest h =
 
 -- ---- certified lines are a proof
 
-proves_of_certified : (before : List Stated) (d : Script) (s : Scope) (facts : List Lit) (goal : Goal) →
+proves_of_certified : (before : List StatementView) (d : Script) (s : Scope) (facts : List Lit) (goal : Goal) →
     list_all (is_certified before) (lines before d d s facts goal) ≡ true → Proves before s facts goal d
 unfolding lines Proves
 proves_of_certified before (Cite by rest) s facts goal h =
@@ -132,14 +132,14 @@ proves_of_certified before (Cases lit first second) s facts goal h =
 -- ---- licensed lines are a proof, with the blanks filled
 
 -- the filled arguments are a choice for themselves
-applied_again : (before : List Stated) (theorem : ℕ) (s : Scope) (pattern : List (Option Obj)) (args : List Obj) → is_applied before theorem s pattern args ≡ true → is_applied before theorem s (filled_in args) args ≡ true
+applied_again : (before : List StatementView) (theorem : ℕ) (s : Scope) (pattern : List (Option Obj)) (args : List Obj) → is_applied before theorem s pattern args ≡ true → is_applied before theorem s (filled_in args) args ≡ true
 applied_again before theorem s pattern args h =
     let low = ltb theorem (length before) in
     let t = theorem_at before theorem in
     and_from low (is_choice t s (filled_in args) args) (and_left low (is_choice t s pattern args) h)
     (and_from (fills (filled_in args) args) (are_arguments t s args) (fills_again args) (and_right (fills pattern args) (are_arguments t s args) (and_right low (is_choice t s pattern args) h)))
 
-proves_of_licensed : (before : List Stated) (d f : Script) (s : Scope) (facts : List Lit) (goal : Goal) → AllLicensed before (lines before d f s facts goal) → Proves before s facts goal (filled_by d f)
+proves_of_licensed : (before : List StatementView) (d f : Script) (s : Scope) (facts : List Lit) (goal : Goal) → AllLicensed before (lines before d f s facts goal) → Proves before s facts goal (filled_by d f)
 unfolding lines Proves filled_by
 proves_of_licensed before (Cite by rest) f s facts goal h = (h.0.fits, h.0.beside, proves_of_licensed before rest (rest_of f) s (joined facts by.lit) goal h.1)
 proves_of_licensed before (Hence lit cert rest) f s facts goal h = (h.0.fits, h.0.allowed.0, proves_of_licensed before rest (rest_of f) s (joined facts lit) goal h.1)
@@ -185,7 +185,7 @@ proves_of_licensed before (Cases lit first second) f s facts goal h =
 
 -- ---- each line of a proof is licensed
 
-licensed_of_proves : (before : List Stated) (d : Script) (s : Scope) (facts : List Lit) (goal : Goal) → Proves before s facts goal d → AllLicensed before (lines before d d s facts goal)
+licensed_of_proves : (before : List StatementView) (d : Script) (s : Scope) (facts : List Lit) (goal : Goal) → Proves before s facts goal d → AllLicensed before (lines before d d s facts goal)
 unfolding lines Proves
 licensed_of_proves before (Cite by rest) s facts goal h = (record { fits = h.0; allowed = tt; beside = h.1 }, licensed_of_proves before rest s (joined facts by.lit) goal h.2)
 licensed_of_proves before (Hence lit cert rest) s facts goal h = (record { fits = h.0; allowed = (h.1, tt); beside = tt }, licensed_of_proves before rest s (joined facts lit) goal h.2)
@@ -222,11 +222,11 @@ licensed_of_proves before (Cases lit first second) s facts goal h =
 
 -- ---- the same of the proof of a statement
 
-pub proof_of_certified : (before : List Stated) (t : Stated) (d : Script) → Certified before t d → IsProof before t d
+pub proof_of_certified : (before : List StatementView) (t : StatementView) (d : Script) → Certified before t d → IsProof before t d
 proof_of_certified before t d h = proves_of_certified before d (scope_of t) (facts_of_statement t) (goal_of_statement t) h
 
-pub proof_of_licensed : (before : List Stated) (t : Stated) (d f : Script) → AllLicensed before (proof_lines before t d f) → IsProof before t (filled_by d f)
+pub proof_of_licensed : (before : List StatementView) (t : StatementView) (d f : Script) → AllLicensed before (proof_lines before t d f) → IsProof before t (filled_by d f)
 proof_of_licensed before t d f h = proves_of_licensed before d f (scope_of t) (facts_of_statement t) (goal_of_statement t) h
 
-pub licensed_of_proof : (before : List Stated) (t : Stated) (d : Script) → IsProof before t d → AllLicensed before (proof_lines before t d d)
+pub licensed_of_proof : (before : List StatementView) (t : StatementView) (d : Script) → IsProof before t d → AllLicensed before (proof_lines before t d d)
 licensed_of_proof before t d h = licensed_of_proves before d (scope_of t) (facts_of_statement t) (goal_of_statement t) h

@@ -7,7 +7,7 @@ use Rattle.e_literal.specs.declared.object.Term.TheVariants.{Right}
 use Rattle.e_literal.specs.declared.literal.Lit.{Lit}
 use Rattle.e_literal.specs.Literal.{obj}
 use Rattle.e_literal.specs.Facts.{joined}
-use Rattle.e_literal.specs.Use.{Stated}
+use Rattle.e_literal.specs.Use.{StatementView}
 use Rattle.e_clause.specs.declared.cert.Cert.{Cert}
 use Rattle.e_clause.specs.declared.cert.Cert.TheVariants.{Plain}
 use Rattle.e_clause.specs.declared.cert.Part.TheVariants.{Fact}
@@ -36,13 +36,13 @@ abbrev point : ℕ → Obj
 point n = obj Point n
 
 -- of four points in a row: where b is between a and c, and c between b and d, then b is between a and d
-abbrev stated : List Lit → Stated
+abbrev stated : List Lit → StatementView
 stated given = record { declared = Point ∷ Point ∷ Point ∷ Point ∷ []; given = given; made = []; shown = between 0 1 3 ∷ [] }
 
-abbrev four : Stated
+abbrev four : StatementView
 four = stated (between 0 1 2 ∷ between 1 2 3 ∷ [])
 
-abbrev one_less : Stated
+abbrev one_less : StatementView
 one_less = stated (between 0 1 2 ∷ [])
 
 -- by b5
@@ -85,7 +85,7 @@ one_less_stops =
 abbrev apart_points : List Lit
 apart_points = apart (point 0) (point 1) ∷ []
 
-abbrev halfway : List Lit → Stated
+abbrev halfway : List Lit → StatementView
 halfway given = record { declared = Point ∷ Point ∷ []; given = given; made = Point ∷ []; shown = between 0 2 1 ∷ [] }
 
 abbrev line_through : Construction
@@ -125,7 +125,7 @@ three_names = refl
 
 -- ---- no facts do not contradict each other
 
-abbrev nothing : Stated
+abbrev nothing : StatementView
 nothing = record { declared = Point ∷ []; given = []; made = []; shown = [] }
 
 abbrev no_scope : Scope
@@ -155,7 +155,7 @@ right_is_not_0 c = true≢false (sym c.counterexample.is_admissible)
 abbrev on_line : Lit
 on_line = on 0 0
 
-abbrev stands_on : Stated
+abbrev stands_on : StatementView
 stands_on = record { declared = Point ∷ Line ∷ []; given = on_line ∷ []; made = []; shown = on_line ∷ [] }
 
 abbrev split : Script
@@ -186,7 +186,7 @@ with_point shown rest =
 abbrev two_on_line : List Lit
 two_on_line = apart (point 0) (point 1) ∷ []
 
-abbrev on_one_line : Stated
+abbrev on_one_line : StatementView
 on_one_line =
     record { declared = Point ∷ Point ∷ Line ∷ []; given = apart (point 0) (point 1) ∷ on 0 0 ∷ on 1 0 ∷ []; made = []; shown = two_on_line }
 
@@ -206,10 +206,10 @@ point_is_not_claimed = refl
 
 -- ---- an earlier theorem: a point of a line is on it
 
-abbrev about_lines : Stated
+abbrev about_lines : StatementView
 about_lines = record { declared = Point ∷ Line ∷ []; given = on 0 0 ∷ []; made = []; shown = on 0 0 ∷ [] }
 
-abbrev two_lines : Stated
+abbrev two_lines : StatementView
 two_lines = record { declared = Point ∷ Line ∷ Line ∷ []; given = on 0 0 ∷ on 0 1 ∷ []; made = []; shown = on 0 0 ∷ [] }
 
 abbrev applied : List (Option Obj) → Script

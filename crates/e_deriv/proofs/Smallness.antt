@@ -2,7 +2,7 @@
 use Rattle.std.proofs.Common.{◌≡◌, ◌+◌, ◌≤◌, length, ◌&&◌, true, arith, leb-true, nat_le}
 use Rattle.e_literal.specs.declared.object.Scope.{Scope}
 use Rattle.e_literal.specs.Scopes.{nothing}
-use Rattle.e_literal.specs.Use.{Stated, scope_of, is_statement}
+use Rattle.e_literal.specs.Use.{StatementView, scope_of, is_statement}
 use Rattle.e_literal.proofs.Booleans.{and_left, and_right}
 use Rattle.e_literal.proofs.Growing.{total_grown}
 use Rattle.e_deriv.specs.Fitting.{all_objects, is_small, is_small_statement}
@@ -25,7 +25,7 @@ few_of_small s h =
     }
 
 -- a statement has at most 3,000 objects
-pub few_objects : (t : Stated) → is_small_statement t ≡ true → length t.declared + length t.made ≤ 3000
+pub few_objects : (t : StatementView) → is_small_statement t ≡ true → length t.declared + length t.made ≤ 3000
 few_objects t h =
     let few = few_of_small (all_objects t) (and_right (is_statement t) (is_small (all_objects t)) h) in
     let declared = total_grown nothing t.declared in

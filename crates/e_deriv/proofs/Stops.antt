@@ -10,7 +10,7 @@ use Rattle.e_literal.specs.declared.object.Scope.{Scope}
 use Rattle.e_literal.specs.Literal.{negation}
 use Rattle.e_literal.specs.Facts.{joined, joined_all}
 use Rattle.e_literal.specs.Scopes.{grown}
-use Rattle.e_literal.specs.Use.{Stated, are_arguments, needs_of_use, gives_of_use, scope_of}
+use Rattle.e_literal.specs.Use.{StatementView, are_arguments, needs_of_use, gives_of_use, scope_of}
 use Rattle.e_literal.proofs.Booleans.{and_left, and_right}
 use Rattle.e_clause.specs.Allowed.{Allowed, AllAllowed}
 use Rattle.e_construct.specs.Construct.{sorts_made, gives_of_construction}
@@ -64,7 +64,7 @@ one_not_allowed s facts ls l l' a b =
 abbrev at_place : Script → Scope → List Lit → Goal → List Obj → Line
 at_place here s facts goal args = record { scope = s; facts = facts; goal = goal; here = here; args = args }
 
-lacks_nothing : (before : List Stated) (here : Script) (s : Scope) (facts : List Lit) (goal : Goal) (args : List Obj) (w : Wanted) →
+lacks_nothing : (before : List StatementView) (here : Script) (s : Scope) (facts : List Lit) (goal : Goal) (args : List Obj) (w : Wanted) →
     Licensed before (at_place here s facts goal args) → ¬ Lacks before (at_place here s facts goal args) here w
 lacks_nothing before (Cite by rest) s facts goal args (Literal l) h k = true≢false (sym h.beside ∙ k.0)
 lacks_nothing before (Hence lit cert rest) s facts goal args (Literal l) h k = none_not_allowed s facts (needs_at before (Hence lit cert rest) s goal args) l h.allowed k
@@ -81,7 +81,7 @@ lacks_nothing before (Contradiction against) s facts goal args AContradiction h 
 lacks_nothing before here s facts goal args w h k = k
 
 -- what a line lacks does not look at how its blanks are filled
-lacks_again : (before : List Stated) (here : Script) (s : Scope) (facts : List Lit) (goal : Goal) (a b : List Obj) (w : Wanted) →
+lacks_again : (before : List StatementView) (here : Script) (s : Scope) (facts : List Lit) (goal : Goal) (a b : List Obj) (w : Wanted) →
     Lacks before (at_place here s facts goal a) here w → Lacks before (at_place here s facts goal b) here w
 lacks_again before (Cite by rest) s facts goal a b (Literal l) k = k
 lacks_again before (Hence lit cert rest) s facts goal a b (Literal l) k = k
@@ -93,7 +93,7 @@ lacks_again before (Qed objects certs) s facts goal a b (Literal l) k = k
 lacks_again before (Contradiction against) s facts goal a b AContradiction k = k
 lacks_again before here s facts goal a b w k = absurd k
 
-lacks_same : (before : List Stated) (here : Script) (s : Scope) (facts : List Lit) (goal : Goal) (args : List Obj) (v w : Wanted) →
+lacks_same : (before : List StatementView) (here : Script) (s : Scope) (facts : List Lit) (goal : Goal) (args : List Obj) (v w : Wanted) →
     Lacks before (at_place here s facts goal args) here v → Lacks before (at_place here s facts goal args) here w → v ≡ w
 lacks_same before (Cite by rest) s facts goal args (Literal l) (Literal l') h k = ap Literal (h.1 ∙ sym k.1)
 lacks_same before (Hence lit cert rest) s facts goal args (Literal l) (Literal l') h k = ap Literal (one_not_allowed s facts (needs_at before (Hence lit cert rest) s goal []) l l' h k)
@@ -123,42 +123,42 @@ place_is x y e =
     ap (λ h. at_place h x.scope x.facts x.goal x.args) e.here ∙ ap (λ s. at_place y.here s x.facts x.goal x.args) e.scope
     ∙ ap (λ f. at_place y.here y.scope f x.goal x.args) e.facts ∙ ap (λ g. at_place y.here y.scope y.facts g x.args) e.goal
 
-lacks_moved : (before : List Stated) (x y : Line) (w : Wanted) → SamePlace x y → Lacks before x x.here w → Lacks before y y.here w
+lacks_moved : (before : List StatementView) (x y : Line) (w : Wanted) → SamePlace x y → Lacks before x x.here w → Lacks before y y.here w
 lacks_moved before x y w e k =
     lacks_again before y.here y.scope y.facts y.goal x.args y.args w (subst (λ z. Lacks before z z.here w) (place_is x y e) k)
 
-pub lacks_not : (before : List Stated) (x y : Line) (w : Wanted) → SamePlace x y → Lacks before x x.here w → Licensed before y → ⊥
+pub lacks_not : (before : List StatementView) (x y : Line) (w : Wanted) → SamePlace x y → Lacks before x x.here w → Licensed before y → ⊥
 lacks_not before x y w e k h = lacks_nothing before y.here y.scope y.facts y.goal y.args w h (lacks_moved before x y w e k)
 
-lacks_one : (before : List Stated) (x y : Line) (v w : Wanted) → SamePlace x y → Lacks before x x.here v → Lacks before y y.here w → v ≡ w
+lacks_one : (before : List StatementView) (x y : Line) (v w : Wanted) → SamePlace x y → Lacks before x x.here v → Lacks before y y.here w → v ≡ w
 lacks_one before x y v w e h k = lacks_same before y.here y.scope y.facts y.goal y.args v w (lacks_moved before x y v e h) k
 
 -- ---- lists of lines
 
 -- the line at a place, where all lines before it are licensed
-pub record Stands (before : List Stated) (xs : List Line) (p : ℕ) (x : Line) : Type 0 where
+pub record Stands (before : List StatementView) (xs : List Line) (p : ℕ) (x : Line) : Type 0 where
   pub at : slice_get xs p ≡ Some x
   pub earlier : AllLicensed before (take p xs)
 
 -- in two lists that begin alike
-first_place : (before : List Stated) (a b : Line) (xs ys : List Line) (x y : Line) → SamePlace a b → Stands before (a ∷ xs) zero x → Stands before (b ∷ ys) zero y → SamePlace x y
+first_place : (before : List StatementView) (a b : Line) (xs ys : List Line) (x y : Line) → SamePlace a b → Stands before (a ∷ xs) zero x → Stands before (b ∷ ys) zero y → SamePlace x y
 first_place before a b xs ys x y e p q =
     subst (λ z. SamePlace z y) (same_Some a x p.at) (subst (λ z. SamePlace a z) (same_Some b y q.at) e)
 
-behind : (before : List Stated) (a : Line) (xs : List Line) (p : ℕ) (x : Line) → Stands before (a ∷ xs) (suc p) x → Stands before xs p x
+behind : (before : List StatementView) (a : Line) (xs : List Line) (p : ℕ) (x : Line) → Stands before (a ∷ xs) (suc p) x → Stands before xs p x
 behind before a xs p x h = record { at = h.at; earlier = h.earlier.1 }
 
 -- a line of two lists one behind the other stands in the first or in the second, and so in two such pairs of the same lengths
-record Both (before : List Stated) (xs xs' : List Line) (p : ℕ) (x y : Line) : Type 0 where
+record Both (before : List StatementView) (xs xs' : List Line) (p : ℕ) (x y : Line) : Type 0 where
   one : Stands before xs p x
   other : Stands before xs' p y
 
-record Further (before : List Stated) (ys ys' : List Line) (x y : Line) : Type 0 where
+record Further (before : List StatementView) (ys ys' : List Line) (x y : Line) : Type 0 where
   place : ℕ
   one : Stands before ys place x
   other : Stands before ys' place y
 
-parted : (before : List Stated) (xs xs' ys ys' : List Line) (p : ℕ) (x y : Line) → length xs ≡ length xs' →
+parted : (before : List StatementView) (xs xs' ys ys' : List Line) (p : ℕ) (x y : Line) → length xs ≡ length xs' →
     Stands before (xs ++ ys) p x → Stands before (xs' ++ ys') p y → Both before xs xs' p x y ⊎ Further before ys ys' x y
 parted before [] [] ys ys' p x y n h k = inr (record { place = p; one = h; other = k })
 parted before [] (b ∷ xs') ys ys' p x y n h k = absurd (omega (arith, n))
@@ -173,7 +173,7 @@ parted before (a ∷ xs) (b ∷ xs') ys ys' (suc p) x y n h k =
       | inr r ↦ inr r
     ]
 
-pub lines_length : (before : List Stated) (d f : Script) (s : Scope) (facts : List Lit) (goal : Goal) → length (lines before d f s facts goal) ≡ size d
+pub lines_length : (before : List StatementView) (d f : Script) (s : Scope) (facts : List Lit) (goal : Goal) → length (lines before d f s facts goal) ≡ size d
 unfolding lines size
 lines_length before (Cite by rest) f s facts goal = let h = lines_length before rest (rest_of f) s (joined facts by.lit) goal in omega (arith, h)
 lines_length before (Hence lit cert rest) f s facts goal = let h = lines_length before rest (rest_of f) s (joined facts lit) goal in omega (arith, h)
@@ -202,7 +202,7 @@ lines_length before (Cases lit first second) f s facts goal =
     let k = lines_length before second (rest_of f) s (joined facts (negation lit)) goal in
     omega (arith, h, k, length-append one other)
 
-pub same_length : (before : List Stated) (d f f' : Script) (s : Scope) (facts : List Lit) (goal : Goal) → length (lines before d f s facts goal) ≡ length (lines before d f' s facts goal)
+pub same_length : (before : List StatementView) (d f f' : Script) (s : Scope) (facts : List Lit) (goal : Goal) → length (lines before d f s facts goal) ≡ length (lines before d f' s facts goal)
 same_length before d f f' s facts goal = lines_length before d f s facts goal ∙ sym (lines_length before d f' s facts goal)
 
 -- ---- one context
@@ -210,10 +210,10 @@ same_length before d f f' s facts goal = lines_length before d f s facts goal �
 alike : (here f f' : Script) (s : Scope) (facts : List Lit) (goal : Goal) → SamePlace (line here f s facts goal) (line here f' s facts goal)
 alike here f f' s facts goal = record { scope = refl; facts = refl; goal = refl; here = refl }
 
-nothing_behind : (before : List Stated) (a : Line) (p : ℕ) (x : Line) → Stands before (a ∷ []) (suc p) x → ⊥
+nothing_behind : (before : List StatementView) (a : Line) (p : ℕ) (x : Line) → Stands before (a ∷ []) (suc p) x → ⊥
 nothing_behind before a p x h = none-some x h.at
 
-same_context : (before : List Stated) (d f f' : Script) (s : Scope) (facts : List Lit) (goal : Goal) (p : ℕ) (x y : Line) →
+same_context : (before : List StatementView) (d f f' : Script) (s : Scope) (facts : List Lit) (goal : Goal) (p : ℕ) (x y : Line) →
     Stands before (lines before d f s facts goal) p x → Stands before (lines before d f' s facts goal) p y → SamePlace x y
 unfolding lines
 same_context before (Cite by rest) f f' s facts goal zero x y h k =
@@ -287,12 +287,12 @@ same_context before (Cases lit first second) f f' s facts goal (suc p) x y h k =
 -- ---- lists in which lines are licensed
 
 -- an earlier line is licensed
-pub record Earlier (before : List Stated) (xs : List Line) (p : ℕ) : Type 0 where
+pub record Earlier (before : List StatementView) (xs : List Line) (p : ℕ) : Type 0 where
   pub line : Line
   pub stands : Stands before xs p line
   pub licensed : Licensed before line
 
-pub earlier_line : (before : List Stated) (xs : List Line) (p q : ℕ) (y : Line) → p < q → Stands before xs q y → Earlier before xs p
+pub earlier_line : (before : List StatementView) (xs : List Line) (p q : ℕ) (y : Line) → p < q → Stands before xs q y → Earlier before xs p
 earlier_line before [] p q y lt h = absurd (none-some y h.at)
 earlier_line before (a ∷ xs) p zero y lt h = absurd (omega (arith, lt))
 earlier_line before (a ∷ xs) zero (suc q) y lt h = record { line = a; stands = record { at = refl; earlier = tt }; licensed = h.earlier.0 }
@@ -301,7 +301,7 @@ earlier_line before (a ∷ xs) (suc p) (suc q) y lt h =
     record { line = e.line; stands = record { at = e.stands.at; earlier = (h.earlier.0, e.stands.earlier) }; licensed = e.licensed }
 
 -- in a list of licensed lines each is
-pub licensed_line : (before : List Stated) (xs ys : List Line) (p : ℕ) (y : Line) → length xs ≡ length ys → AllLicensed before xs → slice_get ys p ≡ Some y → Earlier before xs p
+pub licensed_line : (before : List StatementView) (xs ys : List Line) (p : ℕ) (y : Line) → length xs ≡ length ys → AllLicensed before xs → slice_get ys p ≡ Some y → Earlier before xs p
 licensed_line before [] [] p y n h e = absurd (none-some y e)
 licensed_line before [] (b ∷ ys) p y n h e = absurd (omega (arith, n))
 licensed_line before (a ∷ xs) [] p y n h e = absurd (omega (arith, n))
@@ -315,16 +315,16 @@ licensed_line before (a ∷ xs) (b ∷ ys) (suc p) y n h e =
 same_suc : (p q : ℕ) → suc p ≡ suc q → p ≡ q
 same_suc p q e = omega (arith, e)
 
-abbrev of_context : (before : List Stated) (t : Stated) (script : Script) (n : ℕ) (x : Line) (c : IsContext before t script n x) → Stands before (proof_lines before t script c.filled) c.place x
+abbrev of_context : (before : List StatementView) (t : StatementView) (script : Script) (n : ℕ) (x : Line) (c : IsContext before t script n x) → Stands before (proof_lines before t script c.filled) c.place x
 of_context before t script n x c = record { at = c.at; earlier = c.earlier }
 
-pub one_context : (before : List Stated) (t : Stated) (script : Script) (n : ℕ) (x y : Line) → IsContext before t script n x → IsContext before t script n y → SamePlace x y
+pub one_context : (before : List StatementView) (t : StatementView) (script : Script) (n : ℕ) (x y : Line) → IsContext before t script n x → IsContext before t script n y → SamePlace x y
 one_context before t script n x y a b =
     let e = same_suc a.place b.place (sym a.number ∙ b.number) in
     same_context before script a.filled b.filled (scope_of t) (facts_of_statement t) (goal_of_statement t) a.place x y (of_context before t script n x a)
     (subst (λ p. Stands before (proof_lines before t script b.filled) p y) (sym e) (of_context before t script n y b))
 
-pub no_stop_of_licensed : (before : List Stated) (t : Stated) (script f : Script) (n : ℕ) (w : Wanted) → AllLicensed before (proof_lines before t script f) → ¬ IsFirstUnlicensed before t script n w
+pub no_stop_of_licensed : (before : List StatementView) (t : StatementView) (script f : Script) (n : ℕ) (w : Wanted) → AllLicensed before (proof_lines before t script f) → ¬ IsFirstUnlicensed before t script n w
 no_stop_of_licensed before t script f n w h stop =
     let c = stop.context in
     let s = scope_of t in
@@ -334,7 +334,7 @@ no_stop_of_licensed before t script f n w h stop =
     lacks_not before stop.line e.line w (same_context before script c.filled f s facts goal c.place stop.line e.line (of_context before t script n stop.line c) e.stands) stop.lacks e.licensed
 
 -- no line before the first that is not licensed lacks anything
-no_earlier : (before : List Stated) (t : Stated) (script : Script) (n m : ℕ) (v w : Wanted) (a : IsFirstUnlicensed before t script n v) (b : IsFirstUnlicensed before t script m w) → a.context.place < b.context.place → ⊥
+no_earlier : (before : List StatementView) (t : StatementView) (script : Script) (n m : ℕ) (v w : Wanted) (a : IsFirstUnlicensed before t script n v) (b : IsFirstUnlicensed before t script m w) → a.context.place < b.context.place → ⊥
 no_earlier before t script n m v w a b lt =
     let e = earlier_line before (proof_lines before t script b.context.filled) a.context.place b.context.place b.line lt (of_context before t script m b.line b.context) in
     lacks_not before a.line e.line v (same_context before script a.context.filled b.context.filled (scope_of t) (facts_of_statement t) (goal_of_statement t) a.context.place a.line e.line (of_context before t script n a.line a.context) e.stands) a.lacks e.licensed
@@ -351,7 +351,7 @@ order (suc p) (suc q) = elim (order p q) [
   ]
 ]
 
-same_place : (before : List Stated) (t : Stated) (script : Script) (n m : ℕ) (v w : Wanted) (a : IsFirstUnlicensed before t script n v) (b : IsFirstUnlicensed before t script m w) → a.context.place ≡ b.context.place
+same_place : (before : List StatementView) (t : StatementView) (script : Script) (n m : ℕ) (v w : Wanted) (a : IsFirstUnlicensed before t script n v) (b : IsFirstUnlicensed before t script m w) → a.context.place ≡ b.context.place
 same_place before t script n m v w a b = elim (order a.context.place b.context.place) [
   | inl h ↦ absurd (no_earlier before t script n m v w a b h)
   | inr h ↦ elim h [
@@ -360,7 +360,7 @@ same_place before t script n m v w a b = elim (order a.context.place b.context.p
   ]
 ]
 
-pub one_stop : (before : List Stated) (t : Stated) (script : Script) (n m : ℕ) (v w : Wanted) →
+pub one_stop : (before : List StatementView) (t : StatementView) (script : Script) (n m : ℕ) (v w : Wanted) →
     IsFirstUnlicensed before t script n v → IsFirstUnlicensed before t script m w → (n ≡ m) × (v ≡ w)
 one_stop before t script n m v w a b =
     let e = a.context.number ∙ ap suc (same_place before t script n m v w a b) ∙ sym b.context.number in

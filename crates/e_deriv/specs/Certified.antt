@@ -3,7 +3,7 @@ use Rattle.std.specs.Prelude.{ℕ, List, [], ◌∷◌, IsTrue, Bool, true, fals
 use Rattle.std.specs.List.{list_all}
 use Rattle.e_literal.specs.declared.object.Scope.{Scope}
 use Rattle.e_literal.specs.declared.literal.Lit.{Lit}
-use Rattle.e_literal.specs.Use.{Stated}
+use Rattle.e_literal.specs.Use.{StatementView}
 use Rattle.e_clause.specs.declared.cert.Cert.{Cert}
 use Rattle.e_clause.specs.Certify.{certify_all, certifies_against}
 use Rattle.e_deriv.specs.Script.{Script, Cite, Hence, Make, Apply, Claim, Superposed, Qed, Contradiction, Cases}
@@ -34,18 +34,18 @@ certified_beside (Contradiction None) s facts = false
 certified_beside _ s facts = true
 
 -- the line's form fits, and its certificates certify its needs
-abbrev pub is_certified : List Stated → Line → Bool
+abbrev pub is_certified : List StatementView → Line → Bool
 is_certified before x =
     fits before x && (certify_all x.scope x.facts (needs before x) (certs_of x.here) && certified_beside x.here x.scope x.facts)
 
 -- the lines of a derivation, which has no blanks to fill
-abbrev pub derivation_lines : List Stated → Stated → Script → List Line
+abbrev pub derivation_lines : List StatementView → StatementView → Script → List Line
 derivation_lines before t d = proof_lines before t d d
 
 -- each line of the derivation is certified
-abbrev pub Certified : List Stated → Stated → Script → Type 0
+abbrev pub Certified : List StatementView → StatementView → Script → Type 0
 Certified before t d = IsTrue (list_all (is_certified before) (derivation_lines before t d))
 
--- the number of the first line that is not certified, or the number after the last
-abbrev pub verdict : List Stated → Stated → Script → Result ℕ ℕ
+-- the number of the first step that is not certified, or the number after the last
+abbrev pub verdict : List StatementView → StatementView → Script → Result ℕ ℕ
 verdict before t d = first_failure (is_certified before) (derivation_lines before t d) 1

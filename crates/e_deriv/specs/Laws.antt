@@ -1,6 +1,6 @@
 -- What follows from the definitions of lines, contexts and proofs, whatever is allowed.
 use Rattle.std.specs.Prelude.{◌≡◌, ℕ, List}
-use Rattle.e_literal.specs.Use.{Stated}
+use Rattle.e_literal.specs.Use.{StatementView}
 use Rattle.e_deriv.specs.declared.stop.Wanted.{Wanted}
 use Rattle.e_deriv.specs.Script.{Script}
 use Rattle.e_deriv.specs.Parts.{filled_by}
@@ -11,16 +11,16 @@ use Rattle.e_deriv.specs.Certified.{Certified, derivation_lines}
 
 -- what is certified is a proof
 abbrev pub CertifiedProves : Type 0
-CertifiedProves = (before : List Stated) (t : Stated) (d : Script) → Certified before t d → IsProof before t d
+CertifiedProves = (before : List StatementView) (t : StatementView) (d : Script) → Certified before t d → IsProof before t d
 
 -- a script whose lines are all licensed is a proof, with its blanks filled as there
 abbrev pub LicensedProves : Type 0
 LicensedProves =
-    (before : List Stated) (t : Stated) (script filled : Script) → AllLicensed before (proof_lines before t script filled) → IsProof before t (filled_by script filled)
+    (before : List StatementView) (t : StatementView) (script filled : Script) → AllLicensed before (proof_lines before t script filled) → IsProof before t (filled_by script filled)
 
 -- and each line of a proof is licensed
 abbrev pub ProofIsLicensed : Type 0
-ProofIsLicensed = (before : List Stated) (t : Stated) (d : Script) → IsProof before t d → AllLicensed before (derivation_lines before t d)
+ProofIsLicensed = (before : List StatementView) (t : StatementView) (d : Script) → IsProof before t d → AllLicensed before (derivation_lines before t d)
 
 -- what holds before the line of a number is one, however the blanks of lines that are not licensed are filled
 pub record SamePlace (x y : Line) : Type 0 where
@@ -31,16 +31,16 @@ pub record SamePlace (x y : Line) : Type 0 where
 
 abbrev pub ContextIsOne : Type 0
 ContextIsOne =
-    (before : List Stated) (t : Stated) (script : Script) (n : ℕ) (x y : Line) → IsContext before t script n x → IsContext before t script n y → SamePlace x y
+    (before : List StatementView) (t : StatementView) (script : Script) (n : ℕ) (x y : Line) → IsContext before t script n x → IsContext before t script n y → SamePlace x y
 
 -- where each line is licensed none is the first that is not
 abbrev pub LicensedHasNoStop : Type 0
 LicensedHasNoStop =
-    (before : List Stated) (t : Stated) (script filled : Script) (n : ℕ) (w : Wanted) → AllLicensed before (proof_lines before t script filled)
+    (before : List StatementView) (t : StatementView) (script filled : Script) (n : ℕ) (w : Wanted) → AllLicensed before (proof_lines before t script filled)
     → ¬ IsFirstUnlicensed before t script n w
 
--- the first line that is not licensed is one, and what it lacks too
+-- the first step that is not licensed is one, and what it lacks too
 abbrev pub StopIsOne : Type 0
 StopIsOne =
-    (before : List Stated) (t : Stated) (script : Script) (n m : ℕ) (v w : Wanted) →
+    (before : List StatementView) (t : StatementView) (script : Script) (n m : ℕ) (v w : Wanted) →
     IsFirstUnlicensed before t script n v → IsFirstUnlicensed before t script m w → (n ≡ m) × (v ≡ w)

@@ -3,7 +3,7 @@ use Rattle.std.specs.Prelude.{◌≡◌, ℕ, suc, List, [], ◌∷◌, ◌++◌
 use Rattle.e_literal.specs.declared.object.Obj.{Obj}
 use Rattle.e_literal.specs.declared.object.Scope.{Scope}
 use Rattle.e_literal.specs.declared.literal.Lit.{Lit}
-use Rattle.e_literal.specs.Use.{Stated}
+use Rattle.e_literal.specs.Use.{StatementView}
 use Rattle.e_clause.specs.Allowed.{Allowed, AllAllowed}
 use Rattle.e_clause.specs.Consequence.{Contradictory}
 use Rattle.e_theorem.specs.Choice.{IsLeast, NoneIsGood}
@@ -16,18 +16,18 @@ use Rattle.e_deriv.specs.Steps.{fits, needs, needs_as_written, is_cited}
 
 -- beside its form and its needs: a citation's instance gives the literal; the arguments of an application are the least good
 -- choice for its blanks; at a contradiction the facts contradict each other
-abbrev pub LicensedBeside : List Stated → Script → Scope → List Lit → List Obj → Type 0
+abbrev pub LicensedBeside : List StatementView → Script → Scope → List Lit → List Obj → Type 0
 LicensedBeside before (Cite by rest) s facts args = IsTrue (is_cited facts by)
 LicensedBeside before (Apply theorem pattern names certs rest) s facts args = IsLeast (theorem_at before theorem) s facts pattern args
 LicensedBeside before (Contradiction against) s facts args = Contradictory facts
 LicensedBeside before _ s facts args = Unit {0}
 
-pub record Licensed (before : List Stated) (x : Line) : Type 0 where
+pub record Licensed (before : List StatementView) (x : Line) : Type 0 where
   pub fits : IsTrue (fits before x)
   pub allowed : AllAllowed x.scope x.facts (needs before x)
   pub beside : LicensedBeside before x.here x.scope x.facts x.args
 
-abbrev pub AllLicensed : List Stated → List Line → Type 0
+abbrev pub AllLicensed : List StatementView → List Line → Type 0
 AllLicensed before [] = Unit {0}
 AllLicensed before (x ∷ xs) = Licensed before x × AllLicensed before xs
 
@@ -40,7 +40,7 @@ pub record IsFirstNotAllowed (scope : Scope) (facts : List Lit) (ls : List Lit) 
   pub not_allowed : ¬ Allowed scope facts l
 
 -- what a line that is not licensed lacks; an application with blanks lacks a choice for them that is good
-abbrev pub Lacks : List Stated → Line → Script → Wanted → Type 0
+abbrev pub Lacks : List StatementView → Line → Script → Wanted → Type 0
 Lacks before x (Cite by rest) (Literal l) = IsFalse (is_cited x.facts by) × (l ≡ by.lit)
 Lacks before x (Hence lit cert rest) (Literal l) = IsFirstNotAllowed x.scope x.facts (needs_as_written before x) l
 Lacks before x (Make form names certs rest) (Literal l) = IsFirstNotAllowed x.scope x.facts (needs_as_written before x) l
@@ -54,7 +54,7 @@ Lacks before x (Contradiction against) AContradiction = ¬ Contradictory x.facts
 Lacks before x _ _ = ⊥
 
 -- the line has number n from 1 on, of the statement's script with its blanks filled, and all lines before it are licensed
-pub record IsContext (before : List Stated) (t : Stated) (script : Script) (n : ℕ) (x : Line) : Type 0 where
+pub record IsContext (before : List StatementView) (t : StatementView) (script : Script) (n : ℕ) (x : Line) : Type 0 where
   pub filled : Script
   pub place : ℕ
   pub number : n ≡ suc place
@@ -62,7 +62,7 @@ pub record IsContext (before : List Stated) (t : Stated) (script : Script) (n : 
   pub earlier : AllLicensed before (take place (proof_lines before t script filled))
 
 -- line n is the first that is not licensed, and it lacks this
-pub record IsFirstUnlicensed (before : List Stated) (t : Stated) (script : Script) (n : ℕ) (wanted : Wanted) : Type 0 where
+pub record IsFirstUnlicensed (before : List StatementView) (t : StatementView) (script : Script) (n : ℕ) (wanted : Wanted) : Type 0 where
   pub line : Line
   pub context : IsContext before t script n line
   pub lacks : Lacks before line line.here wanted

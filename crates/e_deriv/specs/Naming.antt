@@ -3,7 +3,7 @@ use Rattle.std.specs.Prelude.{ℕ, List, [], ◌∷◌, ◌++◌, take}
 use Rattle.e_literal.specs.declared.object.Sort.{Sort}
 use Rattle.e_literal.specs.declared.object.Sort.TheVariants as sorts
 use Rattle.e_literal.specs.declared.object.Scope.{Scope}
-use Rattle.e_literal.specs.Use.{Stated, scope_of}
+use Rattle.e_literal.specs.Use.{StatementView, scope_of}
 use Rattle.e_construct.specs.Construct.{sorts_made}
 use Rattle.e_construct.specs.Superposing as superposing
 use Rattle.e_deriv.specs.declared.names.Names.{Names}
@@ -22,14 +22,14 @@ with_names ns sorts.Point new = record ns { points = new }
 with_names ns sorts.Line new = record ns { lines = new }
 with_names ns sorts.Circle new = record ns { circles = new }
 
--- each new name behind those of its sort, in order
+-- each new name after those of its sort, in order
 abbrev pub named : Names → List Sort → List (List ℕ) → Names
 named ns (sort ∷ kinds) (name ∷ names) = named (with_names ns sort (names_of_sort ns sort ++ name ∷ [])) kinds names
 named ns _ _ = ns
 
 -- the names in scope before each line, in text order, where these are in scope before the first; those that an inner block
--- brings are gone behind it
-unfoldable pub names_lines : List Stated → Names → Script → List Names
+-- brings are gone after it
+unfoldable pub names_lines : List StatementView → Names → Script → List Names
 names_lines before ns (Cite by rest) = ns ∷ names_lines before ns rest
 names_lines before ns (Hence lit cert rest) = ns ∷ names_lines before ns rest
 names_lines before ns (Make form names certs rest) = ns ∷ names_lines before (named ns (sorts_made form) names) rest
@@ -46,5 +46,5 @@ abbrev pub first_names : Scope → Names → Names
 first_names s ns = record { points = take s.points ns.points; lines = take s.lines ns.lines; circles = take s.circles ns.circles }
 
 -- of the names of a statement's declared and made objects those of the declared ones, which come first
-abbrev pub declared_names : Stated → Names → Names
+abbrev pub declared_names : StatementView → Names → Names
 declared_names t ns = first_names (scope_of t) ns

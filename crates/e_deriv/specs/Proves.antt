@@ -5,7 +5,7 @@ use Rattle.e_literal.specs.declared.literal.Lit.{Lit}
 use Rattle.e_literal.specs.Literal.{negation, all_in_scope}
 use Rattle.e_literal.specs.Facts.{joined, joined_all}
 use Rattle.e_literal.specs.Scopes.{grown}
-use Rattle.e_literal.specs.Use.{Stated, needs_of_use, gives_of_use, scope_of}
+use Rattle.e_literal.specs.Use.{StatementView, needs_of_use, gives_of_use, scope_of}
 use Rattle.e_clause.specs.Allowed.{Allowed, AllAllowed}
 use Rattle.e_clause.specs.Consequence.{Contradictory}
 use Rattle.e_construct.specs.Construct.{fits_construction, needs_of_construction, sorts_made, gives_of_construction}
@@ -16,7 +16,7 @@ use Rattle.e_deriv.specs.Parts.{written, has_no_blank}
 use Rattle.e_deriv.specs.Lines.{theorem_at}
 use Rattle.e_deriv.specs.Steps.{is_citation, is_cited, is_applied, are_over}
 
-unfoldable pub Proves : List Stated → Scope → List Lit → Goal → Script → Type 0
+unfoldable pub Proves : List StatementView → Scope → List Lit → Goal → Script → Type 0
 -- the literal is one of the instance, the negation of each other is a fact; it joins the facts
 Proves before s facts goal (Cite by rest) =
     IsTrue (is_citation s by) × IsTrue (is_cited facts by)
@@ -60,5 +60,5 @@ Proves before s facts goal (Cases lit first second) =
     × Proves before s (joined facts (negation lit)) goal second
 
 -- the script proves the statement, where these are the theorems before it
-abbrev pub IsProof : List Stated → Stated → Script → Type 0
+abbrev pub IsProof : List StatementView → StatementView → Script → Type 0
 IsProof before t script = Proves before (scope_of t) (facts_of_statement t) (goal_of_statement t) script

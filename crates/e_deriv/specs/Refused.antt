@@ -1,9 +1,9 @@
--- Why a script is refused: its first line that is not licensed, with values that show it; or a line that is too wide.
+-- Why a script is refused: its first step that is not licensed, with values that show it; or a line that is too wide.
 use Rattle.std.specs.Prelude.{◌≡◌, ℕ, List, IsTrue, IsFalse, Contains, MatchBool, Option, Some, None}
 use Rattle.e_literal.specs.declared.object.Term.{Term}
 use Rattle.e_literal.specs.declared.literal.Lit.{Lit}
 use Rattle.e_literal.specs.Facts.{is_metric}
-use Rattle.e_literal.specs.Use.{Stated}
+use Rattle.e_literal.specs.Use.{StatementView}
 use Rattle.e_clause.specs.Counterexample.{ListsCounterexample}
 use Rattle.e_clause.specs.Wide.{IsWideLit, IsWideContradiction, IsTooWideLit, IsTooWideContradiction}
 use Rattle.e_deriv.specs.declared.stop.Wanted.{Wanted}
@@ -35,7 +35,7 @@ IsShown here facts Match values = values ≡ None
 IsShown here facts AContradiction values = AgreementIsShown facts values
 
 -- line n is the first that is not licensed, it lacks this, and these values show it
-pub record IsRefused (before : List Stated) (t : Stated) (script : Script) (n : ℕ) (wanted : Wanted) (values : Option (List (Term × ℕ))) : Type 0 where
+pub record IsRefused (before : List StatementView) (t : StatementView) (script : Script) (n : ℕ) (wanted : Wanted) (values : Option (List (Term × ℕ))) : Type 0 where
   pub line : Line
   pub context : IsContext before t script n line
   pub lacks : Lacks before line line.here wanted
@@ -44,24 +44,24 @@ pub record IsRefused (before : List Stated) (t : Stated) (script : Script) (n : 
 -- ---- wide lines
 
 -- one of the literals is wide
-pub record SomeIsWide (before : List Stated) (x : Line) : Type 0 where
+pub record SomeIsWide (before : List StatementView) (x : Line) : Type 0 where
   pub lit : Lit
   pub is_one : Contains (needs_as_written before x) lit
   pub is_wide : IsWideLit x.scope x.facts lit
 
 -- a literal that the line needs is wide, for an application with blanks under a choice that is not above the least good one; or
 -- its contradiction is. A citation, a claim and a split need nothing and are never wide.
-abbrev pub IsWideAt : List Stated → Line → Script → Type 0
+abbrev pub IsWideAt : List StatementView → Line → Script → Type 0
 IsWideAt before x (Contradiction against) = IsWideContradiction x.facts
 IsWideAt before x (Apply theorem pattern names certs rest) =
     MatchBool (has_no_blank pattern) (SomeIsWide before x) (SomeChoiceIsWide (theorem_at before theorem) x.scope x.facts pattern)
 IsWideAt before x _ = SomeIsWide before x
 
-abbrev pub IsWideLine : List Stated → Line → Type 0
+abbrev pub IsWideLine : List StatementView → Line → Type 0
 IsWideLine before x = IsWideAt before x x.here
 
 -- what is wanted on the line is wide, and w is the width of one of its wide systems
-abbrev pub IsTooWide : List Stated → Line → Script → Wanted → ℕ → Type 0
+abbrev pub IsTooWide : List StatementView → Line → Script → Wanted → ℕ → Type 0
 IsTooWide before x (Contradiction against) AContradiction w = IsTooWideContradiction x.facts w
 IsTooWide before x (Contradiction against) _ w = ⊥
 IsTooWide before x (Apply theorem pattern names certs rest) (Literal l) w =
@@ -72,7 +72,7 @@ IsTooWide before x _ (Literal l) w = Contains (needs_as_written before x) l × I
 IsTooWide before x _ _ w = ⊥
 
 -- each line before line n is licensed, and line n is too wide at what is wanted there
-pub record IsTooWideAt (before : List Stated) (t : Stated) (script : Script) (n : ℕ) (wanted : Wanted) (w : ℕ) : Type 0 where
+pub record IsTooWideAt (before : List StatementView) (t : StatementView) (script : Script) (n : ℕ) (wanted : Wanted) (w : ℕ) : Type 0 where
   pub line : Line
   pub context : IsContext before t script n line
   pub too_wide : IsTooWide before line line.here wanted w

@@ -5,7 +5,7 @@ use Rattle.e_literal.specs.declared.object.Obj.{Obj}
 use Rattle.e_literal.specs.declared.object.Scope.{Scope}
 use Rattle.e_literal.specs.declared.literal.Lit.{Lit}
 use Rattle.e_literal.specs.Literal.{all_in_scope}
-use Rattle.e_literal.specs.Use.{Stated, needs_of_use}
+use Rattle.e_literal.specs.Use.{StatementView, needs_of_use}
 pub use Rattle.e_clause.specs.Citing.{is_citation, instance_gives, is_cited}
 use Rattle.e_construct.specs.Construct.{fits_construction as fits_form, needs_of_construction as needs_of_form}
 use Rattle.e_construct.specs.Superposing as superposing
@@ -20,12 +20,12 @@ abbrev pub are_over : Scope → List Lit → Bool
 are_over s ls = list_all (all_in_scope s) ls
 
 -- the arguments fill the pattern and fit the theorem, which is one of those before
-abbrev pub is_applied : List Stated → ℕ → Scope → List (Option Obj) → List Obj → Bool
+abbrev pub is_applied : List StatementView → ℕ → Scope → List (Option Obj) → List Obj → Bool
 is_applied before theorem s pattern args =
     nat_lt theorem (length before) && is_choice (theorem_at before theorem) s pattern args
 
 -- the line's form fits where it stands; what a superposition shows does not speak of the copied points
-abbrev pub fits_at : List Stated → Script → Scope → Goal → List Obj → Bool
+abbrev pub fits_at : List StatementView → Script → Scope → Goal → List Obj → Bool
 fits_at before (Cite by rest) s goal args = is_citation s by
 fits_at before (Hence lit cert rest) s goal args = all_in_scope s lit
 fits_at before (Make form names certs rest) s goal args = fits_form form s
@@ -37,7 +37,7 @@ fits_at before (Contradiction against) s goal args = true
 fits_at before (Cases lit first second) s goal args = all_in_scope s lit
 
 -- the literals that the line needs, in order
-abbrev pub needs_at : List Stated → Script → Scope → Goal → List Obj → List Lit
+abbrev pub needs_at : List StatementView → Script → Scope → Goal → List Obj → List Lit
 needs_at before (Hence lit cert rest) s goal args = lit ∷ []
 needs_at before (Make form names certs rest) s goal args = needs_of_form form
 needs_at before (Apply theorem pattern names certs rest) s goal args = needs_of_use (theorem_at before theorem) args s
@@ -48,12 +48,12 @@ needs_at before (Claim shown inner rest) s goal args = []
 needs_at before (Contradiction against) s goal args = []
 needs_at before (Cases lit first second) s goal args = []
 
-abbrev pub fits : List Stated → Line → Bool
+abbrev pub fits : List StatementView → Line → Bool
 fits before x = fits_at before x.here x.scope x.goal x.args
 
-abbrev pub needs : List Stated → Line → List Lit
+abbrev pub needs : List StatementView → Line → List Lit
 needs before x = needs_at before x.here x.scope x.goal x.args
 
 -- the needs of a line with the arguments that are written on it, where none is a blank
-abbrev pub needs_as_written : List Stated → Line → List Lit
+abbrev pub needs_as_written : List StatementView → Line → List Lit
 needs_as_written before x = needs_at before x.here x.scope x.goal (args_of x.here)

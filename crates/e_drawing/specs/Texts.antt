@@ -1,7 +1,7 @@
 -- A figure text, line by line.
 use Rattle.std.specs.Prelude.{◌≡◌, ℕ, ◌+◌, List, [], ◌∷◌, length, Result, Ok, Err, if◌then◌else◌}
 use Rattle.e_text.specs.Tokens.{tokens_of}
-use Rattle.e_text.specs.Lines.{Seen, lines_of}
+use Rattle.e_text.specs.Lines.{LineView, lines_of}
 use Rattle.e_text.specs.declared.line.LineFault.{LineFault}
 use Rattle.e_line.specs.declared.fault.FaultKind.{FaultKind}
 use Rattle.e_line.specs.declared.fault.BookFault.{BookFault}
@@ -17,13 +17,13 @@ use Rattle.e_drawing.specs.Plans.{no_plan, step, is_done}
 unfoldable pub words_step : Plan → List (List ℕ) → Result Plan FaultKind
 words_step p words = line_of words >>= λ l. step p l
 
--- the lines end: behind the last line of the figure, or before it
+-- the lines end: after the last line of the figure, or before it
 abbrev pub at_end : ℕ → Plan → Result Plan BookFault
 at_end last p = if is_done p then Ok p else Err (faults.Unended last)
 
 -- the figure of these lines, or the first fault; last is the number after the last line. After the last line of the figure only lines that
 -- say nothing may come.
-abbrev pub plan_from : ℕ → Plan → List (Result Seen LineFault) → Result Plan BookFault
+abbrev pub plan_from : ℕ → Plan → List (Result LineView LineFault) → Result Plan BookFault
 plan_from last p [] = at_end last p
 plan_from last p (Err f ∷ lines) = Err (line_fault f)
 plan_from last p (Ok line ∷ lines) =
@@ -31,7 +31,7 @@ plan_from last p (Ok line ∷ lines) =
     (put_at line.number (words_step p (tokens_of line.bytes)) >>= λ q. plan_from last q lines)
 
 -- the lines of a text, as those of a book
-abbrev pub lines_of_text : List ℕ → List (Result Seen LineFault)
+abbrev pub lines_of_text : List ℕ → List (Result LineView LineFault)
 lines_of_text text = lines_of (record { longest = 1600; most = 4194304 }) (record { line = 1; before = 0 }) text
 
 -- the figure of a text, or its first fault
@@ -44,6 +44,6 @@ PlanIs (Ok u) new read = read ≡ Ok new
 PlanIs (Err f) new read = BookFails f read
 
 -- what a line makes of a plan: to read on through the line is to read on from there, or it is the first with a fault
-abbrev pub TakesLine : Plan → Seen → Result (Unit {0}) BookFault → Plan → Type 0
-TakesLine old l (Ok u) new = (last : ℕ) (more : List (Result Seen LineFault)) → plan_from last old (Ok l ∷ more) ≡ plan_from last new more
-TakesLine old l (Err f) new = (last : ℕ) (more : List (Result Seen LineFault)) → BookFails f (plan_from last old (Ok l ∷ more))
+abbrev pub TakesLine : Plan → LineView → Result (Unit {0}) BookFault → Plan → Type 0
+TakesLine old l (Ok u) new = (last : ℕ) (more : List (Result LineView LineFault)) → plan_from last old (Ok l ∷ more) ≡ plan_from last new more
+TakesLine old l (Err f) new = (last : ℕ) (more : List (Result LineView LineFault)) → BookFails f (plan_from last old (Ok l ∷ more))

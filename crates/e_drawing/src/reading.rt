@@ -1,6 +1,6 @@
 //! A figure text, line by line.
 ghost use Rattle.std.specs.Prelude.{◌≡◌, ◌<◌, ◌^◌, OnOk};
-ghost use Rattle.e_text.specs.Lines.{seen};
+ghost use Rattle.e_text.specs.Lines.{view_of_line};
 ghost use Rattle.e_text.specs.Tokens.{tokens_of};
 ghost use Rattle.e_book.specs.Grammar.{last_line};
 ghost use Rattle.e_line.specs.Reading.{texts, Moves};
@@ -38,7 +38,7 @@ fn take_tokens(
     requires words { texts words.now ≡ tokens_of line.now.bytes.now }
     requires number { line.now.number < 2 ^ 32 }
     requires fits { FitsPlan plan.old }
-    ensures takes { TakesLine plan.old (seen line.now) result plan.new }
+    ensures takes { TakesLine plan.old (view_of_line line.now) result plan.new }
     ensures fits { OnOk result (FitsPlan plan.new) }
 {
     if is_skipped(words) {
@@ -54,7 +54,7 @@ fn take_tokens(
 fn take_line(alloc: Global, plan: &mut Plan, line: &Line) -> Result<(), BookFault>
     requires number { line.now.number < 2 ^ 32 }
     requires fits { FitsPlan plan.old }
-    ensures takes { TakesLine plan.old (seen line.now) result plan.new }
+    ensures takes { TakesLine plan.old (view_of_line line.now) result plan.new }
     ensures fits { OnOk result (FitsPlan plan.new) }
 {
     let words = collected(alloc, line.bytes)?;

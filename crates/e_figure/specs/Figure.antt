@@ -63,7 +63,7 @@ abbrev pub figure_of : List Point → List Straight → List Round → Option Fi
 figure_of points lines circles =
     if can_be_drawn (view_of points lines circles) then Some (view_of points lines circles) else None
 
--- ---- one object more, put behind those of its sort
+-- ---- one object more, put after those of its sort
 
 abbrev pub with_point : FigureView → Point → FigureView
 with_point d a = record { points = d.points ++ a ∷ []; lines = d.lines; circles = d.circles }

@@ -30,7 +30,7 @@ are_in_figure d args = list_all (is_in_scope (scope_of d)) args
 abbrev pub has_instance : FigureView → ℕ → List Obj → Bool
 has_instance d rule args = is_some (Inst rule args) && are_in_figure d args
 
--- BadArgs only where there is no instance in the figure's scope; want of memory is free
+-- BadArgs only where there is no instance in the figure's scope; out of memory is free
 abbrev pub LawFaultIs : FigureView → ℕ → List Obj → LawFault → Type 0
 LawFaultIs d rule args BadArgs = has_instance d rule args ≡ false
 LawFaultIs d rule args NoMemory = Unit {0}

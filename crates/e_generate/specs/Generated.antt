@@ -1,12 +1,12 @@
 -- The book that make writes: theorems on points in order, each but every sixth by the one before it.
 use Rattle.std.specs.Prelude.{ℕ, zero, suc, ◌+◌, ◌-◌, ◌%◌, List, [], ◌∷◌, ◌++◌, nat_lt, flat_map, codes, decimal, if◌then◌else◌}
 
--- so many numbers, from this one on
+-- this many numbers, from this one on
 abbrev pub numbers : ℕ → ℕ → List ℕ
 numbers from zero = []
 numbers from (suc n) = from ∷ numbers (from + 1) n
 
--- ---- words, each behind a space
+-- ---- words, each after a space
 
 abbrev pub point : ℕ → List ℕ
 point i = codes " p" ++ decimal i

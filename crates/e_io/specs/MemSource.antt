@@ -27,7 +27,7 @@ after_read s room =
     then record s { call = one_more s.call; faults = one_more s.faults }
     else record s { left = drop (given s room) s.left; call = one_more s.call }
 
--- the buffer after a call: what was given stands at its front
+-- the buffer after a call: what was given is at its front
 abbrev pub buffer_after : Supply → List ℕ → List ℕ
 buffer_after s to =
     if fails s then to else take (given s (length to)) s.left ++ drop (given s (length to)) to

@@ -2,7 +2,7 @@
 use Rattle.std.proofs.Common.{◌≡◌, ℕ, ◌+◌, List, [], ◌∷◌, ◌++◌, length, Result, Ok, Err, refl, sym, ap, subst, ◌∙◌}
 use Rattle.std.specs.Prelude.{IsTrue, IfOk, Option, Some, None}
 use Rattle.std.specs.List.{list_all}
-use Rattle.e_text.specs.Lines.{Seen, Ahead}
+use Rattle.e_text.specs.Lines.{LineView, Ahead}
 use Rattle.e_clause.specs.declared.cert.Version.{Version}
 use Rattle.e_theorem.specs.Statements.{stated}
 use Rattle.e_deriv.specs.Fitting.{is_small_statement}
@@ -55,7 +55,7 @@ module _ (v : Version) where
 
 -- ---- the first line
 
-head_judged : (lines : Rest) (l : Seen) (v : Version) (after : Ahead) (j : Judgement) → lines ≡ Ok l ∷ after.lines → after.line ≡ 2 → version_of l ≡ Some v → IsJudged v (last_line after) after.lines j → JudgesLines lines j
+head_judged : (lines : Rest) (l : LineView) (v : Version) (after : Ahead) (j : Judgement) → lines ≡ Ok l ∷ after.lines → after.line ≡ 2 → version_of l ≡ Some v → IsJudged v (last_line after) after.lines j → JudgesLines lines j
 head_judged lines l v after j e n h k =
     subst (λ (x : Rest). JudgesLines x j) (sym e)
     (subst (λ (o : Option Version). JudgedBehindHead o after.lines j) (sym h) (subst (λ (m : ℕ). IsJudged v (m + length after.lines) after.lines j) n k))
@@ -64,7 +64,7 @@ text_judged : (text : List ℕ) (lines : Rest) (j : Judgement) → lines ≡ lin
 text_judged text lines j e h = subst (λ (x : Rest). JudgesLines x j) e h
 
 -- the first line says the version
-pub begins_so : (lines : Rest) (l : Seen) (after : Ahead) (found : Option Version) → lines ≡ Ok l ∷ after.lines → after.line ≡ 2 → found ≡ version_of l → Begins lines after found
+pub begins_so : (lines : Rest) (l : LineView) (after : Ahead) (found : Option Version) → lines ≡ Ok l ∷ after.lines → after.line ≡ 2 → found ≡ version_of l → Begins lines after found
 begins_so lines l after found e n h = record { head = h ∙ sym (ap version_at e); taken = λ v t. (l, e, n) }
 
 -- or there is none

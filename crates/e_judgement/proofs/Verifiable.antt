@@ -1,7 +1,7 @@
 -- A theorem that is read from a derivation text can be checked.
 use Rattle.std.proofs.Common.{◌≡◌, ℕ, true, List, Result, sym, ◌∙◌, arith}
 use Rattle.std.specs.List.{list_all}
-use Rattle.e_text.specs.Lines.{Seen}
+use Rattle.e_text.specs.Lines.{LineView}
 use Rattle.e_text.specs.declared.line.LineFault.{LineFault}
 use Rattle.e_literal.specs.Use.{scope_of}
 use Rattle.e_clause.specs.declared.cert.Version.{Version}
@@ -20,7 +20,7 @@ use Rattle.e_read.proofs.Bridge.{derives}
 use Rattle.e_read.proofs.GoodReadings.{good_certs_read}
 use Rattle.e_judgement.proofs.WithCertificates.{size_erased, small_with}
 
-pub verifiable : (v : Version) (known : List TitledStatement) (last : ℕ) (lines rest : List (Result Seen LineFault)) (t : TheoremView) → list_all is_small_statement (stated_by known) ≡ true → is_small_statement (stated t.statement) ≡ true → HasSpelling known (bare t)
+pub verifiable : (v : Version) (known : List TitledStatement) (last : ℕ) (lines rest : List (Result LineView LineFault)) (t : TheoremView) → list_all is_small_statement (stated_by known) ≡ true → is_small_statement (stated t.statement) ≡ true → HasSpelling known (bare t)
     → piece_from known last (at_start v) lines ≡ derives t rest → IsVerifiable (stated_by known) (stated t.statement) t.script
 verifiable v known last lines rest t states small spelled e =
     let bs = stated_by known in

@@ -8,7 +8,7 @@ use Rattle.e_literal.specs.declared.literal.Lit.{Lit}
 use Rattle.e_literal.specs.Literal.{negation}
 use Rattle.e_literal.specs.Scopes.{grown}
 use Rattle.e_literal.specs.Facts.{joined, joined_all}
-use Rattle.e_literal.specs.Use.{Stated, gives_of_use}
+use Rattle.e_literal.specs.Use.{StatementView, gives_of_use}
 use Rattle.e_literal.proofs.Booleans.{all_both}
 use Rattle.e_construct.specs.Construct.{sorts_made, gives_of_construction}
 use Rattle.e_construct.specs.Superposing as superposing
@@ -39,7 +39,7 @@ parted : (xs ys : List Line) → list_all is_small_line (xs ++ ys) ≡ true → 
 parted xs ys h = and_parts (list_all is_small_line xs) (list_all is_small_line ys) (sym (list_all-append is_small_line xs ys) ∙ h)
 
 -- the scopes before the lines are the same, whatever the facts, the goals and the arguments are
-pub small_with : (bs : List Stated) (d f g : Script) (s : Scope) (facts more : List Lit) (goal aim : Goal) → list_all is_small_line (lines bs (erased d) f s facts goal) ≡ true → list_all is_small_line (lines bs d g s more aim) ≡ true
+pub small_with : (bs : List StatementView) (d f g : Script) (s : Scope) (facts more : List Lit) (goal aim : Goal) → list_all is_small_line (lines bs (erased d) f s facts goal) ≡ true → list_all is_small_line (lines bs d g s more aim) ≡ true
 unfolding lines erased
 small_with bs (Cite by rest) f g s facts more goal aim h =
     let p = and_parts (is_small s) (list_all is_small_line (lines bs (erased rest) (rest_of f) s (joined facts by.lit) goal)) h in

@@ -2,7 +2,7 @@
 -- its place or is not certified.
 use Rattle.std.specs.Prelude.{◌≡◌, ◌⊎◌, ℕ, ◌+◌, Bool, ◌&&◌, List, [], ◌∷◌, ◌++◌, length, codes, Option, Some, None, Result, Ok, Err, if◌then◌else◌}
 use Rattle.std.specs.Str.{bytes_eq}
-use Rattle.e_text.specs.Lines.{Seen, lines_of, fault_line}
+use Rattle.e_text.specs.Lines.{LineView, lines_of, fault_line}
 use Rattle.e_text.specs.declared.line.LineFault.{LineFault}
 use Rattle.e_clause.specs.declared.cert.Version.{Version}
 use Rattle.e_clause.specs.declared.cert.Version.TheVariants.{One, Two}
@@ -14,15 +14,15 @@ use Rattle.e_read.specs.Text.{at_start, piece_from, Derived, Last, is_lf_end}
 use Rattle.e_judgement.specs.declared.judgement.Judgement.{Judgement}
 use Rattle.e_judgement.specs.declared.judgement.Judgement.TheVariants.{Verified, Bad, Garbled}
 
--- the lines ahead, cut off behind the first that has a fault
+-- the next lines, cut off after the first that has a fault
 abbrev pub Rest : Type 0
-Rest = List (Result Seen LineFault)
+Rest = List (Result LineView LineFault)
 
--- behind a theorem it is known
+-- after a theorem it is known
 abbrev pub with_theorem : List TitledStatement → TheoremView → List TitledStatement
 with_theorem known t = known ++ headed t.title t.statement ∷ []
 
--- with this known, these lines begin with this theorem and its derivation, in this version, and those are left behind it
+-- with this known, these lines begin with this theorem and its derivation, in this version, and those are left after it
 abbrev pub ReadsNext : Version → ℕ → List TitledStatement → Rest → TheoremView → Rest → Type 0
 ReadsNext v last known lines t after = piece_from known last (at_start v) lines ≡ Ok (Derived t, after)
 
@@ -37,11 +37,11 @@ Passes v last known lines (t ∷ ts) now rest =
     (after : Rest) × ReadsNext v last known lines t after × IsCertified known t × Passes v last (with_theorem known t) after ts now rest
 
 -- the number of a line
-abbrev pub number_of : Result Seen LineFault → ℕ
+abbrev pub number_of : Result LineView LineFault → ℕ
 number_of (Ok l) = l.number
 number_of (Err f) = fault_line f
 
--- nothing stands behind the last line
+-- nothing stands after the last line
 abbrev pub JudgedBehind : ℕ → Rest → Judgement
 JudgedBehind n [] = Verified n
 JudgedBehind n (x ∷ xs) = Garbled (number_of x)
@@ -64,7 +64,7 @@ FailsThere v last known lines j =
 abbrev pub Closes : Version → ℕ → List TitledStatement → Rest → Judgement → Type 0
 Closes v last known lines j = EndsThere v last known lines j ⊎ (BreaksThere v last known lines j ⊎ FailsThere v last known lines j)
 
--- these lines behind the head of this version are theorems, each certified by those before it, and then end so
+-- these lines after the head of this version are theorems, each certified by those before it, and then end so
 pub record IsJudged (v : Version) (last : ℕ) (lines : Rest) (j : Judgement) : Type 0 where
   pub theorems : List TheoremView
   pub known : List TitledStatement
@@ -77,14 +77,14 @@ abbrev pub head_of : Version → List ℕ
 head_of One = codes "derivation 1"
 head_of Two = codes "derivation 2"
 
-abbrev pub is_head : Version → Seen → Bool
+abbrev pub is_head : Version → LineView → Bool
 is_head v l = is_lf_end l.end && bytes_eq l.bytes (head_of v)
 
 -- the version that it says
-abbrev pub version_of : Seen → Option Version
+abbrev pub version_of : LineView → Option Version
 version_of l = if is_head One l then Some One else if is_head Two l then Some Two else None
 
--- behind a line that says this the lines are judged so
+-- after a line that says this the lines are judged so
 abbrev pub JudgedBehindHead : Option Version → Rest → Judgement → Type 0
 JudgedBehindHead None lines j = j ≡ Garbled 1
 JudgedBehindHead (Some v) lines j = IsJudged v (2 + length lines) lines j

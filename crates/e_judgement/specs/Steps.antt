@@ -1,6 +1,6 @@
 -- A derivation text taken theorem by theorem: what each step of that says of the text's judgement.
 use Rattle.std.specs.Prelude.{◌≡◌, ℕ, ◌<◌, List, [], ◌∷◌, length, Option, Some, None, Ok, Err, IsTrue}
-use Rattle.e_text.specs.Lines.{Seen, Ahead}
+use Rattle.e_text.specs.Lines.{LineView, Ahead}
 use Rattle.e_clause.specs.declared.cert.Version.{Version}
 use Rattle.e_theorem.specs.Statements.{stated}
 use Rattle.e_deriv.specs.Fitting.{is_small_statement}
@@ -29,7 +29,7 @@ abbrev pub NextIs : Version → List TitledStatement → ℕ → Rest → Rest �
 NextIs v known last lines after (Theorem t) = IsNext v known last lines (entry_of t) after
 NextIs v known last lines after (End j) = Closes v last known lines j
 
--- behind a theorem fewer lines are ahead, and they are those of the same text
+-- after a theorem fewer lines come, and they are those of the same text
 abbrev pub GoesOn : NextItem → Ahead → Ahead → Type 0
 GoesOn (Theorem t) before after = (length after.lines < length before.lines) × (last_line after ≡ last_line before)
 GoesOn (End j) before after = Unit {0}
@@ -43,4 +43,4 @@ version_at (Ok l ∷ lines) = version_of l
 -- it was found so; where it is one, its line is taken, and line 2 is next
 pub record Begins (lines : Rest) (after : Ahead) (found : Option Version) : Type 0 where
   pub head : found ≡ version_at lines
-  pub taken : (v : Version) → found ≡ Some v → (l : Seen) × (lines ≡ Ok l ∷ after.lines) × (after.line ≡ 2)
+  pub taken : (v : Version) → found ≡ Some v → (l : LineView) × (lines ≡ Ok l ∷ after.lines) × (after.line ≡ 2)

@@ -1,6 +1,6 @@
 //! A derivation text, theorem by theorem.
 ghost use Rattle.std.specs.Prelude.{◌≡◌, ◌≤◌, ◌^◌, ◌++◌, ◌∷◌, [], false, length, IfOk, OnOk};
-ghost use Rattle.e_text.specs.Lines.{seen};
+ghost use Rattle.e_text.specs.Lines.{view_of_line};
 ghost use Rattle.e_book.specs.Grammar.{last_line};
 ghost use Rattle.e_names.specs.TitledStatements.{headed, is_known};
 ghost use Rattle.e_judgement.specs.Judged.{head_of, is_head, version_of, JudgesText, IsJudged};
@@ -30,14 +30,14 @@ fn head_of(version: Version) -> &'static [u8]
 
 /// Whether a line is the first one of a derivation text of this version.
 fn is_head(version: Version, line: &Line) -> bool
-    ensures { result ≡ is_head version (seen line.now) }
+    ensures { result ≡ is_head version (view_of_line line.now) }
 {
     matches!(line.end, LineEnd::Lf) && line.bytes == head_of(version)
 }
 
 /// The version that the first line of a derivation text says, if it is one.
 fn version_of(line: &Line) -> Option<Version>
-    ensures { result ≡ version_of (seen line.now) }
+    ensures { result ≡ version_of (view_of_line line.now) }
 {
     if is_head(Version::One, line) {
         return Some(Version::One);

@@ -4,7 +4,7 @@ use Rattle.std.specs.List.{list_all}
 use Rattle.e_literal.specs.declared.object.Obj.{Obj}
 use Rattle.e_literal.specs.declared.object.Scope.{Scope}
 use Rattle.e_literal.specs.declared.literal.Lit.{Lit}
-use Rattle.e_literal.specs.Use.{Stated, needs_of_use}
+use Rattle.e_literal.specs.Use.{StatementView, needs_of_use}
 use Rattle.e_clause.specs.Wide.{IsTooWideLit}
 use Rattle.e_theorem.specs.Choice.{is_choice, is_below, IsGood}
 use Rattle.e_licence.specs.Contexts.{Basis}
@@ -21,14 +21,14 @@ abbrev pub is_above : List (List Obj) → List Obj → Bool
 is_above choices args = list_all (λ c. is_below c args) choices
 
 -- a good choice that is above all these
-pub record IsNext (t : Stated) (scope : Scope) (facts : List Lit) (pattern : List (Option Obj)) (choices : List (List Obj)) : Type 0 where
+pub record IsNext (t : StatementView) (scope : Scope) (facts : List Lit) (pattern : List (Option Obj)) (choices : List (List Obj)) : Type 0 where
   pub args : List Obj
   pub good : IsGood t scope facts pattern args
   pub above : IsTrue (is_above choices args)
 
--- The first of the good choices in order, at most so many; and whether there are more. No good choice is missing before the last of
+-- The first of the good choices in order, at most this many; and whether there are more. No good choice is missing before the last of
 -- these, and where there are no more none is missing at all.
-pub record AreFirst (t : Stated) (scope : Scope) (facts : List Lit) (pattern : List (Option Obj)) (most : ℕ) (choices : List (List Obj)) (more : Bool) : Type 0 where
+pub record AreFirst (t : StatementView) (scope : Scope) (facts : List Lit) (pattern : List (Option Obj)) (most : ℕ) (choices : List (List Obj)) (more : Bool) : Type 0 where
   pub good : (args : List Obj) → Contains choices args → IsGood t scope facts pattern args
   pub ascending : IsTrue (is_ascending choices)
   pub few : length choices ≤ most
@@ -36,7 +36,7 @@ pub record AreFirst (t : Stated) (scope : Scope) (facts : List Lit) (pattern : L
   pub next : IsTrue more → (length choices ≡ most) × IsNext t scope facts pattern choices
 
 -- under a choice a given literal is wide, and w is the width of one of its wide systems
-pub record AnyChoiceIsTooWide (t : Stated) (scope : Scope) (facts : List Lit) (pattern : List (Option Obj)) (w : ℕ) : Type 0 where
+pub record AnyChoiceIsTooWide (t : StatementView) (scope : Scope) (facts : List Lit) (pattern : List (Option Obj)) (w : ℕ) : Type 0 where
   pub args : List Obj
   pub is_choice : IsTrue (is_choice t scope pattern args)
   pub lit : Lit
@@ -44,6 +44,6 @@ pub record AnyChoiceIsTooWide (t : Stated) (scope : Scope) (facts : List Lit) (p
   pub is_wide : IsTooWideLit scope facts lit w
 
 -- the first of the good choices; or some choice is too wide
-abbrev pub FirstAre : Stated → Basis → List (Option Obj) → ℕ → FirstChoices → Type 0
+abbrev pub FirstAre : StatementView → Basis → List (Option Obj) → ℕ → FirstChoices → Type 0
 FirstAre t b pattern most (first.Found choices more) = AreFirst t b.scope b.facts pattern most choices more
 FirstAre t b pattern most (first.TooWide w) = AnyChoiceIsTooWide t b.scope b.facts pattern w

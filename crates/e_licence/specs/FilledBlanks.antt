@@ -1,7 +1,7 @@
 -- What is answered on the blanks of an application.
 use Rattle.std.specs.Prelude.{List, Option}
 use Rattle.e_literal.specs.declared.object.Obj.{Obj}
-use Rattle.e_literal.specs.Use.{Stated}
+use Rattle.e_literal.specs.Use.{StatementView}
 use Rattle.e_theorem.specs.Choice.{IsLeast, NoneIsGood}
 use Rattle.e_theorem.specs.WideChoice.{SomeChoiceIsTooWide}
 use Rattle.e_licence.specs.Contexts.{Basis}
@@ -9,7 +9,7 @@ use Rattle.e_licence.specs.declared.blanks.Filled.{Filled}
 use Rattle.e_licence.specs.declared.blanks.Filled.TheVariants as filled
 
 -- the least good choice; or no choice is good; or a choice that is not above the least good one, if there is one, is too wide
-abbrev pub FilledIs : Stated → Basis → List (Option Obj) → Filled → Type 0
+abbrev pub FilledIs : StatementView → Basis → List (Option Obj) → Filled → Type 0
 FilledIs t b pattern (filled.Found args) = IsLeast t b.scope b.facts pattern args
 FilledIs t b pattern filled.None = NoneIsGood t b.scope b.facts pattern
 FilledIs t b pattern (filled.TooWide w) = SomeChoiceIsTooWide t b.scope b.facts pattern w

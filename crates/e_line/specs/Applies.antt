@@ -18,12 +18,12 @@ argument_of w = if is_blank w then Ok None else (or_malformed (name_of w) >>= λ
 abbrev pub arguments_of : List (List ℕ) → Result (List (Option (List ℕ))) FaultKind
 arguments_of words = each argument_of words
 
--- the words behind as, at least one name
+-- the words after as, at least one name
 abbrev pub made_names : Bool → List (List ℕ) → Result (List (List ℕ)) FaultKind
 made_names false words = Ok []
 made_names true words = some_names words
 
--- what stands behind apply: a title, arguments, and perhaps the word as with names behind it
+-- what comes after apply: a title, arguments, and perhaps the word as with names after it
 unfoldable pub apply_of : List (List ℕ) → Result RawApply FaultKind
 apply_of words = do
   t ← title_at words

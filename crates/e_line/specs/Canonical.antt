@@ -33,7 +33,7 @@ coefficient_words n = if n == 1 then [] else decimal n ∷ []
 abbrev pub mono_words : RawMono → List (List ℕ)
 mono_words m = coefficient_words m.coeff ++ term_words m.term
 
--- more monomials, each behind a plus
+-- more monomials, each after a plus
 abbrev pub more_monos : List RawMono → List (List ℕ)
 more_monos [] = []
 more_monos (m ∷ ms) = codes "+" ∷ (mono_words m ++ more_monos ms)
@@ -81,7 +81,7 @@ signed_words false a = atom_words a
 abbrev pub lit_words : RawLit → List (List ℕ)
 lit_words l = signed_words l.neg l.atom
 
--- more literals, each behind a semicolon
+-- more literals, each after a semicolon
 abbrev pub more_words : List RawLit → List (List ℕ)
 more_words [] = []
 more_words (l ∷ ls) = codes ";" ∷ (lit_words l ++ more_words ls)

@@ -20,12 +20,12 @@ use Rattle.e_line.specs.Lets.{are_words_of, new_words, argument_words}
 use Rattle.e_line.specs.Superposes.{superpose_pieces}
 use Rattle.e_line.specs.RawLines.{raw_line_named}
 
--- ---- what stands between two semicolons
+-- ---- what is between two semicolons
 
 abbrev pub is_as : List ℕ → Bool
 is_as w = bytes_eq w (codes "as")
 
--- behind the word as: a title, and names, perhaps none
+-- after the word as: a title, and names, perhaps none
 unfoldable pub as_of : List (List ℕ) → Result RawAs FaultKind
 as_of words = do
   t ← title_at words
@@ -69,7 +69,7 @@ listed line words = do
   items ← items_of words
   Ok (Listed line items)
 
--- a line by its first word and the others: where an item stands among literals, the line with its items; the first line of a
+-- a line by its first word and the others: where an item is among literals, the line with its items; the first line of a
 -- definition; and any other line as one of a theorem
 unfoldable pub line_named : List ℕ → List (List ℕ) → Result BookLine FaultKind
 line_named w ws =

@@ -61,7 +61,7 @@ what_of sorts.Point = limits.Points
 what_of sorts.Line = limits.Lines
 what_of sorts.Circle = limits.Circles
 
--- at most so many, or the limit
+-- at most this many, or the limit
 abbrev pub within : ℕ → ℕ → What → Result (Unit {0}) FaultKind
 within n most what = if nat_lt most n then Err (Limit what) else Ok tt
 

@@ -62,7 +62,7 @@ negation_of negated signs.Less = Ok negated
 negation_of true signs.AtMost = Err Malformed
 negation_of false signs.AtMost = Ok false
 
--- the first sign and the words behind it
+-- the first sign and the words after it
 abbrev pub sign_first : List (List ℕ) → Result (Sign × List (List ℕ)) FaultKind
 sign_first [] = Err Malformed
 sign_first (w ∷ ws) = or_malformed (sign_of w) >>= λ s. Ok (s, ws)
@@ -95,7 +95,7 @@ unfoldable pub signed_of : Bool → List (List ℕ) → Result RawLit FaultKind
 signed_of negated [] = Err Malformed
 signed_of negated (w ∷ ws) = related negated w ws
 
--- a literal: not stands once before any form but those with != and <=
+-- a literal: not comes once before any form but those with != and <=
 unfoldable pub lit_of : List (List ℕ) → Result RawLit FaultKind
 lit_of [] = Err Malformed
 lit_of (w ∷ ws) = if bytes_eq w (codes "not") then signed_of true ws else related false w ws

@@ -27,7 +27,7 @@ term_of (w ∷ ws) = term_named w ws
 abbrev pub coefficient_of : List ℕ → ℕ
 coefficient_of w = min (value_from 0 w) (most_coefficient + 1)
 
--- a term behind a numeral
+-- a term after a numeral
 unfoldable pub counted_term : List ℕ → List (List ℕ) → Result RawMono FaultKind
 counted_term w ws =
     if bytes_eq w (codes "0") then Err Malformed else (term_of ws >>= λ t. Ok (record { coeff = coefficient_of w; term = t }))

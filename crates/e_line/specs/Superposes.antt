@@ -8,7 +8,7 @@ use Rattle.e_line.specs.Reading.{◌>>=◌, names_of}
 use Rattle.e_line.specs.Literals.{lits_of}
 use Rattle.e_line.specs.Lets.{are_words_of, new_words, argument_words}
 
--- behind the word superpose, as in `a b c K onto d g h L as p q show`, before the literals
+-- after the word superpose, as in `a b c K onto d g h L as p q show`, before the literals
 abbrev pub superpose_pieces : List Piece
 superpose_pieces =
     Argument ∷ Argument ∷ Argument ∷ Argument ∷ Word (codes "onto")
@@ -22,6 +22,6 @@ head_of head rest =
     then (names_of (new_words superpose_pieces head) >>= λ new. names_of (argument_words superpose_pieces head) >>= λ args. lits_of rest >>= λ ls. Ok (record { args = args; new = new; shown = ls }))
     else Err Malformed
 
--- what stands behind superpose: a word for each piece, and then literals
+-- what comes after superpose: a word for each piece, and then literals
 unfoldable pub superpose_of : List (List ℕ) → Result RawSuperpose FaultKind
 superpose_of words = head_of (take 13 words) (drop 13 words)

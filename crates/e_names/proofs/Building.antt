@@ -9,7 +9,7 @@ use Rattle.e_literal.specs.declared.object.Obj.{Obj}
 use Rattle.e_literal.specs.declared.object.Scope.{Scope}
 use Rattle.e_literal.specs.declared.literal.Lit.{Lit}
 use Rattle.e_literal.specs.Scopes.{same_sort, with_one, grown, are_of_sorts}
-use Rattle.e_literal.specs.Use.{Stated, scope_of}
+use Rattle.e_literal.specs.Use.{StatementView, scope_of}
 use Rattle.e_construct.specs.declared.construction.Shape.{Shape}
 use Rattle.e_construct.specs.declared.construction.Construction.{Construction}
 use Rattle.e_construct.specs.declared.superpose.Superpose.{Superpose}
@@ -196,7 +196,7 @@ scope_is : (a b c x y z : ℕ) → a ≡ x → b ≡ y → c ≡ z → the_scope
 scope_is a b c x y z p q r = cc
 
 -- the names of the declared objects are one for each
-pub declared_scope : (t : Stated) (ns : Names) → all_objects t ≡ scope_of_names ns → scope_of_names (declared_names t ns) ≡ scope_of t
+pub declared_scope : (t : StatementView) (ns : Names) → all_objects t ≡ scope_of_names ns → scope_of_names (declared_names t ns) ≡ scope_of t
 declared_scope t ns e =
     let s = scope_of t in
     let p : (all_objects t).points ≡ length ns.points = ap (λ (z : Scope). z.points) e in

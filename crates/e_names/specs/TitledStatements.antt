@@ -2,7 +2,7 @@
 use Rattle.std.specs.Prelude.{ℕ, Bool, List, [], ◌∷◌, Option, map, slice_index_or}
 use Rattle.std.specs.List.{list_any, position}
 use Rattle.std.specs.Str.{bytes_eq}
-use Rattle.e_literal.specs.Use.{Stated}
+use Rattle.e_literal.specs.Use.{StatementView}
 use Rattle.e_theorem.specs.declared.statement.Statement.{Statement}
 use Rattle.e_theorem.specs.Statements.{all_stated}
 use Rattle.e_deriv.specs.Lines.{theorem_at}
@@ -28,11 +28,11 @@ abbrev pub statements : List TitledStatement → List Statement
 statements known = map (λ h. h.statement) known
 
 -- what they state
-abbrev pub stated_by : List TitledStatement → List Stated
+abbrev pub stated_by : List TitledStatement → List StatementView
 stated_by known = all_stated (statements known)
 
 -- what the theorem at a place states; past the end one that says nothing
-abbrev pub theorem_of : List TitledStatement → ℕ → Stated
+abbrev pub theorem_of : List TitledStatement → ℕ → StatementView
 theorem_of known k = theorem_at (stated_by known) k
 
 -- an earlier theorem has this title
@@ -43,6 +43,6 @@ is_known known title = list_any (bytes_eq title) (titles known)
 abbrev pub title_at : List TitledStatement → ℕ → List ℕ
 title_at known k = slice_index_or (titles known) k []
 
--- where the theorem with this title stands
+-- where the theorem with this title is
 abbrev pub place_in : List TitledStatement → List ℕ → Option ℕ
 place_in known title = position (bytes_eq title) (titles known)

@@ -11,7 +11,7 @@ use Rattle.e_literal.specs.declared.literal.Lit.{Lit}
 use Rattle.e_literal.specs.Literal.{is_in_scope}
 use Rattle.e_literal.specs.Scopes.{same_sort, are_of_sorts}
 use Rattle.e_literal.specs.Rename.{same_obj}
-use Rattle.e_literal.specs.Use.{Stated, are_arguments, needs_of_use, gives_of_use}
+use Rattle.e_literal.specs.Use.{StatementView, are_arguments, needs_of_use, gives_of_use}
 use Rattle.e_literal.proofs.Sorts.{same_obj_self}
 use Rattle.e_literal.proofs.Booleans.{and_left, and_right}
 use Rattle.e_clause.specs.declared.cert.Cert.{Cert}
@@ -72,16 +72,16 @@ chosen s (sort ∷ sorts) (Some o ∷ entries) n h =
     chosen_more s sort sorts o entries h (chosen s sorts entries n (and_right b c (and_right a (b && c) h)))
 
 -- where no argument is a blank those that are written are a choice
-pub written_choice : (t : Stated) (s : Scope) (pattern : List (Option Obj)) → has_no_blank pattern ≡ true → is_pattern t s pattern ≡ true → is_choice t s pattern (written pattern) ≡ true
+pub written_choice : (t : StatementView) (s : Scope) (pattern : List (Option Obj)) → has_no_blank pattern ≡ true → is_pattern t s pattern ≡ true → is_choice t s pattern (written pattern) ≡ true
 written_choice t s pattern n h =
     let c = chosen s t.declared pattern n h in
     and_from (fills pattern (written pattern)) (are_arguments t s (written pattern)) c.fill c.fit
 
-pub choice_fits : (t : Stated) (s : Scope) (pattern : List (Option Obj)) (args : List Obj) → is_choice t s pattern args ≡ true → are_arguments t s args ≡ true
+pub choice_fits : (t : StatementView) (s : Scope) (pattern : List (Option Obj)) (args : List Obj) → is_choice t s pattern args ≡ true → are_arguments t s args ≡ true
 choice_fits t s pattern args h = and_right (fills pattern args) (are_arguments t s args) h
 
 -- what is used at the written arguments is used as the least good choice
-pub use_written : (t : Stated) (pattern : List (Option Obj)) (x : Basis) (u : Use) (args : List Obj) → has_no_blank pattern ≡ true → is_pattern t x.scope pattern ≡ true → args ≡ written pattern → u.args ≡ args →
+pub use_written : (t : StatementView) (pattern : List (Option Obj)) (x : Basis) (u : Use) (args : List Obj) → has_no_blank pattern ≡ true → is_pattern t x.scope pattern ≡ true → args ≡ written pattern → u.args ≡ args →
     certify_all x.scope x.facts (needs_of_use t args x.scope) u.certs.items ≡ true → list_all (is_cert_of version.One) u.certs.items ≡ true → u.gives ≡ gives_of_use t args x.scope → IsUse t pattern x u
 use_written t pattern x u args n h is same c good g =
     let here : u.args ≡ written pattern = same ∙ is in
@@ -100,7 +100,7 @@ use_written t pattern x u args n h is same c good g =
 -- ---- a step
 
 -- the entries are the least good choice, none of them a blank; the certificates name literals that are well formed
-record Filled (t : Stated) (pattern entries : List (Option Obj)) (x : Basis) (certs : List Cert) : Type 0 where
+record Filled (t : StatementView) (pattern entries : List (Option Obj)) (x : Basis) (certs : List Cert) : Type 0 where
   least : IsLeast t x.scope x.facts pattern (written entries)
   certified : certify_all x.scope x.facts (needs_of_use t (written entries) x.scope) certs ≡ true
   good_certs : list_all (is_cert_of version.One) certs ≡ true
@@ -108,7 +108,7 @@ record Filled (t : Stated) (pattern entries : List (Option Obj)) (x : Basis) (ce
   fill : fills entries (written entries) ≡ true
   again : filled_in (written entries) ≡ entries
 
-licensed_by_choice : (before : List Stated) (theorem : ℕ) (pattern entries : List (Option Obj)) (names : List (List ℕ)) (old certs : List Cert) (x : StepState) → Filled (theorem_at before theorem) pattern entries x.context certs →
+licensed_by_choice : (before : List StatementView) (theorem : ℕ) (pattern entries : List (Option Obj)) (names : List (List ℕ)) (old certs : List Cert) (x : StepState) → Filled (theorem_at before theorem) pattern entries x.context certs →
     IsLicensedStep before (ApplyStep theorem pattern names old) x (ApplyStep theorem entries names certs) (after_apply (theorem_at before theorem) (written entries) names x)
 unfolding lines erased filled_by names_lines step_script has_certs_of
 licensed_by_choice before theorem pattern entries names old certs x h =
@@ -136,7 +136,7 @@ licensed_by_choice before theorem pattern entries names old certs x h =
       kept = refl;
     }
 
-filled_of_use : (t : Stated) (pattern : List (Option Obj)) (x : Basis) (u : Use) → IsUse t pattern x u → Filled t pattern (filled_in u.args) x u.certs.items
+filled_of_use : (t : StatementView) (pattern : List (Option Obj)) (x : Basis) (u : Use) → IsUse t pattern x u → Filled t pattern (filled_in u.args) x u.certs.items
 filled_of_use t pattern x u h =
     let same : written (filled_in u.args) ≡ u.args = written_again u.args in
     record {
@@ -148,14 +148,14 @@ filled_of_use t pattern x u h =
       again = ap filled_in same;
     }
 
-licensed_by_use : (before : List Stated) (theorem : ℕ) (pattern : List (Option Obj)) (names : List (List ℕ)) (old : List Cert) (x : StepState) (u : Use) → IsUse (theorem_at before theorem) pattern x.context u →
+licensed_by_use : (before : List StatementView) (theorem : ℕ) (pattern : List (Option Obj)) (names : List (List ℕ)) (old : List Cert) (x : StepState) (u : Use) → IsUse (theorem_at before theorem) pattern x.context u →
     IsLicensedStep before (ApplyStep theorem pattern names old) x (ApplyStep theorem (filled_in u.args) names u.certs.items) (after_apply (theorem_at before theorem) u.args names x)
 licensed_by_use before theorem pattern names old x u h =
     let t = theorem_at before theorem in
     subst (λ os. IsLicensedStep before (ApplyStep theorem pattern names old) x (ApplyStep theorem (filled_in u.args) names u.certs.items) (after_apply t os names x)) (written_again u.args)
     (licensed_by_choice before theorem pattern (filled_in u.args) names old u.certs.items x (filled_of_use t pattern x.context u h))
 
-pub licensed_apply : (before : List Stated) (theorem : ℕ) (pattern entries : List (Option Obj)) (names kept : List (List ℕ)) (old certs : List Cert) (t : Stated) (x after : StepState) (u : Use) → theorem_at before theorem ≡ t →
+pub licensed_apply : (before : List StatementView) (theorem : ℕ) (pattern entries : List (Option Obj)) (names kept : List (List ℕ)) (old certs : List Cert) (t : StatementView) (x after : StepState) (u : Use) → theorem_at before theorem ≡ t →
     IsUse t pattern x.context u → entries ≡ filled_in u.args → kept ≡ names → certs ≡ u.certs.items → after ≡ after_apply t u.args names x →
     IsLicensedStep before (ApplyStep theorem pattern names old) x (ApplyStep theorem entries kept certs) after
 licensed_apply before theorem pattern entries names kept old certs t x after u e h a b c d =
@@ -164,7 +164,7 @@ licensed_apply before theorem pattern entries names kept old certs t x after u e
     (licensed_by_use before theorem pattern names old x u (subst (λ w. IsUse w pattern x.context u) (sym e) h)))
 
 -- the given literals of a use at these arguments, under these names
-pub needs_there : (t : Stated) (s other : Scope) (args same : List Obj) (needs given : List Lit) → same ≡ args → other ≡ s → needs ≡ needs_of_use t same other → given ≡ needs → given ≡ needs_of_use t args s
+pub needs_there : (t : StatementView) (s other : Scope) (args same : List Obj) (needs given : List Lit) → same ≡ args → other ≡ s → needs ≡ needs_of_use t same other → given ≡ needs → given ≡ needs_of_use t args s
 needs_there t s other args same needs given a b is k = k ∙ is ∙ ap (λ os. needs_of_use t os other) a ∙ ap (needs_of_use t args) b
 
 -- the arguments that are written so far, and the next one
@@ -175,7 +175,7 @@ entries_next args i d entries after lt so_far is = is ∙ ap (λ es. es ++ Some 
 -- ---- what stops
 
 -- without blanks: at a given literal
-stops_written : (before : List Stated) (theorem : ℕ) (pattern : List (Option Obj)) (names : List (List ℕ)) (old : List Cert) (x : StepState) (h : StepStop) → has_no_blank pattern ≡ true →
+stops_written : (before : List StatementView) (theorem : ℕ) (pattern : List (Option Obj)) (names : List (List ℕ)) (old : List Cert) (x : StepState) (h : StepStop) → has_no_blank pattern ≡ true →
     StepStopsAmong x.context (needs_of_use (theorem_at before theorem) (written pattern) x.context.scope) h → IsStopOfStep before (ApplyStep theorem pattern names old) x h
 unfolding step_script
 stops_written before theorem pattern names old x (step_stop.Lacks (Literal l) values) n k rest filled goal = ((n, k.0), k.1)
@@ -187,7 +187,7 @@ stops_written before theorem pattern names old x (step_stop.TooWide Contradictio
 stops_written before theorem pattern names old x step_stop.NoMemory n k rest filled goal = tt
 
 -- with blanks: at their filling
-stops_filling : (before : List Stated) (theorem : ℕ) (pattern : List (Option Obj)) (names : List (List ℕ)) (old : List Cert) (x : StepState) (h : StepStop) → has_no_blank pattern ≡ false →
+stops_filling : (before : List StatementView) (theorem : ℕ) (pattern : List (Option Obj)) (names : List (List ℕ)) (old : List Cert) (x : StepState) (h : StepStop) → has_no_blank pattern ≡ false →
     StepStopsFilling (theorem_at before theorem) x.context pattern h → IsStopOfStep before (ApplyStep theorem pattern names old) x h
 unfolding step_script
 stops_filling before theorem pattern names old x (step_stop.Lacks (Literal l) values) n k rest filled goal = absurd k
@@ -198,24 +198,24 @@ stops_filling before theorem pattern names old x (step_stop.TooWide Match width)
 stops_filling before theorem pattern names old x (step_stop.TooWide Contradiction width) n k rest filled goal = absurd k
 stops_filling before theorem pattern names old x step_stop.NoMemory n k rest filled goal = tt
 
-stops_by : (before : List Stated) (theorem : ℕ) (pattern : List (Option Obj)) (names : List (List ℕ)) (old : List Cert) (x : StepState) (h : StepStop) (b : Bool) → has_no_blank pattern ≡ b →
+stops_by : (before : List StatementView) (theorem : ℕ) (pattern : List (Option Obj)) (names : List (List ℕ)) (old : List Cert) (x : StepState) (h : StepStop) (b : Bool) → has_no_blank pattern ≡ b →
     MatchBool b (StepStopsAmong x.context (needs_of_use (theorem_at before theorem) (written pattern) x.context.scope) h) (StepStopsFilling (theorem_at before theorem) x.context pattern h) →
     IsStopOfStep before (ApplyStep theorem pattern names old) x h
 stops_by before theorem pattern names old x h true n k = stops_written before theorem pattern names old x h n k
 stops_by before theorem pattern names old x h false n k = stops_filling before theorem pattern names old x h n k
 
-pub apply_stops : (before : List Stated) (theorem : ℕ) (pattern : List (Option Obj)) (names : List (List ℕ)) (old : List Cert) (t : Stated) (x : StepState) (h : StepStop) → theorem_at before theorem ≡ t →
+pub apply_stops : (before : List StatementView) (theorem : ℕ) (pattern : List (Option Obj)) (names : List (List ℕ)) (old : List Cert) (t : StatementView) (x : StepState) (h : StepStop) → theorem_at before theorem ≡ t →
     StepStopsApplying t x.context pattern h → IsStopOfStep before (ApplyStep theorem pattern names old) x h
 apply_stops before theorem pattern names old t x h e k =
     stops_by before theorem pattern names old x h (has_no_blank pattern) refl (subst (λ w. StepStopsApplying w x.context pattern h) (sym e) k)
 
 -- without blanks what stops there stops at the application
-pub stops_without : (t : Stated) (x : Basis) (pattern : List (Option Obj)) (args : List Obj) (h : StepStop) → has_no_blank pattern ≡ true → args ≡ written pattern → StepStopsAmong x (needs_of_use t args x.scope) h → StepStopsApplying t x pattern h
+pub stops_without : (t : StatementView) (x : Basis) (pattern : List (Option Obj)) (args : List Obj) (h : StepStop) → has_no_blank pattern ≡ true → args ≡ written pattern → StepStopsAmong x (needs_of_use t args x.scope) h → StepStopsApplying t x pattern h
 stops_without t x pattern args h n is k =
     subst (λ b. MatchBool b (StepStopsAmong x (needs_of_use t (written pattern) x.scope) h) (StepStopsFilling t x pattern h)) (sym n) (subst (λ os. StepStopsAmong x (needs_of_use t os x.scope) h) is k)
 
 -- at the least good choice no given literal is refused, and one that is too wide is a match that is
-match_stops : (t : Stated) (x : Basis) (pattern : List (Option Obj)) (args : List Obj) (h : StepStop) → IsLeast t x.scope x.facts pattern args → StepStopsAmong x (needs_of_use t args x.scope) h → StepStopsFilling t x pattern (match_stop h)
+match_stops : (t : StatementView) (x : Basis) (pattern : List (Option Obj)) (args : List Obj) (h : StepStop) → IsLeast t x.scope x.facts pattern args → StepStopsAmong x (needs_of_use t args x.scope) h → StepStopsFilling t x pattern (match_stop h)
 match_stops t x pattern args (step_stop.Lacks (Literal l) values) least k = absurd (none_not_allowed x.scope x.facts (needs_of_use t args x.scope) l least.good.allowed k.0)
 match_stops t x pattern args (step_stop.Lacks Match values) least k = absurd k
 match_stops t x pattern args (step_stop.Lacks Contradiction values) least k = absurd k
@@ -225,25 +225,25 @@ match_stops t x pattern args (step_stop.TooWide Match width) least k = absurd k
 match_stops t x pattern args (step_stop.TooWide Contradiction width) least k = absurd k
 match_stops t x pattern args step_stop.NoMemory least k = tt
 
-pub match_stops_so : (t : Stated) (x : Basis) (pattern : List (Option Obj)) (args : List Obj) (h k : StepStop) → IsLeast t x.scope x.facts pattern args → StepStopsAmong x (needs_of_use t args x.scope) h → k ≡ match_stop h → StepStopsFilling t x pattern k
+pub match_stops_so : (t : StatementView) (x : Basis) (pattern : List (Option Obj)) (args : List Obj) (h k : StepStop) → IsLeast t x.scope x.facts pattern args → StepStopsAmong x (needs_of_use t args x.scope) h → k ≡ match_stop h → StepStopsFilling t x pattern k
 match_stops_so t x pattern args h k least stops_at is = subst (StepStopsFilling t x pattern) (sym is) (match_stops t x pattern args h least stops_at)
 
 -- ---- what the code says
 
-pub used_is_written : (t : Stated) (pattern : List (Option Obj)) (x : Basis) (args : List Obj) (r : Result Use StepStop) → has_no_blank pattern ≡ true → is_pattern t x.scope pattern ≡ true → args ≡ written pattern →
+pub used_is_written : (t : StatementView) (pattern : List (Option Obj)) (x : Basis) (args : List Obj) (r : Result Use StepStop) → has_no_blank pattern ≡ true → is_pattern t x.scope pattern ≡ true → args ≡ written pattern →
     IfOk r (λ u. u.args ≡ args) → IfOk r (λ u. certify_all x.scope x.facts (needs_of_use t args x.scope) u.certs.items ≡ true) → IfOk r (λ u. list_all (is_cert_of version.One) u.certs.items ≡ true) →
     IfOk r (λ u. u.gives ≡ gives_of_use t args x.scope) → IfOk r (IsUse t pattern x)
 used_is_written t pattern x args (Err h) n f is a b g c = tt
 used_is_written t pattern x args (Ok u) n f is a b g c = use_written t pattern x u args n f is a b g c
 
 -- each statement that can be applied has few objects, and so has the scope
-pub record RoomFor (t : Stated) (s : Scope) : Type 0 where
+pub record RoomFor (t : StatementView) (s : Scope) : Type 0 where
   pub few : length t.declared + length t.made < 2 ^ 16
   pub points : s.points + length t.made < 2 ^ 16
   pub lines : s.lines + length t.made < 2 ^ 16
   pub circles : s.circles + length t.made < 2 ^ 16
 
-pub room_for : (t : Stated) (s kept : Scope) → is_small_statement t ≡ true → is_small s ≡ true → kept ≡ s → RoomFor t kept
+pub room_for : (t : StatementView) (s kept : Scope) → is_small_statement t ≡ true → is_small s ≡ true → kept ≡ s → RoomFor t kept
 room_for t s kept h k same =
     let objects = few_objects t h in
     let few = few_of_small s k in
@@ -264,10 +264,10 @@ written_is pattern (Some os) args h e =
     let same : os ≡ args = ap (λ k. unwrap_or k os) e in
     record { no_blank = h.0; is = sym same ∙ h.1 }
 
-pub written_fits : (t : Stated) (x : Basis) (pattern : List (Option Obj)) (args : List Obj) → WrittenIs pattern args → CanApply t pattern x → are_arguments t x.scope args ≡ true
+pub written_fits : (t : StatementView) (x : Basis) (pattern : List (Option Obj)) (args : List Obj) → WrittenIs pattern args → CanApply t pattern x → are_arguments t x.scope args ≡ true
 written_fits t x pattern args w can =
     subst (λ os. are_arguments t x.scope os ≡ true) (sym w.is) (choice_fits t x.scope pattern (written pattern) (written_choice t x.scope pattern w.no_blank can.fits))
 
-pub written_needs : (t : Stated) (x : Basis) (pattern : List (Option Obj)) (args : List Obj) → WrittenIs pattern args → CanApply t pattern x → are_well_formed_in x.scope (needs_of_use t args x.scope) ≡ true
+pub written_needs : (t : StatementView) (x : Basis) (pattern : List (Option Obj)) (args : List Obj) → WrittenIs pattern args → CanApply t pattern x → are_well_formed_in x.scope (needs_of_use t args x.scope) ≡ true
 written_needs t x pattern args w can =
     subst (λ os. are_well_formed_in x.scope (needs_of_use t os x.scope) ≡ true) (sym w.is) (can.lits (written pattern) (written_choice t x.scope pattern w.no_blank can.fits)).needs

@@ -5,7 +5,7 @@ use Rattle.std.specs.List.{list_all}
 use Rattle.std.proofs.lemmas.Bool.{and_from}
 use Rattle.e_literal.specs.declared.object.Obj.{Obj}
 use Rattle.e_literal.specs.declared.literal.Lit.{Lit}
-use Rattle.e_literal.specs.Use.{Stated}
+use Rattle.e_literal.specs.Use.{StatementView}
 use Rattle.e_clause.specs.declared.cert.Cert.{Cert}
 use Rattle.e_clause.specs.declared.cert.Against.{Against}
 use Rattle.e_clause.specs.Certify.{certify_all}
@@ -39,17 +39,17 @@ pub record QedFits (objects : List Obj) (x : Basis) (goal : Goal) : Type 0 where
   pub form : are_for goal x.scope objects ≡ true
   pub lits : are_well_formed_in x.scope (goal_with goal objects) ≡ true
 
-qed_lines : (before : List Stated) (objects : List Obj) (certs : List Cert) (x : StepState) (goal : Goal) → IsReadyFor before (Qed objects certs) x goal → QedFits objects x.context goal
+qed_lines : (before : List StatementView) (objects : List Obj) (certs : List Cert) (x : StepState) (goal : Goal) → IsReadyFor before (Qed objects certs) x goal → QedFits objects x.context goal
 unfolding lines
 qed_lines before objects certs x goal r =
     let form = and_left (are_for goal x.context.scope objects) true r.forms in
     record { form = form; lits = ((r.lits (Qed objects certs)).1 form).0 }
 
-pub qed_fits : (before : List Stated) (objects : List Obj) (certs : List Cert) (x : StepState) (goal : Goal) → IsReadyFor before (close_script (QedClose objects certs)) x goal → QedFits objects x.context goal
+pub qed_fits : (before : List StatementView) (objects : List Obj) (certs : List Cert) (x : StepState) (goal : Goal) → IsReadyFor before (close_script (QedClose objects certs)) x goal → QedFits objects x.context goal
 unfolding close_script
 qed_fits before objects certs x goal r = qed_lines before objects certs x goal r
 
-closed_by : (before : List Stated) (objects : List Obj) (written certs : List Cert) (x : Basis) (goal : Goal) → are_for goal x.scope objects ≡ true →
+closed_by : (before : List StatementView) (objects : List Obj) (written certs : List Cert) (x : Basis) (goal : Goal) → are_for goal x.scope objects ≡ true →
     IsTrue (certify_all x.scope x.facts (goal_with goal objects) certs) → IsTrue (list_all (is_cert_of version.One) certs) → IsLicensedClose before (QedClose objects written) x goal (QedClose objects certs)
 unfolding lines erased filled_by close_script has_certs_of
 closed_by before objects written certs x goal form h g =
@@ -61,13 +61,13 @@ closed_by before objects written certs x goal form h g =
     }
 
 -- a qed of which each literal has its certificate
-pub closed_qed : (before : List Stated) (objects kept : List Obj) (written certs given : List Cert) (wanted : List Lit) (x : Basis) (goal : Goal) →
+pub closed_qed : (before : List StatementView) (objects kept : List Obj) (written certs given : List Cert) (wanted : List Lit) (x : Basis) (goal : Goal) →
     kept ≡ objects → given ≡ certs → wanted ≡ goal_with goal objects → are_for goal x.scope objects ≡ true → IsTrue (certify_all x.scope x.facts wanted certs) →
     IsTrue (list_all (is_cert_of version.One) certs) → IsLicensedClose before (QedClose objects written) x goal (QedClose kept given)
 closed_qed before objects kept written certs given wanted x goal same these all form h g =
     rw (same, these) (closed_by before objects written certs x goal form (subst (λ ls. certify_all x.scope x.facts ls certs ≡ true) all h) g)
 
-qed_stops_by : (before : List Stated) (objects : List Obj) (written : List Cert) (x : Basis) (goal : Goal) (h : StepStop) → StepStopsAmong x (goal_with goal objects) h →
+qed_stops_by : (before : List StatementView) (objects : List Obj) (written : List Cert) (x : Basis) (goal : Goal) (h : StepStop) → StepStopsAmong x (goal_with goal objects) h →
     IsStopOfClose before (QedClose objects written) x goal h
 unfolding close_script
 qed_stops_by before objects written x goal (step_stop.Lacks (Literal l) values) k filled = (k.0, k.1)
@@ -79,12 +79,12 @@ qed_stops_by before objects written x goal (step_stop.TooWide AContradiction wid
 qed_stops_by before objects written x goal step_stop.NoMemory k filled = tt
 
 -- where licensing the literals of its goal stops, the qed does
-pub qed_stops : (before : List Stated) (objects : List Obj) (written : List Cert) (wanted : List Lit) (x : Basis) (goal : Goal) (h : StepStop) → wanted ≡ goal_with goal objects → StepStopsAmong x wanted h →
+pub qed_stops : (before : List StatementView) (objects : List Obj) (written : List Cert) (wanted : List Lit) (x : Basis) (goal : Goal) (h : StepStop) → wanted ≡ goal_with goal objects → StepStopsAmong x wanted h →
     IsStopOfClose before (QedClose objects written) x goal h
 qed_stops before objects written wanted x goal h all k = qed_stops_by before objects written x goal h (subst (λ ls. StepStopsAmong x ls h) all k)
 
 -- a contradiction with its certificate
-closed_by_against : (before : List Stated) (written : Option Against) (a : Against) (x : Basis) (goal : Goal) → IsCertifiedAgainst x a →
+closed_by_against : (before : List StatementView) (written : Option Against) (a : Against) (x : Basis) (goal : Goal) → IsCertifiedAgainst x a →
     IsLicensedClose before (ContradictionClose written) x goal (ContradictionClose (Some a))
 unfolding lines erased filled_by close_script has_certs_of
 closed_by_against before written a x goal h =
@@ -96,26 +96,26 @@ closed_by_against before written a x goal h =
     }
 
 -- facts that do not contradict each other
-contradiction_lacks : (before : List Stated) (written : Option Against) (x : Basis) (goal : Goal) (values : List (Term × ℕ)) → IsConsistentBy x.facts values →
+contradiction_lacks : (before : List StatementView) (written : Option Against) (x : Basis) (goal : Goal) (values : List (Term × ℕ)) → IsConsistentBy x.facts values →
     IsStopOfClose before (ContradictionClose written) x goal (step_stop.Lacks AContradiction (Some values))
 unfolding close_script
 contradiction_lacks before written x goal values h filled = (h.not_contradictory, h.shown)
 
 -- or one that is too wide
-contradiction_wide : (before : List Stated) (written : Option Against) (x : Basis) (goal : Goal) (width : ℕ) → IsTooWideContradiction x.facts width →
+contradiction_wide : (before : List StatementView) (written : Option Against) (x : Basis) (goal : Goal) (width : ℕ) → IsTooWideContradiction x.facts width →
     IsStopOfClose before (ContradictionClose written) x goal (step_stop.TooWide AContradiction width)
 unfolding close_script
 contradiction_wide before written x goal width h filled = h
 
 -- what the answer on a contradiction makes of the close is right
 pub closed_so : (x : Basis) (a : Refuted) → IsRefuted x a →
-    IfOk (contradiction_by a) (λ d. (before : List Stated) (goal : Goal) (written : Option Against) → IsLicensedClose before (ContradictionClose written) x goal d)
+    IfOk (contradiction_by a) (λ d. (before : List StatementView) (goal : Goal) (written : Option Against) → IsLicensedClose before (ContradictionClose written) x goal d)
 closed_so x (refuted.Yes against) h = λ before goal written. closed_by_against before written against x goal h
 closed_so x (refuted.No values) h = tt
 closed_so x (refuted.TooWide width) h = tt
 
 pub stopped_so : (x : Basis) (a : Refuted) → IsRefuted x a →
-    IfErr (contradiction_by a) (λ h. (before : List Stated) (goal : Goal) (written : Option Against) → IsStopOfClose before (ContradictionClose written) x goal h)
+    IfErr (contradiction_by a) (λ h. (before : List StatementView) (goal : Goal) (written : Option Against) → IsStopOfClose before (ContradictionClose written) x goal h)
 stopped_so x (refuted.Yes against) h = tt
 stopped_so x (refuted.No values) h = λ before goal written. contradiction_lacks before written x goal values h
 stopped_so x (refuted.TooWide width) h = λ before goal written. contradiction_wide before written x goal width h

@@ -4,7 +4,7 @@ use Rattle.std.specs.Prelude.{IfErr, OnOk}
 use Rattle.std.proofs.lemmas.List.{length-append, same_from_push}
 use Rattle.e_literal.specs.declared.literal.Lit.{Lit}
 use Rattle.e_literal.specs.Facts.{joined_all}
-use Rattle.e_literal.specs.Use.{Stated}
+use Rattle.e_literal.specs.Use.{StatementView}
 use Rattle.e_clause.specs.Judged.{are_limited_facts}
 use Rattle.e_deriv.specs.declared.names.Names.{Names}
 use Rattle.e_deriv.specs.declared.stop.Stop.{Stop}
@@ -21,17 +21,17 @@ use Rattle.e_prove.specs.inner.PassedSteps.{IsReadyFor, IsDerivedFrom, StopsWith
 
 -- ---- steps do not look at what is held
 
-pub ready_inside : (before : List Stated) (d : Script) (x y : StepState) (goal : Goal) (hs : List State) → y ≡ with_held hs x → IsReadyFor before d x goal → IsReadyFor before d y goal
+pub ready_inside : (before : List StatementView) (d : Script) (x y : StepState) (goal : Goal) (hs : List State) → y ≡ with_held hs x → IsReadyFor before d x goal → IsReadyFor before d y goal
 ready_inside before d x y goal hs is r =
     let inside : IsReadyFor before d (with_held hs x) goal = record { forms = r.forms; lits = r.lits; scopes = r.scopes; statements = r.statements } in
     subst (λ z. IsReadyFor before d z goal) (sym is) inside
 
-pub derived_outside : (before : List Stated) (d : Script) (x y : StepState) (goal : Goal) (derived : Script) (hs : List State) → y ≡ with_held hs x → IsDerivedFrom before d y goal derived → IsDerivedFrom before d x goal derived
+pub derived_outside : (before : List StatementView) (d : Script) (x y : StepState) (goal : Goal) (derived : Script) (hs : List State) → y ≡ with_held hs x → IsDerivedFrom before d y goal derived → IsDerivedFrom before d x goal derived
 derived_outside before d x y goal derived hs is h =
     let inside : IsDerivedFrom before d (with_held hs x) goal derived = subst (λ z. IsDerivedFrom before d z goal derived) is h in
     record { licensed = inside.licensed; certified = inside.certified; erased = inside.erased; written = inside.written }
 
-pub stops_outside : (before : List Stated) (d : Script) (x y : StepState) (goal : Goal) (n : ℕ) (s : Stop) (hs : List State) → y ≡ with_held hs x → StopsWithin before d y goal n s → StopsWithin before d x goal n s
+pub stops_outside : (before : List StatementView) (d : Script) (x y : StepState) (goal : Goal) (n : ℕ) (s : Stop) (hs : List State) → y ≡ with_held hs x → StopsWithin before d y goal n s → StopsWithin before d x goal n s
 stops_outside before d x y goal n s hs is h =
     let inside : StopsWithin before d (with_held hs x) goal n s = subst (λ z. StopsWithin before d z goal n s) is h in
     record { filled = inside.filled; stops = inside.stops }

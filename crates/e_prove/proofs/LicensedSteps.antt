@@ -4,7 +4,7 @@ use Rattle.std.specs.Prelude.{IsTrue}
 use Rattle.std.specs.List.{list_all}
 use Rattle.std.proofs.lemmas.Bool.{and_from}
 use Rattle.e_literal.specs.declared.literal.Lit.{Lit}
-use Rattle.e_literal.specs.Use.{Stated}
+use Rattle.e_literal.specs.Use.{StatementView}
 use Rattle.e_construct.specs.declared.construction.Construction.{Construction}
 use Rattle.e_construct.specs.Construct.{needs_of_construction}
 use Rattle.e_clause.specs.declared.cert.By.{By}
@@ -26,7 +26,7 @@ use Rattle.e_deriv.specs.Versions.{has_certs_of}
 
 -- ---- a citation
 
-licensed_by : (before : List Stated) (by : By) (x : StepState) → is_cited x.context.facts by ≡ true → IsLicensedStep before (CiteStep by) x (CiteStep by) (after_literal by.lit x)
+licensed_by : (before : List StatementView) (by : By) (x : StepState) → is_cited x.context.facts by ≡ true → IsLicensedStep before (CiteStep by) x (CiteStep by) (after_literal by.lit x)
 unfolding lines erased filled_by names_lines step_script has_certs_of
 licensed_by before by x h =
     record {
@@ -40,13 +40,13 @@ licensed_by before by x h =
       kept = refl;
     }
 
-pub licensed_cite : (before : List Stated) (by derived : By) (x after : StepState) → derived ≡ by → is_cited x.context.facts by ≡ true → after ≡ after_literal by.lit x →
+pub licensed_cite : (before : List StatementView) (by derived : By) (x after : StepState) → derived ≡ by → is_cited x.context.facts by ≡ true → after ≡ after_literal by.lit x →
     IsLicensedStep before (CiteStep by) x (CiteStep derived) after
 licensed_cite before by derived x after same h gives = rw (same, gives) (licensed_by before by x h)
 
 -- ---- a hence
 
-licensed_by_cert : (before : List Stated) (lit : Lit) (written : Option Cert) (cert : Cert) (x : StepState) → IsTrue (certifies x.context.scope x.context.facts lit cert) → IsTrue (is_cert_of version.One cert) →
+licensed_by_cert : (before : List StatementView) (lit : Lit) (written : Option Cert) (cert : Cert) (x : StepState) → IsTrue (certifies x.context.scope x.context.facts lit cert) → IsTrue (is_cert_of version.One cert) →
     IsLicensedStep before (HenceStep lit written) x (HenceStep lit (Some cert)) (after_literal lit x)
 unfolding lines erased filled_by names_lines step_script has_certs_of
 licensed_by_cert before lit written cert x h g =
@@ -61,14 +61,14 @@ licensed_by_cert before lit written cert x h g =
       kept = refl;
     }
 
-pub licensed_hence : (before : List Stated) (lit derived : Lit) (written : Option Cert) (cert : Cert) (x after : StepState) → derived ≡ lit →
+pub licensed_hence : (before : List StatementView) (lit derived : Lit) (written : Option Cert) (cert : Cert) (x after : StepState) → derived ≡ lit →
     IsTrue (certifies x.context.scope x.context.facts lit cert) → IsTrue (is_cert_of version.One cert) → after ≡ after_literal lit x →
     IsLicensedStep before (HenceStep lit written) x (HenceStep derived (Some cert)) after
 licensed_hence before lit derived written cert x after same h g gives = rw (same, gives) (licensed_by_cert before lit written cert x h g)
 
 -- ---- a construction
 
-licensed_by_certs : (before : List Stated) (form : Construction) (names : List (List ℕ)) (written certs : List Cert) (x : StepState) → IsTrue (certify_all x.context.scope x.context.facts (needs_of_construction form) certs) →
+licensed_by_certs : (before : List StatementView) (form : Construction) (names : List (List ℕ)) (written certs : List Cert) (x : StepState) → IsTrue (certify_all x.context.scope x.context.facts (needs_of_construction form) certs) →
     IsTrue (list_all (is_cert_of version.One) certs) → IsLicensedStep before (MakeStep form names written) x (MakeStep form names certs) (after_make form names x)
 unfolding lines erased filled_by names_lines step_script has_certs_of
 licensed_by_certs before form names written certs x h g =
@@ -83,7 +83,7 @@ licensed_by_certs before form names written certs x h g =
       kept = refl;
     }
 
-pub licensed_make : (before : List Stated) (form derived : Construction) (names kept : List (List ℕ)) (written certs given : List Cert) (needed : List Lit) (x after : StepState) →
+pub licensed_make : (before : List StatementView) (form derived : Construction) (names kept : List (List ℕ)) (written certs given : List Cert) (needed : List Lit) (x after : StepState) →
     derived ≡ form → kept ≡ names → given ≡ certs → needed ≡ needs_of_construction form → IsTrue (certify_all x.context.scope x.context.facts needed certs) → IsTrue (list_all (is_cert_of version.One) certs) → after ≡ after_make form names x →
     IsLicensedStep before (MakeStep form names written) x (MakeStep derived kept given) after
 licensed_make before form derived names kept written certs given needed x after same these those all h g gives =

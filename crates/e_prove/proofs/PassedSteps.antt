@@ -5,7 +5,7 @@ use Rattle.std.specs.List.{list_all}
 use Rattle.std.proofs.lemmas.Bool.{and_from}
 use Rattle.e_literal.specs.declared.object.Scope.{Scope}
 use Rattle.e_literal.specs.declared.literal.Lit.{Lit}
-use Rattle.e_literal.specs.Use.{Stated}
+use Rattle.e_literal.specs.Use.{StatementView}
 use Rattle.e_literal.proofs.Booleans.{and_left, and_right}
 use Rattle.e_deriv.specs.declared.block.Step.{Step}
 use Rattle.e_deriv.specs.declared.block.Step.TheVariants as steps
@@ -32,10 +32,10 @@ use Rattle.e_prove.proofs.StopsInLists.{reached_first, reached_after, stop_first
 
 -- ---- nothing licensed yet, and one thing after another
 
-pub passed_none : (before : List Stated) (x : StepState) (n : ℕ) → KeepsHeld x x → IsPassed before (λ d. d) x n (λ d. d) x n
+pub passed_none : (before : List StatementView) (x : StepState) (n : ℕ) → KeepsHeld x x → IsPassed before (λ d. d) x n (λ d. d) x n
 passed_none before x n k = record { ready = λ rest goal r. r; derives = λ rest more goal r d. d; stops = λ rest goal s r h. h; reaches = λ rest goal a i names r h. h; number = λ rest. refl; kept = k }
 
-pub passed_more : (before : List Stated) (f f' g g' : Script → Script) (x y z : StepState) (n m k : ℕ) → KeepsHeld x z → IsPassed before f x n f' y m → IsPassed before g y m g' z k →
+pub passed_more : (before : List StatementView) (f f' g g' : Script → Script) (x y z : StepState) (n m k : ℕ) → KeepsHeld x z → IsPassed before f x n f' y m → IsPassed before g y m g' z k →
     IsPassed before (λ d. f (g d)) x n (λ d. f' (g' d)) z k
 passed_more before f f' g g' x y z n m k kept a b =
     record {
@@ -48,7 +48,7 @@ passed_more before f f' g g' x y z n m k kept a b =
     }
 
 -- the same of scripts that are equal
-pub passed_as : (before : List Stated) (f f' g g' : Script → Script) (x y : StepState) (n m : ℕ) → ((d : Script) → f d ≡ g d) → ((d : Script) → f' d ≡ g' d) → IsPassed before f x n f' y m → IsPassed before g x n g' y m
+pub passed_as : (before : List StatementView) (f f' g g' : Script → Script) (x y : StepState) (n m : ℕ) → ((d : Script) → f d ≡ g d) → ((d : Script) → f' d ≡ g' d) → IsPassed before f x n f' y m → IsPassed before g x n g' y m
 passed_as before f f' g g' x y n m e e' a =
     record {
       ready = λ rest goal r. a.ready rest goal (subst (λ d. IsReadyFor before d x goal) (sym (e rest)) r);
@@ -71,18 +71,18 @@ first_is p x xs all e h = and_left (p x) (list_all p xs) (subst (λ ys. list_all
 pub rest_are : (p : Line → Bool) (x : Line) (xs all : List Line) → all ≡ x ∷ xs → list_all p all ≡ true → list_all p xs ≡ true
 rest_are p x xs all e h = and_right (p x) (list_all p xs) (subst (λ ys. list_all p ys ≡ true) e h)
 
-more_certified : (before : List Stated) (x : Line) (xs all : List Line) → all ≡ x ∷ xs → is_certified before x ≡ true → list_all (is_certified before) xs ≡ true → list_all (is_certified before) all ≡ true
+more_certified : (before : List StatementView) (x : Line) (xs all : List Line) → all ≡ x ∷ xs → is_certified before x ≡ true → list_all (is_certified before) xs ≡ true → list_all (is_certified before) all ≡ true
 more_certified before x xs all e h k = subst (λ ys. list_all (is_certified before) ys ≡ true) (sym e) (and_from (is_certified before x) (list_all (is_certified before) xs) h k)
 
 -- a step that is ready has its form, whatever its blanks are filled with
-pub has_form_first : (before : List Stated) (d f : Script) (x : StepState) (goal : Goal) (xs : List Line) → lines_at before d f x.context goal ≡ line_at d f x.context goal ∷ xs → IsReadyFor before d x goal →
+pub has_form_first : (before : List StatementView) (d f : Script) (x : StepState) (goal : Goal) (xs : List Line) → lines_at before d f x.context goal ≡ line_at d f x.context goal ∷ xs → IsReadyFor before d x goal →
     has_form before (line_at d f x.context goal) ≡ true
 has_form_first before d f x goal xs e r =
     first_is (has_form before) (line_at d f x.context goal) xs (lines_at before d f x.context goal) e
     (tests_again before (has_form before) (form_is_blind before) d f d x.context.scope x.context.facts x.context.facts goal ∙ r.forms)
 
 -- what is found after a licensed step
-licensed_reaches : (before : List Stated) (step derived : Step) (x after : StepState) (n : ℕ) (rest : Script) (goal : Goal) (a : Arrival) (i : ℕ) (names : Names) → IsLicensedStep before step x derived after →
+licensed_reaches : (before : List StatementView) (step derived : Step) (x after : StepState) (n : ℕ) (rest : Script) (goal : Goal) (a : Arrival) (i : ℕ) (names : Names) → IsLicensedStep before step x derived after →
     IsReadyFor before (step_script step rest) x goal → ReachesWithin before rest after goal (n + 1) a i names → ReachesWithin before (step_script step rest) x goal n a i names
 licensed_reaches before step derived x after n rest goal a i names j r h =
     let e = step_script step rest in
@@ -98,7 +98,7 @@ licensed_reaches before step derived x after n rest goal a i names j r h =
           (reached_after before y ys x.names (names_lines before after.names rest) n a i names (j.licensed rest h.filled goal form) h.reached));
     }
 
-pub passed_of_licensed : (before : List Stated) (step derived : Step) (x after : StepState) (n : ℕ) → ((rest : Script) → size (step_script step rest) ≡ 1 + size rest) → IsLicensedStep before step x derived after →
+pub passed_of_licensed : (before : List StatementView) (step derived : Step) (x after : StepState) (n : ℕ) → ((rest : Script) → size (step_script step rest) ≡ 1 + size rest) → IsLicensedStep before step x derived after →
     IsPassed before (step_script step) x n (step_script derived) after (n + 1)
 passed_of_licensed before step derived x after n one j =
     record {
@@ -150,7 +150,7 @@ size_more (steps.Superposed' form names shown certs p0 n0 row0 close0) rest = om
 
 -- ---- what a step that stops is answered as
 
-pub lines_begin : (before : List Stated) (here f : Script) (s : Scope) (facts : List Lit) (goal : Goal) → (xs : List Line) × (lines before here f s facts goal ≡ line here f s facts goal ∷ xs)
+pub lines_begin : (before : List StatementView) (here f : Script) (s : Scope) (facts : List Lit) (goal : Goal) → (xs : List Line) × (lines before here f s facts goal ≡ line here f s facts goal ∷ xs)
 unfolding lines
 lines_begin before (Cite by rest) f s facts goal = (_, refl)
 lines_begin before (Hence lit cert rest) f s facts goal = (_, refl)
@@ -162,7 +162,7 @@ lines_begin before (Qed objects certs) f s facts goal = (_, refl)
 lines_begin before (Contradiction against) f s facts goal = (_, refl)
 lines_begin before (Cases lit first second) f s facts goal = (_, refl)
 
-names_begin : (before : List Stated) (ns : Names) (here : Script) → (ms : List Names) × (names_lines before ns here ≡ ns ∷ ms)
+names_begin : (before : List StatementView) (ns : Names) (here : Script) → (ms : List Names) × (names_lines before ns here ≡ ns ∷ ms)
 unfolding names_lines
 names_begin before ns (Cite by rest) = (_, refl)
 names_begin before ns (Hence lit cert rest) = (_, refl)
@@ -175,7 +175,7 @@ names_begin before ns (Contradiction against) = (_, refl)
 names_begin before ns (Cases lit first second) = (_, refl)
 
 -- licensing stops at the first step of a script
-pub stops_first : (before : List Stated) (here : Script) (x : StepState) (goal : Goal) (n : ℕ) (h : StepStop) (s : Stop) → StepStopsAt before (line_at here here x.context goal) h → StopOf h n x.names s →
+pub stops_first : (before : List StatementView) (here : Script) (x : StepState) (goal : Goal) (n : ℕ) (h : StepStop) (s : Stop) → StepStopsAt before (line_at here here x.context goal) h → StopOf h n x.names s →
     StopsWithin before here x goal n s
 stops_first before here x goal n h s k e =
     let a = lines_begin before here here x.context.scope x.context.facts goal in
@@ -189,7 +189,7 @@ stops_first before here x goal n h s k e =
     }
 
 -- before the first step of a script this holds
-pub reaches_first : (before : List Stated) (here : Script) (x : StepState) (goal : Goal) (n : ℕ) → ReachesStep before here x goal n n x
+pub reaches_first : (before : List StatementView) (here : Script) (x : StepState) (goal : Goal) (n : ℕ) → ReachesStep before here x goal n n x
 reaches_first before here x goal n =
     let a = lines_begin before here here x.context.scope x.context.facts goal in
     let b = names_begin before x.names here in
@@ -203,10 +203,10 @@ reaches_first before here x goal n =
     }
 
 -- out of memory stops anywhere
-pub stops_for_memory : (before : List Stated) (here : Script) (x : StepState) (goal : Goal) (n : ℕ) → StopsWithin before here x goal n stop.NoMemory
+pub stops_for_memory : (before : List StatementView) (here : Script) (x : StepState) (goal : Goal) (n : ℕ) → StopsWithin before here x goal n stop.NoMemory
 stops_for_memory before here x goal n = record { filled = here; stops = tt }
 
-pub stops_as_memory : (before : List Stated) (here : Script) (x : StepState) (goal : Goal) (n : ℕ) {A : Type 0} (r : Result A Stop) → IfErr r (λ s. s ≡ stop.NoMemory) → IfErr r (StopsWithin before here x goal n)
+pub stops_as_memory : (before : List StatementView) (here : Script) (x : StepState) (goal : Goal) (n : ℕ) {A : Type 0} (r : Result A Stop) → IfErr r (λ s. s ≡ stop.NoMemory) → IfErr r (StopsWithin before here x goal n)
 stops_as_memory before here x goal n (Ok a) e = tt
 stops_as_memory before here x goal n (Err s) e = subst (StopsWithin before here x goal n) (sym e) (stops_for_memory before here x goal n)
 
@@ -236,7 +236,7 @@ names_kept step_stop.NoMemory n x after (stop.TooWide a b c d) k e = absurd (not
 names_kept step_stop.NoMemory n x after stop.NoMemory k e = tt
 
 -- the answer on a step that has no block inside
-pub numbered_passed : (before : List Stated) (step : Step) (x after : StepState) (n : ℕ) (answered : Result Step StepStop) (r : Result ProvedStep Stop) → ((rest : Script) → size (step_script step rest) ≡ 1 + size rest) →
+pub numbered_passed : (before : List StatementView) (step : Step) (x after : StepState) (n : ℕ) (answered : Result Step StepStop) (r : Result ProvedStep Stop) → ((rest : Script) → size (step_script step rest) ≡ 1 + size rest) →
     IfOk answered (λ d. IsLicensedStep before step x d after) → IfOk r (λ p. answered ≡ Ok p.step) → IfOk r (λ p. p.next ≡ n + 1) →
     IfOk r (λ p. IsPassed before (step_script step) x n (step_script p.step) after p.next)
 numbered_passed before step x after n answered (Err s) one j e f = tt
@@ -244,7 +244,7 @@ numbered_passed before step x after n answered (Ok p) one j e f =
     subst (λ k. IsPassed before (step_script step) x n (step_script p.step) after k) (sym f)
     (passed_of_licensed before step p.step x after n one (subst (λ q. IfOk q (λ d. IsLicensedStep before step x d after)) e j))
 
-pub numbered_stops : (before : List Stated) (step : Step) (x after : StepState) (n : ℕ) (answered : Result Step StepStop) (r : Result ProvedStep Stop) → IfErr answered (IsStopOfStep before step x) →
+pub numbered_stops : (before : List StatementView) (step : Step) (x after : StepState) (n : ℕ) (answered : Result Step StepStop) (r : Result ProvedStep Stop) → IfErr answered (IsStopOfStep before step x) →
     IfErr answered (UnlessNoMemory (after ≡ x)) → IfErr r (IsWithNumber answered n after.names) → IfErr r (StepStops before step x n)
 numbered_stops before step x after n answered (Ok p) k m e = tt
 numbered_stops before step x after n (Ok d) (Err (stop.Unlicensed a b c f)) k m e = absurd e
@@ -257,19 +257,19 @@ numbered_stops before step x after n (Err h) (Err s) k m e =
     )
 
 -- out of memory stops any step
-pub step_stops_as_memory : (before : List Stated) (step : Step) (x : StepState) (n : ℕ) {A : Type 0} (r : Result A Stop) → IfErr r (λ s. s ≡ stop.NoMemory) → IfErr r (StepStops before step x n)
+pub step_stops_as_memory : (before : List StatementView) (step : Step) (x : StepState) (n : ℕ) {A : Type 0} (r : Result A Stop) → IfErr r (λ s. s ≡ stop.NoMemory) → IfErr r (StepStops before step x n)
 step_stops_as_memory before step x n (Ok a) e = tt
 step_stops_as_memory before step x n (Err s) e = subst (StepStops before step x n) (sym e) (λ rest goal r. (stops_for_memory before (step_script step rest) x goal n, tt))
 
 -- and of a close that has no block inside
-pub numbered_closed : (before : List Stated) (close : Close) (x : StepState) (goal : Goal) (answered : Result Close StepStop) (r : Result ProvedClose Stop) → IfOk answered (λ d. IsLicensedClose before close x.context goal d) →
+pub numbered_closed : (before : List StatementView) (close : Close) (x : StepState) (goal : Goal) (answered : Result Close StepStop) (r : Result ProvedClose Stop) → IfOk answered (λ d. IsLicensedClose before close x.context goal d) →
     IfOk r (λ p. answered ≡ Ok p.close) → IfOk r (λ p. IsDerivedFrom before (close_script close) x goal (close_script p.close))
 numbered_closed before close x goal answered (Err s) j e = tt
 numbered_closed before close x goal answered (Ok p) j e =
     let c = subst (λ q. IfOk q (λ d. IsLicensedClose before close x.context goal d)) e j in
     record { licensed = c.licensed; certified = c.certified; erased = c.erased; written = c.written }
 
-pub numbered_close_stops : (before : List Stated) (close : Close) (x : StepState) (goal : Goal) (n : ℕ) (answered : Result Close StepStop) (r : Result ProvedClose Stop) → IfErr answered (IsStopOfClose before close x.context goal) →
+pub numbered_close_stops : (before : List StatementView) (close : Close) (x : StepState) (goal : Goal) (n : ℕ) (answered : Result Close StepStop) (r : Result ProvedClose Stop) → IfErr answered (IsStopOfClose before close x.context goal) →
     IfErr r (IsWithNumber answered n x.names) → IfErr r (StopsWithin before (close_script close) x goal n)
 numbered_close_stops before close x goal n answered (Ok p) k e = tt
 numbered_close_stops before close x goal n (Ok d) (Err (stop.Unlicensed a b c f)) k e = absurd e

@@ -13,7 +13,7 @@ use Rattle.e_literal.specs.declared.literal.Lit.{Lit}
 use Rattle.e_literal.specs.Facts.{has, joined, joined_all}
 use Rattle.e_literal.specs.declared.object.Obj.{Obj}
 use Rattle.e_literal.specs.Scopes.{grown}
-use Rattle.e_literal.specs.Use.{Stated, gives_of_use}
+use Rattle.e_literal.specs.Use.{StatementView, gives_of_use}
 use Rattle.e_literal.proofs.Booleans.{and_left, and_right}
 use Rattle.e_literal.proofs.Growing.{grown_bounds}
 use Rattle.e_clause.specs.Assignment.{terms_of_atom, terms_of_lits}
@@ -51,7 +51,7 @@ pub superposed_after : (form : Superpose) (names : List (List ℕ)) (x mid after
     after ≡ record mid { context = record mid.context { facts = joined_all mid.context.facts given } } → after ≡ after_superposed form names x
 superposed_after form names x mid after sorts given a b c d e = rw (e, c, d, b, a) refl
 
-pub applied_after : (t : Stated) (args : List Obj) (names : List (List ℕ)) (x mid after : StepState) (sorts : List Sort) (given : List Lit) → sorts ≡ t.made →
+pub applied_after : (t : StatementView) (args : List Obj) (names : List (List ℕ)) (x mid after : StepState) (sorts : List Sort) (given : List Lit) → sorts ≡ t.made →
     given ≡ gives_of_use t args x.context.scope → mid.context ≡ record x.context { scope = grown x.context.scope sorts } → mid.names ≡ named x.names sorts names →
     after ≡ record mid { context = record mid.context { facts = joined_all mid.context.facts given } } → after ≡ after_apply t args names x
 applied_after t args names x mid after sorts given a b c d e = rw (e, c, d, b, a) refl
@@ -130,7 +130,7 @@ pub good_superposed : (form : Superpose) (x wider : Basis) (sorts : List Sort) (
 good_superposed form x wider sorts given a b c h = rw (c, b, a) h
 
 -- what an application gives may join the facts once its objects are in scope
-pub good_applied : (t : Stated) (args : List Obj) (x wider : Basis) (sorts : List Sort) (given : List Lit) → sorts ≡ t.made → given ≡ gives_of_use t args x.scope →
+pub good_applied : (t : StatementView) (args : List Obj) (x wider : Basis) (sorts : List Sort) (given : List Lit) → sorts ≡ t.made → given ≡ gives_of_use t args x.scope →
     wider ≡ record x { scope = grown x.scope sorts } → are_limited_facts (grown x.scope t.made) (joined_all x.facts (gives_of_use t args x.scope)) ≡ true →
     are_limited_facts wider.scope (joined_all wider.facts given) ≡ true
 good_applied t args x wider sorts given a b c h = rw (c, b, a) h

@@ -3,7 +3,7 @@ use Rattle.std.proofs.Common.{◌≡◌, ℕ, ◌+◌, ◌-◌, ◌<◌, ◌^◌
 use Rattle.std.specs.Prelude.{IfOk, IfErr, OnOk}
 use Rattle.e_literal.specs.declared.literal.Lit.{Lit}
 use Rattle.e_literal.specs.Facts.{joined_all}
-use Rattle.e_literal.specs.Use.{Stated}
+use Rattle.e_literal.specs.Use.{StatementView}
 use Rattle.e_clause.specs.declared.cert.Cert.{Cert}
 use Rattle.e_clause.specs.Judged.{are_limited_facts}
 use Rattle.e_construct.specs.declared.superpose.Superpose.{Superpose}
@@ -32,7 +32,7 @@ use Rattle.e_prove.proofs.InnerBlocks.{ClaimReady, claim_ready, claim_rest, clai
 
 -- ---- steps as the code has them
 
-pub ready_as : (before : List Stated) (f g : Script → Script) (x : StepState) (n : ℕ) → ((d : Script) → g d ≡ f d) → AreReadySteps before g x n → AreReadySteps before f x n
+pub ready_as : (before : List StatementView) (f g : Script → Script) (x : StepState) (n : ℕ) → ((d : Script) → g d ≡ f d) → AreReadySteps before g x n → AreReadySteps before f x n
 ready_as before f g x n e r = record {
   rest = r.rest;
   goal = r.goal;
@@ -43,12 +43,12 @@ ready_as before f g x n e r = record {
 same_script : (s : Step) (rest : Script) → step_script s rest ≡ step_script s rest
 same_script s rest = refl
 
-pub all_passed_as : (before : List Stated) (f g : Script → Script) (x y : StepState) (n : ℕ) (r : Result ProvedStep Stop) → ((d : Script) → g d ≡ f d) → IfOk r (λ p. IsPassed before f x n (step_script p.step) y p.next)
+pub all_passed_as : (before : List StatementView) (f g : Script → Script) (x y : StepState) (n : ℕ) (r : Result ProvedStep Stop) → ((d : Script) → g d ≡ f d) → IfOk r (λ p. IsPassed before f x n (step_script p.step) y p.next)
     → IfOk r (λ p. IsPassed before g x n (step_script p.step) y p.next)
 all_passed_as before f g x y n (Ok p) e a = passed_as before f (step_script p.step) g (step_script p.step) x y n p.next (λ d. sym (e d)) (same_script p.step) a
 all_passed_as before f g x y n (Err t) e a = tt
 
-pub all_stopped_as : (before : List Stated) (f g : Script → Script) (x : StepState) (n : ℕ) (r : Result ProvedStep Stop) → ((d : Script) → g d ≡ f d) → IfErr r (StepsStop before f x n) → IfErr r (StepsStop before g x n)
+pub all_stopped_as : (before : List StatementView) (f g : Script → Script) (x : StepState) (n : ℕ) (r : Result ProvedStep Stop) → ((d : Script) → g d ≡ f d) → IfErr r (StepsStop before f x n) → IfErr r (StepsStop before g x n)
 all_stopped_as before f g x n (Ok p) e h = tt
 all_stopped_as before f g x n (Err t) e h = λ rest goal r.
     let k = h rest goal (subst (λ d. IsReadyFor before d x goal) (e rest) r) in
@@ -69,17 +69,17 @@ pub claim_is : (s : Step) (shown seen : List Lit) (inner : Box Block Global) (bl
 claim_is s shown seen inner block is same at rest =
     ap (λ t. step_script t rest) is ∙ step_script-Claim shown inner rest ∙ ap (λ ls. Claim ls (script_of inner.value) rest) (sym same) ∙ ap (λ b. Claim seen (script_of b) rest) (sym at)
 
-pub claim_begins : (before : List Stated) (shown : List Lit) (inner : Script) (x : StepState) (n : ℕ) → AreReadySteps before (Claim shown inner) x n → ClaimReady before shown inner x
+pub claim_begins : (before : List StatementView) (shown : List Lit) (inner : Script) (x : StepState) (n : ℕ) → AreReadySteps before (Claim shown inner) x n → ClaimReady before shown inner x
 claim_begins before shown inner x n r = claim_ready before shown inner r.rest x r.goal r.ready
 
-pub claim_numbers : (before : List Stated) (shown : List Lit) (inner : Script) (x : StepState) (n : ℕ) → AreReadySteps before (Claim shown inner) x n → n + 1 + size inner < 2 ^ 32
+pub claim_numbers : (before : List StatementView) (shown : List Lit) (inner : Script) (x : StepState) (n : ℕ) → AreReadySteps before (Claim shown inner) x n → n + 1 + size inner < 2 ^ 32
 claim_numbers before shown inner x n r = claim_few shown inner r.rest n r.few
 
-pub claim_ends : (before : List Stated) (shown : List Lit) (inner derived : Script) (x : StepState) (n : ℕ) → IsDerivedFrom before inner x (goal_of shown) derived → AreReadySteps before (Claim shown inner) x n
+pub claim_ends : (before : List StatementView) (shown : List Lit) (inner derived : Script) (x : StepState) (n : ℕ) → IsDerivedFrom before inner x (goal_of shown) derived → AreReadySteps before (Claim shown inner) x n
     → are_limited_facts x.context.scope (joined_all x.context.facts shown) ≡ true
 claim_ends before shown inner derived x n d r = block_facts before r.rest (after_block shown x) r.goal (claim_rest before shown inner derived r.rest x r.goal d r.ready)
 
-pub claim_is_passed : (before : List Stated) (shown : List Lit) (inner : Script) (x z after : StepState) (n : ℕ) (o : Names) (proved : ProvedBlock) (r : Result ProvedStep Stop) → ClaimReady before shown inner x
+pub claim_is_passed : (before : List StatementView) (shown : List Lit) (inner : Script) (x z after : StepState) (n : ℕ) (o : Names) (proved : ProvedBlock) (r : Result ProvedStep Stop) → ClaimReady before shown inner x
     → IsDerivedFrom before inner x (goal_of shown) (script_of proved.block) → proved.next ≡ n + 1 + size inner → o ≡ x.names → KeepsHeld (held_at x) z → IfOk r (λ p. (rest : Script) → step_script p.step rest ≡ Claim shown (script_of proved.block) rest)
     → IfOk r (λ p. p.next ≡ proved.next) → OnOk r (IsLeftWith o shown z after) → IfOk r (λ p. IsPassed before (Claim shown inner) x n (step_script p.step) after p.next)
 claim_is_passed before shown inner x z after n o proved (Err t) ready d count e k a b c = tt
@@ -90,7 +90,7 @@ claim_is_passed before shown inner x z after n o proved (Ok p) ready d count e k
     passed_as before (Claim shown inner) (Claim shown D) (Claim shown inner) (step_script p.step) x after n p.next (λ w. refl) (λ w. sym (a w))
     (subst (λ m. IsPassed before (Claim shown inner) x n (Claim shown D) after m) (sym b) here)
 
-pub claim_is_stopped : (before : List Stated) (shown : List Lit) (inner : Script) (x : StepState) (n : ℕ) (t : Stop) → ClaimReady before shown inner x → StopsWithin before inner x (goal_of shown) (n + 1) t → StepsStop before (Claim shown inner) x n t
+pub claim_is_stopped : (before : List StatementView) (shown : List Lit) (inner : Script) (x : StepState) (n : ℕ) (t : Stop) → ClaimReady before shown inner x → StopsWithin before inner x (goal_of shown) (n + 1) t → StepsStop before (Claim shown inner) x n t
 claim_is_stopped before shown inner x n t ready k rest goal r =
     let count = claim_size shown inner rest in (
       claim_stops before shown inner rest x goal n t ready.over k,
@@ -105,20 +105,20 @@ superposed_is s form names copies shown seen certs inner block is given same at 
     ap (λ t. step_script t rest) is ∙ step_script-Superposed form names shown certs inner rest ∙ ap (λ ns. Superposed form ns shown certs (script_of inner.value) rest) (sym given)
     ∙ ap (λ ls. Superposed form copies ls certs (script_of inner.value) rest) (sym same) ∙ ap (λ b. Superposed form copies seen certs (script_of b) rest) (sym at)
 
-pub superposed_begins : (before : List Stated) (form : Superpose) (names : List (List ℕ)) (shown : List Lit) (certs : List Cert) (inner : Script) (x : StepState) (n : ℕ) → AreReadySteps before (Superposed form names shown certs inner) x n
+pub superposed_begins : (before : List StatementView) (form : Superpose) (names : List (List ℕ)) (shown : List Lit) (certs : List Cert) (inner : Script) (x : StepState) (n : ℕ) → AreReadySteps before (Superposed form names shown certs inner) x n
     → SuperposedReady before form names shown inner x
 superposed_begins before form names shown certs inner x n r = superposed_ready before form names shown certs inner r.rest x r.goal r.ready
 
-pub superposed_numbers : (before : List Stated) (form : Superpose) (names : List (List ℕ)) (shown : List Lit) (certs : List Cert) (inner : Script) (x : StepState) (n : ℕ) → AreReadySteps before (Superposed form names shown certs inner) x n
+pub superposed_numbers : (before : List StatementView) (form : Superpose) (names : List (List ℕ)) (shown : List Lit) (certs : List Cert) (inner : Script) (x : StepState) (n : ℕ) → AreReadySteps before (Superposed form names shown certs inner) x n
     → n + 1 + size inner < 2 ^ 32
 superposed_numbers before form names shown certs inner x n r = superposed_few form names shown certs inner r.rest n r.few
 
-pub superposed_ends : (before : List Stated) (form : Superpose) (names : List (List ℕ)) (shown : List Lit) (certs : List Cert) (inner derived : Script) (x : StepState) (n : ℕ)
+pub superposed_ends : (before : List StatementView) (form : Superpose) (names : List (List ℕ)) (shown : List Lit) (certs : List Cert) (inner derived : Script) (x : StepState) (n : ℕ)
     → IsDerivedFrom before inner (after_superposed form names x) (goal_of shown) derived → AreReadySteps before (Superposed form names shown certs inner) x n → are_limited_facts x.context.scope (joined_all x.context.facts shown) ≡ true
 superposed_ends before form names shown certs inner derived x n d r =
     block_facts before r.rest (after_block shown x) r.goal (superposed_rest before form names shown certs inner derived r.rest x r.goal d r.ready)
 
-pub superposed_is_passed : (before : List Stated) (form : Superpose) (names : List (List ℕ)) (shown : List Lit) (certs : List Cert) (inner : Script) (x z after : StepState) (n : ℕ) (o : Names) (proved : ProvedBlock) (r : Result ProvedStep Stop)
+pub superposed_is_passed : (before : List StatementView) (form : Superpose) (names : List (List ℕ)) (shown : List Lit) (certs : List Cert) (inner : Script) (x z after : StepState) (n : ℕ) (o : Names) (proved : ProvedBlock) (r : Result ProvedStep Stop)
     → SuperposedReady before form names shown inner x → Certifies form x certs → IsDerivedFrom before inner (after_superposed form names x) (goal_of shown) (script_of proved.block) → proved.next ≡ n + 1 + size inner → o ≡ x.names → KeepsHeld (held_at x) z
     → IfOk r (λ p. (rest : Script) → step_script p.step rest ≡ Superposed form names shown certs (script_of proved.block) rest) → IfOk r (λ p. p.next ≡ proved.next) → OnOk r (IsLeftWith o shown z after)
     → IfOk r (λ p. (written : List Cert) → IsPassed before (Superposed form names shown written inner) x n (step_script p.step) after p.next)
@@ -130,7 +130,7 @@ superposed_is_passed before form names shown certs inner x z after n o proved (O
     passed_as before (Superposed form names shown written inner) (Superposed form names shown certs D) (Superposed form names shown written inner) (step_script p.step) x after n p.next (λ w. refl) (λ w. sym (a w))
     (subst (λ m. IsPassed before (Superposed form names shown written inner) x n (Superposed form names shown certs D) after m) (sym b) here)
 
-pub superposed_is_stopped : (before : List Stated) (form : Superpose) (names : List (List ℕ)) (shown : List Lit) (certs : List Cert) (inner : Script) (x : StepState) (n : ℕ) (t : Stop) → SuperposedReady before form names shown inner x → Certifies form x certs
+pub superposed_is_stopped : (before : List StatementView) (form : Superpose) (names : List (List ℕ)) (shown : List Lit) (certs : List Cert) (inner : Script) (x : StepState) (n : ℕ) (t : Stop) → SuperposedReady before form names shown inner x → Certifies form x certs
     → StopsWithin before inner (after_superposed form names x) (goal_of shown) (n + 1) t → (written : List Cert) → StepsStop before (Superposed form names shown written inner) x n t
 superposed_is_stopped before form names shown certs inner x n t ready cs k written rest goal r =
     let count = superposed_size form names shown written inner rest in (
@@ -138,7 +138,7 @@ superposed_is_stopped before form names shown certs inner x n t ready cs k writt
       before_more (n + 1 + size inner) (n + size (Superposed form names shown written inner rest) - size rest) t (omega (arith, count)) (stop_within before inner (after_superposed form names x) (goal_of shown) (n + 1) t k),
     )
 
-pub superposed_is_refused : (before : List Stated) (form : Superpose) (names : List (List ℕ)) (shown : List Lit) (inner : Script) (x after : StepState) (n : ℕ) (h : StepStop) (t : Stop) → StepStopsAmong x.context (superposing.needs_of_superposition form) h
+pub superposed_is_refused : (before : List StatementView) (form : Superpose) (names : List (List ℕ)) (shown : List Lit) (inner : Script) (x after : StepState) (n : ℕ) (h : StepStop) (t : Stop) → StepStopsAmong x.context (superposing.needs_of_superposition form) h
     → UnlessNoMemory (after.names ≡ x.names) h → StopOf h n after.names t → (written : List Cert) → StepsStop before (Superposed form names shown written inner) x n t
 superposed_is_refused before form names shown inner x after n h t k m e written rest goal r =
     let here = Superposed form names shown written inner rest in

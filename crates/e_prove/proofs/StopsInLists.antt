@@ -10,7 +10,7 @@ use Rattle.e_literal.specs.declared.literal.Lit.{Lit}
 use Rattle.e_literal.specs.Literal.{negation}
 use Rattle.e_literal.specs.Facts.{joined, joined_all}
 use Rattle.e_literal.specs.Scopes.{grown}
-use Rattle.e_literal.specs.Use.{Stated, gives_of_use}
+use Rattle.e_literal.specs.Use.{StatementView, gives_of_use}
 use Rattle.e_construct.specs.Construct.{sorts_made, gives_of_construction}
 use Rattle.e_construct.specs.Superposing as superposing
 use Rattle.e_deriv.specs.declared.names.Names.{Names}
@@ -58,17 +58,17 @@ take_right (a ∷ xs) ys p (suc q) e = ap (λ zs. a ∷ zs) (take_right xs ys p 
 -- ---- what is found at a step
 
 -- at the first step
-pub reached_first : (before : List Stated) (x : Line) (xs : List Line) (m : Names) (ns : List Names) (first : ℕ) (a : Arrival) → ArrivesAt before x a → IsReachedIn before (x ∷ xs) (m ∷ ns) first a first m
+pub reached_first : (before : List StatementView) (x : Line) (xs : List Line) (m : Names) (ns : List Names) (first : ℕ) (a : Arrival) → ArrivesAt before x a → IsReachedIn before (x ∷ xs) (m ∷ ns) first a first m
 reached_first before x xs m ns first a k = record { place = 0; number = omega arith; line = x; at = refl; earlier = tt; arrives = k; named = refl }
 
 -- after a step that is licensed
-pub reached_after : (before : List Stated) (x : Line) (xs : List Line) (m : Names) (ns : List Names) (first : ℕ) (a : Arrival) (n : ℕ) (names : Names) →
+pub reached_after : (before : List StatementView) (x : Line) (xs : List Line) (m : Names) (ns : List Names) (first : ℕ) (a : Arrival) (n : ℕ) (names : Names) →
     Licensed before x → IsReachedIn before xs ns (first + 1) a n names → IsReachedIn before (x ∷ xs) (m ∷ ns) first a n names
 reached_after before x xs m ns first a n names l k =
     record { place = suc k.place; number = omega (arith, k.number); line = k.line; at = k.at; earlier = (l, k.earlier); arrives = k.arrives; named = k.named }
 
 -- in the first of two lists
-pub reached_left : (before : List Stated) (xs ys : List Line) (ns ms : List Names) (first : ℕ) (a : Arrival) (n : ℕ) (names : Names) →
+pub reached_left : (before : List StatementView) (xs ys : List Line) (ns ms : List Names) (first : ℕ) (a : Arrival) (n : ℕ) (names : Names) →
     IsReachedIn before xs ns first a n names → IsReachedIn before (xs ++ ys) (ns ++ ms) first a n names
 reached_left before xs ys ns ms first a n names k =
     record {
@@ -82,7 +82,7 @@ reached_left before xs ys ns ms first a n names k =
     }
 
 -- in the second, where the steps of the first are licensed
-pub reached_right : (before : List Stated) (xs ys : List Line) (ns ms : List Names) (k first : ℕ) (a : Arrival) (n : ℕ) (names : Names) → length xs ≡ k → length ns ≡ k →
+pub reached_right : (before : List StatementView) (xs ys : List Line) (ns ms : List Names) (k first : ℕ) (a : Arrival) (n : ℕ) (names : Names) → length xs ≡ k → length ns ≡ k →
     AllLicensed before xs → IsReachedIn before ys ms (first + k) a n names → IsReachedIn before (xs ++ ys) (ns ++ ms) first a n names
 reached_right before xs ys ns ms k first a n names e d l r =
     record {
@@ -98,18 +98,18 @@ reached_right before xs ys ns ms k first a n names e d l r =
 -- ---- stops
 
 -- at the first step, with these names before it
-stop_at_first : (before : List Stated) (x : Line) (xs : List Line) (m : Names) (ns : List Names) (first : ℕ) (h : StepStop) → StepStopsAt before x h → StopIn before (x ∷ xs) (m ∷ ns) first (stop_of h first m)
+stop_at_first : (before : List StatementView) (x : Line) (xs : List Line) (m : Names) (ns : List Names) (first : ℕ) (h : StepStop) → StepStopsAt before x h → StopIn before (x ∷ xs) (m ∷ ns) first (stop_of h first m)
 stop_at_first before x xs m ns first (step_stop.Lacks wanted values) k = reached_first before x xs m ns first (Halts (step_stop.Lacks wanted values)) k
 stop_at_first before x xs m ns first (step_stop.TooWide wanted width) k = reached_first before x xs m ns first (Halts (step_stop.TooWide wanted width)) k
 stop_at_first before x xs m ns first step_stop.NoMemory k = tt
 
-pub stop_first : (before : List Stated) (x : Line) (xs : List Line) (m : Names) (ns : List Names) (first : ℕ) (h : StepStop) (s : Stop) → StepStopsAt before x h → StopOf h first m s → StopIn before (x ∷ xs) (m ∷ ns) first s
+pub stop_first : (before : List StatementView) (x : Line) (xs : List Line) (m : Names) (ns : List Names) (first : ℕ) (h : StepStop) (s : Stop) → StepStopsAt before x h → StopOf h first m s → StopIn before (x ∷ xs) (m ∷ ns) first s
 stop_first before x xs m ns first h (stop.Unlicensed n wanted values names) k e = subst (StopIn before (x ∷ xs) (m ∷ ns) first) (sym e) (stop_at_first before x xs m ns first h k)
 stop_first before x xs m ns first h (stop.TooWide n wanted width names) k e = subst (StopIn before (x ∷ xs) (m ∷ ns) first) (sym e) (stop_at_first before x xs m ns first h k)
 stop_first before x xs m ns first h stop.NoMemory k e = tt
 
 -- where all that is found in the one script is found in the other, so is a stop
-pub stops_by : (before : List Stated) (d e : Script) (x y : StepState) (goal goal' : Goal) (n m : ℕ) (s : Stop) →
+pub stops_by : (before : List StatementView) (d e : Script) (x y : StepState) (goal goal' : Goal) (n m : ℕ) (s : Stop) →
     ((a : Arrival) (k : ℕ) (names : Names) → ReachesWithin before d x goal n a k names → ReachesWithin before e y goal' m a k names) → StopsWithin before d x goal n s → StopsWithin before e y goal' m s
 stops_by before d e x y goal goal' n m (stop.Unlicensed k wanted values names) f h =
     let r = f (Halts (step_stop.Lacks wanted values)) k names (record { filled = h.filled; reached = h.stops }) in record { filled = r.filled; stops = r.reached }
@@ -125,7 +125,7 @@ at_less (a ∷ xs) zero x e = omega arith
 at_less (a ∷ xs) (suc p) x e = let k = at_less xs p x e in omega (arith, k)
 
 -- a stop within a script is at one of its steps
-pub stop_within : (before : List Stated) (d : Script) (x : StepState) (goal : Goal) (n : ℕ) (s : Stop) → StopsWithin before d x goal n s → IsStopBefore (n + size d) s
+pub stop_within : (before : List StatementView) (d : Script) (x : StepState) (goal : Goal) (n : ℕ) (s : Stop) → StopsWithin before d x goal n s → IsStopBefore (n + size d) s
 stop_within before d x goal n (stop.Unlicensed k wanted values names) h =
     let many = lines_length before d h.filled x.context.scope x.context.facts goal in
     omega (arith, many, h.stops.number, at_less _ h.stops.place h.stops.line h.stops.at)
@@ -152,7 +152,7 @@ stop_before h n m names stop.NoMemory less e = tt
 
 -- ---- how many steps there are
 
-pub names_length : (before : List Stated) (ns : Names) (d : Script) → length (names_lines before ns d) ≡ size d
+pub names_length : (before : List StatementView) (ns : Names) (d : Script) → length (names_lines before ns d) ≡ size d
 unfolding names_lines size
 names_length before ns (Cite by rest) = let h = names_length before ns rest in omega (arith, h)
 names_length before ns (Hence lit cert rest) = let h = names_length before ns rest in omega (arith, h)
@@ -190,7 +190,7 @@ both_same a b c d e f = ap₂ (λ x y. x && y) e f
 both_lists : (p : Line → Bool) (xs xs' ys ys' : List Line) → list_all p xs ≡ list_all p xs' → list_all p ys ≡ list_all p ys' → list_all p (xs ++ ys) ≡ list_all p (xs' ++ ys')
 both_lists p xs xs' ys ys' e f = list_all-append p xs ys ∙ both_same _ _ _ _ e f ∙ sym (list_all-append p xs' ys')
 
-pub tests_again : (before : List Stated) (p : Line → Bool) → IsBlind p → (d f f' : Script) (s : Scope) (facts facts' : List Lit) (goal : Goal) →
+pub tests_again : (before : List StatementView) (p : Line → Bool) → IsBlind p → (d f f' : Script) (s : Scope) (facts facts' : List Lit) (goal : Goal) →
     list_all p (lines before d f s facts goal) ≡ list_all p (lines before d f' s facts' goal)
 unfolding lines
 tests_again before p b (Cite by rest) f f' s facts facts' goal =
@@ -229,7 +229,7 @@ tests_again before p b (Cases lit first second) f f' s facts facts' goal =
     (tests_again before p b second (rest_of f) (rest_of f') s (joined facts not_so) (joined facts' not_so) goal))
 
 -- whether a step has its form, and whether few objects are in scope before it
-pub form_is_blind : (before : List Stated) → IsBlind (has_form before)
+pub form_is_blind : (before : List StatementView) → IsBlind (has_form before)
 form_is_blind before = record { same = by_form }
   where
     by_form : (here f f' : Script) (s : Scope) (facts facts' : List Lit) (goal : Goal) → has_form before (line here f s facts goal) ≡ has_form before (line here f' s facts' goal)
@@ -248,11 +248,11 @@ scope_is_blind = record { same = λ here f f' s facts facts' goal. refl }
 
 -- ---- literals that fit, in lists of steps
 
-pub lits_first : (before : List Stated) (xs ys : List Line) → LitsFit before (xs ++ ys) → LitsFit before xs
+pub lits_first : (before : List StatementView) (xs ys : List Line) → LitsFit before (xs ++ ys) → LitsFit before xs
 lits_first before [] ys h = tt
 lits_first before (x ∷ xs) ys h = (h.0, λ fit. ((h.1 fit).0, lits_first before xs ys (h.1 fit).1))
 
 -- in the second, where the steps of the first are licensed
-pub lits_second : (before : List Stated) (xs ys : List Line) → AllLicensed before xs → LitsFit before (xs ++ ys) → LitsFit before ys
+pub lits_second : (before : List StatementView) (xs ys : List Line) → AllLicensed before xs → LitsFit before (xs ++ ys) → LitsFit before ys
 lits_second before [] ys l h = h
 lits_second before (x ∷ xs) ys l h = lits_second before xs ys l.1 (h.1 l.0.fits).1

@@ -1,6 +1,6 @@
 -- What an answer says of a script.
 use Rattle.std.specs.Prelude.{◌≡◌, ℕ, List, [], ◌∷◌, take}
-use Rattle.e_literal.specs.Use.{Stated}
+use Rattle.e_literal.specs.Use.{StatementView}
 use Rattle.e_deriv.specs.declared.stop.Wanted.{Wanted}
 use Rattle.e_deriv.specs.declared.stop.Stop.{Stop}
 use Rattle.e_deriv.specs.declared.stop.Stop.TheVariants.{Unlicensed, TooWide, NoMemory}
@@ -12,7 +12,7 @@ use Rattle.e_deriv.specs.Refused.{IsWideLine}
 use Rattle.e_prove.specs.Stops.{StopIs}
 
 -- none of the steps is wide
-abbrev pub NoneWide : List Stated → List Line → Type 0
+abbrev pub NoneWide : List StatementView → List Line → Type 0
 NoneWide before [] = Unit {0}
 NoneWide before (x ∷ xs) = (¬ IsWideLine before x) × NoneWide before xs
 
@@ -24,19 +24,19 @@ IsNoRefusal _ = Unit {0}
 -- where each step is licensed, with its blanks filled somehow, no stop is a refusal
 abbrev pub LicensedIsNotRefused : Type 0
 LicensedIsNotRefused =
-    (before : List Stated) (t : Stated) (script filled : Script) (stop : Stop) → AllLicensed before (proof_lines before t script filled) →
+    (before : List StatementView) (t : StatementView) (script filled : Script) (stop : Stop) → AllLicensed before (proof_lines before t script filled) →
     StopIs before t script stop → IsNoRefusal stop
 
 -- and where no step is wide only a lack of memory stops
 abbrev pub LicensedStopsForMemory : Type 0
 LicensedStopsForMemory =
-    (before : List Stated) (t : Stated) (script filled : Script) (stop : Stop) → AllLicensed before (proof_lines before t script filled) →
+    (before : List StatementView) (t : StatementView) (script filled : Script) (stop : Stop) → AllLicensed before (proof_lines before t script filled) →
     NoneWide before (proof_lines before t script filled) → StopIs before t script stop → stop ≡ NoMemory
 
 -- nor where a derivation that is certified is licensed as a script, and no step is wide
 abbrev pub DerivedStopsForMemory : Type 0
 DerivedStopsForMemory =
-    (before : List Stated) (t : Stated) (d : Script) (stop : Stop) → Certified before t d → NoneWide before (derivation_lines before t d) →
+    (before : List StatementView) (t : StatementView) (d : Script) (stop : Stop) → Certified before t d → NoneWide before (derivation_lines before t d) →
     StopIs before t d stop → stop ≡ NoMemory
 
 -- the stop is a refusal at step n, which lacks this; or memory ran out
@@ -48,5 +48,5 @@ IsRefusalAt n wanted NoMemory = Unit {0}
 -- where step n is the first that is not licensed, and no step up to it is wide, a stop is there, and says what is lacked
 abbrev pub RefusedStopsThere : Type 0
 RefusedStopsThere =
-    (before : List Stated) (t : Stated) (script : Script) (n : ℕ) (wanted : Wanted) (stop : Stop) (first : IsFirstUnlicensed before t script n wanted) →
+    (before : List StatementView) (t : StatementView) (script : Script) (n : ℕ) (wanted : Wanted) (stop : Stop) (first : IsFirstUnlicensed before t script n wanted) →
     NoneWide before (take n (proof_lines before t script first.context.filled)) → StopIs before t script stop → IsRefusalAt n wanted stop

@@ -1,7 +1,7 @@
 //! Licensing an application of an earlier theorem.
 ghost use Rattle.std.specs.Prelude.{◌≡◌, List, IfOk, IfErr, IsTrue, IsFalse, MatchOption, Some, map};
 ghost use Rattle.std.specs.List.{list_all};
-ghost use Rattle.e_literal.specs.Use.{Stated, are_arguments, needs_of_use, gives_of_use};
+ghost use Rattle.e_literal.specs.Use.{StatementView, are_arguments, needs_of_use, gives_of_use};
 ghost use Rattle.e_clause.specs.declared.cert.Cert.{Cert as Certificate};
 ghost use Rattle.e_clause.specs.Certify.{certify_all};
 ghost use Rattle.e_clause.specs.Judged.{are_well_formed_in};
@@ -59,11 +59,11 @@ pub fn apply(
     state: &mut StepState,
 ) -> Result<Step, StepStop>
     requires { CanApply (stated statement.now) application.now.args.now state.old.context }
-    ensures ok { IfOk result (λ d. (before : List Stated) (certs : List Certificate)
+    ensures ok { IfOk result (λ d. (before : List StatementView) (certs : List Certificate)
         → theorem_at before application.now.theorem ≡ stated statement.now → IsLicensedStep before
         (Apply application.now.theorem application.now.args.now application.now.names.now certs)
         state.old d state.new) }
-    ensures err { IfErr result (λ h. (before : List Stated) (certs : List Certificate)
+    ensures err { IfErr result (λ h. (before : List StatementView) (certs : List Certificate)
         → theorem_at before application.now.theorem ≡ stated statement.now → IsStopOfStep before
         (Apply application.now.theorem application.now.args.now application.now.names.now certs)
         state.old h) }

@@ -1,6 +1,6 @@
 //! Licensing a close without blocks.
 ghost use Rattle.std.specs.Prelude.{◌≡◌, List, Option, IfOk, IfErr, IsTrue, map};
-ghost use Rattle.e_literal.specs.Use.{Stated};
+ghost use Rattle.e_literal.specs.Use.{StatementView};
 ghost use Rattle.e_clause.specs.declared.cert.Against.{Against};
 ghost use Rattle.e_clause.specs.declared.cert.Cert.{Cert};
 ghost use Rattle.e_clause.specs.Judged.{are_well_formed_in};
@@ -36,9 +36,9 @@ pub fn qed(
     requires form { IsTrue (are_for (goal_view goal.now) context.old.scope objects.now) }
     requires lits { IsTrue
         (are_well_formed_in context.old.scope (goal_at (goal_view goal.now) objects.now)) }
-    ensures ok { IfOk result (λ d. (before : List Stated) (certs : List Cert)
+    ensures ok { IfOk result (λ d. (before : List StatementView) (certs : List Cert)
         → IsLicensedClose before (Qed objects.now certs) context.old (goal_view goal.now) d) }
-    ensures err { IfErr result (λ h. (before : List Stated) (certs : List Cert)
+    ensures err { IfErr result (λ h. (before : List StatementView) (certs : List Cert)
         → IsStopOfClose before (Qed objects.now certs) context.old (goal_view goal.now) h) }
     ensures kept { context.new ≡ context.old }
 {
@@ -53,10 +53,10 @@ pub fn qed(
 /// A contradiction: the facts contradict each other.
 pub fn contradiction(alloc: Global, context: &mut Context) -> Result<Close, StepStop>
     ensures ok { IfOk
-        result (λ d. (before : List Stated) (goal : BlockGoal) (written : Option Against)
+        result (λ d. (before : List StatementView) (goal : BlockGoal) (written : Option Against)
         → IsLicensedClose before (Contradiction written) context.old goal d) }
     ensures err { IfErr
-        result (λ h. (before : List Stated) (goal : BlockGoal) (written : Option Against)
+        result (λ h. (before : List StatementView) (goal : BlockGoal) (written : Option Against)
         → IsStopOfClose before (Contradiction written) context.old goal h) }
     ensures kept { context.new ≡ context.old }
 {

@@ -1,7 +1,7 @@
 //! Licensing a step without what may be inside it.
 ghost use Rattle.std.specs.Prelude.{◌≡◌, IfOk, IfErr, OnOk, IsTrue, List, Option};
 ghost use Rattle.std.specs.List.{list_all};
-ghost use Rattle.e_literal.specs.Use.{Stated};
+ghost use Rattle.e_literal.specs.Use.{StatementView};
 ghost use Rattle.e_literal.specs.Facts.{joined};
 ghost use Rattle.e_clause.specs.declared.cert.Cert.{Cert as Certificate};
 ghost use Rattle.e_clause.specs.Judged.{is_well_formed_in, are_well_formed_in, are_limited_facts};
@@ -31,9 +31,9 @@ use std::mem;
 pub fn cite(alloc: Global, by: &By, state: &mut StepState) -> Result<Step, StepStop>
     requires { IsTrue
         (are_limited_facts state.old.context.scope (joined state.old.context.facts by.now.lit)) }
-    ensures ok { IfOk result (λ d. (before : List Stated)
+    ensures ok { IfOk result (λ d. (before : List StatementView)
         → IsLicensedStep before (Cite by.now) state.old d state.new) }
-    ensures err { IfErr result (λ h. (before : List Stated)
+    ensures err { IfErr result (λ h. (before : List StatementView)
         → IsStopOfStep before (Cite by.now) state.old h) }
     ensures kept { IfErr result (UnlessNoMemory (state.new ≡ state.old)) }
 {
@@ -54,9 +54,9 @@ pub fn hence(alloc: Global, lit: &Lit, state: &mut StepState) -> Result<Step, St
     requires lit { IsTrue (is_well_formed_in state.old.context.scope lit.now) }
     requires after { IsTrue
         (are_limited_facts state.old.context.scope (joined state.old.context.facts lit.now)) }
-    ensures ok { IfOk result (λ d. (before : List Stated) (cert : Option Certificate)
+    ensures ok { IfOk result (λ d. (before : List StatementView) (cert : Option Certificate)
         → IsLicensedStep before (Hence lit.now cert) state.old d state.new) }
-    ensures err { IfErr result (λ h. (before : List Stated) (cert : Option Certificate)
+    ensures err { IfErr result (λ h. (before : List StatementView) (cert : Option Certificate)
         → IsStopOfStep before (Hence lit.now cert) state.old h) }
     ensures kept { IfErr result (UnlessNoMemory (state.new ≡ state.old)) }
 {
@@ -98,9 +98,9 @@ pub fn make(
         (are_well_formed_in state.old.context.scope (Construct.needs_of_construction form.now)) }
     requires after { let after = after_make form.now names.now state.old
         in IsTrue (are_limited_facts after.context.scope after.context.facts) }
-    ensures ok { IfOk result (λ d. (before : List Stated) (certs : List Certificate)
+    ensures ok { IfOk result (λ d. (before : List StatementView) (certs : List Certificate)
         → IsLicensedStep before (Make form.now names.now certs) state.old d state.new) }
-    ensures err { IfErr result (λ h. (before : List Stated) (certs : List Certificate)
+    ensures err { IfErr result (λ h. (before : List StatementView) (certs : List Certificate)
         → IsStopOfStep before (Make form.now names.now certs) state.old h) }
     ensures kept { IfErr result (UnlessNoMemory (state.new ≡ state.old)) }
 {

@@ -2,7 +2,7 @@
 use Rattle.std.proofs.Common.{◌≡◌, ℕ, Bool, true, false, cond, inl, inr, List, [], ◌∷◌, ◌++◌, Option, Some, None, Result, Ok, Err, refl, sym, ap, subst, ◌∙◌}
 use Rattle.std.specs.Prelude.{◌⊎◌, filter}
 use Rattle.e_text.specs.Tokens.{tokens_of}
-use Rattle.e_text.specs.Lines.{Seen}
+use Rattle.e_text.specs.Lines.{LineView}
 use Rattle.e_text.specs.declared.line.LineFault.{LineFault}
 use Rattle.e_line.specs.declared.fault.FaultKind.{FaultKind}
 use Rattle.e_book.specs.declared.draft.TheoremParser.{TheoremParser}
@@ -21,17 +21,17 @@ use Rattle.e_read.specs.Text.{Piece, Derived, Last, taken, derived, garbled_at, 
 use Rattle.e_read.proofs.TakenLines.{Stepped, line_taken, form_read, not_skipped, book_line, either}
 
 abbrev pub Answer : Type 0
-Answer = Piece × List (Result Seen LineFault)
+Answer = Piece × List (Result LineView LineFault)
 
-abbrev pub derives : TheoremView → List (Result Seen LineFault) → Result Answer ℕ
+abbrev pub derives : TheoremView → List (Result LineView LineFault) → Result Answer ℕ
 derives t rest = Ok (Derived t, rest)
 
 abbrev pub with_certs : TheoremView → List StepCerts → TheoremView
 with_certs t kept = record t { script = (filled t.script kept).0 }
 
 -- the theorem as the lines without certificates are read
-pub record Plainly (known : List TitledStatement) (last : ℕ) (draft : Option TheoremParser) (t : TheoremView) (lines rest : List (Result Seen LineFault)) : Type 0 where
-  pub front : List (Result Seen LineFault)
+pub record Plainly (known : List TitledStatement) (last : ℕ) (draft : Option TheoremParser) (t : TheoremView) (lines rest : List (Result LineView LineFault)) : Type 0 where
+  pub front : List (Result LineView LineFault)
   pub all : lines ≡ front ++ rest
   pub entry : TheoremView
   pub kept : List StepCerts
@@ -39,13 +39,13 @@ pub record Plainly (known : List TitledStatement) (last : ℕ) (draft : Option T
   pub same : t ≡ with_certs entry kept
 
 -- a line of a certificate says nothing of the theorem, and any other line does
-certificate_left : (l : Seen) (front : List (Result Seen LineFault)) → begins_with_bar (tokens_of l.bytes) ≡ true → filter is_of_theorem (Ok l ∷ front) ≡ filter is_of_theorem front
+certificate_left : (l : LineView) (front : List (Result LineView LineFault)) → begins_with_bar (tokens_of l.bytes) ≡ true → filter is_of_theorem (Ok l ∷ front) ≡ filter is_of_theorem front
 certificate_left l front h = rw h refl
 
-line_kept : (l : Seen) (front : List (Result Seen LineFault)) → begins_with_bar (tokens_of l.bytes) ≡ false → filter is_of_theorem (Ok l ∷ front) ≡ Ok l ∷ filter is_of_theorem front
+line_kept : (l : LineView) (front : List (Result LineView LineFault)) → begins_with_bar (tokens_of l.bytes) ≡ false → filter is_of_theorem (Ok l ∷ front) ≡ Ok l ∷ filter is_of_theorem front
 line_kept l front h = rw h refl
 
-pub no_last : (lines rest : List (Result Seen LineFault)) (t : TheoremView) → let end : Result Answer ℕ = Ok (Last, lines) in end ≡ derives t rest → ⊥
+pub no_last : (lines rest : List (Result LineView LineFault)) (t : TheoremView) → let end : Result Answer ℕ = Ok (Last, lines) in end ≡ derives t rest → ⊥
 no_last lines rest t e = subst IsLast e tt where
   IsLast : Result Answer ℕ → Type 0
   IsLast (Ok (Last, ls)) = Unit {0}
@@ -56,7 +56,7 @@ pub garbled_ok : {A : Type 0} (n : ℕ) (r : Result A FaultKind) (x : A) → gar
 garbled_ok n (Ok y) x e = cc
 garbled_ok n (Err k) x e = absurd cc
 
-pub derived_is : (t u : TheoremView) (lines rest : List (Result Seen LineFault)) → derives t lines ≡ derives u rest → (t ≡ u) × (lines ≡ rest)
+pub derived_is : (t u : TheoremView) (lines rest : List (Result LineView LineFault)) → derives t lines ≡ derives u rest → (t ≡ u) × (lines ≡ rest)
 derived_is t u lines rest e = (ap (λ (a : Answer). entry_in t a) (inside _ _ e), ap (λ (a : Answer). a.1) (inside _ _ e)) where
   entry_in : TheoremView → Answer → TheoremView
   entry_in t (Derived u, ls) = u
@@ -66,7 +66,7 @@ derived_is t u lines rest e = (ap (λ (a : Answer). entry_in t a) (inside _ _ e)
   inside a b e = cc
 
 -- how it goes on behind a line that is taken
-pub goes_on : (t : Option TheoremView) (lines rest : List (Result Seen LineFault)) (more : Result Answer ℕ) (u : TheoremView) → or_on t lines more ≡ derives u rest
+pub goes_on : (t : Option TheoremView) (lines rest : List (Result LineView LineFault)) (more : Result Answer ℕ) (u : TheoremView) → or_on t lines more ≡ derives u rest
     → ((x : TheoremView) × (t ≡ Some x) × (derives x lines ≡ derives u rest)) ⊎ ((t ≡ None) × (more ≡ derives u rest))
 goes_on None lines rest more u e = inr (refl, e)
 goes_on (Some x) lines rest more u e = inl (x, refl, e)
@@ -95,11 +95,11 @@ closed_is d kept x e = by_test (is_done d) (derived d kept) e
     by_test false y h = absurd cc
 
 -- a line of a book that is read at the front
-line_read : (known : List TitledStatement) (last : ℕ) (draft : Option TheoremParser) (l : Seen) (d : TheoremParser) (after : List (Result Seen LineFault)) → is_skipped (tokens_of l.bytes) ≡ false → line_step known draft (tokens_of l.bytes) ≡ Ok d
+line_read : (known : List TitledStatement) (last : ℕ) (draft : Option TheoremParser) (l : LineView) (d : TheoremParser) (after : List (Result LineView LineFault)) → is_skipped (tokens_of l.bytes) ≡ false → line_step known draft (tokens_of l.bytes) ≡ Ok d
     → read_from known last draft (Ok l ∷ after) ≡ cond (is_done d) (Ok (Some (entry_of_draft d, after))) (read_from known last (Some d) after)
 line_read known last draft l d after s e = rw (s, e) refl
 
-pub plainly : (known : List TitledStatement) (last : ℕ) (r : BlockParser) (lines rest : List (Result Seen LineFault)) (t : TheoremView) → is_finished r.draft ≡ false → piece_from known last r lines ≡ derives t rest → Plainly known last r.draft t lines rest
+pub plainly : (known : List TitledStatement) (last : ℕ) (r : BlockParser) (lines rest : List (Result LineView LineFault)) (t : TheoremView) → is_finished r.draft ≡ false → piece_from known last r lines ≡ derives t rest → Plainly known last r.draft t lines rest
 unfolding piece_from
 plainly known last r [] rest t unended e = absurd cc
 plainly known last r (Err f ∷ lines) rest t unended e = absurd cc
@@ -124,18 +124,18 @@ plainly known last r (Ok l ∷ lines) rest t unended e =
           ]
     ]
   where
-    without : (known : List TitledStatement) (last : ℕ) (old new : Option TheoremParser) (l : Seen) (lines rest : List (Result Seen LineFault)) (t : TheoremView) → new ≡ old → begins_with_bar (tokens_of l.bytes) ≡ true
+    without : (known : List TitledStatement) (last : ℕ) (old new : Option TheoremParser) (l : LineView) (lines rest : List (Result LineView LineFault)) (t : TheoremView) → new ≡ old → begins_with_bar (tokens_of l.bytes) ≡ true
         → Plainly known last new t lines rest → Plainly known last old t (Ok l ∷ lines) rest
     without known last old new l lines rest t same bar p = record {
       front = Ok l ∷ p.front;
-      all = ap (λ (ls : List (Result Seen LineFault)). Ok l ∷ ls) p.all;
+      all = ap (λ (ls : List (Result LineView LineFault)). Ok l ∷ ls) p.all;
       entry = p.entry;
       kept = p.kept;
-      read = ap (λ (ls : List (Result Seen LineFault)). read_from known last old (ls ++ rest)) (certificate_left l p.front bar) ∙ ap (λ (o : Option TheoremParser). read_from known last o (filter is_of_theorem p.front ++ rest)) (sym same) ∙ p.read;
+      read = ap (λ (ls : List (Result LineView LineFault)). read_from known last old (ls ++ rest)) (certificate_left l p.front bar) ∙ ap (λ (o : Option TheoremParser). read_from known last o (filter is_of_theorem p.front ++ rest)) (sym same) ∙ p.read;
       same = p.same;
     }
 
-    step_plainly : (known : List TitledStatement) (last : ℕ) (r next : BlockParser) (l : Seen) (lines rest : List (Result Seen LineFault)) (t : TheoremView) → begins_with_bar (tokens_of l.bytes) ≡ false → Stepped known r next l.bytes
+    step_plainly : (known : List TitledStatement) (last : ℕ) (r next : BlockParser) (l : LineView) (lines rest : List (Result LineView LineFault)) (t : TheoremView) → begins_with_bar (tokens_of l.bytes) ≡ false → Stepped known r next l.bytes
         → ((x : TheoremView) × (finished next.draft next.kept ≡ Some x) × (derives x lines ≡ derives t rest)) ⊎ ((finished next.draft next.kept ≡ None) × (piece_from known last next lines ≡ derives t rest))
         → (is_finished next.draft ≡ false → piece_from known last next lines ≡ derives t rest → Plainly known last next.draft t lines rest)
         → Plainly known last r.draft t (Ok l ∷ lines) rest
@@ -151,10 +151,10 @@ plainly known last r (Ok l ∷ lines) rest t unended e =
               let both = derived_is q.0 t lines rest q.2 in
               record {
                 front = Ok l ∷ [];
-                all = ap (λ (ls : List (Result Seen LineFault)). Ok l ∷ ls) both.1;
+                all = ap (λ (ls : List (Result LineView LineFault)). Ok l ∷ ls) both.1;
                 entry = entry_of_draft d;
                 kept = next.kept;
-                read = ap (λ (ls : List (Result Seen LineFault)). read_from known last r.draft (ls ++ rest)) (line_kept l [] bar) ∙ line_read known last r.draft l d rest said step ∙ rw c.0 refl;
+                read = ap (λ (ls : List (Result LineView LineFault)). read_from known last r.draft (ls ++ rest)) (line_kept l [] bar) ∙ line_read known last r.draft l d rest said step ∙ rw c.0 refl;
                 same = sym both.0 ∙ sym c.1;
               }
           | inr q ↦
@@ -163,10 +163,10 @@ plainly known last r (Ok l ∷ lines) rest t unended e =
               let not_done : is_done d ≡ false = sym (ap is_finished draft_is) ∙ h in
               record {
                 front = Ok l ∷ p.front;
-                all = ap (λ (ls : List (Result Seen LineFault)). Ok l ∷ ls) p.all;
+                all = ap (λ (ls : List (Result LineView LineFault)). Ok l ∷ ls) p.all;
                 entry = p.entry;
                 kept = p.kept;
-                read = ap (λ (ls : List (Result Seen LineFault)). read_from known last r.draft (ls ++ rest)) (line_kept l p.front bar) ∙ line_read known last r.draft l d (filter is_of_theorem p.front ++ rest) said step
+                read = ap (λ (ls : List (Result LineView LineFault)). read_from known last r.draft (ls ++ rest)) (line_kept l p.front bar) ∙ line_read known last r.draft l d (filter is_of_theorem p.front ++ rest) said step
                     ∙ rw not_done (sym (ap (λ (o : Option TheoremParser). read_from known last o (filter is_of_theorem p.front ++ rest)) draft_is) ∙ p.read);
                 same = p.same;
               }

@@ -1,7 +1,7 @@
 -- The garbled line of a text is the first that has no form at its place, and whatever follows it is nothing to it.
 use Rattle.std.proofs.Common.{◌≡◌, ℕ, Bool, true, false, inl, inr, List, [], ◌∷◌, ◌++◌, Option, Some, None, Result, Ok, Err, refl, sym, ap, ◌∙◌}
 use Rattle.std.specs.Prelude.{◌⊎◌}
-use Rattle.e_text.specs.Lines.{Seen, fault_line}
+use Rattle.e_text.specs.Lines.{LineView, fault_line}
 use Rattle.e_text.specs.declared.line.LineFault.{LineFault}
 use Rattle.e_clause.specs.declared.cert.Version.{Version}
 use Rattle.e_names.specs.TitledStatements.{TitledStatement}
@@ -13,7 +13,7 @@ use Rattle.e_read.proofs.Bridge.{Answer}
 use Rattle.e_read.proofs.Pieces.{piece_none, piece_fault, piece_last, piece_garbled, piece_ended, piece_next}
 
 abbrev Rest : Type 0
-Rest = List (Result Seen LineFault)
+Rest = List (Result LineView LineFault)
 
 abbrev wrong : ℕ → Result Answer ℕ
 wrong n = Err n
@@ -21,7 +21,7 @@ wrong n = Err n
 -- the first garbled line from what has come of a block on, and the end of lines that are too few
 record From (known : List TitledStatement) (r : BlockParser) (lines : Rest) (n : ℕ) : Type 0 where
   front : Rest
-  line : Result Seen LineFault
+  line : Result LineView LineFault
   rest : Rest
   all : lines ≡ front ++ line ∷ rest
   before : (last : ℕ) → piece_from known last r front ≡ wrong last
@@ -34,11 +34,11 @@ same_number : (a b : ℕ) → wrong a ≡ wrong b → a ≡ b
 same_number a b e = cc
 
 -- the first line is garbled
-at_once : (known : List TitledStatement) (r : BlockParser) (line : Result Seen LineFault) (rest : Rest) (n : ℕ) → ((last : ℕ) (other : Rest) → piece_from known last r (line ∷ other) ≡ wrong n) → From known r (line ∷ rest) n
+at_once : (known : List TitledStatement) (r : BlockParser) (line : Result LineView LineFault) (rest : Rest) (n : ℕ) → ((last : ℕ) (other : Rest) → piece_from known last r (line ∷ other) ≡ wrong n) → From known r (line ∷ rest) n
 at_once known r line rest n h = record { front = []; line = line; rest = rest; all = refl; before = λ last. piece_none known last r; there = h }
 
 -- one more line before the front
-longer : (known : List TitledStatement) (last : ℕ) (r next : BlockParser) (l : Seen) (ls : Rest) (n : ℕ) → ((end : ℕ) (other : Rest) → piece_from known end r (Ok l ∷ other) ≡ piece_from known end next other)
+longer : (known : List TitledStatement) (last : ℕ) (r next : BlockParser) (l : LineView) (ls : Rest) (n : ℕ) → ((end : ℕ) (other : Rest) → piece_from known end r (Ok l ∷ other) ≡ piece_from known end next other)
     → From known next ls n ⊎ TooSoon known next ls last n → From known r (Ok l ∷ ls) n ⊎ TooSoon known r (Ok l ∷ ls) last n
 longer known last r next l ls n on (inl b) = inl (record {
   front = Ok l ∷ b.front;
@@ -50,7 +50,7 @@ longer known last r next l ls n on (inl b) = inl (record {
 })
 longer known last r next l ls n on (inr t) = inr ((λ end. on end ls ∙ t.0 end), t.1)
 
-not_read : (known : List TitledStatement) (last : ℕ) (r : BlockParser) (l : Seen) (ls : Rest) (n : ℕ) (p : Answer) → piece_from known last r (Ok l ∷ ls) ≡ Ok p → piece_from known last r (Ok l ∷ ls) ≡ wrong n → ⊥
+not_read : (known : List TitledStatement) (last : ℕ) (r : BlockParser) (l : LineView) (ls : Rest) (n : ℕ) (p : Answer) → piece_from known last r (Ok l ∷ ls) ≡ Ok p → piece_from known last r (Ok l ∷ ls) ≡ wrong n → ⊥
 not_read known last r l ls n p e h = no_answer p n (sym e ∙ h)
   where
     read : Answer → Result Answer ℕ
@@ -60,7 +60,7 @@ not_read known last r l ls n p e h = no_answer p n (sym e ∙ h)
     no_answer p n k = absurd cc
 
 -- what a line makes of a block: no form, the end of a theorem, or more, of which this is known
-by_line : (known : List TitledStatement) (last : ℕ) (r : BlockParser) (l : Seen) (ls : Rest) (n : ℕ) → ((next : BlockParser) → piece_from known last next ls ≡ wrong n → From known next ls n ⊎ TooSoon known next ls last n)
+by_line : (known : List TitledStatement) (last : ℕ) (r : BlockParser) (l : LineView) (ls : Rest) (n : ℕ) → ((next : BlockParser) → piece_from known last next ls ≡ wrong n → From known next ls n ⊎ TooSoon known next ls last n)
     → piece_from known last r (Ok l ∷ ls) ≡ wrong n → From known r (Ok l ∷ ls) n ⊎ TooSoon known r (Ok l ∷ ls) last n
 by_line known last r l ls n more e = by_end (is_end known r.draft l) refl
   where

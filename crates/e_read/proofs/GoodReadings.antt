@@ -1,7 +1,7 @@
 -- The certificates of a theorem that is read from a derivation text are of its version, and their literals are well formed.
 use Rattle.std.proofs.Common.{◌≡◌, ℕ, Bool, true, false, cond, inl, inr, List, [], ◌∷◌, ◌++◌, Option, Some, None, Result, Ok, Err, refl, sym, ap, subst, ◌∙◌}
 use Rattle.std.specs.Option.{option_to_list}
-use Rattle.e_text.specs.Lines.{Seen}
+use Rattle.e_text.specs.Lines.{LineView}
 use Rattle.e_text.specs.declared.line.LineFault.{LineFault}
 use Rattle.e_literal.specs.declared.literal.Lit.{Lit}
 use Rattle.e_literal.proofs.Booleans.{all_both}
@@ -87,7 +87,7 @@ module _ (v : Version) where
     kept : AreGood v r.kept
     owed : GoodOwed v r.owed
 
-  taken_good : (known : List TitledStatement) (r next : BlockParser) (l : Seen) → GoodReading r → taken known r l ≡ Ok next → GoodReading next
+  taken_good : (known : List TitledStatement) (r next : BlockParser) (l : LineView) → GoodReading r → taken known r l ≡ Ok next → GoodReading next
   taken_good known r next l h e =
       elim (line_taken known r next l e) [
         | inl c ↦ record {
@@ -115,7 +115,7 @@ module _ (v : Version) where
       by true k = subst (λ (x : TheoremView). has_certs_of v x.script ≡ true) (some_is (derived d kept) t k) (filled_good v (entry_of_draft d).script kept h).0
       by false k = absurd cc
 
-  certs_read : (known : List TitledStatement) (last : ℕ) (r : BlockParser) (lines rest : List (Result Seen LineFault)) (t : TheoremView) → GoodReading r → piece_from known last r lines ≡ derives t rest → has_certs_of v t.script ≡ true
+  certs_read : (known : List TitledStatement) (last : ℕ) (r : BlockParser) (lines rest : List (Result LineView LineFault)) (t : TheoremView) → GoodReading r → piece_from known last r lines ≡ derives t rest → has_certs_of v t.script ≡ true
   unfolding piece_from
   certs_read known last r [] rest t h e = absurd cc
   certs_read known last r (Err f ∷ lines) rest t h e = absurd cc
@@ -137,9 +137,9 @@ module _ (v : Version) where
   start_good = record { version = refl; kept = refl; owed = nothing_good }
 
   -- the certificates of a theorem that is read from its first line on
-  pub version_read : (known : List TitledStatement) (last : ℕ) (lines rest : List (Result Seen LineFault)) (t : TheoremView) → piece_from known last (at_start v) lines ≡ derives t rest → has_certs_of v t.script ≡ true
+  pub version_read : (known : List TitledStatement) (last : ℕ) (lines rest : List (Result LineView LineFault)) (t : TheoremView) → piece_from known last (at_start v) lines ≡ derives t rest → has_certs_of v t.script ≡ true
   version_read known last lines rest t e = certs_read known last (at_start v) lines rest t start_good e
 
   -- so their literals are well formed
-  pub good_certs_read : (known : List TitledStatement) (last : ℕ) (lines rest : List (Result Seen LineFault)) (t : TheoremView) → piece_from known last (at_start v) lines ≡ derives t rest → has_good_certs t.script ≡ true
+  pub good_certs_read : (known : List TitledStatement) (last : ℕ) (lines rest : List (Result LineView LineFault)) (t : TheoremView) → piece_from known last (at_start v) lines ≡ derives t rest → has_good_certs t.script ≡ true
   good_certs_read known last lines rest t e = good_of_version v t.script (version_read known last lines rest t e)

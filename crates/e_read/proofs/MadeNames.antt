@@ -5,7 +5,7 @@ use Rattle.e_literal.specs.declared.object.Sort.{Sort}
 use Rattle.e_literal.specs.declared.object.Sort.TheVariants.{Point, Line, Circle}
 use Rattle.e_literal.specs.declared.object.Obj.{Obj}
 use Rattle.e_literal.specs.declared.literal.Lit.{Lit}
-use Rattle.e_literal.specs.Use.{Stated}
+use Rattle.e_literal.specs.Use.{StatementView}
 use Rattle.e_construct.specs.Construct.{sorts_made, gives_of_construction}
 use Rattle.e_construct.specs.Superposing as superposing
 use Rattle.e_deriv.specs.declared.names.Names.{Names}
@@ -93,7 +93,7 @@ by_shut : (d : TheoremParser) (close : CloseLine) → Same d.names d.made (shut 
 unfolding shut
 by_shut d close = from d (within (d.lines + 1) most_steps limits.Steps) _ (λ few. by_close (record d { lines = d.lines + 1 }) d.outers d.steps close)
 
-by_use : (d : TheoremParser) (t : Stated) (theorem : ℕ) (args : List (Option Obj)) (new : List (List ℕ)) → Same d.names d.made (used_by d t theorem args new)
+by_use : (d : TheoremParser) (t : StatementView) (theorem : ℕ) (args : List (Option Obj)) (new : List (List ℕ)) → Same d.names d.made (used_by d t theorem args new)
 unfolding used_by
 by_use d t theorem args new =
     let after = named d.in_scope t.made new in

@@ -3,7 +3,7 @@ use Rattle.std.proofs.Common.{◌≡◌, ℕ, zero, suc, ◌+◌, ◌≤◌, ◌
 use Rattle.std.specs.List.{list_all}
 use Rattle.std.proofs.lemmas.Bool.{and_parts}
 use Rattle.e_literal.specs.Scopes.{nothing, grown}
-use Rattle.e_literal.specs.Use.{Stated}
+use Rattle.e_literal.specs.Use.{StatementView}
 use Rattle.e_literal.proofs.Growing.{total, total_grown}
 use Rattle.e_clause.specs.declared.cert.Version.{Version}
 use Rattle.e_deriv.specs.Lines.{theorem_at}
@@ -26,7 +26,7 @@ pub start_fits : (v : Version) → FitsReading (at_start v)
 start_fits v = record { draft = tt; names = record { points = omega arith; lines = omega arith; circles = omega arith } }
 
 -- so has each of small statements
-pub few_at : (before : List Stated) (k : ℕ) → list_all is_small_statement before ≡ true → length (theorem_at before k).declared + length (theorem_at before k).made ≤ 3000
+pub few_at : (before : List StatementView) (k : ℕ) → list_all is_small_statement before ≡ true → length (theorem_at before k).declared + length (theorem_at before k).made ≤ 3000
 few_at [] k h = omega arith
 few_at (t ∷ before) zero h = few_objects t (and_parts (is_small_statement t) (list_all is_small_statement before) h).0
 few_at (t ∷ before) (suc k) h = few_at before k (and_parts (is_small_statement t) (list_all is_small_statement before) h).1

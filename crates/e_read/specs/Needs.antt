@@ -3,7 +3,7 @@ use Rattle.std.specs.Prelude.{ℕ, List, [], ◌∷◌, Option, Some, None, Resu
 use Rattle.e_literal.specs.declared.literal.Lit.{Lit}
 use Rattle.e_literal.specs.declared.object.Obj.{Obj}
 use Rattle.e_literal.specs.declared.object.Scope.{Scope}
-use Rattle.e_literal.specs.Use.{Stated, use_of}
+use Rattle.e_literal.specs.Use.{StatementView, use_of}
 use Rattle.e_construct.specs.Construct.{needs_of_construction}
 use Rattle.e_construct.specs.Superposing as superposing
 use Rattle.e_theorem.specs.Statements.{stated}
@@ -51,7 +51,7 @@ abbrev pub one_each : List Lit → Obligation
 one_each wanted = due.Literals wanted [] None
 
 -- the given literals of an earlier theorem at its arguments, none of which is a blank
-abbrev pub needs_in : Scope → Stated → List (Option Obj) → Result (List Lit) FaultKind
+abbrev pub needs_in : Scope → StatementView → List (Option Obj) → Result (List Lit) FaultKind
 needs_in s t pattern = each or_malformed pattern >>= λ args. or_malformed (use_of t args s) >>= λ u. Ok u.needs
 
 unfoldable pub needs_of_use : List TitledStatement → TheoremParser → RawApply → Result (List Lit) FaultKind

@@ -3,7 +3,7 @@ use Rattle.std.specs.Prelude.{◌≡◌, IfSome, IsTrue, ℕ, ◌≤◌, Bool, t
 use Rattle.std.specs.Option.{option_to_list}
 use Rattle.std.specs.Str.{bytes_eq}
 use Rattle.e_text.specs.Tokens.{tokens_of, joined}
-use Rattle.e_text.specs.Lines.{Seen, Ahead, seen, fault_line}
+use Rattle.e_text.specs.Lines.{LineView, Ahead, view_of_line, fault_line}
 use Rattle.e_text.specs.declared.line.Line.{Line}
 use Rattle.e_text.specs.declared.line.LineEnd.{LineEnd}
 use Rattle.e_text.specs.declared.line.LineEnd.TheVariants as ends
@@ -51,7 +51,7 @@ owes_nothing = record { names = no_names; due = due.Nothing; sums = None }
 abbrev pub at_start : Version → BlockParser
 at_start v = record { version = v; draft = None; owed = owes_nothing; kept = [] }
 
--- the certificates are owed that are left behind a line of one
+-- the certificates are owed that are left after a line of one
 unfoldable pub with_cert_line : BlockParser → CertLine → Result BlockParser FaultKind
 with_cert_line r m = after_cert_line r.owed m >>= λ o. Ok (record r { owed = o })
 
@@ -83,7 +83,7 @@ stepped known r line = exact_line line >>= λ f. with_form known r f
 abbrev pub is_bar : List ℕ → Bool
 is_bar word = bytes_eq word (codes "|")
 
--- a line by its words: the sign `|` stands before each line of a certificate
+-- a line by its words: the sign `|` comes before each line of a certificate
 unfoldable pub worded : List TitledStatement → BlockParser → List ℕ → List (List ℕ) → Result BlockParser FaultKind
 worded known r line [] = Err Malformed
 worded known r line (w ∷ ws) = if is_bar w then certified r line ws else stepped known r line
@@ -97,12 +97,12 @@ unfoldable pub spelled : List TitledStatement → BlockParser → List ℕ → R
 spelled known r line = worded known r line (tokens_of line)
 
 -- each line ends with a line feed
-unfoldable pub taken : List TitledStatement → BlockParser → Seen → Result BlockParser FaultKind
+unfoldable pub taken : List TitledStatement → BlockParser → LineView → Result BlockParser FaultKind
 taken known r l = if is_lf_end l.end then spelled known r l.bytes else Err Malformed
 
 -- ---- blocks
 
--- what stands ahead: a theorem with its derivation for its script, or the last line
+-- what comes next: a theorem with its derivation for its script, or the last line
 pub data Piece : Type 0 where
   Derived : (theorem : TheoremView) → Piece
   Last : Piece
@@ -111,7 +111,7 @@ pub data Piece : Type 0 where
 abbrev pub last_line_of : ℕ → List ℕ
 last_line_of n = joined (codes "accepted" ∷ decimal n ∷ [])
 
-abbrev pub is_last_line : List TitledStatement → Seen → Bool
+abbrev pub is_last_line : List TitledStatement → LineView → Bool
 is_last_line known l = if is_lf_end l.end then bytes_eq l.bytes (last_line_of (length known)) else false
 
 -- a theorem with its certificates at their lines
@@ -131,18 +131,18 @@ abbrev pub finished : Option TheoremParser → List StepCerts → Option Theorem
 finished None kept = None
 finished (Some d) kept = if is_done d then Some (derived d kept) else None
 
-abbrev pub or_on : Option TheoremView → List (Result Seen LineFault) → Result (Piece × List (Result Seen LineFault)) ℕ → Result (Piece × List (Result Seen LineFault)) ℕ
+abbrev pub or_on : Option TheoremView → List (Result LineView LineFault) → Result (Piece × List (Result LineView LineFault)) ℕ → Result (Piece × List (Result LineView LineFault)) ℕ
 or_on None lines more = more
 or_on (Some t) lines more = Ok (Derived t, lines)
 
 -- the line is the last one of a text, at the place of a theorem's first line
-abbrev pub is_end : List TitledStatement → Option TheoremParser → Seen → Bool
+abbrev pub is_end : List TitledStatement → Option TheoremParser → LineView → Bool
 is_end known None l = is_last_line known l
 is_end known (Some d) l = false
 
--- the rest of what stands ahead and the lines behind it, or the first line that has no form at its place; last is the number behind
+-- the rest of what comes next and the lines after it, or the first line that is malformed at its place; last is the number after
 -- the last line
-unfoldable pub piece_from : List TitledStatement → ℕ → BlockParser → List (Result Seen LineFault) → Result (Piece × List (Result Seen LineFault)) ℕ
+unfoldable pub piece_from : List TitledStatement → ℕ → BlockParser → List (Result LineView LineFault) → Result (Piece × List (Result LineView LineFault)) ℕ
 piece_from known last r [] = Err last
 piece_from known last r (Err f ∷ lines) = Err (fault_line f)
 piece_from known last r (Ok line ∷ lines) =
@@ -155,24 +155,24 @@ LineReads (Ok u) new read = read ≡ Ok new
 LineReads (Err (faults.Garbled line)) new read = read ≡ Err line
 LineReads (Err faults.NoMemory) new read = Unit {0}
 
--- the next line, or what stands ahead is garbled whatever of a block has come
+-- the next line, or what comes next is garbled whatever of a block has come
 abbrev pub LineIs : Result Line TextFault → Ahead → Ahead → Type 0
-LineIs (Ok line) old new = old.lines ≡ Ok (seen line) ∷ new.lines
+LineIs (Ok line) old new = old.lines ≡ Ok (view_of_line line) ∷ new.lines
 LineIs (Err (faults.Garbled n)) old new = (known : List TitledStatement) (r : BlockParser) → piece_from known (last_line old) r old.lines ≡ Err n
 LineIs (Err faults.NoMemory) old new = ⊥
 
--- what stands ahead, where this line stands before any others and made this of the block, unless memory ran out
-abbrev pub ProgressIs : List TitledStatement → BlockParser → Seen → BlockParser → Result Progress TextFault → Type 0
-ProgressIs known old line new (Ok turns.Last) = (last : ℕ) (rest : List (Result Seen LineFault)) → piece_from known last old (Ok line ∷ rest) ≡ Ok (Last, rest)
+-- what comes next, where this line comes before any others and made this of the block, unless memory ran out
+abbrev pub ProgressIs : List TitledStatement → BlockParser → LineView → BlockParser → Result Progress TextFault → Type 0
+ProgressIs known old line new (Ok turns.Last) = (last : ℕ) (rest : List (Result LineView LineFault)) → piece_from known last old (Ok line ∷ rest) ≡ Ok (Last, rest)
 ProgressIs known old line new (Ok turns.Complete) = IsTrue (is_finished new.draft)
-    × ((t : TheoremView) → finished new.draft new.kept ≡ Some t → (last : ℕ) (rest : List (Result Seen LineFault)) → piece_from known last old (Ok line ∷ rest) ≡ Ok (Derived t, rest))
+    × ((t : TheoremView) → finished new.draft new.kept ≡ Some t → (last : ℕ) (rest : List (Result LineView LineFault)) → piece_from known last old (Ok line ∷ rest) ≡ Ok (Derived t, rest))
 ProgressIs known old line new (Ok turns.Continue) =
-    (last : ℕ) (rest : List (Result Seen LineFault)) → piece_from known last old (Ok line ∷ rest) ≡ piece_from known last new rest
-ProgressIs known old line new (Err (faults.Garbled n)) = (last : ℕ) (rest : List (Result Seen LineFault)) → piece_from known last old (Ok line ∷ rest) ≡ Err n
+    (last : ℕ) (rest : List (Result LineView LineFault)) → piece_from known last old (Ok line ∷ rest) ≡ piece_from known last new rest
+ProgressIs known old line new (Err (faults.Garbled n)) = (last : ℕ) (rest : List (Result LineView LineFault)) → piece_from known last old (Ok line ∷ rest) ≡ Err n
 ProgressIs known old line new (Err faults.NoMemory) = Unit {0}
 
--- what was answered is what stands ahead, unless memory ran out
-abbrev pub TextReads : List TitledStatement → Result PieceRead TextFault → Ahead → Result (Piece × List (Result Seen LineFault)) ℕ → Type 0
+-- what was answered is what comes next, unless memory ran out
+abbrev pub TextReads : List TitledStatement → Result PieceRead TextFault → Ahead → Result (Piece × List (Result LineView LineFault)) ℕ → Type 0
 TextReads known (Ok (read.Theorem t)) new from = from ≡ Ok (Derived (entry_of t), new.lines)
 TextReads known (Ok (read.Last n)) new from = (n ≡ length known) × (from ≡ Ok (Last, new.lines))
 TextReads known (Err (faults.Garbled line)) new from = from ≡ Err line

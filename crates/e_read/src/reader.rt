@@ -1,7 +1,7 @@
 //! Derivation texts, block by block.
 ghost use Rattle.std.specs.Prelude.{◌≡◌, ◌≤◌, ◌<◌, ◌-◌, ◌^◌, length, IfOk, OnOk, OnSome, IsTrue};
 ghost use Rattle.std.specs.List.{list_all};
-ghost use Rattle.e_text.specs.Lines.{seen};
+ghost use Rattle.e_text.specs.Lines.{view_of_line};
 ghost use Rattle.e_theorem.specs.Statements.{stated};
 ghost use Rattle.e_deriv.specs.Script.{script_of};
 ghost use Rattle.e_deriv.specs.Fitting.{is_small_statement};
@@ -88,7 +88,7 @@ fn take_line(
     requires reading { FitsReading reading.old }
     requires few { OnSome reading.old.draft (length known.now ≤ most_theorems) }
     requires known { IsTrue (list_all is_small_statement (stated_by known.now)) }
-    ensures value { LineReads result reading.new (garbled_at line.entry.number (taken known.now reading.old (seen line.entry))) }
+    ensures value { LineReads result reading.new (garbled_at line.entry.number (taken known.now reading.old (view_of_line line.entry))) }
     ensures fits { OnOk result (FitsReading reading.new) }
     ensures few { OnOk result (OnSome reading.new.draft (length known.now ≤ most_theorems)) }
 {
@@ -109,7 +109,7 @@ fn feed(
     requires reading { FitsReading reading.old }
     requires few { OnSome reading.old.draft (length known.now ≤ most_theorems) }
     requires known { IsTrue (list_all is_small_statement (stated_by known.now)) }
-    ensures turn { ProgressIs known.now reading.old (seen line.entry) reading.new result }
+    ensures turn { ProgressIs known.now reading.old (view_of_line line.entry) reading.new result }
     ensures fits { OnOk result (FitsReading reading.new) }
     ensures few { OnOk result (OnSome reading.new.draft (length known.now ≤ most_theorems)) }
 {

@@ -1,7 +1,7 @@
 //! A block of a derivation text while its lines come.
 ghost use Rattle.std.specs.Prelude.{◌≡◌, ◌≤◌, length, IfOk, OnOk, IfSome, OnSome, IsTrue, Some};
 ghost use Rattle.std.specs.List.{list_all};
-ghost use Rattle.e_text.specs.Lines.{seen};
+ghost use Rattle.e_text.specs.Lines.{view_of_line};
 ghost use Rattle.e_text.specs.Tokens.{tokens_of};
 ghost use Rattle.e_deriv.specs.Fitting.{is_small_statement};
 ghost use Rattle.e_line.specs.Limits.{most_theorems};
@@ -313,7 +313,7 @@ impl BlockParser {
         requires reading { FitsReading self.old }
         requires few { OnSome self.old.draft (length known.now ≤ most_theorems) }
         requires known { IsTrue (list_all is_small_statement (stated_by known.now)) }
-        ensures value { Moves result self.new (taken known.now self.old (seen line.entry)) }
+        ensures value { Moves result self.new (taken known.now self.old (view_of_line line.entry)) }
         ensures fits { OnOk result (FitsReading self.new) }
         ensures few { OnOk result (OnSome self.new.draft (length known.now ≤ most_theorems)) }
     {
@@ -330,7 +330,7 @@ impl BlockParser {
         known: &Theorems,
         line: Line<'_>,
     ) -> Result<bool, AllocError>
-        ensures { IfOk result (λ b. b ≡ is_end known.now self.now.draft (seen line.entry)) }
+        ensures { IfOk result (λ b. b ≡ is_end known.now self.now.draft (view_of_line line.entry)) }
     {
         match &self.draft {
             Some(_) => Ok(false),
@@ -379,7 +379,7 @@ fn last_line_of(alloc: Global, theorems: usize) -> Result<Vec<u8>, AllocError>
 
 /// Whether the line is the last one of a text.
 fn is_last_line(alloc: Global, known: &Theorems, line: Line<'_>) -> Result<bool, AllocError>
-    ensures { IfOk result (λ b. b ≡ is_last_line known.now (seen line.entry)) }
+    ensures { IfOk result (λ b. b ≡ is_last_line known.now (view_of_line line.entry)) }
 {
     let last = last_line_of(alloc, known.len())?;
     let is_last = matches!(line.end, LineEnd::Lf) && line.bytes == last.as_slice();

@@ -6,7 +6,7 @@ use Rattle.e_literal.specs.declared.object.Scope.{Scope}
 use Rattle.e_literal.specs.declared.literal.Lit.{Lit}
 use Rattle.e_literal.specs.Literal.{all_in_scope}
 use Rattle.e_literal.specs.Facts.{is_metric, others}
-use Rattle.e_literal.specs.Use.{Stated}
+use Rattle.e_literal.specs.Use.{StatementView}
 use Rattle.e_clause.specs.declared.cert.RowName.{RowName}
 use Rattle.e_clause.specs.declared.cert.RowName.TheVariants.{Fact, Goal, FactAt}
 use Rattle.e_clause.specs.declared.cert.Sums.{Sums}
@@ -86,9 +86,9 @@ formed_beside (Contradiction None) s = false
 formed_beside _ s = true
 
 -- the line fits, and has a certificate of its form for each literal that it needs
-abbrev pub is_formed : List Stated → Line → Bool
+abbrev pub is_formed : List StatementView → Line → Bool
 is_formed before x = fits before x && (certs_formed x.scope (needs before x) (certs_of x.here) && formed_beside x.here x.scope)
 
 -- each line of the derivation does
-abbrev pub Formed : List Stated → Stated → Script → Type 0
+abbrev pub Formed : List StatementView → StatementView → Script → Type 0
 Formed before t d = IsTrue (list_all (is_formed before) (derivation_lines before t d))

@@ -1,9 +1,9 @@
--- What holds between reading, spelling and judging, whatever the code does.
+-- What holds between reading, spelling and verifying, whatever the code does.
 use Rattle.std.specs.Prelude.{◌≡◌, ℕ, IsTrue, List, [], ◌++◌, length, Result, Ok}
 use Rattle.std.specs.List.{list_all}
-use Rattle.e_text.specs.Lines.{Seen, text_of_lines}
+use Rattle.e_text.specs.Lines.{LineView, text_of_lines}
 use Rattle.e_text.specs.declared.line.LineFault.{LineFault}
-use Rattle.e_literal.specs.Use.{Stated}
+use Rattle.e_literal.specs.Use.{StatementView}
 use Rattle.e_clause.specs.declared.cert.Version.{Version}
 use Rattle.e_clause.specs.declared.cert.Version.TheVariants.{One}
 use Rattle.e_theorem.specs.Statements.{stated}
@@ -29,29 +29,29 @@ use Rattle.e_roundtrip.specs.Written.{AllCanBeSpelled, AllCanBeVerified, SpellsP
 
 -- what is read in a version as a theorem with its derivation is spelled so: the lines are exactly those of its one spelling
 abbrev pub ReadIsSpelled : Type 0
-ReadIsSpelled = (v : Version) (known : List TitledStatement) (last : ℕ) (t : TheoremView) (lines rest : List (Result Seen LineFault)) → piece_from known last (at_start v) lines ≡ Ok (Derived t, rest)
+ReadIsSpelled = (v : Version) (known : List TitledStatement) (last : ℕ) (t : TheoremView) (lines rest : List (Result LineView LineFault)) → piece_from known last (at_start v) lines ≡ Ok (Derived t, rest)
     → ShowsEnded lines (spelled_lines known t t.script) rest
 
 -- so their bytes are its one text: no other text is read as the same theorem with the same derivation
 abbrev pub ReadTextIsSpelled : Type 0
-ReadTextIsSpelled = (v : Version) (known : List TitledStatement) (last : ℕ) (t : TheoremView) (lines rest : List (Result Seen LineFault)) → piece_from known last (at_start v) lines ≡ Ok (Derived t, rest)
+ReadTextIsSpelled = (v : Version) (known : List TitledStatement) (last : ℕ) (t : TheoremView) (lines rest : List (Result LineView LineFault)) → piece_from known last (at_start v) lines ≡ Ok (Derived t, rest)
     → text_of_lines lines ≡ spelled known t t.script ++ text_of_lines rest
 
 -- and the derivation can be spelled, by its form: so that form is the form of what is read
 abbrev pub ReadCanBeSpelled : Type 0
-ReadCanBeSpelled = (v : Version) (known : List TitledStatement) (last : ℕ) (t : TheoremView) (lines rest : List (Result Seen LineFault)) → piece_from known last (at_start v) lines ≡ Ok (Derived t, rest)
+ReadCanBeSpelled = (v : Version) (known : List TitledStatement) (last : ℕ) (t : TheoremView) (lines rest : List (Result LineView LineFault)) → piece_from known last (at_start v) lines ≡ Ok (Derived t, rest)
     → CanBeSpelled v known t t.script
 
 -- ---- what is spelled is read
 
 -- a derivation that is certified, and whose certificates name literals that are well formed, has the form
 abbrev pub CertifiedIsFormed : Type 0
-CertifiedIsFormed = (before : List Stated) (t : Stated) (d : Script) → Certified before t d → IsTrue (is_written_well d) → Formed before t d
+CertifiedIsFormed = (before : List StatementView) (t : StatementView) (d : Script) → Certified before t d → IsTrue (is_written_well d) → Formed before t d
 
 -- the lines of a derivation's one spelling, whatever follows them, are read as the theorem with that derivation
 abbrev pub SpelledIsRead : Type 0
 SpelledIsRead =
-    (v : Version) (known : List TitledStatement) (last : ℕ) (t : TheoremView) (d : Script) (lines rest : List (Result Seen LineFault)) → CanBeSpelled v known t d
+    (v : Version) (known : List TitledStatement) (last : ℕ) (t : TheoremView) (d : Script) (lines rest : List (Result LineView LineFault)) → CanBeSpelled v known t d
     → ShowsEnded lines (spelled_lines known t d) rest → piece_from known last (at_start v) lines ≡ Ok (Derived (record t { script = d }), rest)
 
 -- a theorem that can be spelled still can when its blanks are filled: when its script is that of a certified derivation without the
@@ -70,7 +70,7 @@ TrimmedHasSpelling =
 -- ---- what is written is judged
 
 -- what is written of derivations that can be spelled is a derivation text that is judged as their verdicts say: verified, or bad at
--- the first line that is not certified, and never garbled, however long it is
+-- the first step that is not certified, and never garbled, however long it is
 abbrev pub WrittenIsJudged : Type 0
 WrittenIsJudged =
     (v : Version) (ps : List (TheoremView × Script)) → AllCanBeSpelled v [] ps → JudgesText (written v ps) (judgement_of [] ps)

@@ -1,6 +1,6 @@
 -- Lines that show texts, and derivations that lines can spell.
 use Rattle.std.specs.Prelude.{◌≡◌, ℕ, IsTrue, List, [], ◌∷◌, Result, Ok, Err}
-use Rattle.e_text.specs.Lines.{Seen}
+use Rattle.e_text.specs.Lines.{LineView}
 use Rattle.e_text.specs.declared.line.LineEnd.TheVariants.{Lf}
 use Rattle.e_text.specs.declared.line.LineFault.{LineFault}
 use Rattle.e_clause.specs.declared.cert.Version.{Version}
@@ -12,8 +12,8 @@ use Rattle.e_book.specs.TheoremViews.{TheoremView}
 use Rattle.e_book.specs.HasSpelling.{HasSpelling}
 use Rattle.e_roundtrip.specs.Formed.{Formed}
 
--- the lines ahead begin with these texts, whatever their numbers, each ended by a line feed, and the rest follows
-abbrev pub ShowsEnded : List (Result Seen LineFault) → List (List ℕ) → List (Result Seen LineFault) → Type 0
+-- the next lines begin with these texts, whatever their numbers, each ended by a line feed, and the rest follows
+abbrev pub ShowsEnded : List (Result LineView LineFault) → List (List ℕ) → List (Result LineView LineFault) → Type 0
 ShowsEnded lines [] rest = lines ≡ rest
 ShowsEnded [] (text ∷ texts) rest = ⊥
 ShowsEnded (Err f ∷ lines) (text ∷ texts) rest = ⊥

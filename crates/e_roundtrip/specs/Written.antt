@@ -28,18 +28,18 @@ abbrev pub AllCanBeVerified : Version → List TitledStatement → List (Theorem
 AllCanBeVerified v known [] = Unit {0}
 AllCanBeVerified v known (p ∷ ps) = CanBeVerified v known p.0 p.1 × AllCanBeVerified v (with_theorem known p.0) ps
 
--- after the verdict on a derivation: bad at the line that is not certified, or what those behind it are judged
+-- after the verdict on a derivation: bad at the line that is not certified, or what those after it are judged
 abbrev pub judged_after : List ℕ → Result ℕ ℕ → Judgement → Judgement
 judged_after title (Ok n) behind = behind
 judged_after title (Err step) behind = Bad title step
 
--- what they are judged, one after another, up to the first line that is not certified
+-- what they are judged, one after another, up to the first step that is not certified
 abbrev pub judgement_of : List TitledStatement → List (TheoremView × Script) → Judgement
 judgement_of known [] = Verified (length known)
 judgement_of known (p ∷ ps) =
     judged_after p.0.title (verdict (stated_by known) (stated p.0.statement) p.1) (judgement_of (with_theorem known p.0) ps)
 
--- the blocks of derivations, one behind the other
+-- the blocks of derivations, one after the other
 abbrev pub blocks_of : List TitledStatement → List (TheoremView × Script) → List ℕ
 blocks_of known [] = []
 blocks_of known (p ∷ ps) = spelled known p.0 p.1 ++ blocks_of (with_theorem known p.0) ps
@@ -48,7 +48,7 @@ blocks_of known (p ∷ ps) = spelled known p.0 p.1 ++ blocks_of (with_theorem kn
 abbrev pub head_line : Version → List ℕ
 head_line v = head_of v ++ codes "\n"
 
--- the line behind the blocks: how many they are
+-- the line after the blocks: how many they are
 abbrev pub accepted_line : ℕ → List ℕ
 accepted_line n = codes "accepted " ++ (decimal n ++ codes "\n")
 
@@ -61,7 +61,7 @@ abbrev pub AllProved : List TitledStatement → List (TheoremView × Script) →
 AllProved known [] = Unit {0}
 AllProved known (p ∷ ps) = IsProof (stated_by known) (stated p.0.statement) p.1 × AllProved (with_theorem known p.0) ps
 
--- the text is the head line of its version, the spellings of so many theorems, each with a derivation that proves it, and the line with their number
+-- the text is the head line of its version, the spellings of this many theorems, each with a derivation that proves it, and the line with their number
 pub record SpellsProofs (n : ℕ) (text : List ℕ) : Type 0 where
   pub version : Version
   pub theorems : List (TheoremView × Script)

@@ -14,7 +14,7 @@ use Rattle.e_deriv.specs.Lines.{Line, theorem_at}
 use Rattle.e_deriv.specs.Parts.{has_no_blank}
 use Rattle.e_deriv.specs.Steps.{needs_as_written}
 use Rattle.e_theorem.specs.WideChoice.{SomeChoiceIsWide}
-use Rattle.e_literal.specs.Use.{Stated}
+use Rattle.e_literal.specs.Use.{StatementView}
 use Rattle.e_deriv.specs.Refused.{SomeIsWide, IsWideAt, IsTooWide}
 use Rattle.e_names.specs.declared.known.Known.{Known}
 use Rattle.e_names.specs.TitledStatements.{TitledStatement, stated_by}
@@ -48,7 +48,7 @@ pub stops_so : (lines : Rest) (known : Known) (rest : Rest) (title : List ℕ) (
     → Refuses lines title step wanted values names known rest → OutcomeAfter lines (outcome.Unlicensed title step wanted names) known rest
 stops_so lines known rest title step wanted values names r = (r.0, r.1, r.2, stop_of_refusal known.theorems r.0 title step wanted values names r.3)
 
-some_wide : (before : List Stated) (x : Line) (l : Lit) (w : ℕ) → Contains (needs_as_written before x) l × IsTooWideLit x.scope x.facts l w → SomeIsWide before x
+some_wide : (before : List StatementView) (x : Line) (l : Lit) (w : ℕ) → Contains (needs_as_written before x) l × IsTooWideLit x.scope x.facts l w → SomeIsWide before x
 some_wide before x l w h = record { lit = l; is_one = h.0; is_wide = wide_lit x.scope x.facts l w h.1 }
 
 written_wide : (b : Bool) (A B : Type 0) → b ≡ true → A → MatchBool b A B
@@ -60,7 +60,7 @@ blank_wide true A B e h = absurd cc
 blank_wide false A B e h = h
 
 -- a line that is too wide is wide
-pub wide_line : (before : List Stated) (x : Line) (here : Script) (wanted : Wanted) (w : ℕ) → IsTooWide before x here wanted w → IsWideAt before x here
+pub wide_line : (before : List StatementView) (x : Line) (here : Script) (wanted : Wanted) (w : ℕ) → IsTooWide before x here wanted w → IsWideAt before x here
 wide_line before x (Contradiction against) AContradiction w h =
     record { no_clash = h.no_clash; rows = h.rows; is_system = h.is_system; is_wide = h.has_width.is_wide }
 wide_line before x (Contradiction against) (Literal l) w h = absurd h

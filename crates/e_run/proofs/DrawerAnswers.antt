@@ -1,6 +1,6 @@
 -- What is written of a figure text, and which answer it can have.
 use Rattle.std.proofs.Common.{◌≡◌, ◌⊎◌, inl, inr, ℕ, ◌+◌, ◌≤◌, false, true≢false, List, [], length, take, Option, Some, None, Result, Ok, Err, refl, sym, ap, subst, ◌∙◌, arith}
-use Rattle.e_text.specs.Lines.{Seen}
+use Rattle.e_text.specs.Lines.{LineView}
 use Rattle.e_text.specs.declared.line.LineFault.{LineFault}
 use Rattle.e_text.proofs.WholeLines.{lines_of-take}
 use Rattle.e_line.specs.declared.fault.BookFault.{BookFault}
@@ -32,7 +32,7 @@ any_figure None old new answer h = ([], tt, h [])
 any_figure (Some text) old new answer h = (text, refl, h text)
 
 -- what is written of these lines
-abbrev drawn_by : List (Result Seen LineFault) → Result (ℕ × List ℕ) BookFault
+abbrev drawn_by : List (Result LineView LineFault) → Result (ℕ × List ℕ) BookFault
 drawn_by lines = plan_from (1 + length lines) no_plan lines >>= λ p. Ok (length p.shown, answered p)
 
 -- one byte more than may count is enough

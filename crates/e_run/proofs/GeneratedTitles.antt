@@ -12,7 +12,7 @@ use Rattle.std.proofs.Math.Seq.{take-append-add}
 use Rattle.e_text.specs.declared.line.LineEnd.{LineEnd}
 use Rattle.e_text.specs.declared.line.LineEnd.TheVariants.{Lf, CrLf}
 use Rattle.e_text.specs.declared.line.LineFault.{LineFault}
-use Rattle.e_text.specs.Lines.{is_lf, IsOpen, ends_in_cr, Bounds, Spot, Seen, HaveNoFault, ended, closed, lines_of, lines_of_parts}
+use Rattle.e_text.specs.Lines.{is_lf, IsOpen, ends_in_cr, Bounds, Spot, LineView, HaveNoFault, ended, closed, lines_of, lines_of_parts}
 use Rattle.e_text.specs.Names.{is_digit}
 use Rattle.e_text.specs.Numerals.{is_numeral}
 use Rattle.e_text.specs.Tokens.{is_blank, has_bytes, is_token, tokens_of}
@@ -140,13 +140,13 @@ lines_front w at part rest h =
     let split : slice_split is_lf (part ++ 10 ∷ rest) ≡ part ∷ slice_split is_lf rest = slice_split_at is_lf part 10 rest (All-from_recursion (λ b. is_lf b ≡ false) part (feeds_open part h)) refl in
     ap (λ ps. lines_of_parts w at ps) split ∙ split_more w at part more.0 more.1 (slice_split is_lf rest) more.2
 
-titles_by : (r : Result Seen LineFault) (more : Rest) (bytes : List ℕ) (k : ℕ) → ((l : Seen) → r ≡ Ok l → l.bytes ≡ bytes) → one_if (has_title (tokens_of bytes)) ≡ k → HaveNoFault (then_lines r more)
+titles_by : (r : Result LineView LineFault) (more : Rest) (bytes : List ℕ) (k : ℕ) → ((l : LineView) → r ≡ Ok l → l.bytes ≡ bytes) → one_if (has_title (tokens_of bytes)) ≡ k → HaveNoFault (then_lines r more)
     → titles (then_lines r more) ≡ k + titles more
 titles_by (Ok l) more bytes k same c good = ap (λ (x : ℕ). x + titles more) (ap (λ (b : List ℕ). one_if (has_title (tokens_of b))) (same l refl) ∙ c)
 titles_by (Err f) more bytes k same c good = absurd good
 
-closed_bytes : (w : Bounds) (at : Spot) (part : List ℕ) (l : Seen) → closed w at part ≡ Ok l → l.bytes ≡ (ended part []).0
-closed_bytes w at part l e = ap (λ (x : Seen). x.bytes) (sym (seen-checked w at (ended part []).0 (ended part []).1 (at.before + length part + 1) l e))
+closed_bytes : (w : Bounds) (at : Spot) (part : List ℕ) (l : LineView) → closed w at part ≡ Ok l → l.bytes ≡ (ended part []).0
+closed_bytes w at part l e = ap (λ (x : LineView). x.bytes) (sym (seen-checked w at (ended part []).0 (ended part []).1 (at.before + length part + 1) l e))
 
 adds_line : (part : List ℕ) (k : ℕ) → IsOpen part → one_if (has_title (tokens_of (ended part []).0)) ≡ k → Adds k (part ++ 10 ∷ [])
 adds_line part k h c = λ w at rest good.

@@ -16,7 +16,7 @@ use Rattle.e_deriv.specs.declared.names.Names.{Names}
 use Rattle.e_deriv.specs.Lines.{Line, proof_lines}
 use Rattle.e_deriv.specs.Licensed.{IsContext, IsFirstUnlicensed}
 use Rattle.e_deriv.proofs.Stops.{earlier_line, lines_length, one_context, lacks_not, no_stop_of_licensed}
-use Rattle.e_literal.specs.Use.{Stated, scope_of}
+use Rattle.e_literal.specs.Use.{StatementView, scope_of}
 use Rattle.e_deriv.specs.Script.{Script, size}
 use Rattle.e_deriv.specs.Goal.{goal_of_statement, facts_of_statement}
 use Rattle.e_deriv.specs.Fitting.{is_small_statement}
@@ -278,7 +278,7 @@ is_answered known t title step p answer out titled place a lines next = answers_
 -- ---- a book has one way to the step
 
 -- a step before one that is reached is licensed
-not_before : (before : List Stated) (t : Stated) (script : Script) (n m : ℕ) (w : Wanted) (x : Line) → IsFirstUnlicensed before t script n w → IsContext before t script m x → n < m → ⊥
+not_before : (before : List StatementView) (t : StatementView) (script : Script) (n m : ℕ) (w : Wanted) (x : Line) → IsFirstUnlicensed before t script n w → IsContext before t script m x → n < m → ⊥
 not_before before t script n m w x stop d less =
     let c = stop.context in
     let e = earlier_line before (proof_lines before t script d.filled) c.place d.place x (omega (arith, c.number, d.number, less)) (record { at = d.at; earlier = d.earlier }) in
@@ -299,7 +299,7 @@ way_at lines title step (Unlicensed p n wanted names) h = h
 way_at lines title step (Faulty f) h = h
 
 -- a step that the theorem has
-has_step : (before : List Stated) (t : Stated) (script : Script) (n : ℕ) (x : Line) → IsContext before t script n x → n ≤ size script
+has_step : (before : List StatementView) (t : StatementView) (script : Script) (n : ℕ) (x : Line) → IsContext before t script n x → n ≤ size script
 has_step before t script n x c =
     let many = lines_length before script c.filled (scope_of t) (facts_of_statement t) (goal_of_statement t) in omega (arith, many, c.number, at_less _ c.place x c.at)
 

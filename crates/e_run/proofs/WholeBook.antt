@@ -7,7 +7,7 @@ use Rattle.e_text.specs.declared.line.LineEnd.{LineEnd}
 use Rattle.e_text.specs.declared.line.LineEnd.TheVariants.{TextEnd}
 use Rattle.e_text.specs.declared.line.LineFault.{LineFault}
 use Rattle.e_text.specs.Tokens.{tokens_of}
-use Rattle.e_text.specs.Lines.{is_lf, Bounds, Spot, Seen, HaveNoFault, checked, closed, ended, lines_of}
+use Rattle.e_text.specs.Lines.{is_lf, Bounds, Spot, LineView, HaveNoFault, checked, closed, ended, lines_of}
 use Rattle.e_text.proofs.FirstLine.{then_lines}
 use Rattle.e_text.proofs.WholeLines.{lines_of-closed, lines_of-open, spot_behind}
 use Rattle.e_line.specs.declared.fault.BookFault.{BookFault}
@@ -108,7 +108,7 @@ not_passed_alone w at bytes end later far good =
     let test : ltb w.most later ≡ true = lt-ltb _ _ far in
     rw test at good
 
-pub good_rest : (r : Result Seen LineFault) (rest : Rest) → HaveNoFault (then_lines r rest) → HaveNoFault rest
+pub good_rest : (r : Result LineView LineFault) (rest : Rest) → HaveNoFault (then_lines r rest) → HaveNoFault rest
 good_rest (Ok l) rest h = h
 good_rest (Err f) rest h = absurd h
 

@@ -27,7 +27,7 @@ Draws text old new answer = Wrote (FigureAnswer text) old new answer
 abbrev pub DrawsText : Option (List ℕ) → Option (List ℕ) → Option (List ℕ) → Status → Type 0
 DrawsText left old new answer = (text : List ℕ) × IsAllOf left text × Draws text old new answer
 
--- the fault is want of memory, which says nothing of the text
+-- the fault is out of memory, which says nothing of the text
 abbrev pub lacks_memory : BookFault → Bool
 lacks_memory faults.NoMemory = true
 lacks_memory f = false

@@ -83,7 +83,7 @@ bad_line title step = codes "bad " ++ (title ++ (codes " " ++ (decimal step ++ c
 abbrev pub garbled_line : ℕ → List ℕ
 garbled_line line = codes "garbled " ++ (decimal line ++ codes "\n")
 
--- behind the lines of what each of n theorems applies
+-- after the lines of what each of n theorems applies
 abbrev pub listed_line : ℕ → List ℕ
 listed_line n = codes "listed " ++ (decimal n ++ codes "\n")
 

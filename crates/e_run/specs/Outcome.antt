@@ -1,6 +1,6 @@
 -- The outcome of a book: its theorems and definitions are taken one after another, up to the first fault or the first unlicensed line.
 use Rattle.std.specs.Prelude.{◌≡◌, ℕ, ◌+◌, ◌-◌, slice_get, List, [], ◌∷◌, ◌++◌, length, Option, Some, None, Result, Ok, Err}
-use Rattle.e_text.specs.Lines.{Seen, lines_of}
+use Rattle.e_text.specs.Lines.{LineView, lines_of}
 use Rattle.e_text.specs.declared.line.LineFault.{LineFault}
 use Rattle.e_theorem.specs.Statements.{stated}
 use Rattle.e_deriv.specs.declared.stop.Wanted.{Wanted}
@@ -21,7 +21,7 @@ use Rattle.e_book.specs.Definitions.{OfTheorem, OfNotion, item_from}
 
 -- the remaining lines, cut off after the first that has a fault
 abbrev pub Rest : Type 0
-Rest = List (Result Seen LineFault)
+Rest = List (Result LineView LineFault)
 
 -- after a theorem it is known
 abbrev pub with_theorem : List TitledStatement → TheoremView → List TitledStatement

@@ -31,7 +31,7 @@ upgraded_block known t = spelled known t (derivation_with_places (stated_by know
 abbrev pub trimmed_block : List TitledStatement → TheoremView → List ℕ
 trimmed_block known t = spelled known t (trimmed (stated_by known) (stated t.statement) t.script)
 
--- its line: its title, and those of the theorems that its derivation applies, each behind a space
+-- its line: its title, and those of the theorems that its derivation applies, each after a space
 abbrev pub title_word : List TitledStatement → ℕ → List ℕ
 title_word known k = 32 ∷ title_at known k
 
@@ -48,7 +48,7 @@ abbrev pub blocks_of : Job → List TitledStatement → List TheoremView → Lis
 blocks_of job known [] = []
 blocks_of job known (t ∷ ts) = block_of job known t ++ blocks_of job (with_theorem known t) ts
 
--- ---- what stands before and behind
+-- ---- what comes before and after
 
 -- the line that comes before anything is read
 abbrev pub head_of : Job → List ℕ
@@ -95,7 +95,7 @@ read_as Upgrade head = head
 read_as Trim head = only_first head
 read_as Uses head = head
 
--- these theorems come first in lines behind the head of this version, each certified by those before it; then this is known, and these
+-- these theorems come first in lines after the head of this version, each certified by those before it; then this is known, and these
 -- lines are left
 abbrev pub Begins : Version → Rest → List TheoremView → List TitledStatement → Rest → Type 0
 Begins v lines ts known rest = Passes v (2 + length lines) [] lines ts known rest
@@ -135,7 +135,7 @@ pub record RewroteSome (job : Job) (text : List ℕ) (last out : List ℕ) : Typ
   pub bytes : out ≡ written_with job theorems last
 
 -- What is due with each answer. A text that is upgraded, trimmed or listed, each by its command, is verified; what is written of one that
--- is upgraded or trimmed is verified itself. Before the last line stands what is written of all theorems before the place where the text ends. A fault of the
+-- is upgraded or trimmed is verified itself. Before the last line comes what is written of all theorems before the place where the text ends. A fault of the
 -- source comes before anything is judged.
 abbrev pub RewriteAnswer : Job → List ℕ → Status → List ℕ → Type 0
 RewriteAnswer job text (status.Upgraded n) out = (job ≡ Upgrade) × RewroteUpTo job text (judgements.Verified n) out × IsVerifiedText n out

@@ -32,7 +32,7 @@ use Rattle.e_run.specs.Answers.{IsAllOf}
 
 -- ---- the way to the step
 
--- the first theorems of the lines are licensed, with definitions between them and behind them, and no theorem has the title; then this is
+-- the first theorems of the lines are licensed, with definitions between them and after them, and no theorem has the title; then this is
 -- known, and this holds of what is left
 pub record UpTo (lines : Rest) (title : List ℕ) (Holds : Known → Rest → Type 0) : Type 0 where
   pub theorems : List TheoremView

@@ -9,7 +9,7 @@ use Rattle.e_simplex.specs.declared.constraints.Constraint.{Constraint}
 use Rattle.e_simplex.specs.declared.constraints.Sense.{Sense}
 use Rattle.e_simplex.specs.declared.constraints.Sense.TheVariants.{Zero as SenseZero, AtLeast as SenseAtLeast, More as SenseMore}
 
--- where the term stands first, or the length of the list
+-- where the term comes first, or the length of the list
 abbrev pub place_of : List Term → Term → ℕ
 place_of [] t = 0
 place_of (x ∷ xs) t = cond (term_eq t x) 0 (suc (place_of xs t))
@@ -17,11 +17,11 @@ place_of (x ∷ xs) t = cond (term_eq t x) 0 (suc (place_of xs t))
 abbrev pub IsIn : List Term → Term → Type 0
 IsIn ts t = place_of ts t < length ts
 
--- no term stands twice
+-- no term comes twice
 abbrev pub AreOnce : List Term → Type 0
 AreOnce ts = (c : ℕ) → c < length ts → place_of ts (get_or ts c Right) ≡ c
 
--- further terms stand behind the first ones, whose places stay
+-- further terms come after the first ones, whose places stay
 pub record Continues (ts us : List Term) : Type 0 where
   pub longer : length ts ≤ length us
   pub places : (t : Term) → IsIn ts t → place_of us t ≡ place_of ts t

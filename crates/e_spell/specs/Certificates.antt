@@ -37,7 +37,7 @@ row_words ns rows.Above = codes "above" ∷ []
 row_words ns rows.Below = codes "below" ∷ []
 row_words ns (rows.FactAt k) = codes "fact" ∷ decimal k ∷ []
 
--- a row behind its multiplier
+-- a row after its multiplier
 abbrev pub row_line : Names → ℤ × RowName → List (List ℕ)
 row_line ns r = codes "|" ∷ signed_decimal r.0 ∷ row_words ns r.1
 
@@ -47,7 +47,7 @@ row_line ns r = codes "|" ∷ signed_decimal r.0 ∷ row_words ns r.1
 abbrev pub sum_lines : Names → List (ℤ × RowName) → List (List (List ℕ))
 sum_lines ns sum = (codes "|" ∷ codes "sum" ∷ []) ∷ map (row_line ns) sum
 
--- the row that differs stands before its two sums. It is the goal's or a fact's: another one certifies nothing and has no form
+-- the row that differs comes before its two sums. It is the goal's or a fact's: another one certifies nothing and has no form
 -- in a text, and is written as a row all the same
 abbrev pub sums_lines : Names → Sums → List (List (List ℕ))
 sums_lines ns (One sum) = sum_lines ns sum

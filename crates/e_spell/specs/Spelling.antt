@@ -21,8 +21,8 @@ use Rattle.e_book.specs.Canonical.{head_forms, names_of_proof, text_of}
 use Rattle.e_spell.specs.Certificates.{named_term, certs_lines, contradiction_lines}
 
 -- each line of a derivation, and below it one certificate for each literal that it needs, or that of a contradiction, where
--- these theorems are known and these names are in scope before the first: those of new objects come into scope behind the
--- certificates of the line that makes them, and those of an inner block are gone behind it
+-- these theorems are known and these names are in scope before the first: those of new objects come into scope after the
+-- certificates of the line that makes them, and those of an inner block are gone after it
 unfoldable pub script_lines : List TitledStatement → Names → Script → List (List ℕ)
 script_lines known ns (Cite by rest) = line_of (by_form ns by) ∷ script_lines known ns rest
 script_lines known ns (Hence lit cert rest) = line_of (hence_form ns lit) ∷ (certs_lines ns (option_to_list cert) ++ script_lines known ns rest)
@@ -39,7 +39,7 @@ script_lines known ns (Contradiction against) = line_of contradiction_form ∷ c
 script_lines known ns (Cases lit first second) =
     line_of (cases_form ns lit) ∷ (script_lines known ns first ++ line_of else_form ∷ script_lines known ns second)
 
--- the lines of a theorem behind those that are known, with its derivation, in order
+-- the lines of a theorem after those that are known, with its derivation, in order
 abbrev pub spelled_lines : List TitledStatement → TheoremView → Script → List (List ℕ)
 spelled_lines known t d = map line_of (head_forms t) ++ (script_lines known (names_of_proof t) d ++ line_of end_form ∷ [])
 
@@ -86,7 +86,7 @@ too_wide_words title step wanted width ns =
 abbrev pub too_wide_text : List ℕ → ℕ → Wanted → ℕ → Names → List ℕ
 too_wide_text title step wanted width ns = text_of (map joined (too_wide_words title step wanted width ns))
 
--- the last lines of a stop; want of memory has none here
+-- the last lines of a stop; out of memory has none here
 abbrev pub stop_text : List ℕ → Stop → List ℕ
 stop_text title (Unlicensed step wanted values ns) = unlicensed_text title step wanted values ns
 stop_text title (TooWide step wanted width ns) = too_wide_text title step wanted width ns

@@ -3,7 +3,7 @@ use Rattle.std.proofs.Common.{◌≡◌, ℕ, List, [], ◌∷◌, map, length, 
 use Rattle.e_literal.specs.declared.object.Obj.{Obj}
 use Rattle.e_literal.specs.declared.object.Scope.{Scope}
 use Rattle.e_literal.specs.declared.object.Sort.{Sort}
-use Rattle.e_literal.specs.Use.{Stated}
+use Rattle.e_literal.specs.Use.{StatementView}
 use Rattle.e_theorem.specs.Pattern.{are_entries, is_pattern}
 use Rattle.e_licence.specs.Contexts.{Basis}
 use Rattle.e_licence.specs.ChoicesInOrder.{FirstAre}
@@ -23,17 +23,17 @@ so_many : (sorts : List Sort) → replicate (length sorts) blank ≡ map (λ (x 
 so_many [] = refl
 so_many (sort ∷ sorts) = ap (λ (xs : List (Option Obj)). blank ∷ xs) (so_many sorts)
 
-pub blanks_are : (t : Stated) (pattern : List (Option Obj)) (n : ℕ) → n ≡ length t.declared → pattern ≡ replicate n blank → pattern ≡ blanks t
+pub blanks_are : (t : StatementView) (pattern : List (Option Obj)) (n : ℕ) → n ≡ length t.declared → pattern ≡ replicate n blank → pattern ≡ blanks t
 blanks_are t pattern n many is = is ∙ ap (λ k. replicate k blank) many ∙ so_many t.declared
 
-pub blank_pattern : (t : Stated) (s : Scope) (pattern : List (Option Obj)) (n : ℕ) → n ≡ length t.declared → pattern ≡ replicate n blank → is_pattern t s pattern ≡ true
+pub blank_pattern : (t : StatementView) (s : Scope) (pattern : List (Option Obj)) (n : ℕ) → n ≡ length t.declared → pattern ≡ replicate n blank → is_pattern t s pattern ≡ true
 blank_pattern t s pattern n many is = ap (are_entries s t.declared) (blanks_are t pattern n many is) ∙ blank_entries s t.declared
 
 -- the answer of the search is that of the blanks
-pub found_is : (t : Stated) (b : Basis) (pattern : List (Option Obj)) (most : _) (f : FirstChoices) (choices : List (List Obj)) (more : _) → pattern ≡ blanks t → f ≡ first.Found choices more
+pub found_is : (t : StatementView) (b : Basis) (pattern : List (Option Obj)) (most : _) (f : FirstChoices) (choices : List (List Obj)) (more : _) → pattern ≡ blanks t → f ≡ first.Found choices more
     → FirstAre t b pattern most f → SuggestedIs t b most (suggested.Found choices more)
 found_is t b pattern most f choices more is here h = subst (λ (p : List (Option Obj)). FirstAre t b p most (first.Found choices more)) is (subst (λ (x : FirstChoices). FirstAre t b pattern most x) here h)
 
-pub wide_is : (t : Stated) (b : Basis) (pattern : List (Option Obj)) (most : _) (f : FirstChoices) (w : _) → pattern ≡ blanks t → f ≡ first.TooWide w
+pub wide_is : (t : StatementView) (b : Basis) (pattern : List (Option Obj)) (most : _) (f : FirstChoices) (w : _) → pattern ≡ blanks t → f ≡ first.TooWide w
     → FirstAre t b pattern most f → SuggestedIs t b most (suggested.TooWide w)
 wide_is t b pattern most f w is here h = subst (λ (p : List (Option Obj)). FirstAre t b p most (first.TooWide w)) is (subst (λ (x : FirstChoices). FirstAre t b pattern most x) here h)

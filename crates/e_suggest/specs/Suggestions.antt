@@ -3,7 +3,7 @@ use Rattle.std.specs.Prelude.{ℕ, List, map, Bool, Option, None, IsTrue, Contai
 use Rattle.e_literal.specs.declared.object.Obj.{Obj}
 use Rattle.e_literal.specs.declared.object.Scope.{Scope}
 use Rattle.e_literal.specs.declared.literal.Lit.{Lit}
-use Rattle.e_literal.specs.Use.{Stated}
+use Rattle.e_literal.specs.Use.{StatementView}
 use Rattle.e_theorem.specs.Choice.{IsGood}
 use Rattle.e_licence.specs.Contexts.{Basis}
 use Rattle.e_licence.specs.ChoicesInOrder.{is_ascending, AreFirst, AnyChoiceIsTooWide}
@@ -11,23 +11,23 @@ use Rattle.e_suggest.specs.declared.suggestions.Suggested.{Suggested}
 use Rattle.e_suggest.specs.declared.suggestions.Suggested.TheVariants as suggested
 
 -- a blank for each declared object
-abbrev pub blanks : Stated → List (Option Obj)
+abbrev pub blanks : StatementView → List (Option Obj)
 blanks t = map (λ s. None) t.declared
 
 -- the list of all choices of arguments at which each given literal is allowed, each below the next
-pub record AreChoices (t : Stated) (scope : Scope) (facts : List Lit) (list : List (List Obj)) : Type 0 where
+pub record AreChoices (t : StatementView) (scope : Scope) (facts : List Lit) (list : List (List Obj)) : Type 0 where
   pub good : (args : List Obj) → Contains list args → IsGood t scope facts (blanks t) args
   pub ascending : IsTrue (is_ascending list)
   pub all : (args : List Obj) → IsGood t scope facts (blanks t) args → Contains list args
 
 -- the first of them, and whether there are more; a law ties this to the list
-abbrev pub AreFirstChoices : Stated → Scope → List Lit → ℕ → List (List Obj) → Bool → Type 0
+abbrev pub AreFirstChoices : StatementView → Scope → List Lit → ℕ → List (List Obj) → Bool → Type 0
 AreFirstChoices t scope facts most choices more = AreFirst t scope facts (blanks t) most choices more
 
 -- under some choice of arguments a given literal is wide, and w is the width of one of its wide systems
-abbrev pub SomeArgsAreTooWide : Stated → Scope → List Lit → ℕ → Type 0
+abbrev pub SomeArgsAreTooWide : StatementView → Scope → List Lit → ℕ → Type 0
 SomeArgsAreTooWide t scope facts w = AnyChoiceIsTooWide t scope facts (blanks t) w
 
-abbrev pub SuggestedIs : Stated → Basis → ℕ → Suggested → Type 0
+abbrev pub SuggestedIs : StatementView → Basis → ℕ → Suggested → Type 0
 SuggestedIs t b most (suggested.Found choices more) = AreFirstChoices t b.scope b.facts most choices more
 SuggestedIs t b most (suggested.TooWide w) = SomeArgsAreTooWide t b.scope b.facts w

@@ -7,12 +7,12 @@ use Rattle.std.proofs.lemmas.List.Folds.{list_all-append}
 use Rattle.memchr.specs.Find.{is_byte, Passes, Nowhere}
 use Rattle.e_text.specs.declared.line.LineEnd.TheVariants.{TextEnd}
 use Rattle.e_text.specs.declared.line.LineFault.{LineFault}
-use Rattle.e_text.specs.Lines.{is_lf, Bounds, Spot, Seen, HaveNoFault, checked, closed, lines_of, lines_of_parts, IsClosed, IsOpen, then_more}
+use Rattle.e_text.specs.Lines.{is_lf, Bounds, Spot, LineView, HaveNoFault, checked, closed, lines_of, lines_of_parts, IsClosed, IsOpen, then_more}
 use Rattle.e_text.proofs.FirstLine.{then_lines}
 use Rattle.e_text.proofs.Scans.{false_unless_true}
 
 abbrev Rest : Type 0
-Rest = List (Result Seen LineFault)
+Rest = List (Result LineView LineFault)
 
 -- ---- ends of lines
 
@@ -70,12 +70,12 @@ EndsAtFault [] = Unit {0}
 EndsAtFault (Ok l ∷ lines) = EndsAtFault lines
 EndsAtFault (Err f ∷ lines) = lines ≡ []
 
-one_or_none : (b : Bool) (r : Result Seen LineFault) → EndsAtFault (cond b [] (r ∷ []))
+one_or_none : (b : Bool) (r : Result LineView LineFault) → EndsAtFault (cond b [] (r ∷ []))
 one_or_none true r = tt
 one_or_none false (Ok l) = tt
 one_or_none false (Err f) = refl
 
-then_last : (r : Result Seen LineFault) (rest : Rest) → EndsAtFault rest → EndsAtFault (then_lines r rest)
+then_last : (r : Result LineView LineFault) (rest : Rest) → EndsAtFault rest → EndsAtFault (then_lines r rest)
 then_last (Ok l) rest h = h
 then_last (Err f) rest h = refl
 

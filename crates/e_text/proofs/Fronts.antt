@@ -5,12 +5,12 @@ use Rattle.std.proofs.lemmas.Bool.{cases_lt}
 use Rattle.std.proofs.lemmas.Grind.{common_steps}
 use Rattle.std.proofs.lemmas.List.Sums.{position_or_len_is, fails_before_first, passes_at_first}
 use Rattle.e_text.specs.declared.line.LineFault.{LineFault}
-use Rattle.e_text.specs.Lines.{is_lf, Bounds, Spot, Seen, closed, lines_of, IsClosed, then_more, spot_after}
+use Rattle.e_text.specs.Lines.{is_lf, Bounds, Spot, LineView, closed, lines_of, IsClosed, then_more, spot_after}
 use Rattle.e_text.proofs.FirstLine.{then_lines}
 use Rattle.e_text.proofs.WholeLines.{spot_behind, lines_of-closed}
 
 abbrev Rest : Type 0
-Rest = List (Result Seen LineFault)
+Rest = List (Result LineView LineFault)
 
 abbrev spot : ℕ → ℕ → Spot
 spot a b = record { line = a; before = b }
@@ -53,7 +53,7 @@ drop_in_front : (n : ℕ) (xs ys : List ℕ) → n ≤ length xs → drop n (xs 
 drop_in_front n xs ys le = grind (arith, common_steps)
 
 -- a line in front of lines that are known
-by_line : (r : Result Seen LineFault) (w : Bounds) (at next : Spot) (front after more : List ℕ) → next.line ≡ at.line + 1 → next.before + length after ≡ at.before + length front
+by_line : (r : Result LineView LineFault) (w : Bounds) (at next : Spot) (front after more : List ℕ) → next.line ≡ at.line + 1 → next.before + length after ≡ at.before + length front
     → lines_of w at front ≡ then_lines r (lines_of w next after)
     → then_lines r (then_more (lines_of w next after) (lines_of w (spot_after w next after) more)) ≡ then_more (lines_of w at front) (lines_of w (spot_after w at front) more)
 by_line (Ok l) w at next front after more line before e =

@@ -10,7 +10,7 @@ use Rattle.std.proofs.lemmas.List.Sums.{prefix_len_passes, prefix_len_stops, pos
 use Rattle.e_text.specs.declared.line.LineEnd.TheVariants.{TextEnd}
 use Rattle.e_text.specs.declared.line.LineFault.{LineFault}
 use Rattle.e_text.specs.declared.line.LineFault.TheVariants.{Bytes}
-use Rattle.e_text.specs.Lines.{is_lf, Bounds, Spot, Seen, checked, closed, lines_of, lines_of_parts}
+use Rattle.e_text.specs.Lines.{is_lf, Bounds, Spot, LineView, checked, closed, lines_of, lines_of_parts}
 use Rattle.e_text.proofs.FirstLine.{then_lines, split_more, parts_of}
 
 -- no line feed stands before the first
@@ -40,7 +40,7 @@ lines_of-open w at text some le =
     let nonzero : eqb (length text) 0 ≡ false = ne_eqb (length text) 0 (λ z. omega arith) in
     ap (λ ps. lines_of_parts w at ps) none ∙ rw nonzero refl
 
-length-then_lines : (r : Result Seen LineFault) (rest : List (Result Seen LineFault)) → length (then_lines r rest) ≤ length rest + 1
+length-then_lines : (r : Result LineView LineFault) (rest : List (Result LineView LineFault)) → length (then_lines r rest) ≤ length rest + 1
 length-then_lines (Ok l) rest = omega arith
 length-then_lines (Err f) rest = omega arith
 

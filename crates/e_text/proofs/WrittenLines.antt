@@ -9,7 +9,7 @@ use Rattle.std.proofs.lemmas.List.Splits.{slice_split_at}
 use Rattle.std.proofs.lemmas.List.Sums.{split_at_first}
 use Rattle.e_text.specs.declared.line.LineEnd.TheVariants.{Lf, TextEnd}
 use Rattle.e_text.specs.declared.line.LineFault.{LineFault}
-use Rattle.e_text.specs.Lines.{is_lf, is_allowed, ends_in_cr, Bounds, Spot, Seen, checked, closed, ended, lines_of, lines_of_parts, end_bytes, HaveNoFault, AreShort, text_of_lines, lf_text, numbered}
+use Rattle.e_text.specs.Lines.{is_lf, is_allowed, ends_in_cr, Bounds, Spot, LineView, checked, closed, ended, lines_of, lines_of_parts, end_bytes, HaveNoFault, AreShort, text_of_lines, lf_text, numbered}
 use Rattle.e_text.proofs.FirstLine.{then_lines, split_more, parts_of, seen-checked}
 use Rattle.e_text.proofs.WholeLines.{at_lf, spot_behind, lines_of-closed, lines_of-open}
 
@@ -29,18 +29,18 @@ ended_bytes : (part : List ℕ) (t : Bool) → ends_in_cr part ≡ t → (ended 
 ended_bytes part true e = rw e (sym (append_assoc (take (length part - 1) part) (13 ∷ []) (10 ∷ [])) ∙ ap (λ (l : List ℕ). l ++ 10 ∷ []) (cr_part part e))
 ended_bytes part false e = rw e refl
 
-closed_bytes : (w : Bounds) (at : Spot) (part : List ℕ) (l : Seen) → closed w at part ≡ Ok l → l.bytes ++ end_bytes l.end ≡ part ++ 10 ∷ []
+closed_bytes : (w : Bounds) (at : Spot) (part : List ℕ) (l : LineView) → closed w at part ≡ Ok l → l.bytes ++ end_bytes l.end ≡ part ++ 10 ∷ []
 closed_bytes w at part l e =
     let is = seen-checked w at (ended part []).0 (ended part []).1 (at.before + length part + 1) l e in
-    ap (λ (k : Seen). k.bytes ++ end_bytes k.end) (sym is) ∙ ended_bytes part (ends_in_cr part) refl
+    ap (λ (k : LineView). k.bytes ++ end_bytes k.end) (sym is) ∙ ended_bytes part (ends_in_cr part) refl
 
-put_closed : (r : Result Seen LineFault) (rest : List (Result Seen LineFault)) (part after : List ℕ) → ((l : Seen) → r ≡ Ok l → l.bytes ++ end_bytes l.end ≡ part ++ 10 ∷ []) → (HaveNoFault rest → text_of_lines rest ≡ after)
+put_closed : (r : Result LineView LineFault) (rest : List (Result LineView LineFault)) (part after : List ℕ) → ((l : LineView) → r ≡ Ok l → l.bytes ++ end_bytes l.end ≡ part ++ 10 ∷ []) → (HaveNoFault rest → text_of_lines rest ≡ after)
     → HaveNoFault (then_lines r rest) → text_of_lines (then_lines r rest) ≡ part ++ 10 ∷ after
 put_closed (Ok l) rest part after bytes more good =
     ap (λ (t : List ℕ). l.bytes ++ (end_bytes l.end ++ t)) (more good) ∙ sym (append_assoc l.bytes (end_bytes l.end) after) ∙ ap (λ (t : List ℕ). t ++ after) (bytes l refl) ∙ append_assoc part (10 ∷ []) after
 put_closed (Err f) rest part after bytes more good = absurd good
 
-put_open : (r : Result Seen LineFault) (text : List ℕ) → ((l : Seen) → r ≡ Ok l → l.bytes ++ end_bytes l.end ≡ text) → HaveNoFault (r ∷ []) → text_of_lines (r ∷ []) ≡ text
+put_open : (r : Result LineView LineFault) (text : List ℕ) → ((l : LineView) → r ≡ Ok l → l.bytes ++ end_bytes l.end ≡ text) → HaveNoFault (r ∷ []) → text_of_lines (r ∷ []) ≡ text
 put_open (Ok l) text bytes good = ap (λ (t : List ℕ). l.bytes ++ t) (append-nil (end_bytes l.end)) ∙ bytes l refl
 put_open (Err f) text bytes good = absurd good
 
@@ -63,7 +63,7 @@ whole_by_size (suc size) w at (b ∷ bs) le good =
       | inr le' ↦
           let e = lines_of-open w at text (omega arith) le' in
           let good' : HaveNoFault (checked w at text TextEnd (at.before + length text) ∷ []) = subst HaveNoFault e good in
-          ap text_of_lines e ∙ put_open (checked w at text TextEnd (at.before + length text)) text (λ l o. ap (λ (k : Seen). k.bytes ++ end_bytes k.end) (sym (seen-checked w at text TextEnd (at.before + length text) l o)) ∙ append-nil text) good'
+          ap text_of_lines e ∙ put_open (checked w at text TextEnd (at.before + length text)) text (λ l o. ap (λ (k : LineView). k.bytes ++ end_bytes k.end) (sym (seen-checked w at text TextEnd (at.before + length text) l o)) ∙ append-nil text) good'
     ]
 
 -- the lines with their ends, put together, are the text

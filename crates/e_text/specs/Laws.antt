@@ -8,12 +8,12 @@ use Rattle.e_text.specs.Numerals.{number_of}
 abbrev pub LinesMakeTheText : Type 0
 LinesMakeTheText = (w : Bounds) (at : Spot) (text : List ℕ) → HaveNoFault (lines_of w at text) → text_of_lines (lines_of w at text) ≡ text
 
--- lines that are written with a line feed behind each are read as these lines
+-- lines that are written with a line feed after each are read as these lines
 abbrev pub WrittenLinesAreRead : Type 0
 WrittenLinesAreRead = (w : Bounds) (at : Spot) (lines : List (List ℕ)) → AreShort w.longest lines → at.before + length (lf_text lines) ≤ w.most
     → lines_of w at (lf_text lines) ≡ numbered at.line lines
 
--- the lines of a text are known from its bytes up to one behind the last that counts
+-- the lines of a text are known from its bytes up to one after the last that counts
 abbrev pub OneByteMoreIsEnough : Type 0
 OneByteMoreIsEnough = (w : Bounds) (at : Spot) (text : List ℕ) → at.before ≤ w.most → lines_of w at (take (w.most + 1 - at.before) text) ≡ lines_of w at text
 

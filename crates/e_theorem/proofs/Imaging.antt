@@ -14,7 +14,7 @@ use Rattle.e_literal.specs.declared.map.Entry.{Entry}
 use Rattle.e_literal.specs.Literal.{obj, count_of, is_in_scope}
 use Rattle.e_literal.specs.Scopes.{same_sort, nothing, with_one, grown, next_objects, are_of_sorts}
 use Rattle.e_literal.specs.Rename.{same_obj, image_in, paired, renamed}
-use Rattle.e_literal.specs.Use.{Stated, scope_of, nth_of_sort, image, are_arguments}
+use Rattle.e_literal.specs.Use.{StatementView, scope_of, nth_of_sort, image, are_arguments}
 use Rattle.e_literal.proofs.Growing.{grown_bounds, counts_nothing, sorts_next}
 use Rattle.e_literal.proofs.WithImages.{image_in_second}
 use Rattle.e_literal.proofs.Sorts.{same_sort_is, sorts_of_objects}
@@ -157,18 +157,18 @@ paired_behind s b (sort ∷ sorts) (a ∷ args) more behind fit =
 -- ---- the images of a statement's objects
 
 -- the objects of a statement
-abbrev pub sources : Stated → List Obj
+abbrev pub sources : StatementView → List Obj
 sources t = next_objects nothing t.declared ++ next_objects (scope_of t) t.made
 
 -- what stands for them
-abbrev pub targets : Stated → List Obj → Scope → List Obj
+abbrev pub targets : StatementView → List Obj → Scope → List Obj
 targets t args s = args ++ next_objects s t.made
 
-abbrev pub made_image : Stated → Scope → Obj → Option Obj
+abbrev pub made_image : StatementView → Scope → Obj → Option Obj
 made_image t s o =
     cond (nat_lt o.num (count_of (grown (scope_of t) t.made) o.sort)) (Some (obj o.sort (count_of s o.sort + (o.num - count_of (scope_of t) o.sort)))) None
 
-pub imaged : (t : Stated) (args : List Obj) (s : Scope) (o : Obj) → are_arguments t s args ≡ true → image_in (paired (sources t) (targets t args s)) o ≡ image t args s o
+pub imaged : (t : StatementView) (args : List Obj) (s : Scope) (o : Obj) → are_arguments t s args ≡ true → image_in (paired (sources t) (targets t args s)) o ≡ image t args s o
 imaged t args s o fit =
     ap (λ es. image_in es o) (paired_behind s nothing t.declared args (next_objects (scope_of t) t.made) (next_objects s t.made) fit) ∙
     elim (cases_lt o.num (count_of (scope_of t) o.sort)) [
@@ -182,7 +182,7 @@ imaged t args s o fit =
           ∙ sym (ap (λ b. cond b (nth_of_sort o.sort o.num args) (made_image t s o)) (le-ltb o.num (count_of (scope_of t) o.sort) more))
     ]
   where
-    made_part : (t : Stated) (s : Scope) (o : Obj) → count_of (scope_of t) o.sort ≤ o.num → image_in (paired (next_objects (scope_of t) t.made) (next_objects s t.made)) o ≡ made_image t s o
+    made_part : (t : StatementView) (s : Scope) (o : Obj) → count_of (scope_of t) o.sort ≤ o.num → image_in (paired (next_objects (scope_of t) t.made) (next_objects s t.made)) o ≡ made_image t s o
     made_part t s o more =
         elim (cases_lt o.num (count_of (grown (scope_of t) t.made) o.sort)) [
           | inl less ↦ new_there s (scope_of t) t.made o (o.num - count_of (scope_of t) o.sort) (omega (arith, more)) less
@@ -193,7 +193,7 @@ imaged t args s o fit =
 
 -- ---- sorts of the pairs
 
-pub sorts_agree : (t : Stated) (args : List Obj) (s : Scope) → are_arguments t s args ≡ true
+pub sorts_agree : (t : StatementView) (args : List Obj) (s : Scope) → are_arguments t s args ≡ true
     → map (λ (o : Obj). o.sort) (sources t) ≡ map (λ (o : Obj). o.sort) (targets t args s)
 sorts_agree t args s fit =
     map-append (λ (o : Obj). o.sort) (next_objects nothing t.declared) (next_objects (scope_of t) t.made)
@@ -206,7 +206,7 @@ sorts_agree t args s fit =
 pub same_images : (f g : Obj → Option Obj) (ls : List Lit) → ((o : Obj) → f o ≡ g o) → map (renamed f) ls ≡ map (renamed g) ls
 same_images f g ls h = ap (λ (k : Obj → Option Obj). map (renamed k) ls) (λ i o. h o i)
 
-pub at_images : (r : List Lit) (m : List Entry) (ls : List Lit) (t : Stated) (args : List Obj) (s : Scope) (lits : List Lit) → r ≡ map (renamed (image_in m)) ls → ls ≡ lits
+pub at_images : (r : List Lit) (m : List Entry) (ls : List Lit) (t : StatementView) (args : List Obj) (s : Scope) (lits : List Lit) → r ≡ map (renamed (image_in m)) ls → ls ≡ lits
     → ((o : Obj) → image_in m o ≡ image t args s o) → r ≡ map (renamed (image t args s)) lits
 at_images r m ls t args s lits is same h = is ∙ ap (map (renamed (image_in m))) same ∙ same_images (image_in m) (image t args s) lits h
 
@@ -229,11 +229,11 @@ few_circles g ss ms sorts made is one other h =
 
 -- ---- the map of these pairs
 
-pub one_sort : (x y : List Obj) (t : Stated) (args : List Obj) (s : Scope) → x ≡ sources t → y ≡ targets t args s → are_arguments t s args ≡ true
+pub one_sort : (x y : List Obj) (t : StatementView) (args : List Obj) (s : Scope) → x ≡ sources t → y ≡ targets t args s → are_arguments t s args ≡ true
     → map (λ (o : Obj). o.sort) x ≡ map (λ (o : Obj). o.sort) y
 one_sort x y t args s is other fit = rw (is, other) (sorts_agree t args s fit)
 
-pub imaged_by : (m : List Entry) (x y : List Obj) (t : Stated) (args : List Obj) (s : Scope) → m ≡ paired x y → x ≡ sources t → y ≡ targets t args s → are_arguments t s args ≡ true
+pub imaged_by : (m : List Entry) (x y : List Obj) (t : StatementView) (args : List Obj) (s : Scope) → m ≡ paired x y → x ≡ sources t → y ≡ targets t args s → are_arguments t s args ≡ true
     → (o : Obj) → image_in m o ≡ image t args s o
 imaged_by m x y t args s pairs is other fit o = rw (pairs, is, other) (imaged t args s o fit)
 

@@ -12,7 +12,7 @@ use Rattle.e_literal.specs.Literal.{obj, count_of, is_in_scope, objects_of_atom,
 use Rattle.e_literal.specs.WellFormed.{is_well_formed}
 use Rattle.e_literal.specs.Scopes.{same_sort, nothing, with_one, grown, next_objects, are_of_sorts}
 use Rattle.e_literal.specs.Rename.{same_obj, image_in, paired, renamed}
-use Rattle.e_literal.specs.Use.{Stated, scope_of, image, are_arguments, needs_of_use, gives_of_use, nth_of_sort, is_statement}
+use Rattle.e_literal.specs.Use.{StatementView, scope_of, image, are_arguments, needs_of_use, gives_of_use, nth_of_sort, is_statement}
 use Rattle.e_literal.proofs.WithImages.{is_moved_in, renamed_scope, renamed_well_formed}
 use Rattle.e_literal.proofs.Sorts.{same_sort_is}
 use Rattle.e_literal.proofs.Booleans.{and_left, and_right}
@@ -53,7 +53,7 @@ lands s b (sort ∷ sorts) (a ∷ args) o fit more less =
 
 -- ---- the images of declared objects
 
-abbrev pub declared_images : Stated → List Obj → Obj → Option Obj
+abbrev pub declared_images : StatementView → List Obj → Obj → Option Obj
 declared_images t args = image_in (paired (next_objects nothing t.declared) args)
 
 nothing_below : (s : Scope) (x : Sort) (n : ℕ) → count_of nothing x ≤ n
@@ -61,25 +61,25 @@ nothing_below s Point n = omega arith
 nothing_below s Line n = omega arith
 nothing_below s Circle n = omega arith
 
-declared_image : (t : Stated) (args : List Obj) (s : Scope) (o : Obj) → are_arguments t s args ≡ true → is_in_scope (scope_of t) o ≡ true → image t args s o ≡ declared_images t args o
+declared_image : (t : StatementView) (args : List Obj) (s : Scope) (o : Obj) → are_arguments t s args ≡ true → is_in_scope (scope_of t) o ≡ true → image t args s o ≡ declared_images t args o
 declared_image t args s o fit declared =
     sym (imaged t args s o fit)
     ∙ ap (λ es. image_in es o) (paired_behind s nothing t.declared args (next_objects (scope_of t) t.made) (next_objects s t.made) fit)
     ∙ only_first (paired (next_objects nothing t.declared) args) _ o (none_before (scope_of t) t.made (next_objects s t.made) o (ltb-true o.num (count_of (scope_of t) o.sort) declared))
 
 -- a given literal
-abbrev pub is_given : Stated → Lit → Bool
+abbrev pub is_given : StatementView → Lit → Bool
 is_given t l = is_well_formed l && all_in_scope (scope_of t) l
 
-pub given_all : (t : Stated) → is_statement t ≡ true → list_all (is_given t) t.given ≡ true
+pub given_all : (t : StatementView) → is_statement t ≡ true → list_all (is_given t) t.given ≡ true
 given_all t h = and_left (list_all (is_given t) t.given) _ h
 
-one_need : (t : Stated) (args : List Obj) (s : Scope) (l : Lit) → are_arguments t s args ≡ true → is_given t l ≡ true → renamed (image t args s) l ≡ renamed (declared_images t args) l
+one_need : (t : StatementView) (args : List Obj) (s : Scope) (l : Lit) → are_arguments t s args ≡ true → is_given t l ≡ true → renamed (image t args s) l ≡ renamed (declared_images t args) l
 one_need t args s l fit given =
     same_renamed (image t args s) (declared_images t args) (is_in_scope (scope_of t))
     (λ o h. ap (λ v. number_of v o.num) (declared_image t args s o fit h)) l (and_right (is_well_formed l) _ given)
 
-each_need : (t : Stated) (args : List Obj) (s : Scope) (ls : List Lit) → are_arguments t s args ≡ true → list_all (is_given t) ls ≡ true
+each_need : (t : StatementView) (args : List Obj) (s : Scope) (ls : List Lit) → are_arguments t s args ≡ true → list_all (is_given t) ls ≡ true
     → map (renamed (image t args s)) ls ≡ map (renamed (declared_images t args)) ls
 each_need t args s [] fit given = refl
 each_need t args s (l ∷ ls) fit given =
@@ -87,7 +87,7 @@ each_need t args s (l ∷ ls) fit given =
     ∙ ap (λ xs. renamed (declared_images t args) l ∷ xs) (each_need t args s ls fit (and_right (is_given t l) _ given))
 
 -- what a use needs, by the images of the declared objects alone
-pub needs_declared : (t : Stated) (args : List Obj) (s : Scope) → is_statement t ≡ true → are_arguments t s args ≡ true
+pub needs_declared : (t : StatementView) (args : List Obj) (s : Scope) → is_statement t ≡ true → are_arguments t s args ≡ true
     → needs_of_use t args s ≡ map (renamed (declared_images t args)) t.given
 needs_declared t args s states fit = each_need t args s t.given fit (given_all t states)
 
@@ -98,7 +98,7 @@ every p q h [] k = refl
 every p q h (o ∷ os) k =
     ap (λ b. b && list_all q os) (h o (and_left (p o) _ k)) ∙ every p q h os (and_right (p o) _ k)
 
-one_good : (t : Stated) (args : List Obj) (s : Scope) (l : Lit) → are_arguments t s args ≡ true → is_given t l ≡ true → is_well_formed_in s (renamed (declared_images t args) l) ≡ true
+one_good : (t : StatementView) (args : List Obj) (s : Scope) (l : Lit) → are_arguments t s args ≡ true → is_given t l ≡ true → is_well_formed_in s (renamed (declared_images t args) l) ≡ true
 one_good t args s l fit given =
     let f = declared_images t args in
     ap (λ b. b && is_well_formed (renamed f l))
@@ -108,18 +108,18 @@ one_good t args s l fit given =
     (objects_of_atom l.atom) (and_right (is_well_formed l) _ given))
     ∙ renamed_well_formed f l ∙ and_left (is_well_formed l) _ given
 
-each_good : (t : Stated) (args : List Obj) (s : Scope) (ls : List Lit) → are_arguments t s args ≡ true → list_all (is_given t) ls ≡ true
+each_good : (t : StatementView) (args : List Obj) (s : Scope) (ls : List Lit) → are_arguments t s args ≡ true → list_all (is_given t) ls ≡ true
     → are_well_formed_in s (map (renamed (declared_images t args)) ls) ≡ true
 each_good t args s [] fit given = refl
 each_good t args s (l ∷ ls) fit given =
     ap (λ b. b && are_well_formed_in s (map (renamed (declared_images t args)) ls)) (one_good t args s l fit (and_left (is_given t l) _ given))
     ∙ each_good t args s ls fit (and_right (is_given t l) _ given)
 
-pub declared_good : (t : Stated) (args : List Obj) (s : Scope) → is_statement t ≡ true → are_arguments t s args ≡ true
+pub declared_good : (t : StatementView) (args : List Obj) (s : Scope) → is_statement t ≡ true → are_arguments t s args ≡ true
     → are_well_formed_in s (map (renamed (declared_images t args)) t.given) ≡ true
 declared_good t args s states fit = each_good t args s t.given fit (given_all t states)
 
-pub needs_good : (t : Stated) (args : List Obj) (s : Scope) → is_statement t ≡ true → are_arguments t s args ≡ true → are_well_formed_in s (needs_of_use t args s) ≡ true
+pub needs_good : (t : StatementView) (args : List Obj) (s : Scope) → is_statement t ≡ true → are_arguments t s args ≡ true → are_well_formed_in s (needs_of_use t args s) ≡ true
 needs_good t args s states fit = ap (are_well_formed_in s) (needs_declared t args s states fit) ∙ declared_good t args s states fit
 
 -- ---- what a use gives is good too, with the made objects in scope
@@ -128,13 +128,13 @@ same_growth : (s k : Scope) (sorts : List Sort) (x : Sort) → count_of (grown s
 same_growth s k [] x = omega arith
 same_growth s k (sort ∷ sorts) x = omega (arith, same_growth (with_one s sort) (with_one k sort) sorts x, counted s sort x, counted k sort x)
 
-made_is : (t : Stated) (args : List Obj) (s : Scope) (o : Obj) → count_of (scope_of t) o.sort ≤ o.num → is_in_scope (grown (scope_of t) t.made) o ≡ true
+made_is : (t : StatementView) (args : List Obj) (s : Scope) (o : Obj) → count_of (scope_of t) o.sort ≤ o.num → is_in_scope (grown (scope_of t) t.made) o ≡ true
     → image t args s o ≡ Some (obj o.sort (count_of s o.sort + (o.num - count_of (scope_of t) o.sort)))
 made_is t args s o more all =
     ap (λ b. cond b (nth_of_sort o.sort o.num args) (made_image t s o)) (le-ltb o.num (count_of (scope_of t) o.sort) more)
     ∙ ap (λ b. cond b (Some (obj o.sort (count_of s o.sort + (o.num - count_of (scope_of t) o.sort)))) None) all
 
-shown_lands : (t : Stated) (args : List Obj) (s : Scope) (o : Obj) → are_arguments t s args ≡ true → is_in_scope (grown (scope_of t) t.made) o ≡ true
+shown_lands : (t : StatementView) (args : List Obj) (s : Scope) (o : Obj) → are_arguments t s args ≡ true → is_in_scope (grown (scope_of t) t.made) o ≡ true
     → is_moved_in (grown s t.made) (image t args s) o ≡ true
 shown_lands t args s o fit all =
     elim (cases_lt o.num (count_of (scope_of t) o.sort)) [
@@ -149,10 +149,10 @@ shown_lands t args s o fit all =
     ]
 
 -- a shown literal
-abbrev is_shown : Stated → Lit → Bool
+abbrev is_shown : StatementView → Lit → Bool
 is_shown t l = is_well_formed l && all_in_scope (grown (scope_of t) t.made) l
 
-one_gift : (t : Stated) (args : List Obj) (s : Scope) (l : Lit) → are_arguments t s args ≡ true → is_shown t l ≡ true → is_well_formed_in (grown s t.made) (renamed (image t args s) l) ≡ true
+one_gift : (t : StatementView) (args : List Obj) (s : Scope) (l : Lit) → are_arguments t s args ≡ true → is_shown t l ≡ true → is_well_formed_in (grown s t.made) (renamed (image t args s) l) ≡ true
 one_gift t args s l fit shown =
     let f = image t args s in
     ap (λ b. b && is_well_formed (renamed f l))
@@ -161,12 +161,12 @@ one_gift t args s l fit shown =
     (objects_of_atom l.atom) (and_right (is_well_formed l) _ shown))
     ∙ renamed_well_formed f l ∙ and_left (is_well_formed l) _ shown
 
-each_gift : (t : Stated) (args : List Obj) (s : Scope) (ls : List Lit) → are_arguments t s args ≡ true → list_all (is_shown t) ls ≡ true
+each_gift : (t : StatementView) (args : List Obj) (s : Scope) (ls : List Lit) → are_arguments t s args ≡ true → list_all (is_shown t) ls ≡ true
     → are_well_formed_in (grown s t.made) (map (renamed (image t args s)) ls) ≡ true
 each_gift t args s [] fit shown = refl
 each_gift t args s (l ∷ ls) fit shown =
     ap (λ b. b && are_well_formed_in (grown s t.made) (map (renamed (image t args s)) ls)) (one_gift t args s l fit (and_left (is_shown t l) _ shown))
     ∙ each_gift t args s ls fit (and_right (is_shown t l) _ shown)
 
-pub gives_good : (t : Stated) (args : List Obj) (s : Scope) → is_statement t ≡ true → are_arguments t s args ≡ true → are_well_formed_in (grown s t.made) (gives_of_use t args s) ≡ true
+pub gives_good : (t : StatementView) (args : List Obj) (s : Scope) → is_statement t ≡ true → are_arguments t s args ≡ true → are_well_formed_in (grown s t.made) (gives_of_use t args s) ≡ true
 gives_good t args s states fit = each_gift t args s t.shown fit (and_right (list_all (is_given t) t.given) _ states)

@@ -4,7 +4,7 @@ use Rattle.e_literal.specs.declared.object.Obj.{Obj}
 use Rattle.e_literal.specs.declared.object.Scope.{Scope}
 use Rattle.e_literal.specs.declared.literal.Lit.{Lit}
 use Rattle.e_literal.specs.Rename.{same_obj}
-use Rattle.e_literal.specs.Use.{Stated, are_arguments, needs_of_use}
+use Rattle.e_literal.specs.Use.{StatementView, are_arguments, needs_of_use}
 use Rattle.e_clause.specs.Allowed.{AllAllowed}
 
 -- the arguments have an object for each blank, and the written object elsewhere
@@ -15,11 +15,11 @@ fills (Some p ∷ entries) (o ∷ os) = same_obj p o && fills entries os
 fills _ _ = false
 
 -- a choice: arguments of the statement that fill the pattern
-abbrev pub is_choice : Stated → Scope → List (Option Obj) → List Obj → Bool
+abbrev pub is_choice : StatementView → Scope → List (Option Obj) → List Obj → Bool
 is_choice t s pattern args = fills pattern args && are_arguments t s args
 
 -- a good choice: each given literal, renamed, is allowed
-pub record IsGood (t : Stated) (scope : Scope) (facts : List Lit) (pattern : List (Option Obj)) (args : List Obj) : Type 0 where
+pub record IsGood (t : StatementView) (scope : Scope) (facts : List Lit) (pattern : List (Option Obj)) (args : List Obj) : Type 0 where
   pub is_choice : IsTrue (is_choice t scope pattern args)
   pub allowed : AllAllowed scope facts (needs_of_use t args scope)
 
@@ -29,10 +29,10 @@ is_below (a ∷ others) (b ∷ bs) = nat_lt a.num b.num || (a.num == b.num && is
 is_below _ _ = false
 
 -- the least good choice
-pub record IsLeast (t : Stated) (scope : Scope) (facts : List Lit) (pattern : List (Option Obj)) (args : List Obj) : Type 0 where
+pub record IsLeast (t : StatementView) (scope : Scope) (facts : List Lit) (pattern : List (Option Obj)) (args : List Obj) : Type 0 where
   pub good : IsGood t scope facts pattern args
   pub least : (other : List Obj) → IsGood t scope facts pattern other → IsFalse (is_below other args)
 
 -- no choice is good
-abbrev pub NoneIsGood : Stated → Scope → List Lit → List (Option Obj) → Type 0
+abbrev pub NoneIsGood : StatementView → Scope → List Lit → List (Option Obj) → Type 0
 NoneIsGood t scope facts pattern = (args : List Obj) → ¬ IsGood t scope facts pattern args

@@ -10,7 +10,7 @@ use Rattle.e_literal.specs.Scopes.{nothing, grown, next_objects}
 use Rattle.e_literal.specs.Rename.{same_obj}
 use Rattle.e_literal.specs.Facts.{joined_all}
 use Rattle.e_literal.specs.WellFormed.{is_well_formed}
-use Rattle.e_literal.specs.Use.{Stated, scope_of, is_statement, are_arguments, needs_of_use, gives_of_use}
+use Rattle.e_literal.specs.Use.{StatementView, scope_of, is_statement, are_arguments, needs_of_use, gives_of_use}
 use Rattle.e_literal.proofs.Growing.{counts_nothing}
 use Rattle.e_literal.proofs.Sorts.{same_obj_self}
 use Rattle.e_theorem.specs.Choice.{fills, is_choice}
@@ -59,7 +59,7 @@ fills_own (Some o ∷ args) h = and_from (same_obj o o) (fills args (written arg
 
 -- ---- a theorem before is a statement
 
-theorem_states : (before : List Stated) (k : ℕ) → list_all is_statement before ≡ true → is_statement (theorem_at before k) ≡ true
+theorem_states : (before : List StatementView) (k : ℕ) → list_all is_statement before ≡ true → is_statement (theorem_at before k) ≡ true
 theorem_states [] k h = refl
 theorem_states (t ∷ before) zero h = (and_parts (is_statement t) (list_all is_statement before) h).0
 theorem_states (t ∷ before) (suc n) h = theorem_states before n (and_parts (is_statement t) (list_all is_statement before) h).1
@@ -72,14 +72,14 @@ good_scope s (l ∷ ls) h =
     and_from (all_in_scope s l) (list_all (all_in_scope s) ls) q.1 (good_scope s ls p.1)
 
 -- what is given speaks of the declared objects
-declared_vars : (t : Stated) (os : List Obj) → list_all (is_in_scope (scope_of t)) os ≡ true → list_all (is_var (next_objects nothing t.declared)) os ≡ true
+declared_vars : (t : StatementView) (os : List Obj) → list_all (is_in_scope (scope_of t)) os ≡ true → list_all (is_var (next_objects nothing t.declared)) os ≡ true
 declared_vars t [] h = refl
 declared_vars t (o ∷ os) h =
     let p = and_parts (is_in_scope (scope_of t) o) (list_all (is_in_scope (scope_of t)) os) h in
     and_from (is_var (next_objects nothing t.declared) o) (list_all (is_var (next_objects nothing t.declared)) os)
     (next_member nothing t.declared o (omega (arith, counts_nothing o.sort)) (ltb-true o.num (count_of (scope_of t) o.sort) p.0)) (declared_vars t os p.1)
 
-given_speaks : (t : Stated) (ls : List Lit) → list_all (all_in_scope (scope_of t)) ls ≡ true → list_all (speaks_of (next_objects nothing t.declared)) ls ≡ true
+given_speaks : (t : StatementView) (ls : List Lit) → list_all (all_in_scope (scope_of t)) ls ≡ true → list_all (speaks_of (next_objects nothing t.declared)) ls ≡ true
 given_speaks t [] h = refl
 given_speaks t (l ∷ ls) h =
     let p = and_parts (all_in_scope (scope_of t) l) (list_all (all_in_scope (scope_of t)) ls) h in
@@ -87,7 +87,7 @@ given_speaks t (l ∷ ls) h =
 
 -- ---- apply
 
-pub apply_goes : (before : List Stated) → list_all is_statement before ≡ true → (kept : List Obj) (s : Scope) (facts : List Lit) (goal : Goal) (theorem : ℕ) (args : List (Option Obj)) (names : List (List ℕ)) (certs : List Cert) (rest : Script)
+pub apply_goes : (before : List StatementView) → list_all is_statement before ≡ true → (kept : List Obj) (s : Scope) (facts : List Lit) (goal : Goal) (theorem : ℕ) (args : List (Option Obj)) (names : List (List ℕ)) (certs : List Cert) (rest : Script)
     → list_all (is_cert_of version.One) certs ≡ true → is_certified before (line_at (Apply theorem args names certs rest) s facts goal) ≡ true
     → ((more : List Obj) → Goes before more (grown s (theorem_at before theorem).made) (joined_all facts (joins_at before (Apply theorem args names certs rest) s)) goal
     (wants before rest (grown s (theorem_at before theorem).made) (joined_all facts (joins_at before (Apply theorem args names certs rest) s)) goal)
@@ -99,7 +99,7 @@ apply_goes before st kept s facts goal theorem args names certs rest v h more no
     here : Script
     here = Apply theorem args names certs rest
 
-    th : Stated
+    th : StatementView
     th = theorem_at before theorem
 
     os : List Obj

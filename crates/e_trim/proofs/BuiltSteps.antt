@@ -10,7 +10,7 @@ use Rattle.e_literal.specs.declared.literal.Lit.{Lit}
 use Rattle.e_literal.specs.Literal.{negation}
 use Rattle.e_literal.specs.Facts.{joined, joined_all}
 use Rattle.e_literal.specs.Scopes.{grown, next_objects}
-use Rattle.e_literal.specs.Use.{Stated, gives_of_use}
+use Rattle.e_literal.specs.Use.{StatementView, gives_of_use}
 use Rattle.e_literal.proofs.Booleans.{and_left, and_right}
 use Rattle.e_literal.proofs.Growing.{total_grown}
 use Rattle.e_construct.specs.declared.superpose.Superpose.{Superpose}
@@ -72,7 +72,7 @@ none_taken pile left kept e under inner false h =
 -- ---- a step
 
 -- the flags behind a step and its own lie over the others
-over_step : (before : List Stated) (step : Step) (rest : Script) (x : Standing) (goal : Goal) (pile under : List Bool) → pile ≡ under ++ flags_of before (step_script step rest) x.scope x.facts goal
+over_step : (before : List StatementView) (step : Step) (rest : Script) (x : Standing) (goal : Goal) (pile under : List Bool) → pile ≡ under ++ flags_of before (step_script step rest) x.scope x.facts goal
     → pile
     ≡ (under ++ flags_of before rest (passed before (step_script step rest) x).scope (passed before (step_script step rest) x).facts goal)
     ++ flag (is_kept before (step_script step rest) x.scope x.facts (wants before rest (passed before (step_script step rest) x).scope (passed before (step_script step rest) x).facts goal))
@@ -83,11 +83,11 @@ over_step before step rest x goal pile under e =
     ∙ sym (append_assoc under (flags_of before rest after.scope after.facts goal)
     (flag (is_kept before (step_script step rest) x.scope x.facts (wants before rest after.scope after.facts goal)) (step_flags before (step_script step rest) x.scope x.facts)))
 
-abbrev wide : List Stated → Step → Script → Scope → Scope
+abbrev wide : List StatementView → Step → Script → Scope → Scope
 wide before step rest s = grown s (makes_at before (step_script step rest))
 
 -- a dropped step leaves what is built behind it
-pub built_dropped : (before : List Stated) (kept : List Obj) (step : Step) (rest : Script) (s : Scope) (pile popped left : List Bool) (flagged : Bool) (done now : List Step) (close : Close)
+pub built_dropped : (before : List StatementView) (kept : List Obj) (step : Step) (rest : Script) (s : Scope) (pile popped left : List Bool) (flagged : Bool) (done now : List Step) (close : Close)
     → TakesFlag pile popped flagged → flagged ≡ false → IsBuilt before kept rest (wide before step rest s) popped left done now close
     → IsBuilt before kept (step_script step rest) s pile left done now close
 built_dropped before kept step rest s pile popped left flagged done now close takes off built facts goal under e =
@@ -104,7 +104,7 @@ built_dropped before kept step rest s pile popped left flagged done now close ta
     (r.0 ∙ ap (steps_script done) (sym left_is), r.1)
 
 -- a kept one is put before it
-pub built_kept : (before : List Stated) (kept : List Obj) (step : Step) (rest : Script) (s : Scope) (pile popped over left : List Bool) (flagged : Bool) (done now : List Step) (new : Step) (close : Close)
+pub built_kept : (before : List StatementView) (kept : List Obj) (step : Step) (rest : Script) (s : Scope) (pile popped over left : List Bool) (flagged : Bool) (done now : List Step) (new : Step) (close : Close)
     → TakesFlag pile popped flagged → flagged ≡ true → StepIsBuilt before kept step s popped over new
     → IsBuilt before (kept ++ next_objects s (makes_at before (step_script step rest))) rest (wide before step rest s) over left (done ++ new ∷ []) now close
     → IsBuilt before kept (step_script step rest) s pile left done now close
@@ -124,27 +124,27 @@ built_kept before kept step rest s pile popped over left flagged done now new cl
     (r.0 ∙ steps_script-append done (new ∷ []) more ∙ ap (steps_script done) (w.0 ∙ sym left_is), r.1)
 
 -- behind the last step stands the close
-pub built_close : (before : List Stated) (kept : List Obj) (d : Script) (s : Scope) (pile left : List Bool) (done : List Step) (close : Close)
+pub built_close : (before : List StatementView) (kept : List Obj) (d : Script) (s : Scope) (pile left : List Bool) (done : List Step) (close : Close)
     → CloseIsBuilt before kept d s pile left close → IsBuilt before kept d s pile left done done close
 built_close before kept d s pile left done close built facts goal under e = let r = built facts goal under e in (ap (steps_script done) r.0, r.1)
 
 -- a block is built of its steps and its close
-pub built_block : (before : List Stated) (kept : List Obj) (d : Script) (s : Scope) (pile left : List Bool) (block : Block)
+pub built_block : (before : List StatementView) (kept : List Obj) (d : Script) (s : Scope) (pile left : List Bool) (block : Block)
     → IsBuilt before kept d s pile left [] block.steps.items block.close → BlockIsBuilt before kept d s pile left block
 built_block before kept d s pile left block built = built
 
 -- ---- small scopes
 
-pub small_rest : (before : List Stated) (step : Step) (rest : Script) (s : Scope) → AreSmall before (step_script step rest) s → AreSmall before rest (wide before step rest s)
+pub small_rest : (before : List StatementView) (step : Step) (rest : Script) (s : Scope) → AreSmall before (step_script step rest) s → AreSmall before rest (wide before step rest s)
 small_rest before step rest s r =
     let x : Standing = record { scope = s; facts = r.facts } in
     record { facts = (passed before (step_script step rest) x).facts; goal = r.goal; small = (all_parts (λ y. is_small y.scope) before step rest x r.goal r.small).2 }
 
-pub small_here : (before : List Stated) (step : Step) (rest : Script) (s : Scope) → AreSmall before (step_script step rest) s → is_small s ≡ true
+pub small_here : (before : List StatementView) (step : Step) (rest : Script) (s : Scope) → AreSmall before (step_script step rest) s → is_small s ≡ true
 small_here before step rest s r =
     let x : Standing = record { scope = s; facts = r.facts } in (all_parts (λ y. is_small y.scope) before step rest x r.goal r.small).0
 
-pub small_claim : (before : List Stated) (shown : List Lit) (inner : Box Block Global) (s : Scope) → IsSmallStep before (ClaimBlock shown inner) s → AreSmall before (script_of inner.value) s
+pub small_claim : (before : List StatementView) (shown : List Lit) (inner : Box Block Global) (s : Scope) → IsSmallStep before (ClaimBlock shown inner) s → AreSmall before (script_of inner.value) s
 small_claim before shown inner s r =
     let x : Standing = record { scope = s; facts = r.small.facts } in
     let e = step_script-Claim shown inner r.rest in
@@ -154,7 +154,7 @@ small_claim before shown inner s r =
       small = subst (λ d. inner_test (λ y. is_small y.scope) before d s r.small.facts ≡ true) e (all_parts (λ y. is_small y.scope) before (ClaimBlock shown inner) r.rest x r.small.goal r.small.small).1;
     }
 
-pub small_superposed : (before : List Stated) (form : Superpose) (names : List (List ℕ)) (shown : List Lit) (certs : List Cert) (inner : Box Block Global) (s : Scope) → IsSmallStep before (SuperposedBlock form names shown certs inner) s
+pub small_superposed : (before : List StatementView) (form : Superpose) (names : List (List ℕ)) (shown : List Lit) (certs : List Cert) (inner : Box Block Global) (s : Scope) → IsSmallStep before (SuperposedBlock form names shown certs inner) s
     → AreSmall before (script_of inner.value) (grown s superposing.sorts_copied)
 small_superposed before form names shown certs inner s r =
     let x : Standing = record { scope = s; facts = r.small.facts } in
@@ -166,17 +166,17 @@ small_superposed before form names shown certs inner s r =
       small = subst (λ d. inner_test (λ y. is_small y.scope) before d s r.small.facts ≡ true) e (all_parts (λ y. is_small y.scope) before step r.rest x r.small.goal r.small.small).1;
     }
 
-pub small_cases : (before : List Stated) (lit : Lit) (first second : Box Block Global) (s : Scope) → AreSmall before (close_script (CasesBlock lit first second)) s
+pub small_cases : (before : List StatementView) (lit : Lit) (first second : Box Block Global) (s : Scope) → AreSmall before (close_script (CasesBlock lit first second)) s
     → (is_small s ≡ true) × AreSmall before (script_of first.value) s × AreSmall before (script_of second.value) s
 small_cases before lit first second s r =
     let p = cases_parts (λ y. is_small y.scope) before lit first second s r.facts r.goal r.small in
     (p.0, record { facts = joined r.facts lit; goal = r.goal; small = p.1 }, record { facts = joined r.facts (negation lit); goal = r.goal; small = p.2 })
 
-pub small_step : (before : List Stated) (step : Step) (s : Scope) → IsSmallStep before step s → is_small s ≡ true
+pub small_step : (before : List StatementView) (step : Step) (s : Scope) → IsSmallStep before step s → is_small s ≡ true
 small_step before step s r = small_here before step r.rest s r.small
 
 -- before any script
-first_small : (d : Script) (s : Scope) (before : List Stated) (facts : List Lit) (goal : Goal) → list_all (λ (y : Line). is_small y.scope) (lines before d d s facts goal) ≡ true → is_small s ≡ true
+first_small : (d : Script) (s : Scope) (before : List StatementView) (facts : List Lit) (goal : Goal) → list_all (λ (y : Line). is_small y.scope) (lines before d d s facts goal) ≡ true → is_small s ≡ true
 unfolding lines
 first_small (Cite x rest) s before facts goal h = (and_parts (is_small s) (list_all (λ (y : Line). is_small y.scope) (lines before rest rest s (joined facts x.lit) goal)) h).0
 first_small (Hence lit cert rest) s before facts goal h = (and_parts (is_small s) (list_all (λ (y : Line). is_small y.scope) (lines before rest rest s (joined facts lit) goal)) h).0
@@ -193,18 +193,18 @@ first_small (Contradiction against) s before facts goal h = (and_parts (is_small
 first_small (Cases lit first second) s before facts goal h =
     (and_parts (is_small s) (list_all (λ (y : Line). is_small y.scope) (lines before first first s (joined facts lit) goal ++ lines before second second s (joined facts (negation lit)) goal)) h).0
 
-pub small_first : (before : List Stated) (d : Script) (s : Scope) → AreSmall before d s → is_small s ≡ true
+pub small_first : (before : List StatementView) (d : Script) (s : Scope) → AreSmall before d s → is_small s ≡ true
 small_first before d s r = first_small d s before r.facts r.goal r.small
 
 -- ---- few objects
 
-small_among : (before : List Stated) (k : ℕ) → list_all is_small_statement before ≡ true → length (theorem_at before k).made ≤ 3000
+small_among : (before : List StatementView) (k : ℕ) → list_all is_small_statement before ≡ true → length (theorem_at before k).made ≤ 3000
 small_among [] k h = omega arith
 small_among (t ∷ ts) zero h = let n = few_objects t (and_left (is_small_statement t) (list_all is_small_statement ts) h) in omega (arith, n)
 small_among (t ∷ ts) (suc k) h = small_among ts k (and_right (is_small_statement t) (list_all is_small_statement ts) h)
 
 -- a step makes at most 3,000 objects
-pub few_makes : (before : List Stated) (step : Step) (rest : Script) → list_all is_small_statement before ≡ true → length (makes_at before (step_script step rest)) ≤ 3000
+pub few_makes : (before : List StatementView) (step : Step) (rest : Script) → list_all is_small_statement before ≡ true → length (makes_at before (step_script step rest)) ≤ 3000
 unfolding step_script
 few_makes before (CiteStep by) rest h = omega arith
 few_makes before (HenceStep lit cert) rest h = omega arith

@@ -6,7 +6,7 @@ use Rattle.e_literal.specs.declared.object.Obj.{Obj}
 use Rattle.e_literal.specs.declared.object.Scope.{Scope}
 use Rattle.e_literal.specs.declared.object.Sort.{Sort}
 use Rattle.e_literal.specs.Scopes.{grown, next_objects}
-use Rattle.e_literal.specs.Use.{Stated}
+use Rattle.e_literal.specs.Use.{StatementView}
 use Rattle.e_deriv.specs.declared.block.Close.{Close}
 use Rattle.e_deriv.specs.declared.block.Step.{Step}
 use Rattle.e_deriv.specs.Script.{Script, step_script, steps_script}
@@ -38,32 +38,32 @@ whole_is steps head close h is = ap (λ xs. steps_script xs close) (sym (first_o
 
 -- ---- what is built
 
-pub record Begun (before : List Stated) (steps : List Step) (head : Step) (sorts : List Sort) (s : Scope) (close : Script) : Type 0 where
+pub record Begun (before : List StatementView) (steps : List Step) (head : Step) (sorts : List Sort) (s : Scope) (close : Script) : Type 0 where
   pub some : 0 < length steps
   pub first : head ≡ get_or steps 0 head
   pub makes : (rest : Script) → sorts ≡ makes_at before (step_script head rest)
   pub statements : list_all is_small_statement before ≡ true
   pub scopes : AreSmall before (steps_script steps close) s
 
-begun_scopes : (before : List Stated) (steps : List Step) (head : Step) (sorts : List Sort) (s : Scope) (close : Script) → Begun before steps head sorts s close → AreSmall before (step_script head (steps_script (behind steps) close)) s
+begun_scopes : (before : List StatementView) (steps : List Step) (head : Step) (sorts : List Sort) (s : Scope) (close : Script) → Begun before steps head sorts s close → AreSmall before (step_script head (steps_script (behind steps) close)) s
 begun_scopes before steps head sorts s close b = subst (λ d. AreSmall before d s) (whole_is steps head close b.some b.first) b.scopes
 
-pub begun_small : (before : List Stated) (steps : List Step) (head : Step) (sorts : List Sort) (s : Scope) (close : Script) → Begun before steps head sorts s close → is_small s ≡ true
+pub begun_small : (before : List StatementView) (steps : List Step) (head : Step) (sorts : List Sort) (s : Scope) (close : Script) → Begun before steps head sorts s close → is_small s ≡ true
 begun_small before steps head sorts s close b = small_here before head (steps_script (behind steps) close) s (begun_scopes before steps head sorts s close b)
 
-pub begun_few : (before : List Stated) (steps : List Step) (head : Step) (sorts : List Sort) (s : Scope) (close : Script) → Begun before steps head sorts s close → length sorts < 2 ^ 15
+pub begun_few : (before : List StatementView) (steps : List Step) (head : Step) (sorts : List Sort) (s : Scope) (close : Script) → Begun before steps head sorts s close → length sorts < 2 ^ 15
 begun_few before steps head sorts s close b =
     let e = ap length (b.makes close) in let n = few_makes before head close b.statements in omega (arith, e, n)
 
-pub begun_room : (before : List Stated) (steps : List Step) (head : Step) (sorts : List Sort) (s : Scope) (close : Script) → Begun before steps head sorts s close
+pub begun_room : (before : List StatementView) (steps : List Step) (head : Step) (sorts : List Sort) (s : Scope) (close : Script) → Begun before steps head sorts s close
     → (s.points + length sorts < 2 ^ 16) × (s.lines + length sorts < 2 ^ 16) × (s.circles + length sorts < 2 ^ 16)
 begun_room before steps head sorts s close b = room s (length sorts) (begun_small before steps head sorts s close b) (begun_few before steps head sorts s close b)
 
-pub begun_step : (before : List Stated) (steps : List Step) (head : Step) (sorts : List Sort) (s : Scope) (close : Script) → Begun before steps head sorts s close → IsSmallStep before head s
+pub begun_step : (before : List StatementView) (steps : List Step) (head : Step) (sorts : List Sort) (s : Scope) (close : Script) → Begun before steps head sorts s close → IsSmallStep before head s
 begun_step before steps head sorts s close b = record { rest = steps_script (behind steps) close; small = begun_scopes before steps head sorts s close b }
 
 -- the scopes behind the first step
-pub begun_rest : (before : List Stated) (steps : List Step) (head : Step) (sorts : List Sort) (s after : Scope) (close : Script) → Begun before steps head sorts s close → after ≡ grown s sorts → AreSmall before (steps_script (behind steps) close) after
+pub begun_rest : (before : List StatementView) (steps : List Step) (head : Step) (sorts : List Sort) (s after : Scope) (close : Script) → Begun before steps head sorts s close → after ≡ grown s sorts → AreSmall before (steps_script (behind steps) close) after
 begun_rest before steps head sorts s after close b e =
     let rest = steps_script (behind steps) close in
     subst (AreSmall before rest) (ap (grown s) (sym (b.makes rest)) ∙ sym e) (small_rest before head rest s (begun_scopes before steps head sorts s close b))
@@ -74,7 +74,7 @@ wide_few s after sorts kept e k = subst (λ x. FewKept x kept) (sym e) (few_wide
 pub more_few : (s after : Scope) (sorts : List Sort) (kept more : List Obj) → after ≡ grown s sorts → more ≡ kept ++ next_objects s sorts → FewKept s kept → FewKept after more
 more_few s after sorts kept more e f k = subst (FewKept after) (sym f) (subst (λ x. FewKept x (kept ++ next_objects s sorts)) (sym e) (few_more s sorts kept k))
 
-pub dropped_whole : (before : List Stated) (kept : List Obj) (steps : List Step) (head : Step) (sorts : List Sort) (s after : Scope) (close : Script) (pile popped left : List Bool) (flagged : Bool) (done now : List Step) (new : Close)
+pub dropped_whole : (before : List StatementView) (kept : List Obj) (steps : List Step) (head : Step) (sorts : List Sort) (s after : Scope) (close : Script) (pile popped left : List Bool) (flagged : Bool) (done now : List Step) (new : Close)
     → Begun before steps head sorts s close → after ≡ grown s sorts → TakesFlag pile popped flagged → flagged ≡ false → IsBuilt before kept (steps_script (behind steps) close) after popped left done now new
     → IsBuilt before kept (steps_script steps close) s pile left done now new
 dropped_whole before kept steps head sorts s after close pile popped left flagged done now new b e takes off built =
@@ -82,7 +82,7 @@ dropped_whole before kept steps head sorts s after close pile popped left flagge
     let at = subst (λ x. IsBuilt before kept rest x popped left done now new) (e ∙ ap (grown s) (b.makes rest)) built in
     subst (λ d. IsBuilt before kept d s pile left done now new) (sym (whole_is steps head close b.some b.first)) (built_dropped before kept head rest s pile popped left flagged done now new takes off at)
 
-pub kept_whole : (before : List Stated) (kept more : List Obj) (steps : List Step) (head : Step) (sorts : List Sort) (s after : Scope) (close : Script) (pile popped over left : List Bool) (flagged : Bool) (done put now : List Step) (step : Step) (new : Close)
+pub kept_whole : (before : List StatementView) (kept more : List Obj) (steps : List Step) (head : Step) (sorts : List Sort) (s after : Scope) (close : Script) (pile popped over left : List Bool) (flagged : Bool) (done put now : List Step) (step : Step) (new : Close)
     → Begun before steps head sorts s close → after ≡ grown s sorts → more ≡ kept ++ next_objects s sorts → put ≡ done ++ step ∷ [] → TakesFlag pile popped flagged → flagged ≡ true → StepIsBuilt before kept head s popped over step
     → IsBuilt before more (steps_script (behind steps) close) after over left put now new
     → IsBuilt before kept (steps_script steps close) s pile left done now new

@@ -20,7 +20,7 @@ use Rattle.e_literal.specs.declared.literal.Lit.{Lit}
 use Rattle.e_literal.specs.Literal.{obj, count_of, is_in_scope, objects_of_atom, all_in_scope}
 use Rattle.e_literal.specs.Scopes.{same_sort, nothing, with_one, grown, next_objects, are_of_sorts}
 use Rattle.e_literal.specs.Rename.{renamed, term_at, mono_at, atom_at, number_at, same_obj, image_in, paired, has_images}
-use Rattle.e_literal.specs.Use.{Stated, scope_of, image, are_arguments}
+use Rattle.e_literal.specs.Use.{StatementView, scope_of, image, are_arguments}
 use Rattle.e_literal.proofs.Sorts.{same_sort_is, same_obj_is}
 use Rattle.e_construct.specs.declared.construction.Construction.{Construction}
 use Rattle.e_construct.specs.declared.construction.Shape.{Shape}
@@ -354,10 +354,10 @@ superposition_gives kept s x b k h =
 -- ---- uses
 
 -- the images of a use are pairs
-pub use_pairs : (t : Stated) (args : List Obj) (s : Scope) (ls : List Lit) → are_arguments t s args ≡ true → map (renamed (image t args s)) ls ≡ map (renamed (image_in (paired (sources t) (targets t args s)))) ls
+pub use_pairs : (t : StatementView) (args : List Obj) (s : Scope) (ls : List Lit) → are_arguments t s args ≡ true → map (renamed (image t args s)) ls ≡ map (renamed (image_in (paired (sources t) (targets t args s)))) ls
 use_pairs t args s ls h = same_images (image t args s) (image_in (paired (sources t) (targets t args s))) ls (λ o. sym (imaged t args s o h))
 
-pub map_targets : (kept : List Obj) (t : Stated) (args : List Obj) (s : Scope) → Bound s kept → AllKept kept args
+pub map_targets : (kept : List Obj) (t : StatementView) (args : List Obj) (s : Scope) → Bound s kept → AllKept kept args
     → map (obj_at (kept ++ next_objects s t.made)) (targets t args s) ≡ targets t (map (obj_at kept) args) (scope_kept kept)
 map_targets kept t args s b k =
     map-append (obj_at (kept ++ next_objects s t.made)) args (next_objects s t.made)
@@ -393,7 +393,7 @@ any_right : (p : Obj → Bool) (xs ys : List Obj) → list_any p ys ≡ true →
 any_right p xs ys h = list_any-append p xs ys ∙ or_right (list_any p xs) (list_any p ys) h
 
 -- the objects of a statement are its sources
-source_of : (t : Stated) (o : Obj) → is_in_scope (grown (scope_of t) t.made) o ≡ true → is_var (sources t) o ≡ true
+source_of : (t : StatementView) (o : Obj) → is_in_scope (grown (scope_of t) t.made) o ≡ true → is_var (sources t) o ≡ true
 source_of t o h = elim (cases_lt o.num (count_of (scope_of t) o.sort)) [
   | inl l ↦ any_left (λ v. same_obj v o) (next_objects nothing t.declared) (next_objects (scope_of t) t.made) (next_member nothing t.declared o (no_less o) l)
   | inr l ↦ any_right (λ v. same_obj v o) (next_objects nothing t.declared) (next_objects (scope_of t) t.made) (next_member (scope_of t) t.made o l (ltb-true o.num (count_of (grown (scope_of t) t.made) o.sort) h))
@@ -402,24 +402,24 @@ source_of t o h = elim (cases_lt o.num (count_of (scope_of t) o.sort)) [
     no_less : (o : Obj) → count_of nothing o.sort ≤ o.num
     no_less o = omega (arith, counts_nothing o.sort)
 
-sources_all : (t : Stated) (os : List Obj) → list_all (is_in_scope (grown (scope_of t) t.made)) os ≡ true → list_all (is_var (sources t)) os ≡ true
+sources_all : (t : StatementView) (os : List Obj) → list_all (is_in_scope (grown (scope_of t) t.made)) os ≡ true → list_all (is_var (sources t)) os ≡ true
 sources_all t [] h = refl
 sources_all t (o ∷ os) h =
     let p = and_parts (is_in_scope (grown (scope_of t) t.made) o) (list_all (is_in_scope (grown (scope_of t) t.made)) os) h in
     and_from (is_var (sources t) o) (list_all (is_var (sources t)) os) (source_of t o p.0) (sources_all t os p.1)
 
-pub speak_all : (t : Stated) (ls : List Lit) → list_all (all_in_scope (grown (scope_of t) t.made)) ls ≡ true → list_all (speaks_of (sources t)) ls ≡ true
+pub speak_all : (t : StatementView) (ls : List Lit) → list_all (all_in_scope (grown (scope_of t) t.made)) ls ≡ true → list_all (speaks_of (sources t)) ls ≡ true
 speak_all t [] h = refl
 speak_all t (l ∷ ls) h =
     let p = and_parts (all_in_scope (grown (scope_of t) t.made) l) (list_all (all_in_scope (grown (scope_of t) t.made)) ls) h in
     and_from (speaks_of (sources t) l) (list_all (speaks_of (sources t)) ls) (sources_all t (objects_of_atom l.atom) p.0) (speak_all t ls p.1)
 
 -- the arguments still fit
-pub arguments_at : (kept : List Obj) (t : Stated) (s : Scope) (args : List Obj) → are_arguments t s args ≡ true → AllKept kept args → are_arguments t (scope_kept kept) (map (obj_at kept) args) ≡ true
+pub arguments_at : (kept : List Obj) (t : StatementView) (s : Scope) (args : List Obj) → are_arguments t s args ≡ true → AllKept kept args → are_arguments t (scope_kept kept) (map (obj_at kept) args) ≡ true
 arguments_at kept t s args h k = of_sorts_at kept s t.declared args h k
 
 -- literals of a statement at a use, over the kept objects and the new ones
-pub use_at : (kept : List Obj) (t : Stated) (s : Scope) (args : List Obj) (ls : List Lit) → Bound s kept → AllKept kept args → are_arguments t s args ≡ true → list_all (all_in_scope (grown (scope_of t) t.made)) ls ≡ true
+pub use_at : (kept : List Obj) (t : StatementView) (s : Scope) (args : List Obj) (ls : List Lit) → Bound s kept → AllKept kept args → are_arguments t s args ≡ true → list_all (all_in_scope (grown (scope_of t) t.made)) ls ≡ true
     → map (renamed (image t (map (obj_at kept) args) (scope_kept kept))) ls ≡ map (lit_at (kept ++ next_objects s t.made)) (map (renamed (image t args s)) ls)
 use_at kept t s args ls b k h spoken =
     let more = kept ++ next_objects s t.made in

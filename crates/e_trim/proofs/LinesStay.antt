@@ -15,7 +15,7 @@ use Rattle.e_literal.specs.Facts.{has, has_all, others, joined_all}
 use Rattle.e_literal.specs.Rename.{same_obj}
 use Rattle.e_literal.proofs.Sorts.{same_obj_self}
 use Rattle.e_construct.proofs.Moving.{grows}
-use Rattle.e_literal.specs.Use.{Stated, scope_of, is_statement}
+use Rattle.e_literal.specs.Use.{StatementView, scope_of, is_statement}
 use Rattle.e_clause.specs.declared.cert.By.{By}
 use Rattle.e_clause.specs.Instance.{Inst}
 use Rattle.e_clause.specs.RuleKinds.{is_diagram_rule}
@@ -92,7 +92,7 @@ pub record ShownGoes (kept : List Obj) (goal now : Goal) : Type 0 where
 
 -- or that of the statement, whose declared objects are the first kept ones
 pub record StatementGoes (kept : List Obj) (s : Scope) (goal now : Goal) : Type 0 where
-  pub statement : Stated
+  pub statement : StatementView
   pub before : goal ≡ goal_of_statement statement
   pub after : now ≡ goal_of_statement statement
   pub more : List Obj

@@ -13,7 +13,7 @@ use Rattle.e_literal.specs.Literal.{obj, count_of, is_in_scope, all_in_scope, ob
 use Rattle.e_literal.specs.Scopes.{same_sort, nothing, with_one, grown, next_objects, are_of_sorts}
 use Rattle.e_literal.specs.Rename.{renamed, number_at, image_in, paired}
 use Rattle.e_literal.specs.WellFormed.{is_well_formed}
-use Rattle.e_literal.specs.Use.{Stated, scope_of, is_statement}
+use Rattle.e_literal.specs.Use.{StatementView, scope_of, is_statement}
 use Rattle.e_literal.proofs.Growing.{counts_nothing}
 use Rattle.e_theorem.proofs.Imaging.{counted_here, counted_other}
 use Rattle.e_clause.specs.declared.cert.Cert.{Cert}
@@ -67,7 +67,7 @@ own_number b (x ∷ xs) sort n h k = elim (cases_Bool (same_sort x sort)) [
 ]
 
 -- also where more objects are kept behind them
-pub declared_number : (t : Stated) (more : List Obj) (o : Obj) → ((k : Obj) → In k more → count_of (scope_of t) k.sort ≤ k.num) → o.num < count_of (scope_of t) o.sort → number (declared_of t ++ more) o.sort o.num ≡ o.num
+pub declared_number : (t : StatementView) (more : List Obj) (o : Obj) → ((k : Obj) → In k more → count_of (scope_of t) k.sort ≤ k.num) → o.num < count_of (scope_of t) o.sort → number (declared_of t ++ more) o.sort o.num ≡ o.num
 declared_number t more o above h =
     let stays = number_stays (declared_of t) more o.sort o.num (λ k i e. (let a = above k i in let c = ap (λ s. count_of (scope_of t) s) e in omega (arith, a, c, h))) in
     let own = own_number nothing t.declared o.sort o.num (omega (arith, counts_nothing o.sort)) (omega (arith, h)) in
@@ -79,7 +79,7 @@ unmoved_lit : (l : Lit) → record { neg = l.neg; atom = atom_by (λ sort n. n) 
 unmoved_lit l = ap (λ a. record { neg = l.neg; atom = a }) (own_atom l.atom)
 
 -- a literal over the declared objects stays
-pub own_lit : (t : Stated) (l : Lit) → all_in_scope (scope_of t) l ≡ true → lit_at (declared_of t) l ≡ l
+pub own_lit : (t : StatementView) (l : Lit) → all_in_scope (scope_of t) l ≡ true → lit_at (declared_of t) l ≡ l
 own_lit t l h =
     ap (λ a. record { neg = l.neg; atom = a })
     (same_atom_by (number (declared_of t)) (λ sort n. n) l.atom (λ o i. ap (λ ks. number ks o.sort o.num) (sym (append-nil (declared_of t)))
@@ -97,7 +97,7 @@ shown_holds kept s [] shown o h k = (refl, unmoved (map (lit_at kept) shown) ∙
 shown_holds kept s (x ∷ os) shown o h k = absurd (true≢false (sym h))
 
 -- the object is made, or declared
-made_or_declared : (t : Stated) (os : List Obj) (o : Obj) → sorts (next_objects (scope_of t) t.made) ≡ sorts os → is_in_scope (grown (scope_of t) t.made) o ≡ true
+made_or_declared : (t : StatementView) (os : List Obj) (o : Obj) → sorts (next_objects (scope_of t) t.made) ≡ sorts os → is_in_scope (grown (scope_of t) t.made) o ≡ true
     → ((y : Obj) × (image_in (paired (next_objects (scope_of t) t.made) os) o ≡ Some y)) ⊎ ((image_in (paired (next_objects (scope_of t) t.made) os) o ≡ None) × (o.num < count_of (scope_of t) o.sort))
 made_or_declared t os o z h = by (image_in (paired (next_objects (scope_of t) t.made) os) o) refl
   where
@@ -112,7 +112,7 @@ made_or_declared t os o z h = by (image_in (paired (next_objects (scope_of t) t.
       ],
     )
 
-number_goes : (kept : List Obj) (t : Stated) (more os : List Obj) (o : Obj) → kept ≡ declared_of t ++ more → ((k : Obj) → In k more → count_of (scope_of t) k.sort ≤ k.num) → sorts (next_objects (scope_of t) t.made) ≡ sorts os
+number_goes : (kept : List Obj) (t : StatementView) (more os : List Obj) (o : Obj) → kept ≡ declared_of t ++ more → ((k : Obj) → In k more → count_of (scope_of t) k.sort ≤ k.num) → sorts (next_objects (scope_of t) t.made) ≡ sorts os
     → is_in_scope (grown (scope_of t) t.made) o ≡ true
     → number_at (image_in (paired (next_objects (scope_of t) t.made) (map (obj_at kept) os))) o.sort o.num ≡ number kept o.sort (number_at (image_in (paired (next_objects (scope_of t) t.made) os)) o.sort o.num)
 number_goes kept t more os o first above z h = elim (made_or_declared t os o z h) [
@@ -123,7 +123,7 @@ number_goes kept t more os o first above z h = elim (made_or_declared t os o z h
       ∙ ap (number kept o.sort) (sym (ap (λ x. option_map_or (λ (y : Obj). y.num) x o.num) d.0))
 ]
 
-shown_move : (kept : List Obj) (t : Stated) (more os : List Obj) (ls : List Lit) → kept ≡ declared_of t ++ more → ((k : Obj) → In k more → count_of (scope_of t) k.sort ≤ k.num) → sorts (next_objects (scope_of t) t.made) ≡ sorts os
+shown_move : (kept : List Obj) (t : StatementView) (more os : List Obj) (ls : List Lit) → kept ≡ declared_of t ++ more → ((k : Obj) → In k more → count_of (scope_of t) k.sort ≤ k.num) → sorts (next_objects (scope_of t) t.made) ≡ sorts os
     → list_all (λ (l : Lit). is_well_formed l && all_in_scope (grown (scope_of t) t.made) l) ls ≡ true
     → map (renamed (image_in (paired (next_objects (scope_of t) t.made) (map (obj_at kept) os)))) ls ≡ map (lit_at kept) (map (renamed (image_in (paired (next_objects (scope_of t) t.made) os))) ls)
 shown_move kept t more os [] first above z h = refl
@@ -135,7 +135,7 @@ shown_move kept t more os (l ∷ ls) first above z h =
     (λ o i. number_goes kept t more os o first above z (all_in (is_in_scope (grown (scope_of t) t.made)) (objects_of_atom l.atom) o q.1 i))) in
     ap (λ x. x ∷ map (renamed (image_in (paired made (map (obj_at kept) os)))) ls) one ∙ ap (λ xs. lit_at kept (renamed (image_in (paired made os)) l) ∷ xs) (shown_move kept t more os ls first above z p.1)
 
-shown_over : (kept : List Obj) (t : Stated) (more os : List Obj) (ls : List Lit) → kept ≡ declared_of t ++ more → AllKept kept os → sorts (next_objects (scope_of t) t.made) ≡ sorts os
+shown_over : (kept : List Obj) (t : StatementView) (more os : List Obj) (ls : List Lit) → kept ≡ declared_of t ++ more → AllKept kept os → sorts (next_objects (scope_of t) t.made) ≡ sorts os
     → list_all (λ (l : Lit). is_well_formed l && all_in_scope (grown (scope_of t) t.made) l) ls ≡ true → OverLits kept (map (renamed (image_in (paired (next_objects (scope_of t) t.made) os))) ls)
 shown_over kept t more os [] first k z h m i = absurd i
 shown_over kept t more os (l ∷ ls) first k z h m (inr i) =
@@ -166,7 +166,7 @@ shown_over kept t more os (l ∷ ls) first k z h m (inl e) = subst (OverLit kept
               subst (λ ks. In x ks) (sym first) (in_left x (declared_of t) more (subst (λ w. In w (declared_of t)) is (next_in nothing t.declared o.0 (omega (arith, counts_nothing o.0.sort)) d.1)))
         ]
 
-statement_holds : (kept : List Obj) (s : Scope) (os : List Obj) (t : Stated) (more : List Obj) → kept ≡ declared_of t ++ more → ((k : Obj) → In k more → count_of (scope_of t) k.sort ≤ k.num) → is_statement t ≡ true
+statement_holds : (kept : List Obj) (s : Scope) (os : List Obj) (t : StatementView) (more : List Obj) → kept ≡ declared_of t ++ more → ((k : Obj) → In k more → count_of (scope_of t) k.sort ≤ k.num) → is_statement t ≡ true
     → Holds kept s os (goal_of_statement t) (goal_of_statement t)
 statement_holds kept s os t more first above good h k =
     let made = next_objects (scope_of t) t.made in
@@ -191,7 +191,7 @@ objects_in s (x ∷ xs) (y ∷ os) e o (inl f) =
 objects_in s (x ∷ xs) (y ∷ os) e o (inr i) =
     let p = and_parts (same_sort x y.sort) (is_in_scope s y && are_of_sorts s xs os) e in objects_in s xs os (and_parts (is_in_scope s y) (are_of_sorts s xs os) p.1).1 o i
 
-pub qed_goes : (before : List Stated) (kept : List Obj) (s : Scope) (facts : List Lit) (goal : Goal) (os : List Obj) (certs : List Cert) → list_all (is_cert_of version.One) certs ≡ true → is_certified before (line_at (Qed os certs) s facts goal) ≡ true
+pub qed_goes : (before : List StatementView) (kept : List Obj) (s : Scope) (facts : List Lit) (goal : Goal) (os : List Obj) (certs : List Cert) → list_all (is_cert_of version.One) certs ≡ true → is_certified before (line_at (Qed os certs) s facts goal) ≡ true
     → Goes before kept s facts goal (wants before (Qed os certs) s facts goal) (trimmed_from before kept (Qed os certs) s facts goal)
 unfolding wants trimmed_from lines
 qed_goes before kept s facts goal os certs v h now goal' r =

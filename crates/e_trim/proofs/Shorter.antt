@@ -6,7 +6,7 @@ use Rattle.e_literal.specs.declared.literal.Lit.{Lit}
 use Rattle.e_literal.specs.Literal.{negation}
 use Rattle.e_literal.specs.Facts.{joined, joined_all}
 use Rattle.e_literal.specs.Scopes.{grown, next_objects}
-use Rattle.e_literal.specs.Use.{Stated}
+use Rattle.e_literal.specs.Use.{StatementView}
 use Rattle.e_construct.specs.Construct.{sorts_made, gives_of_construction}
 use Rattle.e_construct.specs.Superposing as superposing
 use Rattle.e_deriv.specs.Script.{Script, Cite, Hence, Make, Apply, Claim, Superposed, Qed, Contradiction, Cases, size, depth}
@@ -23,7 +23,7 @@ either : (b : Bool) (x y d : Script) → Fits x d → Fits y d → Fits (cond b 
 either true x y d h k = h
 either false x y d h k = k
 
-pub shorter : (d : Script) (before : List Stated) (kept : List Obj) (s : Scope) (facts : List Lit) (goal : Goal) → Fits (trimmed_from before kept d s facts goal) d
+pub shorter : (d : Script) (before : List StatementView) (kept : List Obj) (s : Scope) (facts : List Lit) (goal : Goal) → Fits (trimmed_from before kept d s facts goal) d
 unfolding trimmed_from size depth
 shorter (Cite by rest) before kept s facts goal =
     let r = shorter rest before kept s (joined facts by.lit) goal in

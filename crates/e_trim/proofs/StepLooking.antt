@@ -1,7 +1,7 @@
 -- What a walk from the close backwards finds at the first of several steps.
 use Rattle.std.proofs.Common.{◌≡◌, ◌<◌, ◌≤◌, List, [], ◌∷◌, ◌++◌, length, get_or, sym, ap, ◌∙◌, subst, arith, Bool, true, false, cond}
 use Rattle.std.proofs.lemmas.List.{append_assoc}
-use Rattle.e_literal.specs.Use.{Stated}
+use Rattle.e_literal.specs.Use.{StatementView}
 use Rattle.e_deriv.specs.declared.block.Step.{Step}
 use Rattle.e_deriv.specs.Script.{Script, step_script, steps_script}
 use Rattle.e_deriv.specs.Goal.{Goal}
@@ -17,28 +17,28 @@ use Rattle.e_trim.proofs.StepForms.{ready_rest, ready_fits, ready_small, wants_s
 use Rattle.e_trim.proofs.FirstSteps.{behind, whole_is}
 
 -- the steps are ready, and this is the first of them
-pub record Looking (before : List Stated) (steps : List Step) (head : Step) (x : Standing) (goal : Goal) (close : Script) : Type 0 where
+pub record Looking (before : List StatementView) (steps : List Step) (head : Step) (x : Standing) (goal : Goal) (close : Script) : Type 0 where
   pub some : 0 < length steps
   pub first : head ≡ get_or steps 0 head
   pub ready : IsReady before (steps_script steps close) x.scope x.facts goal
 
 -- behind the first step
-abbrev pub IsPast : List Stated → Step → Standing → Standing → Type 0
+abbrev pub IsPast : List StatementView → Step → Standing → Standing → Type 0
 IsPast before head x after = (rest : Script) → after ≡ passed before (step_script head rest) x
 
-at_first : (before : List Stated) (steps : List Step) (head : Step) (x : Standing) (goal : Goal) (close : Script) → Looking before steps head x goal close → IsReady before (step_script head (steps_script (behind steps) close)) x.scope x.facts goal
+at_first : (before : List StatementView) (steps : List Step) (head : Step) (x : Standing) (goal : Goal) (close : Script) → Looking before steps head x goal close → IsReady before (step_script head (steps_script (behind steps) close)) x.scope x.facts goal
 at_first before steps head x goal close l = subst (λ d. IsReady before d x.scope x.facts goal) (whole_is steps head close l.some l.first) l.ready
 
-pub look_fits : (before : List Stated) (steps : List Step) (head : Step) (x : Standing) (goal : Goal) (close : Script) → Looking before steps head x goal close → StepFits before head x.scope
+pub look_fits : (before : List StatementView) (steps : List Step) (head : Step) (x : Standing) (goal : Goal) (close : Script) → Looking before steps head x goal close → StepFits before head x.scope
 look_fits before steps head x goal close l = ready_fits before head (steps_script (behind steps) close) x goal (at_first before steps head x goal close l)
 
-pub look_small : (before : List Stated) (steps : List Step) (head : Step) (x : Standing) (goal : Goal) (close : Script) → Looking before steps head x goal close → is_small x.scope ≡ true
+pub look_small : (before : List StatementView) (steps : List Step) (head : Step) (x : Standing) (goal : Goal) (close : Script) → Looking before steps head x goal close → is_small x.scope ≡ true
 look_small before steps head x goal close l = ready_small before head (steps_script (behind steps) close) x goal (at_first before steps head x goal close l)
 
-pub look_step_ready : (before : List Stated) (steps : List Step) (head : Step) (x : Standing) (goal : Goal) (close : Script) → Looking before steps head x goal close → IsReadyStep before head x
+pub look_step_ready : (before : List StatementView) (steps : List Step) (head : Step) (x : Standing) (goal : Goal) (close : Script) → Looking before steps head x goal close → IsReadyStep before head x
 look_step_ready before steps head x goal close l = record { rest = steps_script (behind steps) close; goal = goal; ready = at_first before steps head x goal close l }
 
-pub look_rest : (before : List Stated) (steps : List Step) (head : Step) (x after : Standing) (goal : Goal) (close : Script) → Looking before steps head x goal close → IsPast before head x after
+pub look_rest : (before : List StatementView) (steps : List Step) (head : Step) (x after : Standing) (goal : Goal) (close : Script) → Looking before steps head x goal close → IsPast before head x after
     → IsReady before (steps_script (behind steps) close) after.scope after.facts goal
 look_rest before steps head x after goal close l e =
     let rest = steps_script (behind steps) close in
@@ -46,17 +46,17 @@ look_rest before steps head x after goal close l e =
 
 -- ---- back before the step
 
-past_keeps : (before : List Stated) (head : Step) (x after : Standing) → IsPast before head x after → KeepsFacts x after
+past_keeps : (before : List StatementView) (head : Step) (x after : Standing) → IsPast before head x after → KeepsFacts x after
 past_keeps before head x after e =
     let rest = Rattle.e_deriv.specs.Script.Qed [] [] in subst (λ (y : Standing). KeepsFacts x y) (sym (e rest)) (passed_keeps before (step_script head rest) x)
 
-pub look_enough : (before : List Stated) (head : Step) (x after last : Standing) (outer : Outer) → IsPast before head x after → KeepsFacts after last → outer ≡ outer_of x → outer.facts ≤ length last.facts
+pub look_enough : (before : List StatementView) (head : Step) (x after last : Standing) (outer : Outer) → IsPast before head x after → KeepsFacts after last → outer ≡ outer_of x → outer.facts ≤ length last.facts
 look_enough before head x after last outer e k o =
     let n = keeps_enough x last (keeps_on x after last (past_keeps before head x after e) k) in
     let m = ap (λ (y : Outer). y.facts) o in
     omega (arith, n, m)
 
-pub look_back_is : (before : List Stated) (head : Step) (x after last left : Standing) (outer : Outer) → IsPast before head x after → KeepsFacts after last → outer ≡ outer_of x → left ≡ left_for outer last → left ≡ x
+pub look_back_is : (before : List StatementView) (head : Step) (x after last left : Standing) (outer : Outer) → IsPast before head x after → KeepsFacts after last → outer ≡ outer_of x → left ≡ left_for outer last → left ≡ x
 look_back_is before head x after last left outer e k o f = f ∙ ap (λ y. left_for y last) o ∙ left_back x last (keeps_on x after last (past_keeps before head x after e) k)
 
 pub still_keeps : (x left : Standing) → left ≡ x → KeepsFacts x left
@@ -68,30 +68,30 @@ later_keeps x left last e k = subst (λ (y : Standing). KeepsFacts y last) e k
 -- ---- what is wanted from the step on
 
 -- a dropped step adds nothing, a kept one what it wants
-pub adds_none : (before : List Stated) (step : Step) (x : Standing) (w : Wants) (kept : Bool) → ((rest : Script) → kept ≡ is_kept before (step_script step rest) x.scope x.facts w) → kept ≡ false → StepAdds before step x w w
+pub adds_none : (before : List StatementView) (step : Step) (x : Standing) (w : Wants) (kept : Bool) → ((rest : Script) → kept ≡ is_kept before (step_script step rest) x.scope x.facts w) → kept ≡ false → StepAdds before step x w w
 adds_none before step x w kept k off rest goal =
     let here = step_script step rest in
     sym (ap (λ t. cond t (both w (both (of_line before (line_at here x.scope x.facts goal)) (inside_of before here x.scope x.facts))) w) (sym (k rest) ∙ off))
 
-pub adds_own : (before : List Stated) (step : Step) (x : Standing) (w new : Wants) (kept : Bool) → ((rest : Script) → kept ≡ is_kept before (step_script step rest) x.scope x.facts w) → kept ≡ true → StepWants before step x w new
+pub adds_own : (before : List StatementView) (step : Step) (x : Standing) (w new : Wants) (kept : Bool) → ((rest : Script) → kept ≡ is_kept before (step_script step rest) x.scope x.facts w) → kept ≡ true → StepWants before step x w new
     → StepAdds before step x w new
 adds_own before step x w new kept k on h rest goal =
     let here = step_script step rest in
     h rest goal ∙ sym (ap (λ t. cond t (both w (both (of_line before (line_at here x.scope x.facts goal)) (inside_of before here x.scope x.facts))) w) (sym (k rest) ∙ on))
 
-pub flag_none : (before : List Stated) (step : Step) (x : Standing) (w : Wants) (kept : Bool) (old new : List Bool) → ((rest : Script) → kept ≡ is_kept before (step_script step rest) x.scope x.facts w) → kept ≡ false → new ≡ old ++ false ∷ []
+pub flag_none : (before : List StatementView) (step : Step) (x : Standing) (w : Wants) (kept : Bool) (old new : List Bool) → ((rest : Script) → kept ≡ is_kept before (step_script step rest) x.scope x.facts w) → kept ≡ false → new ≡ old ++ false ∷ []
     → FlagsAdded before step x w old new
 flag_none before step x w kept old new k off e rest =
     let here = step_script step rest in e ∙ ap (λ t. old ++ flag t (step_flags before here x.scope x.facts)) (sym (sym (k rest) ∙ off))
 
-pub flag_own : (before : List Stated) (step : Step) (x : Standing) (w : Wants) (kept : Bool) (old mid new : List Bool) → ((rest : Script) → kept ≡ is_kept before (step_script step rest) x.scope x.facts w) → kept ≡ true → StepFlags before step x old mid
+pub flag_own : (before : List StatementView) (step : Step) (x : Standing) (w : Wants) (kept : Bool) (old mid new : List Bool) → ((rest : Script) → kept ≡ is_kept before (step_script step rest) x.scope x.facts w) → kept ≡ true → StepFlags before step x old mid
     → new ≡ mid ++ true ∷ [] → FlagsAdded before step x w old new
 flag_own before step x w kept old mid new k on h e rest =
     let here = step_script step rest in
     let own = step_flags before here x.scope x.facts in
     e ∙ ap (λ xs. xs ++ true ∷ []) (h rest) ∙ append_assoc old own (true ∷ []) ∙ ap (λ t. old ++ flag t own) (sym (sym (k rest) ∙ on))
 
-pub wanted_whole : (before : List Stated) (steps : List Step) (head : Step) (x after left : Standing) (goal : Goal) (close : Script) (w new : Wants) → Looking before steps head x goal close → IsPast before head x after → left ≡ x
+pub wanted_whole : (before : List StatementView) (steps : List Step) (head : Step) (x after left : Standing) (goal : Goal) (close : Script) (w new : Wants) → Looking before steps head x goal close → IsPast before head x after → left ≡ x
     → w ≡ wants before (steps_script (behind steps) close) after.scope after.facts goal → StepAdds before head left w new → new ≡ wants before (steps_script steps close) x.scope x.facts goal
 wanted_whole before steps head x after left goal close w new l e b f h =
     let rest = steps_script (behind steps) close in
@@ -101,7 +101,7 @@ wanted_whole before steps head x after left goal close w new l e b f h =
     ∙ ap (with_step before here x.scope x.facts goal (inside_of before here x.scope x.facts)) own
     ∙ sym (ap (λ d. wants before d x.scope x.facts goal) (whole_is steps head close l.some l.first) ∙ wants_step before head rest x goal)
 
-pub flags_whole : (before : List Stated) (steps : List Step) (head : Step) (x after left : Standing) (goal : Goal) (close : Script) (w : Wants) (under over now : List Bool) → Looking before steps head x goal close → IsPast before head x after → left ≡ x
+pub flags_whole : (before : List StatementView) (steps : List Step) (head : Step) (x after left : Standing) (goal : Goal) (close : Script) (w : Wants) (under over now : List Bool) → Looking before steps head x goal close → IsPast before head x after → left ≡ x
     → w ≡ wants before (steps_script (behind steps) close) after.scope after.facts goal → over ≡ under ++ flags_of before (steps_script (behind steps) close) after.scope after.facts goal → FlagsAdded before head left w over now
     → now ≡ under ++ flags_of before (steps_script steps close) x.scope x.facts goal
 flags_whole before steps head x after left goal close w under over now l e b f g h =

@@ -11,7 +11,7 @@ use Rattle.e_literal.specs.declared.object.Obj.{Obj}
 use Rattle.e_literal.specs.declared.object.Scope.{Scope}
 use Rattle.e_literal.specs.declared.object.Sort.{Sort}
 use Rattle.e_literal.specs.declared.literal.Lit.{Lit}
-use Rattle.e_literal.specs.Use.{Stated, are_arguments, gives_of_use}
+use Rattle.e_literal.specs.Use.{StatementView, are_arguments, gives_of_use}
 use Rattle.e_literal.proofs.Booleans.{and_left, and_right}
 use Rattle.e_construct.specs.declared.construction.Construction.{Construction}
 use Rattle.e_construct.specs.declared.superpose.Superpose.{Superpose}
@@ -41,7 +41,7 @@ use Rattle.e_trim.proofs.Pairs.{sorts}
 use Rattle.e_trim.proofs.FormsOfSteps.{sorts_are}
 use Rattle.e_trim.proofs.BuiltSteps.{few_makes}
 
-pub apply_fits : (before : List Stated) (theorem : ℕ) (args : List (Option Obj)) (names : List (List ℕ)) (certs : List Cert) (s : Scope) → StepFits before (ApplyStep theorem args names certs) s → IsApplied before theorem args s
+pub apply_fits : (before : List StatementView) (theorem : ℕ) (args : List (Option Obj)) (names : List (List ℕ)) (certs : List Cert) (s : Scope) → StepFits before (ApplyStep theorem args names certs) s → IsApplied before theorem args s
 unfolding step_script
 apply_fits before theorem args names certs s r =
     let p = and_parts (ltb theorem (length before)) (is_choice (theorem_at before theorem) s args (written args)) r.fits in
@@ -54,16 +54,16 @@ qed_sorts objects certs s goal h = sorts_are s (sorts goal.made) objects (h [])
 
 -- ---- what a step makes
 
-pub nothing_at : (before : List Stated) (k : ℕ) → length before ≤ k → theorem_at before k ≡ no_statement
+pub nothing_at : (before : List StatementView) (k : ℕ) → length before ≤ k → theorem_at before k ≡ no_statement
 nothing_at [] k h = refl
 nothing_at (t ∷ before) zero h = absurd (omega (arith, h))
 nothing_at (t ∷ before) (suc k) h = nothing_at before k (omega (arith, h))
 
-pub made_by_form : (before : List Stated) (step : Step) (form : Construction) (names : List (List ℕ)) (certs : List Cert) (rest : Script) → step ≡ MakeStep form names certs → makes_at before (step_script step rest) ≡ sorts_made form
+pub made_by_form : (before : List StatementView) (step : Step) (form : Construction) (names : List (List ℕ)) (certs : List Cert) (rest : Script) → step ≡ MakeStep form names certs → makes_at before (step_script step rest) ≡ sorts_made form
 unfolding step_script
 made_by_form before step form names certs rest is = ap (λ s. makes_at before (step_script s rest)) is
 
-pub made_by_theorem : (before : List Stated) (step : Step) (theorem : ℕ) (args : List (Option Obj)) (names : List (List ℕ)) (certs : List Cert) (rest : Script) → step ≡ ApplyStep theorem args names certs
+pub made_by_theorem : (before : List StatementView) (step : Step) (theorem : ℕ) (args : List (Option Obj)) (names : List (List ℕ)) (certs : List Cert) (rest : Script) → step ≡ ApplyStep theorem args names certs
     → makes_at before (step_script step rest) ≡ (theorem_at before theorem).made
 unfolding step_script
 made_by_theorem before step theorem args names certs rest is = ap (λ s. makes_at before (step_script s rest)) is
@@ -77,7 +77,7 @@ all_as_many before = length-map before stated
 
 -- ---- an application
 
-small_at : (before : List Stated) (k : ℕ) → list_all is_small_statement before ≡ true → k < length before → is_small_statement (theorem_at before k) ≡ true
+small_at : (before : List StatementView) (k : ℕ) → list_all is_small_statement before ≡ true → k < length before → is_small_statement (theorem_at before k) ≡ true
 small_at [] k h l = absurd (omega (arith, l))
 small_at (t ∷ before) zero h l = and_left (is_small_statement t) (list_all is_small_statement before) h
 small_at (t ∷ before) (suc k) h l = small_at before k (and_right (is_small_statement t) (list_all is_small_statement before) h) (omega (arith, l))
@@ -93,7 +93,7 @@ use_room before theorem t s small all low at =
     let f = few_of_small s small in
     (omega (arith, n), omega (arith, f.points, n), omega (arith, f.lines, n), omega (arith, f.circles, n))
 
-pub few_sorts : (before : List Stated) (step : Step) (sorts : List Sort) → list_all is_small_statement before ≡ true → ((rest : Script) → sorts ≡ makes_at before (step_script step rest)) → length sorts < 2 ^ 15
+pub few_sorts : (before : List StatementView) (step : Step) (sorts : List Sort) → list_all is_small_statement before ≡ true → ((rest : Script) → sorts ≡ makes_at before (step_script step rest)) → length sorts < 2 ^ 15
 few_sorts before step sorts h e =
     let rest = Qed [] [] in
     let same = ap length (e rest) in
@@ -102,27 +102,27 @@ few_sorts before step sorts h e =
 
 -- ---- what a step makes facts
 
-pub cite_joins : (before : List Stated) (step : Step) (by : By) (rest : Script) (s : Scope) → step ≡ CiteStep by → joins_at before (step_script step rest) s ≡ by.lit ∷ []
+pub cite_joins : (before : List StatementView) (step : Step) (by : By) (rest : Script) (s : Scope) → step ≡ CiteStep by → joins_at before (step_script step rest) s ≡ by.lit ∷ []
 unfolding step_script
 cite_joins before step by rest s is = ap (λ x. joins_at before (step_script x rest) s) is
 
-pub hence_joins : (before : List Stated) (step : Step) (lit : Lit) (cert : Option Cert) (rest : Script) (s : Scope) → step ≡ HenceStep lit cert → joins_at before (step_script step rest) s ≡ lit ∷ []
+pub hence_joins : (before : List StatementView) (step : Step) (lit : Lit) (cert : Option Cert) (rest : Script) (s : Scope) → step ≡ HenceStep lit cert → joins_at before (step_script step rest) s ≡ lit ∷ []
 unfolding step_script
 hence_joins before step lit cert rest s is = ap (λ x. joins_at before (step_script x rest) s) is
 
-pub make_joins : (before : List Stated) (step : Step) (form : Construction) (names : List (List ℕ)) (certs : List Cert) (rest : Script) (s : Scope) → step ≡ MakeStep form names certs → joins_at before (step_script step rest) s ≡ gives_of_construction form s
+pub make_joins : (before : List StatementView) (step : Step) (form : Construction) (names : List (List ℕ)) (certs : List Cert) (rest : Script) (s : Scope) → step ≡ MakeStep form names certs → joins_at before (step_script step rest) s ≡ gives_of_construction form s
 unfolding step_script
 make_joins before step form names certs rest s is = ap (λ x. joins_at before (step_script x rest) s) is
 
-pub apply_joins : (before : List Stated) (step : Step) (theorem : ℕ) (args : List (Option Obj)) (names : List (List ℕ)) (certs : List Cert) (rest : Script) (s : Scope) → step ≡ ApplyStep theorem args names certs
+pub apply_joins : (before : List StatementView) (step : Step) (theorem : ℕ) (args : List (Option Obj)) (names : List (List ℕ)) (certs : List Cert) (rest : Script) (s : Scope) → step ≡ ApplyStep theorem args names certs
     → joins_at before (step_script step rest) s ≡ gives_of_use (theorem_at before theorem) (written args) s
 unfolding step_script
 apply_joins before step theorem args names certs rest s is = ap (λ x. joins_at before (step_script x rest) s) is
 
-pub claim_joins : (before : List Stated) (step : Step) (shown : List Lit) (inner : Box Block Global) (rest : Script) (s : Scope) → step ≡ ClaimBlock shown inner → joins_at before (step_script step rest) s ≡ shown
+pub claim_joins : (before : List StatementView) (step : Step) (shown : List Lit) (inner : Box Block Global) (rest : Script) (s : Scope) → step ≡ ClaimBlock shown inner → joins_at before (step_script step rest) s ≡ shown
 claim_joins before step shown inner rest s is = ap (λ x. joins_at before (step_script x rest) s) is ∙ ap (λ d. joins_at before d s) (step_script-Claim shown inner rest)
 
-pub superposed_joins : (before : List Stated) (step : Step) (form : Superpose) (names : List (List ℕ)) (shown : List Lit) (certs : List Cert) (inner : Box Block Global) (rest : Script) (s : Scope) → step ≡ SuperposedBlock form names shown certs inner
+pub superposed_joins : (before : List StatementView) (step : Step) (form : Superpose) (names : List (List ℕ)) (shown : List Lit) (certs : List Cert) (inner : Box Block Global) (rest : Script) (s : Scope) → step ≡ SuperposedBlock form names shown certs inner
     → joins_at before (step_script step rest) s ≡ shown
 superposed_joins before step form names shown certs inner rest s is =
     ap (λ x. joins_at before (step_script x rest) s) is ∙ ap (λ d. joins_at before d s) (step_script-Superposed form names shown certs inner rest)
@@ -167,10 +167,10 @@ cases_script close lit first second is = sym (ap close_script is ∙ close_scrip
 
 -- ---- what a step wants, by its form
 
-abbrev pub LineIs : List Stated → Script → Scope → List Lit → Goal → Wants → Wants → Type 0
+abbrev pub LineIs : List StatementView → Script → Scope → List Lit → Goal → Wants → Wants → Type 0
 LineIs before d s facts goal old new = new ≡ both old (of_line before (line_at d s facts goal))
 
-pub same_line : (before : List Stated) (c d : Script) (s : Scope) (facts : List Lit) (goal : Goal) (old new : Wants) → c ≡ d → LineIs before c s facts goal old new → LineIs before d s facts goal old new
+pub same_line : (before : List StatementView) (c d : Script) (s : Scope) (facts : List Lit) (goal : Goal) (old new : Wants) → c ≡ d → LineIs before c s facts goal old new → LineIs before d s facts goal old new
 same_line before c d s facts goal old new e h = h ∙ ap (λ x. both old (of_line before (line_at x s facts goal))) e
 
 pub and_so : {T E : Type 0} {P Q : Type 0} (r : Result T E) → (P → Q) → OnOk r P → OnOk r Q

@@ -12,7 +12,7 @@ use Rattle.e_literal.specs.declared.literal.Lit.{Lit}
 use Rattle.e_literal.specs.Literal.{negation, is_in_scope, all_in_scope, objects_of_atom}
 use Rattle.e_literal.specs.Scopes.{same_sort, grown, next_objects, are_of_sorts}
 use Rattle.e_literal.specs.Facts.{has, joined, joined_all}
-use Rattle.e_literal.specs.Use.{Stated}
+use Rattle.e_literal.specs.Use.{StatementView}
 use Rattle.e_clause.specs.declared.cert.By.{By}
 use Rattle.e_clause.specs.declared.cert.Cert.{Cert}
 use Rattle.e_clause.specs.declared.cert.Version.TheVariants as version
@@ -45,11 +45,11 @@ use Rattle.e_construct.specs.Construct.{row_of_construction, sorts_of, avoids_we
 
 -- ---- certified from a script on
 
-abbrev pub certified_from : List Stated → Script → Scope → List Lit → Goal → Bool
+abbrev pub certified_from : List StatementView → Script → Scope → List Lit → Goal → Bool
 certified_from before d s facts goal = list_all (is_certified before) (lines before d d s facts goal)
 
 -- from here on what is left is certified
-abbrev pub Goes : List Stated → List Obj → Scope → List Lit → Goal → Wants → Script → Type 0
+abbrev pub Goes : List StatementView → List Obj → Scope → List Lit → Goal → Wants → Script → Type 0
 Goes before kept s facts goal w t = (now : List Lit) (goal' : Goal) → Ready kept s facts now goal goal' w → certified_from before t (scope_kept kept) now goal' ≡ true
 
 -- ---- parts of what is wanted
@@ -111,7 +111,7 @@ over_all_named kept looked ls more c l i o j = (cover_left kept looked (needed (
 
 -- ---- hence
 
-hence_line : (before : List Stated) (kept : List Obj) (s : Scope) (facts now : List Lit) (goal goal' : Goal) (l : Lit) (cert : Option Cert) (rest t : Script)
+hence_line : (before : List StatementView) (kept : List Obj) (s : Scope) (facts now : List Lit) (goal goal' : Goal) (l : Lit) (cert : Option Cert) (rest t : Script)
     → option_map_or (is_cert_of version.One) cert true ≡ true → is_certified before (line_at (Hence l cert rest) s facts goal) ≡ true → Ready kept s facts now goal goal' (of_line before (line_at (Hence l cert rest) s facts goal))
     → (is_certified before (line_at (Hence (lit_at kept l) (option_map (cert_at kept) cert) t) (scope_kept kept) now goal') ≡ true) × OverLit kept l
 hence_line before kept s facts now goal goal' l None rest t v h r =
@@ -135,7 +135,7 @@ hence_line before kept s facts now goal goal' l (Some x) rest t v h r =
       o,
     )
 
-pub hence_goes : (before : List Stated) (kept : List Obj) (s : Scope) (facts : List Lit) (goal : Goal) (l : Lit) (cert : Option Cert) (rest : Script)
+pub hence_goes : (before : List StatementView) (kept : List Obj) (s : Scope) (facts : List Lit) (goal : Goal) (l : Lit) (cert : Option Cert) (rest : Script)
     → option_map_or (is_cert_of version.One) cert true ≡ true → is_certified before (line_at (Hence l cert rest) s facts goal) ≡ true
     → Goes before kept s (joined facts l) goal (wants before rest s (joined facts l) goal) (trimmed_from before kept rest s (joined facts l) goal)
     → Goes before kept s facts goal (wants before (Hence l cert rest) s facts goal) (trimmed_from before kept (Hence l cert rest) s facts goal)
@@ -171,7 +171,7 @@ citation_scope s x h =
     let r = and_parts (all_in_scope s x.lit) (Rattle.std.specs.Prelude.is_some (Rattle.e_clause.specs.Instance.Inst x.rule x.args)) q.1 in
     both_in s x.args (objects_of_atom x.lit.atom) (listed_in s x.args q.0) (listed_in s (objects_of_atom x.lit.atom) r.0)
 
-pub cite_goes : (before : List Stated) (kept : List Obj) (s : Scope) (facts : List Lit) (goal : Goal) (x : By) (rest : Script)
+pub cite_goes : (before : List StatementView) (kept : List Obj) (s : Scope) (facts : List Lit) (goal : Goal) (x : By) (rest : Script)
     → is_certified before (line_at (Cite x rest) s facts goal) ≡ true
     → Goes before kept s (joined facts x.lit) goal (wants before rest s (joined facts x.lit) goal) (trimmed_from before kept rest s (joined facts x.lit) goal)
     → Goes before kept s facts goal (wants before (Cite x rest) s facts goal) (trimmed_from before kept (Cite x rest) s facts goal)
@@ -219,7 +219,7 @@ lits_in s (l ∷ ls) h =
     let p = and_parts (all_in_scope s l) (are_over s ls) h in
     both_in s (objects_of_atom l.atom) (objects_of_lits ls) (listed_in s (objects_of_atom l.atom) p.0) (lits_in s ls p.1)
 
-pub claim_goes : (before : List Stated) (kept : List Obj) (s : Scope) (facts : List Lit) (goal : Goal) (shown : List Lit) (inner rest : Script)
+pub claim_goes : (before : List StatementView) (kept : List Obj) (s : Scope) (facts : List Lit) (goal : Goal) (shown : List Lit) (inner rest : Script)
     → is_certified before (line_at (Claim shown inner rest) s facts goal) ≡ true
     → Goes before kept s facts (goal_of shown) (wants before inner s facts (goal_of shown)) (trimmed_from before kept inner s facts (goal_of shown))
     → Goes before kept s (joined_all facts shown) goal (wants before rest s (joined_all facts shown) goal) (trimmed_from before kept rest s (joined_all facts shown) goal)
@@ -266,7 +266,7 @@ claim_goes before kept s facts goal shown inner rest h block more now goal' r = 
 
 -- ---- cases
 
-pub cases_goes : (before : List Stated) (kept : List Obj) (s : Scope) (facts : List Lit) (goal : Goal) (l : Lit) (one other : Script)
+pub cases_goes : (before : List StatementView) (kept : List Obj) (s : Scope) (facts : List Lit) (goal : Goal) (l : Lit) (one other : Script)
     → is_certified before (line_at (Cases l one other) s facts goal) ≡ true
     → Goes before kept s (joined facts l) goal (wants before one s (joined facts l) goal) (trimmed_from before kept one s (joined facts l) goal)
     → Goes before kept s (joined facts (negation l)) goal (wants before other s (joined facts (negation l)) goal) (trimmed_from before kept other s (joined facts (negation l)) goal)
@@ -298,7 +298,7 @@ cases_goes before kept s facts goal l one other h first_goes second_goes now goa
 
 -- ---- closes
 
-pub contradiction_goes : (before : List Stated) (kept : List Obj) (s : Scope) (facts : List Lit) (goal : Goal) (against : Option Against)
+pub contradiction_goes : (before : List StatementView) (kept : List Obj) (s : Scope) (facts : List Lit) (goal : Goal) (against : Option Against)
     → option_map_or (is_against_of version.One) against true ≡ true → is_certified before (line_at (Contradiction against) s facts goal) ≡ true
     → Goes before kept s facts goal (wants before (Contradiction against) s facts goal) (trimmed_from before kept (Contradiction against) s facts goal)
 unfolding wants trimmed_from lines
@@ -334,7 +334,7 @@ form_in s form h =
     avoided_in s AnyObject os e = listed_in s os e
     avoided_in s (AnyApartFrom x) os e = listed_in s os e
 
-pub make_goes : (before : List Stated) (kept : List Obj) (s : Scope) (facts : List Lit) (goal : Goal) (form : Construction) (names : List (List ℕ)) (certs : List Cert) (rest : Script)
+pub make_goes : (before : List StatementView) (kept : List Obj) (s : Scope) (facts : List Lit) (goal : Goal) (form : Construction) (names : List (List ℕ)) (certs : List Cert) (rest : Script)
     → list_all (is_cert_of version.One) certs ≡ true → is_certified before (line_at (Make form names certs rest) s facts goal) ≡ true
     → ((more : List Obj) → Goes before more (grown s (sorts_made form)) (joined_all facts (gives_of_construction form s)) goal (wants before rest (grown s (sorts_made form)) (joined_all facts (gives_of_construction form s)) goal)
     (trimmed_from before more rest (grown s (sorts_made form)) (joined_all facts (gives_of_construction form s)) goal))
@@ -404,7 +404,7 @@ superposed_in s x h = sorted_in s (sorts_of superposing.superposed_args) (superp
     sorted_in s (x ∷ xs) (y ∷ os) e o (inr i) =
         let p = and_parts (same_sort x y.sort) (is_in_scope s y && are_of_sorts s xs os) e in sorted_in s xs os (and_parts (is_in_scope s y) (are_of_sorts s xs os) p.1).1 o i
 
-pub superposed_goes : (before : List Stated) (kept : List Obj) (s : Scope) (facts : List Lit) (goal : Goal) (form : Superpose) (names : List (List ℕ)) (shown : List Lit) (certs : List Cert) (inner rest : Script)
+pub superposed_goes : (before : List StatementView) (kept : List Obj) (s : Scope) (facts : List Lit) (goal : Goal) (form : Superpose) (names : List (List ℕ)) (shown : List Lit) (certs : List Cert) (inner rest : Script)
     → list_all (is_cert_of version.One) certs ≡ true → is_certified before (line_at (Superposed form names shown certs inner rest) s facts goal) ≡ true
     → Goes before (kept ++ next_objects s superposing.sorts_copied) (grown s superposing.sorts_copied) (joined_all facts (superposing.gives_of_superposition form s)) (goal_of shown)
     (wants before inner (grown s superposing.sorts_copied) (joined_all facts (superposing.gives_of_superposition form s)) (goal_of shown))

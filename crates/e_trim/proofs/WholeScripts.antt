@@ -11,7 +11,7 @@ use Rattle.e_literal.specs.declared.literal.Lit.{Lit}
 use Rattle.e_literal.specs.Literal.{negation, count_of, is_in_scope, all_in_scope, objects_of_atom}
 use Rattle.e_literal.specs.Scopes.{nothing, grown, next_objects}
 use Rattle.e_literal.specs.Facts.{joined, joined_all}
-use Rattle.e_literal.specs.Use.{Stated, scope_of, is_statement}
+use Rattle.e_literal.specs.Use.{StatementView, scope_of, is_statement}
 use Rattle.e_literal.specs.WellFormed.{is_well_formed}
 use Rattle.e_construct.specs.Construct.{sorts_made, gives_of_construction}
 use Rattle.e_construct.specs.Superposing as superposing
@@ -37,7 +37,7 @@ use Rattle.e_trim.proofs.ApplyStays.{apply_goes}
 -- ---- all together
 
 -- from each script on; the statements before speak of their own objects
-goes : (before : List Stated) → list_all is_statement before ≡ true → (d : Script) (kept : List Obj) (s : Scope) (facts : List Lit) (goal : Goal) → has_certs_of version.One d ≡ true → certified_from before d s facts goal ≡ true
+goes : (before : List StatementView) → list_all is_statement before ≡ true → (d : Script) (kept : List Obj) (s : Scope) (facts : List Lit) (goal : Goal) → has_certs_of version.One d ≡ true → certified_from before d s facts goal ≡ true
     → Goes before kept s facts goal (wants before d s facts goal) (trimmed_from before kept d s facts goal)
 unfolding lines has_certs_of
 goes before st (Cite x rest) kept s facts goal v h =
@@ -81,10 +81,10 @@ goes before st (Cases l one other) kept s facts goal v h =
 -- ---- at the start the declared objects are kept
 
 -- a literal over the declared objects is over the kept ones
-declared_over : (t : Stated) (l : Lit) → all_in_scope (scope_of t) l ≡ true → OverLit (declared_of t) l
+declared_over : (t : StatementView) (l : Lit) → all_in_scope (scope_of t) l ≡ true → OverLit (declared_of t) l
 declared_over t l h o i = next_in nothing t.declared o (omega (arith, Rattle.e_literal.proofs.Growing.counts_nothing o.sort)) (Rattle.std.proofs.lemmas.Bool.ltb-true o.num (count_of (scope_of t) o.sort) (all_in (is_in_scope (scope_of t)) (objects_of_atom l.atom) o h i))
 
-given_in : (t : Stated) (ls facts : List Lit) → list_all (λ (l : Lit). is_well_formed l && all_in_scope (scope_of t) l) ls ≡ true → ((m : Lit) → In m facts → all_in_scope (scope_of t) m ≡ true) → (m : Lit) → In m (joined_all facts ls) → all_in_scope (scope_of t) m ≡ true
+given_in : (t : StatementView) (ls facts : List Lit) → list_all (λ (l : Lit). is_well_formed l && all_in_scope (scope_of t) l) ls ≡ true → ((m : Lit) → In m facts → all_in_scope (scope_of t) m ≡ true) → (m : Lit) → In m (joined_all facts ls) → all_in_scope (scope_of t) m ≡ true
 given_in t [] facts h k m i = k m i
 given_in t (l ∷ ls) facts h k m i =
     let p = and_parts (is_well_formed l && all_in_scope (scope_of t) l) (list_all (λ (x : Lit). is_well_formed x && all_in_scope (scope_of t) x) ls) h in
@@ -94,7 +94,7 @@ given_in t (l ∷ ls) facts h k m i =
       | inr a ↦ sym (ap (all_in_scope (scope_of t)) a.0) ∙ q.1
     ]) m i
 
-kept_scope : (t : Stated) → scope_kept (declared_of t) ≡ scope_of t
+kept_scope : (t : StatementView) → scope_kept (declared_of t) ≡ scope_of t
 kept_scope t = scope_more [] nothing t.declared
 
 pub trimmed_certified : TrimmedIsCertified

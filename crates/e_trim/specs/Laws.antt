@@ -1,7 +1,7 @@
 -- What is trimmed of a certified derivation of the first version is certified.
 use Rattle.std.specs.Prelude.{List, ◌≤◌, IsTrue}
 use Rattle.std.specs.List.{list_all}
-use Rattle.e_literal.specs.Use.{Stated, is_statement}
+use Rattle.e_literal.specs.Use.{StatementView, is_statement}
 use Rattle.e_clause.specs.declared.cert.Version.TheVariants.{One}
 use Rattle.e_deriv.specs.Script.{Script, size, depth}
 use Rattle.e_deriv.specs.Versions.{has_certs_of}
@@ -10,11 +10,11 @@ use Rattle.e_trim.specs.Trimmed.{trimmed}
 
 abbrev pub TrimmedIsCertified : Type 0
 TrimmedIsCertified =
-    (before : List Stated) (t : Stated) (d : Script) → IsTrue (list_all is_statement before) → IsTrue (is_statement t) → IsTrue (has_certs_of One d)
+    (before : List StatementView) (t : StatementView) (d : Script) → IsTrue (list_all is_statement before) → IsTrue (is_statement t) → IsTrue (has_certs_of One d)
     → Certified before t d
     → Certified before t (trimmed before t d)
 
 -- it has no more lines, and no more blocks one inside the other
 abbrev pub TrimmedIsShorter : Type 0
 TrimmedIsShorter =
-    (before : List Stated) (t : Stated) (d : Script) → (size (trimmed before t d) ≤ size d) × (depth (trimmed before t d) ≤ depth d)
+    (before : List StatementView) (t : StatementView) (d : Script) → (size (trimmed before t d) ≤ size d) × (depth (trimmed before t d) ≤ depth d)

@@ -12,7 +12,7 @@ use Rattle.e_literal.specs.declared.literal.Lit.{Lit}
 use Rattle.e_literal.specs.Literal.{negation, objects_of_term, objects_of_atom}
 use Rattle.e_literal.specs.Same.{term_eq, same_lit}
 use Rattle.e_literal.specs.Facts.{others, are_equal_points}
-use Rattle.e_literal.specs.Use.{Stated}
+use Rattle.e_literal.specs.Use.{StatementView}
 use Rattle.e_construct.specs.Superposing as superposing
 use Rattle.e_clause.specs.declared.cert.By.{By}
 use Rattle.e_clause.specs.declared.cert.Cert.{Cert}
@@ -153,5 +153,5 @@ named_on (Contradiction against) = []
 named_on (Cases lit first second) = objects_of_atom lit.atom
 
 -- what the line looks up, blocks inside of it left aside, and the objects that it and its certificates name
-abbrev pub of_line : List Stated → Line → Wants
+abbrev pub of_line : List StatementView → Line → Wants
 of_line before x = both (needed (named_on x.here)) (both (of_certs x.facts (needs before x) (certs_of x.here)) (of_beside x.here x.facts))

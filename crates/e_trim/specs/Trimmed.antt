@@ -11,7 +11,7 @@ use Rattle.e_literal.specs.Literal.{negation, obj, is_in_scope}
 use Rattle.e_literal.specs.Facts.{has, joined, joined_all}
 use Rattle.e_literal.specs.Rename.{renamed, term_at, same_obj}
 use Rattle.e_literal.specs.Scopes.{same_sort, nothing, grown, next_objects}
-use Rattle.e_literal.specs.Use.{Stated, scope_of, gives_of_use}
+use Rattle.e_literal.specs.Use.{StatementView, scope_of, gives_of_use}
 use Rattle.e_construct.specs.declared.construction.Construction.{Construction}
 use Rattle.e_construct.specs.declared.superpose.Superpose.{Superpose}
 use Rattle.e_construct.specs.Construct.{sorts_made, gives_of_construction}
@@ -38,7 +38,7 @@ use Rattle.e_trim.specs.Looked.{Wants, no_wants, both, of_line}
 -- ---- what a step supplies
 
 -- the literals that the step makes facts
-abbrev pub joins_at : List Stated → Script → Scope → List Lit
+abbrev pub joins_at : List StatementView → Script → Scope → List Lit
 joins_at before (Cite by rest) s = by.lit ∷ []
 joins_at before (Hence lit cert rest) s = lit ∷ []
 joins_at before (Make form names certs rest) s = gives_of_construction form s
@@ -49,20 +49,20 @@ joins_at before (Superposed form names shown certs inner rest) s = shown
 joins_at before _ s = []
 
 -- the sorts of the objects that the step makes and that live on
-abbrev pub makes_at : List Stated → Script → List Sort
+abbrev pub makes_at : List StatementView → Script → List Sort
 makes_at before (Make form names certs rest) = sorts_made form
 makes_at before (Apply theorem args names certs rest) = (theorem_at before theorem).made
 makes_at before _ = []
 
--- it makes a literal a fact that is looked up behind it, and none the same was a fact before
+-- it makes a literal a fact that is looked up after it, and none the same was a fact before
 abbrev pub supplies : List Lit → Wants → Lit → Bool
 supplies facts w l = not (has facts l) && has w.lits l
 
 abbrev pub is_needed : Wants → Obj → Bool
 is_needed w o = list_any (same_obj o) w.objects
 
--- a step is kept where it supplies a literal, or makes an object, that is wanted behind it
-abbrev pub is_kept : List Stated → Script → Scope → List Lit → Wants → Bool
+-- a step is kept where it supplies a literal, or makes an object, that is wanted after it
+abbrev pub is_kept : List StatementView → Script → Scope → List Lit → Wants → Bool
 is_kept before here s facts w =
     list_any (supplies facts w) (joins_at before here s) || list_any (is_needed w) (next_objects s (makes_at before here))
 
@@ -76,14 +76,14 @@ outside s facts w = record { lits = filter (has facts) w.lits; objects = filter 
 abbrev pub line_at : Script → Scope → List Lit → Goal → Line
 line_at here s facts goal = line here here s facts goal
 
--- Where this is wanted behind a step, and that by the block inside it, what is wanted from the step on: a step that is not kept
+-- Where this is wanted after a step, and that by the block inside it, what is wanted from the step on: a step that is not kept
 -- wants nothing.
-abbrev pub with_step : List Stated → Script → Scope → List Lit → Goal → Wants → Wants → Wants
+abbrev pub with_step : List StatementView → Script → Scope → List Lit → Goal → Wants → Wants → Wants
 with_step before here s facts goal inner w =
     if is_kept before here s facts w then both w (both (of_line before (line_at here s facts goal)) inner) else w
 
 -- what the kept steps and the close look up and need, from here to the end of the block
-unfoldable pub wants : List Stated → Script → Scope → List Lit → Goal → Wants
+unfoldable pub wants : List StatementView → Script → Scope → List Lit → Goal → Wants
 wants before (Cite by rest) s facts goal =
     with_step before (Cite by rest) s facts goal no_wants (wants before rest s (joined facts by.lit) goal)
 wants before (Hence lit cert rest) s facts goal =
@@ -176,7 +176,7 @@ args_at kept args = map (option_map (obj_at kept)) args
 -- ---- trimmed
 
 -- the kept steps and the close, over the kept objects; the objects that a kept step makes are kept
-unfoldable pub trimmed_from : List Stated → List Obj → Script → Scope → List Lit → Goal → Script
+unfoldable pub trimmed_from : List StatementView → List Obj → Script → Scope → List Lit → Goal → Script
 trimmed_from before kept (Cite by rest) s facts goal =
     let more = trimmed_from before kept rest s (joined facts by.lit) goal in
     if is_kept before (Cite by rest) s facts (wants before rest s (joined facts by.lit) goal) then Cite (by_at kept by) more else more
@@ -217,9 +217,9 @@ trimmed_from before kept (Cases lit first second) s facts goal =
     (trimmed_from before kept second s (joined facts (negation lit)) goal)
 
 -- the declared objects are kept
-abbrev pub declared_of : Stated → List Obj
+abbrev pub declared_of : StatementView → List Obj
 declared_of t = next_objects nothing t.declared
 
 -- of the derivation of a statement
-abbrev pub trimmed : List Stated → Stated → Script → Script
+abbrev pub trimmed : List StatementView → StatementView → Script → Script
 trimmed before t d = trimmed_from before (declared_of t) d (scope_of t) (facts_of_statement t) (goal_of_statement t)

@@ -2,7 +2,7 @@
 
 ghost use Rattle.std.specs.Prelude.{◌≡◌, ℕ, [], ◌∷◌, map, IfOk, OnOk, IsTrue, List};
 ghost use Rattle.std.specs.List.{list_all, list_any};
-ghost use Rattle.e_literal.specs.Use.{Stated, needs_of_use, gives_of_use};
+ghost use Rattle.e_literal.specs.Use.{StatementView, needs_of_use, gives_of_use};
 ghost use Rattle.e_construct.specs.Superposing;
 ghost use Rattle.e_theorem.specs.Statements.{all_stated};
 ghost use Rattle.e_deriv.specs.Fitting.{is_small, is_small_statement};
@@ -178,7 +178,7 @@ pub fn is_kept(
 // ---- what a step wants
 
 fn look_cite(alloc: Global, by: &By, out: &mut Wanted) -> Result<(), AllocError>
-    ensures { OnOk result ((before : List Stated) (rest : Script) (x : standings.Standing) (goal : BlockGoal) → out.new ≡ both out.old (of_line before (line_at (scripts.Cite by.now rest) x.scope x.facts goal))) }
+    ensures { OnOk result ((before : List StatementView) (rest : Script) (x : standings.Standing) (goal : BlockGoal) → out.new ≡ both out.old (of_line before (line_at (scripts.Cite by.now rest) x.scope x.facts goal))) }
 {
     out.need(by.args.items())?;
     out.need_objects_of(&by.lit)?;
@@ -192,7 +192,7 @@ fn look_hence(
     standing: &Standing,
     out: &mut Wanted,
 ) -> Result<(), AllocError>
-    ensures { OnOk result ((before : List Stated) (rest : Script) (goal : BlockGoal) → out.new ≡ both out.old (of_line before (line_at (scripts.Hence lit.now cert.now rest) standing.now.scope standing.now.facts goal))) }
+    ensures { OnOk result ((before : List StatementView) (rest : Script) (goal : BlockGoal) → out.new ≡ both out.old (of_line before (line_at (scripts.Hence lit.now cert.now rest) standing.now.scope standing.now.facts goal))) }
 {
     out.need_objects_of(lit)?;
     match cert {
@@ -208,7 +208,7 @@ fn look_make(
     standing: &Standing,
     out: &mut Wanted,
 ) -> Result<(), AllocError>
-    ensures { OnOk result ((before : List Stated) (names : List (List ℕ)) (rest : Script) (goal : BlockGoal) → out.new ≡ both out.old (of_line before (line_at (scripts.Make form.now names certs.now rest) standing.now.scope standing.now.facts goal))) }
+    ensures { OnOk result ((before : List StatementView) (names : List (List ℕ)) (rest : Script) (goal : BlockGoal) → out.new ≡ both out.old (of_line before (line_at (scripts.Make form.now names certs.now rest) standing.now.scope standing.now.facts goal))) }
 {
     out.need(form.args.items())?;
     out.need(form.avoid.items())?;
@@ -247,7 +247,7 @@ fn look_superpose(
     standing: &Standing,
     out: &mut Wanted,
 ) -> Result<(), AllocError>
-    ensures { OnOk result ((before : List Stated) (names : List (List ℕ)) (inner rest : Script) (goal : BlockGoal) → out.new ≡ both out.old (of_line before (line_at (scripts.Superposed form.now names shown.now certs.now inner rest) standing.now.scope standing.now.facts goal))) }
+    ensures { OnOk result ((before : List StatementView) (names : List (List ℕ)) (inner rest : Script) (goal : BlockGoal) → out.new ≡ both out.old (of_line before (line_at (scripts.Superposed form.now names shown.now certs.now inner rest) standing.now.scope standing.now.facts goal))) }
 {
     need_superposed(form, out)?;
     out.need_objects_of_all(shown)?;
@@ -329,7 +329,7 @@ fn look_qed(
     out: &mut Wanted,
 ) -> Result<(), AllocError>
     requires one_sort { map (λ o. o.sort) goal.now.made.now ≡ map (λ o. o.sort) objects.now }
-    ensures { OnOk result ((before : List Stated) → out.new ≡ both out.old (of_line before (line_at (scripts.Qed objects.now certs.now) standing.now.scope standing.now.facts (goal_said goal.now)))) }
+    ensures { OnOk result ((before : List StatementView) → out.new ≡ both out.old (of_line before (line_at (scripts.Qed objects.now certs.now) standing.now.scope standing.now.facts (goal_said goal.now)))) }
 {
     out.need(objects)?;
     let lits = goal_with(alloc, goal, objects)?;
@@ -345,7 +345,7 @@ pub fn look_close(
     out: &mut Wanted,
 ) -> Result<(), AllocError>
     requires fits { CloseFits close.now standing.now.scope (goal_said goal.now) }
-    ensures { OnOk result ((before : List Stated) → out.new ≡ both out.old (of_line before (line_at (close_script close.now) standing.now.scope standing.now.facts (goal_said goal.now)))) }
+    ensures { OnOk result ((before : List StatementView) → out.new ≡ both out.old (of_line before (line_at (close_script close.now) standing.now.scope standing.now.facts (goal_said goal.now)))) }
 {
     match close {
         Close::Qed { objects, certs } => {

@@ -12,7 +12,7 @@ use Rattle.e_literal.specs.Same.{same_lit, agree_at}
 use Rattle.e_literal.specs.Facts.{joined, joined_all, others}
 use Rattle.e_literal.specs.Rows.{is_degenerate}
 use Rattle.e_literal.specs.Scopes.{grown}
-use Rattle.e_literal.specs.Use.{Stated, gives_of_use, scope_of}
+use Rattle.e_literal.specs.Use.{StatementView, gives_of_use, scope_of}
 use Rattle.e_clause.specs.declared.cert.RowName.{RowName}
 use Rattle.e_clause.specs.declared.cert.RowName.TheVariants.{Fact, Above, Below, FactAt}
 use Rattle.e_clause.specs.declared.cert.Sums.{Sums}
@@ -129,11 +129,11 @@ against_with_places facts (MetricAgainst m) = MetricAgainst (record { sums = sum
 -- ---- derivations
 
 -- the literals that the first line of the script needs
-abbrev pub needs_of : List Stated → Script → Scope → List Lit → Goal → List Lit
+abbrev pub needs_of : List StatementView → Script → Scope → List Lit → Goal → List Lit
 needs_of before d s facts goal = needs before (line d d s facts goal)
 
 -- The script where certificates have the places of facts, each among the facts before its own line; what holds before each line is as in its lines.
-unfoldable pub with_places : List Stated → Script → Scope → List Lit → Goal → Script
+unfoldable pub with_places : List StatementView → Script → Scope → List Lit → Goal → Script
 with_places before (Cite by rest) s facts goal = Cite by (with_places before rest s (joined facts by.lit) goal)
 with_places before (Hence lit cert rest) s facts goal = Hence lit (option_map (cert_with_places facts lit) cert) (with_places before rest s (joined facts lit) goal)
 with_places before (Make form names certs rest) s facts goal =
@@ -156,5 +156,5 @@ with_places before (Cases lit first second) s facts goal =
     Cases lit (with_places before first s (joined facts lit) goal) (with_places before second s (joined facts (negation lit)) goal)
 
 -- the derivation of a statement, where certificates have the places of facts
-abbrev pub derivation_with_places : List Stated → Stated → Script → Script
+abbrev pub derivation_with_places : List StatementView → StatementView → Script → Script
 derivation_with_places before t d = with_places before d (scope_of t) (facts_of_statement t) (goal_of_statement t)

@@ -3,7 +3,7 @@
 ghost use Rattle.std.specs.Prelude.{◌≡◌, List, IfOk, IsTrue, map, true};
 ghost use Rattle.std.specs.List.{list_all};
 ghost use Rattle.std.specs.Option.{option_map_or};
-ghost use Rattle.e_literal.specs.Use.{Stated};
+ghost use Rattle.e_literal.specs.Use.{StatementView};
 ghost use Rattle.e_literal.specs.WellFormed.{is_well_formed};
 ghost use Rattle.e_deriv.specs.Certified.{is_certified};
 ghost use Rattle.e_deriv.specs.Goal.{Goal as BlockGoal, goal_with as goal_at};
@@ -30,7 +30,7 @@ pub fn qed(
     requires facts { IsTrue (list_all is_well_formed state.now.facts) }
     requires shown { IsTrue (list_all is_well_formed goal.now.shown.now) }
     requires certs { IsTrue (list_all is_writable_cert certs.now) }
-    ensures { IfOk result (λ b. (before : List Stated) → b ≡ is_certified before
+    ensures { IfOk result (λ b. (before : List StatementView) → b ≡ is_certified before
         (line_in_state (Qed objects.now certs.now) state.now (block_goal goal.now))) }
 {
     if !have_sorts_of(state.scope, goal.made, objects) {
@@ -48,7 +48,7 @@ pub fn contradiction(
 ) -> Result<bool, AllocError>
     requires facts { IsTrue (list_all is_well_formed state.now.facts) }
     requires against { IsTrue (option_map_or is_writable_against against.now true) }
-    ensures { IfOk result (λ b. (before : List Stated) (goal : BlockGoal)
+    ensures { IfOk result (λ b. (before : List StatementView) (goal : BlockGoal)
         → b ≡ is_certified before (line_in_state (Contradiction against.now) state.now goal)) }
 {
     match against {

@@ -3,7 +3,7 @@
 ghost use Rattle.std.specs.Prelude.{◌≡◌, ◌<◌, ◌^◌, List, length, IfOk, OnOk, IsTrue};
 ghost use Rattle.std.specs.List.{list_all};
 ghost use Rattle.std.specs.Option.{option_map};
-ghost use Rattle.e_literal.specs.Use.{Stated};
+ghost use Rattle.e_literal.specs.Use.{StatementView};
 ghost use Rattle.e_construct.specs.Superposing as superposing;
 ghost use Rattle.e_theorem.specs.Statements.{stated, all_stated};
 ghost use Rattle.e_clause.specs.declared.cert.Version.TheVariants as version;
@@ -273,7 +273,7 @@ fn number_close(
 
 #[tactic(auto, using(crate::proofs::placing::NumberedSteps::placing))]
 fn cite(alloc: Global, by: &By, state: &mut StepState) -> Result<Step, AllocError>
-    ensures { IfOk result (λ s. (before : List Stated)
+    ensures { IfOk result (λ s. (before : List StatementView)
         → IsNumberedStep before (Cite by.now) state.old (step_script s) state.new) }
 {
     state.assume(alloc, &by.lit)?;
@@ -288,7 +288,7 @@ fn hence(
     cert: &Option<Cert>,
     state: &mut StepState,
 ) -> Result<Step, AllocError>
-    ensures { IfOk result (λ s. (before : List Stated)
+    ensures { IfOk result (λ s. (before : List StatementView)
         → IsNumberedStep before (Hence lit.now cert.now) state.old (step_script s) state.new) }
 {
     let cert = placed_option(alloc, &state.facts, lit, cert)?;
@@ -321,7 +321,7 @@ fn make(
     certs: &[Cert],
     state: &mut StepState,
 ) -> Result<Step, AllocError>
-    ensures { IfOk result (λ s. (before : List Stated) → IsNumberedStep before
+    ensures { IfOk result (λ s. (before : List StatementView) → IsNumberedStep before
         (Make form.now names.now certs.now) state.old (step_script s) state.new) }
 {
     let scope = state.scope;
@@ -418,7 +418,7 @@ fn qed(
     goal: &Goal,
     state: &StepState,
 ) -> Result<Close, AllocError>
-    ensures { IfOk result (λ c. (before : List Stated) → close_script c
+    ensures { IfOk result (λ c. (before : List StatementView) → close_script c
         ≡ places_at before (Qed objects.now certs.now) state.now (block_goal goal.now)) }
 {
     if !have_sorts_of(state.scope, goal.made, objects) {

@@ -4,7 +4,7 @@ ghost use Rattle.std.specs.Prelude.{◌≡◌, ◌&&◌, ℕ, List, IfOk, IsTrue
 ghost use Rattle.std.specs.List.{list_all};
 ghost use Rattle.std.specs.Option.{option_map, option_map_or};
 ghost use Rattle.e_literal.specs.Literal.{all_in_scope};
-ghost use Rattle.e_literal.specs.Use.{Stated};
+ghost use Rattle.e_literal.specs.Use.{StatementView};
 ghost use Rattle.e_literal.specs.WellFormed.{is_well_formed};
 ghost use Rattle.e_theorem.specs.Statements.{all_stated};
 ghost use Rattle.e_deriv.specs.Fitting.{is_small, is_small_statement};
@@ -32,7 +32,7 @@ use std::alloc::{AllocError, Global};
 /// Whether a citation is certified; then its literal is a fact.
 pub fn cite(alloc: Global, by: &By, state: &mut StepState) -> Result<bool, AllocError>
     requires { IsTrue (is_well_formed by.now.lit) }
-    ensures { IfOk result (λ b. (before : List Stated)
+    ensures { IfOk result (λ b. (before : List StatementView)
         → IsChecked before (Cite by.now) state.old state.new b) }
 {
     if !is_cited(alloc, state.scope, &state.facts, by)? {
@@ -69,7 +69,7 @@ pub fn hence(
     requires facts { IsTrue (list_all is_well_formed state.old.facts) }
     requires lit { IsTrue (is_well_formed lit.now) }
     requires cert { IsTrue (option_map_or is_writable_cert cert.now true) }
-    ensures { IfOk result (λ b. (before : List Stated)
+    ensures { IfOk result (λ b. (before : List StatementView)
         → IsChecked before (Hence lit.now cert.now) state.old state.new b) }
 {
     let Some(cert) = cert else {
@@ -95,7 +95,7 @@ pub fn make(
     requires facts { IsTrue (list_all is_well_formed state.old.facts) }
     requires scope { IsTrue (is_small state.old.scope) }
     requires certs { IsTrue (list_all is_writable_cert certs.now) }
-    ensures { IfOk result (λ b. (before : List Stated) (names : List (List ℕ))
+    ensures { IfOk result (λ b. (before : List StatementView) (names : List (List ℕ))
         → IsChecked before (Make form.now names certs.now) state.old state.new b) }
 {
     let scope = state.scope;
@@ -161,7 +161,7 @@ pub fn superpose(
     requires facts { IsTrue (list_all is_well_formed state.old.facts) }
     requires scope { IsTrue (is_small state.old.scope) }
     requires certs { IsTrue (list_all is_writable_cert certs.now) }
-    ensures test { IfOk result (λ b. (before : List Stated) (names : List (List ℕ))
+    ensures test { IfOk result (λ b. (before : List StatementView) (names : List (List ℕ))
         (inner rest : Script) (goal : Goal) → b ≡ is_certified before
         (line_in_state (Superposed form.now names shown.now certs.now inner rest) state.old goal)) }
     ensures after { IfOk result (λ b. IsTrue b

@@ -1,7 +1,7 @@
 -- A theorem or a definition as the parser holds it while its lines come.
 use Rattle.std.specs.Prelude.{◌≡◌, ℕ, ◌+◌, ◌≤◌, Bool, true, false, not, ◌||◌, List, [], ◌∷◌, ◌++◌, length, map, Option, Some, None, Result, Ok, Err, if◌then◌else◌}
 use Rattle.e_text.specs.Tokens.{tokens_of}
-use Rattle.e_text.specs.Lines.{Seen, HaveNoFault}
+use Rattle.e_text.specs.Lines.{LineView, HaveNoFault}
 use Rattle.e_deriv.specs.declared.names.Names.{Names}
 use Rattle.e_line.specs.declared.fault.FaultKind.{FaultKind}
 use Rattle.e_line.specs.declared.fault.FaultKind.TheVariants.{Malformed, NameTaken}
@@ -137,7 +137,7 @@ abbrev pub at_end : ℕ → Option Coming → Answer
 at_end last None = Ok None
 at_end last (Some c) = Err (faults.Unended last)
 
--- the next theorem or definition and the lines behind it, or the first fault
+-- the next theorem or definition and the lines after it, or the first fault
 abbrev pub item_from : Known → ℕ → Option Coming → Rest → Answer
 item_from known last c [] = at_end last c
 item_from known last c (Err f ∷ lines) = Err (line_fault f)
@@ -160,12 +160,12 @@ TakesWords known old number words (Err f) new = BookFails f (put_at number (line
 
 -- what a line makes of it: to read on from here through the line is to read on from there; or the line ends the theorem or the definition;
 -- or it is the first with a fault
-abbrev pub TakesLine : Known → Option Coming → Seen → Result (Option Item) BookFault → Option Coming → Type 0
+abbrev pub TakesLine : Known → Option Coming → LineView → Result (Option Item) BookFault → Option Coming → Type 0
 TakesLine known old l (Ok None) new = (last : ℕ) (more : Rest) → item_from known last old (Ok l ∷ more) ≡ item_from known last new more
 TakesLine known old l (Ok (Some i)) new = (new ≡ None) × ((last : ℕ) (more : Rest) → item_from known last old (Ok l ∷ more) ≡ Ok (Some (view_of i, more)))
 TakesLine known old l (Err f) new = (last : ℕ) (more : Rest) → BookFails f (item_from known last old (Ok l ∷ more))
 
--- what the lines that are ahead make of it: all are taken, and none has a fault; or a theorem or a definition ends, and these are left
+-- what the lines that come make of it: all are taken, and none has a fault; or a theorem or a definition ends, and these are left
 abbrev pub ReadsOn : Known → Option Coming → Rest → Result (Option Item) BookFault → Option Coming → Rest → Type 0
 ReadsOn known old lines (Ok None) new left =
     (left ≡ []) × HaveNoFault lines × ((last : ℕ) (more : Rest) → item_from known last old (lines ++ more) ≡ item_from known last new more)

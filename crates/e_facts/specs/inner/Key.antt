@@ -1,4 +1,4 @@
--- The keys by which diagram literals are looked up, and the places where metric ones stand.
+-- The keys by which diagram literals are looked up, and the places of metric ones.
 use Rattle.std.specs.Prelude.{◌≡◌, ℕ, ◌+◌, List, [], ◌∷◌, Bool, false, Option, Some, None, slice_get}
 use Rattle.std.specs.Option.{option_map, option_map_or}
 use Rattle.e_literal.specs.declared.literal.Lit.{Lit}

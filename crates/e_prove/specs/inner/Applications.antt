@@ -4,7 +4,7 @@ use Rattle.std.specs.List.{list_all}
 use Rattle.e_literal.specs.declared.object.Obj.{Obj}
 use Rattle.e_literal.specs.Facts.{joined_all}
 use Rattle.e_literal.specs.Scopes.{grown}
-use Rattle.e_literal.specs.Use.{Stated, needs_of_use, gives_of_use}
+use Rattle.e_literal.specs.Use.{StatementView, needs_of_use, gives_of_use}
 use Rattle.e_clause.specs.Certify.{certify_all}
 use Rattle.e_clause.specs.Judged.{are_well_formed_in, are_limited_facts}
 use Rattle.e_theorem.specs.Choice.{is_choice, IsLeast}
@@ -16,13 +16,13 @@ use Rattle.e_licence.specs.Contexts.{Basis}
 use Rattle.e_prove.specs.declared.application.Use.{Use}
 
 -- the literals that the statement needs and gives at these arguments are good
-pub record LitsFitAt (t : Stated) (args : List Obj) (x : Basis) : Type 0 where
+pub record LitsFitAt (t : StatementView) (args : List Obj) (x : Basis) : Type 0 where
   pub needs : IsTrue (are_well_formed_in x.scope (needs_of_use t args x.scope))
   pub after : IsTrue (are_limited_facts (grown x.scope t.made) (joined_all x.facts (gives_of_use t args x.scope)))
 
 -- the arguments fit the statement, whatever their blanks are filled with, and at each choice the literals are good; there are
 -- numbers for all objects
-pub record CanApply (t : Stated) (pattern : List (Option Obj)) (x : Basis) : Type 0 where
+pub record CanApply (t : StatementView) (pattern : List (Option Obj)) (x : Basis) : Type 0 where
   pub fits : IsTrue (is_pattern t x.scope pattern)
   pub statement : IsTrue (is_small_statement t)
   pub scope : IsTrue (is_small x.scope)
@@ -30,7 +30,7 @@ pub record CanApply (t : Stated) (pattern : List (Option Obj)) (x : Basis) : Typ
 
 -- the arguments are the least good choice, each given literal has its certificate there, which names literals that are well
 -- formed, and these are the shown ones
-pub record IsUse (t : Stated) (pattern : List (Option Obj)) (x : Basis) (u : Use) : Type 0 where
+pub record IsUse (t : StatementView) (pattern : List (Option Obj)) (x : Basis) (u : Use) : Type 0 where
   pub least : IsLeast t x.scope x.facts pattern u.args
   pub certified : IsTrue (certify_all x.scope x.facts (needs_of_use t u.args x.scope) u.certs.items)
   pub written : IsTrue (list_all (is_cert_of version.One) u.certs.items)

@@ -1,7 +1,7 @@
 -- What it is to license a step, or a close, in its place: whatever comes after it.
 use Rattle.std.specs.Prelude.{◌≡◌, List, ◌∷◌, Bool, IsTrue}
 use Rattle.std.specs.List.{list_all}
-use Rattle.e_literal.specs.Use.{Stated}
+use Rattle.e_literal.specs.Use.{StatementView}
 use Rattle.e_deriv.specs.declared.block.Step.{Step}
 use Rattle.e_deriv.specs.declared.block.Close.{Close}
 use Rattle.e_deriv.specs.Script.{Script, step_script, close_script, erased}
@@ -20,7 +20,7 @@ use Rattle.e_prove.specs.declared.step_stop.StepStop.{StepStop}
 use Rattle.e_prove.specs.inner.StopsOfSteps.{StepStopsAt}
 
 -- the steps of a script where this holds, whose blanks are filled as in the second one
-abbrev pub lines_at : List Stated → Script → Script → Basis → Goal → List Line
+abbrev pub lines_at : List StatementView → Script → Script → Basis → Goal → List Line
 lines_at before script filled x goal = lines before script filled x.scope x.facts goal
 
 -- the first of them
@@ -28,13 +28,13 @@ abbrev pub line_at : Script → Script → Basis → Goal → Line
 line_at script filled x goal = line script filled x.scope x.facts goal
 
 -- the step's form fits, whatever its blanks are filled with
-abbrev pub has_form : List Stated → Line → Bool
+abbrev pub has_form : List StatementView → Line → Bool
 has_form before y = form_fits before y y.here
 
 -- where the step has its form it is licensed, with its blanks filled as in the derived one, and the derived one is certified;
 -- without certificates the derived one is the step with its blanks filled; its certificates name literals that are well formed;
 -- this holds after
-pub record IsLicensedStep (before : List Stated) (step : Step) (x : StepState) (derived : Step) (after : StepState) : Type 0 where
+pub record IsLicensedStep (before : List StatementView) (step : Step) (x : StepState) (derived : Step) (after : StepState) : Type 0 where
   pub licensed : (rest more : Script) (goal : Goal) →
       IsTrue (has_form before (line_at (step_script step rest) (step_script derived more) x.context goal)) →
       Licensed before (line_at (step_script step rest) (step_script derived more) x.context goal)
@@ -54,17 +54,17 @@ pub record IsLicensedStep (before : List Stated) (step : Step) (x : StepState) (
   pub kept : after.context.held ≡ x.context.held
 
 -- where this holds licensing stops so at the step, however its blanks are filled
-abbrev pub IsStopOfStep : List Stated → Step → StepState → StepStop → Type 0
+abbrev pub IsStopOfStep : List StatementView → Step → StepState → StepStop → Type 0
 IsStopOfStep before step x h = (rest filled : Script) (goal : Goal) → StepStopsAt before (line_at (step_script step rest) filled x.context goal) h
 
 -- where this holds the close is licensed, and the derived one certified, by certificates that name literals that are well formed;
 -- both are one without certificates
-pub record IsLicensedClose (before : List Stated) (close : Close) (x : Basis) (goal : Goal) (derived : Close) : Type 0 where
+pub record IsLicensedClose (before : List StatementView) (close : Close) (x : Basis) (goal : Goal) (derived : Close) : Type 0 where
   pub licensed : AllLicensed before (lines_at before (close_script close) (close_script derived) x goal)
   pub certified : IsTrue (list_all (is_certified before) (lines_at before (close_script derived) (close_script derived) x goal))
   pub erased : erased (close_script derived) ≡ filled_by (erased (close_script close)) (close_script derived)
   pub written : IsTrue (has_certs_of version.One (close_script derived))
 
 -- where this holds licensing stops so at the close
-abbrev pub IsStopOfClose : List Stated → Close → Basis → Goal → StepStop → Type 0
+abbrev pub IsStopOfClose : List StatementView → Close → Basis → Goal → StepStop → Type 0
 IsStopOfClose before close x goal h = (filled : Script) → StepStopsAt before (line_at (close_script close) filled x goal) h

@@ -5,7 +5,7 @@ use Rattle.e_literal.specs.declared.object.Scope.{Scope}
 use Rattle.e_literal.specs.declared.literal.Lit.{Lit}
 use Rattle.e_literal.specs.Facts.{joined, joined_all}
 use Rattle.e_literal.specs.Scopes.{grown}
-use Rattle.e_literal.specs.Use.{Stated, scope_of, gives_of_use}
+use Rattle.e_literal.specs.Use.{StatementView, scope_of, gives_of_use}
 use Rattle.e_clause.specs.Judged.{are_limited_facts}
 use Rattle.e_construct.specs.declared.construction.Construction.{Construction}
 use Rattle.e_construct.specs.Construct.{sorts_made, gives_of_construction}
@@ -19,7 +19,7 @@ use Rattle.e_prove.specs.declared.step_state.StepState.{StepState}
 use Rattle.e_prove.specs.declared.close.Goal.{Goal as CodeGoal}
 
 -- before the first step of a statement's proof, where these are the names of its declared and made objects
-abbrev pub start_of : Stated → Names → StepState
+abbrev pub start_of : StatementView → Names → StepState
 start_of t names = record { context = record { scope = scope_of t; facts = facts_of_statement t; held = [] }; names = declared_names t names }
 
 -- after a step that gives one literal
@@ -35,7 +35,7 @@ after_make form names x =
     }
 
 -- after an application of the statement at these arguments, whose new objects have these names
-abbrev pub after_apply : Stated → List Obj → List (List ℕ) → StepState → StepState
+abbrev pub after_apply : StatementView → List Obj → List (List ℕ) → StepState → StepState
 after_apply t args names x =
     record {
       context = record x.context { scope = grown x.context.scope t.made; facts = joined_all x.context.facts (gives_of_use t args x.context.scope) };

@@ -2,7 +2,7 @@
 use Rattle.std.specs.Prelude.{◌≡◌, ℕ, List, Contains, MatchBool, Option, Some, None, Result, Ok, Err}
 use Rattle.e_literal.specs.declared.object.Obj.{Obj}
 use Rattle.e_literal.specs.declared.literal.Lit.{Lit}
-use Rattle.e_literal.specs.Use.{Stated, needs_of_use}
+use Rattle.e_literal.specs.Use.{StatementView, needs_of_use}
 use Rattle.e_clause.specs.Wide.{IsTooWideLit}
 use Rattle.e_theorem.specs.Choice.{NoneIsGood}
 use Rattle.e_theorem.specs.WideChoice.{SomeChoiceIsTooWide}
@@ -23,7 +23,7 @@ use Rattle.e_prove.specs.declared.step_stop.StepStop.{StepStop}
 use Rattle.e_prove.specs.declared.step_stop.StepStop.TheVariants.{Lacks, TooWide, NoMemory}
 
 -- the step lacks this, and the values show it; or it is too wide at this; out of memory is free
-abbrev pub StepStopsAt : List Stated → Line → StepStop → Type 0
+abbrev pub StepStopsAt : List StatementView → Line → StepStop → Type 0
 StepStopsAt before x (Lacks wanted values) = LineLacks before x x.here wanted × IsShown x.here x.facts wanted values
 StepStopsAt before x (TooWide wanted width) = IsTooWide before x x.here wanted width
 StepStopsAt before x NoMemory = Unit {0}
@@ -39,7 +39,7 @@ StepStopsAmong x ls (TooWide Contradiction width) = ⊥
 StepStopsAmong x ls NoMemory = Unit {0}
 
 -- no choice for the blanks is good, or one that is not above the least good one is too wide; out of memory is free
-abbrev pub StepStopsFilling : Stated → Basis → List (Option Obj) → StepStop → Type 0
+abbrev pub StepStopsFilling : StatementView → Basis → List (Option Obj) → StepStop → Type 0
 StepStopsFilling t x pattern (Lacks Match values) = NoneIsGood t x.scope x.facts pattern × (values ≡ None)
 StepStopsFilling t x pattern (TooWide Match width) = SomeChoiceIsTooWide t x.scope x.facts pattern width
 StepStopsFilling t x pattern (Lacks (Literal l) values) = ⊥
@@ -49,7 +49,7 @@ StepStopsFilling t x pattern (TooWide Contradiction width) = ⊥
 StepStopsFilling t x pattern NoMemory = Unit {0}
 
 -- why an application of the statement stops: without blanks at one of its given literals, with blanks at their filling
-abbrev pub StepStopsApplying : Stated → Basis → List (Option Obj) → StepStop → Type 0
+abbrev pub StepStopsApplying : StatementView → Basis → List (Option Obj) → StepStop → Type 0
 StepStopsApplying t x pattern h = MatchBool (has_no_blank pattern) (StepStopsAmong x (needs_of_use t (written pattern) x.scope) h) (StepStopsFilling t x pattern h)
 
 -- the stop, where what is too wide is answered as a match that is

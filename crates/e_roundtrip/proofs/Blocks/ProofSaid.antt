@@ -7,7 +7,7 @@ use Rattle.e_literal.specs.declared.object.Sort.{Sort}
 use Rattle.e_literal.specs.declared.literal.Lit.{Lit}
 use Rattle.e_literal.specs.declared.object.Obj.{Obj}
 use Rattle.e_literal.specs.Scopes.{are_of_sorts}
-use Rattle.e_literal.specs.Use.{Stated, scope_of, are_arguments}
+use Rattle.e_literal.specs.Use.{StatementView, scope_of, are_arguments}
 use Rattle.e_literal.proofs.Growing.{sorts_next}
 use Rattle.e_construct.specs.declared.construction.Construction.{Construction}
 use Rattle.e_construct.specs.declared.superpose.Superpose.{Superpose}
@@ -197,7 +197,7 @@ takes_let known d e l owes ks ls p b s o h =
     subst (λ (y : Obligation). Takes known d e (rawlines.Let l) y ks ls) (ok_is (one_each (needs_of_construction w.0)) owes w.2)
     (owing_certs known d e (rawlines.Let l) (needs_of_construction w.0) ks ls (λ cs c. built_goes known d e l w.0 cs ks ls w.1 c p b s h))
 
-used_goes : (known : List TitledStatement) (d e : TheoremParser) (t : Stated) (theorem : ℕ) (args : List (Option Obj)) (new : List (List ℕ)) (js : List StepCerts) (ls : List (List ℕ)) → d.place ≡ Proving
+used_goes : (known : List TitledStatement) (d e : TheoremParser) (t : StatementView) (theorem : ℕ) (args : List (Option Obj)) (new : List (List ℕ)) (js : List StepCerts) (ls : List (List ℕ)) → d.place ≡ Proving
     → BlocksSaid known (start_of d) d.outers (d.steps ++ Applied theorem args new [] ∷ []) js (named d.in_scope t.made new) ls → used_by d t theorem args new ≡ Ok e → Goes known d e js ls
 unfolding used_by
 used_goes known d e t theorem args new js ls p b h =

@@ -8,7 +8,7 @@ use Rattle.e_literal.specs.declared.object.Obj.{Obj}
 use Rattle.e_literal.specs.declared.object.Scope.{Scope}
 use Rattle.e_literal.specs.declared.literal.Lit.{Lit}
 use Rattle.e_literal.specs.Scopes.{are_of_sorts}
-use Rattle.e_literal.specs.Use.{Stated, are_arguments, needs_of_use}
+use Rattle.e_literal.specs.Use.{StatementView, are_arguments, needs_of_use}
 use Rattle.e_construct.specs.declared.construction.Construction.{Construction}
 use Rattle.e_construct.specs.declared.superpose.Superpose.{Superpose}
 use Rattle.e_construct.specs.Construct.{needs_of_construction}
@@ -60,7 +60,7 @@ each_written [] h = refl
 each_written (None ∷ args) h = absurd cc
 each_written (Some o ∷ args) h = rw (each_written args h) refl
 
-needed : (s : Scope) (t : Stated) (args : List (Option Obj)) → has_no_blank args ≡ true → are_arguments t s (written args) ≡ true → needs_in s t args ≡ Ok (needs_of_use t (written args) s)
+needed : (s : Scope) (t : StatementView) (args : List (Option Obj)) → has_no_blank args ≡ true → are_arguments t s (written args) ≡ true → needs_in s t args ≡ Ok (needs_of_use t (written args) s)
 needed s t args h fit = rw (each_written args h, fit) refl
 
 pub apply_due : (known : List TitledStatement) (d : TheoremParser) (theorem : ℕ) (args : List (Option Obj)) (names : List (List ℕ)) → InOrder d.in_scope → GoodApply known d.in_scope theorem args names → has_no_blank args ≡ true

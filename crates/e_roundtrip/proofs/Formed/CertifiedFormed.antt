@@ -9,7 +9,7 @@ use Rattle.e_literal.specs.Literal.{all_in_scope, negation}
 use Rattle.e_literal.specs.Facts.{is_metric, has, others, joined, joined_all}
 use Rattle.e_literal.specs.Rows.{Row}
 use Rattle.e_literal.specs.Scopes.{grown}
-use Rattle.e_literal.specs.Use.{Stated, scope_of, gives_of_use}
+use Rattle.e_literal.specs.Use.{StatementView, scope_of, gives_of_use}
 use Rattle.e_literal.proofs.Booleans.{all_both}
 use Rattle.e_clause.specs.declared.cert.RowName.{RowName}
 use Rattle.e_clause.specs.declared.cert.RowName.TheVariants as rownames
@@ -141,16 +141,16 @@ against_is s facts (against.Metric m) h g =
 -- ---- lines
 
 -- a line, where its certificates name literals that are well formed, and what stands beside has its form
-line_is : (before : List Stated) (x : Line) (one : OneCertified before x) → list_all is_writable_cert (certs_of x.here) ≡ true → formed_beside x.here x.scope ≡ true → is_formed before x ≡ true
+line_is : (before : List StatementView) (x : Line) (one : OneCertified before x) → list_all is_writable_cert (certs_of x.here) ≡ true → formed_beside x.here x.scope ≡ true → is_formed before x ≡ true
 line_is before x one g b =
     and_from (fits before x) (certs_formed x.scope (needs before x) (certs_of x.here) && formed_beside x.here x.scope) one.fitting
     (and_from (certs_formed x.scope (needs before x) (certs_of x.here)) (formed_beside x.here x.scope) (certs_are x.scope x.facts (needs before x) (certs_of x.here) one.certs g) b)
 
 -- the first line, and those behind it
-pub then_lines : (before : List Stated) (x : Line) (xs : List Line) → is_formed before x ≡ true → list_all (is_formed before) xs ≡ true → list_all (is_formed before) (x ∷ xs) ≡ true
+pub then_lines : (before : List StatementView) (x : Line) (xs : List Line) → is_formed before x ≡ true → list_all (is_formed before) xs ≡ true → list_all (is_formed before) (x ∷ xs) ≡ true
 then_lines before x xs h k = and_from (is_formed before x) (list_all (is_formed before) xs) h k
 
-formed_lines : (before : List Stated) (d : Script) (s : Scope) (facts : List Lit) (goal : Goal) → list_all (is_certified before) (lines before d d s facts goal) ≡ true → is_written_well d ≡ true
+formed_lines : (before : List StatementView) (d : Script) (s : Scope) (facts : List Lit) (goal : Goal) → list_all (is_certified before) (lines before d d s facts goal) ≡ true → is_written_well d ≡ true
     → list_all (is_formed before) (lines before d d s facts goal) ≡ true
 unfolding lines
 formed_lines before (Cite by rest) s facts goal h w =
@@ -226,5 +226,5 @@ formed_lines before (Cases lit first second) s facts goal h w =
     then_lines before x (one ++ other) (line_is before x (one_certified before x p.0) refl refl)
     (all_both (is_formed before) one other (formed_lines before first s (joined facts lit) goal q.0 g.1) (formed_lines before second s (joined facts (negation lit)) goal q.1 g.2))
 
-pub certified_formed : (before : List Stated) (t : Stated) (d : Script) → Certified before t d → is_written_well d ≡ true → Formed before t d
+pub certified_formed : (before : List StatementView) (t : StatementView) (d : Script) → Certified before t d → is_written_well d ≡ true → Formed before t d
 certified_formed before t d c w = formed_lines before d (scope_of t) (facts_of_statement t) (goal_of_statement t) c w

@@ -6,7 +6,7 @@ use Rattle.e_text.specs.Names.{is_name}
 use Rattle.e_literal.specs.declared.object.Obj.{Obj}
 use Rattle.e_literal.specs.declared.object.Scope.{Scope}
 use Rattle.e_literal.specs.Scopes.{grown}
-use Rattle.e_literal.specs.Use.{Stated}
+use Rattle.e_literal.specs.Use.{StatementView}
 use Rattle.e_construct.specs.Construct.{sorts_made, gives_of_construction}
 use Rattle.e_construct.specs.Superposing as superposing
 use Rattle.e_deriv.specs.declared.names.Names.{Names}
@@ -57,7 +57,7 @@ filled_depth (Cases lit first second) f = rw (filled_depth first (inner_of f), f
 
 -- ---- facts and their monomials
 
-pub filled_facts : (before : List Stated) (n : ℕ) (sc : Scope) (s f : Script) → few_facts before n sc (filled_by s f) ≡ few_facts before n sc s
+pub filled_facts : (before : List StatementView) (n : ℕ) (sc : Scope) (s f : Script) → few_facts before n sc (filled_by s f) ≡ few_facts before n sc s
 unfolding few_facts filled_by
 filled_facts before n sc (Cite by rest) f = then_same (leb (n + 1) most_facts) _ _ (filled_facts before (n + 1) sc rest (rest_of f))
 filled_facts before n sc (Hence lit cert rest) f = then_same (leb (n + 1) most_facts) _ _ (filled_facts before (n + 1) sc rest (rest_of f))
@@ -80,7 +80,7 @@ filled_facts before n sc (Contradiction against) f = refl
 filled_facts before n sc (Cases lit first second) f =
     then_same (leb (n + 1) most_facts) _ _ (both_same _ _ _ _ (filled_facts before (n + 1) sc first (inner_of f)) (filled_facts before (n + 1) sc second (rest_of f)))
 
-pub filled_terms : (before : List Stated) (n : ℕ) (sc : Scope) (s f : Script) → few_terms before n sc (filled_by s f) ≡ few_terms before n sc s
+pub filled_terms : (before : List StatementView) (n : ℕ) (sc : Scope) (s f : Script) → few_terms before n sc (filled_by s f) ≡ few_terms before n sc s
 unfolding few_terms filled_by
 filled_terms before n sc (Cite by rest) f = filled_terms before n sc rest (rest_of f)
 filled_terms before n sc (Hence lit cert rest) f =
@@ -106,7 +106,7 @@ filled_terms before n sc (Cases lit first second) f =
 
 -- ---- names
 
-pub filled_new_names : (before : List Stated) (ns : Names) (s f : Script) → NewNamesFit before ns s → NewNamesFit before ns (filled_by s f)
+pub filled_new_names : (before : List StatementView) (ns : Names) (s f : Script) → NewNamesFit before ns s → NewNamesFit before ns (filled_by s f)
 unfolding NewNamesFit filled_by
 filled_new_names before ns (Cite by rest) f h = filled_new_names before ns rest (rest_of f) h
 filled_new_names before ns (Hence lit cert rest) f h = filled_new_names before ns rest (rest_of f) h

@@ -9,7 +9,7 @@ use Rattle.e_literal.specs.declared.literal.Lit.{Lit}
 use Rattle.e_literal.specs.Literal.{negation, is_in_scope}
 use Rattle.e_literal.specs.Facts.{joined, joined_all}
 use Rattle.e_literal.specs.Scopes.{grown, same_sort, are_of_sorts}
-use Rattle.e_literal.specs.Use.{Stated, are_arguments, gives_of_use}
+use Rattle.e_literal.specs.Use.{StatementView, are_arguments, gives_of_use}
 use Rattle.e_literal.proofs.Booleans.{all_both}
 use Rattle.e_construct.specs.Construct.{sorts_made, gives_of_construction}
 use Rattle.e_construct.specs.Superposing as superposing
@@ -38,7 +38,7 @@ entries_of s (sort ∷ sorts) (Some o ∷ ps) n h =
     and_from (same_sort sort o.sort) (is_in_scope s o && are_entries s sorts ps) p.0 (and_from (is_in_scope s o) (are_entries s sorts ps) q.0 (entries_of s sorts ps n q.1))
 
 -- an application that fits with its own arguments fits by its form
-applied_form : (before : List Stated) (theorem : ℕ) (s : Scope) (pattern : List (Option Obj)) → is_applied before theorem s pattern (written pattern) ≡ true → has_no_blank pattern ≡ true
+applied_form : (before : List StatementView) (theorem : ℕ) (s : Scope) (pattern : List (Option Obj)) → is_applied before theorem s pattern (written pattern) ≡ true → has_no_blank pattern ≡ true
     → (ltb theorem (length before) && is_pattern (theorem_at before theorem) s pattern) ≡ true
 applied_form before theorem s pattern h n =
     let t = theorem_at before theorem in
@@ -48,7 +48,7 @@ applied_form before theorem s pattern h n =
 
 -- ---- each line
 
-pub forms_of_certified : (before : List Stated) (d f : Script) (s : Scope) (facts others : List Lit) (goal : Goal) → list_all (is_certified before) (lines before d d s facts goal) ≡ true
+pub forms_of_certified : (before : List StatementView) (d f : Script) (s : Scope) (facts others : List Lit) (goal : Goal) → list_all (is_certified before) (lines before d d s facts goal) ≡ true
     → list_all (line_fits before) (lines before (erased d) f s others goal) ≡ true
 unfolding lines erased
 forms_of_certified before (Cite by rest) f s facts others goal h =

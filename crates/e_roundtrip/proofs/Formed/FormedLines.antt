@@ -9,7 +9,7 @@ use Rattle.e_literal.specs.Literal.{negation, all_in_scope}
 use Rattle.e_literal.specs.Rename.{same_obj}
 use Rattle.e_literal.specs.Facts.{joined, joined_all}
 use Rattle.e_literal.specs.Scopes.{grown}
-use Rattle.e_literal.specs.Use.{Stated, Used, are_arguments, needs_of_use, gives_of_use, use_of}
+use Rattle.e_literal.specs.Use.{StatementView, Used, are_arguments, needs_of_use, gives_of_use, use_of}
 use Rattle.e_literal.proofs.Booleans.{all_both}
 use Rattle.e_literal.proofs.Sorts.{same_obj_self}
 use Rattle.e_construct.specs.declared.construction.Construction.{Construction}
@@ -43,7 +43,7 @@ abbrev pub FormedHere : List TitledStatement → Names → Goal → Script → T
 FormedHere known ns goal x = (facts : List Lit) → list_all (is_formed (stated_by known)) (lines (stated_by known) x x (scope_of_names ns) facts goal) ≡ true
 
 -- a line that fits, with certificates of their form, and with what stands beside
-one_formed : (before : List Stated) (x : Line) → fits before x ≡ true → certs_formed x.scope (needs before x) (certs_of x.here) ≡ true → formed_beside x.here x.scope ≡ true → is_formed before x ≡ true
+one_formed : (before : List StatementView) (x : Line) → fits before x ≡ true → certs_formed x.scope (needs before x) (certs_of x.here) ≡ true → formed_beside x.here x.scope ≡ true → is_formed before x ≡ true
 one_formed before x f c b =
     let certs = certs_formed x.scope (needs before x) (certs_of x.here) in
     let beside = formed_beside x.here x.scope in
@@ -188,7 +188,7 @@ fills_written (None ∷ p) h = absurd (true≢false (sym h))
 fills_written (Some o ∷ p) h = and_from (same_obj o o) (fills p (written p)) (same_obj_self o) (fills_written p h)
 
 -- what the line of a use owes is read
-pub record Needed (s : Scope) (t : Stated) (pattern : List (Option Obj)) (ls : List Lit) : Type 0 where
+pub record Needed (s : Scope) (t : StatementView) (pattern : List (Option Obj)) (ls : List Lit) : Type 0 where
   pub full : has_no_blank pattern ≡ true
   pub fit : are_arguments t s (written pattern) ≡ true
   pub lits : needs_of_use t (written pattern) s ≡ ls
@@ -200,7 +200,7 @@ used : (b : Bool) (u : Used) (ls : List Lit) → (or_malformed (used_if b u) >>=
 used true u ls e = (refl, ok_is u.needs ls e)
 used false u ls e = absurd cc
 
-pub needed_read : (s : Scope) (t : Stated) (pattern : List (Option Obj)) (ls : List Lit) → needs_in s t pattern ≡ Ok ls → Needed s t pattern ls
+pub needed_read : (s : Scope) (t : StatementView) (pattern : List (Option Obj)) (ls : List Lit) → needs_in s t pattern ≡ Ok ls → Needed s t pattern ls
 needed_read s t pattern ls e =
     let a = bind_ok (each or_malformed pattern) (λ (args : List Obj). or_malformed (use_of t args s) >>= λ (u : Used). read_ok u.needs) ls e in
     let w = each_is_written pattern a.0 a.1 in

@@ -6,7 +6,7 @@ use Rattle.std.proofs.lemmas.List.Folds.{list_all-append}
 use Rattle.std.proofs.lemmas.Bool.{and_parts}
 use Rattle.e_text.specs.Tokens.{joined}
 use Rattle.e_literal.specs.declared.literal.Lit.{Lit}
-use Rattle.e_literal.specs.Use.{Stated}
+use Rattle.e_literal.specs.Use.{StatementView}
 use Rattle.e_clause.specs.Certify.{certify_all}
 use Rattle.e_deriv.specs.Script.{Script, size, erased}
 use Rattle.e_deriv.specs.Goal.{Goal}
@@ -50,24 +50,24 @@ pub both_of : {A : Type 0} (p : A → Bool) (xs ys : List A) → list_all p (xs 
 both_of p xs ys h = and_parts (list_all p xs) (list_all p ys) (sym (list_all-append p xs ys) ∙ h)
 
 -- what is known of one line
-pub record OneCertified (before : List Stated) (x : Line) : Type 0 where
+pub record OneCertified (before : List StatementView) (x : Line) : Type 0 where
   pub fitting : fits before x ≡ true
   pub certs : certify_all x.scope x.facts (needs before x) (certs_of x.here) ≡ true
   pub beside : certified_beside x.here x.scope x.facts ≡ true
 
-pub one_certified : (before : List Stated) (x : Line) → is_certified before x ≡ true → OneCertified before x
+pub one_certified : (before : List StatementView) (x : Line) → is_certified before x ≡ true → OneCertified before x
 one_certified before x h =
     let a = and_parts (fits before x) (certify_all x.scope x.facts (needs before x) (certs_of x.here) && certified_beside x.here x.scope x.facts) h in
     let b = and_parts (certify_all x.scope x.facts (needs before x) (certs_of x.here)) (certified_beside x.here x.scope x.facts) a.1 in
     record { fitting = a.0; certs = b.0; beside = b.1 }
 
 -- what is known of the form of one line
-pub record OneFormed (before : List Stated) (x : Line) : Type 0 where
+pub record OneFormed (before : List StatementView) (x : Line) : Type 0 where
   pub fitting : fits before x ≡ true
   pub certs : certs_formed x.scope (needs before x) (certs_of x.here) ≡ true
   pub beside : formed_beside x.here x.scope ≡ true
 
-pub one_formed : (before : List Stated) (x : Line) → is_formed before x ≡ true → OneFormed before x
+pub one_formed : (before : List StatementView) (x : Line) → is_formed before x ≡ true → OneFormed before x
 one_formed before x h =
     let a = and_parts (fits before x) (certs_formed x.scope (needs before x) (certs_of x.here) && formed_beside x.here x.scope) h in
     let b = and_parts (certs_formed x.scope (needs before x) (certs_of x.here)) (formed_beside x.here x.scope) a.1 in

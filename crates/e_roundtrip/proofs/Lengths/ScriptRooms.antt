@@ -13,7 +13,7 @@ use Rattle.e_literal.specs.WellFormed.{is_well_formed}
 use Rattle.e_literal.specs.Scopes.{grown}
 use Rattle.e_literal.specs.Facts.{joined, joined_all}
 use Rattle.e_literal.specs.Rename.{same_obj}
-use Rattle.e_literal.specs.Use.{Stated, are_arguments, gives_of_use, needs_of_use}
+use Rattle.e_literal.specs.Use.{StatementView, are_arguments, gives_of_use, needs_of_use}
 use Rattle.e_clause.specs.declared.cert.Against.{Against}
 use Rattle.e_clause.specs.declared.cert.By.{By}
 use Rattle.e_clause.specs.declared.cert.Cert.{Cert}
@@ -64,7 +64,7 @@ abbrev pub AllFew : List TitledStatement → Type 0
 AllFew known = AllByRecursion (λ h. IsFew h.statement) known
 
 -- a theorem has few objects
-record FewAt (t : Stated) : Type 0 where
+record FewAt (t : StatementView) : Type 0 where
   declared : length t.declared ≤ 80
   made : length t.made ≤ 80
 

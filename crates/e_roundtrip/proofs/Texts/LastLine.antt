@@ -2,7 +2,7 @@
 use Rattle.std.proofs.Common.{◌≡◌, ℕ, true, false, cond, inl, inr, List, [], ◌∷◌, length, Option, Some, None, Result, Ok, Err, refl, sym, ap, ◌∙◌}
 use Rattle.std.specs.Str.{bytes_eq}
 use Rattle.std.proofs.lemmas.Slice.Eq.{bytes_eq-Decides}
-use Rattle.e_text.specs.Lines.{Seen}
+use Rattle.e_text.specs.Lines.{LineView}
 use Rattle.e_text.specs.declared.line.LineEnd.{LineEnd}
 use Rattle.e_text.specs.declared.line.LineEnd.TheVariants as ends
 use Rattle.e_clause.specs.declared.cert.Version.{Version}
@@ -36,7 +36,7 @@ goes_on_last None lines rest more e = e
 goes_on_last (Some x) lines rest more e = absurd (no_last rest lines x (sym e))
 
 -- inside a theorem no line is the last of a text
-no_end : (known : List TitledStatement) (o : Option TheoremParser) (d : TheoremParser) (l : Seen) → o ≡ Some d → is_end known o l ≡ true → ⊥
+no_end : (known : List TitledStatement) (o : Option TheoremParser) (d : TheoremParser) (l : LineView) → o ≡ Some d → is_end known o l ≡ true → ⊥
 no_end known None d l b e = absurd cc
 no_end known (Some x) d l b e = absurd cc
 

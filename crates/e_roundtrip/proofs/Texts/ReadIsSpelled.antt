@@ -8,7 +8,7 @@ use Rattle.std.proofs.lemmas.List.{append-nil}
 use Rattle.std.proofs.lemmas.Slice.Eq.{bytes_eq-Decides}
 use Rattle.std.proofs.lemmas.Bool.{and_parts}
 use Rattle.e_text.specs.Tokens.{tokens_of}
-use Rattle.e_text.specs.Lines.{Seen}
+use Rattle.e_text.specs.Lines.{LineView}
 use Rattle.e_text.specs.declared.line.LineEnd.{LineEnd}
 use Rattle.e_text.specs.declared.line.LineEnd.TheVariants as ends
 use Rattle.e_text.specs.declared.line.LineFault.{LineFault}
@@ -219,14 +219,14 @@ all_formed known d o ks done s l =
 -- ---- all lines
 
 -- the lines that are still taken, with those before them, are the spelling, and the derivation has the form
-record Rest (known : List TitledStatement) (done : List (List ℕ)) (t : TheoremView) (lines rest : List (Result Seen LineFault)) : Type 0 where
+record Rest (known : List TitledStatement) (done : List (List ℕ)) (t : TheoremView) (lines rest : List (Result LineView LineFault)) : Type 0 where
   texts : List (List ℕ)
   shows : ShowsEnded lines texts rest
   all : done ++ texts ≡ spelled_lines known t t.script
   formed : EntryFormed known t
 
 -- a line that is taken ends with a line feed
-ends_with_lf : (known : List TitledStatement) (r next : BlockParser) (l : Seen) → taken known r l ≡ Ok next → l.end ≡ ends.Lf
+ends_with_lf : (known : List TitledStatement) (r next : BlockParser) (l : LineView) → taken known r l ≡ Ok next → l.end ≡ ends.Lf
 unfolding taken spelled
 ends_with_lf known r next l e = is_lf l.end (passed (is_lf_end l.end) (worded known r l.bytes (tokens_of l.bytes)) next e).0
   where
@@ -235,17 +235,17 @@ ends_with_lf known r next l e = is_lf l.end (passed (is_lf_end l.end) (worded kn
     is_lf x h = absurd cc
 
 -- one line more
-one_more : (known : List TitledStatement) (done : List (List ℕ)) (t : TheoremView) (l : Seen) (lines rest : List (Result Seen LineFault)) → l.end ≡ ends.Lf → Rest known (done ++ l.bytes ∷ []) t lines rest → Rest known done t (Ok l ∷ lines) rest
+one_more : (known : List TitledStatement) (done : List (List ℕ)) (t : TheoremView) (l : LineView) (lines rest : List (Result LineView LineFault)) → l.end ≡ ends.Lf → Rest known (done ++ l.bytes ∷ []) t lines rest → Rest known done t (Ok l ∷ lines) rest
 one_more known done t l lines rest end r =
     record { texts = l.bytes ∷ r.texts; shows = (refl, end, r.shows); all = sym (append_assoc done (l.bytes ∷ []) r.texts) ∙ r.all; formed = r.formed }
 
 -- how reading goes on behind a line
-abbrev After : List TitledStatement → ℕ → BlockParser → List (Result Seen LineFault) → List (Result Seen LineFault) → TheoremView → Type 0
+abbrev After : List TitledStatement → ℕ → BlockParser → List (Result LineView LineFault) → List (Result LineView LineFault) → TheoremView → Type 0
 After known last next lines rest t =
     ((x : TheoremView) × (finished next.draft next.kept ≡ Some x) × (derives x lines ≡ derives t rest)) ⊎ ((finished next.draft next.kept ≡ None) × (piece_from known last next lines ≡ derives t rest))
 
 -- behind a line of a certificate
-certificate_rest : (known : List TitledStatement) (last : ℕ) (r next : BlockParser) (lines rest : List (Result Seen LineFault)) (t : TheoremView) (done : List (List ℕ)) → is_finished r.draft ≡ false → next.draft ≡ r.draft → After known last next lines rest t
+certificate_rest : (known : List TitledStatement) (last : ℕ) (r next : BlockParser) (lines rest : List (Result LineView LineFault)) (t : TheoremView) (done : List (List ℕ)) → is_finished r.draft ≡ false → next.draft ≡ r.draft → After known last next lines rest t
     → (is_finished next.draft ≡ false → piece_from known last next lines ≡ derives t rest → Rest known done t lines rest) → Rest known done t lines rest
 certificate_rest known last r next lines rest t done unended same goes more =
     let unended_still : is_finished next.draft ≡ false = ap is_finished same ∙ unended in
@@ -255,7 +255,7 @@ certificate_rest known last r next lines rest t done unended same goes more =
     ]
 
 -- behind any other line
-step_rest : (known : List TitledStatement) (last : ℕ) (next : BlockParser) (d : TheoremParser) (o : Pending) (lines rest : List (Result Seen LineFault)) (t : TheoremView) (done : List (List ℕ)) → next.draft ≡ Some d → StepSaid known d o next.kept done → After known last next lines rest t
+step_rest : (known : List TitledStatement) (last : ℕ) (next : BlockParser) (d : TheoremParser) (o : Pending) (lines rest : List (Result LineView LineFault)) (t : TheoremView) (done : List (List ℕ)) → next.draft ≡ Some d → StepSaid known d o next.kept done → After known last next lines rest t
     → (is_finished next.draft ≡ false → piece_from known last next lines ≡ derives t rest → Rest known done t lines rest) → Rest known done t lines rest
 step_rest known last next d o lines rest t done draft_is s goes more =
     elim goes [
@@ -267,7 +267,7 @@ step_rest known last next d o lines rest t done draft_is s goes more =
       | inr q ↦ more (still next.draft next.kept q.0) q.1
     ]
 
-whole : (known : List TitledStatement) (last : ℕ) (r : BlockParser) (lines rest : List (Result Seen LineFault)) (t : TheoremView) (done : List (List ℕ)) → SaidSoFar known r.draft r.owed r.kept done → is_finished r.draft ≡ false
+whole : (known : List TitledStatement) (last : ℕ) (r : BlockParser) (lines rest : List (Result LineView LineFault)) (t : TheoremView) (done : List (List ℕ)) → SaidSoFar known r.draft r.owed r.kept done → is_finished r.draft ≡ false
     → piece_from known last r lines ≡ derives t rest → Rest known done t lines rest
 unfolding piece_from
 whole known last r [] rest t done s unended e = absurd cc
@@ -298,13 +298,13 @@ whole known last r (Ok l ∷ lines) rest t done s unended e =
           ])
     ]
 
-pub read_is_spelled_so : (v : Version) (known : List TitledStatement) (last : ℕ) (t : TheoremView) (lines rest : List (Result Seen LineFault)) → piece_from known last (at_start v) lines ≡ derives t rest → ShowsEnded lines (spelled_lines known t t.script) rest
+pub read_is_spelled_so : (v : Version) (known : List TitledStatement) (last : ℕ) (t : TheoremView) (lines rest : List (Result LineView LineFault)) → piece_from known last (at_start v) lines ≡ derives t rest → ShowsEnded lines (spelled_lines known t t.script) rest
 read_is_spelled_so v known last t lines rest e =
     let r = whole known last (at_start v) lines rest t [] (start_said known) refl e in
     subst (λ (texts : List (List ℕ)). ShowsEnded lines texts rest) r.all r.shows
 
 -- what is read can be spelled, by its form
-pub read_is_formed_so : (v : Version) (known : List TitledStatement) (last : ℕ) (t : TheoremView) (lines rest : List (Result Seen LineFault)) → piece_from known last (at_start v) lines ≡ derives t rest → CanBeSpelled v known t t.script
+pub read_is_formed_so : (v : Version) (known : List TitledStatement) (last : ℕ) (t : TheoremView) (lines rest : List (Result LineView LineFault)) → piece_from known last (at_start v) lines ≡ derives t rest → CanBeSpelled v known t t.script
 read_is_formed_so v known last t lines rest e =
     let r = whole known last (at_start v) lines rest t [] (start_said known) refl e in
     let plain = text_spelled v known last lines rest t e in

@@ -3,7 +3,7 @@ use Rattle.std.proofs.Common.{◌≡◌, ℕ, true, false, ◌&&◌, List, [], �
 use Rattle.std.specs.List.{list_all}
 use Rattle.std.proofs.lemmas.List.{append-nil}
 use Rattle.e_text.specs.Tokens.{tokens_of}
-use Rattle.e_text.specs.Lines.{Seen}
+use Rattle.e_text.specs.Lines.{LineView}
 use Rattle.e_text.specs.declared.line.LineEnd.{LineEnd}
 use Rattle.e_text.specs.declared.line.LineEnd.TheVariants.{Lf}
 use Rattle.e_text.specs.declared.line.LineFault.{LineFault}
@@ -155,12 +155,12 @@ kepts_of v (Cases lit first second) h =
 
 -- ---- lines that are read
 
-record Left (known : List TitledStatement) (number : ℕ) (r next : BlockParser) (all : List (Result Seen LineFault)) (more : List (List ℕ)) (rest : List (Result Seen LineFault)) : Type 0 where
-  ahead : List (Result Seen LineFault)
+record Left (known : List TitledStatement) (number : ℕ) (r next : BlockParser) (all : List (Result LineView LineFault)) (more : List (List ℕ)) (rest : List (Result LineView LineFault)) : Type 0 where
+  ahead : List (Result LineView LineFault)
   shown : ShowsEnded ahead more rest
   same : piece_from known number r all ≡ piece_from known number next ahead
 
-taken_is : (known : List TitledStatement) (r next : BlockParser) (l : Seen) (text : List ℕ) → l.bytes ≡ text → l.end ≡ Lf → worded known r text (tokens_of text) ≡ Ok next → taken known r l ≡ Ok next
+taken_is : (known : List TitledStatement) (r next : BlockParser) (l : LineView) (text : List ℕ) → l.bytes ≡ text → l.end ≡ Lf → worded known r text (tokens_of text) ≡ Ok next → taken known r l ≡ Ok next
 unfolding taken spelled
 taken_is known r next l text b e leads =
     let w : worded known r l.bytes (tokens_of l.bytes) ≡ Ok next = ap (λ (x : List ℕ). worded known r x (tokens_of x)) b ∙ leads in
@@ -169,12 +169,12 @@ taken_is known r next l text b e leads =
 unfinished : (draft : Option TheoremParser) (d : TheoremParser) (kept : List StepCerts) → draft ≡ Some d → is_done d ≡ false → finished draft kept ≡ None
 unfinished draft d kept e going = ap (λ (x : Option TheoremParser). finished x kept) e ∙ rw going refl
 
-one_read : (known : List TitledStatement) (number : ℕ) (r next : BlockParser) (l : Seen) (after : List (Result Seen LineFault)) (text : List ℕ) → is_end known r.draft l ≡ false → l.bytes ≡ text → l.end ≡ Lf → worded known r text (tokens_of text) ≡ Ok next
+one_read : (known : List TitledStatement) (number : ℕ) (r next : BlockParser) (l : LineView) (after : List (Result LineView LineFault)) (text : List ℕ) → is_end known r.draft l ≡ false → l.bytes ≡ text → l.end ≡ Lf → worded known r text (tokens_of text) ≡ Ok next
     → finished next.draft next.kept ≡ None → piece_from known number r (Ok l ∷ after) ≡ piece_from known number next after
 unfolding piece_from
 one_read known number r next l after text here b e leads more = rw (here, taken_is known r next l text b e leads, more) refl
 
-all_read : (known : List TitledStatement) (number : ℕ) (r next : BlockParser) (texts more : List (List ℕ)) (all rest : List (Result Seen LineFault)) → AllTaken known r texts next → ShowsEnded all (texts ++ more) rest → Left known number r next all more rest
+all_read : (known : List TitledStatement) (number : ℕ) (r next : BlockParser) (texts more : List (List ℕ)) (all rest : List (Result LineView LineFault)) → AllTaken known r texts next → ShowsEnded all (texts ++ more) rest → Left known number r next all more rest
 all_read known number r next [] more all rest a sh = record { ahead = all; shown = sh; same = ap (λ (x : BlockParser). piece_from known number x all) a }
 all_read known number r next (text ∷ texts) more [] rest a sh = absurd sh
 all_read known number r next (text ∷ texts) more (Err f ∷ all) rest a sh = absurd sh
@@ -206,7 +206,7 @@ title_leads v known t d h =
     ap (worded known (at_start v) (line_of f)) (words_again f h.title) ∙ no_bar known (at_start v) (line_of f) f ∙ rw (strict_form_again f h.title refl, begins) refl
 
 -- a first line of a theorem is no last line of a text
-not_last : (known : List TitledStatement) (l : Seen) (title : List ℕ) → l.bytes ≡ line_of (rawlines.Theorem title) → is_end known None l ≡ false
+not_last : (known : List TitledStatement) (l : LineView) (title : List ℕ) → l.bytes ≡ line_of (rawlines.Theorem title) → is_end known None l ≡ false
 not_last known l title b = by_end l.end
   where
     by_end : (e : LineEnd) → is_end known None (record l { end = e }) ≡ false
@@ -234,7 +234,7 @@ end_leads known t d last r s =
     let leads = form_leads known r e (record e { place = Done }) (kepts d) rawlines.End due.Nothing s tt refl refl refl (step_end known t d last) in
     (_, leads, refl, refl)
 
-end_read : (known : List TitledStatement) (number : ℕ) (t : TheoremView) (d : Script) (last : Inside) (r : BlockParser) (all rest : List (Result Seen LineFault)) → HasSpelling known (plain_entry t d) → Stands r (shut_draft t d last) (kepts d)
+end_read : (known : List TitledStatement) (number : ℕ) (t : TheoremView) (d : Script) (last : Inside) (r : BlockParser) (all rest : List (Result LineView LineFault)) → HasSpelling known (plain_entry t d) → Stands r (shut_draft t d last) (kepts d)
     → ShowsEnded all (line_of rawlines.End ∷ []) rest → piece_from known number r all ≡ Ok (Derived (record t { script = d }), rest)
 unfolding piece_from
 end_read known number t d last r [] rest h s sh = absurd sh
@@ -244,11 +244,11 @@ end_read known number t d last r (Ok l ∷ all) rest h s sh =
     let here : is_end known r.draft l ≡ false = ap (λ (x : Option TheoremParser). is_end known x l) s.draft in
     let done : finished e.0.draft e.0.kept ≡ Some (record t { script = d }) =
     ap (λ (x : Option TheoremParser). finished x e.0.kept) e.2 ∙ ap (λ (ks : List StepCerts). finished (Some (record (shut_draft t d last) { place = Done })) ks) e.3 ∙ ap (λ (x : TheoremView). Some x) (script_whole t d known h last) in
-    rw (here, taken_is known r e.0 l (line_of rawlines.End) sh.0 sh.1 e.1, done) (ap (λ (ls : List (Result Seen LineFault)). Ok (Derived (record t { script = d }), ls)) sh.2)
+    rw (here, taken_is known r e.0 l (line_of rawlines.End) sh.0 sh.1 e.1, done) (ap (λ (ls : List (Result LineView LineFault)). Ok (Derived (record t { script = d }), ls)) sh.2)
 
 -- ---- the law
 
-whole_read : (v : Version) (known : List TitledStatement) (number : ℕ) (t : TheoremView) (d : Script) (all rest : List (Result Seen LineFault)) → CanBeSpelled v known t d → ShowsEnded all (line_of (rawlines.Theorem t.title) ∷ (middle known t d ++ line_of rawlines.End ∷ [])) rest
+whole_read : (v : Version) (known : List TitledStatement) (number : ℕ) (t : TheoremView) (d : Script) (all rest : List (Result LineView LineFault)) → CanBeSpelled v known t d → ShowsEnded all (line_of (rawlines.Theorem t.title) ∷ (middle known t d ++ line_of rawlines.End ∷ [])) rest
     → piece_from known number (at_start v) all ≡ Ok (Derived (record t { script = d }), rest)
 unfolding piece_from
 whole_read v known number t d [] rest c sh = absurd sh

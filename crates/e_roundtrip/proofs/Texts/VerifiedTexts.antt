@@ -4,7 +4,7 @@ use Rattle.std.specs.Prelude.{Option, Some, None}
 use Rattle.std.specs.Str.{bytes_eq}
 use Rattle.std.proofs.lemmas.Bool.{and_parts}
 use Rattle.std.proofs.lemmas.Slice.Eq.{bytes_eq-Decides}
-use Rattle.e_text.specs.Lines.{Seen, HaveNoFault, end_bytes, text_of_lines}
+use Rattle.e_text.specs.Lines.{LineView, HaveNoFault, end_bytes, text_of_lines}
 use Rattle.e_text.specs.declared.line.LineEnd.{LineEnd}
 use Rattle.e_text.specs.declared.line.LineEnd.TheVariants as ends
 use Rattle.e_text.proofs.WrittenLines.{text_of_lines-lines_of}
@@ -110,7 +110,7 @@ module _ (v : Version) where
   is_lf ends.CrLf e = absurd cc
   is_lf ends.TextEnd e = absurd cc
 
-  head_text : (l : Seen) (lines : Rest) → is_head v l ≡ true → text_of_lines (Ok l ∷ lines) ≡ head_line v ++ text_of_lines lines
+  head_text : (l : LineView) (lines : Rest) → is_head v l ≡ true → text_of_lines (Ok l ∷ lines) ≡ head_line v ++ text_of_lines lines
   head_text l lines h =
       let p = and_parts (is_lf_end l.end) (bytes_eq l.bytes (head_of v)) h in
       ap (λ (b : List ℕ). b ++ (end_bytes l.end ++ text_of_lines lines)) ((bytes_eq-Decides l.bytes (head_of v)).0 p.1)
@@ -118,7 +118,7 @@ module _ (v : Version) where
 
   -- ---- the whole
 
-  whole : (text : List ℕ) (n : ℕ) (l : Seen) (lines : Rest) → lines_of_text text ≡ Ok l ∷ lines → is_head v l ≡ true → IsJudged v (2 + length lines) lines (Verified n) → SpellsProofs n text
+  whole : (text : List ℕ) (n : ℕ) (l : LineView) (lines : Rest) → lines_of_text text ≡ Ok l ∷ lines → is_head v l ≡ true → IsJudged v (2 + length lines) lines (Verified n) → SpellsProofs n text
   whole text n l lines e h j =
       let ts = j.theorems in
       let last = 2 + length lines in
@@ -139,7 +139,7 @@ module _ (v : Version) where
       }
 
 -- the line says the version
-said : (l : Seen) (v : Version) → version_of l ≡ Some v → is_head v l ≡ true
+said : (l : LineView) (v : Version) → version_of l ≡ Some v → is_head v l ≡ true
 said l v e = by (is_head One l) (is_head Two l) refl refl e
   where
     some : Version → Option Version
@@ -156,7 +156,7 @@ said l v e = by (is_head One l) (is_head Two l) refl refl e
     by false true h k f = subst (λ (x : Version). is_head x l ≡ true) (inside Two v f) k
     by false false h k f = absurd (none (sym f))
 
-by_version : (text : List ℕ) (n : ℕ) (l : Seen) (lines : Rest) → lines_of_text text ≡ Ok l ∷ lines → (o : Option Version) → version_of l ≡ o → JudgedBehindHead o lines (Verified n) → SpellsProofs n text
+by_version : (text : List ℕ) (n : ℕ) (l : LineView) (lines : Rest) → lines_of_text text ≡ Ok l ∷ lines → (o : Option Version) → version_of l ≡ o → JudgedBehindHead o lines (Verified n) → SpellsProofs n text
 by_version text n l lines e None is h = absurd (not_garbled n 1 h)
 by_version text n l lines e (Some v) is h = whole v text n l lines e (said l v is) h
 

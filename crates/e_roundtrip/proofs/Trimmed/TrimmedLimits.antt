@@ -15,7 +15,7 @@ use Rattle.e_literal.specs.Literal.{negation}
 use Rattle.e_literal.specs.Rename.{atom_at, mono_at, number_at}
 use Rattle.e_literal.specs.Facts.{joined, joined_all}
 use Rattle.e_literal.specs.Scopes.{grown, next_objects}
-use Rattle.e_literal.specs.Use.{Stated}
+use Rattle.e_literal.specs.Use.{StatementView}
 use Rattle.e_literal.specs.WellFormed.{is_well_formed}
 use Rattle.e_literal.proofs.WithImages.{renamed_well_formed}
 use Rattle.e_clause.specs.declared.cert.Version.{Version}
@@ -101,7 +101,7 @@ blanks_stay kept (Some o ∷ args) = blanks_stay kept args
 
 -- ---- literals
 
-pub literals_left : (before : List Stated) (d : Script) (kept : List Obj) (s : Scope) (facts : List Lit) (goal : Goal) → has_good_literals d ≡ true → has_good_literals (erased (trimmed_from before kept d s facts goal)) ≡ true
+pub literals_left : (before : List StatementView) (d : Script) (kept : List Obj) (s : Scope) (facts : List Lit) (goal : Goal) → has_good_literals d ≡ true → has_good_literals (erased (trimmed_from before kept d s facts goal)) ≡ true
 unfolding trimmed_from erased has_good_literals
 literals_left before (Cite by rest) kept s facts goal h =
     let p = and_parts _ (has_good_literals rest) h in
@@ -146,7 +146,7 @@ literals_left before (Cases lit first second) kept s facts goal h =
 
 -- ---- facts: no more literals are facts before a line
 
-pub facts_left : (before : List Stated) (d : Script) (kept : List Obj) (s : Scope) (facts : List Lit) (goal : Goal) (m n : ℕ) (y z : Scope) → m ≤ n
+pub facts_left : (before : List StatementView) (d : Script) (kept : List Obj) (s : Scope) (facts : List Lit) (goal : Goal) (m n : ℕ) (y z : Scope) → m ≤ n
     → few_facts before n z (erased d) ≡ true → few_facts before m y (erased (trimmed_from before kept d s facts goal)) ≡ true
 unfolding trimmed_from erased few_facts
 facts_left before (Cite by rest) kept s facts goal m n y z le h =
@@ -217,7 +217,7 @@ facts_left before (Cases lit first second) kept s facts goal m n y z le h =
 
 -- ---- and they have no more monomials
 
-pub terms_left : (before : List Stated) (d : Script) (kept : List Obj) (s : Scope) (facts : List Lit) (goal : Goal) (m n : ℕ) (y z : Scope) → m ≤ n
+pub terms_left : (before : List StatementView) (d : Script) (kept : List Obj) (s : Scope) (facts : List Lit) (goal : Goal) (m n : ℕ) (y z : Scope) → m ≤ n
     → few_terms before n z (erased d) ≡ true → few_terms before m y (erased (trimmed_from before kept d s facts goal)) ≡ true
 unfolding trimmed_from erased few_terms
 terms_left before (Cite by rest) kept s facts goal m n y z le h =
@@ -289,7 +289,7 @@ terms_left before (Cases lit first second) kept s facts goal m n y z le h =
 
 -- ---- blanks
 
-pub blanks_left : (before : List Stated) (d : Script) (kept : List Obj) (s : Scope) (facts : List Lit) (goal : Goal) → few_blanks (erased d) ≡ true → few_blanks (erased (trimmed_from before kept d s facts goal)) ≡ true
+pub blanks_left : (before : List StatementView) (d : Script) (kept : List Obj) (s : Scope) (facts : List Lit) (goal : Goal) → few_blanks (erased d) ≡ true → few_blanks (erased (trimmed_from before kept d s facts goal)) ≡ true
 unfolding trimmed_from erased few_blanks
 blanks_left before (Cite by rest) kept s facts goal h =
     let r = blanks_left before rest kept s (joined facts by.lit) goal h in
@@ -368,7 +368,7 @@ module _ (v : Version) (kept : List Obj) where
   against_stays (Some (MetricAgainst m)) = sums_stay m.sums
 
 -- they stay of their version
-pub version_left : (v : Version) (before : List Stated) (d : Script) (kept : List Obj) (s : Scope) (facts : List Lit) (goal : Goal) → has_certs_of v d ≡ true → has_certs_of v (trimmed_from before kept d s facts goal) ≡ true
+pub version_left : (v : Version) (before : List StatementView) (d : Script) (kept : List Obj) (s : Scope) (facts : List Lit) (goal : Goal) → has_certs_of v d ≡ true → has_certs_of v (trimmed_from before kept d s facts goal) ≡ true
 unfolding trimmed_from has_certs_of
 version_left v before (Cite by rest) kept s facts goal h =
     let r = version_left v before rest kept s (joined facts by.lit) goal h in

@@ -11,7 +11,7 @@ use Rattle.e_literal.specs.declared.literal.Lit.{Lit}
 use Rattle.e_literal.specs.Literal.{negation}
 use Rattle.e_literal.specs.Facts.{joined, joined_all}
 use Rattle.e_literal.specs.Scopes.{grown, next_objects}
-use Rattle.e_literal.specs.Use.{Stated}
+use Rattle.e_literal.specs.Use.{StatementView}
 use Rattle.e_construct.specs.Construct.{sorts_made, gives_of_construction}
 use Rattle.e_construct.specs.Superposing as superposing
 use Rattle.e_deriv.specs.declared.names.Names.{Names}
@@ -120,7 +120,7 @@ either : (P : Script → Type 0) (b : Bool) (x y : Script) → P x → P y → P
 either P true x y h k = h
 either P false x y h k = k
 
-pub names_left : (before : List Stated) (d : Script) (kept : List Obj) (s : Scope) (facts : List Lit) (goal : Goal) (less ns : Names) → Fewer less ns
+pub names_left : (before : List StatementView) (d : Script) (kept : List Obj) (s : Scope) (facts : List Lit) (goal : Goal) (less ns : Names) → Fewer less ns
     → NewNamesFit before ns (erased d) → NewNamesFit before less (erased (trimmed_from before kept d s facts goal))
 unfolding trimmed_from erased NewNamesFit
 names_left before (Cite by rest) kept s facts goal less ns f h =

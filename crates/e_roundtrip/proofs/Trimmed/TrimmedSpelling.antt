@@ -4,7 +4,7 @@ use Rattle.std.specs.Prelude.{IsTrue, nat_lt}
 use Rattle.std.specs.List.{list_all}
 use Rattle.std.proofs.lemmas.Bool.{and_parts, and_from}
 use Rattle.std.proofs.lemmas.List.{length-map}
-use Rattle.e_text.specs.Lines.{Seen}
+use Rattle.e_text.specs.Lines.{LineView}
 use Rattle.e_text.specs.Names.{is_name}
 use Rattle.e_text.specs.declared.line.LineFault.{LineFault}
 use Rattle.e_literal.specs.declared.object.Obj.{Obj}
@@ -13,7 +13,7 @@ use Rattle.e_literal.specs.declared.literal.Lit.{Lit}
 use Rattle.e_literal.specs.Literal.{negation}
 use Rattle.e_literal.specs.Facts.{joined, joined_all}
 use Rattle.e_literal.specs.Scopes.{grown, next_objects}
-use Rattle.e_literal.specs.Use.{Stated, scope_of, is_statement}
+use Rattle.e_literal.specs.Use.{StatementView, scope_of, is_statement}
 use Rattle.e_clause.specs.declared.cert.Version.TheVariants.{One}
 use Rattle.e_construct.specs.Construct.{sorts_made, gives_of_construction}
 use Rattle.e_construct.specs.Superposing as superposing
@@ -51,7 +51,7 @@ use Rattle.e_roundtrip.proofs.Trimmed.TrimmedNames.{fewer_own, names_left}
 
 -- ---- the theorems that it uses have titles
 
-theorems_left : (known : List TitledStatement) (before : List Stated) (d : Script) (kept : List Obj) (s : Scope) (facts : List Lit) (goal : Goal) → names_theorems known (erased d) ≡ true → names_theorems known (erased (trimmed_from before kept d s facts goal)) ≡ true
+theorems_left : (known : List TitledStatement) (before : List StatementView) (d : Script) (kept : List Obj) (s : Scope) (facts : List Lit) (goal : Goal) → names_theorems known (erased d) ≡ true → names_theorems known (erased (trimmed_from before kept d s facts goal)) ≡ true
 unfolding trimmed_from erased names_theorems
 theorems_left known before (Cite by rest) kept s facts goal h =
     let r = theorems_left known before rest kept s (joined facts by.lit) goal h in
@@ -93,7 +93,7 @@ theorems_left known before (Cases lit first second) kept s facts goal h =
 some_left : (kept : List Obj) (shown : List Lit) → nat_lt 0 (length shown) ≡ true → nat_lt 0 (length (map (lit_at kept) shown)) ≡ true
 some_left kept shown h = ap (nat_lt 0) (length-map shown (lit_at kept)) ∙ h
 
-plain_left : (before : List Stated) (d : Script) (kept : List Obj) (s : Scope) (facts : List Lit) (goal : Goal) → is_plain (erased d) ≡ true → is_plain (erased (trimmed_from before kept d s facts goal)) ≡ true
+plain_left : (before : List StatementView) (d : Script) (kept : List Obj) (s : Scope) (facts : List Lit) (goal : Goal) → is_plain (erased d) ≡ true → is_plain (erased (trimmed_from before kept d s facts goal)) ≡ true
 unfolding trimmed_from erased is_plain
 plain_left before (Cite by rest) kept s facts goal h =
     let r = plain_left before rest kept s (joined facts by.lit) goal h in
@@ -137,7 +137,7 @@ plain_left before (Cases lit first second) kept s facts goal h =
 
 -- ---- the whole
 
-are_statements : (ts : List Stated) → list_all is_small_statement ts ≡ true → list_all is_statement ts ≡ true
+are_statements : (ts : List StatementView) → list_all is_small_statement ts ≡ true → list_all is_statement ts ≡ true
 are_statements ts h = every is_small_statement is_statement (λ t k. (and_parts (is_statement t) (is_small (all_objects t)) k).0) ts h
 
 -- a theorem that can be spelled states something small
@@ -203,7 +203,7 @@ trimmed_has_spelling known t small h first c =
     }
 
 -- what is left of a theorem that was read and is certified can be verified
-pub trimmed_can_be_verified : (known : List TitledStatement) (last : ℕ) (t : TheoremView) (lines after : List (Result Seen LineFault)) → IsTrue (list_all is_small_statement (stated_by known)) → piece_from known last (at_start One) lines ≡ derives t after
+pub trimmed_can_be_verified : (known : List TitledStatement) (last : ℕ) (t : TheoremView) (lines after : List (Result LineView LineFault)) → IsTrue (list_all is_small_statement (stated_by known)) → piece_from known last (at_start One) lines ≡ derives t after
     → Certified (stated_by known) (stated t.statement) t.script → CanBeVerified One known t (left_of known t)
 trimmed_can_be_verified known last t lines after small read c =
     let before = stated_by known in

@@ -82,7 +82,7 @@ WroteTheorems job End Are old new (Err NoMemory) = WroteOf job Are old new
 WroteTheorems job End Are old new (Err WriteFault) = WroteFrontOf job Are old new
 WroteTheorems job End Are old new (Err ReadFault) = ⊥
 
--- these theorems come first in lines behind a head
+-- these theorems come first in lines after a head
 abbrev pub ComeFirst : Version → ℕ → Rest → List TheoremView → Type 0
 ComeFirst v last lines ts = (known : List TitledStatement) × (rest : Rest) × Passes v last [] lines ts known rest
 
@@ -90,7 +90,7 @@ ComeFirst v last lines ts = (known : List TitledStatement) × (rest : Rest) × P
 abbrev pub ComeAll : Version → ℕ → Rest → List TheoremView → Judgement → Type 0
 ComeAll v last lines ts j = (known : List TitledStatement) × (rest : Rest) × Passes v last [] lines ts known rest × Closes v last known rest j
 
--- of lines behind a head
+-- of lines after a head
 abbrev pub TheoremsWritten : Job → Version → ℕ → Rest → Option (List ℕ) → Option (List ℕ) → Result Judgement RunError → Type 0
 TheoremsWritten job v last lines old new result = WroteTheorems job (ComeAll v last lines) (ComeFirst v last lines) old new result
 
@@ -105,6 +105,6 @@ pub record Progress (job : Job) (v : Version) (last : ℕ) (lines : Rest) (old n
   pub second : AreOfSecond job [] theorems
   pub grew : Grew old new (blocks_of job [] theorems)
 
--- the last line of the judgement closes, or that of want of memory
+-- the last line of the judgement closes, or that of out of memory
 abbrev pub IsReported : Job → Option (List ℕ) → Option (List ℕ) → Judgement → Status → Type 0
 IsReported job old new j result = ClosesWith old new (line_of job j) (answer_of job j) result ⊎ ClosesWith old new no_memory_line status.NoMemory result

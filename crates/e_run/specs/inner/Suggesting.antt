@@ -3,7 +3,7 @@ use Rattle.std.specs.Prelude.{◌≡◌, ℕ, ◌-◌, ◌≤◌, List, ◌∷�
 use Rattle.std.specs.List.{list_all}
 use Rattle.e_literal.specs.declared.object.Scope.{Scope}
 use Rattle.e_literal.specs.declared.literal.Lit.{Lit}
-use Rattle.e_literal.specs.Use.{Stated}
+use Rattle.e_literal.specs.Use.{StatementView}
 use Rattle.e_theorem.specs.Statements.{stated}
 use Rattle.e_deriv.specs.declared.names.Names.{Names}
 use Rattle.e_deriv.specs.declared.stop.Stop.{Stop}
@@ -32,18 +32,18 @@ use Rattle.e_run.specs.inner.BookResults.{stop_answer}
 -- ---- one theorem
 
 -- with these lines of it, those of the theorems after it are the lines from it on
-abbrev pub GoesOn : Names → Scope → List Lit → List ℕ → Stated → ℕ → List (List ℕ) → Type 0
+abbrev pub GoesOn : Names → Scope → List Lit → List ℕ → StatementView → ℕ → List (List ℕ) → Type 0
 GoesOn names scope facts title t left lines =
     (h : TitledStatement) → h.title ≡ title → stated h.statement ≡ t → (hs : List TitledStatement) (others : List (List ℕ)) (more : Bool)
     → Lists names scope facts hs (left - length lines) others more → Lists names scope facts (h ∷ hs) left (lines ++ others) more
 
 -- with these lines of it there are more, and none of the theorems after it is asked
-abbrev pub EndsWith : Names → Scope → List Lit → List ℕ → Stated → ℕ → List (List ℕ) → Type 0
+abbrev pub EndsWith : Names → Scope → List Lit → List ℕ → StatementView → ℕ → List (List ℕ) → Type 0
 EndsWith names scope facts title t left lines =
     (h : TitledStatement) → h.title ≡ title → stated h.statement ≡ t → (hs : List TitledStatement) → Lists names scope facts (h ∷ hs) left lines true
 
 -- what was written of one theorem
-abbrev pub IsListedOne : Names → Scope → List Lit → List ℕ → Stated → ℕ → List ℕ → List ℕ → Listed → Type 0
+abbrev pub IsListedOne : Names → Scope → List Lit → List ℕ → StatementView → ℕ → List ℕ → List ℕ → Listed → Type 0
 IsListedOne names scope facts title t left old new (listed.All n) =
     (lines : List (List ℕ)) × (new ≡ old ++ text_of lines) × (n ≡ length lines) × (n ≤ left) × GoesOn names scope facts title t left lines
 IsListedOne names scope facts title t left old new (listed.Full n) =
@@ -115,7 +115,7 @@ pub record IsNext (lines : Rest) (title : List ℕ) (before : List TitledStateme
 abbrev pub AnswersNext : List TitledStatement → TheoremView → List ℕ → ℕ → Status → List ℕ → Type 0
 AnswersNext before t title step answer out = (lines : Rest) → IsNext lines title before t → IsBookAnswer lines title step answer out
 
--- the stop is want of memory, which says nothing of the book
+-- the stop is out of memory, which says nothing of the book
 abbrev pub is_out_of_memory : Stop → Bool
 is_out_of_memory stops.NoMemory = true
 is_out_of_memory stop = false

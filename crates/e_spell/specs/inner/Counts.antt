@@ -1,4 +1,4 @@
--- How many objects of each sort stand before, as a scope.
+-- How many objects of each sort come before, as a scope.
 use Rattle.std.specs.Prelude.{ℕ, ◌+◌, ◌<◌, ◌≤◌}
 use Rattle.e_literal.specs.declared.object.Scope.{Scope}
 use Rattle.e_spell.specs.declared.declarations.Counts.{Counts}
@@ -11,7 +11,7 @@ pub record Below (c : Counts) (bound : ℕ) : Type 0 where
   pub lines : c.lines < bound
   pub circles : c.circles < bound
 
--- at most so many more than before
+-- at most this many more than before
 pub record AtMostMore (before after : Counts) (n : ℕ) : Type 0 where
   pub points : after.points ≤ before.points + n
   pub lines : after.lines ≤ before.lines + n

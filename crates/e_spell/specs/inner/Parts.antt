@@ -40,14 +40,14 @@ use Rattle.e_spell.specs.declared.declarations.Role.TheVariants.{Declared, Made}
 use Rattle.e_spell.specs.Certificates.{named_term, row_words}
 use Rattle.e_spell.specs.Spelling.{wanted_words, script_lines}
 
--- a literal behind the first word of its line
+-- a literal after the first word of its line
 abbrev pub lit_text : List ℕ → Names → Lit → List ℕ
 lit_text word ns l = word ++ (spaced (lit_words (raw_of ns l)) ++ 10 ∷ [])
 
 abbrev pub lits_text : List ℕ → Names → List Lit → List ℕ
 lits_text word ns ls = flat_map (lit_text word ns) ls
 
--- a line of these words behind the sign `|`
+-- a line of these words after the sign `|`
 abbrev pub bar_text : List (List ℕ) → List ℕ
 bar_text ws = codes "|" ++ (spaced ws ++ 10 ∷ [])
 
@@ -127,7 +127,7 @@ step_text known ns (Claimed shown inner) = form_text (claim_form ns shown) ++ sc
 step_text known ns (Copied form names shown certs inner) =
     superposition_text ns form names shown ++ (certs_text ns certs ++ script_text known (named ns superposing.sorts_copied names) inner)
 
--- the names in scope behind a step: those of an inner block are gone
+-- the names in scope after a step: those of an inner block are gone
 abbrev pub names_behind : List TitledStatement → Names → PlainStep → Names
 names_behind known ns (Cited by) = ns
 names_behind known ns (Inferred lit cert) = ns
@@ -136,7 +136,7 @@ names_behind known ns (Applied theorem args names certs) = named ns (theorem_of 
 names_behind known ns (Claimed shown inner) = ns
 names_behind known ns (Copied form names shown certs inner) = ns
 
--- and behind several
+-- and after several
 abbrev pub names_after : List TitledStatement → Names → List PlainStep → Names
 names_after known ns [] = ns
 names_after known ns (s ∷ steps) = names_after known (names_behind known ns s) steps
@@ -151,7 +151,7 @@ qed_text ns objects cs = form_text (qed_form ns objects) ++ certs_text ns cs
 abbrev pub contradicted_text : Names → Option Against → List ℕ
 contradicted_text ns against = form_text contradiction_form ++ contradiction_text ns against
 
--- two blocks behind the line of a split
+-- two blocks after the line of a split
 abbrev pub split_text : List TitledStatement → Names → Lit → Script → Script → List ℕ
 split_text known ns lit first second = form_text (cases_form ns lit) ++ (script_text known ns first ++ (form_text else_form ++ script_text known ns second))
 
@@ -163,7 +163,7 @@ abbrev pub role_words : Role → Sort → List ℕ
 role_words Declared s = sort_word s
 role_words Made s = codes "made" ++ 32 ∷ sort_word s
 
--- what stands before the name of an object, by the sort of the object before it: nothing on a line of that sort
+-- what comes before the name of an object, by the sort of the object before it: nothing on a line of that sort
 abbrev pub opening : Role → Option Sort → Sort → List ℕ
 opening role None s = role_words role s
 opening role (Some t) s = if same_sort t s then [] else 10 ∷ role_words role s
@@ -173,7 +173,7 @@ abbrev pub closing : Option Sort → List ℕ
 closing None = []
 closing (Some t) = 10 ∷ []
 
--- the lines of these objects, behind an object of this sort
+-- the lines of these objects, after an object of this sort
 abbrev pub objects_rest : Role → Names → Option Sort → List Obj → List ℕ
 objects_rest role ns last [] = closing last
 objects_rest role ns last (o ∷ os) = (opening role last o.sort ++ 32 ∷ name_of_object ns o) ++ objects_rest role ns (Some o.sort) os

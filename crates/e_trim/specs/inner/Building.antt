@@ -7,7 +7,7 @@ use Rattle.e_literal.specs.declared.object.Scope.{Scope}
 use Rattle.e_literal.specs.declared.literal.Lit.{Lit}
 use Rattle.e_literal.specs.Facts.{joined_all}
 use Rattle.e_literal.specs.Scopes.{grown, next_objects}
-use Rattle.e_literal.specs.Use.{Stated}
+use Rattle.e_literal.specs.Use.{StatementView}
 use Rattle.e_construct.specs.Superposing as superposing
 use Rattle.e_deriv.specs.declared.block.Block.{Block}
 use Rattle.e_deriv.specs.declared.block.Step.{Step}
@@ -20,18 +20,18 @@ use Rattle.e_trim.specs.Trimmed.{by_at, lit_at, cert_at, form_at, args_at, super
 use Rattle.e_trim.specs.inner.Flags.{flag, flags_of, step_flags}
 
 -- with some facts and some goal at most 1,000 objects of each sort are in scope before each line
-pub record AreSmall (before : List Stated) (d : Script) (s : Scope) : Type 0 where
+pub record AreSmall (before : List StatementView) (d : Script) (s : Scope) : Type 0 where
   pub facts : List Lit
   pub goal : Goal
   pub small : IsTrue (list_all (λ x. is_small x.scope) (lines before d d s facts goal))
 
--- with something behind it
-pub record IsSmallStep (before : List Stated) (step : Step) (s : Scope) : Type 0 where
+-- with something after it
+pub record IsSmallStep (before : List StatementView) (step : Step) (s : Scope) : Type 0 where
   pub rest : Script
   pub small : AreSmall before (step_script step rest) s
 
--- the kept step over the kept objects, with more behind it
-abbrev pub kept_step : List Stated → List Obj → Script → Scope → List Lit → Script → Script
+-- the kept step over the kept objects, with more after it
+abbrev pub kept_step : List StatementView → List Obj → Script → Scope → List Lit → Script → Script
 kept_step before kept (Cite by rest) s facts more = Cite (by_at kept by) more
 kept_step before kept (Hence lit cert rest) s facts more = Hence (lit_at kept lit) (option_map (cert_at kept) cert) more
 kept_step before kept (Make form names certs rest) s facts more = Make (form_at kept form) names (map (cert_at kept) certs) more
@@ -49,23 +49,23 @@ abbrev pub TakesFlag : List Bool → List Bool → Bool → Type 0
 TakesFlag pile left kept =
     (under inner : List Bool) (b : Bool) → pile ≡ under ++ flag b inner → (kept ≡ b) × (left ≡ under ++ (if b then inner else []))
 
--- the flags of the script lie on the pile, over others, and are taken; behind the steps that were there stand what is left of it
-abbrev pub IsBuilt : List Stated → List Obj → Script → Scope → List Bool → List Bool → List Step → List Step → Close → Type 0
+-- the flags of the script lie on the pile, over others, and are taken; after the steps that were there stand what is left of it
+abbrev pub IsBuilt : List StatementView → List Obj → Script → Scope → List Bool → List Bool → List Step → List Step → Close → Type 0
 IsBuilt before kept d s pile left done now close =
     (facts : List Lit) (goal : Goal) (under : List Bool) → pile ≡ under ++ flags_of before d s facts goal
     → (steps_script now (close_script close) ≡ steps_script done (trimmed_from before kept d s facts goal)) × (left ≡ under)
 
-abbrev pub StepIsBuilt : List Stated → List Obj → Step → Scope → List Bool → List Bool → Step → Type 0
+abbrev pub StepIsBuilt : List StatementView → List Obj → Step → Scope → List Bool → List Bool → Step → Type 0
 StepIsBuilt before kept step s pile left new =
     (rest more : Script) (facts : List Lit) (under : List Bool) → pile ≡ under ++ step_flags before (step_script step rest) s facts
     → (step_script new more ≡ kept_step before kept (step_script step rest) s facts more) × (left ≡ under)
 
-abbrev pub CloseIsBuilt : List Stated → List Obj → Script → Scope → List Bool → List Bool → Close → Type 0
+abbrev pub CloseIsBuilt : List StatementView → List Obj → Script → Scope → List Bool → List Bool → Close → Type 0
 CloseIsBuilt before kept d s pile left new =
     (facts : List Lit) (goal : Goal) (under : List Bool) → pile ≡ under ++ flags_of before d s facts goal
     → (close_script new ≡ trimmed_from before kept d s facts goal) × (left ≡ under)
 
-abbrev pub BlockIsBuilt : List Stated → List Obj → Script → Scope → List Bool → List Bool → Block → Type 0
+abbrev pub BlockIsBuilt : List StatementView → List Obj → Script → Scope → List Bool → List Bool → Block → Type 0
 BlockIsBuilt before kept d s pile left new =
     (facts : List Lit) (goal : Goal) (under : List Bool) → pile ≡ under ++ flags_of before d s facts goal
     → (script_of new ≡ trimmed_from before kept d s facts goal) × (left ≡ under)

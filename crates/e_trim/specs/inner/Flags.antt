@@ -5,7 +5,7 @@ use Rattle.e_literal.specs.declared.literal.Lit.{Lit}
 use Rattle.e_literal.specs.Literal.{negation}
 use Rattle.e_literal.specs.Facts.{joined, joined_all}
 use Rattle.e_literal.specs.Scopes.{grown}
-use Rattle.e_literal.specs.Use.{Stated}
+use Rattle.e_literal.specs.Use.{StatementView}
 use Rattle.e_construct.specs.Construct.{sorts_made, gives_of_construction}
 use Rattle.e_construct.specs.Superposing as superposing
 use Rattle.e_deriv.specs.Script.{Script, Cite, Hence, Make, Apply, Claim, Superposed, Qed, Contradiction, Cases}
@@ -19,8 +19,8 @@ abbrev pub flag : Bool → List Bool → List Bool
 flag true inner = inner ++ true ∷ []
 flag false inner = false ∷ []
 
--- the flags of a script: under those of a step are those of what comes behind it
-unfoldable pub flags_of : List Stated → Script → Scope → List Lit → Goal → List Bool
+-- the flags of a script: under those of a step are those of what comes after it
+unfoldable pub flags_of : List StatementView → Script → Scope → List Lit → Goal → List Bool
 flags_of before (Cite by rest) s facts goal =
     let after = joined facts by.lit in
     flags_of before rest s after goal ++ flag (is_kept before (Cite by rest) s facts (wants before rest s after goal)) []
@@ -53,14 +53,14 @@ flags_of before (Cases lit first second) s facts goal =
     flags_of before second s (joined facts (negation lit)) goal ++ flags_of before first s (joined facts lit) goal
 
 -- what the block inside of a step wants outside of it
-abbrev pub inside_of : List Stated → Script → Scope → List Lit → Wants
+abbrev pub inside_of : List StatementView → Script → Scope → List Lit → Wants
 inside_of before (Claim shown inner rest) s facts = outside s facts (wants before inner s facts (goal_of shown))
 inside_of before (Superposed form names shown certs inner rest) s facts =
     outside s facts (wants before inner (grown s superposing.sorts_copied) (joined_all facts (superposing.gives_of_superposition form s)) (goal_of shown))
 inside_of before _ s facts = no_wants
 
 -- the flags of the block inside of a step
-abbrev pub step_flags : List Stated → Script → Scope → List Lit → List Bool
+abbrev pub step_flags : List StatementView → Script → Scope → List Lit → List Bool
 step_flags before (Claim shown inner rest) s facts = flags_of before inner s facts (goal_of shown)
 step_flags before (Superposed form names shown certs inner rest) s facts =
     flags_of before inner (grown s superposing.sorts_copied) (joined_all facts (superposing.gives_of_superposition form s)) (goal_of shown)

@@ -7,7 +7,7 @@ use Rattle.e_literal.specs.declared.object.Sort.{Sort}
 use Rattle.e_literal.specs.declared.literal.Lit.{Lit}
 use Rattle.e_literal.specs.Facts.{joined_all}
 use Rattle.e_literal.specs.Scopes.{grown}
-use Rattle.e_literal.specs.Use.{Stated, scope_of, are_arguments}
+use Rattle.e_literal.specs.Use.{StatementView, scope_of, are_arguments}
 use Rattle.e_deriv.specs.Goal.{Goal, facts_of_statement}
 use Rattle.e_deriv.specs.Script.{Script, step_script, close_script}
 use Rattle.e_deriv.specs.Lines.{lines, theorem_at}
@@ -24,7 +24,7 @@ use Rattle.e_trim.specs.declared.standing.Outer.{Outer}
 use Rattle.e_trim.specs.declared.standing.Goal.{Goal as CodeGoal}
 
 -- before the first line of a statement's proof
-abbrev pub start_of : Stated → Standing
+abbrev pub start_of : StatementView → Standing
 start_of t = record { scope = scope_of t; facts = facts_of_statement t }
 
 abbrev pub outer_of : Standing → Outer
@@ -43,52 +43,52 @@ abbrev pub goal_said : CodeGoal → Goal
 goal_said g = record { made = g.made.now; shown = g.shown.now }
 
 -- the form of each line fits, and at most 1,000 objects of each sort are in scope before it
-pub record IsReady (before : List Stated) (d : Script) (s : Scope) (facts : List Lit) (goal : Goal) : Type 0 where
+pub record IsReady (before : List StatementView) (d : Script) (s : Scope) (facts : List Lit) (goal : Goal) : Type 0 where
   pub forms : IsTrue (list_all (fits before) (lines before d d s facts goal))
   pub scopes : IsTrue (list_all (λ x. is_small x.scope) (lines before d d s facts goal))
 
--- behind a step
-abbrev pub passed : List Stated → Script → Standing → Standing
+-- after a step
+abbrev pub passed : List StatementView → Script → Standing → Standing
 passed before here x = opened (makes_at before here) (joins_at before here x.scope) x
 
--- with something behind it and some goal the form of the step fits
-pub record StepFits (before : List Stated) (step : Step) (s : Scope) : Type 0 where
+-- with something after it and some goal the form of the step fits
+pub record StepFits (before : List StatementView) (step : Step) (s : Scope) : Type 0 where
   pub rest : Script
   pub goal : Goal
   pub fits : IsTrue (fits_at before (step_script step rest) s goal (args_of (step_script step rest)))
 
 -- the form of the close fits
 abbrev pub CloseFits : Close → Scope → Goal → Type 0
-CloseFits close s goal = (before : List Stated) → IsTrue (fits_at before (close_script close) s goal (args_of (close_script close)))
+CloseFits close s goal = (before : List StatementView) → IsTrue (fits_at before (close_script close) s goal (args_of (close_script close)))
 
 -- the theorem is one of those before, and the arguments that are written fit it
-pub record IsApplied (before : List Stated) (theorem : ℕ) (args : List (Option Obj)) (s : Scope) : Type 0 where
+pub record IsApplied (before : List StatementView) (theorem : ℕ) (args : List (Option Obj)) (s : Scope) : Type 0 where
   pub place : theorem < length before
   pub fit : IsTrue (are_arguments (theorem_at before theorem) s (written args))
 
--- with something behind it and some goal the step is ready
-pub record IsReadyStep (before : List Stated) (step : Step) (x : Standing) : Type 0 where
+-- with something after it and some goal the step is ready
+pub record IsReadyStep (before : List StatementView) (step : Step) (x : Standing) : Type 0 where
   pub rest : Script
   pub goal : Goal
   pub ready : IsReady before (step_script step rest) x.scope x.facts goal
 
--- a kept step adds this to what is wanted, whatever comes behind it
-abbrev pub StepWants : List Stated → Step → Standing → Wants → Wants → Type 0
+-- a kept step adds this to what is wanted, whatever comes after it
+abbrev pub StepWants : List StatementView → Step → Standing → Wants → Wants → Type 0
 StepWants before step x old new =
     (rest : Script) (goal : Goal) →
     new ≡ both old (both (of_line before (line_at (step_script step rest) x.scope x.facts goal)) (inside_of before (step_script step rest) x.scope x.facts))
 
 -- and these flags to the pile
-abbrev pub StepFlags : List Stated → Step → Standing → List Bool → List Bool → Type 0
+abbrev pub StepFlags : List StatementView → Step → Standing → List Bool → List Bool → Type 0
 StepFlags before step x old new = (rest : Script) → new ≡ old ++ step_flags before (step_script step rest) x.scope x.facts
 
--- a step adds what it wants to what is wanted behind it, if it is kept
-abbrev pub StepAdds : List Stated → Step → Standing → Wants → Wants → Type 0
+-- a step adds what it wants to what is wanted after it, if it is kept
+abbrev pub StepAdds : List StatementView → Step → Standing → Wants → Wants → Type 0
 StepAdds before step x old new =
     (rest : Script) (goal : Goal) → new ≡ with_step before (step_script step rest) x.scope x.facts goal (inside_of before (step_script step rest) x.scope x.facts) old
 
--- and its flag to the pile, where this is wanted behind it
-abbrev pub FlagsAdded : List Stated → Step → Standing → Wants → List Bool → List Bool → Type 0
+-- and its flag to the pile, where this is wanted after it
+abbrev pub FlagsAdded : List StatementView → Step → Standing → Wants → List Bool → List Bool → Type 0
 FlagsAdded before step x w old new =
     (rest : Script) → new ≡ old ++ flag (is_kept before (step_script step rest) x.scope x.facts w) (step_flags before (step_script step rest) x.scope x.facts)
 

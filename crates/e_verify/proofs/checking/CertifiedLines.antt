@@ -7,7 +7,7 @@ use Rattle.e_literal.specs.declared.object.Scope.{Scope}
 use Rattle.e_literal.specs.declared.literal.Lit.{Lit}
 use Rattle.e_literal.specs.Literal.{negation, is_in_scope, all_in_scope}
 use Rattle.e_literal.specs.Facts.{has, has_all, others, joined}
-use Rattle.e_literal.specs.Use.{Stated}
+use Rattle.e_literal.specs.Use.{StatementView}
 use Rattle.e_literal.specs.WellFormed.{is_well_formed}
 use Rattle.e_clause.specs.declared.cert.By.{By}
 use Rattle.e_clause.specs.declared.cert.Cert.{Cert}
@@ -84,13 +84,13 @@ cited_is s facts by lits needs kind args lit inst one is =
     let d = diagram_rule by.rule (rule_of_instance by.rule by.args lits inst) kind in
     ap (has_all facts) is ∙ rw (d, args, lit, inst, one) refl
 
-pub checked_cite : (before : List Stated) (by : By) (x after : StepState) (b : Bool) → is_well_formed by.lit ≡ true → b ≡ (is_citation x.scope by && is_cited x.facts by) → after ≡ with_facts (joined x.facts by.lit) x → IsChecked before (Cite by) x after b
+pub checked_cite : (before : List StatementView) (by : By) (x after : StepState) (b : Bool) → is_well_formed by.lit ≡ true → b ≡ (is_citation x.scope by && is_cited x.facts by) → after ≡ with_facts (joined x.facts by.lit) x → IsChecked before (Cite by) x after b
 checked_cite before by x after b f t e =
     checked before (Cite by) x (with_facts (joined x.facts by.lit) x) after b (λ rest goal. t) (cite_lines before by x) (stay_joined x.facts by.lit) (λ g. joined_formed x.facts by.lit g f) e
 
 -- ---- a hence
 
-pub checked_hence : (before : List Stated) (lit : Lit) (given : Option Cert) (cert : Cert) (x after : StepState) → is_well_formed lit ≡ true → given ≡ Some cert → all_in_scope x.scope lit ≡ true → certifies x.scope x.facts lit cert ≡ true
+pub checked_hence : (before : List StatementView) (lit : Lit) (given : Option Cert) (cert : Cert) (x after : StepState) → is_well_formed lit ≡ true → given ≡ Some cert → all_in_scope x.scope lit ≡ true → certifies x.scope x.facts lit cert ≡ true
     → after ≡ with_facts (joined x.facts lit) x → IsChecked before (Hence lit given) x after true
 checked_hence before lit given cert x after f is h k e =
     subst (λ o. IsChecked before (Hence lit o) x after true) (sym is)
@@ -106,7 +106,7 @@ each p q f (x ∷ xs) h =
 pub make_formed : (form : Construction) (s : Scope) → fits_construction form s ≡ true → list_all is_well_formed (needs_of_construction form) ≡ true
 make_formed form s h = each (all_in_scope s) is_well_formed (λ l k. and_right (all_in_scope s l) (is_well_formed l) k) (needs_of_construction form) (needs_good form s h)
 
-pub checked_make : (before : List Stated) (form : Construction) (names : List (List ℕ)) (certs : List Cert) (x after : StepState) → fits_construction form x.scope ≡ true → certify_all x.scope x.facts (needs_of_construction form) certs ≡ true
+pub checked_make : (before : List StatementView) (form : Construction) (names : List (List ℕ)) (certs : List Cert) (x after : StepState) → fits_construction form x.scope ≡ true → certify_all x.scope x.facts (needs_of_construction form) certs ≡ true
     → after ≡ after_make form x → IsChecked before (Make form names certs) x after true
 checked_make before form names certs x after h k e =
     checked before (Make form names certs) x (after_make form x) after true (λ rest goal. rw (h, k) refl) (make_lines before form names certs x) (stay_all x.facts (gives_of_construction form x.scope))
@@ -117,7 +117,7 @@ few_new s form n h e = let f = few_of_small s h in (omega (arith, f.points, e, f
 
 -- ---- an application
 
-pub refused : (before : List Stated) (whole : Script → Script) (x after : StepState) → ((rest : Script) (goal : Goal) → is_certified before (line_in_state (whole rest) x goal) ≡ false) → IsChecked before whole x after false
+pub refused : (before : List StatementView) (whole : Script → Script) (x after : StepState) → ((rest : Script) (goal : Goal) → is_certified before (line_in_state (whole rest) x goal) ≡ false) → IsChecked before whole x after false
 refused before whole x after h =
     record { test = λ rest goal. sym (h rest goal); next = λ t. absurd (true≢false (sym t)); kept = λ t. absurd (true≢false (sym t)); formed = λ t g. absurd (true≢false (sym t)) }
 
@@ -126,7 +126,7 @@ fills_written [] h = refl
 fills_written (None ∷ args) h = absurd (true≢false (sym h))
 fills_written (Some o ∷ args) h = ap (λ b. b && fills args (written args)) (same_obj_self o) ∙ fills_written args h
 
-pub checked_apply : (before : List Stated) (theorem : ℕ) (args : List (Option Obj)) (names : List (List ℕ)) (certs : List Cert) (t : Stated) (x after : StepState) → is_small_statement t ≡ true → slice_get before theorem ≡ Some t → has_no_blank args ≡ true
+pub checked_apply : (before : List StatementView) (theorem : ℕ) (args : List (Option Obj)) (names : List (List ℕ)) (certs : List Cert) (t : StatementView) (x after : StepState) → is_small_statement t ≡ true → slice_get before theorem ≡ Some t → has_no_blank args ≡ true
     → are_arguments t x.scope (written args) ≡ true → certify_all x.scope x.facts (needs_of_use t (written args) x.scope) certs ≡ true → after ≡ after_apply t (written args) x
     → IsChecked before (Apply theorem args names certs) x after true
 checked_apply before theorem args names certs t x after small at blank fit k e =
@@ -141,7 +141,7 @@ checked_apply before theorem args names certs t x after small at blank fit k e =
     (ap (λ u. all_formed (gives_of_use u (written args) x.scope)) is ∙ use_gives_formed t (written args) x.scope small fit))
     (e ∙ ap (λ u. after_apply u (written args) x) (sym is))
 
-pub no_arguments : (before : List Stated) (theorem : ℕ) (args : List (Option Obj)) (names : List (List ℕ)) (certs : List Cert) (t : Stated) (x after : StepState) → slice_get before theorem ≡ Some t
+pub no_arguments : (before : List StatementView) (theorem : ℕ) (args : List (Option Obj)) (names : List (List ℕ)) (certs : List Cert) (t : StatementView) (x after : StepState) → slice_get before theorem ≡ Some t
     → are_arguments t x.scope (written args) ≡ false → IsChecked before (Apply theorem args names certs) x after false
 no_arguments before theorem args names certs t x after at h =
     let is : theorem_at before theorem ≡ t = ap (λ o. unwrap_or o no_statement) at in
@@ -151,7 +151,7 @@ no_arguments before theorem args names certs t x after at h =
     (λ rest goal. ap (λ b. (low && (fills args (written args) && b)) && k) (ap (λ u. are_arguments u x.scope (written args)) is ∙ h)
     ∙ ap (λ b. (low && b) && k) (and-false (fills args (written args))) ∙ ap (λ b. b && k) (and-false low))
 
-pub not_certified : (before : List Stated) (theorem : ℕ) (args : List (Option Obj)) (names : List (List ℕ)) (certs : List Cert) (t : Stated) (x after : StepState) → slice_get before theorem ≡ Some t
+pub not_certified : (before : List StatementView) (theorem : ℕ) (args : List (Option Obj)) (names : List (List ℕ)) (certs : List Cert) (t : StatementView) (x after : StepState) → slice_get before theorem ≡ Some t
     → certify_all x.scope x.facts (needs_of_use t (written args) x.scope) certs ≡ false → IsChecked before (Apply theorem args names certs) x after false
 not_certified before theorem args names certs t x after at h =
     let is : theorem_at before theorem ≡ t = ap (λ o. unwrap_or o no_statement) at in
@@ -164,12 +164,12 @@ pub all_are_written : (v w : List Obj) (b : Bool) → Some v ≡ (if b then Some
 all_are_written v w true e = (refl, same_Some v w e)
 all_are_written v w false e = absurd (none-some v (sym e))
 
-pub small_theorem : (before : List Stated) (k : ℕ) (t : Stated) → list_all is_small_statement before ≡ true → slice_get before k ≡ Some t → is_small_statement t ≡ true
+pub small_theorem : (before : List StatementView) (k : ℕ) (t : StatementView) → list_all is_small_statement before ≡ true → slice_get before k ≡ Some t → is_small_statement t ≡ true
 small_theorem [] k t h e = absurd (none-some t e)
 small_theorem (u ∷ before) zero t h e = ap is_small_statement (sym (same_Some u t e)) ∙ and_left (is_small_statement u) (list_all is_small_statement before) h
 small_theorem (u ∷ before) (suc k) t h e = small_theorem before k t (and_right (is_small_statement u) (list_all is_small_statement before) h) e
 
-pub use_formed : (t : Stated) (args : List Obj) (s : Scope) → is_small_statement t ≡ true → are_arguments t s args ≡ true → list_all is_well_formed (needs_of_use t args s) ≡ true
+pub use_formed : (t : StatementView) (args : List Obj) (s : Scope) → is_small_statement t ≡ true → are_arguments t s args ≡ true → list_all is_well_formed (needs_of_use t args s) ≡ true
 use_formed t args s h k =
     each (all_in_scope s) is_well_formed (λ l m. and_right (all_in_scope s l) (is_well_formed l) m) (needs_of_use t args s) (use_needs_good t args s (and_left (is_statement t) (is_small (all_objects t)) h) k)
 
@@ -177,7 +177,7 @@ pub theorem_there : (before : List Statement) (theorem : ℕ) (t : Statement) �
 theorem_there before theorem t low at = slice_get-map stated before theorem ∙ ap (option_map stated) (slice_get-get_or before theorem t low ∙ ap Some (sym at))
 
 -- the arguments and the theorem of an application that fits
-pub record Fits (before : List Stated) (theorem : ℕ) (args : List (Option Obj)) (t : Stated) : Type 0 where
+pub record Fits (before : List StatementView) (theorem : ℕ) (args : List (Option Obj)) (t : StatementView) : Type 0 where
   pub at : slice_get before theorem ≡ Some t
   pub small : is_small_statement t ≡ true
   pub blank : has_no_blank args ≡ true
@@ -188,7 +188,7 @@ fits_of before theorem args t objects h low at e =
     let slice_get-get_or = theorem_there before theorem t low at in
     record { at = slice_get-get_or; small = small_theorem (all_stated before) theorem (stated t) h slice_get-get_or; blank = (all_are_written objects (written args) (has_no_blank args) e).0 }
 
-pub few_new_of : (s : Scope) (t : Stated) → is_small s ≡ true → is_small_statement t ≡ true
+pub few_new_of : (s : Scope) (t : StatementView) → is_small s ≡ true → is_small_statement t ≡ true
     → (length t.declared + length t.made < 2 ^ 16) × (s.points + length t.made < 2 ^ 16) × (s.lines + length t.made < 2 ^ 16) × (s.circles + length t.made < 2 ^ 16)
 few_new_of s t h k =
     let f = few_of_small s h in
@@ -204,12 +204,12 @@ pub few_copies : (s : Scope) (n : ℕ) → is_small s ≡ true → n ≡ length 
 few_copies s n h e = let f = few_of_small s h in (omega (arith, f.points, e), omega (arith, f.lines, e), omega (arith, f.circles, e))
 
 pub superposed_certified : (form : Superpose) (shown : List Lit) (certs : List Cert) (x : StepState) → superposing.fits_superposition form x.scope ≡ true → are_over x.scope shown ≡ true
-    → certify_all x.scope x.facts (superposing.needs_of_superposition form) certs ≡ true → (before : List Stated) (names : List (List ℕ)) (inner rest : Script) (goal : Goal)
+    → certify_all x.scope x.facts (superposing.needs_of_superposition form) certs ≡ true → (before : List StatementView) (names : List (List ℕ)) (inner rest : Script) (goal : Goal)
     → true ≡ is_certified before (line_in_state (Superposed form names shown certs inner rest) x goal)
 superposed_certified form shown certs x h k m before names inner rest goal = rw (h, k, m) refl
 
 -- where it is certified it fits
-pub superposed_fits : (before : List Stated) (form : Superpose) (names : List (List ℕ)) (shown : List Lit) (certs : List Cert) (inner rest : Script) (x : StepState) (goal : Goal)
+pub superposed_fits : (before : List StatementView) (form : Superpose) (names : List (List ℕ)) (shown : List Lit) (certs : List Cert) (inner rest : Script) (x : StepState) (goal : Goal)
     → true ≡ is_certified before (line_in_state (Superposed form names shown certs inner rest) x goal) → superposing.fits_superposition form x.scope ≡ true
 superposed_fits before form names shown certs inner rest x goal h =
     let fit = superposing.fits_superposition form x.scope && are_over x.scope shown in

@@ -5,7 +5,7 @@ use Rattle.e_literal.specs.declared.literal.Lit.{Lit}
 use Rattle.e_literal.specs.Literal.{negation}
 use Rattle.e_literal.specs.Facts.{joined, joined_all}
 use Rattle.e_literal.specs.Scopes.{grown}
-use Rattle.e_literal.specs.Use.{Stated, gives_of_use}
+use Rattle.e_literal.specs.Use.{StatementView, gives_of_use}
 use Rattle.e_clause.specs.declared.cert.Against.{Against}
 use Rattle.e_clause.specs.declared.cert.By.{By}
 use Rattle.e_clause.specs.declared.cert.Cert.{Cert}
@@ -22,12 +22,12 @@ use Rattle.e_verify.specs.inner.StepStates.{with_facts, state_after_superposed}
 use Rattle.e_verify.specs.Checking.{line_in_state, lines_in_state, IsChecked, KeepsFirstFacts}
 use Rattle.e_verify.proofs.checking.FormedFacts.{all_formed}
 
-pub cite_lines : (before : List Stated) (by : By) (x : StepState) (rest : Script) (goal : Goal)
+pub cite_lines : (before : List StatementView) (by : By) (x : StepState) (rest : Script) (goal : Goal)
     → lines_in_state before (Cite by rest) x goal ≡ line_in_state (Cite by rest) x goal ∷ lines_in_state before rest (with_facts (joined x.facts by.lit) x) goal
 unfolding lines
 cite_lines before by x rest goal = refl
 
-pub hence_lines : (before : List Stated) (lit : Lit) (cert : Option Cert) (x : StepState) (rest : Script) (goal : Goal)
+pub hence_lines : (before : List StatementView) (lit : Lit) (cert : Option Cert) (x : StepState) (rest : Script) (goal : Goal)
     → lines_in_state before (Hence lit cert rest) x goal ≡ line_in_state (Hence lit cert rest) x goal ∷ lines_in_state before rest (with_facts (joined x.facts lit) x) goal
 unfolding lines
 hence_lines before lit cert x rest goal = refl
@@ -36,48 +36,48 @@ hence_lines before lit cert x rest goal = refl
 abbrev pub after_make : Construction → StepState → StepState
 after_make form x = record { scope = grown x.scope (sorts_made form); facts = joined_all x.facts (gives_of_construction form x.scope) }
 
-pub make_lines : (before : List Stated) (form : Construction) (names : List (List ℕ)) (certs : List Cert) (x : StepState) (rest : Script) (goal : Goal)
+pub make_lines : (before : List StatementView) (form : Construction) (names : List (List ℕ)) (certs : List Cert) (x : StepState) (rest : Script) (goal : Goal)
     → lines_in_state before (Make form names certs rest) x goal ≡ line_in_state (Make form names certs rest) x goal ∷ lines_in_state before rest (after_make form x) goal
 unfolding lines
 make_lines before form names certs x rest goal = refl
 
 -- after an application
-abbrev pub after_apply : Stated → List Obj → StepState → StepState
+abbrev pub after_apply : StatementView → List Obj → StepState → StepState
 after_apply t args x = record { scope = grown x.scope t.made; facts = joined_all x.facts (gives_of_use t args x.scope) }
 
-pub apply_lines : (before : List Stated) (theorem : ℕ) (args : List (Option Obj)) (names : List (List ℕ)) (certs : List Cert) (x : StepState) (rest : Script) (goal : Goal)
+pub apply_lines : (before : List StatementView) (theorem : ℕ) (args : List (Option Obj)) (names : List (List ℕ)) (certs : List Cert) (x : StepState) (rest : Script) (goal : Goal)
     → lines_in_state before (Apply theorem args names certs rest) x goal ≡ line_in_state (Apply theorem args names certs rest) x goal ∷ lines_in_state before rest (after_apply (theorem_at before theorem) (written args) x) goal
 unfolding lines
 apply_lines before theorem args names certs x rest goal = refl
 
-pub claim_lines : (before : List Stated) (shown : List Lit) (inner : Script) (x : StepState) (rest : Script) (goal : Goal)
+pub claim_lines : (before : List StatementView) (shown : List Lit) (inner : Script) (x : StepState) (rest : Script) (goal : Goal)
     → lines_in_state before (Claim shown inner rest) x goal
     ≡ line_in_state (Claim shown inner rest) x goal ∷ (lines_in_state before inner x (goal_of shown) ++ lines_in_state before rest (with_facts (joined_all x.facts shown) x) goal)
 unfolding lines
 claim_lines before shown inner x rest goal = refl
 
-pub superposed_lines : (before : List Stated) (form : Superpose) (names : List (List ℕ)) (shown : List Lit) (certs : List Cert) (inner : Script) (x : StepState) (rest : Script) (goal : Goal)
+pub superposed_lines : (before : List StatementView) (form : Superpose) (names : List (List ℕ)) (shown : List Lit) (certs : List Cert) (inner : Script) (x : StepState) (rest : Script) (goal : Goal)
     → lines_in_state before (Superposed form names shown certs inner rest) x goal
     ≡ line_in_state (Superposed form names shown certs inner rest) x goal ∷ (lines_in_state before inner (state_after_superposed form x) (goal_of shown) ++ lines_in_state before rest (with_facts (joined_all x.facts shown) x) goal)
 unfolding lines
 superposed_lines before form names shown certs inner x rest goal = refl
 
-pub qed_lines : (before : List Stated) (objects : List Obj) (certs : List Cert) (x : StepState) (goal : Goal) → lines_in_state before (Qed objects certs) x goal ≡ line_in_state (Qed objects certs) x goal ∷ []
+pub qed_lines : (before : List StatementView) (objects : List Obj) (certs : List Cert) (x : StepState) (goal : Goal) → lines_in_state before (Qed objects certs) x goal ≡ line_in_state (Qed objects certs) x goal ∷ []
 unfolding lines
 qed_lines before objects certs x goal = refl
 
-pub contradiction_lines : (before : List Stated) (against : Option Against) (x : StepState) (goal : Goal) → lines_in_state before (Contradiction against) x goal ≡ line_in_state (Contradiction against) x goal ∷ []
+pub contradiction_lines : (before : List StatementView) (against : Option Against) (x : StepState) (goal : Goal) → lines_in_state before (Contradiction against) x goal ≡ line_in_state (Contradiction against) x goal ∷ []
 unfolding lines
 contradiction_lines before against x goal = refl
 
-pub cases_lines : (before : List Stated) (lit : Lit) (first second : Script) (x : StepState) (goal : Goal)
+pub cases_lines : (before : List StatementView) (lit : Lit) (first second : Script) (x : StepState) (goal : Goal)
     → lines_in_state before (Cases lit first second) x goal
     ≡ line_in_state (Cases lit first second) x goal ∷ (lines_in_state before first (with_facts (joined x.facts lit) x) goal ++ lines_in_state before second (with_facts (joined x.facts (negation lit)) x) goal)
 unfolding lines
 cases_lines before lit first second x goal = refl
 
 -- each script has a first line
-pub some_lines : (before : List Stated) (d : Script) (x : StepState) (goal : Goal) → (ys : List Line) × (lines_in_state before d x goal ≡ line_in_state d x goal ∷ ys)
+pub some_lines : (before : List StatementView) (d : Script) (x : StepState) (goal : Goal) → (ys : List Line) × (lines_in_state before d x goal ≡ line_in_state d x goal ∷ ys)
 unfolding lines
 some_lines before (Cite by rest) x goal = (_, refl)
 some_lines before (Hence lit cert rest) x goal = (_, refl)
@@ -89,7 +89,7 @@ some_lines before (Qed objects certs) x goal = (_, refl)
 some_lines before (Contradiction against) x goal = (_, refl)
 some_lines before (Cases lit first second) x goal = (_, refl)
 
-pub checked : (before : List Stated) (whole : Script → Script) (x y after : StepState) (b : Bool) → ((rest : Script) (goal : Goal) → b ≡ is_certified before (line_in_state (whole rest) x goal))
+pub checked : (before : List StatementView) (whole : Script → Script) (x y after : StepState) (b : Bool) → ((rest : Script) (goal : Goal) → b ≡ is_certified before (line_in_state (whole rest) x goal))
     → ((rest : Script) (goal : Goal) → lines_in_state before (whole rest) x goal ≡ line_in_state (whole rest) x goal ∷ lines_in_state before rest y goal) → KeepsFirstFacts x y
     → (all_formed x.facts ≡ true → all_formed y.facts ≡ true) → after ≡ y → IsChecked before whole x after b
 checked before whole x y after b t l k f e =

@@ -9,7 +9,7 @@ use Rattle.e_literal.specs.declared.literal.Lit.{Lit}
 use Rattle.e_literal.specs.Literal.{all_in_scope}
 use Rattle.e_literal.specs.Facts.{has, joined, joined_all}
 use Rattle.e_literal.specs.Scopes.{grown}
-use Rattle.e_literal.specs.Use.{Stated, is_statement, are_arguments, gives_of_use}
+use Rattle.e_literal.specs.Use.{StatementView, is_statement, are_arguments, gives_of_use}
 use Rattle.e_literal.specs.WellFormed.{is_well_formed}
 use Rattle.e_literal.proofs.Booleans.{and_left, and_right, all_both}
 use Rattle.e_construct.specs.declared.construction.Construction.{Construction}
@@ -53,7 +53,7 @@ each p (l ∷ ls) h =
 pub make_gives_formed : (form : Construction) (s : Scope) → fits_construction form s ≡ true → all_formed (gives_of_construction form s) ≡ true
 make_gives_formed form s h = each (all_in_scope (grown s (sorts_made form))) (gives_of_construction form s) (gives_good form s h)
 
-pub use_gives_formed : (t : Stated) (args : List Obj) (s : Scope) → is_small_statement t ≡ true → are_arguments t s args ≡ true → all_formed (gives_of_use t args s) ≡ true
+pub use_gives_formed : (t : StatementView) (args : List Obj) (s : Scope) → is_small_statement t ≡ true → are_arguments t s args ≡ true → all_formed (gives_of_use t args s) ≡ true
 use_gives_formed t args s h k =
     each (all_in_scope (grown s t.made)) (gives_of_use t args s) (use_gives_good t args s (and_left (is_statement t) (is_small (all_objects t)) h) k)
 

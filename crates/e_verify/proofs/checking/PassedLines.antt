@@ -8,7 +8,7 @@ use Rattle.e_literal.specs.declared.object.Obj.{Obj}
 use Rattle.e_literal.specs.declared.literal.Lit.{Lit}
 use Rattle.e_literal.specs.Literal.{negation, all_in_scope}
 use Rattle.e_literal.specs.Facts.{joined, joined_all}
-use Rattle.e_literal.specs.Use.{Stated}
+use Rattle.e_literal.specs.Use.{StatementView}
 use Rattle.e_literal.specs.WellFormed.{is_well_formed}
 use Rattle.e_literal.proofs.Booleans.{and_left, and_right}
 use Rattle.e_clause.specs.declared.cert.Against.{Against}
@@ -101,7 +101,7 @@ reject_all p xs ys n NoMemory h = tt
 pub reject_as : (v w : Result ℕ ℕ) (e : Reject) → v ≡ w → RejectIs w e → RejectIs v e
 reject_as v w e is h = subst (λ r. RejectIs r e) (sym is) h
 
-pub size_of : (before : List Stated) (d : Script) (x : StepState) (goal : Goal) (n m : ℕ) → verdict_at before d x goal n ≡ Ok m → m ≡ n + size d
+pub size_of : (before : List StatementView) (d : Script) (x : StepState) (goal : Goal) (n m : ℕ) → verdict_at before d x goal n ≡ Ok m → m ≡ n + size d
 size_of before d x goal n m e = count (is_certified before) (lines_in_state before d x goal) n m e ∙ ap (λ k. n + k) (lines_length before d d x.scope x.facts goal)
 
 -- ---- scopes
@@ -121,7 +121,7 @@ left_small ys zs h = and_left (list_all is_small_line ys) (list_all is_small_lin
 right_small : (ys zs : List Line) → list_all is_small_line (ys ++ zs) ≡ true → list_all is_small_line zs ≡ true
 right_small ys zs h = and_right (list_all is_small_line ys) (list_all is_small_line zs) (sym (list_all-append is_small_line ys zs) ∙ h)
 
-pub scope_small : (before : List Stated) (d : Script) (x : StepState) (goal : Goal) (n : ℕ) → IsCheckable before d x goal n → is_small x.scope ≡ true
+pub scope_small : (before : List StatementView) (d : Script) (x : StepState) (goal : Goal) (n : ℕ) → IsCheckable before d x goal n → is_small x.scope ≡ true
 scope_small before d x goal n r = let l = some_lines before d x goal in first_small (line_in_state d x goal) l.0 (lines_in_state before d x goal) l.1 r.scopes
 
 -- ---- what is written well
@@ -199,11 +199,11 @@ make_line form names certs = record { written = λ rest h. (make_written form na
 pub apply_line : (theorem : ℕ) (args : List (Option Obj)) (names : List (List ℕ)) (certs : List Cert) → IsLine (Apply theorem args names certs)
 apply_line theorem args names certs = record { written = λ rest h. (apply_written theorem args names certs rest h).1; size_is = size-Apply theorem args names certs }
 
-pub bad_line : (before : List Stated) (d : Script) (x : StepState) (goal : Goal) (n : ℕ) → is_certified before (line_in_state d x goal) ≡ false → verdict_at before d x goal n ≡ Err n
+pub bad_line : (before : List StatementView) (d : Script) (x : StepState) (goal : Goal) (n : ℕ) → is_certified before (line_in_state d x goal) ≡ false → verdict_at before d x goal n ≡ Err n
 bad_line before d x goal n h =
     let l = some_lines before d x goal in ap (λ xs. first_failure (is_certified before) xs n) l.1 ∙ fail_one (is_certified before) (line_in_state d x goal) l.0 n h
 
-pub line_passed : (before : List Stated) (step : Step) (whole : Script → Script) (x after : StepState) (n : ℕ) (b : Bool) (r : Result ℕ Reject) → ((rest : Script) → step_script step rest ≡ whole rest) → IsLine whole
+pub line_passed : (before : List StatementView) (step : Step) (whole : Script → Script) (x after : StepState) (n : ℕ) (b : Bool) (r : Result ℕ Reject) → ((rest : Script) → step_script step rest ≡ whole rest) → IsLine whole
     → IsChecked before whole x after b → IfOk r (λ next. IsTrue b × (next ≡ n + 1)) → IfOk r (λ next. AreVerified before (step_script step) x n after next)
 line_passed before step whole x after n b (Err e) is line c h = tt
 line_passed before step whole x after n b (Ok next) is line c h =
@@ -225,7 +225,7 @@ line_passed before step whole x after n b (Ok next) is line c h =
       kept = c.kept h.0;
     }
 
-pub line_rejected : (before : List Stated) (step : Step) (whole : Script → Script) (x after : StepState) (n : ℕ) (b : Bool) (r : Result ℕ Reject) → ((rest : Script) → step_script step rest ≡ whole rest)
+pub line_rejected : (before : List StatementView) (step : Step) (whole : Script → Script) (x after : StepState) (n : ℕ) (b : Bool) (r : Result ℕ Reject) → ((rest : Script) → step_script step rest ≡ whole rest)
     → IsChecked before whole x after b → IfErr r (λ e. IsFalse b × (e ≡ Bad n)) → IfErr r (StepRejects before step x n)
 line_rejected before step whole x after n b (Ok next) is c h = tt
 line_rejected before step whole x after n b (Err e) is c h =
@@ -235,20 +235,20 @@ line_rejected before step whole x after n b (Err e) is c h =
 
 -- ---- a close that is one line
 
-pub close_certified : (before : List Stated) (d : Script) (x : StepState) (goal : Goal) (n : ℕ) (b : Bool) (r : Result ℕ Reject) → lines_in_state before d x goal ≡ line_in_state d x goal ∷ [] → b ≡ is_certified before (line_in_state d x goal)
+pub close_certified : (before : List StatementView) (d : Script) (x : StepState) (goal : Goal) (n : ℕ) (b : Bool) (r : Result ℕ Reject) → lines_in_state before d x goal ≡ line_in_state d x goal ∷ [] → b ≡ is_certified before (line_in_state d x goal)
     → IfOk r (λ next. IsTrue b × (next ≡ n + 1)) → IfOk r (λ next. verdict_at before d x goal n ≡ Ok next)
 close_certified before d x goal n b (Err e) one t h = tt
 close_certified before d x goal n b (Ok next) one t h =
     ap (λ xs. first_failure (is_certified before) xs n) one ∙ pass_one (is_certified before) (line_in_state d x goal) [] n (sym t ∙ h.0) ∙ ap Ok (sym h.1)
 
-pub close_rejected : (before : List Stated) (d : Script) (x : StepState) (goal : Goal) (n : ℕ) (b : Bool) (r : Result ℕ Reject) → b ≡ is_certified before (line_in_state d x goal)
+pub close_rejected : (before : List StatementView) (d : Script) (x : StepState) (goal : Goal) (n : ℕ) (b : Bool) (r : Result ℕ Reject) → b ≡ is_certified before (line_in_state d x goal)
     → IfErr r (λ e. IsFalse b × (e ≡ Bad n)) → IfErr r (RejectIs (verdict_at before d x goal n))
 close_rejected before d x goal n b (Ok next) t h = tt
 close_rejected before d x goal n b (Err e) t h = subst (RejectIs (verdict_at before d x goal n)) (sym h.1) (bad_line before d x goal n (sym t ∙ h.0))
 
 -- ---- a claim
 
-pub claim_inner : (before : List Stated) (shown : List Lit) (inner rest : Script) (x : StepState) (goal : Goal) (n : ℕ) → IsCheckable before (Claim shown inner rest) x goal n → IsCheckable before inner x (goal_of shown) (n + 1)
+pub claim_inner : (before : List StatementView) (shown : List Lit) (inner rest : Script) (x : StepState) (goal : Goal) (n : ℕ) → IsCheckable before (Claim shown inner rest) x goal n → IsCheckable before inner x (goal_of shown) (n + 1)
 claim_inner before shown inner rest x goal n r =
     let w = claim_written shown inner rest r.written in
     let s = rest_small (line_in_state (Claim shown inner rest) x goal) _ (lines_in_state before (Claim shown inner rest) x goal) (claim_lines before shown inner x rest goal) r.scopes in
@@ -260,7 +260,7 @@ claim_inner before shown inner rest x goal n r =
       few = omega (arith, r.few, size-Claim shown inner rest);
     }
 
-pub passed_claim : (before : List Stated) (shown : List Lit) (inner : Script) (x : StepState) (n m : ℕ) → are_over x.scope shown ≡ true → verdict_at before inner x (goal_of shown) (n + 1) ≡ Ok m
+pub passed_claim : (before : List StatementView) (shown : List Lit) (inner : Script) (x : StepState) (n m : ℕ) → are_over x.scope shown ≡ true → verdict_at before inner x (goal_of shown) (n + 1) ≡ Ok m
     → AreVerified before (Claim shown inner) x n (with_facts (joined_all x.facts shown) x) m
 passed_claim before shown inner x n m h e =
     let after = with_facts (joined_all x.facts shown) x in
@@ -284,7 +284,7 @@ passed_claim before shown inner x n m h e =
       kept = stay_all x.facts shown;
     }
 
-pub claim_rejected : (before : List Stated) (shown : List Lit) (inner rest : Script) (x : StepState) (goal : Goal) (n : ℕ) (e : Reject) → are_over x.scope shown ≡ true
+pub claim_rejected : (before : List StatementView) (shown : List Lit) (inner rest : Script) (x : StepState) (goal : Goal) (n : ℕ) (e : Reject) → are_over x.scope shown ≡ true
     → RejectIs (verdict_at before inner x (goal_of shown) (n + 1)) e → RejectIs (verdict_at before (Claim shown inner rest) x goal n) e
 claim_rejected before shown inner rest x goal n e h k =
     let p = is_certified before in
@@ -294,12 +294,12 @@ claim_rejected before shown inner rest x goal n e h k =
     (ap (λ xs. first_failure p xs n) (claim_lines before shown inner x rest goal) ∙ pass_one p (line_in_state (Claim shown inner rest) x goal) (A ++ B) n (rw h refl))
     (reject_all p A B (n + 1) e k)
 
-pub claim_bad : (before : List Stated) (shown : List Lit) (inner rest : Script) (x : StepState) (goal : Goal) (n : ℕ) → are_over x.scope shown ≡ false → verdict_at before (Claim shown inner rest) x goal n ≡ Err n
+pub claim_bad : (before : List StatementView) (shown : List Lit) (inner rest : Script) (x : StepState) (goal : Goal) (n : ℕ) → are_over x.scope shown ≡ false → verdict_at before (Claim shown inner rest) x goal n ≡ Err n
 claim_bad before shown inner rest x goal n h = bad_line before (Claim shown inner rest) x goal n (rw h refl)
 
 -- ---- a superposition
 
-pub superposed_inner : (before : List Stated) (form : Superpose) (names : List (List ℕ)) (shown : List Lit) (certs : List Cert) (inner rest : Script) (x : StepState) (goal : Goal) (n : ℕ)
+pub superposed_inner : (before : List StatementView) (form : Superpose) (names : List (List ℕ)) (shown : List Lit) (certs : List Cert) (inner rest : Script) (x : StepState) (goal : Goal) (n : ℕ)
     → superposing.fits_superposition form x.scope ≡ true → IsCheckable before (Superposed form names shown certs inner rest) x goal n → IsCheckable before inner (state_after_superposed form x) (goal_of shown) (n + 1)
 superposed_inner before form names shown certs inner rest x goal n fit r =
     let w = superposed_written form names shown certs inner rest r.written in
@@ -314,10 +314,10 @@ superposed_inner before form names shown certs inner rest x goal n fit r =
     }
 
 -- the superposition itself is certified, whatever its block is
-abbrev pub IsHead : List Stated → Superpose → List (List ℕ) → List Lit → List Cert → StepState → Bool → Type 0
+abbrev pub IsHead : List StatementView → Superpose → List (List ℕ) → List Lit → List Cert → StepState → Bool → Type 0
 IsHead before form names shown certs x b = (inner rest : Script) (goal : Goal) → b ≡ is_certified before (line_in_state (Superposed form names shown certs inner rest) x goal)
 
-pub passed_superposed : (before : List Stated) (form : Superpose) (names : List (List ℕ)) (shown : List Lit) (certs : List Cert) (inner : Script) (x : StepState) (n m : ℕ) → IsHead before form names shown certs x true
+pub passed_superposed : (before : List StatementView) (form : Superpose) (names : List (List ℕ)) (shown : List Lit) (certs : List Cert) (inner : Script) (x : StepState) (n m : ℕ) → IsHead before form names shown certs x true
     → verdict_at before inner (state_after_superposed form x) (goal_of shown) (n + 1) ≡ Ok m → AreVerified before (Superposed form names shown certs inner) x n (with_facts (joined_all x.facts shown) x) m
 passed_superposed before form names shown certs inner x n m h e =
     let after = with_facts (joined_all x.facts shown) x in
@@ -342,7 +342,7 @@ passed_superposed before form names shown certs inner x n m h e =
       kept = stay_all x.facts shown;
     }
 
-pub superposed_rejected : (before : List Stated) (form : Superpose) (names : List (List ℕ)) (shown : List Lit) (certs : List Cert) (inner rest : Script) (x : StepState) (goal : Goal) (n : ℕ) (e : Reject)
+pub superposed_rejected : (before : List StatementView) (form : Superpose) (names : List (List ℕ)) (shown : List Lit) (certs : List Cert) (inner rest : Script) (x : StepState) (goal : Goal) (n : ℕ) (e : Reject)
     → IsHead before form names shown certs x true → RejectIs (verdict_at before inner (state_after_superposed form x) (goal_of shown) (n + 1)) e → RejectIs (verdict_at before (Superposed form names shown certs inner rest) x goal n) e
 superposed_rejected before form names shown certs inner rest x goal n e h k =
     let p = is_certified before in
@@ -354,7 +354,7 @@ superposed_rejected before form names shown certs inner rest x goal n e h k =
 
 -- ---- a split
 
-pub cases_first : (before : List Stated) (lit : Lit) (first second : Script) (x : StepState) (goal : Goal) (n : ℕ) → IsCheckable before (Cases lit first second) x goal n
+pub cases_first : (before : List StatementView) (lit : Lit) (first second : Script) (x : StepState) (goal : Goal) (n : ℕ) → IsCheckable before (Cases lit first second) x goal n
     → IsCheckable before first (with_facts (joined x.facts lit) x) goal (n + 1)
 cases_first before lit first second x goal n r =
     let w = cases_written lit first second r.written in
@@ -367,7 +367,7 @@ cases_first before lit first second x goal n r =
       few = omega (arith, r.few, size-Cases lit first second);
     }
 
-pub cases_second : (before : List Stated) (lit : Lit) (first second : Script) (x : StepState) (goal : Goal) (n m : ℕ) → IsCheckable before (Cases lit first second) x goal n
+pub cases_second : (before : List StatementView) (lit : Lit) (first second : Script) (x : StepState) (goal : Goal) (n m : ℕ) → IsCheckable before (Cases lit first second) x goal n
     → verdict_at before first (with_facts (joined x.facts lit) x) goal (n + 1) ≡ Ok m → IsCheckable before second (with_facts (joined x.facts (negation lit)) x) goal m
 cases_second before lit first second x goal n m r e =
     let w = cases_written lit first second r.written in
@@ -380,7 +380,7 @@ cases_second before lit first second x goal n m r e =
       few = omega (arith, r.few, size-Cases lit first second, size_of before first (with_facts (joined x.facts lit) x) goal (n + 1) m e);
     }
 
-pub cases_same : (before : List Stated) (lit : Lit) (first second : Script) (x : StepState) (goal : Goal) (n m : ℕ) → all_in_scope x.scope lit ≡ true
+pub cases_same : (before : List StatementView) (lit : Lit) (first second : Script) (x : StepState) (goal : Goal) (n m : ℕ) → all_in_scope x.scope lit ≡ true
     → verdict_at before first (with_facts (joined x.facts lit) x) goal (n + 1) ≡ Ok m
     → verdict_at before (Cases lit first second) x goal n ≡ verdict_at before second (with_facts (joined x.facts (negation lit)) x) goal m
 cases_same before lit first second x goal n m h e =
@@ -389,7 +389,7 @@ cases_same before lit first second x goal n m h e =
     let B = lines_in_state before second (with_facts (joined x.facts (negation lit)) x) goal in
     ap (λ xs. first_failure p xs n) (cases_lines before lit first second x goal) ∙ pass_one p (line_in_state (Cases lit first second) x goal) (A ++ B) n (rw h refl) ∙ pass_all p A B (n + 1) m e
 
-pub cases_rejected : (before : List Stated) (lit : Lit) (first second : Script) (x : StepState) (goal : Goal) (n : ℕ) (e : Reject) → all_in_scope x.scope lit ≡ true
+pub cases_rejected : (before : List StatementView) (lit : Lit) (first second : Script) (x : StepState) (goal : Goal) (n : ℕ) (e : Reject) → all_in_scope x.scope lit ≡ true
     → RejectIs (verdict_at before first (with_facts (joined x.facts lit) x) goal (n + 1)) e → RejectIs (verdict_at before (Cases lit first second) x goal n) e
 cases_rejected before lit first second x goal n e h k =
     let p = is_certified before in
@@ -399,5 +399,5 @@ cases_rejected before lit first second x goal n e h k =
     (ap (λ xs. first_failure p xs n) (cases_lines before lit first second x goal) ∙ pass_one p (line_in_state (Cases lit first second) x goal) (A ++ B) n (rw h refl))
     (reject_all p A B (n + 1) e k)
 
-pub cases_bad : (before : List Stated) (lit : Lit) (first second : Script) (x : StepState) (goal : Goal) (n : ℕ) → all_in_scope x.scope lit ≡ false → verdict_at before (Cases lit first second) x goal n ≡ Err n
+pub cases_bad : (before : List StatementView) (lit : Lit) (first second : Script) (x : StepState) (goal : Goal) (n : ℕ) → all_in_scope x.scope lit ≡ false → verdict_at before (Cases lit first second) x goal n ≡ Err n
 cases_bad before lit first second x goal n h = bad_line before (Cases lit first second) x goal n (rw h refl)

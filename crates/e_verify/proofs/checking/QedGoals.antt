@@ -5,7 +5,7 @@ use mathlib.Core.Bool.{and-true}
 use Rattle.e_literal.specs.declared.object.Obj.{Obj}
 use Rattle.e_literal.specs.declared.literal.Lit.{Lit}
 use Rattle.e_literal.specs.Rename.{renamed, image_in, paired}
-use Rattle.e_literal.specs.Use.{Stated}
+use Rattle.e_literal.specs.Use.{StatementView}
 use Rattle.e_literal.specs.WellFormed.{is_well_formed}
 use Rattle.e_literal.proofs.WithImages.{renamed_well_formed}
 use Rattle.e_literal.proofs.Booleans.{and_left, and_right}
@@ -25,7 +25,7 @@ each_formed f e (l ∷ ls) h =
 pub goal_formed : (goal : Goal) (objects : List Obj) → list_all is_well_formed goal.shown ≡ true → list_all is_well_formed (goal_with goal objects) ≡ true
 goal_formed goal objects h = each_formed (renamed (image_in (paired goal.made objects))) (renamed_well_formed (image_in (paired goal.made objects))) goal.shown h
 
-pub qed_certified : (objects : List Obj) (certs : List Cert) (goal : Goal) (x : StepState) → are_for goal x.scope objects ≡ true → (before : List Stated)
+pub qed_certified : (objects : List Obj) (certs : List Cert) (goal : Goal) (x : StepState) → are_for goal x.scope objects ≡ true → (before : List StatementView)
     → certify_all x.scope x.facts (goal_with goal objects) certs ≡ is_certified before (line_in_state (Qed objects certs) x goal)
 qed_certified objects certs goal x h before =
     sym (ap (λ b. b && (certify_all x.scope x.facts (goal_with goal objects) certs && true)) h ∙ and-true (certify_all x.scope x.facts (goal_with goal objects) certs))

@@ -9,7 +9,7 @@ use Rattle.e_literal.specs.Literal.{negation, all_in_scope}
 use Rattle.e_literal.specs.Facts.{joined, joined_all, others}
 use Rattle.e_literal.specs.Same.{same_lit}
 use Rattle.e_literal.specs.Scopes.{grown}
-use Rattle.e_literal.specs.Use.{Stated, gives_of_use}
+use Rattle.e_literal.specs.Use.{StatementView, gives_of_use}
 use Rattle.e_literal.proofs.Booleans.{and_left, and_right, all_left, all_right, all_both}
 use Rattle.e_clause.specs.declared.cert.Version.TheVariants as version
 use Rattle.e_clause.specs.declared.cert.RowName.{RowName}
@@ -40,10 +40,10 @@ use Rattle.e_verify.specs.inner.Numbering.{has_few}
 use Rattle.e_verify.proofs.checking.PassedLines.{hence_written, make_written, apply_written, claim_written, superposed_written, qed_written, contradiction_written, cases_written, cite_written}
 use Rattle.e_verify.proofs.placing.PlacedCertificates.{certs_certified, against_certified}
 
-abbrev are_certified : List Stated → List Line → Bool
+abbrev are_certified : List StatementView → List Line → Bool
 are_certified before xs = list_all (is_certified before) xs
 
-abbrev lines_of : List Stated → Script → Scope → List Lit → Goal → List Line
+abbrev lines_of : List StatementView → Script → Scope → List Lit → Goal → List Line
 lines_of before d s facts goal = lines before d d s facts goal
 
 -- ---- certified lines stay certified
@@ -57,7 +57,7 @@ with_certs a b c d f h =
 both_true : (a b : Bool) → a ≡ true → b ≡ true → (a && b) ≡ true
 both_true a b h k = ap₂ {A = Bool} {B = Bool} (λ x y. x && y) h k
 
-pub numbered_certified : (before : List Stated) (d : Script) (s : Scope) (facts : List Lit) (goal : Goal) → are_certified before (lines_of before d s facts goal) ≡ true
+pub numbered_certified : (before : List StatementView) (d : Script) (s : Scope) (facts : List Lit) (goal : Goal) → are_certified before (lines_of before d s facts goal) ≡ true
     → are_certified before (lines_of before (with_places before d s facts goal) s facts goal) ≡ true
 unfolding lines with_places
 numbered_certified before (Cite by rest) s facts goal h =
@@ -82,7 +82,7 @@ numbered_certified before (Make form names certs rest) s facts goal h =
     both_true _ _ (with_certs (fits_form form s) _ _ true (certs_certified s facts (needs before (line (Make form names certs rest) (Make form names certs rest) s facts goal)) certs) (and_left first (are_certified before next) h))
     (numbered_certified before rest (grown s (sorts_made form)) (joined_all facts (gives_of_construction form s)) goal (and_right first (are_certified before next) h))
 numbered_certified before (Apply theorem args names certs rest) s facts goal h =
-    let t : Stated = theorem_at before theorem in
+    let t : StatementView = theorem_at before theorem in
     let first : Bool = is_certified before (line (Apply theorem args names certs rest) (Apply theorem args names certs rest) s facts goal) in
     let next : List Line = lines before rest rest (grown s t.made) (joined_all facts (gives_of_use t (written args) s)) goal in
     both_true _ _ (with_certs (is_applied before theorem s args (written args)) _ _ (has_no_blank args) (certs_certified s facts (needs before (line (Apply theorem args names certs rest) (Apply theorem args names certs rest) s facts goal)) certs) (and_left first (are_certified before next) h))
@@ -125,7 +125,7 @@ numbered_certified before (Cases lit one two) s facts goal h =
 
 -- ---- the script is the same
 
-pub numbered_erased : (before : List Stated) (d : Script) (s : Scope) (facts : List Lit) (goal : Goal) → erased (with_places before d s facts goal) ≡ erased d
+pub numbered_erased : (before : List StatementView) (d : Script) (s : Scope) (facts : List Lit) (goal : Goal) → erased (with_places before d s facts goal) ≡ erased d
 unfolding erased with_places
 numbered_erased before (Cite by rest) s facts goal = ap (Cite by) (numbered_erased before rest s (joined facts by.lit) goal)
 numbered_erased before (Hence lit cert rest) s facts goal = ap (Hence lit None) (numbered_erased before rest s (joined facts lit) goal)
@@ -238,7 +238,7 @@ module _ (facts : List Lit) (few : length facts < 2 ^ 32) where
 few_of : (facts : List Lit) (b : Bool) → (nat_lt (length facts) (2 ^ 32) && b) ≡ true → length facts < 2 ^ 32
 few_of facts b h = ltb-true (length facts) (2 ^ 32) (and_left (nat_lt (length facts) (2 ^ 32)) b h)
 
-pub numbered_of_second : (before : List Stated) (d : Script) (s : Scope) (facts : List Lit) (goal : Goal) → is_written_well d ≡ true → list_all has_few (lines_of before d s facts goal) ≡ true
+pub numbered_of_second : (before : List StatementView) (d : Script) (s : Scope) (facts : List Lit) (goal : Goal) → is_written_well d ≡ true → list_all has_few (lines_of before d s facts goal) ≡ true
     → has_certs_of version.Two (with_places before d s facts goal) ≡ true
 unfolding lines with_places has_certs_of
 numbered_of_second before (Cite by rest) s facts goal w h = numbered_of_second before rest s (joined facts by.lit) goal (cite_written by rest w).1 (and_right _ _ h)

@@ -8,7 +8,7 @@ use Rattle.e_literal.specs.declared.object.Obj.{Obj}
 use Rattle.e_literal.specs.declared.literal.Lit.{Lit}
 use Rattle.e_literal.specs.Literal.{negation}
 use Rattle.e_literal.specs.Facts.{joined, joined_all}
-use Rattle.e_literal.specs.Use.{Stated, gives_of_use, needs_of_use}
+use Rattle.e_literal.specs.Use.{StatementView, gives_of_use, needs_of_use}
 use Rattle.e_literal.proofs.Booleans.{all_both}
 use Rattle.e_clause.specs.declared.cert.Against.{Against}
 use Rattle.e_clause.specs.declared.cert.By.{By}
@@ -39,46 +39,46 @@ use Rattle.e_verify.proofs.checking.InnerBlocks.{kept_on, restored_is}
 
 -- ---- what is put at one line
 
-cite_places : (before : List Stated) (by : By) (x : StepState) (rest : Script) (goal : Goal) → places_at before (Cite by rest) x goal ≡ Cite by (places_at before rest (with_facts (joined x.facts by.lit) x) goal)
+cite_places : (before : List StatementView) (by : By) (x : StepState) (rest : Script) (goal : Goal) → places_at before (Cite by rest) x goal ≡ Cite by (places_at before rest (with_facts (joined x.facts by.lit) x) goal)
 unfolding with_places
 cite_places before by x rest goal = refl
 
-hence_places : (before : List Stated) (lit : Lit) (cert : Option Cert) (x : StepState) (rest : Script) (goal : Goal)
+hence_places : (before : List StatementView) (lit : Lit) (cert : Option Cert) (x : StepState) (rest : Script) (goal : Goal)
     → places_at before (Hence lit cert rest) x goal ≡ Hence lit (option_map (cert_with_places x.facts lit) cert) (places_at before rest (with_facts (joined x.facts lit) x) goal)
 unfolding with_places
 hence_places before lit cert x rest goal = refl
 
-make_places : (before : List Stated) (form : Construction) (names : List (List ℕ)) (certs : List Cert) (x : StepState) (rest : Script) (goal : Goal)
+make_places : (before : List StatementView) (form : Construction) (names : List (List ℕ)) (certs : List Cert) (x : StepState) (rest : Script) (goal : Goal)
     → places_at before (Make form names certs rest) x goal ≡ Make form names (certs_with_places x.facts (construct.needs_of_construction form) certs) (places_at before rest (after_make form x) goal)
 unfolding with_places
 make_places before form names certs x rest goal = refl
 
-apply_places : (before : List Stated) (theorem : ℕ) (args : List (Option Obj)) (names : List (List ℕ)) (certs : List Cert) (x : StepState) (rest : Script) (goal : Goal)
+apply_places : (before : List StatementView) (theorem : ℕ) (args : List (Option Obj)) (names : List (List ℕ)) (certs : List Cert) (x : StepState) (rest : Script) (goal : Goal)
     → places_at before (Apply theorem args names certs rest) x goal
     ≡ Apply theorem args names (certs_with_places x.facts (needs_of_use (theorem_at before theorem) (written args) x.scope) certs) (places_at before rest (after_apply (theorem_at before theorem) (written args) x) goal)
 unfolding with_places
 apply_places before theorem args names certs x rest goal = refl
 
-claim_places : (before : List Stated) (shown : List Lit) (inner : Script) (x : StepState) (rest : Script) (goal : Goal)
+claim_places : (before : List StatementView) (shown : List Lit) (inner : Script) (x : StepState) (rest : Script) (goal : Goal)
     → places_at before (Claim shown inner rest) x goal ≡ Claim shown (places_at before inner x (goal_of shown)) (places_at before rest (with_facts (joined_all x.facts shown) x) goal)
 unfolding with_places
 claim_places before shown inner x rest goal = refl
 
-superposed_places : (before : List Stated) (form : Superpose) (names : List (List ℕ)) (shown : List Lit) (certs : List Cert) (inner : Script) (x : StepState) (rest : Script) (goal : Goal)
+superposed_places : (before : List StatementView) (form : Superpose) (names : List (List ℕ)) (shown : List Lit) (certs : List Cert) (inner : Script) (x : StepState) (rest : Script) (goal : Goal)
     → places_at before (Superposed form names shown certs inner rest) x goal
     ≡ Superposed form names shown (certs_with_places x.facts (superposing.needs_of_superposition form) certs) (places_at before inner (state_after_superposed form x) (goal_of shown)) (places_at before rest (with_facts (joined_all x.facts shown) x) goal)
 unfolding with_places
 superposed_places before form names shown certs inner x rest goal = refl
 
-pub qed_places : (before : List Stated) (objects : List Obj) (certs : List Cert) (x : StepState) (goal : Goal) → places_at before (Qed objects certs) x goal ≡ Qed objects (certs_with_places x.facts (goal_with goal objects) certs)
+pub qed_places : (before : List StatementView) (objects : List Obj) (certs : List Cert) (x : StepState) (goal : Goal) → places_at before (Qed objects certs) x goal ≡ Qed objects (certs_with_places x.facts (goal_with goal objects) certs)
 unfolding with_places
 qed_places before objects certs x goal = refl
 
-pub contradiction_places : (before : List Stated) (against : Option Against) (x : StepState) (goal : Goal) → places_at before (Contradiction against) x goal ≡ Contradiction (option_map (against_with_places x.facts) against)
+pub contradiction_places : (before : List StatementView) (against : Option Against) (x : StepState) (goal : Goal) → places_at before (Contradiction against) x goal ≡ Contradiction (option_map (against_with_places x.facts) against)
 unfolding with_places
 contradiction_places before against x goal = refl
 
-cases_places : (before : List Stated) (lit : Lit) (first second : Script) (x : StepState) (goal : Goal)
+cases_places : (before : List StatementView) (lit : Lit) (first second : Script) (x : StepState) (goal : Goal)
     → places_at before (Cases lit first second) x goal ≡ Cases lit (places_at before first (with_facts (joined x.facts lit) x) goal) (places_at before second (with_facts (joined x.facts (negation lit)) x) goal)
 unfolding with_places
 cases_places before lit first second x goal = refl
@@ -88,16 +88,16 @@ cases_places before lit first second x goal = refl
 few_first : (x : StepState) → length x.facts < 2 ^ 32 → nat_lt (length x.facts) (2 ^ 32) ≡ true
 few_first x few = lt-ltb (length x.facts) (2 ^ 32) few
 
-few_line : (before : List Stated) (d : Script) (x : StepState) (goal : Goal) (rest : Script) (after : StepState) → length x.facts < 2 ^ 32 → lines_in_state before d x goal ≡ line_in_state d x goal ∷ lines_in_state before rest after goal
+few_line : (before : List StatementView) (d : Script) (x : StepState) (goal : Goal) (rest : Script) (after : StepState) → length x.facts < 2 ^ 32 → lines_in_state before d x goal ≡ line_in_state d x goal ∷ lines_in_state before rest after goal
     → HaveFew before rest after goal → HaveFew before d x goal
 few_line before d x goal rest after few is h = ap (list_all has_few) is ∙ ap₂ {A = Bool} {B = Bool} (λ a b. a && b) (few_first x few) h
 
-pub few_close : (before : List Stated) (d : Script) (x : StepState) (goal : Goal) → length x.facts < 2 ^ 32 → lines_in_state before d x goal ≡ line_in_state d x goal ∷ [] → HaveFew before d x goal
+pub few_close : (before : List StatementView) (d : Script) (x : StepState) (goal : Goal) → length x.facts < 2 ^ 32 → lines_in_state before d x goal ≡ line_in_state d x goal ∷ [] → HaveFew before d x goal
 few_close before d x goal few is = ap (list_all has_few) is ∙ ap₂ {A = Bool} {B = Bool} (λ a b. a && b) (few_first x few) refl
 
 -- ---- steps of one line
 
-pub cite_numbered : (before : List Stated) (by : By) (x after : StepState) (s : Step) → s ≡ CiteStep by → after ≡ with_facts (joined x.facts by.lit) x → IsNumberedStep before (Cite by) x (step_script s) after
+pub cite_numbered : (before : List StatementView) (by : By) (x after : StepState) (s : Step) → s ≡ CiteStep by → after ≡ with_facts (joined x.facts by.lit) x → IsNumberedStep before (Cite by) x (step_script s) after
 cite_numbered before by x after s is end =
     subst (λ (y : StepState). IsNumberedStep before (Cite by) x (step_script s) y) (sym end)
     (record {
@@ -106,7 +106,7 @@ cite_numbered before by x after s is end =
       kept = stay_joined x.facts by.lit;
     })
 
-pub hence_numbered : (before : List Stated) (lit : Lit) (cert : Option Cert) (x after : StepState) (s : Step) → s ≡ HenceStep lit (option_map (cert_with_places x.facts lit) cert) → after ≡ with_facts (joined x.facts lit) x
+pub hence_numbered : (before : List StatementView) (lit : Lit) (cert : Option Cert) (x after : StepState) (s : Step) → s ≡ HenceStep lit (option_map (cert_with_places x.facts lit) cert) → after ≡ with_facts (joined x.facts lit) x
     → IsNumberedStep before (Hence lit cert) x (step_script s) after
 hence_numbered before lit cert x after s is end =
     subst (λ (y : StepState). IsNumberedStep before (Hence lit cert) x (step_script s) y) (sym end)
@@ -116,7 +116,7 @@ hence_numbered before lit cert x after s is end =
       kept = stay_joined x.facts lit;
     })
 
-pub make_numbered : (before : List Stated) (form : Construction) (names : List (List ℕ)) (certs : List Cert) (x after : StepState) (s : Step) → s ≡ MakeStep form names (certs_with_places x.facts (construct.needs_of_construction form) certs) → after ≡ after_make form x
+pub make_numbered : (before : List StatementView) (form : Construction) (names : List (List ℕ)) (certs : List Cert) (x after : StepState) (s : Step) → s ≡ MakeStep form names (certs_with_places x.facts (construct.needs_of_construction form) certs) → after ≡ after_make form x
     → IsNumberedStep before (Make form names certs) x (step_script s) after
 make_numbered before form names certs x after s is end =
     subst (λ (y : StepState). IsNumberedStep before (Make form names certs) x (step_script s) y) (sym end)
@@ -127,7 +127,7 @@ make_numbered before form names certs x after s is end =
       kept = stay_all x.facts (construct.gives_of_construction form x.scope);
     })
 
-pub apply_numbered : (before : List Stated) (theorem : ℕ) (args : List (Option Obj)) (names : List (List ℕ)) (certs : List Cert) (x after : StepState) (s : Step)
+pub apply_numbered : (before : List StatementView) (theorem : ℕ) (args : List (Option Obj)) (names : List (List ℕ)) (certs : List Cert) (x after : StepState) (s : Step)
     → s ≡ ApplyStep theorem args names (certs_with_places x.facts (needs_of_use (theorem_at before theorem) (written args) x.scope) certs) → after ≡ after_apply (theorem_at before theorem) (written args) x
     → IsNumberedStep before (Apply theorem args names certs) x (step_script s) after
 apply_numbered before theorem args names certs x after s is end =
@@ -140,10 +140,10 @@ apply_numbered before theorem args names certs x after s is end =
       kept = stay_all x.facts (gives_of_use t (written args) x.scope);
     })
 
-pub qed_numbered : (before : List Stated) (objects : List Obj) (certs : List Cert) (x : StepState) (goal : Goal) (c : Close) → c ≡ QedClose objects (certs_with_places x.facts (goal_with goal objects) certs) → close_script c ≡ places_at before (Qed objects certs) x goal
+pub qed_numbered : (before : List StatementView) (objects : List Obj) (certs : List Cert) (x : StepState) (goal : Goal) (c : Close) → c ≡ QedClose objects (certs_with_places x.facts (goal_with goal objects) certs) → close_script c ≡ places_at before (Qed objects certs) x goal
 qed_numbered before objects certs x goal c is = ap close_script is ∙ close_script-Qed objects (certs_with_places x.facts (goal_with goal objects) certs) ∙ sym (qed_places before objects certs x goal)
 
-pub contradiction_numbered : (before : List Stated) (against : Option Against) (x : StepState) (goal : Goal) (c : Close) → c ≡ ContradictionClose (option_map (against_with_places x.facts) against) → close_script c ≡ places_at before (Contradiction against) x goal
+pub contradiction_numbered : (before : List StatementView) (against : Option Against) (x : StepState) (goal : Goal) (c : Close) → c ≡ ContradictionClose (option_map (against_with_places x.facts) against) → close_script c ≡ places_at before (Contradiction against) x goal
 contradiction_numbered before against x goal c is = ap close_script is ∙ close_script-Contradiction (option_map (against_with_places x.facts) against) ∙ sym (contradiction_places before against x goal)
 
 pub ruleset placing = (common_steps, cite_numbered, hence_numbered, make_numbered, apply_numbered, qed_numbered, contradiction_numbered)
@@ -155,7 +155,7 @@ back_is : (o : Checkpoint) (x z after : StepState) (again shown : List Lit) → 
 back_is o x z after again shown e k twice end =
     end ∙ ap (λ w. with_facts (joined_all w.facts again) w) (restored_is o x z (restored o z) e k refl) ∙ ap (λ ls. with_facts (joined_all x.facts ls) x) twice
 
-pub claim_numbered : (before : List Stated) (shown : List Lit) (inner : Script) (numbered : Block) (x z after : StepState) (o : Checkpoint) (s : Step) → script_of numbered ≡ places_at before inner x (goal_of shown)
+pub claim_numbered : (before : List StatementView) (shown : List Lit) (inner : Script) (numbered : Block) (x z after : StepState) (o : Checkpoint) (s : Step) → script_of numbered ≡ places_at before inner x (goal_of shown)
     → HaveFew before inner x (goal_of shown) → o ≡ checkpoint_of x → KeepsFirstFacts x z → ((rest : Script) → step_script s rest ≡ Claim shown (script_of numbered) rest)
     → after ≡ with_facts (joined_all (restored o z).facts shown) (restored o z) → IsNumberedStep before (Claim shown inner) x (step_script s) after
 claim_numbered before shown inner numbered x z after o s placed few e k made end =
@@ -170,7 +170,7 @@ claim_numbered before shown inner numbered x z after o s placed few e k made end
       kept = stay_all x.facts shown;
     })
 
-pub superposed_numbered : (before : List Stated) (form : Superpose) (names : List (List ℕ)) (shown : List Lit) (certs placed : List Cert) (inner : Script) (numbered : Block) (x z w after : StepState) (o : Checkpoint) (s : Step)
+pub superposed_numbered : (before : List StatementView) (form : Superpose) (names : List (List ℕ)) (shown : List Lit) (certs placed : List Cert) (inner : Script) (numbered : Block) (x z w after : StepState) (o : Checkpoint) (s : Step)
     → placed ≡ certs_with_places x.facts (superposing.needs_of_superposition form) certs → z ≡ state_after_superposed form x → script_of numbered ≡ places_at before inner z (goal_of shown) → HaveFew before inner z (goal_of shown)
     → o ≡ checkpoint_of x → KeepsFirstFacts z w → ((rest : Script) → step_script s rest ≡ Superposed form names shown placed (script_of numbered) rest)
     → after ≡ with_facts (joined_all (restored o w).facts shown) (restored o w) → IsNumberedStep before (Superposed form names shown certs inner) x (step_script s) after
@@ -207,7 +207,7 @@ where_ok (Ok x) a = a
 where_ok (Err e) a = tt
 
 -- a step as the code has it
-pub step_as : (before : List Stated) (step : Step) (f g : Script → Script) (x after : StepState) → ((rest : Script) → step_script step rest ≡ f rest) → IsNumberedStep before f x g after → IsNumberedStep before (step_script step) x g after
+pub step_as : (before : List StatementView) (step : Step) (f g : Script → Script) (x after : StepState) → ((rest : Script) → step_script step rest ≡ f rest) → IsNumberedStep before f x g after → IsNumberedStep before (step_script step) x g after
 step_as before step f g x after e h = record {
   same = λ rest goal. ap (λ d. places_at before d x goal) (e rest) ∙ h.same rest goal;
   few = λ all rest goal k. subst (λ d. HaveFew before d x goal) (sym (e rest)) (h.few all rest goal k);
@@ -215,14 +215,14 @@ step_as before step f g x after e h = record {
 }
 
 -- the same of what a call gave
-pub step_ok : {E : Type 0} (before : List Stated) (step : Step) (f : Script → Script) (x after : StepState) (r : Result Step E) → ((rest : Script) → step_script step rest ≡ f rest)
+pub step_ok : {E : Type 0} (before : List StatementView) (step : Step) (f : Script → Script) (x after : StepState) (r : Result Step E) → ((rest : Script) → step_script step rest ≡ f rest)
     → IfOk r (λ s. IsNumberedStep before f x (step_script s) after) → IfOk r (λ s. IsNumberedStep before (step_script step) x (step_script s) after)
 step_ok before step f x after (Ok s) e h = step_as before step f (step_script s) x after e h
 step_ok before step f x after (Err k) e h = h
 
 -- what holds whatever came before holds with this before
-pub all_before : {E : Type 0} (before : List Stated) (f : Script → Script) (x after : StepState) (r : Result Step E)
-    → IfOk r (λ s. (bs : List Stated) → IsNumberedStep bs f x (step_script s) after) → IfOk r (λ s. IsNumberedStep before f x (step_script s) after)
+pub all_before : {E : Type 0} (before : List StatementView) (f : Script → Script) (x after : StepState) (r : Result Step E)
+    → IfOk r (λ s. (bs : List StatementView) → IsNumberedStep bs f x (step_script s) after) → IfOk r (λ s. IsNumberedStep before f x (step_script s) after)
 all_before before f x after (Ok s) h = h before
 all_before before f x after (Err k) h = h
 
@@ -231,23 +231,23 @@ all_before before f x after (Err k) h = h
 qed_is : (c : Close) (objects : List Obj) (certs : List Cert) → c ≡ QedClose objects certs → close_script c ≡ Qed objects certs
 qed_is c objects certs is = ap close_script is ∙ close_script-Qed objects certs
 
-pub qed_same : (before : List Stated) (c k : Close) (objects seen : List Obj) (certs like : List Cert) (x : StepState) (goal : Goal) → c ≡ QedClose objects certs → seen ≡ objects → like ≡ certs
+pub qed_same : (before : List StatementView) (c k : Close) (objects seen : List Obj) (certs like : List Cert) (x : StepState) (goal : Goal) → c ≡ QedClose objects certs → seen ≡ objects → like ≡ certs
     → close_script k ≡ places_at before (Qed seen like) x goal → close_script k ≡ places_at before (close_script c) x goal
 qed_same before c k objects seen certs like x goal is same also e =
     e ∙ ap (λ os. places_at before (Qed os like) x goal) same ∙ ap (λ cs. places_at before (Qed objects cs) x goal) also ∙ sym (ap (λ d. places_at before d x goal) (qed_is c objects certs is))
 
-pub qed_few : (before : List Stated) (c : Close) (objects : List Obj) (certs : List Cert) (x : StepState) (goal : Goal) → c ≡ QedClose objects certs → length x.facts < 2 ^ 32 → HaveFew before (close_script c) x goal
+pub qed_few : (before : List StatementView) (c : Close) (objects : List Obj) (certs : List Cert) (x : StepState) (goal : Goal) → c ≡ QedClose objects certs → length x.facts < 2 ^ 32 → HaveFew before (close_script c) x goal
 qed_few before c objects certs x goal is few =
     ap (λ d. list_all has_few (lines_in_state before d x goal)) (qed_is c objects certs is) ∙ few_close before (Qed objects certs) x goal few (qed_lines before objects certs x goal)
 
 contradiction_is : (c : Close) (against : Option Against) → c ≡ ContradictionClose against → close_script c ≡ Contradiction against
 contradiction_is c against is = ap close_script is ∙ close_script-Contradiction against
 
-pub contradiction_same : (before : List Stated) (c k : Close) (against : Option Against) (x : StepState) (goal : Goal) → c ≡ ContradictionClose against → k ≡ ContradictionClose (option_map (against_with_places x.facts) against)
+pub contradiction_same : (before : List StatementView) (c k : Close) (against : Option Against) (x : StepState) (goal : Goal) → c ≡ ContradictionClose against → k ≡ ContradictionClose (option_map (against_with_places x.facts) against)
     → close_script k ≡ places_at before (close_script c) x goal
 contradiction_same before c k against x goal is e = contradiction_numbered before against x goal k e ∙ sym (ap (λ d. places_at before d x goal) (contradiction_is c against is))
 
-pub contradiction_few : (before : List Stated) (c : Close) (against : Option Against) (x : StepState) (goal : Goal) → c ≡ ContradictionClose against → length x.facts < 2 ^ 32 → HaveFew before (close_script c) x goal
+pub contradiction_few : (before : List StatementView) (c : Close) (against : Option Against) (x : StepState) (goal : Goal) → c ≡ ContradictionClose against → length x.facts < 2 ^ 32 → HaveFew before (close_script c) x goal
 contradiction_few before c against x goal is few =
     ap (λ d. list_all has_few (lines_in_state before d x goal)) (contradiction_is c against is) ∙ few_close before (Contradiction against) x goal few (contradiction_lines before against x goal)
 
@@ -260,7 +260,7 @@ after_cases x z w y after lit o begun e k left end =
     let kept = kept_on x z w (subst (KeepsFirstFacts x) (sym begun) (stay_joined x.facts lit)) k in
     end ∙ ap (λ q. with_facts (joined q.facts (negation lit)) q) (restored_is o x w y e kept left)
 
-pub cases_numbered : (before : List Stated) (c : Close) (lit : Lit) (first second : Box Block Global) (b1 b2 n1 n2 : Block) (x z after : StepState) (goal : Goal)
+pub cases_numbered : (before : List StatementView) (c : Close) (lit : Lit) (first second : Box Block Global) (b1 b2 n1 n2 : Block) (x z after : StepState) (goal : Goal)
     → c ≡ CasesClose lit first second → b1 ≡ first.value → b2 ≡ second.value → z ≡ with_facts (joined x.facts lit) x → script_of n1 ≡ places_at before (script_of b1) z goal → after ≡ with_facts (joined x.facts (negation lit)) x
     → script_of n2 ≡ places_at before (script_of b2) after goal → Cases lit (script_of n1) (script_of n2) ≡ places_at before (close_script c) x goal
 cases_numbered before c lit first second b1 b2 n1 n2 x z after goal is at1 at2 begun placed1 back placed2 =
@@ -271,7 +271,7 @@ cases_numbered before c lit first second b1 b2 n1 n2 x z after goal is at1 at2 b
     ap₂ {A = Script} {B = Script} (Cases lit) p1 p2 ∙ sym (cases_places before lit (script_of first.value) (script_of second.value) x goal)
     ∙ sym (ap (λ d. places_at before d x goal) (ap close_script is ∙ close_script-Cases lit first second))
 
-pub cases_few : (before : List Stated) (c : Close) (lit : Lit) (first second : Box Block Global) (b1 b2 : Block) (x z after : StepState) (goal : Goal) → length x.facts < 2 ^ 32
+pub cases_few : (before : List StatementView) (c : Close) (lit : Lit) (first second : Box Block Global) (b1 b2 : Block) (x z after : StepState) (goal : Goal) → length x.facts < 2 ^ 32
     → c ≡ CasesClose lit first second → b1 ≡ first.value → b2 ≡ second.value → z ≡ with_facts (joined x.facts lit) x → HaveFew before (script_of b1) z goal → after ≡ with_facts (joined x.facts (negation lit)) x → HaveFew before (script_of b2) after goal
     → HaveFew before (close_script c) x goal
 cases_few before c lit first second b1 b2 x z after goal all is at1 at2 begun few1 back few2 =
@@ -285,7 +285,7 @@ cases_few before c lit first second b1 b2 x z after goal all is at1 at2 begun fe
 
 -- ---- the steps of a block
 
-pub steps_go_on : (before : List Stated) (items seen : List Step) (close whole : Script) (i : ℕ) (step s : Step) (done pushed : List Step) (y z : StepState) (goal : Goal) → seen ≡ items → i < length seen → step ≡ get_or seen i step
+pub steps_go_on : (before : List StatementView) (items seen : List Step) (close whole : Script) (i : ℕ) (step s : Step) (done pushed : List Step) (y z : StepState) (goal : Goal) → seen ≡ items → i < length seen → step ≡ get_or seen i step
     → IsNumberedStep before (step_script step) y (step_script s) z → pushed ≡ done ++ s ∷ [] → steps_script done (places_at before (steps_script (drop i items) close) y goal) ≡ whole
     → steps_script pushed (places_at before (steps_script (drop (i + 1) items) close) z goal) ≡ whole
 steps_go_on before items seen close whole i step s done pushed y z goal same lt is h push e =
@@ -295,7 +295,7 @@ steps_go_on before items seen close whole i step s done pushed y z goal same lt 
     ∙ ap (steps_script done) (sym (h.same rest goal) ∙ sym (ap (λ d. places_at before d y goal) (steps_at items seen close i step same lt is)))
     ∙ e
 
-pub few_go_on : (before : List Stated) (items seen : List Step) (close whole : Script) (i : ℕ) (step s : Step) (x y z : StepState) (goal : Goal) → seen ≡ items → i < length seen → step ≡ get_or seen i step → length y.facts < 2 ^ 32
+pub few_go_on : (before : List StatementView) (items seen : List Step) (close whole : Script) (i : ℕ) (step s : Step) (x y z : StepState) (goal : Goal) → seen ≡ items → i < length seen → step ≡ get_or seen i step → length y.facts < 2 ^ 32
     → IsNumberedStep before (step_script step) y (step_script s) z → (HaveFew before (steps_script (drop i items) close) y goal → HaveFew before whole x goal)
     → HaveFew before (steps_script (drop (i + 1) items) close) z goal → HaveFew before whole x goal
 few_go_on before items seen close whole i step s x y z goal same lt is all h e k =

@@ -3,7 +3,7 @@ use Rattle.std.specs.Prelude.{List, length, take}
 use Rattle.e_literal.specs.declared.literal.Lit.{Lit}
 use Rattle.e_literal.specs.Facts.{joined_all}
 use Rattle.e_literal.specs.Scopes.{grown}
-use Rattle.e_literal.specs.Use.{Stated, scope_of}
+use Rattle.e_literal.specs.Use.{StatementView, scope_of}
 use Rattle.e_construct.specs.declared.superpose.Superpose.{Superpose}
 use Rattle.e_construct.specs.Superposing as superposing
 use Rattle.e_deriv.specs.Goal.{Goal, facts_of_statement}
@@ -12,7 +12,7 @@ use Rattle.e_verify.specs.declared.step_state.Checkpoint.{Checkpoint}
 use Rattle.e_verify.specs.declared.step_state.Goal.{Goal as CodeGoal}
 
 -- before the first line of a statement's proof
-abbrev pub state_at_start : Stated → StepState
+abbrev pub state_at_start : StatementView → StepState
 state_at_start t = record { scope = scope_of t; facts = facts_of_statement t }
 
 -- with these facts in the place of its own

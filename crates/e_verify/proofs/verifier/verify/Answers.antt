@@ -5,7 +5,7 @@ use Rattle.e_literal.specs.declared.object.Scope.{Scope}
 use Rattle.e_literal.specs.declared.object.Sort.{Sort}
 use Rattle.e_literal.specs.declared.literal.Lit.{Lit}
 use Rattle.e_literal.specs.Scopes.{next_objects, grown, nothing}
-use Rattle.e_literal.specs.Use.{Stated, scope_of}
+use Rattle.e_literal.specs.Use.{StatementView, scope_of}
 use Rattle.e_theorem.specs.Statements.{stated, all_stated}
 use Rattle.e_deriv.specs.Script.{script_of}
 use Rattle.e_deriv.specs.Goal.{Goal, goal_of_statement}
@@ -44,11 +44,11 @@ pub begin-requires : goal.begin-requires
 begin-requires c = c.grown-scope.ensures ∙ ap (grown nothing) c.items.ensures
 
 -- the objects that are made, in the code and in the definition
-made_is : (t : Stated) (s : Scope) (declared made : List Sort) (seen said : List Obj) → s ≡ grown nothing declared → declared ≡ t.declared → made ≡ t.made → said ≡ next_objects s made → seen ≡ said → seen ≡ next_objects (scope_of t) t.made
+made_is : (t : StatementView) (s : Scope) (declared made : List Sort) (seen said : List Obj) → s ≡ grown nothing declared → declared ≡ t.declared → made ≡ t.made → said ≡ next_objects s made → seen ≡ said → seen ≡ next_objects (scope_of t) t.made
 made_is t s declared made seen said is same like next at =
     at ∙ next ∙ ap (λ (z : Scope). next_objects z made) (is ∙ ap (grown nothing) same) ∙ ap (next_objects (scope_of t)) like
 
-goal_is : (t : Stated) (made : List Obj) (shown : List Lit) → made ≡ next_objects (scope_of t) t.made → shown ≡ t.shown → as_goal made shown ≡ goal_of_statement t
+goal_is : (t : StatementView) (made : List Obj) (shown : List Lit) → made ≡ next_objects (scope_of t) t.made → shown ≡ t.shown → as_goal made shown ≡ goal_of_statement t
 goal_is t made shown m e = ap (λ ms. as_goal ms shown) m ∙ ap (as_goal (next_objects (scope_of t) t.made)) e
 
 pub verify_block-requires-clause-ready : goal.verify_block-requires-clause-ready
