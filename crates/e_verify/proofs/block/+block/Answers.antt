@@ -290,9 +290,9 @@ pub verify_step-verify_superposed-requires : goal.verify_step-verify_superposed-
 verify_step-verify_superposed-requires t c =
     let y = c.in-Superposed in
     let ready =
-        ready_as (all_stated c.args.before.now) (Superposed y.form y.names c.items-in-Superposed.result.now c.items-in-Superposed-2.result.now (script_of c.deref-in-Superposed.result.now)) (step_script c.args.step.now) c.args.state.now c.args.number
-        (superposed_is c.args.step.now y.form y.names y.shown c.items-in-Superposed.result.now y.certs c.items-in-Superposed-2.result.now y.inner c.deref-in-Superposed.result.now y.is c.items-in-Superposed.ensures c.items-in-Superposed-2.ensures
-        c.deref-in-Superposed.ensures) c.requires.ready
+    ready_as (all_stated c.args.before.now) (Superposed y.form y.names c.items-in-Superposed.result.now c.items-in-Superposed-2.result.now (script_of c.deref-in-Superposed.result.now)) (step_script c.args.step.now) c.args.state.now c.args.number
+    (superposed_is c.args.step.now y.form y.names y.shown c.items-in-Superposed.result.now y.certs c.items-in-Superposed-2.result.now y.inner c.deref-in-Superposed.result.now y.is c.items-in-Superposed.ensures c.items-in-Superposed-2.ensures
+    c.deref-in-Superposed.ensures) c.requires.ready
     in (search (rules, the_lemmas), ((y.names, ready), c.requires.statements))
 
 pub verify_step-returns-in-Superposed-clause-ok : goal.verify_step-returns-in-Superposed-clause-ok
