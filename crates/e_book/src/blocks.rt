@@ -95,11 +95,11 @@ impl Model for BlockStack {
     ghost use Rattle.std.specs.Prelude.{List, reverse};
     ghost use Rattle.std.specs.Coded.{coded_list};
     ghost use Rattle.e_book.specs.declared.blocks.OpenBlock.{OpenBlock};
-    ghost use Rattle.e_book.specs.contracts.blocks.Outer as outer;
+    ghost use Rattle.e_book.specs.contracts.blocks.OpenBlock as open_block;
 
     ghost Value = { List OpenBlock };
 
-    ghost coded = { coded_list outer.the_row.coded };
+    ghost coded = { coded_list open_block.the_row.coded };
 
     ghost view = { λ o. reverse o.outers.items };
 }
@@ -143,7 +143,8 @@ impl BlockStack {
         self.outers.pop()
     }
 
-    /// Whether one of them was interrupted by a claim or a superposition, whose block makes nothing.
+    /// Whether one of them was interrupted by a claim or a superposition, whose block makes
+    /// nothing.
     #[tactic(auto, using(crate::proofs::Interrupted::any_reversed))]
     pub fn has_claim(&self) -> bool
         ensures { result ≡ Rattle.e_book.specs.Blocks.has_claim self.now }
