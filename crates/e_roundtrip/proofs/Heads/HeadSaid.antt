@@ -41,7 +41,7 @@ head_parts ns title declared given made shown =
 -- the lines that came are those of the head so far, whatever names are added
 pub record HeadSaid (ns : Names) (title : List ℕ) (declared : List Sort) (given : List Lit) (made : List Sort) (shown : List Lit) (said : List RawLine) : Type 0 where
   pub scope : scope_of_names ns ≡ grown (grown nothing declared) made
-  pub rawlines : (more : Names) → Keeps ns more → head_parts more title declared given made shown ≡ said
+  pub forms : (more : Names) → Keeps ns more → head_parts more title declared given made shown ≡ said
 
 -- ---- one more line
 
@@ -74,7 +74,7 @@ none_shown ns title declared given made shown s = rw s refl
 
 -- the first line
 pub title_said : (ns : Names) (title : List ℕ) → scope_of_names ns ≡ nothing → HeadSaid ns title [] [] [] [] (rawlines.Theorem title ∷ [])
-title_said ns title e = record { scope = e; rawlines = λ more k. refl }
+title_said ns title e = record { scope = e; forms = λ more k. refl }
 
 -- how many names there are of a sort
 count_said : (ns : Names) (s : Scope) (sort : Sort) → scope_of_names ns ≡ s → count_of s sort ≡ length (names_of_sort ns sort)
@@ -95,7 +95,7 @@ declared_said ns title declared given made shown said sort new g m s h lt a =
     ∙ ap (λ (l : List RawLine). l ++ rawlines.Declare sort new ∷ []) (sym (bare_head more title declared given made shown g m s) ∙ a.forms more (keeps_before ns more sort new k)) in
     record {
       scope = scope_more ns sort new ∙ ap (λ (x : Scope). grown x xs) scope ∙ sym (grown-append nothing declared xs) ∙ ap (grown (grown nothing (declared ++ xs))) (sym m);
-      rawlines = line;
+      forms = line;
     }
 
 -- a given literal
@@ -104,7 +104,7 @@ pub given_said : (ns : Names) (title : List ℕ) (declared : List Sort) (given :
 given_said ns title declared given made shown said l line m s named a =
     record {
       scope = a.scope;
-      rawlines = λ more k.
+      forms = λ more k.
           no_goal more title declared (given ++ l ∷ []) made shown m s ∙ ap (λ (x : List RawLine). rawlines.Theorem title ∷ ((declared_part more declared ++ x) ++ [])) (map-append (given_form more) given (l ∷ []))
           ∙ at_given (rawlines.Theorem title) (given_form more l) (declared_part more declared) (given_part more given)
           ∙ ap (λ (x : RawLine). head_parts more title declared given [] [] ++ x ∷ []) (named more k)
@@ -127,7 +127,7 @@ made_said ns title declared given made shown said sort new s h lt a =
     ∙ ap (λ (l : List RawLine). l ++ rawlines.Made sort new ∷ []) (sym (none_shown more title declared given made shown s) ∙ a.forms more (keeps_before ns more sort new k)) in
     record {
       scope = scope_more ns sort new ∙ ap (λ (x : Scope). grown x xs) a.scope ∙ sym (grown-append from made xs);
-      rawlines = line;
+      forms = line;
     }
 
 -- a shown literal
@@ -136,7 +136,7 @@ pub shown_said : (ns : Names) (title : List ℕ) (declared : List Sort) (given :
 shown_said ns title declared given made shown said l line named a =
     record {
       scope = a.scope;
-      rawlines = λ more k.
+      forms = λ more k.
           let front = declared_part more declared ++ given_part more given in
           ap (λ (x : List RawLine). rawlines.Theorem title ∷ (front ++ (made_part more declared made ++ x))) (map-append (show_form more) shown (l ∷ []))
           ∙ at_shown (rawlines.Theorem title) (show_form more l) front (made_part more declared made) (shown_part more shown)
