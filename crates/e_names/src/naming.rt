@@ -10,7 +10,7 @@ use std::alloc::{AllocError, Global};
 use std::mem;
 
 /// What is written for an object without a name.
-#[tactic(auto, unfolding(e_text::specs::Names::is_statement_word, e_text::specs::Names::is_steps_word, e_text::specs::Names::is_relations_word, e_text::specs::Names::is_shapes_word, e_text::specs::Names::is_others_word))]
+#[tactic(auto, unfolding(e_text::specs::Names::reserved_words))]
 fn nameless() -> Name
     ensures { result ≡ nameless }
 {
