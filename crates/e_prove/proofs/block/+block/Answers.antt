@@ -453,9 +453,11 @@ prove_step-returns-in-Apply-clause-err t c =
 
 pub prove_step-prove_claim-requires : goal.prove_step-prove_claim-requires
 prove_step-prove_claim-requires t c =
-    let y = c.in-Claim in
-    ready_as (all_stated c.args.before.now) (ClaimScript c.items-in-Claim.result.now (script_of c.deref.result.now)) (step_script c.args.step.now) c.args.state.now c.args.number
-    (claim_is c.args.step.now y.shown c.items-in-Claim.result.now y.inner c.deref.result.now y.is c.items-in-Claim.ensures c.deref.ensures) c.requires
+    let y = c.in-Claim in (
+      search (rules, the_lemmas),
+      ready_as (all_stated c.args.before.now) (ClaimScript c.items-in-Claim.result.now (script_of c.deref.result.now)) (step_script c.args.step.now) c.args.state.now c.args.number
+          (claim_is c.args.step.now y.shown c.items-in-Claim.result.now y.inner c.deref.result.now y.is c.items-in-Claim.ensures c.deref.ensures) c.requires,
+    )
 
 pub prove_step-returns-in-Claim-clause-ok : goal.prove_step-returns-in-Claim-clause-ok
 prove_step-returns-in-Claim-clause-ok t c =
@@ -527,10 +529,13 @@ prove_claim-returns-in-Err-clause-err t c =
 pub prove_step-prove_superposed-requires : goal.prove_step-prove_superposed-requires
 prove_step-prove_superposed-requires t c =
     let y = c.in-Superposed in (
-      y.certs,
-      ready_as (all_stated c.args.before.now) (SuperposedScript y.form c.items-in-Superposed.result.now c.items-in-Superposed-2.result.now y.certs (script_of c.deref-in-Superposed.result.now)) (step_script c.args.step.now) c.args.state.now c.args.number
-          (superposed_is c.args.step.now y.form y.names c.items-in-Superposed.result.now y.shown c.items-in-Superposed-2.result.now y.certs y.inner c.deref-in-Superposed.result.now y.is c.items-in-Superposed.ensures c.items-in-Superposed-2.ensures
-          c.deref-in-Superposed.ensures) c.requires,
+      search (rules, the_lemmas),
+      (
+        y.certs,
+        ready_as (all_stated c.args.before.now) (SuperposedScript y.form c.items-in-Superposed.result.now c.items-in-Superposed-2.result.now y.certs (script_of c.deref-in-Superposed.result.now)) (step_script c.args.step.now) c.args.state.now c.args.number
+            (superposed_is c.args.step.now y.form y.names c.items-in-Superposed.result.now y.shown c.items-in-Superposed-2.result.now y.certs y.inner c.deref-in-Superposed.result.now y.is c.items-in-Superposed.ensures c.items-in-Superposed-2.ensures
+            c.deref-in-Superposed.ensures) c.requires,
+      ),
     )
 
 pub prove_step-returns-in-Superposed-clause-ok : goal.prove_step-returns-in-Superposed-clause-ok
