@@ -1,5 +1,5 @@
 -- A claim and a superposition, with the blocks inside, whatever comes after them.
-use Rattle.std.proofs.Common.{◌≡◌, ℕ, ◌+◌, ◌-◌, ◌<◌, ◌^◌, List, refl, sym, ap, ◌∙◌, subst, Result, Ok, Err, arith, Box, Global}
+use Rattle.std.proofs.Common.{◌≡◌, ℕ, ◌+◌, ◌-◌, ◌<◌, ◌^◌, List, refl, sym, ap, ◌∙◌, subst, true, Result, Ok, Err, arith, Box, Global}
 use Rattle.std.specs.Prelude.{IfOk, IfErr, OnOk}
 use Rattle.e_literal.specs.declared.literal.Lit.{Lit}
 use Rattle.e_literal.specs.Facts.{joined_all}
