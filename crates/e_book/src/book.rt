@@ -16,7 +16,8 @@ use e_text::Lines;
 use std::alloc::Global;
 use std::mem;
 
-/// The theorem or the definition that ends in these lines, or what is wrong where they end inside one.
+/// The theorem or the definition that ends in these lines, or what is wrong where they end inside
+/// one.
 fn read_with(
     alloc: Global,
     reading: &mut Reading,
@@ -55,9 +56,10 @@ fn read_item(alloc: Global, lines: &mut Lines, known: &Known) -> Result<Option<I
 
 /// The next theorem or definition, or nothing where only skipped lines are left.
 ///
-/// It takes the lines up to its `end`. A fault is the first of the book from here on, and after it the lines are not
-/// used again. The lines are those of a text with at most 1,600 bytes a line and 4,194,304 bytes in all. The known
-/// theorems are statements and the known notions mean something of their declared objects, as each is that is read.
+/// It takes the lines up to its `end`. A fault is the first of the book from here on, and after it
+/// the lines are not used again. The lines are those of a text with at most 1,600 bytes a line and
+/// 4,194,304 bytes in all. The known theorems are statements and the known notions mean something
+/// of their declared objects, as each is that is read.
 pub fn next_item(alloc: Global, lines: &mut Lines, known: &Known) -> Result<Option<Item>, BookFault>
     requires lines { last_line lines.old < 2 ^ 32 }
     requires theorems { IsTrue (list_all is_small_statement (stated_by known.now.theorems)) }

@@ -196,7 +196,8 @@ impl Coming {
         }
     }
 
-    /// A line with items: they are written out, and it is taken; then the limit of the literals that they stand for.
+    /// A line with items: they are written out, and it is taken; then the limit of the literals
+    /// that they stand for.
     #[tactic(auto, unfolding(crate::specs::inner::Machine::lists))]
     fn list(
         &mut self,
@@ -295,7 +296,8 @@ fn is_show(line: &Listing) -> bool
 }
 
 impl TheoremParser {
-    /// Whether a line that takes literals may come here, and then the names before them, from left to right.
+    /// Whether a line that takes literals may come here, and then the names before them, from left
+    /// to right.
     fn ready(&self, line: &Listing) -> Result<(), LineError>
         requires { FitsScope self.now }
         ensures { Gives (λ u. u) result (is_ready self.now line.now) }

@@ -45,7 +45,8 @@ pub enum Section {
 #[derive(Drop)]
 pub struct TheoremParser {
     pub title: Title,
-    /// The names of the statement's objects: of the declared ones and, after them, of the made ones.
+    /// The names of the statement's objects: of the declared ones and, after them, of the made
+    /// ones.
     pub names: Names,
     /// The names of the objects in scope in the block that is open, once the proof has begun.
     pub in_scope: Names,
@@ -394,8 +395,8 @@ impl TheoremParser {
         self.add_step(Step::Cite(by), 1)
     }
 
-    /// A construction: its names, and then the limits of objects, of steps and of facts. Its new objects are in scope
-    /// after it.
+    /// A construction: its names, and then the limits of objects, of steps and of facts. Its new
+    /// objects are in scope after it.
     #[tactic(auto, unfolding(crate::specs::Steps::built, e_deriv::specs::PlainStep::plain_step))]
     fn on_let(&mut self, alloc: Global, raw: &RawLet) -> Result<(), LineError>
         requires { FitsScope self.old }
@@ -413,7 +414,8 @@ impl TheoremParser {
         self.add_step(step, given)
     }
 
-    /// New names come into scope, each after those of its sort: the limits of objects. It gives a copy of the names.
+    /// New names come into scope, each after those of its sort: the limits of objects. It gives a
+    /// copy of the names.
     fn bring_in(
         &mut self,
         alloc: Global,
@@ -444,8 +446,8 @@ impl TheoremParser {
         self.use_theorem(alloc, statement, application, raw.new.items())
     }
 
-    /// A theorem is used: the limits of objects, of steps, of facts, of monomials and of blanks. What it shows are facts,
-    /// and its made objects are in scope after the line.
+    /// A theorem is used: the limits of objects, of steps, of facts, of monomials and of blanks.
+    /// What it shows are facts, and its made objects are in scope after the line.
     #[tactic(auto, unfolding(crate::specs::Steps::used_by, e_deriv::specs::PlainStep::plain_step))]
     fn use_theorem(
         &mut self,
@@ -493,7 +495,8 @@ impl TheoremParser {
         Ok(())
     }
 
-    /// The monomials of literals that become facts: the limits of each literal, and then that of all.
+    /// The monomials of literals that become facts: the limits of each literal, and then that of
+    /// all.
     #[tactic(auto, unfolding(crate::specs::Steps::with_terms))]
     fn add_terms(&mut self, raw: &[RawLit]) -> Result<(), LineError>
         requires { FitsScope self.old }

@@ -60,8 +60,8 @@ impl TheoremParser {
     ghost use Rattle.e_book.specs.Blocks.{made_in};
     ghost use Rattle.e_book.specs.DraftViews.{script_of_close};
 
-    /// The limits of a line that begins an inner block with this many facts: of steps, of depth and of
-    /// facts.
+    /// The limits of a line that begins an inner block with this many facts: of steps, of depth and
+    /// of facts.
     #[tactic(auto, unfolding(crate::specs::Steps::room_inside))]
     fn room_inside(&self, given: usize) -> Result<(), LineError>
         requires { FitsScope self.now }
@@ -144,8 +144,8 @@ impl TheoremParser {
         self.begin_copies(alloc, opened, after, &given, raw.shown.items())
     }
 
-    /// The block of a superposition begins with these names and facts: the limits of steps, of depth and of facts, those
-    /// of the literals that it shows, and that of monomials.
+    /// The block of a superposition begins with these names and facts: the limits of steps, of
+    /// depth and of facts, those of the literals that it shows, and that of monomials.
     #[tactic(auto, unfolding(crate::specs::Steps::copies_begun, crate::specs::Steps::deeper, crate::specs::Steps::room_inside))]
     fn begin_copies(
         &mut self,
@@ -344,7 +344,8 @@ impl TheoremParser {
         Closed::new(alloc, steps.into_block(alloc, close))
     }
 
-    /// The block of a claim is closed: the limits of facts and of monomials, and the claim is a step of the block around.
+    /// The block of a claim is closed: the limits of facts and of monomials, and the claim is a
+    /// step of the block around.
     #[tactic(auto, using(e_deriv::proofs::Scripts::plain_steps), unfolding(crate::specs::Steps::resumed, crate::specs::Steps::counted_from))]
     fn end_claim(
         &mut self,
@@ -382,8 +383,8 @@ impl TheoremParser {
         Ok(())
     }
 
-    /// The block of a superposition is closed: the limits of facts and of monomials, and the superposition is a step of
-    /// the block around.
+    /// The block of a superposition is closed: the limits of facts and of monomials, and the
+    /// superposition is a step of the block around.
     #[tactic(auto, using(e_deriv::proofs::Scripts::plain_steps), unfolding(crate::specs::Steps::resumed, crate::specs::Steps::counted_from))]
     fn end_superposition(
         &mut self,
@@ -458,7 +459,8 @@ impl TheoremParser {
         Ok(())
     }
 
-    /// The first block of a split is closed. After `else` comes the other one, which begins with as many literals.
+    /// The first block of a split is closed. After `else` comes the other one, which begins with as
+    /// many literals.
     fn begin_second(
         &mut self,
         alloc: Global,

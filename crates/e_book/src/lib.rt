@@ -1,7 +1,8 @@
 //! Books: their grammar, and the theorems and definitions that they are read as.
 //!
-//! A line is known from its words by their spelling alone; then its names are looked up from left to right;
-//! then the limits are asked. So the first thing that is wrong with a book is one thing at one line.
+//! A line is known from its words by their spelling alone; then its names are looked up from left
+//! to right; then the limits are asked. So the first thing that is wrong with a book is one thing
+//! at one line.
 #![tactic(auto)]
 
 mod blocks;

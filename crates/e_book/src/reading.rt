@@ -70,8 +70,8 @@ fn line_step(
     next
 }
 
-/// What has come of the next theorem or definition: nothing before its first line. After a fault it is not used
-/// again.
+/// What has come of the next theorem or definition: nothing before its first line. After a fault it
+/// is not used again.
 #[derive(Drop)]
 pub struct Reading {
     pub coming: Option<Coming>,
@@ -180,11 +180,11 @@ impl Reading {
         Ok(None)
     }
 
-    /// Takes lines up to the end of a theorem or a definition, or all that are there: then it may go on
-    /// with lines that come later.
+    /// Takes lines up to the end of a theorem or a definition, or all that are there: then it may
+    /// go on with lines that come later.
     ///
-    /// A fault is the first from here on, whatever lines come later; after it the lines are not used
-    /// again. What ends is what `next_item` gives where all lines come at once.
+    /// A fault is the first from here on, whatever lines come later; after it the lines are not
+    /// used again. What ends is what `next_item` gives where all lines come at once.
     pub fn read(
         &mut self,
         alloc: Global,
@@ -205,7 +205,8 @@ impl Reading {
         self.read_lines(alloc, lines, known)
     }
 
-    /// No lines come any more, and the next would have this number: a fault inside a theorem or a definition.
+    /// No lines come any more, and the next would have this number: a fault inside a theorem or a
+    /// definition.
     pub fn end(&self, line: u64) -> Result<(), BookFault>
         requires { line < 2 ^ 32 }
         ensures { result ≡ end_of line self.now.coming }

@@ -1,4 +1,5 @@
-//! The lines of certificates: told from their words, spelled again, and what a line owes while they come.
+//! The lines of certificates: told from their words, spelled again, and what a line owes while they
+//! come.
 #![tactic(auto)]
 
 mod cert_line;

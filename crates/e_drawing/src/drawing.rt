@@ -58,7 +58,8 @@ fn drawn(alloc: Global, text: &[u8], plan: &mut Plan) -> Result<Drawing, BookFau
     Ok(drawing)
 }
 
-/// What is written of a figure text, with the number of its shown literals; or the first fault of the text.
+/// What is written of a figure text, with the number of its shown literals; or the first fault of
+/// the text.
 pub fn draw(alloc: Global, text: &[u8]) -> Result<Drawing, BookFault>
     requires { length text.now < 2 ^ 31 }
     ensures { Draws text.now result }

@@ -1,4 +1,5 @@
-//! Figure texts: a figure, literals that are given and literals that are shown, and which of them are true in it.
+//! Figure texts: a figure, literals that are given and literals that are shown, and which of them
+//! are true in it.
 #![tactic(auto)]
 
 mod answers;

@@ -90,7 +90,8 @@ impl Plan {
         matches!(self.place, Place::Done)
     }
 
-    /// A point: its name, the limit of points, and that of numbers. After a fault the plan is not used again.
+    /// A point: its name, the limit of points, and that of numbers. After a fault the plan is not
+    /// used again.
     #[tactic(auto, unfolding(crate::specs::Plans::with_named_point))]
     fn put_point(&mut self, name: Name, a: Point) -> Result<(), LineError>
         requires { FitsPlan self.old }

@@ -61,7 +61,8 @@ fn take_line(alloc: Global, plan: &mut Plan, line: &Line) -> Result<(), BookFaul
     take_tokens(alloc, plan, line, &words)
 }
 
-/// No lines come any more, and the next would have this number: a fault before the last line of the figure.
+/// No lines come any more, and the next would have this number: a fault before the last line of the
+/// figure.
 fn end(plan: &Plan, line: u64) -> Result<(), BookFault>
     requires { line < 2 ^ 32 }
     ensures { PlanIs result plan.now (at_end line plan.now) }

@@ -1,4 +1,4 @@
-// Points, lines and circles with whole numbers.
+//! Points, lines and circles with whole numbers.
 
 ghost use Rattle.std.specs.Prelude.{◌≡◌, ◌<◌, ◌&&◌, [], length, IsTrue, OnOk, OnErr, pos};
 ghost use Rattle.std.specs.List.{list_all};
@@ -58,9 +58,9 @@ impl Model for Figure {
 }
 
 impl Figure {
-    /// The figure of these objects, numbered as they come: none exactly where a coordinate or a number of a direction is
-    /// past plus or minus 1,000,000, a direction is two zeros, a square is 0 or past 10^12, or there are more than 40
-    /// points, 24 lines or 16 circles.
+    /// The figure of these objects, numbered as they come: none exactly where a coordinate or a
+    /// number of a direction is past plus or minus 1,000,000, a direction is two zeros, a square is
+    /// 0 or past 10^12, or there are more than 40 points, 24 lines or 16 circles.
     pub fn new(points: Vec<Point>, lines: Vec<Straight>, circles: Vec<Round>) -> Option<Figure>
         ensures { result ≡ spec.figure_of points.items lines.items circles.items }
     {
@@ -95,7 +95,8 @@ impl Figure {
         }
     }
 
-    /// Puts a point after the others. It fails only out of memory, and then the figure is as before.
+    /// Puts a point after the others. It fails only out of memory, and then the figure is as
+    /// before.
     pub fn add_point(&mut self, a: Point) -> Result<(), AllocError>
         requires few { length self.old.points < 40 }
         requires small { IsTrue (spec.is_small_point a) }
@@ -118,7 +119,8 @@ impl Figure {
         Ok(())
     }
 
-    /// Puts a circle after the others. It fails only out of memory, and then the figure is as before.
+    /// Puts a circle after the others. It fails only out of memory, and then the figure is as
+    /// before.
     pub fn add_circle(&mut self, c: Round) -> Result<(), AllocError>
         requires few { length self.old.circles < 16 }
         requires small { IsTrue (spec.is_small_circle c) }

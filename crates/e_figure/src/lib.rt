@@ -1,5 +1,5 @@
-//! Figures in whole numbers: which literals of diagrams are true in them, the law that some literal of each instance of a rule is,
-//! and what a figure shows not to follow.
+//! Figures in whole numbers: which literals of diagrams are true in them, the law that some literal
+//! of each instance of a rule is, and what a figure shows not to follow.
 #![tactic(auto)]
 
 mod figure;

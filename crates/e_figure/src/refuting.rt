@@ -1,4 +1,4 @@
-// What a figure shows not to follow.
+//! What a figure shows not to follow.
 
 ghost use Rattle.std.specs.Prelude.{◌≡◌, IsTrue};
 ghost use Rattle.std.specs.List.{list_all};
@@ -10,8 +10,9 @@ use crate::figure::Figure;
 use crate::truth::holds;
 use e_literal::Lit;
 
-/// Whether the facts are all true in the figure and the literal is not. Then no steps that cite rules of diagrams and equality,
-/// one after the other, lead from the facts to the literal. It is asked of diagram literals in the figure's scope.
+/// Whether the facts are all true in the figure and the literal is not. Then no steps that cite
+/// rules of diagrams and equality, one after the other, lead from the facts to the literal. It is
+/// asked of diagram literals in the figure's scope.
 pub fn refutes(figure: &Figure, facts: &[Lit], lit: &Lit) -> bool
     ensures value { result ≡ is_refuted figure.now facts.now lit.now }
     ensures uncited { IsTrue result → IsUncited (scope_of figure.now) facts.now lit.now }

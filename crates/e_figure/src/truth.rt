@@ -1,4 +1,4 @@
-// The truth of literals in a figure.
+//! The truth of literals in a figure.
 
 ghost use Rattle.std.specs.Ordering.{int_eq};
 ghost use Rattle.std.specs.Prelude.{pos, ◌≡◌, ◌≤◌, ◌^◌, ◌-ℤ◌, ◌*ℤ◌, IsTrue, int_lt, unsigned_abs};
@@ -9,8 +9,8 @@ use crate::figure::{Figure, Point, Round, Straight};
 use crate::measure::{are_equal, cross, dot, four_times, less, less_square, product};
 use e_literal::{Atom, Lit};
 
-/// Whether the literal is true in the figure. It is asked of diagram literals in the figure's scope; of others the answer is
-/// that of the definition, and says nothing.
+/// Whether the literal is true in the figure. It is asked of diagram literals in the figure's
+/// scope; of others the answer is that of the definition, and says nothing.
 pub fn holds(figure: &Figure, lit: &Lit) -> bool
     ensures { result ≡ truth.is_true figure.now lit.now }
 {

@@ -1,4 +1,4 @@
-// A true literal of each instance.
+//! A true literal of each instance.
 
 ghost use Rattle.std.specs.Prelude.{◌≡◌, ◌<◌, IsTrue, IfOk, IfErr, OnOk, Some};
 ghost use Rattle.std.specs.List.{list_all};
@@ -25,10 +25,11 @@ pub enum LawFault {
     NoMemory,
 }
 
-/// The place of a literal of the rule's instance that is true in the figure; there always is one. The rule is one of diagrams
-/// and equality, which [`Rule::is_transfer`] tells from the others.
+/// The place of a literal of the rule's instance that is true in the figure; there always is one.
+/// The rule is one of diagrams and equality, which [`Rule::is_transfer`] tells from the others.
 ///
-/// `BadArgs` exactly where the rule has no instance at the arguments, or one of them is not in the figure's scope.
+/// `BadArgs` exactly where the rule has no instance at the arguments, or one of them is not in the
+/// figure's scope.
 pub fn law(alloc: Global, figure: &Figure, rule: Rule, args: &[Obj]) -> Result<usize, LawFault>
     requires { rule < diagram_rule_count }
     ensures ok { IfOk result (λ k. IsTrue (true_at figure.now rule args.now k)) }

@@ -7,7 +7,8 @@ use e_text::Title;
 pub enum Judgement {
     /// No line is malformed at its place, and each certificate certifies at its own step.
     Verified { theorems: u32 },
-    /// The first step that is not certified: the theorem, and the number of the line among its steps and closes.
+    /// The first step that is not certified: the theorem, and the number of the line among its
+    /// steps and closes.
     Bad { title: Title, step: u32 },
     /// The first line that is malformed at its place.
     Garbled { line: u64 },

@@ -98,10 +98,12 @@ fn judge_theorems(
 
 /// Judges a derivation text. It fails only out of memory.
 ///
-/// The text is verified exactly where it is the head line `derivation 1` or `derivation 2`, which says the version, blocks of that version
-/// in which no line is malformed at its place and each certificate certifies at its own step, and the line `accepted N` with their number,
-/// and nothing comes after that. Else the first block in which something is wrong decides: it is garbled at its first line that is
-/// malformed at its place, or, where none is, bad at its first step that is not certified. No search is part of this.
+/// The text is verified exactly where it is the head line `derivation 1` or `derivation 2`, which
+/// says the version, blocks of that version in which no line is malformed at its place and each
+/// certificate certifies at its own step, and the line `accepted N` with their number, and nothing
+/// comes after that. Else the first block in which something is wrong decides: it is garbled at its
+/// first line that is malformed at its place, or, where none is, bad at its first step that is not
+/// certified. No search is part of this.
 pub fn judge(alloc: Global, text: &[u8]) -> Result<Judgement, AllocError>
     requires { length text.now ≤ 2 ^ 60 }
     ensures { IfOk result (λ j. JudgesText text.now j) }

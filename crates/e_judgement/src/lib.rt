@@ -1,5 +1,6 @@
-//! The judgement of a derivation text: verified, bad at the first step that is not certified, or garbled at the first line that is
-//! malformed at its place. Its theorems are judged one after another, each whole, by those before it.
+//! The judgement of a derivation text: verified, bad at the first step that is not certified, or
+//! garbled at the first line that is malformed at its place. Its theorems are judged one after
+//! another, each whole, by those before it.
 #![tactic(auto)]
 
 mod judgement;

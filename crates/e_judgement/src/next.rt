@@ -59,8 +59,8 @@ fn check(alloc: Global, known: &Theorems, theorem: &Theorem) -> Result<(), Rejec
     )
 }
 
-/// The next theorem of a text of this version, if it is certified by those that are known; else how the text is judged. It fails only out
-/// of memory.
+/// The next theorem of a text of this version, if it is certified by those that are known; else how
+/// the text is judged. It fails only out of memory.
 pub fn next_item(
     alloc: Global,
     version: Version,

@@ -1,5 +1,5 @@
-//! The lines of a book, known from their words by spelling alone: those of theorems, with items among their
-//! literals, and the first line of a definition.
+//! The lines of a book, known from their words by spelling alone: those of theorems, with items
+//! among their literals, and the first line of a definition.
 ghost use Rattle.std.specs.Prelude.{◌≡◌, ◌&&◌, [], ◌∷◌};
 ghost use Rattle.std.specs.Str.{bytes_eq};
 ghost use Rattle.e_line.specs.Reading.{texts, Gives, Moves, with_front};

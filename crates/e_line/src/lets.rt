@@ -15,7 +15,8 @@ use std::alloc::{AllocError, Global};
 /// A construction with its names as they are spelled, each list from left to right.
 #[derive(Drop)]
 pub struct RawLet {
-    /// The shapes whose line it is, in the order of their table: the sorts of the arguments say which one.
+    /// The shapes whose line it is, in the order of their table: the sorts of the arguments say
+    /// which one.
     pub shapes: Items<Shape>,
     /// The names of the new objects.
     pub new: Items<Name>,
@@ -148,7 +149,8 @@ fn let_named(
     })
 }
 
-/// What comes after `let`: the line of a shape or of several, and perhaps `avoid` with names after it.
+/// What comes after `let`: the line of a shape or of several, and perhaps `avoid` with names after
+/// it.
 #[tactic(auto, unfolding(crate::specs::Lets::let_of))]
 pub(crate) fn let_of(alloc: Global, words: &[&[u8]]) -> Result<RawLet, LineError>
     ensures { Gives (λ l. l) result (let_of (texts words.now)) }

@@ -1,4 +1,5 @@
-//! The line of each form, with the names that it has, and without its end. It fails only out of memory.
+//! The line of each form, with the names that it has, and without its end. It fails only out of
+//! memory.
 ghost use Rattle.std.specs.Prelude.{◌≡◌, ◌++◌, ◌∷◌, [], codes, map, OnOk};
 ghost use Rattle.e_text.specs.Tokens.{spaced};
 ghost use Rattle.e_construct.specs.Views.{piece_view};
@@ -207,7 +208,8 @@ fn put_superposition(
     Ok(())
 }
 
-/// Writes the line of a superposition: the triangle and the place, the names of the copied points, and what its block shows.
+/// Writes the line of a superposition: the triangle and the place, the names of the copied points,
+/// and what its block shows.
 pub fn put_superpose(
     out: &mut Vec<u8>,
     args: &[Name],

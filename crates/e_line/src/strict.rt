@@ -19,7 +19,8 @@ fn is_less(atom: &RawAtom) -> bool
     matches!(atom, RawAtom::SumsLess(_, _))
 }
 
-/// Whether the literal is no negation of a sum being less: that is written with the sides exchanged.
+/// Whether the literal is no negation of a sum being less: that is written with the sides
+/// exchanged.
 pub fn is_direct(lit: &RawLit) -> bool
     ensures { result ≡ is_direct lit.now }
 {

@@ -30,7 +30,8 @@ pub enum RawTerm {
 /// A term with its coefficient.
 #[derive(Drop)]
 pub struct RawMono {
-    /// The coefficient as it is written, or 1; one more than a coefficient may be where it is larger.
+    /// The coefficient as it is written, or 1; one more than a coefficient may be where it is
+    /// larger.
     pub coeff: u32,
     pub term: RawTerm,
 }

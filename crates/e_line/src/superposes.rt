@@ -42,8 +42,9 @@ static PIECES: [Piece; 13] = [
     Piece::Word(b"show"),
 ];
 
-/// The words of a superposition after its first word, up to the literals that its block shows: the triangle and its line, the
-/// place and its line, and the names of the copied points. They are thirteen.
+/// The words of a superposition after its first word, up to the literals that its block shows: the
+/// triangle and its line, the place and its line, and the names of the copied points. They are
+/// thirteen.
 pub fn superposition_pieces() -> &'static [Piece]
     ensures { map piece_view result.now ≡ superpose_pieces }
 {

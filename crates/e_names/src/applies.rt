@@ -71,7 +71,8 @@ pub struct Application {
     pub args: Items<Option<Obj>>,
 }
 
-/// The title, then how many arguments and new names there are, then the arguments, then the new names; the leftmost fault.
+/// The title, then how many arguments and new names there are, then the arguments, then the new
+/// names; the leftmost fault.
 #[tactic(auto, unfolding(crate::specs::Applies::apply_in))]
 pub fn apply_in(
     alloc: Global,

@@ -1,4 +1,5 @@
-//! Names to the objects in scope, from left to right, and objects to their names; theorems and definitions that are known.
+//! Names to the objects in scope, from left to right, and objects to their names; theorems and
+//! definitions that are known.
 #![tactic(auto)]
 
 mod applies;

@@ -32,7 +32,8 @@ fn known_notion(notions: &Notions, title: Title) -> Result<&Notion, LineError>
     }
 }
 
-/// The first n literals that an item stands for: the title, then how many names there are, then the names.
+/// The first n literals that an item stands for: the title, then how many names there are, then the
+/// names.
 #[tactic(auto, unfolding(crate::specs::Meanings::meant_in))]
 fn meant_in(
     alloc: Global,
@@ -59,7 +60,8 @@ fn meant_in(
     }
 }
 
-/// Puts last what an item stands for, with names, and counts on: how many literals of the line are of notions.
+/// Puts last what an item stands for, with names, and counts on: how many literals of the line are
+/// of notions.
 fn put_item(
     alloc: Global,
     notions: &Notions,
@@ -88,7 +90,8 @@ fn put_item(
     }
 }
 
-/// Puts last what the items stand for, with names: the leftmost fault, or how many literals of the line are of notions.
+/// Puts last what the items stand for, with names: the leftmost fault, or how many literals of the
+/// line are of notions.
 pub fn put_items(
     alloc: Global,
     notions: &Notions,

@@ -338,7 +338,8 @@ pub fn by_in(
     Ok(By { rule, args, lit })
 }
 
-/// The arguments of a construction: each has a sort that one of the shapes takes after the earlier arguments.
+/// The arguments of a construction: each has a sort that one of the shapes takes after the earlier
+/// arguments.
 fn arguments_in(
     alloc: Global,
     names: &Names,

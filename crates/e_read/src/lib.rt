@@ -1,5 +1,5 @@
-//! Derivation texts read back: each theorem with a certificate at each place that needs one, or the first line that is
-//! malformed at its place.
+//! Derivation texts read back: each theorem with a certificate at each place that needs one, or the
+//! first line that is malformed at its place.
 #![tactic(auto)]
 
 mod filling;

@@ -35,7 +35,8 @@ pub enum Piece {
 /// Why a derivation text is refused.
 #[derive(Clone, Copy, Debug, PartialEq, Eq, Error)]
 pub enum TextFault {
-    /// The first line that is malformed at its place; or, where the text ends too early, the line after its last.
+    /// The first line that is malformed at its place; or, where the text ends too early, the line
+    /// after its last.
     #[error("line {line} has no form here")]
     Garbled { line: u64 },
     #[error("out of memory")]
@@ -167,10 +168,10 @@ fn read_piece(
 
 /// The next theorem with its derivation, or the last line, in a text of this version.
 ///
-/// It takes the lines up to the theorem's `end`, or the last line alone. A line is garbled where it is the first that is
-/// malformed at its place; after that the lines are not used again. The lines are those of a text with at most 262,144 bytes a
-/// line. The known theorems are statements, as each is that is read, and may be more than a text may have: then none is read any
-/// more.
+/// It takes the lines up to the theorem's `end`, or the last line alone. A line is garbled where it
+/// is the first that is malformed at its place; after that the lines are not used again. The lines
+/// are those of a text with at most 262,144 bytes a line. The known theorems are statements, as
+/// each is that is read, and may be more than a text may have: then none is read any more.
 pub fn read(
     alloc: Global,
     lines: &mut Lines,
@@ -182,7 +183,8 @@ pub fn read(
     ensures read { TextReads known.now result lines.new (piece_from known.now (last_line lines.old) (at_start version) lines.old.lines) }
     ensures last { OnOk result (last_line lines.new ≡ last_line lines.old) }
     ensures shorter { OnOk result (length lines.new.lines < length lines.old.lines) }
-    // without its certificates a theorem that is read has a spelling in a book: its title is new, and it is within the limits
+    // without its certificates a theorem that is read has a spelling in a book: its title is new,
+    // and it is within the limits
     ensures spelled { IfOk result (OfTheorem (λ t. HasSpelling known.now (bare (entry_of t)))) }
     // its certificates are of that version, and name literals that are well formed
     ensures version { IfOk result (OfTheorem (λ t. IsTrue (has_certs_of version (script_of t.block)))) }

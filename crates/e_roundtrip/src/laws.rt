@@ -1,12 +1,14 @@
 //! What holds between reading, spelling and verifying: each law is the contract of a function.
 ghost use Rattle.e_roundtrip.specs.Laws.{ReadIsSpelled, ReadTextIsSpelled, ReadCanBeSpelled, SpelledIsRead, CertifiedIsFormed, FilledHasSpelling, TrimmedHasSpelling, WrittenIsJudged, WrittenIsVerified, VerifiedIsWritten};
 
-/// The lines that are read as a theorem with its derivation are exactly the lines of its one spelling.
+/// The lines that are read as a theorem with its derivation are exactly the lines of its one
+/// spelling.
 pub fn what_is_read_is_spelled_so()
     ensures { ReadIsSpelled }
 {}
 
-/// The bytes that are read as a theorem with its derivation are its one text: one tree has one spelling.
+/// The bytes that are read as a theorem with its derivation are its one text: one tree has one
+/// spelling.
 pub fn one_text_for_one_tree()
     ensures { ReadTextIsSpelled }
 {}
@@ -16,8 +18,8 @@ pub fn what_is_read_can_be_spelled()
     ensures { ReadCanBeSpelled }
 {}
 
-/// The lines of a derivation's one spelling, whatever follows them, are read as the theorem with that derivation, whether its
-/// certificates certify or not.
+/// The lines of a derivation's one spelling, whatever follows them, are read as the theorem with
+/// that derivation, whether its certificates certify or not.
 pub fn spelled_is_read()
     ensures { SpelledIsRead }
 {}
@@ -32,12 +34,14 @@ pub fn filled_has_spelling()
     ensures { FilledHasSpelling }
 {}
 
-/// A theorem that can be spelled still can when the idle steps of its certified derivation of the first version are left out.
+/// A theorem that can be spelled still can when the idle steps of its certified derivation of the
+/// first version are left out.
 pub fn trimmed_has_spelling()
     ensures { TrimmedHasSpelling }
 {}
 
-/// What is written of derivations that can be spelled is a derivation text that is judged as their verdicts say.
+/// What is written of derivations that can be spelled is a derivation text that is judged as their
+/// verdicts say.
 pub fn written_is_judged()
     ensures { WrittenIsJudged }
 {}
@@ -47,8 +51,8 @@ pub fn written_is_verified()
     ensures { WrittenIsVerified }
 {}
 
-/// A text that is judged verified is the head line, the spellings of theorems, each with a derivation that proves it from those
-/// before it, and the line with their number.
+/// A text that is judged verified is the head line, the spellings of theorems, each with a
+/// derivation that proves it from those before it, and the line with their number.
 pub fn verified_is_written()
     ensures { VerifiedIsWritten }
 {}

@@ -109,8 +109,8 @@ impl Book {
         }
     }
 
-    /// Takes the lines that remain, and handles the theorems and definitions that end in them. Nothing where all
-    /// are taken, and the book may go on; else how it ends.
+    /// Takes the lines that remain, and handles the theorems and definitions that end in them.
+    /// Nothing where all are taken, and the book may go on; else how it ends.
     pub fn take<K: Sink>(
         &mut self,
         alloc: Global,

@@ -108,8 +108,8 @@ fn report<K: Sink>(alloc: Global, book_result: BookResult, sink: &mut K) -> Stat
     }
 }
 
-/// Reads a book from a source, and writes its derivations and the last lines to a sink: the block of
-/// each theorem as soon as its last line is read.
+/// Reads a book from a source, and writes its derivations and the last lines to a sink: the block
+/// of each theorem as soon as its last line is read.
 pub fn check<S: Source, K: Sink>(alloc: Global, source: &mut S, sink: &mut K) -> Status
     ensures checks { ChecksBook (S.left source.old) (K.written sink.old) (K.written sink.new) result }
     ensures took { TookFew (S.left source.old) (S.left source.new) }

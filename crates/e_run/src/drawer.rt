@@ -61,7 +61,8 @@ fn tell<K: Sink>(alloc: Global, text: &[u8], sink: &mut K) -> Status
     }
 }
 
-/// Reads a figure text from a source, and writes what is answered to a sink. Nothing is written before all of it was read.
+/// Reads a figure text from a source, and writes what is answered to a sink. Nothing is written
+/// before all of it was read.
 pub fn figure<S: Source, K: Sink>(alloc: Global, source: &mut S, sink: &mut K) -> Status
     ensures draws { DrawsText (S.left source.old) (K.written sink.old) (K.written sink.new) result }
     ensures end { IsDrawn result → IsAtEnd (S.left source.new) }

@@ -1,4 +1,5 @@
-//! The run of `elements`, a proof checker for System E: what it answers to its words, and what it writes.
+//! The run of `elements`, a proof checker for System E: what it answers to its words, and what it
+//! writes.
 #![tactic(auto)]
 
 mod blocks;

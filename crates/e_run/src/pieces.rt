@@ -190,8 +190,8 @@ fn take_source<S: Source, K: Sink>(
     take_last(alloc, book, &untaken, sink)
 }
 
-/// Reads a book from a source, checks its theorems and writes their blocks, each as soon as its last
-/// line is read.
+/// Reads a book from a source, checks its theorems and writes their blocks, each as soon as its
+/// last line is read.
 pub fn blocks_of_source<S: Source, K: Sink>(
     alloc: Global,
     source: &mut S,

@@ -1,4 +1,5 @@
-//! A derivation text is read and verified, and something of each theorem is written as soon as it is verified.
+//! A derivation text is read and verified, and something of each theorem is written as soon as it
+//! is verified.
 ghost use Rattle.std.specs.Prelude.{◌≡◌, ◌≤◌, ◌^◌, [], length, IfErr, OnOk, IsErrOf};
 ghost use Rattle.e_io.specs.Bytes.{Rose};
 ghost use Rattle.e_book.specs.TheoremViews.{entry_of};
@@ -51,7 +52,8 @@ fn pass<K: Sink>(
     Ok(())
 }
 
-/// Takes the theorems of a text of this version one after another, and writes something of each that is verified.
+/// Takes the theorems of a text of this version one after another, and writes something of each
+/// that is verified.
 fn rewrite_theorems<K: Sink>(
     alloc: Global,
     job: Job,
@@ -111,8 +113,8 @@ fn report<K: Sink>(alloc: Global, job: Job, judgement: Judgement, sink: &mut K) 
     }
 }
 
-/// Reads a derivation text from a source, and writes to a sink the head, something of each theorem as soon as it is verified, and the last
-/// line.
+/// Reads a derivation text from a source, and writes to a sink the head, something of each theorem
+/// as soon as it is verified, and the last line.
 pub fn rewrite<S: Source, K: Sink>(alloc: Global, job: Job, source: &mut S, sink: &mut K) -> Status
     ensures rewrites { RewritesText job (S.left source.old) (K.written sink.old) (K.written sink.new) result }
     ensures end { IsRewritten result → IsAtEnd (S.left source.new) }

@@ -37,7 +37,8 @@ pub fn head_of(job: Job) -> &'static [u8]
     }
 }
 
-/// The version in which the command reads a text whose head says this. `trim` takes texts of the first version alone.
+/// The version in which the command reads a text whose head says this. `trim` takes texts of the
+/// first version alone.
 pub fn read_as(job: Job, head: Option<Version>) -> Option<Version>
     ensures { result ≡ Rewrites.read_as job head }
 {

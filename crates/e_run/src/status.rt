@@ -28,8 +28,8 @@ pub enum Status {
         theorems: u32,
         steps: u32,
     },
-    /// No line of the derivation text is malformed at its place, and each certificate certifies at its own step; its theorems are
-    /// written in the second version.
+    /// No line of the derivation text is malformed at its place, and each certificate certifies at
+    /// its own step; its theorems are written in the second version.
     Upgraded {
         theorems: u32,
     },
@@ -48,7 +48,8 @@ pub enum Status {
     Trimmed {
         theorems: u32,
     },
-    /// The derivation text is verified, and the theorems that each of its theorems applies are written.
+    /// The derivation text is verified, and the theorems that each of its theorems applies are
+    /// written.
     Listed {
         theorems: u32,
     },
@@ -57,8 +58,8 @@ pub enum Status {
         title: Title,
         step: u32,
         wanted: Wanted,
-        /// Where a metric literal or a contradiction is wanted: values of the terms of the step that show that it does not
-        /// follow.
+        /// Where a metric literal or a contradiction is wanted: values of the terms of the step
+        /// that show that it does not follow.
         values: Option<Values>,
     },
     /// Each step before is licensed, and a minor of a system of this one has size at least 2^63.

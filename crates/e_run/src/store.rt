@@ -6,7 +6,8 @@ use e_io::{Failed, Sink};
 use std::alloc::Global;
 use std::marker::Model;
 
-/// Bytes in memory, as many as a derivation text may have. A write fails where it finds no memory, and then takes nothing.
+/// Bytes in memory, as many as a derivation text may have. A write fails where it finds no memory,
+/// and then takes nothing.
 #[derive(Drop)]
 pub struct Store {
     bytes: Vec<u8>,

@@ -107,7 +107,8 @@ fn with_last_line(
     })
 }
 
-/// What may be applied at a place, which is this step of the theorem with this title. All is found before anything is written.
+/// What may be applied at a place, which is this step of the theorem with this title. All is found
+/// before anything is written.
 fn answer_at(
     alloc: Global,
     known: &Theorems,
@@ -136,7 +137,8 @@ fn answer_at(
     }
 }
 
-/// The answer on the theorem that has the title. Whether it has the step is asked before any step is licensed.
+/// The answer on the theorem that has the title. Whether it has the step is asked before any step
+/// is licensed.
 fn answer_on(
     alloc: Global,
     known: &Theorems,
@@ -168,7 +170,8 @@ fn has_title(theorem: &Theorem, title: Title) -> bool
     theorem.title.bytes() == title.bytes()
 }
 
-/// A theorem with another title is licensed, and then it is known. The answer on the one with the title, and on a stop.
+/// A theorem with another title is licensed, and then it is known. The answer on the one with the
+/// title, and on a stop.
 fn pass_theorem(
     alloc: Global,
     known: &mut Known,
@@ -223,7 +226,8 @@ fn pass_item(
     }
 }
 
-/// The answer to a book whose lines are all there: its theorems are read and licensed up to the one with the title.
+/// The answer to a book whose lines are all there: its theorems are read and licensed up to the one
+/// with the title.
 fn answer_to(
     alloc: Global,
     lines: &mut Lines,
@@ -263,8 +267,8 @@ fn answer_for(alloc: Global, text: &[u8], title: Title, step: u32) -> Result<Ans
     answer
 }
 
-/// Reads a book from a source, and writes to a sink what may be applied before a step of the theorem with a title. Nothing is
-/// written before all of it was read and all was found.
+/// Reads a book from a source, and writes to a sink what may be applied before a step of the
+/// theorem with a title. Nothing is written before all of it was read and all was found.
 pub fn suggest<S: Source, K: Sink>(
     alloc: Global,
     title: Title,

@@ -93,7 +93,8 @@ fn answer_for(alloc: Global, theorems: u32) -> Result<Answer, AllocError>
     answer_to(alloc, &mut lines)
 }
 
-/// Checks the generated book of n theorems, verifies what `check` writes of it, and writes the line of the answer.
+/// Checks the generated book of n theorems, verifies what `check` writes of it, and writes the line
+/// of the answer.
 pub fn trial<K: Sink>(alloc: Global, theorems: u32, sink: &mut K) -> Status
     requires { theorems ≤ 500 }
     ensures tries { Tries theorems (K.written sink.old) (K.written sink.new) result }

@@ -115,8 +115,8 @@ fn put_object(
     put(out, name)
 }
 
-/// The lines of the next objects, which are of these sorts: neighbours of one sort are on one line. It answers how
-/// many objects come before the ones that come then.
+/// The lines of the next objects, which are of these sorts: neighbours of one sort are on one line.
+/// It answers how many objects come before the ones that come then.
 pub(crate) fn put_objects_of(
     out: &mut Vec<u8>,
     role: Role,

@@ -21,7 +21,8 @@ fn put_title(out: &mut Vec<u8>, title: Title) -> Result<(), AllocError>
     end_line(out)
 }
 
-/// What is given and what is shown, with the lines of the objects before it. It answers how many objects are declared.
+/// What is given and what is shown, with the lines of the objects before it. It answers how many
+/// objects are declared.
 fn put_statement(
     alloc: Global,
     out: &mut Vec<u8>,

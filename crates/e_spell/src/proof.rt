@@ -36,7 +36,8 @@ fn put_hence(
     put_cert_of(alloc, out, names, cert)
 }
 
-/// A construction, and a certificate for each literal that it needs, with the names in scope before it.
+/// A construction, and a certificate for each literal that it needs, with the names in scope before
+/// it.
 fn put_made(
     alloc: Global,
     out: &mut Vec<u8>,
@@ -51,7 +52,8 @@ fn put_made(
     put_certs(alloc, out, names, certs)
 }
 
-/// The use of an earlier theorem, and a certificate for each literal that it needs, with the names in scope before it.
+/// The use of an earlier theorem, and a certificate for each literal that it needs, with the names
+/// in scope before it.
 fn put_applied(
     alloc: Global,
     out: &mut Vec<u8>,
@@ -68,7 +70,8 @@ fn put_applied(
     put_certs(alloc, out, names, certs)
 }
 
-/// The line of a superposition, and a certificate for each literal that it needs, with the names in scope before it.
+/// The line of a superposition, and a certificate for each literal that it needs, with the names in
+/// scope before it.
 fn put_superposed(
     alloc: Global,
     out: &mut Vec<u8>,
@@ -84,8 +87,8 @@ fn put_superposed(
     put_certs(alloc, out, names, certs)
 }
 
-/// A step, and the block inside it. An inner block begins with the names before its step, and with those of the copied
-/// points.
+/// A step, and the block inside it. An inner block begins with the names before its step, and with
+/// those of the copied points.
 #[cycle(put_block)]
 #[tactic(auto, using(crate::proofs::ScriptTexts::plain))]
 fn put_step(
@@ -148,7 +151,8 @@ fn put_step(
     }
 }
 
-/// The steps, each with the names in scope before it: those of new objects come into scope after the step.
+/// The steps, each with the names in scope before it: those of new objects come into scope after
+/// the step.
 #[cycle(put_block)]
 fn put_steps(
     alloc: Global,
@@ -240,7 +244,8 @@ fn put_block(
     put
 }
 
-/// The lines after the word proof, to the theorem's end, where these names are in scope before the first.
+/// The lines after the word proof, to the theorem's end, where these names are in scope before the
+/// first.
 pub(crate) fn put_proof(
     alloc: Global,
     out: &mut Vec<u8>,

@@ -80,7 +80,8 @@ fn name_shown(
     }
 }
 
-/// The names of the objects that a step makes come into scope. Those of the block inside it are gone after it.
+/// The names of the objects that a step makes come into scope. Those of the block inside it are
+/// gone after it.
 #[tactic(auto, using(crate::proofs::ScriptTexts::plain))]
 pub(crate) fn name_new(known: &Theorems, names: &mut Names, step: &Step) -> Result<(), AllocError>
     ensures { OnOk result (names.new ≡ names_behind known.now names.old (plain_step step.now)) }

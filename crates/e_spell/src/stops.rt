@@ -114,9 +114,10 @@ fn spell_too_wide(
     Ok(out)
 }
 
-/// The last lines of a stop, with the names of the stop: `unlicensed` or `too-wide`, the theorem's title and the line's
-/// number; below it what the line lacks, or what is wanted where it is too wide; and the values that show that it does
-/// not follow, one a line in their order where there are any, or the width.
+/// The last lines of a stop, with the names of the stop: `unlicensed` or `too-wide`, the theorem's
+/// title and the line's number; below it what the line lacks, or what is wanted where it is too
+/// wide; and the values that show that it does not follow, one a line in their order where there
+/// are any, or the width.
 ///
 /// An object without a name is written as `nameless`. It fails only out of memory.
 pub fn spell_stop(alloc: Global, title: Title, stop: &Stop) -> Result<Vec<u8>, AllocError>

@@ -37,12 +37,15 @@ fn put_theorem(
     Ok(())
 }
 
-/// The one spelling of a theorem with a derivation: the theorem's lines to the word `proof`, each line of the
-/// derivation, below it its certificates and then the blocks inside it, and `end`. Each line ends with a line feed.
+/// The one spelling of a theorem with a derivation: the theorem's lines to the word `proof`, each
+/// line of the derivation, below it its certificates and then the blocks inside it, and `end`. Each
+/// line ends with a line feed.
 ///
-/// An earlier theorem that the derivation uses is written by its title, which it has among those that are known. The theorem's own block
-/// is not written. An object without a name is written as `nameless`, and a theorem that is not known by no word. It fails only out of
-/// memory. The text takes at most a few times the memory of the theorem, the derivation and the titles that it writes.
+/// An earlier theorem that the derivation uses is written by its title, which it has among those
+/// that are known. The theorem's own block is not written. An object without a name is written as
+/// `nameless`, and a theorem that is not known by no word. It fails only out of memory. The text
+/// takes at most a few times the memory of the theorem, the derivation and the titles that it
+/// writes.
 pub fn spell(
     alloc: Global,
     known: &Theorems,

@@ -1,4 +1,5 @@
-//! What may be applied at a step: all choices of arguments at which an earlier theorem may be applied, in order.
+//! What may be applied at a step: all choices of arguments at which an earlier theorem may be
+//! applied, in order.
 #![tactic(auto)]
 
 mod laws;

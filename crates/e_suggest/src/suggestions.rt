@@ -21,9 +21,9 @@ pub enum Suggested {
     TooWide(u128),
 }
 
-/// The first of all choices of arguments at which each given literal of the statement is allowed, at most this many, and
-/// whether there are more. They are compared in declared order by the objects' numbers. The statement has at most 6 declared
-/// objects. It fails only out of memory.
+/// The first of all choices of arguments at which each given literal of the statement is allowed,
+/// at most this many, and whether there are more. They are compared in declared order by the
+/// objects' numbers. The statement has at most 6 declared objects. It fails only out of memory.
 ///
 /// The search is faster where the context has solved its facts: [`Context::solve`].
 pub fn all(

@@ -33,95 +33,95 @@ use Rattle.e_deriv.proofs.Scripts.{step_script-Claim, step_script-Superposed, cl
 use Rattle.e_trim.specs.Looked.{Wants, no_wants, both, of_line}
 use Rattle.e_trim.specs.Trimmed.{line_at, outside, wants}
 use Rattle.e_trim.specs.inner.Flags.{flags_of, inside_of, step_flags}
-use Rattle.e_trim.specs.inner.Standing.{IsReady, CloseFits, StepWants, StepFlags, KeepsFacts, opened, outer_of, left_for}
-use Rattle.e_trim.specs.declared.standing.Standing.{Standing}
-use Rattle.e_trim.specs.declared.standing.Outer.{Outer}
+use Rattle.e_trim.specs.inner.StepState.{IsReady, CloseFits, StepWants, StepFlags, KeepsFacts, opened, outer_of, left_for}
+use Rattle.e_trim.specs.declared.step_state.StepState.{StepState}
+use Rattle.e_trim.specs.declared.step_state.Outer.{Outer}
 use Rattle.e_trim.proofs.Both.{both-none, both-assoc}
 use Rattle.e_trim.proofs.BuiltSteps.{room}
 use Rattle.e_trim.proofs.StepForms.{keeps_on, keeps_enough, left_back}
 
 -- ---- into a block, and out of it
 
-pub opened_keeps : (sorts : List Sort) (lits : List Lit) (x after : Standing) → after ≡ opened sorts lits x → KeepsFacts x after
-opened_keeps sorts lits x after e = subst (λ (y : Standing). KeepsFacts x y) (sym e) (stay_all x.facts lits)
+pub opened_keeps : (sorts : List Sort) (lits : List Lit) (x after : StepState) → after ≡ opened sorts lits x → KeepsFacts x after
+opened_keeps sorts lits x after e = subst (λ (y : StepState). KeepsFacts x y) (sym e) (stay_all x.facts lits)
 
-pub block_enough : (sorts : List Sort) (lits : List Lit) (x after last : Standing) (outer : Outer) → after ≡ opened sorts lits x → KeepsFacts after last → outer ≡ outer_of x → outer.facts ≤ length last.facts
+pub block_enough : (sorts : List Sort) (lits : List Lit) (x after last : StepState) (outer : Outer) → after ≡ opened sorts lits x → KeepsFacts after last → outer ≡ outer_of x → outer.facts ≤ length last.facts
 block_enough sorts lits x after last outer e k o =
     let n = keeps_enough x last (keeps_on x after last (opened_keeps sorts lits x after e) k) in
     let m = ap (λ (y : Outer). y.facts) o in
     omega (arith, n, m)
 
-pub block_back : (sorts : List Sort) (lits : List Lit) (x after last left : Standing) (outer : Outer) → after ≡ opened sorts lits x → KeepsFacts after last → outer ≡ outer_of x → left ≡ left_for outer last → left ≡ x
+pub block_back : (sorts : List Sort) (lits : List Lit) (x after last left : StepState) (outer : Outer) → after ≡ opened sorts lits x → KeepsFacts after last → outer ≡ outer_of x → left ≡ left_for outer last → left ≡ x
 block_back sorts lits x after last left outer e k o f = f ∙ ap (λ y. left_for y last) o ∙ left_back x last (keeps_on x after last (opened_keeps sorts lits x after e) k)
 
-pub block_ready : (before : List StatementView) (d : Script) (goal : Goal) (sorts : List Sort) (lits : List Lit) (x after : Standing) → after ≡ opened sorts lits x → IsReady before d (grown x.scope sorts) (joined_all x.facts lits) goal → IsReady before d after.scope after.facts goal
-block_ready before d goal sorts lits x after e r = subst (λ (y : Standing). IsReady before d y.scope y.facts goal) (sym e) r
+pub block_ready : (before : List StatementView) (d : Script) (goal : Goal) (sorts : List Sort) (lits : List Lit) (x after : StepState) → after ≡ opened sorts lits x → IsReady before d (grown x.scope sorts) (joined_all x.facts lits) goal → IsReady before d after.scope after.facts goal
+block_ready before d goal sorts lits x after e r = subst (λ (y : StepState). IsReady before d y.scope y.facts goal) (sym e) r
 
-pub block_wants : (before : List StatementView) (d : Script) (goal : Goal) (sorts : List Sort) (lits : List Lit) (x after left : Standing) (w out : Wants) → after ≡ opened sorts lits x → left ≡ x → w ≡ wants before d after.scope after.facts goal
+pub block_wants : (before : List StatementView) (d : Script) (goal : Goal) (sorts : List Sort) (lits : List Lit) (x after left : StepState) (w out : Wants) → after ≡ opened sorts lits x → left ≡ x → w ≡ wants before d after.scope after.facts goal
     → out ≡ outside left.scope left.facts w → out ≡ outside x.scope x.facts (wants before d (grown x.scope sorts) (joined_all x.facts lits) goal)
 block_wants before d goal sorts lits x after left w out e b f o =
-    o ∙ ap (λ (y : Standing). outside y.scope y.facts w) b ∙ ap (outside x.scope x.facts) (f ∙ ap (λ (y : Standing). wants before d y.scope y.facts goal) e)
+    o ∙ ap (λ (y : StepState). outside y.scope y.facts w) b ∙ ap (outside x.scope x.facts) (f ∙ ap (λ (y : StepState). wants before d y.scope y.facts goal) e)
 
-pub block_flags : (before : List StatementView) (d : Script) (goal : Goal) (sorts : List Sort) (lits : List Lit) (x after : Standing) (old new : List Bool) → after ≡ opened sorts lits x → new ≡ old ++ flags_of before d after.scope after.facts goal
+pub block_flags : (before : List StatementView) (d : Script) (goal : Goal) (sorts : List Sort) (lits : List Lit) (x after : StepState) (old new : List Bool) → after ≡ opened sorts lits x → new ≡ old ++ flags_of before d after.scope after.facts goal
     → new ≡ old ++ flags_of before d (grown x.scope sorts) (joined_all x.facts lits) goal
-block_flags before d goal sorts lits x after old new e f = f ∙ ap (λ (y : Standing). old ++ flags_of before d y.scope y.facts goal) e
+block_flags before d goal sorts lits x after old new e f = f ∙ ap (λ (y : StepState). old ++ flags_of before d y.scope y.facts goal) e
 
 -- ---- a step with no block inside
 
-abbrev pub NoneInside : List StatementView → Step → Standing → Type 0
+abbrev pub NoneInside : List StatementView → Step → StepState → Type 0
 NoneInside before step x = (rest : Script) → (inside_of before (step_script step rest) x.scope x.facts ≡ no_wants) × (step_flags before (step_script step rest) x.scope x.facts ≡ [])
 
-pub cite_plain : (before : List StatementView) (step : Step) (by : By) (x : Standing) → step ≡ CiteStep by → NoneInside before step x
+pub cite_plain : (before : List StatementView) (step : Step) (by : By) (x : StepState) → step ≡ CiteStep by → NoneInside before step x
 unfolding step_script
 cite_plain before step by x is rest = (ap (λ s. inside_of before (step_script s rest) x.scope x.facts) is, ap (λ s. step_flags before (step_script s rest) x.scope x.facts) is)
 
-pub hence_plain : (before : List StatementView) (step : Step) (lit : Lit) (cert : Option Cert) (x : Standing) → step ≡ HenceStep lit cert → NoneInside before step x
+pub hence_plain : (before : List StatementView) (step : Step) (lit : Lit) (cert : Option Cert) (x : StepState) → step ≡ HenceStep lit cert → NoneInside before step x
 unfolding step_script
 hence_plain before step lit cert x is rest = (ap (λ s. inside_of before (step_script s rest) x.scope x.facts) is, ap (λ s. step_flags before (step_script s rest) x.scope x.facts) is)
 
-pub make_plain : (before : List StatementView) (step : Step) (form : Construction) (names : List (List ℕ)) (certs : List Cert) (x : Standing) → step ≡ MakeStep form names certs → NoneInside before step x
+pub make_plain : (before : List StatementView) (step : Step) (form : Construction) (names : List (List ℕ)) (certs : List Cert) (x : StepState) → step ≡ MakeStep form names certs → NoneInside before step x
 unfolding step_script
 make_plain before step form names certs x is rest = (ap (λ s. inside_of before (step_script s rest) x.scope x.facts) is, ap (λ s. step_flags before (step_script s rest) x.scope x.facts) is)
 
-pub apply_plain : (before : List StatementView) (step : Step) (theorem : ℕ) (args : List (Option Obj)) (names : List (List ℕ)) (certs : List Cert) (x : Standing) → step ≡ ApplyStep theorem args names certs → NoneInside before step x
+pub apply_plain : (before : List StatementView) (step : Step) (theorem : ℕ) (args : List (Option Obj)) (names : List (List ℕ)) (certs : List Cert) (x : StepState) → step ≡ ApplyStep theorem args names certs → NoneInside before step x
 unfolding step_script
 apply_plain before step theorem args names certs x is rest = (ap (λ s. inside_of before (step_script s rest) x.scope x.facts) is, ap (λ s. step_flags before (step_script s rest) x.scope x.facts) is)
 
 -- what the line alone wants
-abbrev pub LineWants : List StatementView → Step → Standing → Wants → Wants → Type 0
+abbrev pub LineWants : List StatementView → Step → StepState → Wants → Wants → Type 0
 LineWants before step x old new = (rest : Script) (goal : Goal) → new ≡ both old (of_line before (line_at (step_script step rest) x.scope x.facts goal))
 
-pub plain_wants : (before : List StatementView) (step : Step) (x : Standing) (old new : Wants) → NoneInside before step x → LineWants before step x old new → StepWants before step x old new
+pub plain_wants : (before : List StatementView) (step : Step) (x : StepState) (old new : Wants) → NoneInside before step x → LineWants before step x old new → StepWants before step x old new
 plain_wants before step x old new n h rest goal =
     let line = of_line before (line_at (step_script step rest) x.scope x.facts goal) in
     h rest goal ∙ ap (both old) (sym (both-none line)) ∙ ap (λ v. both old (both line v)) (sym (n rest).0)
 
-pub plain_flags : (before : List StatementView) (step : Step) (x : Standing) (old : List Bool) → NoneInside before step x → StepFlags before step x old old
+pub plain_flags : (before : List StatementView) (step : Step) (x : StepState) (old : List Bool) → NoneInside before step x → StepFlags before step x old old
 plain_flags before step x old n rest = sym (append-nil old) ∙ ap (λ xs. old ++ xs) (sym (n rest).1)
 
 -- ---- a claim, a superposition
 
-pub claim_inside : (before : List StatementView) (step : Step) (shown : List Lit) (inner : Box Block Global) (x : Standing) (rest : Script) → step ≡ ClaimBlock shown inner
+pub claim_inside : (before : List StatementView) (step : Step) (shown : List Lit) (inner : Box Block Global) (x : StepState) (rest : Script) → step ≡ ClaimBlock shown inner
     → (inside_of before (step_script step rest) x.scope x.facts ≡ outside x.scope x.facts (wants before (script_of inner.value) x.scope x.facts (goal_of shown)))
     × (step_flags before (step_script step rest) x.scope x.facts ≡ flags_of before (script_of inner.value) x.scope x.facts (goal_of shown))
 claim_inside before step shown inner x rest is =
     let e = ap (λ s. step_script s rest) is ∙ step_script-Claim shown inner rest in
     (ap (λ d. inside_of before d x.scope x.facts) e, ap (λ d. step_flags before d x.scope x.facts) e)
 
-pub superposed_inside : (before : List StatementView) (step : Step) (form : Superpose) (names : List (List ℕ)) (shown : List Lit) (certs : List Cert) (inner : Box Block Global) (x : Standing) (rest : Script) → step ≡ SuperposedBlock form names shown certs inner
+pub superposed_inside : (before : List StatementView) (step : Step) (form : Superpose) (names : List (List ℕ)) (shown : List Lit) (certs : List Cert) (inner : Box Block Global) (x : StepState) (rest : Script) → step ≡ SuperposedBlock form names shown certs inner
     → (inside_of before (step_script step rest) x.scope x.facts ≡ outside x.scope x.facts (wants before (script_of inner.value) (grown x.scope superposing.sorts_copied) (joined_all x.facts (superposing.gives_of_superposition form x.scope)) (goal_of shown)))
     × (step_flags before (step_script step rest) x.scope x.facts ≡ flags_of before (script_of inner.value) (grown x.scope superposing.sorts_copied) (joined_all x.facts (superposing.gives_of_superposition form x.scope)) (goal_of shown))
 superposed_inside before step form names shown certs inner x rest is =
     let e = ap (λ s. step_script s rest) is ∙ step_script-Superposed form names shown certs inner rest in
     (ap (λ d. inside_of before d x.scope x.facts) e, ap (λ d. step_flags before d x.scope x.facts) e)
 
-pub inside_wants : (before : List StatementView) (step : Step) (x : Standing) (old mid inside new : Wants) → LineWants before step x old mid → ((rest : Script) → inside_of before (step_script step rest) x.scope x.facts ≡ inside) → new ≡ both mid inside
+pub inside_wants : (before : List StatementView) (step : Step) (x : StepState) (old mid inside new : Wants) → LineWants before step x old mid → ((rest : Script) → inside_of before (step_script step rest) x.scope x.facts ≡ inside) → new ≡ both mid inside
     → StepWants before step x old new
 inside_wants before step x old mid inside new h i e rest goal =
     let line = of_line before (line_at (step_script step rest) x.scope x.facts goal) in
     e ∙ ap (λ v. both v inside) (h rest goal) ∙ both-assoc old line inside ∙ ap (λ v. both old (both line v)) (sym (i rest))
 
-pub inside_flags : (before : List StatementView) (step : Step) (x : Standing) (old inside new : List Bool) → ((rest : Script) → step_flags before (step_script step rest) x.scope x.facts ≡ inside) → new ≡ old ++ inside → StepFlags before step x old new
+pub inside_flags : (before : List StatementView) (step : Step) (x : StepState) (old inside new : List Bool) → ((rest : Script) → step_flags before (step_script step rest) x.scope x.facts ≡ inside) → new ≡ old ++ inside → StepFlags before step x old new
 inside_flags before step x old inside new i e rest = e ∙ ap (λ xs. old ++ xs) (sym (i rest))
 
 -- ---- closes
@@ -203,7 +203,7 @@ few_copies sorts e = let n : length sorts ≡ 2 = ap length e in omega (arith, n
 
 -- ---- one of several forms
 
-pub plain_of : (before : List StatementView) (step : Step) (x : Standing)
+pub plain_of : (before : List StatementView) (step : Step) (x : StepState)
     → ((by : By) × (step ≡ CiteStep by))
     ⊎ (((lit : Lit) × (cert : Option Cert) × (step ≡ HenceStep lit cert))
     ⊎ (((form : Construction) × (names : List (List ℕ)) × (certs : List Cert) × (step ≡ MakeStep form names certs))

@@ -32,9 +32,9 @@ use Rattle.e_deriv.proofs.Smallness.{few_of_small, few_objects}
 use Rattle.e_deriv.proofs.Scripts.{steps_script-append, step_script-Claim, step_script-Superposed}
 use Rattle.e_trim.specs.Trimmed.{makes_at, is_kept, wants, trimmed_from}
 use Rattle.e_trim.specs.inner.Flags.{flag, flags_of, step_flags}
-use Rattle.e_trim.specs.inner.Standing.{FewKept, passed}
+use Rattle.e_trim.specs.inner.StepState.{FewKept, passed}
 use Rattle.e_trim.specs.inner.Building.{AreSmall, IsSmallStep, TakesFlag, IsBuilt, StepIsBuilt, CloseIsBuilt, BlockIsBuilt, kept_step}
-use Rattle.e_trim.specs.declared.standing.Standing.{Standing}
+use Rattle.e_trim.specs.declared.step_state.StepState.{StepState}
 use Rattle.e_trim.proofs.StepForms.{inner_test, all_parts, cases_parts, flags_step, trimmed_step}
 
 -- ---- the pile
@@ -72,7 +72,7 @@ none_taken pile left kept e under inner false h =
 -- ---- a step
 
 -- the flags behind a step and its own lie over the others
-over_step : (before : List StatementView) (step : Step) (rest : Script) (x : Standing) (goal : Goal) (pile under : List Bool) → pile ≡ under ++ flags_of before (step_script step rest) x.scope x.facts goal
+over_step : (before : List StatementView) (step : Step) (rest : Script) (x : StepState) (goal : Goal) (pile under : List Bool) → pile ≡ under ++ flags_of before (step_script step rest) x.scope x.facts goal
     → pile
     ≡ (under ++ flags_of before rest (passed before (step_script step rest) x).scope (passed before (step_script step rest) x).facts goal)
     ++ flag (is_kept before (step_script step rest) x.scope x.facts (wants before rest (passed before (step_script step rest) x).scope (passed before (step_script step rest) x).facts goal))
@@ -91,7 +91,7 @@ pub built_dropped : (before : List StatementView) (kept : List Obj) (step : Step
     → TakesFlag pile popped flagged → flagged ≡ false → IsBuilt before kept rest (wide before step rest s) popped left done now close
     → IsBuilt before kept (step_script step rest) s pile left done now close
 built_dropped before kept step rest s pile popped left flagged done now close takes off built facts goal under e =
-    let x : Standing = record { scope = s; facts = facts } in
+    let x : StepState = record { scope = s; facts = facts } in
     let here = step_script step rest in
     let after = passed before here x in
     let own = is_kept before here s facts (wants before rest after.scope after.facts goal) in
@@ -109,7 +109,7 @@ pub built_kept : (before : List StatementView) (kept : List Obj) (step : Step) (
     → IsBuilt before (kept ++ next_objects s (makes_at before (step_script step rest))) rest (wide before step rest s) over left (done ++ new ∷ []) now close
     → IsBuilt before kept (step_script step rest) s pile left done now close
 built_kept before kept step rest s pile popped over left flagged done now new close takes on own_built built facts goal under e =
-    let x : Standing = record { scope = s; facts = facts } in
+    let x : StepState = record { scope = s; facts = facts } in
     let here = step_script step rest in
     let after = passed before here x in
     let own = is_kept before here s facts (wants before rest after.scope after.facts goal) in
@@ -137,16 +137,16 @@ built_block before kept d s pile left block built = built
 
 pub small_rest : (before : List StatementView) (step : Step) (rest : Script) (s : Scope) → AreSmall before (step_script step rest) s → AreSmall before rest (wide before step rest s)
 small_rest before step rest s r =
-    let x : Standing = record { scope = s; facts = r.facts } in
+    let x : StepState = record { scope = s; facts = r.facts } in
     record { facts = (passed before (step_script step rest) x).facts; goal = r.goal; small = (all_parts (λ y. is_small y.scope) before step rest x r.goal r.small).2 }
 
 pub small_here : (before : List StatementView) (step : Step) (rest : Script) (s : Scope) → AreSmall before (step_script step rest) s → is_small s ≡ true
 small_here before step rest s r =
-    let x : Standing = record { scope = s; facts = r.facts } in (all_parts (λ y. is_small y.scope) before step rest x r.goal r.small).0
+    let x : StepState = record { scope = s; facts = r.facts } in (all_parts (λ y. is_small y.scope) before step rest x r.goal r.small).0
 
 pub small_claim : (before : List StatementView) (shown : List Lit) (inner : Box Block Global) (s : Scope) → IsSmallStep before (ClaimBlock shown inner) s → AreSmall before (script_of inner.value) s
 small_claim before shown inner s r =
-    let x : Standing = record { scope = s; facts = r.small.facts } in
+    let x : StepState = record { scope = s; facts = r.small.facts } in
     let e = step_script-Claim shown inner r.rest in
     record {
       facts = r.small.facts;
@@ -157,7 +157,7 @@ small_claim before shown inner s r =
 pub small_superposed : (before : List StatementView) (form : Superpose) (names : List (List ℕ)) (shown : List Lit) (certs : List Cert) (inner : Box Block Global) (s : Scope) → IsSmallStep before (SuperposedBlock form names shown certs inner) s
     → AreSmall before (script_of inner.value) (grown s superposing.sorts_copied)
 small_superposed before form names shown certs inner s r =
-    let x : Standing = record { scope = s; facts = r.small.facts } in
+    let x : StepState = record { scope = s; facts = r.small.facts } in
     let step = SuperposedBlock form names shown certs inner in
     let e = step_script-Superposed form names shown certs inner r.rest in
     record {

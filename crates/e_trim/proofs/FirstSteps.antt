@@ -12,7 +12,7 @@ use Rattle.e_deriv.specs.declared.block.Step.{Step}
 use Rattle.e_deriv.specs.Script.{Script, step_script, steps_script}
 use Rattle.e_deriv.specs.Fitting.{is_small, is_small_statement}
 use Rattle.e_trim.specs.Trimmed.{makes_at}
-use Rattle.e_trim.specs.inner.Standing.{FewKept}
+use Rattle.e_trim.specs.inner.StepState.{FewKept}
 use Rattle.e_trim.specs.inner.Building.{AreSmall, IsSmallStep, TakesFlag, IsBuilt, StepIsBuilt}
 use Rattle.e_trim.proofs.BuiltSteps.{built_dropped, built_kept, small_rest, small_here, few_makes, room, few_wide, few_more}
 

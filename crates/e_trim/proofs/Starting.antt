@@ -22,9 +22,9 @@ use Rattle.e_deriv.proofs.Smallness.{few_objects}
 use Rattle.e_trim.specs.Trimmable.{IsTrimmable}
 use Rattle.e_trim.specs.Laws.{TrimmedIsCertified}
 use Rattle.e_trim.specs.Trimmed.{declared_of, trimmed, trimmed_from}
-use Rattle.e_trim.specs.declared.standing.Standing.{Standing}
+use Rattle.e_trim.specs.declared.step_state.StepState.{StepState}
 use Rattle.e_trim.specs.inner.Flags.{flags_of}
-use Rattle.e_trim.specs.inner.Standing.{IsReady, FewKept, start_of}
+use Rattle.e_trim.specs.inner.StepState.{IsReady, FewKept, start_of}
 use Rattle.e_trim.specs.inner.Building.{AreSmall, BlockIsBuilt}
 use Rattle.e_trim.proofs.BuiltSteps.{few_more}
 
@@ -93,11 +93,11 @@ start_few t kept s k e = subst (FewKept s) (sym k) (subst (λ x. FewKept x (decl
 pub start_small : (before : List StatementView) (t : StatementView) (d : Script) (s : Scope) → s ≡ scope_of t → IsTrimmable before t d → AreSmall before d s
 start_small before t d s e h = subst (AreSmall before d) (sym e) (whole_small before t d h)
 
-pub start_ready : (before : List StatementView) (t : StatementView) (d : Script) (x : Standing) (goal : Goal) → x ≡ start_of t → goal ≡ goal_of_statement t → IsTrimmable before t d → IsReady before d x.scope x.facts goal
+pub start_ready : (before : List StatementView) (t : StatementView) (d : Script) (x : StepState) (goal : Goal) → x ≡ start_of t → goal ≡ goal_of_statement t → IsTrimmable before t d → IsReady before d x.scope x.facts goal
 start_ready before t d x goal e g h =
-    subst (λ y. IsReady before d x.scope x.facts y) (sym g) (subst (λ (y : Standing). IsReady before d y.scope y.facts (goal_of_statement t)) (sym e) (whole_ready before t d h))
+    subst (λ y. IsReady before d x.scope x.facts y) (sym g) (subst (λ (y : StepState). IsReady before d y.scope y.facts (goal_of_statement t)) (sym e) (whole_ready before t d h))
 
-pub start_flags : (before : List StatementView) (t : StatementView) (d : Script) (x : Standing) (goal : Goal) (none flags : List Bool) → x ≡ start_of t → goal ≡ goal_of_statement t → none ≡ [] → flags ≡ none ++ flags_of before d x.scope x.facts goal
+pub start_flags : (before : List StatementView) (t : StatementView) (d : Script) (x : StepState) (goal : Goal) (none flags : List Bool) → x ≡ start_of t → goal ≡ goal_of_statement t → none ≡ [] → flags ≡ none ++ flags_of before d x.scope x.facts goal
     → flags ≡ flags_of before d (scope_of t) (start_of t).facts (goal_of_statement t)
 start_flags before t d x goal none flags e g z f =
-    f ∙ ap (λ xs. xs ++ flags_of before d x.scope x.facts goal) z ∙ ap (λ (y : Standing). flags_of before d y.scope y.facts goal) e ∙ ap (flags_of before d (scope_of t) (facts_of_statement t)) g
+    f ∙ ap (λ xs. xs ++ flags_of before d x.scope x.facts goal) z ∙ ap (λ (y : StepState). flags_of before d y.scope y.facts goal) e ∙ ap (flags_of before d (scope_of t) (facts_of_statement t)) g

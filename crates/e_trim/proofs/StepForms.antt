@@ -29,9 +29,9 @@ use Rattle.e_deriv.proofs.Keeping.{stay_on, stay_all, no_fewer}
 use Rattle.e_deriv.proofs.Scripts.{step_script-Claim, step_script-Superposed, close_script-Cases}
 use Rattle.e_trim.specs.Trimmed.{lit_at, cert_at, by_at, joins_at, makes_at, is_kept, line_at, with_step, wants, trimmed_from}
 use Rattle.e_trim.specs.inner.Flags.{flag, flags_of, inside_of, step_flags}
-use Rattle.e_trim.specs.inner.Standing.{IsReady, IsReadyStep, StepFits, KeepsFacts, passed, outer_of, left_for}
+use Rattle.e_trim.specs.inner.StepState.{IsReady, IsReadyStep, StepFits, KeepsFacts, passed, outer_of, left_for}
 use Rattle.e_trim.specs.inner.Building.{kept_step}
-use Rattle.e_trim.specs.declared.standing.Standing.{Standing}
+use Rattle.e_trim.specs.declared.step_state.StepState.{StepState}
 
 -- ---- lines
 
@@ -42,13 +42,13 @@ inner_test p before (Superposed form names shown certs inner rest) s facts =
     list_all p (lines before inner inner (grown s superposing.sorts_copied) (joined_all facts (superposing.gives_of_superposition form s)) (goal_of shown))
 inner_test p before d s facts = true
 
-abbrev lines_test : (Line → Bool) → List StatementView → Script → Standing → Goal → Bool
+abbrev lines_test : (Line → Bool) → List StatementView → Script → StepState → Goal → Bool
 lines_test p before d x goal = list_all p (lines before d d x.scope x.facts goal)
 
 both_lists : (p : Line → Bool) (b : Bool) (xs ys : List Line) → (b && list_all p (xs ++ ys)) ≡ (b && (list_all p xs && list_all p ys))
 both_lists p b xs ys = ap (λ c. b && c) (list_all-append p xs ys)
 
-pub step_lines : (p : Line → Bool) (before : List StatementView) (step : Step) (rest : Script) (x : Standing) (goal : Goal)
+pub step_lines : (p : Line → Bool) (before : List StatementView) (step : Step) (rest : Script) (x : StepState) (goal : Goal)
     → lines_test p before (step_script step rest) x goal
     ≡ (p (line_at (step_script step rest) x.scope x.facts goal)
     && (inner_test p before (step_script step rest) x.scope x.facts && lines_test p before rest (passed before (step_script step rest) x) goal))
@@ -66,28 +66,28 @@ step_lines p before (SuperposedStep form names shown certs p0 n0 row0 close0) re
     (lines before rest rest x.scope (joined_all x.facts shown) goal)
 
 -- all of a step's lines are so: its own, those of its block, and those behind it
-pub all_parts : (p : Line → Bool) (before : List StatementView) (step : Step) (rest : Script) (x : Standing) (goal : Goal) → lines_test p before (step_script step rest) x goal ≡ true
+pub all_parts : (p : Line → Bool) (before : List StatementView) (step : Step) (rest : Script) (x : StepState) (goal : Goal) → lines_test p before (step_script step rest) x goal ≡ true
     → (p (line_at (step_script step rest) x.scope x.facts goal) ≡ true) × (inner_test p before (step_script step rest) x.scope x.facts ≡ true) × (lines_test p before rest (passed before (step_script step rest) x) goal ≡ true)
 all_parts p before step rest x goal h =
     let a = and_parts (p (line_at (step_script step rest) x.scope x.facts goal)) (inner_test p before (step_script step rest) x.scope x.facts && lines_test p before rest (passed before (step_script step rest) x) goal) (sym (step_lines p before step rest x goal) ∙ h) in
     let b = and_parts (inner_test p before (step_script step rest) x.scope x.facts) (lines_test p before rest (passed before (step_script step rest) x) goal) a.1 in
     (a.0, b.0, b.1)
 
-pub ready_rest : (before : List StatementView) (step : Step) (rest : Script) (x : Standing) (goal : Goal) → IsReady before (step_script step rest) x.scope x.facts goal
+pub ready_rest : (before : List StatementView) (step : Step) (rest : Script) (x : StepState) (goal : Goal) → IsReady before (step_script step rest) x.scope x.facts goal
     → IsReady before rest (passed before (step_script step rest) x).scope (passed before (step_script step rest) x).facts goal
 ready_rest before step rest x goal r = record {
   forms = (all_parts (fits before) before step rest x goal r.forms).2;
   scopes = (all_parts (λ y. is_small y.scope) before step rest x goal r.scopes).2;
 }
 
-pub ready_fits : (before : List StatementView) (step : Step) (rest : Script) (x : Standing) (goal : Goal) → IsReady before (step_script step rest) x.scope x.facts goal → StepFits before step x.scope
+pub ready_fits : (before : List StatementView) (step : Step) (rest : Script) (x : StepState) (goal : Goal) → IsReady before (step_script step rest) x.scope x.facts goal → StepFits before step x.scope
 ready_fits before step rest x goal r = record { rest = rest; goal = goal; fits = (all_parts (fits before) before step rest x goal r.forms).0 }
 
-pub ready_small : (before : List StatementView) (step : Step) (rest : Script) (x : Standing) (goal : Goal) → IsReady before (step_script step rest) x.scope x.facts goal → is_small x.scope ≡ true
+pub ready_small : (before : List StatementView) (step : Step) (rest : Script) (x : StepState) (goal : Goal) → IsReady before (step_script step rest) x.scope x.facts goal → is_small x.scope ≡ true
 ready_small before step rest x goal r = (all_parts (λ y. is_small y.scope) before step rest x goal r.scopes).0
 
 -- the block inside of a claim, and that of a superposition
-pub claim_ready : (before : List StatementView) (shown : List Lit) (inner : Box Block Global) (x : Standing) → IsReadyStep before (ClaimBlock shown inner) x → IsReady before (script_of inner.value) x.scope x.facts (goal_of shown)
+pub claim_ready : (before : List StatementView) (shown : List Lit) (inner : Box Block Global) (x : StepState) → IsReadyStep before (ClaimBlock shown inner) x → IsReady before (script_of inner.value) x.scope x.facts (goal_of shown)
 claim_ready before shown inner x r =
     let e = step_script-Claim shown inner r.rest in
     record {
@@ -95,7 +95,7 @@ claim_ready before shown inner x r =
       scopes = subst (λ d. inner_test (λ y. is_small y.scope) before d x.scope x.facts ≡ true) e (all_parts (λ y. is_small y.scope) before (ClaimBlock shown inner) r.rest x r.goal r.ready.scopes).1;
     }
 
-pub superposed_ready : (before : List StatementView) (form : Superpose) (names : List (List ℕ)) (shown : List Lit) (certs : List Cert) (inner : Box Block Global) (x : Standing) → IsReadyStep before (SuperposedBlock form names shown certs inner) x
+pub superposed_ready : (before : List StatementView) (form : Superpose) (names : List (List ℕ)) (shown : List Lit) (certs : List Cert) (inner : Box Block Global) (x : StepState) → IsReadyStep before (SuperposedBlock form names shown certs inner) x
     → IsReady before (script_of inner.value) (grown x.scope superposing.sorts_copied) (joined_all x.facts (superposing.gives_of_superposition form x.scope)) (goal_of shown)
 superposed_ready before form names shown certs inner x r =
     let step = SuperposedBlock form names shown certs inner in
@@ -138,7 +138,7 @@ cases_ready before lit first second s facts goal r =
 
 -- ---- what is wanted from a step on
 
-pub wants_step : (before : List StatementView) (step : Step) (rest : Script) (x : Standing) (goal : Goal)
+pub wants_step : (before : List StatementView) (step : Step) (rest : Script) (x : StepState) (goal : Goal)
     → wants before (step_script step rest) x.scope x.facts goal
     ≡ with_step before (step_script step rest) x.scope x.facts goal (inside_of before (step_script step rest) x.scope x.facts)
     (wants before rest (passed before (step_script step rest) x).scope (passed before (step_script step rest) x).facts goal)
@@ -152,7 +152,7 @@ wants_step before (SuperposedStep form names shown certs p0 n0 row0 close0) rest
 
 -- ---- its flags
 
-pub flags_step : (before : List StatementView) (step : Step) (rest : Script) (x : Standing) (goal : Goal)
+pub flags_step : (before : List StatementView) (step : Step) (rest : Script) (x : StepState) (goal : Goal)
     → flags_of before (step_script step rest) x.scope x.facts goal
     ≡ flags_of before rest (passed before (step_script step rest) x).scope (passed before (step_script step rest) x).facts goal
     ++ flag (is_kept before (step_script step rest) x.scope x.facts (wants before rest (passed before (step_script step rest) x).scope (passed before (step_script step rest) x).facts goal))
@@ -168,7 +168,7 @@ flags_step before (SuperposedStep form names shown certs p0 n0 row0 close0) rest
 -- ---- what is left of it
 
 -- the kept step with what is left behind it, or that alone
-abbrev pub left_of : List StatementView → List Obj → Script → Script → Standing → Goal → Script
+abbrev pub left_of : List StatementView → List Obj → Script → Script → StepState → Goal → Script
 left_of before kept here rest x goal =
     let after = passed before here x in
     cond (is_kept before here x.scope x.facts (wants before rest after.scope after.facts goal))
@@ -179,7 +179,7 @@ left_of before kept here rest x goal =
 no_more : (kept : List Obj) (left : List Obj → Script) (other : Script) (b : Bool) → cond b (left kept) other ≡ cond b (left (kept ++ [])) other
 no_more kept left other b = ap (λ ks. cond b (left ks) other) (sym (append-nil kept))
 
-pub trimmed_step : (before : List StatementView) (kept : List Obj) (step : Step) (rest : Script) (x : Standing) (goal : Goal)
+pub trimmed_step : (before : List StatementView) (kept : List Obj) (step : Step) (rest : Script) (x : StepState) (goal : Goal)
     → trimmed_from before kept (step_script step rest) x.scope x.facts goal ≡ left_of before kept (step_script step rest) rest x goal
 unfolding trimmed_from step_script
 trimmed_step before kept (CiteStep by) rest x goal =
@@ -202,15 +202,15 @@ trimmed_step before kept (SuperposedStep form names shown certs p0 n0 row0 close
 
 -- ---- the facts stay
 
-pub passed_keeps : (before : List StatementView) (here : Script) (x : Standing) → KeepsFacts x (passed before here x)
+pub passed_keeps : (before : List StatementView) (here : Script) (x : StepState) → KeepsFacts x (passed before here x)
 passed_keeps before here x = stay_all x.facts (joins_at before here x.scope)
 
-pub keeps_on : (x y z : Standing) → KeepsFacts x y → KeepsFacts y z → KeepsFacts x z
+pub keeps_on : (x y z : StepState) → KeepsFacts x y → KeepsFacts y z → KeepsFacts x z
 keeps_on x y z h k = stay_on x.facts y.facts z.facts h k
 
-pub keeps_enough : (x y : Standing) → KeepsFacts x y → length x.facts ≤ length y.facts
+pub keeps_enough : (x y : StepState) → KeepsFacts x y → length x.facts ≤ length y.facts
 keeps_enough x y h = no_fewer x.facts y.facts h
 
 -- back to where it was
-pub left_back : (x y : Standing) → KeepsFacts x y → left_for (outer_of x) y ≡ x
+pub left_back : (x y : StepState) → KeepsFacts x y → left_for (outer_of x) y ≡ x
 left_back x y h = ap (λ fs. record { scope = x.scope; facts = fs }) h

@@ -36,7 +36,7 @@ use Rattle.e_deriv.proofs.Smallness.{few_of_small, few_objects}
 use Rattle.e_deriv.proofs.Scripts.{scripts, step_script-Claim, step_script-Superposed, close_script-Cases}
 use Rattle.e_trim.specs.Looked.{Wants, both, of_line}
 use Rattle.e_trim.specs.Trimmed.{joins_at, makes_at, line_at}
-use Rattle.e_trim.specs.inner.Standing.{StepFits, CloseFits, IsApplied}
+use Rattle.e_trim.specs.inner.StepState.{StepFits, CloseFits, IsApplied}
 use Rattle.e_trim.proofs.Pairs.{sorts}
 use Rattle.e_trim.proofs.FormsOfSteps.{sorts_are}
 use Rattle.e_trim.proofs.BuiltSteps.{few_makes}

@@ -1,4 +1,4 @@
-// The trimmed block: the kept steps and the close, over the kept objects.
+//! The trimmed block: the kept steps and the close, over the kept objects.
 
 ghost use Rattle.std.specs.Prelude.{◌≡◌, ◌++◌, ◌<◌, ◌^◌, length, map, IfOk, IsTrue, List};
 ghost use Rattle.std.specs.List.{list_all};
@@ -8,7 +8,7 @@ ghost use Rattle.e_theorem.specs.Statements.{all_stated};
 ghost use Rattle.e_deriv.specs.Fitting.{is_small, is_small_statement};
 ghost use Rattle.e_deriv.specs.Script.{script_of, steps_script, step_script, close_script};
 ghost use Rattle.e_trim.specs.Trimmed;
-ghost use Rattle.e_trim.specs.inner.Standing.{FewKept};
+ghost use Rattle.e_trim.specs.inner.StepState.{FewKept};
 ghost use Rattle.e_trim.specs.inner.Building.{AreSmall, IsSmallStep, TakesFlag, IsBuilt, StepIsBuilt, CloseIsBuilt, BlockIsBuilt};
 
 use crate::numbering::{
@@ -81,7 +81,8 @@ fn take_flag(flags: &mut Vec<bool>) -> bool
     }
 }
 
-/// Puts the kept ones of the steps after those that are there, and gives the close. The flags are taken from the pile.
+/// Puts the kept ones of the steps after those that are there, and gives the close. The flags are
+/// taken from the pile.
 #[cycle(build)]
 fn build(
     alloc: Global,

@@ -1,4 +1,4 @@
-// The instances of rules, and the literals of which one follows.
+//! The instances of rules, and the literals of which one follows.
 
 ghost use Rattle.std.specs.Prelude.{◌≡◌, IfOk, map};
 ghost use Rattle.std.specs.Option.{option_map};

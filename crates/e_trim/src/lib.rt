@@ -1,5 +1,6 @@
-//! Trimming: a derivation without the steps that nothing needs, and the earlier theorems that a derivation applies. Nothing is searched
-//! for, and nothing is certified anew: what is left keeps its certificates.
+//! Trimming: a derivation without the steps that nothing needs, and the earlier theorems that a
+//! derivation applies. Nothing is searched for, and nothing is certified anew: what is left keeps
+//! its certificates.
 #![tactic(auto)]
 
 mod building;
@@ -9,7 +10,7 @@ mod looked;
 mod looking;
 mod noting;
 mod numbering;
-mod standing;
+mod step_state;
 mod steps;
 mod trimming;
 mod wanted;

@@ -1,4 +1,4 @@
-// What certificates look up among the facts, and which objects they name.
+//! What certificates look up among the facts, and which objects they name.
 
 ghost use Rattle.std.specs.Prelude.{◌≡◌, IfOk, OnOk, List, map};
 ghost use Rattle.std.specs.List.{list_any};
@@ -26,7 +26,7 @@ fn is_among(sum: &[Mono], term: Term) -> bool
 }
 
 /// Whether the term is in the literal, as it is written.
-#[tactic(auto, using(crate::proofs::TermsWritten::standing))]
+#[tactic(auto, using(crate::proofs::TermsWritten::state))]
 fn has_written(lit: &Lit, term: Term) -> bool
     ensures { result ≡ has_written term lit.now }
 {

@@ -1,4 +1,4 @@
-// Which steps are kept: from the close backwards, by what is wanted after each.
+//! Which steps are kept: from the close backwards, by what is wanted after each.
 
 ghost use Rattle.std.specs.Prelude.{◌≡◌, ◌++◌, ◌<◌, ◌^◌, IfOk, OnOk, IsTrue, length};
 ghost use Rattle.std.specs.List.{list_all};
@@ -9,9 +9,9 @@ ghost use Rattle.e_deriv.specs.Fitting.{is_small, is_small_statement};
 ghost use Rattle.e_deriv.specs.Script.{script_of, steps_script, close_script};
 ghost use Rattle.e_trim.specs.Trimmed.{outside, wants};
 ghost use Rattle.e_trim.specs.inner.Flags.{flags_of};
-ghost use Rattle.e_trim.specs.inner.Standing.{IsReady, IsReadyStep, StepAdds, FlagsAdded, StepWants, StepFlags, KeepsFacts, goal_said};
+ghost use Rattle.e_trim.specs.inner.StepState.{IsReady, IsReadyStep, StepAdds, FlagsAdded, StepWants, StepFlags, KeepsFacts, goal_said};
 
-use crate::standing::{Goal, Standing};
+use crate::step_state::{Goal, StepState};
 use crate::steps::{is_kept, look_close, look_step, pass};
 use crate::wanted::Wanted;
 use e_construct::Superpose;
@@ -21,7 +21,8 @@ use e_theorem::Statement;
 use std::alloc::{AllocError, Global};
 use std::mem;
 
-/// What the kept ones of the steps, and the close, look up and need. The flags of the steps are put onto the pile: whether each is kept.
+/// What the kept ones of the steps, and the close, look up and need. The flags of the steps are put
+/// onto the pile: whether each is kept.
 #[cycle(look)]
 pub fn look(
     alloc: Global,
@@ -29,49 +30,50 @@ pub fn look(
     steps: &[Step],
     close: &Close,
     goal: &Goal,
-    standing: &mut Standing,
+    state: &mut StepState,
     flags: &mut Vec<bool>,
 ) -> Result<Wanted, AllocError>
-    requires ready { IsReady (all_stated before.now) (steps_script steps.now (close_script close.now)) standing.old.scope standing.old.facts (goal_said goal.now) }
+    requires ready { IsReady (all_stated before.now) (steps_script steps.now (close_script close.now)) state.old.scope state.old.facts (goal_said goal.now) }
     requires statements { IsTrue (list_all is_small_statement (all_stated before.now)) }
-    ensures wanted { IfOk result (λ w. w ≡ wants (all_stated before.now) (steps_script steps.now (close_script close.now)) standing.old.scope standing.old.facts (goal_said goal.now)) }
-    ensures flags { OnOk result (flags.new.items ≡ flags.old.items ++ flags_of (all_stated before.now) (steps_script steps.now (close_script close.now)) standing.old.scope standing.old.facts (goal_said goal.now)) }
-    ensures kept { OnOk result (KeepsFacts standing.old standing.new) }
+    ensures wanted { IfOk result (λ w. w ≡ wants (all_stated before.now) (steps_script steps.now (close_script close.now)) state.old.scope state.old.facts (goal_said goal.now)) }
+    ensures flags { OnOk result (flags.new.items ≡ flags.old.items ++ flags_of (all_stated before.now) (steps_script steps.now (close_script close.now)) state.old.scope state.old.facts (goal_said goal.now)) }
+    ensures kept { OnOk result (KeepsFacts state.old state.new) }
 {
     match steps {
-        [] => look_at_close(alloc, before, close, goal, standing, flags),
+        [] => look_at_close(alloc, before, close, goal, state, flags),
         [step, steps @ ..] => {
-            let outer = standing.enter();
-            pass(alloc, before, step, standing)?;
-            let mut wanted = look(alloc, before, steps, close, goal, standing, flags)?;
-            standing.leave(outer);
-            look_back(alloc, before, step, standing, flags, &mut wanted)?;
+            let outer = state.hold();
+            pass(alloc, before, step, state)?;
+            let mut wanted = look(alloc, before, steps, close, goal, state, flags)?;
+            state.release(outer);
+            look_back(alloc, before, step, state, flags, &mut wanted)?;
             Ok(wanted)
         }
     }
 }
 
-/// Whether the step is kept, where this is wanted after it: its flag is put onto the pile, and what it wants is wanted too.
+/// Whether the step is kept, where this is wanted after it: its flag is put onto the pile, and what
+/// it wants is wanted too.
 #[cycle(look)]
 fn look_back(
     alloc: Global,
     before: &[Statement],
     step: &Step,
-    standing: &mut Standing,
+    state: &mut StepState,
     flags: &mut Vec<bool>,
     out: &mut Wanted,
 ) -> Result<(), AllocError>
-    requires ready { IsReadyStep (all_stated before.now) step.now standing.old }
+    requires ready { IsReadyStep (all_stated before.now) step.now state.old }
     requires statements { IsTrue (list_all is_small_statement (all_stated before.now)) }
-    ensures wanted { OnOk result (StepAdds (all_stated before.now) step.now standing.old out.old out.new) }
-    ensures flags { OnOk result (FlagsAdded (all_stated before.now) step.now standing.old out.old flags.old.items flags.new.items) }
-    ensures kept { OnOk result (KeepsFacts standing.old standing.new) }
+    ensures wanted { OnOk result (StepAdds (all_stated before.now) step.now state.old out.old out.new) }
+    ensures flags { OnOk result (FlagsAdded (all_stated before.now) step.now state.old out.old flags.old.items flags.new.items) }
+    ensures kept { OnOk result (KeepsFacts state.old state.new) }
 {
-    if !is_kept(alloc, before, step, standing, out)? {
+    if !is_kept(alloc, before, step, state, out)? {
         flags.push(false)?;
         return Ok(());
     }
-    look_at_step(alloc, before, step, standing, flags, out)?;
+    look_at_step(alloc, before, step, state, flags, out)?;
     flags.push(true)?;
     Ok(())
 }
@@ -82,17 +84,17 @@ fn look_at_step(
     alloc: Global,
     before: &[Statement],
     step: &Step,
-    standing: &mut Standing,
+    state: &mut StepState,
     flags: &mut Vec<bool>,
     out: &mut Wanted,
 ) -> Result<(), AllocError>
-    requires ready { IsReadyStep (all_stated before.now) step.now standing.old }
+    requires ready { IsReadyStep (all_stated before.now) step.now state.old }
     requires statements { IsTrue (list_all is_small_statement (all_stated before.now)) }
-    ensures wanted { OnOk result (StepWants (all_stated before.now) step.now standing.old out.old out.new) }
-    ensures flags { OnOk result (StepFlags (all_stated before.now) step.now standing.old flags.old.items flags.new.items) }
-    ensures kept { OnOk result (KeepsFacts standing.old standing.new) }
+    ensures wanted { OnOk result (StepWants (all_stated before.now) step.now state.old out.old out.new) }
+    ensures flags { OnOk result (StepFlags (all_stated before.now) step.now state.old flags.old.items flags.new.items) }
+    ensures kept { OnOk result (KeepsFacts state.old state.new) }
 {
-    look_step(alloc, before, step, standing, out)?;
+    look_step(alloc, before, step, state, out)?;
     match step {
         Step::Cite(_) | Step::Hence { .. } | Step::Make { .. } | Step::Apply { .. } => Ok(()),
         Step::Claim { shown, inner } => {
@@ -100,7 +102,7 @@ fn look_at_step(
                 made: &[],
                 shown: shown.items(),
             };
-            let inside = look_inside(alloc, before, inner, &goal, standing, flags, &[], &[])?;
+            let inside = look_inside(alloc, before, inner, &goal, state, flags, &[], &[])?;
             out.append(inside)
         }
         Step::Superposed {
@@ -113,74 +115,76 @@ fn look_at_step(
                 made: &[],
                 shown: shown.items(),
             };
-            let given = form.gives(alloc, standing.scope)?;
+            let given = form.gives(alloc, state.scope)?;
             let made = form.made();
-            let inside = look_inside(alloc, before, inner, &goal, standing, flags, made, &given)?;
+            let inside = look_inside(alloc, before, inner, &goal, state, flags, made, &given)?;
             out.append(inside)
         }
     }
 }
 
-/// What the block looks up and needs outside of it, where it begins with these objects and literals too.
+/// What the block looks up and needs outside of it, where it begins with these objects and literals
+/// too.
 #[cycle(look)]
 fn look_inside(
     alloc: Global,
     before: &[Statement],
     block: &Block,
     goal: &Goal,
-    standing: &mut Standing,
+    state: &mut StepState,
     flags: &mut Vec<bool>,
     sorts: &[Sort],
     lits: &[Lit],
 ) -> Result<Wanted, AllocError>
-    requires small { IsTrue (is_small standing.old.scope) }
+    requires small { IsTrue (is_small state.old.scope) }
     requires few { length sorts.now < 2 ^ 15 }
-    requires ready { IsReady (all_stated before.now) (script_of block.now) (grown standing.old.scope sorts.now) (joined_all standing.old.facts lits.now) (goal_said goal.now) }
+    requires ready { IsReady (all_stated before.now) (script_of block.now) (grown state.old.scope sorts.now) (joined_all state.old.facts lits.now) (goal_said goal.now) }
     requires statements { IsTrue (list_all is_small_statement (all_stated before.now)) }
-    ensures wanted { IfOk result (λ w. w ≡ outside standing.old.scope standing.old.facts (wants (all_stated before.now) (script_of block.now) (grown standing.old.scope sorts.now) (joined_all standing.old.facts lits.now) (goal_said goal.now))) }
-    ensures flags { OnOk result (flags.new.items ≡ flags.old.items ++ flags_of (all_stated before.now) (script_of block.now) (grown standing.old.scope sorts.now) (joined_all standing.old.facts lits.now) (goal_said goal.now)) }
-    ensures same { OnOk result (standing.new ≡ standing.old) }
+    ensures wanted { IfOk result (λ w. w ≡ outside state.old.scope state.old.facts (wants (all_stated before.now) (script_of block.now) (grown state.old.scope sorts.now) (joined_all state.old.facts lits.now) (goal_said goal.now))) }
+    ensures flags { OnOk result (flags.new.items ≡ flags.old.items ++ flags_of (all_stated before.now) (script_of block.now) (grown state.old.scope sorts.now) (joined_all state.old.facts lits.now) (goal_said goal.now)) }
+    ensures same { OnOk result (state.new ≡ state.old) }
 {
-    let outer = standing.enter();
-    standing.open(alloc, sorts, lits)?;
+    let outer = state.hold();
+    state.open(alloc, sorts, lits)?;
     let inside = look(
         alloc,
         before,
         &block.steps,
         &block.close,
         goal,
-        standing,
+        state,
         flags,
     )?;
-    standing.leave(outer);
-    inside.outside(alloc, standing)
+    state.release(outer);
+    inside.outside(alloc, state)
 }
 
-/// What a close looks up and needs, with the blocks inside of it. The flags of the second block are put onto the pile first.
+/// What a close looks up and needs, with the blocks inside of it. The flags of the second block are
+/// put onto the pile first.
 #[cycle(look)]
 fn look_at_close(
     alloc: Global,
     before: &[Statement],
     close: &Close,
     goal: &Goal,
-    standing: &mut Standing,
+    state: &mut StepState,
     flags: &mut Vec<bool>,
 ) -> Result<Wanted, AllocError>
-    requires ready { IsReady (all_stated before.now) (close_script close.now) standing.old.scope standing.old.facts (goal_said goal.now) }
+    requires ready { IsReady (all_stated before.now) (close_script close.now) state.old.scope state.old.facts (goal_said goal.now) }
     requires statements { IsTrue (list_all is_small_statement (all_stated before.now)) }
-    ensures wanted { IfOk result (λ w. w ≡ wants (all_stated before.now) (close_script close.now) standing.old.scope standing.old.facts (goal_said goal.now)) }
-    ensures flags { OnOk result (flags.new.items ≡ flags.old.items ++ flags_of (all_stated before.now) (close_script close.now) standing.old.scope standing.old.facts (goal_said goal.now)) }
-    ensures kept { OnOk result (KeepsFacts standing.old standing.new) }
+    ensures wanted { IfOk result (λ w. w ≡ wants (all_stated before.now) (close_script close.now) state.old.scope state.old.facts (goal_said goal.now)) }
+    ensures flags { OnOk result (flags.new.items ≡ flags.old.items ++ flags_of (all_stated before.now) (close_script close.now) state.old.scope state.old.facts (goal_said goal.now)) }
+    ensures kept { OnOk result (KeepsFacts state.old state.new) }
 {
     let mut wanted = Wanted::new(alloc);
-    look_close(alloc, close, goal, standing, &mut wanted)?;
+    look_close(alloc, close, goal, state, &mut wanted)?;
     match close {
         Close::Qed { .. } | Close::Contradiction { .. } => Ok(wanted),
         Close::Cases { lit, first, second } => {
             let holds = vec![in alloc; copy(alloc, lit)?]?;
             let fails = vec![in alloc; negate(copy(alloc, lit)?)]?;
-            let other = look_inside(alloc, before, second, goal, standing, flags, &[], &fails)?;
-            let one = look_inside(alloc, before, first, goal, standing, flags, &[], &holds)?;
+            let other = look_inside(alloc, before, second, goal, state, flags, &[], &fails)?;
+            let one = look_inside(alloc, before, first, goal, state, flags, &[], &holds)?;
             wanted.append(other)?;
             wanted.append(one)?;
             Ok(wanted)

@@ -1,4 +1,4 @@
-// What is kept, over the kept objects: each takes the number of the kept ones before it.
+//! What is kept, over the kept objects: each takes the number of the kept ones before it.
 
 ghost use Rattle.std.specs.Prelude.{◌≡◌, ◌<◌, ◌^◌, length, map, IfOk};
 ghost use Rattle.std.specs.Option.{option_map};

@@ -1,4 +1,4 @@
-// What a step makes, and what a line wants, blocks inside of it left aside.
+//! What a step makes, and what a line wants, blocks inside of it left aside.
 
 ghost use Rattle.std.specs.Prelude.{◌≡◌, ℕ, [], ◌∷◌, map, IfOk, OnOk, IsTrue, List};
 ghost use Rattle.std.specs.List.{list_all, list_any};
@@ -15,12 +15,12 @@ ghost use Rattle.e_deriv.specs.Script.{Script, step_script, close_script};
 ghost use Rattle.e_trim.specs.Looked.{both, needed, of_line};
 ghost use Rattle.e_trim.specs.Trimmed;
 ghost use Rattle.e_trim.specs.Trimmed.{joins_at, makes_at, line_at};
-ghost use Rattle.e_trim.specs.declared.standing.Standing as standings;
-ghost use Rattle.e_trim.specs.inner.Standing.{StepFits, IsApplied, CloseFits, goal_said, passed};
+ghost use Rattle.e_trim.specs.declared.step_state.StepState as states;
+ghost use Rattle.e_trim.specs.inner.StepState.{StepFits, IsApplied, CloseFits, goal_said, passed};
 
 use crate::instances::negated_others;
 use crate::looked::{look_against, look_cert, look_certs};
-use crate::standing::{Goal, Standing};
+use crate::step_state::{Goal, StepState};
 use crate::wanted::{Wanted, line, point};
 use e_clause::{By, Cert};
 use e_construct::{Construction, Superpose};
@@ -124,25 +124,25 @@ pub fn pass(
     alloc: Global,
     before: &[Statement],
     step: &Step,
-    standing: &mut Standing,
+    state: &mut StepState,
 ) -> Result<(), AllocError>
-    requires small { IsTrue (is_small standing.old.scope) }
+    requires small { IsTrue (is_small state.old.scope) }
     requires statements { IsTrue (list_all is_small_statement (all_stated before.now)) }
-    requires fits { StepFits (all_stated before.now) step.now standing.old.scope }
-    ensures { OnOk result ((rest : Script) → standing.new ≡ passed (all_stated before.now) (step_script step.now rest) standing.old) }
+    requires fits { StepFits (all_stated before.now) step.now state.old.scope }
+    ensures { OnOk result ((rest : Script) → state.new ≡ passed (all_stated before.now) (step_script step.now rest) state.old) }
 {
-    let lits = joins(alloc, before, step, standing.scope)?;
-    let opened = standing.open(alloc, makes(before, step), lits.items());
+    let lits = joins(alloc, before, step, state.scope)?;
+    let opened = state.open(alloc, makes(before, step), lits.items());
     mem::drop(lits);
     opened
 }
 
 /// Whether one of the literals is no fact, and is looked up.
-fn supplies(standing: &Standing, wanted: &Wanted, lits: &[Lit]) -> bool
-    ensures { result ≡ list_any (Trimmed.supplies standing.now.facts wanted.now) lits.now }
+fn supplies(state: &StepState, wanted: &Wanted, lits: &[Lit]) -> bool
+    ensures { result ≡ list_any (Trimmed.supplies state.now.facts wanted.now) lits.now }
 {
     lits.iter()
-        .any(|lit| !standing.facts.has(lit) && wanted.has(lit))
+        .any(|lit| !state.facts.has(lit) && wanted.has(lit))
 }
 
 /// Whether one of the objects is needed.
@@ -157,20 +157,20 @@ pub fn is_kept(
     alloc: Global,
     before: &[Statement],
     step: &Step,
-    standing: &Standing,
+    state: &StepState,
     wanted: &Wanted,
 ) -> Result<bool, AllocError>
-    requires small { IsTrue (is_small standing.now.scope) }
+    requires small { IsTrue (is_small state.now.scope) }
     requires statements { IsTrue (list_all is_small_statement (all_stated before.now)) }
-    requires fits { StepFits (all_stated before.now) step.now standing.now.scope }
-    ensures { IfOk result (λ b. (rest : Script) → b ≡ Trimmed.is_kept (all_stated before.now) (step_script step.now rest) standing.now.scope standing.now.facts wanted.now) }
+    requires fits { StepFits (all_stated before.now) step.now state.now.scope }
+    ensures { IfOk result (λ b. (rest : Script) → b ≡ Trimmed.is_kept (all_stated before.now) (step_script step.now rest) state.now.scope state.now.facts wanted.now) }
 {
-    let objects = next_objects(alloc, standing.scope, makes(before, step))?;
+    let objects = next_objects(alloc, state.scope, makes(before, step))?;
     if are_needed(wanted, &objects) {
         return Ok(true);
     }
-    let lits = joins(alloc, before, step, standing.scope)?;
-    let supplied = supplies(standing, wanted, lits.items());
+    let lits = joins(alloc, before, step, state.scope)?;
+    let supplied = supplies(state, wanted, lits.items());
     mem::drop(lits);
     Ok(supplied)
 }
@@ -178,7 +178,7 @@ pub fn is_kept(
 // ---- what a step wants
 
 fn look_cite(alloc: Global, by: &By, out: &mut Wanted) -> Result<(), AllocError>
-    ensures { OnOk result ((before : List StatementView) (rest : Script) (x : standings.Standing) (goal : BlockGoal) → out.new ≡ both out.old (of_line before (line_at (scripts.Cite by.now rest) x.scope x.facts goal))) }
+    ensures { OnOk result ((before : List StatementView) (rest : Script) (x : states.StepState) (goal : BlockGoal) → out.new ≡ both out.old (of_line before (line_at (scripts.Cite by.now rest) x.scope x.facts goal))) }
 {
     out.need(by.args.items())?;
     out.need_objects_of(&by.lit)?;
@@ -189,14 +189,14 @@ fn look_hence(
     alloc: Global,
     lit: &Lit,
     cert: &Option<Cert>,
-    standing: &Standing,
+    state: &StepState,
     out: &mut Wanted,
 ) -> Result<(), AllocError>
-    ensures { OnOk result ((before : List StatementView) (rest : Script) (goal : BlockGoal) → out.new ≡ both out.old (of_line before (line_at (scripts.Hence lit.now cert.now rest) standing.now.scope standing.now.facts goal))) }
+    ensures { OnOk result ((before : List StatementView) (rest : Script) (goal : BlockGoal) → out.new ≡ both out.old (of_line before (line_at (scripts.Hence lit.now cert.now rest) state.now.scope state.now.facts goal))) }
 {
     out.need_objects_of(lit)?;
     match cert {
-        Some(cert) => look_cert(alloc, &standing.facts, lit, cert, out),
+        Some(cert) => look_cert(alloc, &state.facts, lit, cert, out),
         None => Ok(()),
     }
 }
@@ -205,15 +205,15 @@ fn look_make(
     alloc: Global,
     form: &Construction,
     certs: &[Cert],
-    standing: &Standing,
+    state: &StepState,
     out: &mut Wanted,
 ) -> Result<(), AllocError>
-    ensures { OnOk result ((before : List StatementView) (names : List (List ℕ)) (rest : Script) (goal : BlockGoal) → out.new ≡ both out.old (of_line before (line_at (scripts.Make form.now names certs.now rest) standing.now.scope standing.now.facts goal))) }
+    ensures { OnOk result ((before : List StatementView) (names : List (List ℕ)) (rest : Script) (goal : BlockGoal) → out.new ≡ both out.old (of_line before (line_at (scripts.Make form.now names certs.now rest) state.now.scope state.now.facts goal))) }
 {
     out.need(form.args.items())?;
     out.need(form.avoid.items())?;
     let needs = form.needs(alloc)?;
-    look_certs(alloc, &standing.facts, &needs, certs, out)
+    look_certs(alloc, &state.facts, &needs, certs, out)
 }
 
 fn look_apply(
@@ -222,19 +222,19 @@ fn look_apply(
     theorem: u32,
     args: &[Option<Obj>],
     certs: &[Cert],
-    standing: &Standing,
+    state: &StepState,
     out: &mut Wanted,
 ) -> Result<(), AllocError>
-    requires small { IsTrue (is_small standing.now.scope) }
+    requires small { IsTrue (is_small state.now.scope) }
     requires statements { IsTrue (list_all is_small_statement (all_stated before.now)) }
-    requires fits { IsApplied (all_stated before.now) theorem args.now standing.now.scope }
-    ensures { OnOk result ((names : List (List ℕ)) (rest : Script) (goal : BlockGoal) → out.new ≡ both out.old (of_line (all_stated before.now) (line_at (scripts.Apply theorem args.now names certs.now rest) standing.now.scope standing.now.facts goal))) }
+    requires fits { IsApplied (all_stated before.now) theorem args.now state.now.scope }
+    ensures { OnOk result ((names : List (List ℕ)) (rest : Script) (goal : BlockGoal) → out.new ≡ both out.old (of_line (all_stated before.now) (line_at (scripts.Apply theorem args.now names certs.now rest) state.now.scope state.now.facts goal))) }
 {
     let objects = written_of(alloc, args)?;
     out.need(&objects)?;
-    let Applied { needs, gives } = use_at(alloc, before, theorem, args, standing.scope)?;
+    let Applied { needs, gives } = use_at(alloc, before, theorem, args, state.scope)?;
     mem::drop(gives);
-    let looked = look_certs(alloc, &standing.facts, needs.items(), certs, out);
+    let looked = look_certs(alloc, &state.facts, needs.items(), certs, out);
     mem::drop(needs);
     looked
 }
@@ -244,15 +244,15 @@ fn look_superpose(
     form: &Superpose,
     shown: &[Lit],
     certs: &[Cert],
-    standing: &Standing,
+    state: &StepState,
     out: &mut Wanted,
 ) -> Result<(), AllocError>
-    ensures { OnOk result ((before : List StatementView) (names : List (List ℕ)) (inner rest : Script) (goal : BlockGoal) → out.new ≡ both out.old (of_line before (line_at (scripts.Superposed form.now names shown.now certs.now inner rest) standing.now.scope standing.now.facts goal))) }
+    ensures { OnOk result ((before : List StatementView) (names : List (List ℕ)) (inner rest : Script) (goal : BlockGoal) → out.new ≡ both out.old (of_line before (line_at (scripts.Superposed form.now names shown.now certs.now inner rest) state.now.scope state.now.facts goal))) }
 {
     need_superposed(form, out)?;
     out.need_objects_of_all(shown)?;
     let needs = form.needs(alloc)?;
-    look_certs(alloc, &standing.facts, &needs, certs, out)
+    look_certs(alloc, &state.facts, &needs, certs, out)
 }
 
 /// The points and the lines of the superposition are needed.
@@ -278,18 +278,18 @@ pub fn look_step(
     alloc: Global,
     before: &[Statement],
     step: &Step,
-    standing: &Standing,
+    state: &StepState,
     out: &mut Wanted,
 ) -> Result<(), AllocError>
-    requires small { IsTrue (is_small standing.now.scope) }
+    requires small { IsTrue (is_small state.now.scope) }
     requires statements { IsTrue (list_all is_small_statement (all_stated before.now)) }
-    requires fits { StepFits (all_stated before.now) step.now standing.now.scope }
-    ensures { OnOk result ((rest : Script) (goal : BlockGoal) → out.new ≡ both out.old (of_line (all_stated before.now) (line_at (step_script step.now rest) standing.now.scope standing.now.facts goal))) }
+    requires fits { StepFits (all_stated before.now) step.now state.now.scope }
+    ensures { OnOk result ((rest : Script) (goal : BlockGoal) → out.new ≡ both out.old (of_line (all_stated before.now) (line_at (step_script step.now rest) state.now.scope state.now.facts goal))) }
 {
     match step {
         Step::Cite(by) => look_cite(alloc, by, out),
-        Step::Hence { lit, cert } => look_hence(alloc, lit, cert, standing, out),
-        Step::Make { form, certs, .. } => look_make(alloc, form, certs.items(), standing, out),
+        Step::Hence { lit, cert } => look_hence(alloc, lit, cert, state, out),
+        Step::Make { form, certs, .. } => look_make(alloc, form, certs.items(), state, out),
         Step::Apply {
             theorem,
             args,
@@ -297,7 +297,7 @@ pub fn look_step(
             ..
         } => {
             let args = args.items();
-            look_apply(alloc, before, *theorem, args, certs.items(), standing, out)
+            look_apply(alloc, before, *theorem, args, certs.items(), state, out)
         }
         Step::Claim { shown, .. } => out.need_objects_of_all(shown.items()),
         Step::Superposed {
@@ -305,7 +305,7 @@ pub fn look_step(
             shown,
             certs,
             ..
-        } => look_superpose(alloc, form, shown.items(), certs.items(), standing, out),
+        } => look_superpose(alloc, form, shown.items(), certs.items(), state, out),
     }
 }
 
@@ -325,15 +325,15 @@ fn look_qed(
     objects: &[Obj],
     certs: &[Cert],
     goal: &Goal,
-    standing: &Standing,
+    state: &StepState,
     out: &mut Wanted,
 ) -> Result<(), AllocError>
     requires one_sort { map (λ o. o.sort) goal.now.made.now ≡ map (λ o. o.sort) objects.now }
-    ensures { OnOk result ((before : List StatementView) → out.new ≡ both out.old (of_line before (line_at (scripts.Qed objects.now certs.now) standing.now.scope standing.now.facts (goal_said goal.now)))) }
+    ensures { OnOk result ((before : List StatementView) → out.new ≡ both out.old (of_line before (line_at (scripts.Qed objects.now certs.now) state.now.scope state.now.facts (goal_said goal.now)))) }
 {
     out.need(objects)?;
     let lits = goal_with(alloc, goal, objects)?;
-    look_certs(alloc, &standing.facts, &lits, certs, out)
+    look_certs(alloc, &state.facts, &lits, certs, out)
 }
 
 /// What the line of a close wants, the blocks inside of it left aside.
@@ -341,19 +341,19 @@ pub fn look_close(
     alloc: Global,
     close: &Close,
     goal: &Goal,
-    standing: &Standing,
+    state: &StepState,
     out: &mut Wanted,
 ) -> Result<(), AllocError>
-    requires fits { CloseFits close.now standing.now.scope (goal_said goal.now) }
-    ensures { OnOk result ((before : List StatementView) → out.new ≡ both out.old (of_line before (line_at (close_script close.now) standing.now.scope standing.now.facts (goal_said goal.now)))) }
+    requires fits { CloseFits close.now state.now.scope (goal_said goal.now) }
+    ensures { OnOk result ((before : List StatementView) → out.new ≡ both out.old (of_line before (line_at (close_script close.now) state.now.scope state.now.facts (goal_said goal.now)))) }
 {
     match close {
         Close::Qed { objects, certs } => {
             let objects = objects.items();
-            look_qed(alloc, objects, certs.items(), goal, standing, out)
+            look_qed(alloc, objects, certs.items(), goal, state, out)
         }
         Close::Contradiction { against } => match against {
-            Some(against) => look_against(alloc, &standing.facts, against, out),
+            Some(against) => look_against(alloc, &state.facts, against, out),
             None => Ok(()),
         },
         Close::Cases { lit, .. } => out.need_objects_of(lit),

@@ -9,12 +9,12 @@ ghost use Rattle.e_deriv.specs.Script.{script_of};
 ghost use Rattle.e_trim.specs.Trimmable.{IsTrimmable};
 ghost use Rattle.e_trim.specs.Trimmed.{trimmed};
 ghost use Rattle.e_trim.specs.inner.Flags as flags;
-ghost use Rattle.e_trim.specs.inner.Standing.{start_of};
+ghost use Rattle.e_trim.specs.inner.StepState.{start_of};
 
 use crate::building::build_block;
 use crate::laws::trimmed_is_certified;
 use crate::looking::look;
-use crate::standing::{Goal, Standing, join_copies};
+use crate::step_state::{Goal, StepState, join_copies};
 use e_deriv::Block;
 use e_facts::Facts;
 use e_literal::{NOTHING, Scope, grown, next_objects};
@@ -22,14 +22,15 @@ use e_theorem::Statement;
 use std::alloc::{AllocError, Global};
 use std::mem;
 
-/// What holds before the first line: the declared objects are in scope, and the given literals are facts.
-fn begin(alloc: Global, scope: Scope, statement: &Statement) -> Result<Standing, AllocError>
+/// What holds before the first line: the declared objects are in scope, and the given literals are
+/// facts.
+fn begin(alloc: Global, scope: Scope, statement: &Statement) -> Result<StepState, AllocError>
     requires { scope ≡ scope_of (stated statement.now) }
     ensures { IfOk result (λ x. x ≡ start_of (stated statement.now)) }
 {
     let mut facts = Facts::new(alloc);
     join_copies(alloc, &mut facts, statement.given.items())?;
-    Ok(Standing { scope, facts })
+    Ok(StepState { scope, facts })
 }
 
 /// Which steps of the derivation are kept.
@@ -44,7 +45,7 @@ fn flags_of(
 {
     let scope = grown(NOTHING, statement.declared.items());
     let made = next_objects(alloc, scope, statement.made.items())?;
-    let mut standing = begin(alloc, scope, statement)?;
+    let mut state = begin(alloc, scope, statement)?;
     let goal = Goal {
         made: &made,
         shown: statement.shown.items(),
@@ -56,7 +57,7 @@ fn flags_of(
         &deriv.steps,
         &deriv.close,
         &goal,
-        &mut standing,
+        &mut state,
         &mut flags,
     )?;
     mem::drop(wanted);
@@ -65,9 +66,10 @@ fn flags_of(
 
 /// The derivation without the steps that nothing needs. It fails only out of memory.
 ///
-/// From the close of each block backwards, a step is kept exactly where it makes a literal a fact that a kept later step or the close
-/// looks up, and none the same was a fact before, or where it makes an object that one of them names. What is left is certified by the
-/// certificates that it has, over the objects that are left, which take the next numbers anew.
+/// From the close of each block backwards, a step is kept exactly where it makes a literal a fact
+/// that a kept later step or the close looks up, and none the same was a fact before, or where it
+/// makes an object that one of them names. What is left is certified by the certificates that it
+/// has, over the objects that are left, which take the next numbers anew.
 pub fn trim(
     alloc: Global,
     before: &[Statement],

@@ -1,4 +1,4 @@
-// What is wanted after a line: literals that are looked up, and objects that are needed.
+//! What is wanted after a line: literals that are looked up, and objects that are needed.
 
 ghost use Rattle.std.specs.Prelude.{◌≡◌, [], ◌∷◌, ◌++◌, OnOk, IfOk};
 ghost use Rattle.e_literal.specs.Facts.{has};
@@ -8,7 +8,7 @@ ghost use Rattle.e_literal.specs.Rename.{same_obj};
 ghost use Rattle.e_trim.specs.Looked.{no_wants, both, looked_up, needed, of_lit, objects_of_lits};
 ghost use Rattle.e_trim.specs.Trimmed.{outside, is_needed};
 
-use crate::standing::Standing;
+use crate::step_state::StepState;
 use e_literal::{Atom, Lit, Mono, Obj, Sort, Term, copy, count, same};
 use std::alloc::{AllocError, Global};
 use std::marker::Model;
@@ -184,20 +184,20 @@ impl Wanted {
     }
 
     /// What of it is outside of a block that this holds before: facts, and objects in scope.
-    pub fn outside(self, alloc: Global, standing: &Standing) -> Result<Wanted, AllocError>
-        ensures { IfOk result (λ w. w ≡ outside standing.now.scope standing.now.facts self) }
+    pub fn outside(self, alloc: Global, state: &StepState) -> Result<Wanted, AllocError>
+        ensures { IfOk result (λ w. w ≡ outside state.now.scope state.now.facts self) }
     {
         let Wanted { lits, objects } = self;
         let mut outer = Wanted::new(alloc);
         for lit in lits {
-            if standing.facts.has(&lit) {
+            if state.facts.has(&lit) {
                 outer.lits.push(lit)?;
             } else {
                 mem::drop(lit);
             }
         }
         for object in &objects {
-            if object.num < count(standing.scope, object.sort) {
+            if object.num < count(state.scope, object.sort) {
                 outer.objects.push(*object)?;
             }
         }

@@ -1,4 +1,4 @@
-// Worked systems, whose answers were found by hand or by another solver.
+//! Worked systems, whose answers were found by hand or by another solver.
 
 use crate::rows::rows;
 use e_fraction::have_small_coefficients;

@@ -1,4 +1,4 @@
-// Worked steps of arithmetic, whose answers were found by hand.
+//! Worked steps of arithmetic, whose answers were found by hand.
 
 ghost use Rattle.e_metric.specs.Fronts.{AreFronts};
 
@@ -80,7 +80,8 @@ fn told_by_known(
     told
 }
 
-// The same as `told`, where these facts come after the others, and the question is asked before each too.
+// The same as `told`, where these facts come after the others, and the question is asked before
+// each too.
 fn told_behind(
     rt: &impl Abort,
     alloc: Global,

@@ -1,5 +1,5 @@
-//! The tests of the crates that license literals, over their public calls, in one crate above them so that none of
-//! them is proved twice.
+//! The tests of the crates that license literals, over their public calls, in one crate above them
+//! so that none of them is proved twice.
 #![tactic(auto)]
 
 #[cfg(test)]

@@ -1,4 +1,4 @@
-// Worked steps, whose answers were found by hand.
+//! Worked steps, whose answers were found by hand.
 
 ghost use Rattle.std.specs.Prelude.{◌≡◌, ◌<◌, [], length, IsTrue, IfOk, OnOk};
 ghost use Rattle.e_clause.specs.Judged;
@@ -179,7 +179,8 @@ fn equal_points() -> Lit
     }
 }
 
-// A state is held, a point comes into scope, and a literal is added twice: what is said of it each time.
+// A state is held, a point comes into scope, and a literal is added twice: what is said of it each
+// time.
 fn grow(context: &mut Context) -> Result<(Added, Added), AllocError>
     requires scope { context.old.scope ≡ Points.one_point }
     requires facts { context.old.facts ≡ [] }
@@ -212,8 +213,8 @@ fn a_context_grows(rt: HostRuntime) -> Result<(), Fail> {
     }
 }
 
-// The number of the points and of the lines in scope, the facts, the sorts of the declared objects, the given literals, the
-// arguments with `_` for blanks, and what is answered.
+// The number of the points and of the lines in scope, the facts, the sorts of the declared objects,
+// the given literals, the arguments with `_` for blanks, and what is answered.
 fn blanks() -> &'static str {
     "\
 1 2:aL aM:pl:aL:a_:aL

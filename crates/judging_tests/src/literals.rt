@@ -1,4 +1,4 @@
-// Literals and facts, written as short words.
+//! Literals and facts, written as short words.
 
 use e_facts::Facts;
 use e_literal::{Atom, Form, Lit, Mono, Term};
@@ -55,7 +55,8 @@ fn form(alloc: Global, text: &str) -> Result<Form, AllocError> {
     Ok(Form::new(monos))
 }
 
-// `x<y` and `x=y` of sums, `a=b` of points, `aL` where the point is on the line, `abc` where the second lies between.
+// `x<y` and `x=y` of sums, `a=b` of points, `aL` where the point is on the line, `abc` where the
+// second lies between.
 fn atom(alloc: Global, text: &str) -> Result<Atom, AllocError> {
     if let Some((x, y)) = text.split_once('<') {
         return Ok(Atom::MagLt(form(alloc, x)?, form(alloc, y)?));

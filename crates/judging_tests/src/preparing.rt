@@ -1,4 +1,4 @@
-// Rows that are prepared, and what is answered on further rows.
+//! Rows that are prepared, and what is answered on further rows.
 
 use crate::rows::rows;
 use e_fraction::{Row, have_small_coefficients};

@@ -1,4 +1,4 @@
-// What no clause can say: that calls succeed, and which instances are found.
+//! What no clause can say: that calls succeed, and which instances are found.
 
 use crate::literals::{facts_of, lit};
 use e_clause::{Rule, instance};
@@ -77,7 +77,8 @@ fn others(alloc: Global, lits: &[Lit], place: usize, left_out: usize) -> Result<
     Ok(facts)
 }
 
-// Whether the literal at one place is found from the negations of all others but the one at `left_out`.
+// Whether the literal at one place is found from the negations of all others but the one at
+// `left_out`.
 fn found_from_others(
     rt: &impl Abort,
     alloc: Global,

@@ -65,7 +65,8 @@ fn put_of_shape(
     Ok(())
 }
 
-// The line of a shape, with `+` for the name of a new object and `.` for that of an argument, and whether it may avoid.
+// The line of a shape, with `+` for the name of a new object and `.` for that of an argument, and
+// whether it may avoid.
 fn put_line(out: &mut Answer, shape: Shape) {
     for piece in pieces(shape) {
         match piece {

@@ -86,8 +86,8 @@ fn are_equal_forms(alloc: Global, a: &Lit, b: &Lit) -> Result<[bool; 2], AllocEr
     Ok([left == right, left.is_equal(&right)])
 }
 
-// Whether two literals are the same: `=` where they are by `same`, in both directions, by their normal forms and by what
-// `add` answers, `-` where by none of these, and else `?`.
+// Whether two literals are the same: `=` where they are by `same`, in both directions, by their
+// normal forms and by what `add` answers, `-` where by none of these, and else `?`.
 fn opinion(alloc: Global, a: &Lit, b: &Lit) -> Result<&'static str, AllocError> {
     let [equal, is_equal] = are_equal_forms(alloc, a, b)?;
     let added = add_both(alloc, &mut Facts::new(alloc), a, b)?;

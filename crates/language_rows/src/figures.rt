@@ -1,7 +1,8 @@
-//! Figures in whole numbers: what is true in them, a true literal of an instance, and what they refute.
+//! Figures in whole numbers: what is true in them, a true literal of an instance, and what they
+//! refute.
 //!
-//! The objects come first: points, lines and circles, each by its numbers, with a comma between two objects and a stroke
-//! after each sort.
+//! The objects come first: points, lines and circles, each by its numbers, with a comma between two
+//! objects and a stroke after each sort.
 
 use crate::answer::Answer;
 use crate::literals::literals;

@@ -73,7 +73,8 @@ fn put_sum(alloc: Global, out: &mut Answer, on: &str) -> Result<(), AllocError> 
     Ok(())
 }
 
-// The width of nine rows of this kind with one summand each: eight with the coefficient 128, and the last with this one.
+// The width of nine rows of this kind with one summand each: eight with the coefficient 128, and
+// the last with this one.
 fn put_width(alloc: Global, out: &mut Answer, on: &str) -> Result<(), AllocError> {
     let (word, last) = two(on, " ");
     let last = last.parse::<i64>().unwrap_or(0);

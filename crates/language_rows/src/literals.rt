@@ -1,7 +1,8 @@
 //! Literals as rows write them, and what the crate of literals answers.
 //!
-//! A literal is `On ab`, with the name of its atom and a letter for each number, `a` for 0; or two sums with `=` or `<`
-//! between, as `1 ab + 2 angle-abc = 1 right`; the sum `0` is empty. Before each, `not` may come.
+//! A literal is `On ab`, with the name of its atom and a letter for each number, `a` for 0; or two
+//! sums with `=` or `<` between, as `1 ab + 2 angle-abc = 1 right`; the sum `0` is empty. Before
+//! each, `not` may come.
 
 use crate::answer::Answer;
 use crate::rows::{three, two};
@@ -104,7 +105,8 @@ pub fn literals(alloc: Global, text: &str) -> Result<Vec<Lit>, AllocError> {
     Ok(lits)
 }
 
-// The kind of a literal, and whether it is in scope where the letters say how many points, lines and circles are.
+// The kind of a literal, and whether it is in scope where the letters say how many points, lines
+// and circles are.
 fn put_read(alloc: Global, out: &mut Answer, on: &str) -> Result<(), AllocError> {
     let (lits, counts) = two(on, " : ");
     let (points, lines, circles) = three(counts);
@@ -127,7 +129,8 @@ fn put_negated(alloc: Global, out: &mut Answer, on: &str) -> Result<(), AllocErr
     Ok(())
 }
 
-// The map in which the points with the first letters of the words have those with the second letters as images.
+// The map in which the points with the first letters of the words have those with the second
+// letters as images.
 fn images(alloc: Global, words: &str) -> Result<Map, AllocError> {
     let mut images = Map::new(alloc);
     for word in words.split_terminator(' ') {

@@ -1,8 +1,9 @@
-//! Calls the crates of outside, text, language, figures, facts, rows and generating on the rows of standard input, and prints what
-//! they answer: their tests as data.
+//! Calls the crates of outside, text, language, figures, facts, rows and generating on the rows of
+//! standard input, and prints what they answer: their tests as data.
 //!
-//! A row is a line: the word for a crate, the word for a call, and what it is called on. It is printed with its answer
-//! after `=>`. A line that begins with a star is printed as it is: it says what the rows below it show.
+//! A row is a line: the word for a crate, the word for a call, and what it is called on. It is
+//! printed with its answer after `=>`. A line that begins with a star is printed as it is: it says
+//! what the rows below it show.
 #![tactic(auto)]
 
 mod answer;

@@ -18,8 +18,8 @@ pub fn quoted(row: &str) -> &str {
     row.split('"').nth(1).unwrap_or("")
 }
 
-/// The bytes of a text, in which a slash is a line feed, a per cent sign a carriage return, a circumflex a tab, and a
-/// tilde a byte that no text may hold.
+/// The bytes of a text, in which a slash is a line feed, a per cent sign a carriage return, a
+/// circumflex a tab, and a tilde a byte that no text may hold.
 pub fn bytes_of(alloc: Global, text: &str) -> Result<Vec<u8>, AllocError> {
     let mut bytes = Vec::new(alloc);
     for byte in text.bytes() {

@@ -69,7 +69,8 @@ fn put_numeral(out: &mut Answer, token: &[u8]) {
     out.show(&e_text::number(token));
 }
 
-// Whether a word is reserved, and what it is as a name and as a title: whether that is spelled so and read again.
+// Whether a word is reserved, and what it is as a name and as a title: whether that is spelled so
+// and read again.
 fn put_word(out: &mut Answer, token: &[u8]) {
     out.show(&reserved(token));
     put_name(out, token);

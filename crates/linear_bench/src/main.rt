@@ -1,7 +1,8 @@
-//! Decides systems like those of proofs, made from a seed, and says how each comes out. `bench/linear.sh` times it.
+//! Decides systems like those of proofs, made from a seed, and says how each comes out.
+//! `bench/linear.sh` times it.
 //!
-//! The words are the number of rows, of terms, the seed, and `open` or `shut`: an open system has a solution, and a shut
-//! one has one more row that refutes it.
+//! The words are the number of rows, of terms, the seed, and `open` or `shut`: an open system has a
+//! solution, and a shut one has one more row that refutes it.
 #![tactic(auto)]
 
 ghost use Rattle.std.specs.Prelude.{◌<◌};

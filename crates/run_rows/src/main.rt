@@ -1,14 +1,16 @@
-//! Runs the program over memory on the rows of standard input, and prints what it answers to each: its tests as data.
+//! Runs the program over memory on the rows of standard input, and prints what it answers to each:
+//! its tests as data.
 //!
-//! A row is a line: the words of a command, the call of the source that fails, the call of the sink that fails (nothing
-//! where none does), and a text, with ` => ` between two. In a text a slash ends a line, a tilde is a byte that no text may
-//! hold, and `{N*TEXT}` is the text N times, with its number from 0 in the place of `$`. A line that begins with a star is
-//! printed as it is. In an answer a slash ends a line, and the exit status comes last; of a long one only the end is
+//! A row is a line: the words of a command, the call of the source that fails, the call of the sink
+//! that fails (nothing where none does), and a text, with ` => ` between two. In a text a slash
+//! ends a line, a tilde is a byte that no text may hold, and `{N*TEXT}` is the text N times, with
+//! its number from 0 in the place of `$`. A line that begins with a star is printed as it is. In an
+//! answer a slash ends a line, and the exit status comes last; of a long one only the end is
 //! printed.
 //!
-//! `5 by 4` in the place of a call is call 5, from 0, where each other one moves four bytes; `each by 4` is each call in
-//! turn, run after run, and the answer is about all these runs. `nowhere` in the place of the call of the sink is a sink
-//! that keeps nothing.
+//! `5 by 4` in the place of a call is call 5, from 0, where each other one moves four bytes; `each
+//! by 4` is each call in turn, run after run, and the answer is about all these runs. `nowhere` in
+//! the place of the call of the sink is a sink that keeps nothing.
 #![tactic(auto)]
 
 mod runs;

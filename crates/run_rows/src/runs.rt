@@ -14,7 +14,8 @@ pub struct Asked {
     pub text: Vec<u8>,
 }
 
-/// The calls of a source or of a sink: which one fails, if one does, and how many bytes each other one moves.
+/// The calls of a source or of a sink: which one fails, if one does, and how many bytes each other
+/// one moves.
 #[derive(Clone, Copy)]
 pub struct Calls {
     pub fail: Option<u64>,
@@ -53,7 +54,8 @@ fn source_of(alloc: Global, text: &[u8], calls: Calls) -> Result<MemSource, Allo
     Ok(MemSource::new(text, fail, calls.piece.max(1)))
 }
 
-/// The number that an answer has: of theorems, of steps, of shown literals, of suggested lines, of a step or of a line; 0 where it has none.
+/// The number that an answer has: of theorems, of steps, of shown literals, of suggested lines, of
+/// a step or of a line; 0 where it has none.
 fn number_of(status: &Status) -> u64 {
     match status {
         Status::Accepted { theorems: number }

@@ -15,7 +15,8 @@ const WRITE_FAULT: u8 = 5;
 /// What a run shows in which a call of the source fails.
 #[derive(Clone, Copy)]
 struct Broken {
-    /// Whether it wrote a front of what is written where no call fails, and the line with the fault.
+    /// Whether it wrote a front of what is written where no call fails, and the line with the
+    /// fault.
     front: bool,
     /// Whether it is answered alike where the bytes are kept nowhere.
     alike: bool,
@@ -28,8 +29,8 @@ fn is_cut(written: &[u8], usual: &[u8]) -> bool {
     written.len() < usual.len() && usual.starts_with(written)
 }
 
-/// Whether a run in which this call of the sink fails wrote some of the first bytes; none where it is not answered by a
-/// write fault.
+/// Whether a run in which this call of the sink fails wrote some of the first bytes; none where it
+/// is not answered by a write fault.
 fn cut_off(
     alloc: Global,
     asked: &Asked,
@@ -44,8 +45,9 @@ fn cut_off(
     Ok(Some(is_cut(&answered.written, &usual.written)))
 }
 
-/// Each call of the sink fails in turn, until none is left to fail: how many fail and are answered by a write fault, how
-/// many of these runs wrote some of the first bytes of what is written where none fails, and how many these bytes are.
+/// Each call of the sink fails in turn, until none is left to fail: how many fail and are answered
+/// by a write fault, how many of these runs wrote some of the first bytes of what is written where
+/// none fails, and how many these bytes are.
 pub fn each_write(
     alloc: Global,
     asked: &Asked,
@@ -76,8 +78,8 @@ fn before_fault(written: &[u8]) -> Option<&str> {
         .strip_suffix("read fault\n")
 }
 
-/// Whether what was written before a read fault is what is written first where no call fails, up to the end of the head
-/// line or of a block.
+/// Whether what was written before a read fault is what is written first where no call fails, up to
+/// the end of the head line or of a block.
 fn is_front(front: &str, usual: &Answered) -> bool {
     let usual = str::from_utf8(&usual.written).unwrap_or("");
     let head = front == "derivation 1\n" || front == "derivation 2\n";
@@ -114,7 +116,8 @@ fn grouped(alloc: Global, numbers: &[u64]) -> Result<String, AllocError> {
     Ok(text)
 }
 
-/// What a run shows in which this call of the source fails; nothing where it is not answered by a read fault.
+/// What a run shows in which this call of the source fails; nothing where it is not answered by a
+/// read fault.
 fn broken_off(
     alloc: Global,
     asked: &Asked,
@@ -135,9 +138,10 @@ fn broken_off(
     }))
 }
 
-/// Each call of the source fails in turn, until none is left to fail: how many fail and are answered by a read fault; how
-/// many of these runs wrote a front of what is written where none fails; how many are answered alike where the bytes are
-/// kept nowhere; and how many blocks were written, in order, each number with how often it came.
+/// Each call of the source fails in turn, until none is left to fail: how many fail and are
+/// answered by a read fault; how many of these runs wrote a front of what is written where none
+/// fails; how many are answered alike where the bytes are kept nowhere; and how many blocks were
+/// written, in order, each number with how often it came.
 pub fn each_read(
     alloc: Global,
     asked: &Asked,
@@ -169,7 +173,8 @@ pub fn each_read(
     )
 }
 
-/// The exit status and the number of the answer, where the bytes are kept and where they are kept nowhere.
+/// The exit status and the number of the answer, where the bytes are kept and where they are kept
+/// nowhere.
 pub fn over_no_sink(
     alloc: Global,
     asked: &Asked,

@@ -1,10 +1,11 @@
-//! Each construction: accepted with its needs, refused without each of them, and what is a fact after it.
+//! Each construction: accepted with its needs, refused without each of them, and what is a fact
+//! after it.
 use crate::runs::{answer, part};
 use std::alloc::{AllocError, Global};
 use std::test::Fail;
 
-/// The twenty shapes, and then those that may avoid objects: a line, what it needs, and what it gives, in order; and what
-/// follows from these at once.
+/// The twenty shapes, and then those that may avoid objects: a line, what it needs, and what it
+/// gives, in order; and what follows from these at once.
 fn shapes() -> &'static str {
     "\
 let p point =>  => 
@@ -43,7 +44,8 @@ fn all_given() -> &'static str {
     "on p L, between b p c, between b c p, same-side p b L, not on p L, not same-side p b L, on p A, inside p A, not inside p A, not on p A, on a N, on b N, center a C, on b C, on p M, on q L, on q A, p != q, between p b c, on p B, on q B, p != a, not on p M, not on p B, p != c"
 }
 
-/// A book that draws the construction with its needs but the one at a place, and then infers the literal.
+/// A book that draws the construction with its needs but the one at a place, and then infers the
+/// literal.
 fn drawing(
     alloc: Global,
     shape: &str,
@@ -69,7 +71,8 @@ fn times(list: &str, literal: &str) -> usize {
         .count()
 }
 
-/// Whether the shape is refused without each of its needs, or stays accepted where the need is there twice.
+/// Whether the shape is refused without each of its needs, or stays accepted where the need is
+/// there twice.
 fn needs_each(alloc: Global, shape: &str) -> Result<bool, AllocError> {
     for (place, need) in part(shape, 1).split_terminator(", ").enumerate() {
         let answer = answer(alloc, drawing(alloc, shape, place, "d = d")?.as_str())?;

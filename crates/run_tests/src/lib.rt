@@ -1,4 +1,5 @@
-//! The tests of the run of the program, over its public call, in a crate above it, so that it is not proved twice.
+//! The tests of the run of the program, over its public call, in a crate above it, so that it is
+//! not proved twice.
 #![tactic(auto)]
 
 #[cfg(test)]

@@ -1,9 +1,11 @@
-//! Refusals of metric literals and of contradictions: what is wanted, and values that show that it does not follow.
+//! Refusals of metric literals and of contradictions: what is wanted, and values that show that it
+//! does not follow.
 use crate::runs::{answer, part};
 use std::alloc::{AllocError, Global};
 use std::test::Fail;
 
-/// Books, the answer without the numbers of its values, and how the values stand to each other by their places.
+/// Books, the answer without the numbers of its values, and how the values stand to each other by
+/// their places.
 fn refusals() -> &'static str {
     "\
 theorem T/points a b c d e f/given seg a b < seg c d ; seg c d < seg e f/show a = a/proof/hence seg e f < seg a b/qed/end/ => derivation 1/unlicensed T 1/| wanted seg e f < seg a b/| value seg a b/| value seg c d/| value seg e f/| value right/exit 1 => 0<1 1<2

@@ -1,4 +1,5 @@
-//! Each rule of the table at objects of its own: what it gives, and that it needs its other literals.
+//! Each rule of the table at objects of its own: what it gives, and that it needs its other
+//! literals.
 use crate::runs::answer;
 use e_clause::{Rule, instance};
 use e_deriv::{Names, Stop, Wanted};
@@ -76,7 +77,8 @@ fn how_many(rule: Rule, sort: Sort) -> u8 {
     }
 }
 
-/// The first objects of each sort, as many as the rule has variables; or the same with the first point for the second too.
+/// The first objects of each sort, as many as the rule has variables; or the same with the first
+/// point for the second too.
 fn arguments(alloc: Global, rule: Rule, doubled: bool) -> Result<Vec<Obj>, AllocError> {
     let mut args = Vec::new(alloc);
     for sort in [Sort::Point, Sort::Line, Sort::Circle] {
@@ -106,7 +108,8 @@ fn declared(alloc: Global, rule: Rule) -> Result<String, AllocError> {
     Ok(text)
 }
 
-/// The lines that give the negation of each literal that is not the goal, but of the one at a place.
+/// The lines that give the negation of each literal that is not the goal, but of the one at a
+/// place.
 fn given(alloc: Global, lits: &[Lit], goal: &Lit, left_out: usize) -> Result<String, AllocError> {
     let mut text = String::new(alloc);
     for (place, lit) in lits.iter().enumerate() {
@@ -144,7 +147,8 @@ fn step(alloc: Global, rule: Rule, goal: &str) -> Result<String, AllocError> {
     }
 }
 
-/// What is answered where the goal is inferred from the others but the one at a place: its steps and end, and what it lacks.
+/// What is answered where the goal is inferred from the others but the one at a place: its steps
+/// and end, and what it lacks.
 fn inferred(
     alloc: Global,
     rule: Rule,
@@ -194,7 +198,8 @@ fn gives_its_last(alloc: Global, rule: Rule) -> Result<bool, AllocError> {
     Ok(answer.as_str().ends_with("/accepted 1/exit 0"))
 }
 
-/// Whether the rule gives each of its literals from the others, and not with the next of them left out.
+/// Whether the rule gives each of its literals from the others, and not with the next of them left
+/// out.
 fn gives_each(alloc: Global, rule: Rule) -> Result<bool, AllocError> {
     let lits = literals(alloc, rule, false)?;
     for (place, goal) in lits.iter().enumerate() {

@@ -6,7 +6,7 @@ use Rattle.e_deriv.specs.Script.{Script, step_script}
 use Rattle.e_deriv.specs.Lines.{theorem_at}
 use Rattle.e_deriv.specs.Parts.{written}
 use Rattle.e_trim.specs.Trimmed.{joins_at}
-use Rattle.e_trim.specs.inner.Standing.{IsApplied, StepFits}
+use Rattle.e_trim.specs.inner.StepState.{IsApplied, StepFits}
 use Rattle.e_trim.proofs.FirstSteps.{ok_map}
 use Rattle.e_trim.proofs.StepParts.{apply_fits, cite_joins, hence_joins, make_joins, apply_joins}
 use Rattle.e_trim.proofs.steps.joins.Goals as goal

@@ -4,7 +4,7 @@ use Rattle.e_literal.specs.Scopes.{nothing, grown, next_objects}
 use Rattle.e_theorem.specs.Statements.{stated, all_stated}
 use Rattle.e_deriv.specs.Script.{script_of, steps_script, close_script}
 use Rattle.e_deriv.proofs.Smallness.{few_objects}
-use Rattle.e_trim.specs.inner.Standing.{IsReady}
+use Rattle.e_trim.specs.inner.StepState.{IsReady}
 use Rattle.e_trim.proofs.Starting.{scope_room, start_ready, goal_same}
 use Rattle.e_trim.proofs.trimming.flags_of.Goals as goal
 
@@ -31,6 +31,6 @@ look-requires-clause-ready c =
     let t = (stated c.args.statement.now) in
     let same = ap (λ xs. steps_script xs (close_script c.args.deriv.now.close)) c.deref-2.ensures.value in
     let made = c.deref.ensures.value ∙ c.in_ok-made.ensures ∙ ap (λ s. next_objects s c.items-2.result.now) (c.grown-scope.ensures ∙ ap (grown nothing) c.items.ensures) ∙ ap (next_objects (scope_of t)) c.items-2.ensures in
-    subst (λ d. IsReady (all_stated c.args.before.now) d c.in_ok-standing.standing.scope c.in_ok-standing.standing.facts (record { made = c.deref.result.now; shown = c.items-3.result.now })) (sym same)
-    (start_ready (all_stated c.args.before.now) t (script_of c.args.deriv.now) c.in_ok-standing.standing (record { made = c.deref.result.now; shown = c.items-3.result.now }) c.in_ok-standing.ensures
+    subst (λ d. IsReady (all_stated c.args.before.now) d c.in_ok-state.state.scope c.in_ok-state.state.facts (record { made = c.deref.result.now; shown = c.items-3.result.now })) (sym same)
+    (start_ready (all_stated c.args.before.now) t (script_of c.args.deriv.now) c.in_ok-state.state (record { made = c.deref.result.now; shown = c.items-3.result.now }) c.in_ok-state.ensures
     (goal_same c.deref.result.now c.items-3.result.now t made c.items-3.ensures) c.requires)

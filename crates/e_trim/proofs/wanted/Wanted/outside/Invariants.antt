@@ -5,12 +5,12 @@ use Rattle.e_trim.proofs.wanted.Wanted.outside.Given as goal
 
 abbrev pub invariant-loop-lit : goal.invariant-loop-lit
 invariant-loop-lit l = record {
-  lits : l.outer-inside.lits.items ++ filter (has l.standing.facts) l.lit-iterator.rest.items ≡ filter (has l.standing.facts) l.fn.self.lits;
+  lits : l.outer-inside.lits.items ++ filter (has l.state.facts) l.lit-iterator.rest.items ≡ filter (has l.state.facts) l.fn.self.lits;
   objects : l.outer-inside.objects.items ≡ [];
 }
 
 abbrev pub invariant-loop-object : goal.invariant-loop-object
 invariant-loop-object l = record {
-  lits : l.outer-inside.lits.items ≡ filter (has l.standing.facts) l.fn.self.lits;
-  objects : l.outer-inside.objects.items ++ filter (is_in_scope l.standing.scope) (drop l.object-index l.object-items) ≡ filter (is_in_scope l.standing.scope) l.fn.self.objects;
+  lits : l.outer-inside.lits.items ≡ filter (has l.state.facts) l.fn.self.lits;
+  objects : l.outer-inside.objects.items ++ filter (is_in_scope l.state.scope) (drop l.object-index l.object-items) ≡ filter (is_in_scope l.state.scope) l.fn.self.objects;
 }

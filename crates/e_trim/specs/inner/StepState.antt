@@ -19,23 +19,23 @@ use Rattle.e_deriv.specs.Parts.{args_of, written}
 use Rattle.e_trim.specs.Looked.{Wants, both, of_line}
 use Rattle.e_trim.specs.Trimmed.{joins_at, makes_at, is_kept, line_at, with_step}
 use Rattle.e_trim.specs.inner.Flags.{flag, inside_of, step_flags}
-use Rattle.e_trim.specs.declared.standing.Standing.{Standing}
-use Rattle.e_trim.specs.declared.standing.Outer.{Outer}
-use Rattle.e_trim.specs.declared.standing.Goal.{Goal as CodeGoal}
+use Rattle.e_trim.specs.declared.step_state.StepState.{StepState}
+use Rattle.e_trim.specs.declared.step_state.Outer.{Outer}
+use Rattle.e_trim.specs.declared.step_state.Goal.{Goal as CodeGoal}
 
 -- before the first line of a statement's proof
-abbrev pub start_of : StatementView → Standing
+abbrev pub start_of : StatementView → StepState
 start_of t = record { scope = scope_of t; facts = facts_of_statement t }
 
-abbrev pub outer_of : Standing → Outer
+abbrev pub outer_of : StepState → Outer
 outer_of x = record { scope = x.scope; facts = length x.facts }
 
 -- where a block was entered
-abbrev pub left_for : Outer → Standing → Standing
+abbrev pub left_for : Outer → StepState → StepState
 left_for outer x = record { scope = outer.scope; facts = take outer.facts x.facts }
 
 -- with objects of these sorts in scope, and these literals for facts
-abbrev pub opened : List Sort → List Lit → Standing → Standing
+abbrev pub opened : List Sort → List Lit → StepState → StepState
 opened sorts lits x = record { scope = grown x.scope sorts; facts = joined_all x.facts lits }
 
 -- the goal that the code writes
@@ -48,7 +48,7 @@ pub record IsReady (before : List StatementView) (d : Script) (s : Scope) (facts
   pub scopes : IsTrue (list_all (λ x. is_small x.scope) (lines before d d s facts goal))
 
 -- after a step
-abbrev pub passed : List StatementView → Script → Standing → Standing
+abbrev pub passed : List StatementView → Script → StepState → StepState
 passed before here x = opened (makes_at before here) (joins_at before here x.scope) x
 
 -- with something after it and some goal the form of the step fits
@@ -67,33 +67,33 @@ pub record IsApplied (before : List StatementView) (theorem : ℕ) (args : List 
   pub fit : IsTrue (are_arguments (theorem_at before theorem) s (written args))
 
 -- with something after it and some goal the step is ready
-pub record IsReadyStep (before : List StatementView) (step : Step) (x : Standing) : Type 0 where
+pub record IsReadyStep (before : List StatementView) (step : Step) (x : StepState) : Type 0 where
   pub rest : Script
   pub goal : Goal
   pub ready : IsReady before (step_script step rest) x.scope x.facts goal
 
 -- a kept step adds this to what is wanted, whatever comes after it
-abbrev pub StepWants : List StatementView → Step → Standing → Wants → Wants → Type 0
+abbrev pub StepWants : List StatementView → Step → StepState → Wants → Wants → Type 0
 StepWants before step x old new =
     (rest : Script) (goal : Goal) →
     new ≡ both old (both (of_line before (line_at (step_script step rest) x.scope x.facts goal)) (inside_of before (step_script step rest) x.scope x.facts))
 
 -- and these flags to the pile
-abbrev pub StepFlags : List StatementView → Step → Standing → List Bool → List Bool → Type 0
+abbrev pub StepFlags : List StatementView → Step → StepState → List Bool → List Bool → Type 0
 StepFlags before step x old new = (rest : Script) → new ≡ old ++ step_flags before (step_script step rest) x.scope x.facts
 
 -- a step adds what it wants to what is wanted after it, if it is kept
-abbrev pub StepAdds : List StatementView → Step → Standing → Wants → Wants → Type 0
+abbrev pub StepAdds : List StatementView → Step → StepState → Wants → Wants → Type 0
 StepAdds before step x old new =
     (rest : Script) (goal : Goal) → new ≡ with_step before (step_script step rest) x.scope x.facts goal (inside_of before (step_script step rest) x.scope x.facts) old
 
 -- and its flag to the pile, where this is wanted after it
-abbrev pub FlagsAdded : List StatementView → Step → Standing → Wants → List Bool → List Bool → Type 0
+abbrev pub FlagsAdded : List StatementView → Step → StepState → Wants → List Bool → List Bool → Type 0
 FlagsAdded before step x w old new =
     (rest : Script) → new ≡ old ++ flag (is_kept before (step_script step rest) x.scope x.facts w) (step_flags before (step_script step rest) x.scope x.facts)
 
 -- the facts from before are the first ones still
-abbrev pub KeepsFacts : Standing → Standing → Type 0
+abbrev pub KeepsFacts : StepState → StepState → Type 0
 KeepsFacts x after = take (length x.facts) after.facts ≡ x.facts
 
 -- at most as many objects are kept as are in scope

@@ -1,17 +1,17 @@
-// What holds before a line, and after it.
+//! What holds before a step, and after it.
 
 ghost use Rattle.std.specs.Prelude.{◌≡◌, ◌≤◌, ◌<◌, ◌+◌, ◌^◌, length, OnOk, IsTrue};
 ghost use Rattle.e_literal.specs.Facts.{joined_all};
 ghost use Rattle.e_deriv.specs.Fitting.{is_small};
-ghost use Rattle.e_trim.specs.inner.Standing.{outer_of, left_for, opened};
+ghost use Rattle.e_trim.specs.inner.StepState.{outer_of, left_for, opened};
 
 use e_facts::Facts;
 use e_literal::{Lit, Obj, Scope, Sort, copy, grown};
 use std::alloc::{AllocError, Global};
 
-/// The scope and the facts before a line.
+/// The scope and the facts before a step.
 #[derive(Drop)]
-pub struct Standing {
+pub struct StepState {
     pub scope: Scope,
     pub facts: Facts,
 }
@@ -30,9 +30,9 @@ pub struct Goal<'a> {
     pub shown: &'a [Lit],
 }
 
-impl Standing {
+impl StepState {
     /// What a line, or an inner block, is entered from.
-    pub fn enter(&self) -> Outer
+    pub fn hold(&self) -> Outer
         ensures { result ≡ outer_of self.now }
     {
         Outer {
@@ -42,7 +42,7 @@ impl Standing {
     }
 
     /// Back to where it was entered: the objects and facts that came since are gone.
-    pub fn leave(&mut self, outer: Outer)
+    pub fn release(&mut self, outer: Outer)
         requires { outer.facts ≤ length self.old.facts }
         ensures { self.new ≡ left_for outer self.old }
     {
