@@ -95,11 +95,11 @@ impl Model for BlockStack {
     ghost use Rattle.std.specs.Prelude.{List, reverse};
     ghost use Rattle.std.specs.Coded.{coded_list};
     ghost use Rattle.e_book.specs.declared.blocks.OpenBlock.{OpenBlock};
-    ghost use Rattle.e_book.specs.contracts.blocks.Outer as outer;
+    ghost use Rattle.e_book.specs.contracts.blocks.OpenBlock as open_block;
 
     ghost Value = { List OpenBlock };
 
-    ghost coded = { coded_list outer.the_row.coded };
+    ghost coded = { coded_list open_block.the_row.coded };
 
     ghost view = { λ o. reverse o.outers.items };
 }

@@ -14,4 +14,4 @@ any_term t (m ∷ ms) = ap (λ b. term_eq t m.term || b) (any_term t ms)
 pub in_sums : (t : Term) (x y : List Mono) → list_any (term_eq t) (map (λ m. m.term) (x ++ y)) ≡ (list_any (λ (m : Mono). term_eq t m.term) x || list_any (λ (m : Mono). term_eq t m.term) y)
 in_sums t x y = any_term t (x ++ y) ∙ list_any-append (λ (m : Mono). term_eq t m.term) x y
 
-pub ruleset state = (common_steps, in_sums)
+pub ruleset written_terms = (common_steps, in_sums)

@@ -26,7 +26,7 @@ fn is_among(sum: &[Mono], term: Term) -> bool
 }
 
 /// Whether the term is in the literal, as it is written.
-#[tactic(auto, using(crate::proofs::TermsWritten::state))]
+#[tactic(auto, using(crate::proofs::TermsWritten::written_terms))]
 fn has_written(lit: &Lit, term: Term) -> bool
     ensures { result ≡ has_written term lit.now }
 {

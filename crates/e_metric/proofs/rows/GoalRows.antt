@@ -2,7 +2,7 @@
 use Rattle.std.proofs.Common.{◌≡◌, ◌≤◌, List, [], ◌∷◌, ◌++◌, ◌-◌, length, take, drop, sym, ap, ◌∙◌, subst, arith, Some, None, append_assoc, length-append, refl}
 use Rattle.std.specs.Prelude.{flat_map}
 use Rattle.std.proofs.Math.Seq.{drop-append_seam}
-use Rattle.std.proofs.lemmas.List.{length-drop}
+use Rattle.std.proofs.lemmas.List.{length-drop, take_all}
 use Rattle.e_literal.specs.declared.object.Kind.{Kind}
 use Rattle.e_literal.specs.declared.object.Term.{Term}
 use Rattle.e_literal.specs.declared.literal.Lit.{Lit}
@@ -15,7 +15,6 @@ use Rattle.e_metric.specs.RowOrder.{AreReordered}
 use Rattle.e_metric.proofs.terms.FirstTerms.{listed_first, some_wanted, none_wanted}
 use Rattle.e_metric.proofs.rows.SystemRows.{flat_append}
 use Rattle.e_metric.proofs.rows.RowOrder.{two_after}
-use Rattle.e_simplex.proofs.RowMultipliers.{take_done}
 
 -- ---- terms of more literals
 
@@ -38,7 +37,7 @@ as_long_one which terms l = as_long which terms (l ∷ [])
 
 pub last_after : (which : Kind) (terms : List Term) (ls : List Lit) (all : List Term) → all ≡ with_listed terms (terms_of_lits (of_kind which ls)) → take (length all - length terms) (drop (length terms) all) ≡ terms_added which terms ls
 last_after which terms ls all e =
-    take_done (drop (length terms) all) (length all - length terms) (omega (arith, length-drop (length terms) all)) ∙ goal_rows_after which terms ls all e
+    take_all (length all - length terms) (drop (length terms) all) (omega (arith, length-drop (length terms) all)) ∙ goal_rows_after which terms ls all e
 
 -- the terms of the facts, and then the fresh ones of a goal
 all_terms : (which : Kind) (facts : List Lit) (l : Lit) → distinct_terms which facts (Some l) ≡ distinct_terms which facts None ++ terms_added which (distinct_terms which facts None) (l ∷ [])

@@ -1,6 +1,7 @@
 use Rattle.std.proofs.Common.{◌+◌, arith, sym, subst, false, length}
 use Rattle.e_fraction.specs.Views.{all_seen}
 use Rattle.e_fraction.proofs.Wideness.{wide_rows_width}
+use Rattle.e_simplex.specs.Constraints.{IsAbsurd}
 use Rattle.e_simplex.specs.Naming.{named_constraints}
 use Rattle.e_simplex.specs.Solved.{IsSolved}
 use Rattle.e_simplex.proofs.WideRows.{wide_over}
@@ -22,7 +23,8 @@ refuted_once-requires-clause-weights c =
       terms = c.args.terms.now;
       once = c.requires.once;
       named = c.requires.named;
-      absurd = narrow_absurd (length c.args.terms.now + 1) o.0 (named_constraints false c.args.terms.now (all_seen c.args.rows.now)) _ (omega (arith, o.1)) h;
+      absurd = subst (IsAbsurd (length c.args.terms.now + 1) (named_constraints false c.args.terms.now (all_seen c.args.rows.now))) (sym c.deref.ensures.value)
+          (narrow_absurd (length c.args.terms.now + 1) o.0 (named_constraints false c.args.terms.now (all_seen c.args.rows.now)) c.in-Absurd.weights.items (omega (arith, o.1)) h);
     }
 
 pub verdict_of_solved-requires-clause-room : goal.verdict_of_solved-requires-clause-room
@@ -41,4 +43,4 @@ pub verdict_of_solved-requires-clause-solved : goal.verdict_of_solved-requires-c
 verdict_of_solved-requires-clause-solved c =
     let o = c.requires.outcome in
     let h = rw c.in-Holds.is at o.3 in
-    subst (λ v. IsSolved v (named_constraints false c.args.terms.now (all_seen c.args.rows.now)) c.in-Holds.solved.now) (sym h.table.columns_many) h
+    subst (λ v. IsSolved v (named_constraints false c.args.terms.now (all_seen c.args.rows.now)) c.in-Holds.solved) (sym h.table.columns_many) h

@@ -1,4 +1,4 @@
-use Rattle.std.proofs.Common.{◌+◌, ◌≡◌, ◌≤◌, arith, ◌∙◌, ap, sym, subst, length, true, false}
+use Rattle.std.proofs.Common.{◌+◌, arith, ◌∙◌, ap, sym, subst, length, true, false}
 use Rattle.e_fraction.specs.Views.{all_seen}
 use Rattle.e_simplex.specs.Naming.{named_constraints}
 use Rattle.e_simplex.specs.Constraints.{AllSmallConstraints}
@@ -39,8 +39,8 @@ named_values-requires c =
     let h = rw c.in-Found.is at c.in_ok-satisfy_all.ensures in
     omega (arith, c.requires.room, h.solution.shape, ap length c.deref-in-Found.ensures.value)
 
-pub returns-in_ok-values-in-Found : goal.returns-in_ok-values-in-Found
-returns-in_ok-values-in-Found c =
+pub returns-in-Found : goal.returns-in-Found
+returns-in-Found c =
     let ts = c.args.terms.now in
     let rows = all_seen c.args.rows.now in
     let h = rw c.in-Found.is at c.in_ok-satisfy_all.ensures in

@@ -1,8 +1,8 @@
-use Rattle.std.proofs.Common.{◌≡◌, ◌+◌, ◌-◌, SFits, to_z-of_z, arith, ap, sym, ◌∙◌, length, take, get_or}
+use Rattle.std.proofs.Common.{◌-◌, SFits, to_z-of_z, arith, ap, ◌∙◌, get_or}
 use mir.Syntax.{w128}
 use Rattle.e_fraction.specs.Views.{seen, all_seen}
 use Rattle.e_simplex.proofs.Forms.{fits_type}
-use Rattle.e_simplex.specs.inner.RowMultipliers.{count_nots, multiplier_of}
+use Rattle.e_simplex.specs.inner.RowMultipliers.{multiplier_of}
 use Rattle.e_simplex.proofs.RowMultipliers.{row_multipliers_more, nots_more, count_most, take_done, take_length}
 use Rattle.e_simplex.proofs.multipliers.multipliers_of_rows.Goals as goal
 

@@ -8,5 +8,5 @@ solved-requires-clause-fit c = fit_here _ _ c.in_ok-table.table c.in_ok-table.en
 pub solved-requires-clause-begun : goal.solved-requires-clause-begun
 solved-requires-clause-begun c = begun_here _ _ c.in_ok-table.table c.in_ok-table.ensures
 
-pub returns-in_ok-table : goal.returns-in_ok-table
-returns-in_ok-table c = IfOk-weaker c.solved.result _ _ (λ o h. outcome_of _ _ c.in_ok-table.table o c.in_ok-table.ensures h) c.solved.ensures
+pub returns : goal.returns
+returns c = IfOk-weaker c.solved.result _ _ (λ o h. outcome_of _ _ c.in_ok-table.table o c.in_ok-table.ensures h) c.solved.ensures

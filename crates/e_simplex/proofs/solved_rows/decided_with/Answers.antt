@@ -1,4 +1,4 @@
-use Rattle.std.proofs.Common.{◌≡◌, ◌++◌, ◌+◌, ◌<◌, ◌≤◌, ◌^◌, ap, arith, sym, ◌∙◌, subst, length, false, rules}
+use Rattle.std.proofs.Common.{◌≡◌, ◌<◌, ◌^◌, ap, arith, sym, ◌∙◌, subst, length, false, rules}
 use Rattle.std.proofs.lemmas.List.{nil_from_length}
 use Rattle.e_fraction.specs.Views.{all_seen}
 use Rattle.e_simplex.specs.Constraints.{AllSmallConstraints}
@@ -8,7 +8,7 @@ use Rattle.e_simplex.proofs.Extending.{named_both, fit_both, outcome_both, solve
 use Rattle.e_simplex.proofs.solved_rows.decided_with.Goals as goal
 
 pub constraints_where-requires-clause-named : goal.constraints_where-requires-clause-named
-constraints_where-requires-clause-named c = subst (λ v. AllNamed v (all_seen c.args.more.now)) (sym c.deref.ensures.value) c.in_ok-terms.ensures.all
+constraints_where-requires-clause-named c = subst (λ v. AllNamed v (all_seen c.args.more.now)) (sym c.deref-2.ensures.value) c.in_ok-terms.ensures.all
 
 pub with_all-requires-clause-fit : goal.with_all-requires-clause-fit
 with_all-requires-clause-fit c =
@@ -16,16 +16,16 @@ with_all-requires-clause-fit c =
     let s = c.args.solved.now in
     let room : length ts < columns_of s = omega (arith, c.if-width-len.false, c.width.ensures, c.len.ensures ∙ c.in_ok-terms.terms.ok.0) in
     let n : length s.columns.items < 2 ^ 63 = search rules in
-    let e : c.deref-2.result.now ≡ c.in_ok-constraints.constraints.items = c.deref-2.ensures.value in
+    let e : c.deref-3.result.now ≡ c.in_ok-constraints.constraints.items = c.deref-3.ensures.value in
     fit_both c.args.rows.now c.args.more.now c.args.terms.now ts s c.requires.table c.in_ok-terms.ensures.continues c.in_ok-terms.ensures.all
-    c.deref-2.result.now (e ∙ c.in_ok-constraints.ensures.value ∙ ap (λ v. named_constraints false v (all_seen c.args.more.now)) c.deref.ensures.value)
+    c.deref-3.result.now (e ∙ c.in_ok-constraints.ensures.value ∙ ap (λ v. named_constraints false v (all_seen c.args.more.now)) c.deref-2.ensures.value)
     room (omega (arith, n)) c.requires.few (subst AllSmallConstraints (sym e) c.in_ok-constraints.ensures.small)
 
 pub verdict_of-requires-clause-named : goal.verdict_of-requires-clause-named
 verdict_of-requires-clause-named c =
     let ts = c.in_ok-terms.terms.items in
-    subst (λ v. AllNamed v (all_seen c.deref-3.result.now)) (sym c.deref-4.ensures.value)
-    (subst (λ v. AllNamed ts (all_seen v)) (sym (c.deref-3.ensures.value ∙ c.in_ok-all.ensures))
+    subst (λ v. AllNamed v (all_seen c.deref-4.result.now)) (sym c.deref-5.ensures.value)
+    (subst (λ v. AllNamed ts (all_seen v)) (sym (c.deref-4.ensures.value ∙ c.in_ok-all.ensures))
     (named_both c.args.rows.now c.args.more.now c.args.terms.now ts c.args.solved.now c.requires.table c.in_ok-terms.ensures.continues c.in_ok-terms.ensures.all))
 
 pub verdict_of-requires-clause-outcome : goal.verdict_of-requires-clause-outcome
@@ -35,12 +35,12 @@ verdict_of-requires-clause-outcome c =
     let room : length ts < columns_of s = omega (arith, c.if-width-len.false, c.width.ensures, c.len.ensures ∙ c.in_ok-terms.terms.ok.0) in
     let n : length s.columns.items < 2 ^ 63 = search rules in (
       columns_of s,
-      omega (arith, room, ap length c.deref-4.ensures.value),
+      omega (arith, room, ap length c.deref-5.ensures.value),
       omega (arith, n),
-      subst (λ v. IsOutcome (columns_of s) (named_constraints false v (all_seen c.deref-3.result.now)) c.in_ok-outcome.outcome) (sym c.deref-4.ensures.value)
-          (subst (λ v. IsOutcome (columns_of s) (named_constraints false ts (all_seen v)) c.in_ok-outcome.outcome) (sym (c.deref-3.ensures.value ∙ c.in_ok-all.ensures))
+      subst (λ v. IsOutcome (columns_of s) (named_constraints false v (all_seen c.deref-4.result.now)) c.in_ok-outcome.outcome) (sym c.deref-5.ensures.value)
+          (subst (λ v. IsOutcome (columns_of s) (named_constraints false ts (all_seen v)) c.in_ok-outcome.outcome) (sym (c.deref-4.ensures.value ∙ c.in_ok-all.ensures))
           (outcome_both c.args.rows.now c.args.more.now c.args.terms.now ts s c.requires.table c.in_ok-terms.ensures.continues c.in_ok-terms.ensures.all
-          c.deref-2.result.now (c.deref-2.ensures.value ∙ c.in_ok-constraints.ensures.value ∙ ap (λ v. named_constraints false v (all_seen c.args.more.now)) c.deref.ensures.value)
+          c.deref-3.result.now (c.deref-3.ensures.value ∙ c.in_ok-constraints.ensures.value ∙ ap (λ v. named_constraints false v (all_seen c.args.more.now)) c.deref-2.ensures.value)
           c.in_ok-outcome.outcome c.in_ok-outcome.ensures)),
     )
 
@@ -68,5 +68,5 @@ verdict_of_solved-requires-clause-solved c =
     subst (λ v. IsSolved (columns_of s) (named_constraints false v (all_seen c.deref-then-is_empty.result.now)) s) (sym c.deref-then-is_empty-2.ensures.value)
     (subst (λ v. IsSolved (columns_of s) (named_constraints false ts (all_seen v)) s) (sym (c.deref-then-is_empty.ensures.value ∙ c.in_ok-all.ensures))
     (solved_both c.args.rows.now c.args.more.now c.args.terms.now ts s c.requires.table c.in_ok-terms.ensures.continues c.in_ok-terms.ensures.all
-    c.in_ok-constraints.constraints.items (c.in_ok-constraints.ensures.value ∙ ap (λ v. named_constraints false v (all_seen c.args.more.now)) c.deref.ensures.value)
+    c.in_ok-constraints.constraints.items (c.in_ok-constraints.ensures.value ∙ ap (λ v. named_constraints false v (all_seen c.args.more.now)) c.deref-2.ensures.value)
     (nil_from_length c.in_ok-constraints.constraints.items none)))

@@ -4,7 +4,7 @@ use Rattle.e_fraction.specs.Views.{all_seen}
 use Rattle.e_fraction.proofs.Wideness.{wide_rows_width}
 use Rattle.e_simplex.specs.Constraints.{AllSmallConstraints, IsAbsurd, rows_of}
 use Rattle.e_simplex.specs.Naming.{AllNamed, named_constraints}
-use Rattle.e_simplex.specs.Solved.{IsFit, IsSolved, columns_of}
+use Rattle.e_simplex.specs.Solved.{IsFit, IsSolved}
 use Rattle.e_simplex.specs.inner.Weights.{AreWeightsFor}
 use Rattle.e_simplex.proofs.NamedConstraints.{fit_constraints}
 use Rattle.e_simplex.proofs.WideRows.{wide_over}

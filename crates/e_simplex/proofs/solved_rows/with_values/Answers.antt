@@ -1,4 +1,4 @@
-use Rattle.std.proofs.Common.{◌+◌, ◌∙◌, ap, arith, sym, subst, length, false}
+use Rattle.std.proofs.Common.{ap, arith, sym, subst, length, false}
 use Rattle.e_fraction.specs.Views.{all_seen}
 use Rattle.e_simplex.specs.Answer.{AreValuesOf}
 use Rattle.e_simplex.specs.Naming.{AllNamed, named_constraints}

@@ -9,8 +9,8 @@ pub returns-in-Sums : goal.returns-in-Sums
 returns-in-Sums c =
     let m : SFits w128 c.args.multiplier = c.ranges.multiplier in
     let n : SFits w128 c.turned_by.result = search rules in
-    let more = simp to_z-of_z total_at c.add_difference.ensures in
-    let turned = simp to_z-of_z total_at c.turned_by.ensures.value in
+    let more = simp to_z-of_z at c.add_difference.ensures in
+    let turned = simp to_z-of_z at c.turned_by.ensures.value in
     let s = c.in-Sums in
     on_ok c.add_difference.result more (λ h t. added_sums c.args.row s.says s.plus s.minus s.turned t (total_at c.args.totals.now t) c.args.multiplier c.turned_by.result (total_at c.add_difference.new.totals t) s.is turned (h t))
 
@@ -19,10 +19,10 @@ returns-in_ok-add-in-Top c =
     let m : SFits w128 c.args.multiplier = c.ranges.multiplier in
     let p : SFits w128 c.product.result = search rules in
     let n : SFits w128 c.turned_by-in-Top.result = search rules in
-    let twice = simp to_z-of_z total_at c.product.ensures.value in
-    let turned = simp to_z-of_z total_at c.turned_by-in-Top.ensures.value in
-    let first = simp to_z-of_z total_at c.in_ok-add-in-Top.ensures in
-    let second = simp to_z-of_z total_at c.add-in-Top-2.ensures in
+    let twice = simp to_z-of_z at c.product.ensures.value in
+    let turned = simp to_z-of_z at c.turned_by-in-Top.ensures.value in
+    let first = simp to_z-of_z at c.in_ok-add-in-Top.ensures in
+    let second = simp to_z-of_z at c.add-in-Top-2.ensures in
     on_ok c.add-in-Top-2.result second
     (λ h t. added_top c.args.row c.in-Top.term t (total_at c.args.totals.now t) c.args.multiplier (total_at c.add-in-Top.new.self t) (total_at c.add-in-Top-2.new.self t) c.in-Top.is
     (first t ∙ ap (λ k. total_at c.args.totals.now t +ℤ single k Right t) twice) (h t ∙ ap (λ k. total_at c.add-in-Top.new.self t +ℤ single k c.in-Top.term t) turned))
@@ -30,11 +30,11 @@ returns-in_ok-add-in-Top c =
 pub returns-in-Pos : goal.returns-in-Pos
 returns-in-Pos c =
     let m : SFits w128 c.args.multiplier = c.ranges.multiplier in
-    let more = simp to_z-of_z total_at c.add.ensures in
+    let more = simp to_z-of_z at c.add.ensures in
     on_ok c.add.result more (λ h t. added_pos c.args.row c.in-Pos.term t (total_at c.args.totals.now t) c.args.multiplier (total_at c.add.new.self t) c.in-Pos.is (h t))
 
 pub returns-in-Least : goal.returns-in-Least
 returns-in-Least c =
     let m : SFits w128 c.args.multiplier = c.ranges.multiplier in
-    let more = simp to_z-of_z total_at c.add-in-Least.ensures in
+    let more = simp to_z-of_z at c.add-in-Least.ensures in
     on_ok c.add-in-Least.result more (λ h t. added_least c.args.row c.in-Least.term t (total_at c.args.totals.now t) c.args.multiplier (total_at c.add-in-Least.new.self t) c.in-Least.is (h t))

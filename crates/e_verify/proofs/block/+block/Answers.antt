@@ -186,11 +186,16 @@ verify_step-returns-in_ok-apply-in-Apply-clause-err t c =
 
 -- ---- a claim
 
-pub verify_step-verify_claim-requires-clause-ready : goal.verify_step-verify_claim-requires-clause-ready
-verify_step-verify_claim-requires-clause-ready t c =
-    let y = c.in-Claim in
-    ready_as (all_stated c.args.before.now) (Claim c.items-in-Claim.result.now (script_of c.deref.result.now)) (step_script c.args.step.now) c.args.state.now c.args.number
-    (claim_is c.args.step.now y.shown c.items-in-Claim.result.now y.inner c.deref.result.now y.is c.items-in-Claim.ensures c.deref.ensures) c.requires.ready
+pub verify_step-verify_claim-requires : goal.verify_step-verify_claim-requires
+verify_step-verify_claim-requires t c =
+    let y = c.in-Claim in (
+      search (rules, the_lemmas),
+      (
+        ready_as (all_stated c.args.before.now) (Claim c.items-in-Claim.result.now (script_of c.deref.result.now)) (step_script c.args.step.now) c.args.state.now c.args.number
+            (claim_is c.args.step.now y.shown c.items-in-Claim.result.now y.inner c.deref.result.now y.is c.items-in-Claim.ensures c.deref.ensures) c.requires.ready,
+        c.requires.statements,
+      ),
+    )
 
 pub verify_step-returns-in-Claim-clause-ok : goal.verify_step-returns-in-Claim-clause-ok
 verify_step-returns-in-Claim-clause-ok t c =
@@ -281,14 +286,14 @@ verify_close-returns-in_ok-contradiction-in-Contradiction-clause-err t c =
 
 -- ---- a superposition
 
-pub verify_step-verify_superposed-requires-clause-ready : goal.verify_step-verify_superposed-requires-clause-ready
-verify_step-verify_superposed-requires-clause-ready t c =
-    let y = c.in-Superposed in (
-      y.names,
-      ready_as (all_stated c.args.before.now) (Superposed y.form y.names c.items-in-Superposed.result.now c.items-in-Superposed-2.result.now (script_of c.deref-in-Superposed.result.now)) (step_script c.args.step.now) c.args.state.now c.args.number
-          (superposed_is c.args.step.now y.form y.names y.shown c.items-in-Superposed.result.now y.certs c.items-in-Superposed-2.result.now y.inner c.deref-in-Superposed.result.now y.is c.items-in-Superposed.ensures c.items-in-Superposed-2.ensures
-          c.deref-in-Superposed.ensures) c.requires.ready,
-    )
+pub verify_step-verify_superposed-requires : goal.verify_step-verify_superposed-requires
+verify_step-verify_superposed-requires t c =
+    let y = c.in-Superposed in
+    let ready =
+    ready_as (all_stated c.args.before.now) (Superposed y.form y.names c.items-in-Superposed.result.now c.items-in-Superposed-2.result.now (script_of c.deref-in-Superposed.result.now)) (step_script c.args.step.now) c.args.state.now c.args.number
+    (superposed_is c.args.step.now y.form y.names y.shown c.items-in-Superposed.result.now y.certs c.items-in-Superposed-2.result.now y.inner c.deref-in-Superposed.result.now y.is c.items-in-Superposed.ensures c.items-in-Superposed-2.ensures
+    c.deref-in-Superposed.ensures) c.requires.ready
+    in (search (rules, the_lemmas), ((y.names, ready), c.requires.statements))
 
 pub verify_step-returns-in-Superposed-clause-ok : goal.verify_step-returns-in-Superposed-clause-ok
 verify_step-returns-in-Superposed-clause-ok t c =

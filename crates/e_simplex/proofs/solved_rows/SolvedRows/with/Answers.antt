@@ -3,4 +3,4 @@ use Rattle.e_simplex.specs.Preparing.{IsPrepared}
 use Rattle.e_simplex.proofs.solved_rows.SolvedRows.with.Goals as goal
 
 pub returns : goal.returns
-returns c = subst (λ v. IsPrepared (v ++ c.args.more.now) c.in_ok-prepared.prepared) (c.deref.ensures.value ∙ c.self.view_is) c.in_ok-settling.ensures
+returns c = subst (λ v. IsPrepared (v ++ c.args.more.now) c.in_ok-prepared.prepared) (c.deref.ensures.value ∙ c.self.view_is) c.in_ok-prepared.ensures

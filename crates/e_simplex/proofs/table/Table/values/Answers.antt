@@ -21,17 +21,17 @@ loop-column-preserved c =
 pub returns-clause-solution : goal.returns-clause-solution
 returns-clause-solution c =
     let t = c.args.self.now in
-    let e : c.loop-column.column ≡ columns_of t = omega (arith, c.len.ensures ∙ t.columns.ok.0) in
+    let e : c.loop-column.column ≡ columns_of t = omega (arith, c.len-column-end.ensures ∙ t.columns.ok.0) in
     solved_values t c.requires c.loop-column.values.items (subst (λ n. ValuesTo n t.basis.items t.entries.items (columns_of t) c.loop-column.values.items) e c.loop-column.invariant)
 
 pub returns-clause-bounded : goal.returns-clause-bounded
 returns-clause-bounded c =
     let t = c.args.self.now in
-    let e : c.loop-column.column ≡ columns_of t = omega (arith, c.len.ensures ∙ t.columns.ok.0) in
+    let e : c.loop-column.column ≡ columns_of t = omega (arith, c.len-column-end.ensures ∙ t.columns.ok.0) in
     solved_bounds t c.requires c.loop-column.values.items (subst (λ n. ValuesTo n t.basis.items t.entries.items (columns_of t) c.loop-column.values.items) e c.loop-column.invariant)
 
 pub returns-clause-further : goal.returns-clause-further
 returns-clause-further c =
     let t = c.args.self.now in
-    let e : c.loop-column.column ≡ columns_of t = omega (arith, c.len.ensures ∙ t.columns.ok.0) in
+    let e : c.loop-column.column ≡ columns_of t = omega (arith, c.len-column-end.ensures ∙ t.columns.ok.0) in
     solved_further t c.requires c.loop-column.values.items (subst (λ n. ValuesTo n t.basis.items t.entries.items (columns_of t) c.loop-column.values.items) e c.loop-column.invariant)
