@@ -66,7 +66,7 @@ pub fn cut<'b, 'a>(words: &'b [&'a [u8]], word: &[u8]) -> (&'b [&'a [u8]], &'b [
 pub fn names_of(alloc: Global, words: &[&[u8]]) -> Result<Items<Name>, LineError>
     ensures { Gives (λ n. n) result (names_of (texts words.now)) }
 {
-    let mut names = Items::empty(alloc);
+    let mut names = Items::new(Vec::with_capacity(alloc, words.len())?);
     for word in words {
         match Name::read(word) {
             Some(name) => names.push(name)?,

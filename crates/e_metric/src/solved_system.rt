@@ -64,7 +64,7 @@ fn add_rows(rows: &mut Vec<Row>, alloc: Global, more: &[Row]) -> Result<(), Allo
 pub fn copied_rows(alloc: Global, rows: &[Row]) -> Result<Vec<Row>, AllocError>
     ensures { IfOk result (λ v. v.items ≡ rows.now) }
 {
-    let mut copies = Vec::new(alloc);
+    let mut copies = Vec::with_capacity(alloc, rows.len())?;
     add_rows(&mut copies, alloc, rows)?;
     Ok(copies)
 }
@@ -83,7 +83,7 @@ fn add_names(names: &mut Vec<RowName>, alloc: Global, more: &[RowName]) -> Resul
 fn copied_names(alloc: Global, names: &[RowName]) -> Result<Vec<RowName>, AllocError>
     ensures { IfOk result (λ v. v.items ≡ names.now) }
 {
-    let mut copies = Vec::new(alloc);
+    let mut copies = Vec::with_capacity(alloc, names.len())?;
     add_names(&mut copies, alloc, names)?;
     Ok(copies)
 }
@@ -131,7 +131,8 @@ impl SolvedSystem {
     pub fn names_with(&self, alloc: Global, more: &[RowName]) -> Result<Vec<RowName>, AllocError>
         ensures { IfOk result (λ v. v.items ≡ self.now.names.items ++ more.now) }
     {
-        let mut names = Vec::new(alloc);
+        let room = self.names.len().saturating_add(more.len());
+        let mut names = Vec::with_capacity(alloc, room)?;
         add_names(&mut names, alloc, &self.names)?;
         add_names(&mut names, alloc, more)?;
         Ok(names)
@@ -141,7 +142,9 @@ impl SolvedSystem {
     pub fn rows_with(&self, alloc: Global, more: &[Row]) -> Result<Vec<Row>, AllocError>
         ensures { IfOk result (λ v. v.items ≡ self.now.rows.items ++ more.now) }
     {
-        let mut rows = copied_rows(alloc, &self.rows)?;
+        let room = self.rows.len().saturating_add(more.len());
+        let mut rows = Vec::with_capacity(alloc, room)?;
+        add_rows(&mut rows, alloc, &self.rows)?;
         add_rows(&mut rows, alloc, more)?;
         Ok(rows)
     }

@@ -251,7 +251,7 @@ fn objects_as(
     requires { FewNames names.now }
     ensures { Gives (λ l. l) result (objects_as names.now sort of.now) }
 {
-    let mut found = Items::empty(alloc);
+    let mut found = Items::new(Vec::with_capacity(alloc, of.len())?);
     for name in of {
         let object = object_as(names, sort, *name)?;
         found.push(object)?;

@@ -115,7 +115,7 @@ fn word_of(what: What) -> &'static [u8]
 }
 
 /// The number of the faulty line.
-fn line_of(fault: &BookFault) -> u32
+fn faulty_line_of(fault: &BookFault) -> u32
     ensures { result ≡ faulty_line fault.now }
 {
     match fault {
@@ -154,5 +154,5 @@ pub fn fault(alloc: Global, fault: &BookFault) -> Result<Vec<u8>, AllocError>
     ensures { IfOk result (λ v. v.items ≡ fault_line fault.now) }
 {
     let words = words_of(alloc, fault)?;
-    line_with(alloc, b"fault ", u64::from(line_of(fault)), &words)
+    line_with(alloc, b"fault ", u64::from(faulty_line_of(fault)), &words)
 }

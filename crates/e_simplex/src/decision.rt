@@ -46,7 +46,7 @@ fn named_values(alloc: Global, terms: &[Term], values: &[i128]) -> Result<Values
     requires { length terms.now < length values.now }
     ensures { IfOk result (PairedTo (length terms.now) terms.now values.now) }
 {
-    let mut pairs = Vec::new(alloc);
+    let mut pairs = Vec::with_capacity(alloc, terms.len())?;
     for c in 0..terms.len() {
         pairs.push((terms[c], values[c + 1].unsigned_abs()))?;
     }

@@ -53,7 +53,7 @@ pub fn multipliers_of_rows(
     ensures { IfOk result (λ v.
         v.items ≡ row_multipliers (all_seen rows.now) weights.now 0 tried last) }
 {
-    let mut all = Vec::new(alloc);
+    let mut all = Vec::with_capacity(alloc, rows.len())?;
     let mut seen = 0;
     for i in 0..rows.len() {
         let is_not = is_kept(true, rows[i].kind);

@@ -24,7 +24,7 @@ pub enum Outcome {
 fn count_up(alloc: Global, count: usize) -> Result<Vec<usize>, AllocError>
     ensures { IfOk result (λ v. v.items ≡ numbers 0 count) }
 {
-    let mut all = Vec::new(alloc);
+    let mut all = Vec::with_capacity(alloc, count)?;
     for i in 0..count {
         all.push(i)?;
     }
@@ -43,7 +43,7 @@ fn fixed_numbers(
     ensures { IfOk result (λ v.
         FixedTo (w + length constraints.now) constraints.now w v.items) }
 {
-    let mut fixed = Vec::new(alloc);
+    let mut fixed = Vec::with_capacity(alloc, w + constraints.len())?;
     for c in 0..w + constraints.len() {
         let is_fixed = if c == 0 {
             true
@@ -75,7 +75,7 @@ fn constraints_with(
 ) -> Result<Vec<Constraint>, AllocError>
     ensures { IfOk result (λ v. v.items ≡ constraints.now ++ more.now) }
 {
-    let mut all = Vec::new(alloc);
+    let mut all = Vec::with_capacity(alloc, constraints.len().saturating_add(more.len()))?;
     for old in constraints {
         all.push(copy_of_constraint(alloc, old)?)?;
     }
@@ -92,7 +92,7 @@ fn copies_of_constraints(
 ) -> Result<Vec<Constraint>, AllocError>
     ensures { IfOk result (λ v. v.items ≡ constraints.now) }
 {
-    let mut all = Vec::new(alloc);
+    let mut all = Vec::with_capacity(alloc, constraints.len())?;
     for constraint in constraints {
         all.push(copy_of_constraint(alloc, constraint)?)?;
     }

@@ -68,7 +68,7 @@ fn copy_of_row(alloc: Global, row: &Row) -> Result<Row, AllocError>
 fn copies_of_rows(alloc: Global, rows: &[Row]) -> Result<Vec<Row>, AllocError>
     ensures { IfOk result (λ v. v.items ≡ rows.now) }
 {
-    let mut all = Vec::new(alloc);
+    let mut all = Vec::with_capacity(alloc, rows.len())?;
     for row in rows {
         all.push(copy_of_row(alloc, row)?)?;
     }
@@ -79,7 +79,7 @@ fn copies_of_rows(alloc: Global, rows: &[Row]) -> Result<Vec<Row>, AllocError>
 fn rows_with(alloc: Global, rows: &[Row], more: &[Row]) -> Result<Vec<Row>, AllocError>
     ensures { IfOk result (λ v. v.items ≡ rows.now ++ more.now) }
 {
-    let mut all = Vec::new(alloc);
+    let mut all = Vec::with_capacity(alloc, rows.len().saturating_add(more.len()))?;
     for old in rows {
         all.push(copy_of_row(alloc, old)?)?;
     }

@@ -176,7 +176,7 @@ fn at(alloc: Global, lits: &[Lit], images: &Map) -> Result<Items<Lit>, AllocErro
 pub fn all_renamed(alloc: Global, lits: &[Lit], images: &Map) -> Result<Vec<Lit>, AllocError>
     ensures { IfOk result (λ ls. ls.items ≡ map_list (at_images (image_in images.now)) lits.now) }
 {
-    let mut with = Vec::new(alloc);
+    let mut with = Vec::with_capacity(alloc, lits.len())?;
     for lit in lits {
         with.push(renamed(alloc, lit, images)?)?;
     }

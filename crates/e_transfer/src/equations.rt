@@ -19,20 +19,10 @@ pub enum Equation {
     Same(usize, usize),
 }
 
-fn one(alloc: Global, first: Equation) -> Result<Items<Equation>, AllocError>
-    ensures { IfOk result (λ b. b ≡ first ∷ []) }
-{
-    let mut equations = Items::empty(alloc);
-    equations.push(first)?;
-    Ok(equations)
-}
-
 fn two(alloc: Global, first: Equation, second: Equation) -> Result<Items<Equation>, AllocError>
     ensures { IfOk result (λ b. b ≡ first ∷ second ∷ []) }
 {
-    let mut equations = one(alloc, first)?;
-    equations.push(second)?;
-    Ok(equations)
+    Ok(Items::new(Vec::from_slice(alloc, &[first, second])?))
 }
 
 fn three(
@@ -43,9 +33,7 @@ fn three(
 ) -> Result<Items<Equation>, AllocError>
     ensures { IfOk result (λ b. b ≡ first ∷ second ∷ third ∷ []) }
 {
-    let mut equations = two(alloc, first, second)?;
-    equations.push(third)?;
-    Ok(equations)
+    Ok(Items::new(Vec::from_slice(alloc, &[first, second, third])?))
 }
 
 /// The argument of a point variable, a line variable and a circle variable.
