@@ -94,8 +94,8 @@ pub fn values_at(
     ensures { IfOk result (λ v. AreValues (length forms.now) forms.now values.now v.items) }
 {
     let mut all = Vec::new(alloc);
-    for j in 0..forms.len() {
-        all.push(value_of(forms[j].form.items(), values))?;
+    for constraint in forms {
+        all.push(value_of(constraint.form.items(), values))?;
     }
     Ok(all)
 }
