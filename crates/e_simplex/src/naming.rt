@@ -21,12 +21,10 @@ pub fn place(terms: &[Term], term: Term) -> usize
     ensures value { result ≡ place_of terms.now term }
     ensures counted { length terms.now < 2 ^ 64 }
 {
-    for i in 0..terms.len() {
-        if terms[i] == term {
-            return i;
-        }
-    }
-    terms.len()
+    terms
+        .iter()
+        .position(|known| term == *known)
+        .unwrap_or(terms.len())
 }
 
 /// The terms of the first `i` rows, and those of the next that are not among them.
