@@ -37,10 +37,9 @@ fn with_terms(mut terms: Vec<Term>, rows: &[Row], i: usize) -> Result<Vec<Term>,
     ensures continues { IfOk result (λ v. Continues terms.items v.items) }
 {
     let form = rows[i].form.summands();
-    for k in 0..form.len() {
-        let term = form[k].1;
-        if place(&terms, term) == terms.len() {
-            terms.push(term)?;
+    for (_, term) in form {
+        if place(&terms, *term) == terms.len() {
+            terms.push(*term)?;
         }
     }
     Ok(terms)
