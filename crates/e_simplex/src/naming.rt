@@ -92,10 +92,10 @@ fn named_constraint(alloc: Global, row: &Row, terms: &[Term]) -> Result<Constrai
         return Err(AllocError);
     }
     let mut form = Vec::new(alloc);
-    for k in 0..summands.len() {
+    for (coefficient, term) in summands {
         form.push(Monomial {
-            coefficient: summands[k].0,
-            column: place(terms, summands[k].1) + 1,
+            coefficient: *coefficient,
+            column: place(terms, *term) + 1,
         })?;
     }
     Ok(Constraint {
