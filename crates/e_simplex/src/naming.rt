@@ -129,9 +129,9 @@ pub fn constraints_where(
     ensures small { IfOk result (λ v. AllSmallConstraints v.items) }
 {
     let mut constraints = Vec::new(alloc);
-    for i in 0..rows.len() {
-        if is_kept(not, rows[i].kind) {
-            constraints.push(named_constraint(alloc, &rows[i], terms)?)?;
+    for row in rows {
+        if is_kept(not, row.kind) {
+            constraints.push(named_constraint(alloc, row, terms)?)?;
         }
     }
     Ok(constraints)
