@@ -1,7 +1,10 @@
 -- Terms and their columns: places of terms, and constraints of one row more.
-use Rattle.std.proofs.Common.{◌≡◌, ◌≢◌, ℕ, zero, suc, ◌+◌, ◌<◌, ◌≤◌, List, [], ◌∷◌, ◌++◌, refl, ap, ap₂, arith, sym, ◌∙◌, subst, length, get_or, take, cond, Bool, true, false, true≢false, inl, inr}
+use Rattle.std.proofs.Common.{◌≡◌, ◌≢◌, ℕ, zero, suc, ◌+◌, ◌<◌, ◌≤◌, List, [], ◌∷◌, ◌++◌, refl, ap, ap₂, arith, sym, ◌∙◌, subst, length, get_or, take, cond, Bool, true, false, ltb, None, Some, inl, inr}
 use Rattle.std.proofs.lemmas.List.{take_more, length_push, get_or_push, get_or_append_left}
-use Rattle.std.proofs.lemmas.Bool.{cases_eq, cases_Bool}
+use Rattle.std.specs.List.{position, position_or_len}
+use Rattle.std.specs.Option.{unwrap_or}
+use Rattle.std.proofs.lemmas.List.Recursion.{is_position_or_len}
+use Rattle.std.proofs.lemmas.Bool.{cases_eq, cases_Bool, ltb-false}
 use lib.IntN.{ℤ}
 use Rattle.e_literal.specs.declared.object.Term.{Term}
 use Rattle.e_literal.specs.declared.object.Term.TheVariants.{Right}
@@ -13,7 +16,7 @@ use Rattle.e_simplex.specs.declared.constraints.Monomial.{Monomial}
 use Rattle.e_simplex.specs.declared.constraints.Constraint.{Constraint}
 use Rattle.e_simplex.specs.declared.constraints.Sense.{Sense}
 use Rattle.e_simplex.specs.Naming.{place_of, IsIn, AreOnce, Continues, FormNamed, AllNamed, named_form, named_constraint, named_constraints, sense_of, keeps}
-use Rattle.e_literal.proofs.Terms.{term_eq_is, term_eq_same, equal_terms}
+use Rattle.e_literal.proofs.Terms.{term_eq_is, term_eq_same}
 
 -- ---- places
 
@@ -37,30 +40,19 @@ term_at (x ∷ xs) t h = elim (cases_Bool (term_eq t x)) [
   | inr n ↦ ap (λ m. get_or (x ∷ xs) m Right) (place_rest x xs t n) ∙ term_at xs t (omega (arith, h, place_rest x xs t n))
 ]
 
--- a term that is found at i and not before
-pub place_at : (ts : List Term) (t : Term) (i : ℕ) (d : Term) → i < length ts → ((k : ℕ) → k < i → term_eq (get_or ts k d) t ≡ false)
-    → term_eq (get_or ts i d) t ≡ true → place_of ts t ≡ i
-place_at [] t i d l h e = absurd (omega (arith, l))
-place_at (x ∷ xs) t zero d l h e = place_head x xs t (equal_terms t x (sym (term_eq_is x t e)))
-place_at (x ∷ xs) t (suc i) d l h e =
-    place_rest x xs t (turned_false x t (h 0 (omega arith))) ∙ ap suc (place_at xs t i d (omega (arith, l)) (λ k m. h (suc k) (omega (arith, m))) e)
+-- the place that a search finds, or the number of terms
+pub place_found : (ts : List Term) (t : Term) → unwrap_or (position (term_eq t) ts) (length ts) ≡ place_of ts t
+place_found ts t = by (ltb (position_or_len (term_eq t) ts) (length ts)) refl
   where
-    turned_false : (a b : Term) → term_eq a b ≡ false → term_eq b a ≡ false
-    turned_false a b f = elim (cases_Bool (term_eq b a)) [
-      | inl y ↦ absurd (true≢false (sym (equal_terms a b (sym (term_eq_is b a y))) ∙ f))
-      | inr n ↦ n
-    ]
+    more : (x : Term) (xs : List Term) → place_of (x ∷ xs) t ≡ cond (term_eq t x) 0 (1 + place_of xs t)
+    more x xs = let one : suc (place_of xs t) ≡ 1 + place_of xs t = omega arith in ap (λ (n : ℕ). cond (term_eq t x) 0 n) one
 
-pub place_none : (ts : List Term) (t d : Term) → ((k : ℕ) → k < length ts → term_eq (get_or ts k d) t ≡ false) → place_of ts t ≡ length ts
-place_none [] t d h = refl
-place_none (x ∷ xs) t d h =
-    place_rest x xs t (turned_false x t (h 0 (omega arith))) ∙ ap suc (place_none xs t d (λ k m. h (suc k) (omega (arith, m))))
-  where
-    turned_false : (a b : Term) → term_eq a b ≡ false → term_eq b a ≡ false
-    turned_false a b f = elim (cases_Bool (term_eq b a)) [
-      | inl y ↦ absurd (true≢false (sym (equal_terms a b (sym (term_eq_is b a y))) ∙ f))
-      | inr n ↦ n
-    ]
+    same : place_of ts t ≡ position_or_len (term_eq t) ts
+    same = is_position_or_len (λ xs. place_of xs t) (term_eq t) refl more ts
+
+    by : (b : Bool) → ltb (position_or_len (term_eq t) ts) (length ts) ≡ b → unwrap_or (cond b (Some (position_or_len (term_eq t) ts)) None) (length ts) ≡ place_of ts t
+    by true e = sym same
+    by false e = omega (arith, ltb-false (position_or_len (term_eq t) ts) (length ts) e, place_most ts t, same)
 
 place_push : (ts : List Term) (u t : Term) → IsIn ts u → place_of (ts ++ t ∷ []) u ≡ place_of ts u
 place_push [] u t h = absurd (omega (arith, h))

@@ -47,8 +47,8 @@ fn named_values(alloc: Global, terms: &[Term], values: &[i128]) -> Result<Values
     ensures { IfOk result (PairedTo (length terms.now) terms.now values.now) }
 {
     let mut pairs = Vec::with_capacity(alloc, terms.len())?;
-    for c in 0..terms.len() {
-        pairs.push((terms[c], values[c + 1].unsigned_abs()))?;
+    for (c, term) in terms.iter().enumerate() {
+        pairs.push((*term, values[c + 1].unsigned_abs()))?;
     }
     Ok(Values::new(pairs))
 }

@@ -21,12 +21,10 @@ pub fn place(terms: &[Term], term: Term) -> usize
     ensures value { result ≡ place_of terms.now term }
     ensures counted { length terms.now < 2 ^ 64 }
 {
-    for i in 0..terms.len() {
-        if terms[i] == term {
-            return i;
-        }
-    }
-    terms.len()
+    terms
+        .iter()
+        .position(|known| term == *known)
+        .unwrap_or(terms.len())
 }
 
 /// The terms of the first `i` rows, and those of the next that are not among them.
@@ -39,10 +37,9 @@ fn with_terms(mut terms: Vec<Term>, rows: &[Row], i: usize) -> Result<Vec<Term>,
     ensures continues { IfOk result (λ v. Continues terms.items v.items) }
 {
     let form = rows[i].form.summands();
-    for k in 0..form.len() {
-        let term = form[k].1;
-        if place(&terms, term) == terms.len() {
-            terms.push(term)?;
+    for (_, term) in form {
+        if place(&terms, *term) == terms.len() {
+            terms.push(*term)?;
         }
     }
     Ok(terms)
@@ -95,10 +92,10 @@ fn named_constraint(alloc: Global, row: &Row, terms: &[Term]) -> Result<Constrai
         return Err(AllocError);
     }
     let mut form = Vec::new(alloc);
-    for k in 0..summands.len() {
+    for (coefficient, term) in summands {
         form.push(Monomial {
-            coefficient: summands[k].0,
-            column: place(terms, summands[k].1) + 1,
+            coefficient: *coefficient,
+            column: place(terms, *term) + 1,
         })?;
     }
     Ok(Constraint {
@@ -132,9 +129,9 @@ pub fn constraints_where(
     ensures small { IfOk result (λ v. AllSmallConstraints v.items) }
 {
     let mut constraints = Vec::new(alloc);
-    for i in 0..rows.len() {
-        if is_kept(not, rows[i].kind) {
-            constraints.push(named_constraint(alloc, &rows[i], terms)?)?;
+    for row in rows {
+        if is_kept(not, row.kind) {
+            constraints.push(named_constraint(alloc, row, terms)?)?;
         }
     }
     Ok(constraints)

@@ -94,8 +94,8 @@ pub fn values_at(
     ensures { IfOk result (λ v. AreValues (length forms.now) forms.now values.now v.items) }
 {
     let mut all = Vec::new(alloc);
-    for j in 0..forms.len() {
-        all.push(value_of(forms[j].form.items(), values))?;
+    for constraint in forms {
+        all.push(value_of(constraint.form.items(), values))?;
     }
     Ok(all)
 }
@@ -111,8 +111,8 @@ fn is_large(x: i128) -> bool
 pub fn large_place(xs: &[i128], but: usize) -> Option<usize>
     ensures { MatchOption result (AreBelowBut xs.now but) (IsLargeAt xs.now but) }
 {
-    for j in 0..xs.len() {
-        if j != but && is_large(xs[j]) {
+    for (j, x) in xs.iter().enumerate() {
+        if j != but && is_large(*x) {
             return Some(j);
         }
     }

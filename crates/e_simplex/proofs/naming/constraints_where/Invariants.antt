@@ -4,8 +4,8 @@ use Rattle.e_simplex.specs.Naming.{named_constraints}
 use Rattle.e_simplex.specs.Constraints.{AllSmallConstraints}
 use Rattle.e_simplex.proofs.naming.constraints_where.Given as goal
 
-abbrev pub invariant-loop-i : goal.invariant-loop-i
-invariant-loop-i l = record {
-  value : l.constraints.items ≡ named_constraints l.not l.terms (all_seen (take l.i l.rows));
+abbrev pub invariant-loop-row : goal.invariant-loop-row
+invariant-loop-row l = record {
+  value : l.constraints.items ≡ named_constraints l.not l.terms (all_seen (take l.row-index l.rows));
   small : AllSmallConstraints l.constraints.items;
 }

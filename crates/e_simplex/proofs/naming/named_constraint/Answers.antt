@@ -14,29 +14,29 @@ use Rattle.e_simplex.proofs.naming.named_constraint.Goals as goal
 pub overflow_add-place : goal.overflow_add-place
 overflow_add-place c =
     let e = c.summands-summands.ensures.value in
-    let l : c.loop-k.k < length c.args.row.now.form = subst (λ v. c.loop-k.k < length v) e c.loop-k-test.true in
-    let i : IsIn c.args.terms.now (get_or {A = ℤ × Term} c.summands-summands.result.now c.loop-k.k (pos 0, Seg 0 0)).1
-    = subst (λ v. IsIn c.args.terms.now (get_or {A = ℤ × Term} v c.loop-k.k (pos 0, Seg 0 0)).1) (sym e) (named_at c.args.terms.now c.args.row.now.form c.loop-k.k (pos 0, Seg 0 0) l c.requires.named) in
+    let l : c.loop-coefficient.coefficient-index < length c.args.row.now.form = subst (λ v. c.loop-coefficient.coefficient-index < length v) e c.loop-coefficient-test.true in
+    let i : IsIn c.args.terms.now (get_or {A = ℤ × Term} c.summands-summands.result.now c.loop-coefficient.coefficient-index (pos 0, Seg 0 0)).1
+    = subst (λ v. IsIn c.args.terms.now (get_or {A = ℤ × Term} v c.loop-coefficient.coefficient-index (pos 0, Seg 0 0)).1) (sym e) (named_at c.args.terms.now c.args.row.now.form c.loop-coefficient.coefficient-index (pos 0, Seg 0 0) l c.requires.named) in
     let v = c.place.ensures.value in
     let n = c.place.ensures.counted in
     search rules
 
-pub loop-k-preserved : goal.loop-k-preserved
-loop-k-preserved c =
+pub loop-coefficient-preserved : goal.loop-coefficient-preserved
+loop-coefficient-preserved c =
     let e = c.summands-summands.ensures.value in
-    let l : c.loop-k.k < length c.args.row.now.form = subst (λ v. c.loop-k.k < length v) e c.loop-k-test.true in
-    let f : SFits w64 (get_or {A = ℤ × Term} c.args.row.now.form c.loop-k.k (pos 0, Seg 0 0)).0 = search rules in
-    let f2 : SFits w64 (get_or {A = ℤ × Term} c.summands-summands.result.now c.loop-k.k (pos 0, Seg 0 0)).0 = search rules in
+    let l : c.loop-coefficient.coefficient-index < length c.args.row.now.form = subst (λ v. c.loop-coefficient.coefficient-index < length v) e c.loop-coefficient-test.true in
+    let f : SFits w64 (get_or {A = ℤ × Term} c.args.row.now.form c.loop-coefficient.coefficient-index (pos 0, Seg 0 0)).0 = search rules in
+    let f2 : SFits w64 (get_or {A = ℤ × Term} c.summands-summands.result.now c.loop-coefficient.coefficient-index (pos 0, Seg 0 0)).0 = search rules in
     let h = simp to_z-of_z at c.in_ok-push.ensures.items in
-    named_more c.args.terms.now c.args.row.now.form c.loop-k.k (pos 0, Seg 0 0) c.loop-k.form.items c.push.new.self.items _ (c.place.result + 1) l c.loop-k.invariant h
-    (ap (λ v. (get_or {A = ℤ × Term} v c.loop-k.k (pos 0, Seg 0 0)).0) e)
-    (omega (arith, c.place.ensures.value, ap (λ v. place_of c.args.terms.now (get_or {A = ℤ × Term} v c.loop-k.k (pos 0, Seg 0 0)).1) e))
+    named_more c.args.terms.now c.args.row.now.form c.loop-coefficient.coefficient-index (pos 0, Seg 0 0) c.loop-coefficient.form.items c.push.new.self.items _ (c.place.result + 1) l c.loop-coefficient.invariant h
+    (ap (λ v. (get_or {A = ℤ × Term} v c.loop-coefficient.coefficient-index (pos 0, Seg 0 0)).0) e)
+    (omega (arith, c.place.ensures.value, ap (λ v. place_of c.args.terms.now (get_or {A = ℤ × Term} v c.loop-coefficient.coefficient-index (pos 0, Seg 0 0)).1) e))
 
 pub returns-clause-small : goal.returns-clause-small
 returns-clause-small c =
     let e = c.summands-summands.ensures.value in
-    let done : length c.args.row.now.form ≤ c.loop-k.k = subst (λ v. length v ≤ c.loop-k.k) e c.loop-k-test.false in
+    let done : length c.args.row.now.form ≤ c.loop-coefficient.coefficient-index = subst (λ v. length v ≤ c.loop-coefficient.coefficient-index) e c.loop-coefficient-test.false in
     small_like (record { sense = c.sense.result; form = c.new.result }) (Rattle.e_simplex.specs.Naming.named_constraint c.args.terms.now (seen c.args.row.now))
-    (c.new.ensures ∙ c.loop-k.invariant ∙ ap (Rattle.e_simplex.specs.Naming.named_form c.args.terms.now) (take_done c.args.row.now.form c.loop-k.k done))
+    (c.new.ensures ∙ c.loop-coefficient.invariant ∙ ap (Rattle.e_simplex.specs.Naming.named_form c.args.terms.now) (take_done c.args.row.now.form c.loop-coefficient.coefficient-index done))
     (small_constraint c.args.terms.now (seen c.args.row.now) c.requires.once c.requires.named c.requires.coefficients
     c.summands-summands.ensures.distinct (omega (arith, ap length e)))

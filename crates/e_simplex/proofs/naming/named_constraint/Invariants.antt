@@ -2,5 +2,5 @@ use Rattle.std.proofs.Common.{◌≡◌, take}
 use Rattle.e_simplex.specs.Naming.{named_form}
 use Rattle.e_simplex.proofs.naming.named_constraint.Given as goal
 
-abbrev pub invariant-loop-k : goal.invariant-loop-k
-invariant-loop-k l = l.form.items ≡ named_form l.terms (take l.k l.row.form)
+abbrev pub invariant-loop-coefficient : goal.invariant-loop-coefficient
+invariant-loop-coefficient l = l.form.items ≡ named_form l.terms (take l.coefficient-index l.row.form)

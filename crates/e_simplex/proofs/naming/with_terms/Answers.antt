@@ -7,34 +7,34 @@ use Rattle.e_simplex.proofs.Places.{all_more, continues_push, form_all, terms_ne
 use Rattle.e_simplex.proofs.naming.with_terms.Goals.{then-place-len+in_ok-push, else-place-len}
 use Rattle.e_simplex.proofs.naming.with_terms.Goals as goal
 
-pub loop-k-preserved : goal.loop-k-preserved
-loop-k-preserved c =
+pub loop-term-preserved : goal.loop-term-preserved
+loop-term-preserved c =
     let d : ℤ × Term = (pos 0, Seg 0 0) in
-    let n : c.len.result ≡ length c.loop-k.terms.items = c.len.ensures ∙ c.loop-k.terms.ok.0 in
-    let v = ap (λ (v : List Term). place_of v (get_or {A = ℤ × Term} c.summands-form.result.now c.loop-k.k (pos 0, Seg 0 0)).1) c.deref.ensures.value in
+    let n : c.len.result ≡ length c.loop-term.terms.items = c.len.ensures ∙ c.loop-term.terms.ok.0 in
+    let v = ap (λ (v : List Term). place_of v (get_or {A = ℤ × Term} c.summands-form.result.now c.loop-term.term-index (pos 0, Seg 0 0)).1) c.deref.ensures.value in
     elim c.if-place-len.branch [
-      | then-place-len+in_ok-push w ↦ (let t = terms_new c.loop-k.terms.items c.if-place-len.terms.items (all_seen (take c.args.i c.args.rows.now)) c.summands-form.result.now c.loop-k.k (pos 0, Seg 0 0)
-          c.loop-k-test.true (ap (λ u. u.items) w.terms-is ∙ w.in_ok-push.ensures.items) (sym v ∙ sym c.place.ensures.value ∙ w.if-place-len.true ∙ n)
-          c.loop-k.invariant.once c.loop-k.invariant.before c.loop-k.invariant.form in
+      | then-place-len+in_ok-push w ↦ (let t = terms_new c.loop-term.terms.items c.if-place-len.terms.items (all_seen (take c.args.i c.args.rows.now)) c.summands-form.result.now c.loop-term.term-index (pos 0, Seg 0 0)
+          c.loop-term-test.true (ap (λ u. u.items) w.terms-is ∙ w.in_ok-push.ensures.items) (sym v ∙ sym c.place.ensures.value ∙ w.if-place-len.true ∙ n)
+          c.loop-term.invariant.once c.loop-term.invariant.before c.loop-term.invariant.form in
           record {
             once = t.0;
             before = t.1.0;
             form = t.1.1;
             continues = subst (Continues c.args.terms.items) (sym (ap (λ u. u.items) w.terms-is ∙ w.in_ok-push.ensures.items))
-                (continues_push c.args.terms.items c.loop-k.terms.items (get_or {A = ℤ × Term} c.summands-form.result.now c.loop-k.k (pos 0, Seg 0 0)).1 c.loop-k.invariant.continues);
+                (continues_push c.args.terms.items c.loop-term.terms.items (get_or {A = ℤ × Term} c.summands-form.result.now c.loop-term.term-index (pos 0, Seg 0 0)).1 c.loop-term.invariant.continues);
           })
-      | else-place-len w ↦ (let t = terms_old c.loop-k.terms.items c.if-place-len.terms.items (all_seen (take c.args.i c.args.rows.now)) c.summands-form.result.now c.loop-k.k (pos 0, Seg 0 0)
-          c.loop-k-test.true (ap (λ u. u.items) w.terms-is) (λ q. w.if-place-len.false (c.place.ensures.value ∙ v ∙ q ∙ sym n))
-          c.loop-k.invariant.once c.loop-k.invariant.before c.loop-k.invariant.form in
+      | else-place-len w ↦ (let t = terms_old c.loop-term.terms.items c.if-place-len.terms.items (all_seen (take c.args.i c.args.rows.now)) c.summands-form.result.now c.loop-term.term-index (pos 0, Seg 0 0)
+          c.loop-term-test.true (ap (λ u. u.items) w.terms-is) (λ q. w.if-place-len.false (c.place.ensures.value ∙ v ∙ q ∙ sym n))
+          c.loop-term.invariant.once c.loop-term.invariant.before c.loop-term.invariant.form in
           record {
             once = t.0;
             before = t.1.0;
             form = t.1.1;
-            continues = subst (Continues c.args.terms.items) (sym (ap (λ u. u.items) w.terms-is)) c.loop-k.invariant.continues;
+            continues = subst (Continues c.args.terms.items) (sym (ap (λ u. u.items) w.terms-is)) c.loop-term.invariant.continues;
           })
     ]
 
 pub returns-clause-all : goal.returns-clause-all
 returns-clause-all c =
-    all_more c.loop-k.terms.items c.args.rows.now c.args.i c.index-rows-i.result c.requires.here c.loop-k.invariant.before
-    (subst (FormNamed c.loop-k.terms.items) c.summands-form.ensures.value (form_all c.loop-k.terms.items c.summands-form.result.now c.loop-k.k c.loop-k-test.false c.loop-k.invariant.form))
+    all_more c.loop-term.terms.items c.args.rows.now c.args.i c.index-rows-i.result c.requires.here c.loop-term.invariant.before
+    (subst (FormNamed c.loop-term.terms.items) c.summands-form.ensures.value (form_all c.loop-term.terms.items c.summands-form.result.now c.loop-term.term-index c.loop-term-test.false c.loop-term.invariant.form))
