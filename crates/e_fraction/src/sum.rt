@@ -81,8 +81,8 @@ pub fn total(rows: &[Row], multipliers: &[i128], term: Term) -> i128
     sum
 }
 
-/// The coefficient of the term in a row, times the row's multiplier. A row that takes no part is not
-/// looked at.
+/// The coefficient of the term in a row, times the row's multiplier. A row that takes no part is
+/// not looked at.
 fn weighed(row: &Row, multiplier: i128, term: Term) -> i128
     requires row { IsTrue (has_small_coefficients row.now.form) }
     requires multiplier { unsigned_abs multiplier ≤ 2 ^ 80 }
