@@ -75,8 +75,8 @@ pub fn total(rows: &[Row], multipliers: &[i128], term: Term) -> i128
     ensures { result ≡ Rattle.e_literal.specs.Absurd.total (weighed rows.now multipliers.now) term }
 {
     let mut sum: i128 = 0;
-    for i in 0..rows.len() {
-        sum += weighed(&rows[i], multipliers[i], term);
+    for (row, multiplier) in rows.iter().zip(multipliers) {
+        sum += weighed(row, *multiplier, term);
     }
     sum
 }
