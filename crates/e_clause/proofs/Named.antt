@@ -262,16 +262,16 @@ system_misses which facts wanted u h =
     known : List Term
     known = terms_of_lits (of_kind which facts)
 
-    turned : List Term
-    turned = terms_of_lits (of_kind which (against_goal wanted))
+    negated : List Term
+    negated = terms_of_lits (of_kind which (against_goal wanted))
 
-    of_facts : Misses (Right ∷ (known ++ turned)) u → Misses known u
+    of_facts : Misses (Right ∷ (known ++ negated)) u → Misses known u
     of_facts (inl n) = inl n
-    of_facts (inr n) = inr (none_left known turned u (or_not_right (one_term u Right) (has_term (known ++ turned) u) n))
+    of_facts (inr n) = inr (none_left known negated u (or_not_right (one_term u Right) (has_term (known ++ negated) u) n))
 
-    of_goal : Misses (Right ∷ (known ++ turned)) u → Misses turned u
+    of_goal : Misses (Right ∷ (known ++ negated)) u → Misses negated u
     of_goal (inl n) = inl n
-    of_goal (inr n) = inr (none_right known turned u (or_not_right (one_term u Right) (has_term (known ++ turned) u) n))
+    of_goal (inr n) = inr (none_right known negated u (or_not_right (one_term u Right) (has_term (known ++ negated) u) n))
 
     of_term : (t : Term) → is_among (terms_of_system which facts wanted) t ≡ true → Each (HasNot u) (rows_of_term facts t)
     of_term (Seg a b) k = by (are_apart facts a b)

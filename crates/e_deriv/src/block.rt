@@ -26,15 +26,16 @@ pub enum Step {
         lit: Lit,
         cert: Option<Cert>,
     },
-    /// Each literal that the construction needs is allowed; the new objects, with these names, come into scope, and
-    /// what it gives are facts.
+    /// Each literal that the construction needs is allowed; the new objects, with these names, come
+    /// into scope, and what it gives are facts.
     Make {
         form: Construction,
         names: Items<Name>,
         certs: Items<Cert>,
     },
-    /// Each given literal of an earlier theorem is allowed at the arguments, where blanks are filled by the least good choice; its
-    /// made objects, with these names, come into scope, and what it shows are facts.
+    /// Each given literal of an earlier theorem is allowed at the arguments, where blanks are
+    /// filled by the least good choice; its made objects, with these names, come into scope, and
+    /// what it shows are facts.
     Apply {
         /// The theorem's place among those before.
         theorem: u32,
@@ -42,14 +43,16 @@ pub enum Step {
         names: Items<Name>,
         certs: Items<Cert>,
     },
-    /// The inner block proves the literals. Its objects and facts end with it, and the literals are facts.
+    /// The inner block proves the literals. Its objects and facts end with it, and the literals are
+    /// facts.
     Claim {
         shown: Items<Lit>,
         inner: Box<Block>,
     },
-    /// Each literal that the superposition needs is allowed. The inner block begins with the two copied points, with these
-    /// names, and with what the superposition gives; it proves the literals, which do not speak of the copied points. Its
-    /// objects and facts end with it, and the literals are facts.
+    /// Each literal that the superposition needs is allowed. The inner block begins with the two
+    /// copied points, with these names, and with what the superposition gives; it proves the
+    /// literals, which do not speak of the copied points. Its objects and facts end with it, and
+    /// the literals are facts.
     Superposed {
         form: Superpose,
         names: Items<Name>,
@@ -72,7 +75,8 @@ pub enum Close {
     Contradiction {
         against: Option<Against>,
     },
-    /// Two blocks with the goal of this one: the first has the literal for a fact, the second its negation.
+    /// Two blocks with the goal of this one: the first has the literal for a fact, the second its
+    /// negation.
     Cases {
         lit: Lit,
         first: Box<Block>,

@@ -1,4 +1,5 @@
-//! Laws of scripts and derivations, each as a function that does nothing and whose contract is the law.
+//! Laws of scripts and derivations, each as a function that does nothing and whose contract is the
+//! law.
 ghost use Rattle.e_deriv.specs.Laws.{CertifiedProves, LicensedProves, ProofIsLicensed, ContextIsOne, LicensedHasNoStop, StopIsOne};
 
 /// What is certified is a proof.

@@ -26,7 +26,8 @@ impl Names {
         }
     }
 
-    /// Puts a name last among those of the sort. It fails only out of memory, and then the names are as before.
+    /// Puts a name last among those of the sort. It fails only out of memory, and then the names
+    /// are as before.
     pub fn push(&mut self, sort: Sort, name: Name) -> Result<(), AllocError>
         ensures ok { OnOk result (self.new ≡ with_names self.old sort (names_of_sort self.old sort ++ name ∷ [])) }
         ensures err { OnErr result (self.new ≡ self.old) }
@@ -49,7 +50,8 @@ impl Names {
         })
     }
 
-    /// Equal names of the objects of the scope, which are the first ones of each sort. It fails only out of memory.
+    /// Equal names of the objects of the scope, which are the first ones of each sort. It fails
+    /// only out of memory.
     pub fn first(&self, alloc: Global, scope: Scope) -> Result<Names, AllocError>
         ensures { IfOk result (λ n. n ≡ first_names scope self.now) }
     {

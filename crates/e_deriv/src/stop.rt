@@ -24,8 +24,8 @@ pub enum Stop {
         /// The line's number among the step and close lines, from 1.
         step: u32,
         wanted: Wanted,
-        /// Where a metric literal or a contradiction is wanted: values of the terms of the step with which the facts are
-        /// true and the wanted literal is false.
+        /// Where a metric literal or a contradiction is wanted: values of the terms of the step
+        /// with which the facts are true and the wanted literal is false.
         values: Option<Values>,
         /// The names of the objects in scope before the line.
         names: Names,

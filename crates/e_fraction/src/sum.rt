@@ -75,14 +75,14 @@ pub fn total(rows: &[Row], multipliers: &[i128], term: Term) -> i128
     ensures { result ≡ Rattle.e_literal.specs.Absurd.total (weighed rows.now multipliers.now) term }
 {
     let mut sum: i128 = 0;
-    for i in 0..rows.len() {
-        sum += weighed(&rows[i], multipliers[i], term);
+    for (row, multiplier) in rows.iter().zip(multipliers) {
+        sum += weighed(row, *multiplier, term);
     }
     sum
 }
 
-/// The coefficient of the term in a row, times the row's multiplier. A row that takes no part is not
-/// looked at.
+/// The coefficient of the term in a row, times the row's multiplier. A row that takes no part is
+/// not looked at.
 fn weighed(row: &Row, multiplier: i128, term: Term) -> i128
     requires row { IsTrue (has_small_coefficients row.now.form) }
     requires multiplier { unsigned_abs multiplier ≤ 2 ^ 80 }

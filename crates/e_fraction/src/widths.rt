@@ -55,8 +55,8 @@ fn times_weights(product: u128, rows: &[Row], i: usize) -> u128
 {
     let form = rows[i].form.summands();
     let mut product = product;
-    for j in 0..form.len() {
-        let term = form[j].1;
+    for (j, summand) in form.iter().enumerate() {
+        let term = summand.1;
         if is_new(&rows[..i], &form[..j], term) {
             product = product.saturating_mul(weight(rows, term));
         }

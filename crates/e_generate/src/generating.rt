@@ -215,7 +215,7 @@ pub fn generated(alloc: Global, theorems: u32) -> Result<Vec<u8>, AllocError>
     ensures { IfOk result (λ v. v.items ≡ Generated.generated_text theorems) }
 {
     let mut out = String::new(alloc);
-    for number in 1..theorems + 1 {
+    for number in 1..=theorems {
         put_theorem(&mut out, number)?;
     }
     Ok(out.into_bytes())

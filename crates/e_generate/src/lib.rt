@@ -1,4 +1,5 @@
-//! The book that `make` writes: theorems on points in order, each of which but every sixth uses the one before it.
+//! The book that `make` writes: theorems on points in order, each of which but every sixth uses the
+//! one before it.
 #![tactic(auto)]
 
 mod generating;

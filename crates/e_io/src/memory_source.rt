@@ -30,8 +30,8 @@ impl Model for MemSource {
 
 impl MemSource {
     /// A source of these bytes. Exactly the calls whose numbers, from 0, are in `fail` fail; each
-    /// other call gives the least of `piece`, the room of its buffer and what is left. The number of
-    /// the next call and the count of faults stay at 2^64 - 1.
+    /// other call gives the least of `piece`, the room of its buffer and what is left. The number
+    /// of the next call and the count of faults stay at 2^64 - 1.
     pub fn new(bytes: Vec<u8>, fail: Vec<u64>, piece: usize) -> Self
         requires { 0 < piece }
         ensures { result ≡ record { left = bytes.items; fail = fail.items; piece = piece; call = 0; faults = 0 } }
