@@ -153,6 +153,9 @@ impl Reading {
     }
 
     /// Takes lines up to the end of a theorem or a definition, or all that are there.
+    ///
+    /// That what ends has its form, as `read` says, follows from this contract: the loop need not
+    /// carry it along.
     fn read_lines(
         &mut self,
         alloc: Global,

@@ -30,6 +30,9 @@ pub enum Refuted {
 
 /// Whether the facts contradict each other: a diagram literal and its negation both are facts, or
 /// else no admissible assignment makes the metric facts true. It fails only out of memory.
+///
+/// It begins where the context has solved its facts, and lets go what it solves;
+/// [`Context::against`] keeps that for the next question.
 pub fn against(alloc: Global, context: &Context) -> Result<Refuted, AllocError>
     ensures { IfOk result (IsRefuted context.now) }
 {

@@ -174,6 +174,8 @@ fn lists(word: &[u8], name: &[u8], literals: &[&[u8]]) -> bool
     is(word, name) && has_item(literals)
 }
 
+/// A line of a book with this first word and this rest: `words` are both, since a plain line, which
+/// most are, is read from all its words.
 #[tactic(auto, unfolding(crate::specs::Items::line_named, crate::specs::RawLines::raw_line_of))]
 fn line_named(
     alloc: Global,

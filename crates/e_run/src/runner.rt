@@ -31,10 +31,12 @@ use std::alloc::Global;
 /// - `suggest TITLE STEP` reads a book up to the theorem with this title, and writes a line for
 ///   each choice of arguments at which an earlier theorem may be applied before that step. `STEP`
 ///   is a numeral from 1 to 1,024.
-/// - `upgrade` reads a derivation text from the source, and writes to the sink the line `derivation
-///   2`, the block of each theorem in that version, as soon as it is verified, and the last line.
-/// - `trim` reads a derivation text of the first version likewise, and writes the line `derivation
-///   1`, the block of each theorem without the steps that nothing needs, and the last line.
+/// - `upgrade` reads a derivation text from the source, and writes to the sink the line
+///   `derivation 2`, the block of each theorem in that version, as soon as it is verified, and the
+///   last line.
+/// - `trim` reads a derivation text of the first version likewise, and writes the line
+///   `derivation 1`, the block of each theorem without the steps that nothing needs, and the last
+///   line.
 /// - `uses` reads a derivation text likewise, and writes for each theorem a line with the titles of
 ///   those that it applies, and the last line.
 /// - With any other words it writes the usage line.
