@@ -1,5 +1,6 @@
 -- Answers of systems, and what is solved of facts.
 pub mod KindAnswers
+pub mod JoinedAnswers
 pub mod CertificatesOfFronts
 pub mod SolvedSystems
 pub mod GrownSystems

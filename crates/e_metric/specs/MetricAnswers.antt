@@ -1,12 +1,13 @@
 -- What is answered on a metric literal, or on the facts alone.
-use Rattle.std.specs.Prelude.{ℕ, List, Bool, true, IsTrue, Contains, Option, Some, None}
+use Rattle.std.specs.Prelude.{ℕ, ◌⊎◌, List, Bool, true, IsTrue, Contains, Option, Some, None}
 use Rattle.std.specs.List.{list_all}
 use Rattle.e_literal.specs.declared.object.Kind.{Kind}
 use Rattle.e_literal.specs.declared.object.Scope.{Scope}
 use Rattle.e_literal.specs.declared.literal.Lit.{Lit}
 use Rattle.e_literal.specs.Literal.{all_in_scope}
+use Rattle.e_literal.specs.Minor.{IsWide}
 use Rattle.e_literal.specs.Rows.{Row}
-use Rattle.e_literal.specs.Solution.{Satisfy}
+use Rattle.e_literal.specs.Solution.{Satisfy, HasSolution}
 use Rattle.e_clause.specs.declared.cert.MetricCert.{MetricCert}
 use Rattle.e_clause.specs.System.{rows_of_system, metric_systems}
 use Rattle.e_clause.specs.MetricCertificate.{sums_refute, sums_in}
@@ -29,11 +30,16 @@ pub record IsCertified (facts : List Lit) (wanted : Option Lit) (m : MetricCert)
   pub scoped : (s : Scope) → IsTrue (list_all (all_in_scope s) facts) → IsTrue (wanted_in s wanted) → IsTrue (sums_in s m.sums)
   pub written : IsTrue (are_sums_of version.One m.sums)
 
--- w is the width of one of the metric systems, which is wide
+-- the system of the kind has a solution, or is wide
+abbrev pub IsSolvedOrWide : List Lit → Option Lit → Kind → Type 0
+IsSolvedOrWide facts wanted which = HasSolution (rows_of_system which facts wanted) ⊎ IsWide (rows_of_system which facts wanted)
+
+-- w is the width of one of the metric systems, which is wide; and none that is not wide refutes
 pub record IsTooWideSystem (facts : List Lit) (wanted : Option Lit) (w : ℕ) : Type 0 where
   pub rows : List Row
   pub is_one : Contains (metric_systems facts wanted) rows
   pub has_width : HasWidth rows w
+  pub none_refutes : (which : Kind) → IsSolvedOrWide facts wanted which
 
 -- a certificate, or values that show that the literal does not follow, or a system is too wide
 abbrev pub IsMetricAnswer : List Lit → Option Lit → Metric → Type 0
@@ -47,11 +53,13 @@ IsMetricAnswer facts wanted (TooWide w) = IsTooWideSystem facts wanted w
 abbrev pub IsKindAnswer : Kind → List Lit → Option Lit → Metric → Type 0
 IsKindAnswer which facts wanted (Yes m) = IsCertified facts wanted m
 IsKindAnswer which facts wanted (No values) = Satisfy (assigned values) (rows_of_system which facts wanted)
-IsKindAnswer which facts wanted (TooWide w) = IsTooWideSystem facts wanted w
+IsKindAnswer which facts wanted (TooWide w) = HasWidth (rows_of_system which facts wanted) w
 
-abbrev pub IsYes : Metric → Type 0
-IsYes (Yes m) = Unit {0}
-IsYes _ = ⊥
+-- the second, if it is a certificate, or else the first
+abbrev pub preferred : Metric → Metric → Metric
+preferred first (Yes m) = Yes m
+preferred first (No values) = first
+preferred first (TooWide w) = first
 
 abbrev pub IfYes : Metric → Type 0 → Type 0
 IfYes (Yes m) P = P

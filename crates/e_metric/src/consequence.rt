@@ -1,7 +1,7 @@
 //! Whether a metric literal follows from the facts of a step, and whether they contradict each
 //! other.
 
-ghost use Rattle.std.specs.Prelude.{◌≡◌, ◌⊎◌, ◌≤◌, [], ◌∷◌, length, map, option_copied, IsTrue, IfOk, Some, None};
+ghost use Rattle.std.specs.Prelude.{◌≡◌, ◌≤◌, [], ◌∷◌, length, map, option_copied, IsTrue, IfOk, Some, None};
 ghost use Rattle.std.specs.List.{list_all};
 ghost use Rattle.e_literal.specs.WellFormed.{is_well_formed};
 ghost use Rattle.e_clause.specs.Assignment.{terms_of_lits};
@@ -12,7 +12,7 @@ ghost use Rattle.e_fraction.specs.Views.{all_seen};
 ghost use Rattle.e_simplex.specs.Answer.{IsAbsurdity};
 ghost use Rattle.e_metric.specs.inner.Certificate;
 ghost use Rattle.e_metric.specs.ListedTerms.{distinct_terms, with_listed};
-ghost use Rattle.e_metric.specs.MetricAnswers.{IsMetricAnswer, IsKindAnswer, IsYes, IfYes, IfNo};
+ghost use Rattle.e_metric.specs.MetricAnswers.{IsMetricAnswer, IsKindAnswer, preferred, IfYes, IfNo};
 
 use crate::assigning::counterexample;
 use crate::by_kind::{ByKind, other_kinds};
@@ -177,7 +177,7 @@ fn answers_by_kind(
 
 // The second, if it is a certificate, or else the first.
 fn prefer_certificate(first: Metric, second: Metric) -> Metric
-    ensures { (result ≡ first) ⊎ (IsYes second × (result ≡ second)) }
+    ensures { result ≡ preferred first second }
 {
     match second {
         Metric::Yes(cert) => {
@@ -252,8 +252,8 @@ fn answer(
 /// the metric facts true makes it true. `Yes` with a certificate that names no objects but those of
 /// the facts and of the goal; `No` with values for the terms of the step with which the facts are
 /// true and the goal is false; `TooWide` with the width of one of the systems, only where some
-/// minor of its rows has size at least 2^63. Facts that contradict each other in any kind give
-/// every metric literal.
+/// minor of its rows has size at least 2^63, and no system that is not wide gives a certificate.
+/// Facts that contradict each other in any kind give every metric literal.
 ///
 /// [`are_few_facts`] and [`is_good_goal`] test the conditions.
 ///

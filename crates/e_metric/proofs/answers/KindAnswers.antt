@@ -31,7 +31,7 @@ use Rattle.e_simplex.specs.Answer.{IsAbsurdity}
 use Rattle.e_metric.specs.AgreeingRows.{AreRows, AllLimited}
 use Rattle.e_metric.specs.ListedTerms.{with_listed, distinct_terms}
 use Rattle.e_metric.specs.inner.Certificate.{certificate_sums}
-use Rattle.e_metric.specs.MetricAnswers.{IsCertified, IsTooWideSystem}
+use Rattle.e_metric.specs.MetricAnswers.{IsCertified}
 use Rattle.e_clause.specs.declared.cert.Version.TheVariants as version
 use Rattle.e_clause.specs.Versions.{are_sums_of}
 use Rattle.e_metric.proofs.rows.SameCoefficients.{satisfy_alike, wide_alike, width_alike}
@@ -94,9 +94,6 @@ module _ (which : Kind) (facts : List Lit) (wanted : Option Lit) where
     has_width w e h =
         (let wide : IsWide (rows_of_system which facts wanted) = wide_reordered ns (system which facts wanted) order (wide_alike (all_seen (rows_given ps)) (map row_of ns) (rows_alike ns ps are) (subst (λ rs. IsWide (all_seen rs)) rows_are h)) in
         record { is_wide = wide; is_width = e; is_large = omega (arith, e, wide_rows_width (rows_of_system which facts wanted) wide) })
-
-    pub too_wide : (w : ℕ) → w ≡ width (rows_of_system which facts wanted) → IsWide (all_seen rows) → IsTooWideSystem facts wanted w
-    too_wide w e h = record { rows = rows_of_system which facts wanted; is_one = one_system which; has_width = has_width w e h }
 
     pub refuted : (names : List RowName) (terms : List Term) (a : Absurdity) (sums : Sums) → names ≡ names_given ps → terms ≡ with_listed (distinct_terms which facts wanted) (Right ∷ [])
         → IsAbsurdity (all_seen rows) a → sums ≡ certificate_sums names rows terms a → IsCertified facts wanted (record { sums = sums })

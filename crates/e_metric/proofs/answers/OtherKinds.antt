@@ -21,7 +21,7 @@ use Rattle.e_metric.specs.declared.solved_system.SolvedSystem.{SolvedSystem}
 use Rattle.e_metric.specs.declared.kind_system.KindSystem.TheVariants as kind_system
 use Rattle.e_metric.specs.SolvedSystems.{IsAnswerAlone}
 use Rattle.e_metric.proofs.terms.FirstTerms.{kind_one}
-use Rattle.e_metric.proofs.answers.KindAnswers.{satisfied, one_system}
+use Rattle.e_metric.proofs.answers.KindAnswers.{satisfied}
 use Rattle.e_metric.proofs.answers.CertificatesOfFronts.{certified_wider}
 
 abbrev row_of : NamedRow → Row
@@ -43,11 +43,7 @@ pub absurd_alone : (m : MetricCert) → IsAnswerAlone (kind_system.Absurd m) (Ye
 absurd_alone m which facts wanted h e = certified_wider facts wanted m h
 
 pub wide_alone : (w : ℕ) → IsAnswerAlone (kind_system.TooWide w) (TooWide w)
-wide_alone w which facts wanted h e = record {
-  rows = rows_of_system which facts wanted;
-  is_one = one_system which facts wanted which;
-  has_width = subst (λ rs. HasWidth rs w) (same_system which facts wanted e) h;
-}
+wide_alone w which facts wanted h e = subst (λ rs. HasWidth rs w) (same_system which facts wanted e) h
 
 -- a literal of one kind is of no other
 pub other_kind : (k which : Kind) (l : Lit) → kind_of_atom l.atom ≡ Some which → same_kind k which ≡ false → of_kind k (against_goal (Some l)) ≡ []

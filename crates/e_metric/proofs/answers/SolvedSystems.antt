@@ -31,7 +31,7 @@ use Rattle.e_metric.specs.inner.Certificate.{certificate_sums}
 use Rattle.e_metric.specs.inner.FurtherRows.{terms_added, rows_added_by_goal, further}
 use Rattle.e_metric.specs.SolvedSystems.{AreNamed, IsSolvedSystem, AreTogether}
 use Rattle.e_metric.specs.ListedTerms.{with_listed, distinct_terms}
-use Rattle.e_metric.specs.MetricAnswers.{IsCertified, IsTooWideSystem}
+use Rattle.e_metric.specs.MetricAnswers.{IsCertified}
 use Rattle.e_metric.proofs.rows.GoalRows.{with_further}
 use Rattle.e_metric.proofs.rows.RowOrder.{one_order, reordered_more}
 use Rattle.e_metric.specs.RowOrder.{AreReordered}
@@ -80,8 +80,8 @@ module _ (which : Kind) (facts : List Lit) (wanted : Option Lit) (ns : List Name
   pub solved_named : (v : Term → ℕ) → Satisfy v (all_seen rows) → Satisfy v (rows_of_system which facts wanted)
   solved_named = KindAnswers.solved which facts wanted ns order named.pairs named.are named.limited good few good_wanted rows named.rows_are
 
-  pub wide_named : (w : ℕ) → w ≡ width (rows_of_system which facts wanted) → IsWide (all_seen rows) → IsTooWideSystem facts wanted w
-  wide_named = KindAnswers.too_wide which facts wanted ns order named.pairs named.are named.limited good few good_wanted rows named.rows_are
+  pub wide_named : (w : ℕ) → w ≡ width (rows_of_system which facts wanted) → IsWide (all_seen rows) → HasWidth (rows_of_system which facts wanted) w
+  wide_named = KindAnswers.has_width which facts wanted ns order named.pairs named.are named.limited good few good_wanted rows named.rows_are
 
   pub refuted_named : (terms : List Term) (a : Absurdity) (sums : Sums) → terms ≡ with_listed (distinct_terms which facts wanted) (Right ∷ [])
       → IsAbsurdity (all_seen rows) a → sums ≡ certificate_sums names rows terms a → IsCertified facts wanted (record { sums = sums })
@@ -148,10 +148,7 @@ module _ (which : Kind) (facts : List Lit) (wanted : Option Lit) (g : SolvedSyst
   solved_together = solved_named which facts wanted t.all t.order (g.names.items ++ names) both named_both good few good_wanted
 
   pub width_together : (w : ℕ) → w ≡ width (rows_of_system which facts wanted) → IsWide (all_seen both) → HasWidth (rows_of_system which facts wanted) w
-  width_together = KindAnswers.has_width which facts wanted t.all t.order named_both.pairs named_both.are named_both.limited good few good_wanted both named_both.rows_are
-
-  pub wide_together : (w : ℕ) → w ≡ width (rows_of_system which facts wanted) → IsWide (all_seen both) → IsTooWideSystem facts wanted w
-  wide_together = wide_named which facts wanted t.all t.order (g.names.items ++ names) both named_both good few good_wanted
+  width_together = wide_named which facts wanted t.all t.order (g.names.items ++ names) both named_both good few good_wanted
 
   -- the copies that the certificate is made of
   pub same_rows : (rs : List GivenRow) → rs ≡ g.rows.items ++ rows → rs ≡ both

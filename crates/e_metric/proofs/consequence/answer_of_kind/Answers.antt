@@ -9,7 +9,7 @@ use Rattle.e_fraction.specs.Views.{all_seen}
 use Rattle.e_simplex.specs.Answer.{IsVerdict, AreValuesOf, IsRefuted, assigned}
 use Rattle.e_clause.specs.System.{system}
 use Rattle.e_metric.proofs.rows.RowOrder.{same_order}
-use Rattle.e_metric.proofs.answers.KindAnswers.{few_rows, small_rows, solved, too_wide, refuted, system_width}
+use Rattle.e_metric.proofs.answers.KindAnswers.{few_rows, small_rows, solved, has_width, refuted, system_width}
 use Rattle.e_metric.proofs.consequence.answer_of_kind.Goals as goal
 
 pub decide-requires-clause-few : goal.decide-requires-clause-few
@@ -34,7 +34,7 @@ pub returns-in-TooWide : goal.returns-in-TooWide
 returns-in-TooWide c =
     let v : IsVerdict (all_seen c.deref.result.now) c.in_ok-values.field-0 = c.in_ok-values.ensures.verdict in
     let h : IsWide (all_seen c.deref.result.now) × (2 ^ 63 ≤ width (all_seen c.deref.result.now)) = subst (IsVerdict (all_seen c.deref.result.now)) c.in-TooWide.is v in
-    too_wide c.args.which c.args.facts.now (option_copied c.args.wanted) (system c.args.which c.args.facts.now (option_copied c.args.wanted)) (same_order (system c.args.which c.args.facts.now (option_copied c.args.wanted))) c.in_ok-named.named.items c.in_ok-named.ensures.rows c.in_ok-named.ensures.limited c.requires.facts c.requires.few c.requires.wanted c.deref.result.now (c.deref.ensures.value ∙ c.in_ok-names.ensures.rows) c.width.result
+    has_width c.args.which c.args.facts.now (option_copied c.args.wanted) (system c.args.which c.args.facts.now (option_copied c.args.wanted)) (same_order (system c.args.which c.args.facts.now (option_copied c.args.wanted))) c.in_ok-named.named.items c.in_ok-named.ensures.rows c.in_ok-named.ensures.limited c.requires.facts c.requires.few c.requires.wanted c.deref.result.now (c.deref.ensures.value ∙ c.in_ok-names.ensures.rows) c.width.result
     (c.width.ensures.value ∙ ap (λ rs. width (all_seen rs)) (c.deref-in-TooWide.ensures.value ∙ sym c.deref.ensures.value)
     ∙ system_width c.args.which c.args.facts.now (option_copied c.args.wanted) c.in_ok-named.named.items c.in_ok-named.ensures.rows c.deref.result.now (c.deref.ensures.value ∙ c.in_ok-names.ensures.rows)) h.0
 

@@ -3,7 +3,7 @@ use Rattle.e_literal.specs.Minor.{IsWide}
 use Rattle.e_literal.specs.Width.{width}
 use Rattle.e_fraction.specs.Views.{all_seen}
 use Rattle.e_simplex.specs.Answer.{IsVerdict, AreValuesOf, assigned}
-use Rattle.e_metric.proofs.answers.SolvedSystems.{few_together, small_together, solved_together, wide_together}
+use Rattle.e_metric.proofs.answers.SolvedSystems.{few_together, small_together, solved_together, width_together}
 use Rattle.e_metric.proofs.solved_system.SolvedSystem.decided.Goals as goal
 
 pub decide_with-requires-clause-few : goal.decide_with-requires-clause-few
@@ -23,4 +23,4 @@ returns-in_ok-width-in-TooWide c =
     let v : IsVerdict (all_seen (c.args.self.now.settled ++ c.args.rows.now)) c.in_ok-values.field-0 = c.in_ok-values.ensures.verdict in
     let h : IsWide (all_seen (c.args.self.now.settled ++ c.args.rows.now)) × (2 ^ 63 ≤ width (all_seen (c.args.self.now.settled ++ c.args.rows.now))) =
     subst (IsVerdict (all_seen (c.args.self.now.settled ++ c.args.rows.now))) c.in-TooWide.is v in
-    wide_together c.args.which c.args.facts.now (Some c.args.goal.now) c.args.self.now c.args.names.now c.args.rows.now c.requires.together c.requires.facts c.requires.few c.requires.goal c.in_ok-width-in-TooWide.width c.in_ok-width-in-TooWide.ensures h.0
+    width_together c.args.which c.args.facts.now (Some c.args.goal.now) c.args.self.now c.args.names.now c.args.rows.now c.requires.together c.requires.facts c.requires.few c.requires.goal c.in_ok-width-in-TooWide.width c.in_ok-width-in-TooWide.ensures h.0
