@@ -28,10 +28,5 @@ pub fn are_good_facts(scope: Scope, facts: &Facts) -> bool
 fn are_in_scope(scope: Scope, facts: &Facts) -> bool
     ensures { result ≡ list_all (all_in_scope scope) facts.now }
 {
-    for i in 0..facts.len() {
-        if !in_scope(facts.get(i), scope) {
-            return false;
-        }
-    }
-    true
+    (0..facts.len()).all(|i| in_scope(facts.get(i), scope))
 }

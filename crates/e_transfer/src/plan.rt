@@ -54,8 +54,8 @@ fn add_once(order: &mut Vec<usize>, total: usize, variable: usize) -> Result<(),
 fn add_bound(order: &mut Vec<usize>, bindings: &[Binding]) -> Result<(), AllocError>
     ensures { OnOk result (Grows (length bindings.now) order.old.items order.new.items) }
 {
-    for v in 0..bindings.len() {
-        if let Binding::Is(_) = binding_of(bindings, v) {
+    for (v, binding) in bindings.iter().enumerate() {
+        if let Binding::Is(_) = binding {
             add_once(order, bindings.len(), v)?;
         }
     }
