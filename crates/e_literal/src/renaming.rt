@@ -132,7 +132,7 @@ fn circle(map: &Map, number: u16) -> u16
 fn renamed_sum(alloc: Global, form: &Form, map: &Map) -> Result<Form, AllocError>
     ensures { IfOk result (λ f. f ≡ map_list (mono_at (number_at (image_in map.now) Point)) form.now) }
 {
-    let mut monos = Vec::with_capacity(alloc, form.len())?;
+    let mut monos = Vec::with_capacity(alloc, form.items().len())?;
     for m in form.items() {
         monos.push(renamed_mono(*m, map))?;
     }
