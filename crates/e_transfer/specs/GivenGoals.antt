@@ -40,7 +40,7 @@ signed_literal negated p = (if negated then negation (lit_of p) else lit_of p)
 abbrev pub needs_beside : List Lit → Lit → List Lit
 needs_beside lits goal = map negation (others lits goal)
 
--- none of the metric systems of the literal is wide
+-- no metric system of the literal is wide, or one that is not wide gives it
 abbrev pub IsNarrow : List Lit → Lit → Type 0
 IsNarrow facts l = (w : ℕ) → IsTooWideSystem facts (Some l) w → ⊥
 
