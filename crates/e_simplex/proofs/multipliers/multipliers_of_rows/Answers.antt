@@ -16,13 +16,13 @@ loop-i-preserved c =
     let v = simp to_z-of_z at c.loop-i.invariant.value in
     let h = c.weight_at-weight.ensures in
     simp to_z-of_z (record {
-      value = row_multipliers_more c.args.rows.now c.loop-i.i c.row-item.result c.args.weights.now c.args.tried (c.loop-i.i - c.loop-i.seen) c.loop-i.seen c.args.last c.multiplier.result
+      value = row_multipliers_more c.args.rows.now c.loop-i.i c.index-rows-i.result c.args.weights.now c.args.tried (c.loop-i.i - c.loop-i.seen) c.loop-i.seen c.args.last c.multiplier.result
           c.loop-i.all.items c.push.new.self.items c.loop-i-test.true (omega (arith, c.loop-i.invariant.most)) c.loop-i.invariant.count
           (take_length c.args.rows.now c.loop-i.i (omega (arith, c.loop-i-test.true))) v e
           (m ∙ ap (λ b. multiplier_of b c.loop-i.seen c.args.tried c.args.last c.weight_at-weight.result) c.is_kept-is_not.ensures
-          ∙ ap (λ w. multiplier_of (Rattle.e_simplex.specs.Naming.keeps Rattle.std.proofs.Common.true (seen (get_or c.args.rows.now c.loop-i.i c.row-item.result)).says) c.loop-i.seen c.args.tried c.args.last w) h);
+          ∙ ap (λ w. multiplier_of (Rattle.e_simplex.specs.Naming.keeps Rattle.std.proofs.Common.true (seen (get_or c.args.rows.now c.loop-i.i c.index-rows-i.result)).says) c.loop-i.seen c.args.tried c.args.last w) h);
       count = c.counted-seen.ensures ∙ ap (λ b. Rattle.std.proofs.Common.cond b (Rattle.std.proofs.Common.suc c.loop-i.seen) c.loop-i.seen) c.is_kept-is_not.ensures
-          ∙ nots_more c.args.rows.now c.loop-i.i c.row-item.result c.loop-i.seen c.loop-i-test.true c.loop-i.invariant.count;
+          ∙ nots_more c.args.rows.now c.loop-i.i c.index-rows-i.result c.loop-i.seen c.loop-i-test.true c.loop-i.invariant.count;
       most = omega (arith, c.counted-seen.ensures, count_most c.is_kept-is_not.result c.loop-i.seen c.loop-i.i c.loop-i.invariant.most);
     })
 
