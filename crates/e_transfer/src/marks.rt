@@ -193,5 +193,10 @@ pub fn may_all_hold(query: &Query, rule: Rule, row: &Row, place: usize) -> bool
     ensures { result ≡ false → NoneAt query.now.strength query.now.scope query.now.facts.now
         query.now.goal.now rule place }
 {
-    (0..clause_len(row)).all(|at| may_be(query, row, place, at))
+    for at in 0..clause_len(row) {
+        if !may_be(query, row, place, at) {
+            return false;
+        }
+    }
+    true
 }
