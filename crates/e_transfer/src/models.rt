@@ -196,7 +196,12 @@ fn facts_fit(facts: &Facts, filling: Filling, values: &[(Term, u128)]) -> bool
         → IsTrue (fits_terms facts.now (value_by filling values.now) (terms_of_lits facts.now)) }
     ensures hold { result ≡ true → IsTrue (all_hold (value_by filling values.now) facts.now) }
 {
-    (0..facts.len()).all(|i| fact_fits(facts, filling, values, facts.get(i)))
+    for i in 0..facts.len() {
+        if !fact_fits(facts, filling, values, facts.get(i)) {
+            return false;
+        }
+    }
+    true
 }
 
 /// Whether the facts are true with these values, and these are values that the terms may have.
