@@ -35,7 +35,7 @@ module _ (facts : List Lit) (wanted : Option Lit) where
   of_one which (No values) h n others = absurd (n values refl)
   of_one which (TooWide w) h n others = record {
     rows = rows_of_system which facts wanted;
-    is_one = one_system facts wanted which;
+    is_one = one_system which facts wanted which;
     has_width = h;
     none_refutes = others (λ y. y);
   }
