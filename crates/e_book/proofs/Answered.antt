@@ -8,7 +8,7 @@ use Rattle.e_line.specs.declared.fault.FaultKind.{FaultKind}
 use Rattle.e_line.specs.declared.fault.FaultKind.TheVariants.{Malformed, NameTaken, Limit}
 use Rattle.e_line.specs.declared.fault.BookFault.{BookFault}
 use Rattle.e_line.specs.declared.fault.What.{What}
-use Rattle.e_book.specs.declared.draft.TheoremParser.{TheoremParser}
+use Rattle.e_book.specs.declared.parser.TheoremParser.{TheoremParser}
 use Rattle.e_line.specs.Limits.{within}
 use Rattle.e_book.specs.TheoremViews.{TheoremView}
 use Rattle.e_book.specs.Grammar.{put_at}

@@ -8,9 +8,9 @@ use Rattle.e_deriv.specs.PlainStep.{PlainStep, Cited, Inferred, Made, Applied, C
 use Rattle.e_line.specs.declared.fault.FaultKind.{FaultKind}
 use Rattle.e_book.specs.declared.blocks.OpenBlock.{OpenBlock}
 use Rattle.e_book.specs.declared.blocks.BlockKind.{BlockKind}
-use Rattle.e_book.specs.declared.blocks.BlockKind.TheVariants as opened
+use Rattle.e_book.specs.declared.blocks.BlockKind.TheVariants as kind
 use Rattle.e_line.specs.declared.raw_line.RawLine.{RawLine}
-use Rattle.e_book.specs.declared.draft.TheoremParser.{TheoremParser}
+use Rattle.e_book.specs.declared.parser.TheoremParser.{TheoremParser}
 use Rattle.e_names.specs.TitledStatements.{TitledStatement}
 use Rattle.e_line.specs.Limits.{most_steps, most_facts, most_terms, count_monomials}
 use Rattle.e_names.specs.Scope.{scope_of_names}
@@ -48,14 +48,14 @@ around_length (o ∷ os) = let h = around_length os in omega (arith, h)
 
 -- the made objects of the goal of a block inside
 goal_by : (op : BlockKind) (b : Bool) (x made : List Sort) → x ≡ cond b [] made → cond (has_goal (opener_of op)) [] x ≡ cond (is_claim op || b) [] made
-goal_by (opened.Claim shown) b x made e = refl
-goal_by (opened.Superpose form names shown) b x made e = refl
-goal_by (opened.First lit) b x made e = e
-goal_by (opened.Second lit first) b x made e = e
+goal_by (kind.Claim shown) b x made e = refl
+goal_by (kind.Superpose form names shown) b x made e = refl
+goal_by (kind.First lit) b x made e = e
+goal_by (kind.Second lit first) b x made e = e
 
 pub goal_made : (os : List OpenBlock) (made : List Sort) → made_inside (around_of os) made ≡ made_in os made
 goal_made [] made = refl
-goal_made (o ∷ os) made = goal_by o.opened (has_claim os) (made_inside (around_of os) made) made (goal_made os made)
+goal_made (o ∷ os) made = goal_by o.kind (has_claim os) (made_inside (around_of os) made) made (goal_made os made)
 
 -- ---- the counts after a step
 
@@ -97,8 +97,8 @@ block_limits known r h os ss f ns lines depth facts terms c e d a =
     (let n = around_length os in omega (arith, d, n)) a
 
 -- the block with one more step, within the limits
-pub step_block : (known : List TitledStatement) (d : TheoremParser) (s : PlainStep) (ns : Names) (facts terms : ℕ) → BlockOf known d → lines_of s ≡ 1 → Counted ns facts terms (context_in known (head_of d) d.outers (d.steps ++ s ∷ []))
-    → FewNamed ns → d.lines + 1 ≤ most_steps → facts ≤ most_facts → terms ≤ most_terms → BlockTied known (head_of d) d.outers (d.steps ++ s ∷ []) ns (d.lines + 1) facts terms
+pub step_block : (known : List TitledStatement) (d : TheoremParser) (s : PlainStep) (ns : Names) (facts terms : ℕ) → BlockOf known d → lines_of s ≡ 1 → Counted ns facts terms (context_in known (head_of d) d.blocks (d.steps ++ s ∷ []))
+    → FewNamed ns → d.lines + 1 ≤ most_steps → facts ≤ most_facts → terms ≤ most_terms → BlockTied known (head_of d) d.blocks (d.steps ++ s ∷ []) ns (d.lines + 1) facts terms
 step_block known d s ns facts terms t one c few short k m = record {
   counted = c;
   few = few;
@@ -106,6 +106,6 @@ step_block known d s ns facts terms t one c few short k m = record {
   few_terms = m;
   lines = omega (arith, t.lines, one, lines_more d.steps s);
   short = short;
-  outers = t.outers;
+  blocks = t.blocks;
   shallow = t.shallow;
 }

@@ -22,11 +22,11 @@ use Rattle.e_line.specs.declared.lets.RawLet.{RawLet}
 use Rattle.e_line.specs.declared.superposes.RawSuperpose.{RawSuperpose}
 use Rattle.e_line.specs.declared.applies.RawApply.{RawApply}
 use Rattle.e_book.specs.declared.blocks.BlockKind.{BlockKind}
-use Rattle.e_book.specs.declared.blocks.BlockKind.TheVariants as opened
+use Rattle.e_book.specs.declared.blocks.BlockKind.TheVariants as kind
 use Rattle.e_line.specs.declared.raw_line.RawLine.{RawLine}
 use Rattle.e_line.specs.declared.raw_line.RawLine.TheVariants as rawlines
-use Rattle.e_book.specs.declared.draft.TheoremParser.{TheoremParser}
-use Rattle.e_book.specs.declared.draft.Section.TheVariants as places
+use Rattle.e_book.specs.declared.parser.TheoremParser.{TheoremParser}
+use Rattle.e_book.specs.declared.parser.Section.TheVariants as places
 use Rattle.e_line.specs.Reading.{◌>>=◌}
 use Rattle.e_names.specs.TitledStatements.{TitledStatement, place_in, theorem_of}
 use Rattle.e_line.specs.Limits.{most_steps, most_depth, most_facts, most_terms, most_blanks, within, monomials, count_monomials}
@@ -36,7 +36,7 @@ use Rattle.e_names.specs.Superposes.{superpose_in}
 use Rattle.e_names.specs.Applies.{count_blanks, known_place, entry_in, entries_in, apply_in}
 use Rattle.e_line.specs.LineLimits.{are_short, are_small, count_monos, few_monos}
 use Rattle.e_book.specs.LineLimits.{FewNamed, few_objects}
-use Rattle.e_book.specs.Steps.{begun_with, begun_terms, terms_behind, terms_after, with_terms, with_step, built, used_by, applied, outer_of, interrupted, deeper, claimed, superposed, split, cited, inferred}
+use Rattle.e_book.specs.Steps.{begun_with, begun_terms, terms_after_raw, terms_after, with_terms, with_step, built, used_by, applied, outer_of, interrupted, deeper, claimed, superposed, split, cited, inferred}
 use Rattle.e_book.specs.Open.{Open, Proving, ByClaim, BySuperposition, ByCase}
 use Rattle.e_book.specs.Counts.{lines_of, lines_first, literals_on, blanks_on}
 use Rattle.e_book.specs.Grammar.{one_more, inner_block, goes_on}
@@ -67,7 +67,7 @@ step_alike known x s g n raws depth m b deep h =
     (λ a. pass_le known facts n depth most_depth limits.Depth (fact_tests raws (x.facts + g) m b) deep
     (test known y n (x.facts + g) most_facts limits.Facts (literal_tests raws m b) (λ c. h a c)))
 
--- the same, where more is read behind it
+-- the same, where more is read after it
 step_then : (known : List TitledStatement) (x : TheoremParser) (s : PlainStep) (g : ℕ) (r : TheoremParser → Result TheoremParser FaultKind) (n : Open) (raws : List RawLit) (depth m b : ℕ) → depth ≤ most_depth
     → (x.lines + 1 ≤ most_steps → x.facts + g ≤ most_facts → Alike known (r (with_put x s g)) (kept (literal_tests raws m b) n))
     → Alike known (with_step x s g >>= r) (kept (step_tests raws (x.lines + 1) depth (x.facts + g) m b) n)
@@ -86,25 +86,25 @@ unfolding with_terms
 terms_alike known y raws n h =
     let sum = y.terms + count_monos raws in
     let then : ℕ → Result TheoremParser FaultKind = λ k. read_ok (record y { terms = k }) in
-    test_monos known (terms_behind y.terms raws >>= then) n raws sum 0
+    test_monos known (terms_after_raw y.terms raws >>= then) n raws sum 0
     (test_in known (read_ok sum) then n sum most_terms limits.Terms (blank_tests 0)
     (λ w. pass_le known (then sum) n 0 most_blanks limits.Blanks [] (omega arith) (h w)))
 
--- the draft with one more step is what the lines have said
+-- the parser with one more step is what the lines have said
 step_ends : (known : List TitledStatement) (d : TheoremParser) (s : PlainStep) (ns : Names) (facts terms : ℕ) → BlockOf known d → d.place ≡ places.Proving → FewNamed d.names → lines_of s ≡ 1
-    → Counted ns facts terms (context_in known (head_of d) d.outers (d.steps ++ s ∷ [])) → FewNamed ns → d.lines + 1 ≤ most_steps → facts ≤ most_facts → terms ≤ most_terms
-    → Alike known (read_ok (record d { in_scope = ns; lines = d.lines + 1; steps = d.steps ++ s ∷ []; facts = facts; terms = terms })) (read_ok (Proving (head_of d) (around_of d.outers) (d.steps ++ s ∷ [])))
+    → Counted ns facts terms (context_in known (head_of d) d.blocks (d.steps ++ s ∷ [])) → FewNamed ns → d.lines + 1 ≤ most_steps → facts ≤ most_facts → terms ≤ most_terms
+    → Alike known (read_ok (record d { in_scope = ns; lines = d.lines + 1; steps = d.steps ++ s ∷ []; facts = facts; terms = terms })) (read_ok (Proving (head_of d) (around_of d.blocks) (d.steps ++ s ∷ [])))
 step_ends known d s ns facts terms t at names one c few short k m =
     let e : TheoremParser = record d { in_scope = ns; lines = d.lines + 1; steps = d.steps ++ s ∷ []; facts = facts; terms = terms } in
-    tied_there known e (Proving (head_of d) (around_of d.outers) (d.steps ++ s ∷ [])) places.Proving at names (step_block known d s ns facts terms t one c few short k m) refl
+    tied_there known e (Proving (head_of d) (around_of d.blocks) (d.steps ++ s ∷ [])) places.Proving at names (step_block known d s ns facts terms t one c few short k m) refl
 
 -- the limits after one more step, by its counts
 step_limits : (known : List TitledStatement) (d : TheoremParser) (r : Result TheoremParser FaultKind) (s : PlainStep) (f : RawLine) (ns : Names) (facts terms : ℕ) → BlockOf known d → lines_of s ≡ 1
-    → Counted ns facts terms (context_in known (head_of d) d.outers (d.steps ++ s ∷ []))
-    → Alike known r (kept (all_tests (literals_on f) ns (d.lines + 1) (length d.outers + 1) facts terms (blanks_on f)) (Proving (head_of d) (around_of d.outers) (d.steps ++ s ∷ [])))
-    → Alike known r (then_limits known f (Proving (head_of d) (around_of d.outers) (d.steps ++ s ∷ [])))
+    → Counted ns facts terms (context_in known (head_of d) d.blocks (d.steps ++ s ∷ []))
+    → Alike known r (kept (all_tests (literals_on f) ns (d.lines + 1) (length d.blocks + 1) facts terms (blanks_on f)) (Proving (head_of d) (around_of d.blocks) (d.steps ++ s ∷ [])))
+    → Alike known r (then_limits known f (Proving (head_of d) (around_of d.blocks) (d.steps ++ s ∷ [])))
 step_limits known d r s f ns facts terms t one c a =
-    block_limits known r (head_of d) d.outers (d.steps ++ s ∷ []) f ns (d.lines + 1) (length d.outers + 1) facts terms c (omega (arith, t.lines, one, lines_more d.steps s)) refl a
+    block_limits known r (head_of d) d.blocks (d.steps ++ s ∷ []) f ns (d.lines + 1) (length d.blocks + 1) facts terms c (omega (arith, t.lines, one, lines_more d.steps s)) refl a
 
 -- ---- citations
 
@@ -115,70 +115,70 @@ short_diagram neg (rawatoms.SumsAtMost x y) h = absurd cc
 short_diagram neg a h = (refl, refl)
 
 pub by_alike : (known : List TitledStatement) (d : TheoremParser) (rule : List ℕ) (names : List (List ℕ)) (l : RawLit) → BlockOf known d → d.place ≡ places.Proving → FewNamed d.names → is_diagram_raw l.atom ≡ true
-    → Alike known (cited d rule names l) (goes_on known d.in_scope (head_of d) (around_of d.outers) d.steps (rawlines.By rule names l) >>= then_limits known (rawlines.By rule names l))
+    → Alike known (cited d rule names l) (goes_on known d.in_scope (head_of d) (around_of d.blocks) d.steps (rawlines.By rule names l) >>= then_limits known (rawlines.By rule names l))
 by_alike known d rule names l t at few plain =
     let f = rawlines.By rule names l in
-    both known (by_in d.in_scope rule names l) (λ b. with_step d (Cited b) 1) (λ b. one_more (head_of d) (around_of d.outers) d.steps (Cited b)) (then_limits known f)
+    both known (by_in d.in_scope rule names l) (λ b. with_step d (Cited b) 1) (λ b. one_more (head_of d) (around_of d.blocks) d.steps (Cited b)) (then_limits known f)
     (λ b e.
     let s = Cited b in
-    let n = Proving (head_of d) (around_of d.outers) (d.steps ++ s ∷ []) in
+    let n = Proving (head_of d) (around_of d.blocks) (d.steps ++ s ∷ []) in
     let none : monomials b.lit.atom ≡ 0 = no_monomials b.lit.atom (by_plain d.in_scope rule names l b plain e) in
     let sum : d.terms + count_monomials (b.lit ∷ []) ≡ d.terms = omega (arith, none, count_first b.lit []) in
-    let c = counted_more known (head_of d) d.outers d.steps s d.in_scope d.in_scope d.facts (d.facts + 1) d.terms d.terms t.counted refl refl sum in
+    let c = counted_more known (head_of d) d.blocks d.steps s d.in_scope d.in_scope d.facts (d.facts + 1) d.terms d.terms t.counted refl refl sum in
     let short = short_diagram l.neg l.atom plain in
     step_limits known d (with_step d s 1) s f d.in_scope (d.facts + 1) d.terms t refl c
-    (pass_objects known (with_step d s 1) n (l ∷ []) d.in_scope (d.lines + 1) (length d.outers + 1) (d.facts + 1) d.terms 0 t.few
-    (step_alike known d s 1 n (l ∷ []) (length d.outers + 1) d.terms 0 t.shallow
+    (pass_objects known (with_step d s 1) n (l ∷ []) d.in_scope (d.lines + 1) (length d.blocks + 1) (d.facts + 1) d.terms 0 t.few
+    (step_alike known d s 1 n (l ∷ []) (length d.blocks + 1) d.terms 0 t.shallow
     (λ a k. pass_rest known (read_ok (with_put d s 1)) n (l ∷ []) d.terms 0 short.0 short.1 t.few_terms (omega arith)
     (step_ends known d s d.in_scope (d.facts + 1) d.terms t at few refl c t.few a k t.few_terms)))))
 
 -- ---- literals that are to be allowed
 
 pub hence_alike : (known : List TitledStatement) (d : TheoremParser) (r : RawLit) → BlockOf known d → d.place ≡ places.Proving → FewNamed d.names
-    → Alike known (inferred d r) (goes_on known d.in_scope (head_of d) (around_of d.outers) d.steps (rawlines.Hence r) >>= then_limits known (rawlines.Hence r))
+    → Alike known (inferred d r) (goes_on known d.in_scope (head_of d) (around_of d.blocks) d.steps (rawlines.Hence r) >>= then_limits known (rawlines.Hence r))
 hence_alike known d r t at few =
     let f = rawlines.Hence r in
-    both known (lit_in d.in_scope r) (λ l. with_step d (Inferred l None) 1 >>= λ e. with_terms e (r ∷ [])) (λ l. one_more (head_of d) (around_of d.outers) d.steps (Inferred l None)) (then_limits known f)
+    both known (lit_in d.in_scope r) (λ l. with_step d (Inferred l None) 1 >>= λ e. with_terms e (r ∷ [])) (λ l. one_more (head_of d) (around_of d.blocks) d.steps (Inferred l None)) (then_limits known f)
     (λ l e.
     let s = Inferred l None in
-    let n = Proving (head_of d) (around_of d.outers) (d.steps ++ s ∷ []) in
+    let n = Proving (head_of d) (around_of d.blocks) (d.steps ++ s ∷ []) in
     let m = d.terms + count_monos (r ∷ []) in
     let sum : d.terms + count_monomials (l ∷ []) ≡ m = omega (arith, one_count d.in_scope r l e, count_first l []) in
-    let c = counted_more known (head_of d) d.outers d.steps s d.in_scope d.in_scope d.facts (d.facts + 1) d.terms m t.counted refl refl sum in
+    let c = counted_more known (head_of d) d.blocks d.steps s d.in_scope d.in_scope d.facts (d.facts + 1) d.terms m t.counted refl refl sum in
     let then : TheoremParser → Result TheoremParser FaultKind = λ x. with_terms x (r ∷ []) in
     step_limits known d (with_step d s 1 >>= then) s f d.in_scope (d.facts + 1) m t refl c
-    (pass_objects known (with_step d s 1 >>= then) n (r ∷ []) d.in_scope (d.lines + 1) (length d.outers + 1) (d.facts + 1) m 0 t.few
-    (step_then known d s 1 then n (r ∷ []) (length d.outers + 1) m 0 t.shallow
+    (pass_objects known (with_step d s 1 >>= then) n (r ∷ []) d.in_scope (d.lines + 1) (length d.blocks + 1) (d.facts + 1) m 0 t.few
+    (step_then known d s 1 then n (r ∷ []) (length d.blocks + 1) m 0 t.shallow
     (λ a k. terms_alike known (with_put d s 1) (r ∷ []) n (λ w. step_ends known d s d.in_scope (d.facts + 1) m t at few refl c t.few a k w)))))
 
 -- ---- constructions
 
 made_alike : (known : List TitledStatement) (d : TheoremParser) (raw : RawLet) (form : Construction) → BlockOf known d → d.place ≡ places.Proving → FewNamed d.names → let_in d.in_scope raw ≡ Ok form
     → Alike known (few_objects (named d.in_scope (sorts_made form) raw.new) >>= λ few. with_step (record d { in_scope = named d.in_scope (sorts_made form) raw.new }) (Made form raw.new []) (length (gives_of_construction form (scope_of_names d.in_scope))))
-    (then_limits known (rawlines.Let raw) (Proving (head_of d) (around_of d.outers) (d.steps ++ Made form raw.new [] ∷ [])))
+    (then_limits known (rawlines.Let raw) (Proving (head_of d) (around_of d.blocks) (d.steps ++ Made form raw.new [] ∷ [])))
 made_alike known d raw form t at few e =
     let s = Made form raw.new [] in
-    let n = Proving (head_of d) (around_of d.outers) (d.steps ++ s ∷ []) in
+    let n = Proving (head_of d) (around_of d.blocks) (d.steps ++ s ∷ []) in
     let after = named d.in_scope (sorts_made form) raw.new in
     let given = gives_of_construction form (scope_of_names d.in_scope) in
     let x : TheoremParser = record d { in_scope = after } in
     let next : Result TheoremParser FaultKind = with_step x s (length given) in
     let none = plain_count given (gives_plain form (scope_of_names d.in_scope) (let_fits d.in_scope raw form e).fits) in
     let sum : d.terms + count_monomials given ≡ d.terms = omega (arith, none) in
-    let c = counted_more known (head_of d) d.outers d.steps s d.in_scope after d.facts (d.facts + length given) d.terms d.terms t.counted refl refl sum in
+    let c = counted_more known (head_of d) d.blocks d.steps s d.in_scope after d.facts (d.facts + length given) d.terms d.terms t.counted refl refl sum in
     step_limits known d (few_objects after >>= λ few. next) s (rawlines.Let raw) after (d.facts + length given) d.terms t refl c
-    (test_objects known next n [] after (d.lines + 1) (length d.outers + 1) (d.facts + length given) d.terms 0
-    (λ objects. step_alike known x s (length given) n [] (length d.outers + 1) d.terms 0 t.shallow
+    (test_objects known next n [] after (d.lines + 1) (length d.blocks + 1) (d.facts + length given) d.terms 0
+    (λ objects. step_alike known x s (length given) n [] (length d.blocks + 1) d.terms 0 t.shallow
     (λ a k. pass_rest known (read_ok (with_put x s (length given))) n [] d.terms 0 refl refl t.few_terms (omega arith)
     (step_ends known d s after (d.facts + length given) d.terms t at few refl c objects a k t.few_terms))))
 
 pub let_alike : (known : List TitledStatement) (d : TheoremParser) (raw : RawLet) → BlockOf known d → d.place ≡ places.Proving → FewNamed d.names
-    → Alike known (built d raw) (goes_on known d.in_scope (head_of d) (around_of d.outers) d.steps (rawlines.Let raw) >>= then_limits known (rawlines.Let raw))
+    → Alike known (built d raw) (goes_on known d.in_scope (head_of d) (around_of d.blocks) d.steps (rawlines.Let raw) >>= then_limits known (rawlines.Let raw))
 unfolding built
 let_alike known d raw t at few =
     both known (let_in d.in_scope raw)
     (λ form. few_objects (named d.in_scope (sorts_made form) raw.new) >>= λ few. with_step (record d { in_scope = named d.in_scope (sorts_made form) raw.new }) (Made form raw.new []) (length (gives_of_construction form (scope_of_names d.in_scope))))
-    (λ form. one_more (head_of d) (around_of d.outers) d.steps (Made form raw.new [])) (then_limits known (rawlines.Let raw))
+    (λ form. one_more (head_of d) (around_of d.blocks) d.steps (Made form raw.new [])) (then_limits known (rawlines.Let raw))
     (λ form e. made_alike known d raw form t at few e)
 
 -- ---- uses of earlier theorems
@@ -231,11 +231,11 @@ blanks_applied known ns raw a e =
     subst (λ (os : List (Option Obj)). count_blanks os ≡ blanks_on (rawlines.Apply raw)) is (blanks_read ns t.declared raw.args args.0 count args.1)
 
 use_alike : (known : List TitledStatement) (d : TheoremParser) (raw : RawApply) (theorem : ℕ) (args : List (Option Obj)) → BlockOf known d → d.place ≡ places.Proving → FewNamed d.names → count_blanks args ≡ blanks_on (rawlines.Apply raw)
-    → Alike known (used_by d (theorem_of known theorem) theorem args raw.new) (then_limits known (rawlines.Apply raw) (Proving (head_of d) (around_of d.outers) (d.steps ++ Applied theorem args raw.new [] ∷ [])))
+    → Alike known (used_by d (theorem_of known theorem) theorem args raw.new) (then_limits known (rawlines.Apply raw) (Proving (head_of d) (around_of d.blocks) (d.steps ++ Applied theorem args raw.new [] ∷ [])))
 unfolding used_by
 use_alike known d raw theorem args t at few blanks =
     let s = Applied theorem args raw.new [] in
-    let n = Proving (head_of d) (around_of d.outers) (d.steps ++ s ∷ []) in
+    let n = Proving (head_of d) (around_of d.blocks) (d.steps ++ s ∷ []) in
     let shown = (theorem_of known theorem).shown in
     let after = named d.in_scope (theorem_of known theorem).made raw.new in
     let m = d.terms + count_monomials shown in
@@ -245,53 +245,53 @@ use_alike known d raw theorem args t at few blanks =
     let last : TheoremParser → ℕ → Result TheoremParser FaultKind = λ v n. within (count_blanks args) most_blanks limits.Blanks >>= λ written. read_ok (record v { terms = n }) in
     let then : TheoremParser → Result TheoremParser FaultKind = λ v. terms_after v.terms shown >>= λ n. last v n in
     let next : Result TheoremParser FaultKind = with_step x s (length shown) >>= then in
-    let c = counted_more known (head_of d) d.outers d.steps s d.in_scope after d.facts k d.terms m t.counted refl refl refl in
+    let c = counted_more known (head_of d) d.blocks d.steps s d.in_scope after d.facts k d.terms m t.counted refl refl refl in
     step_limits known d (few_objects after >>= λ few. next) s (rawlines.Apply raw) after k m t refl c
-    (subst (λ (b : ℕ). Alike known (few_objects after >>= λ few. next) (kept (all_tests [] after (d.lines + 1) (length d.outers + 1) k m b) n)) blanks
-    (test_objects known next n [] after (d.lines + 1) (length d.outers + 1) k m (count_blanks args)
-    (λ objects. step_then known x s (length shown) then n [] (length d.outers + 1) m (count_blanks args) t.shallow
+    (subst (λ (b : ℕ). Alike known (few_objects after >>= λ few. next) (kept (all_tests [] after (d.lines + 1) (length d.blocks + 1) k m b) n)) blanks
+    (test_objects known next n [] after (d.lines + 1) (length d.blocks + 1) k m (count_blanks args)
+    (λ objects. step_then known x s (length shown) then n [] (length d.blocks + 1) m (count_blanks args) t.shallow
     (λ a w. pass_literals known (then y) n [] m (count_blanks args) refl refl
     (test_in known (read_ok m) (last y) n m most_terms limits.Terms (blank_tests (count_blanks args))
     (λ z. test known (read_ok (record y { terms = m })) n (count_blanks args) most_blanks limits.Blanks []
     (λ u. step_ends known d s after k m t at few refl c objects a w z)))))))
 
 pub apply_alike : (known : List TitledStatement) (d : TheoremParser) (raw : RawApply) → BlockOf known d → d.place ≡ places.Proving → FewNamed d.names
-    → Alike known (applied known d raw) (goes_on known d.in_scope (head_of d) (around_of d.outers) d.steps (rawlines.Apply raw) >>= then_limits known (rawlines.Apply raw))
+    → Alike known (applied known d raw) (goes_on known d.in_scope (head_of d) (around_of d.blocks) d.steps (rawlines.Apply raw) >>= then_limits known (rawlines.Apply raw))
 unfolding applied
 apply_alike known d raw t at few =
-    both known (apply_in known d.in_scope raw) (λ a. used_by d (theorem_of known a.0) a.0 a.1 raw.new) (λ a. one_more (head_of d) (around_of d.outers) d.steps (Applied a.0 a.1 raw.new [])) (then_limits known (rawlines.Apply raw))
+    both known (apply_in known d.in_scope raw) (λ a. used_by d (theorem_of known a.0) a.0 a.1 raw.new) (λ a. one_more (head_of d) (around_of d.blocks) d.steps (Applied a.0 a.1 raw.new [])) (then_limits known (rawlines.Apply raw))
     (λ a e. use_alike known d raw a.0 a.1 t at few (blanks_applied known d.in_scope raw a e))
 
 -- ---- inner blocks
 
 inner_then : (known : List TitledStatement) (d : TheoremParser) (op : BlockKind) (g : ℕ) (r : TheoremParser → Result TheoremParser FaultKind) (n : Open) (raws : List RawLit) (m b : ℕ)
-    → (d.lines + 1 ≤ most_steps → length d.outers + 2 ≤ most_depth → d.facts + g ≤ most_facts → Alike known (r (interrupted d op g)) (kept (literal_tests raws m b) n))
-    → Alike known (deeper d op g >>= r) (kept (step_tests raws (d.lines + 1) (length d.outers + 2) (d.facts + g) m b) n)
+    → (d.lines + 1 ≤ most_steps → length d.blocks + 2 ≤ most_depth → d.facts + g ≤ most_facts → Alike known (r (interrupted d op g)) (kept (literal_tests raws m b) n))
+    → Alike known (deeper d op g >>= r) (kept (step_tests raws (d.lines + 1) (length d.blocks + 2) (d.facts + g) m b) n)
 unfolding deeper
 inner_then known d op g r n raws m b h =
     let y : Result TheoremParser FaultKind = read_ok (interrupted d op g) in
     let facts : Result TheoremParser FaultKind = within (d.facts + g) most_facts limits.Facts >>= λ none. y in
-    let deep : Result TheoremParser FaultKind = within (length d.outers + 2) most_depth limits.Depth >>= λ shallow. facts in
-    test_in known deep r n (d.lines + 1) most_steps limits.Steps (depth_tests raws (length d.outers + 2) (d.facts + g) m b)
-    (λ a. test_in known facts r n (length d.outers + 2) most_depth limits.Depth (fact_tests raws (d.facts + g) m b)
+    let deep : Result TheoremParser FaultKind = within (length d.blocks + 2) most_depth limits.Depth >>= λ shallow. facts in
+    test_in known deep r n (d.lines + 1) most_steps limits.Steps (depth_tests raws (length d.blocks + 2) (d.facts + g) m b)
+    (λ a. test_in known facts r n (length d.blocks + 2) most_depth limits.Depth (fact_tests raws (d.facts + g) m b)
     (λ k. test_in known y r n (d.facts + g) most_facts limits.Facts (literal_tests raws m b) (λ w. h a k w)))
 
 -- the limits of an inner block, by its counts
 inner_limits : (known : List TitledStatement) (d : TheoremParser) (r : Result TheoremParser FaultKind) (op : BlockKind) (f : RawLine) (ns : Names) (facts terms : ℕ) → BlockOf known d → lines_first (opener_of op) ≡ 0
-    → Counted ns facts terms (context_in known (head_of d) (outer_of d op ∷ d.outers) [])
-    → Alike known r (kept (all_tests (literals_on f) ns (d.lines + 1) (length d.outers + 2) facts terms (blanks_on f)) (Proving (head_of d) (around_of (outer_of d op ∷ d.outers)) []))
-    → Alike known r (then_limits known f (Proving (head_of d) (around_of (outer_of d op ∷ d.outers)) []))
+    → Counted ns facts terms (context_in known (head_of d) (outer_of d op ∷ d.blocks) [])
+    → Alike known r (kept (all_tests (literals_on f) ns (d.lines + 1) (length d.blocks + 2) facts terms (blanks_on f)) (Proving (head_of d) (around_of (outer_of d op ∷ d.blocks)) []))
+    → Alike known r (then_limits known f (Proving (head_of d) (around_of (outer_of d op ∷ d.blocks)) []))
 inner_limits known d r op f ns facts terms t none c a =
-    block_limits known r (head_of d) (outer_of d op ∷ d.outers) [] f ns (d.lines + 1) (length d.outers + 2) facts terms c (omega (arith, t.lines, none)) (omega arith) a
+    block_limits known r (head_of d) (outer_of d op ∷ d.blocks) [] f ns (d.lines + 1) (length d.blocks + 2) facts terms c (omega (arith, t.lines, none)) (omega arith) a
 
--- the draft with an inner block is what the lines have said
+-- the parser with an inner block is what the lines have said
 inner_ends : (known : List TitledStatement) (d : TheoremParser) (op : BlockKind) (ns : Names) (facts terms : ℕ) → BlockOf known d → d.place ≡ places.Proving → FewNamed d.names → lines_first (opener_of op) ≡ 0
     → d.facts + begun_with op ≤ most_facts → d.terms + begun_terms op ≤ most_terms
-    → Counted ns facts terms (context_in known (head_of d) (outer_of d op ∷ d.outers) []) → FewNamed ns → d.lines + 1 ≤ most_steps → length d.outers + 2 ≤ most_depth → facts ≤ most_facts → terms ≤ most_terms
-    → Alike known (read_ok (record d { lines = d.lines + 1; outers = outer_of d op ∷ d.outers; steps = []; in_scope = ns; facts = facts; terms = terms })) (read_ok (Proving (head_of d) (around_of (outer_of d op ∷ d.outers)) []))
+    → Counted ns facts terms (context_in known (head_of d) (outer_of d op ∷ d.blocks) []) → FewNamed ns → d.lines + 1 ≤ most_steps → length d.blocks + 2 ≤ most_depth → facts ≤ most_facts → terms ≤ most_terms
+    → Alike known (read_ok (record d { lines = d.lines + 1; blocks = outer_of d op ∷ d.blocks; steps = []; in_scope = ns; facts = facts; terms = terms })) (read_ok (Proving (head_of d) (around_of (outer_of d op ∷ d.blocks)) []))
 inner_ends known d op ns facts terms t at names none room sums c few short deep k m =
-    let e : TheoremParser = record d { lines = d.lines + 1; outers = outer_of d op ∷ d.outers; steps = []; in_scope = ns; facts = facts; terms = terms } in
-    let outer : OuterTied known (head_of d) d.outers (outer_of d op) = record { counted = t.counted; few = record { in_scope = t.few; facts = room; terms = sums } } in
+    let e : TheoremParser = record d { lines = d.lines + 1; blocks = outer_of d op ∷ d.blocks; steps = []; in_scope = ns; facts = facts; terms = terms } in
+    let outer : OuterTied known (head_of d) d.blocks (outer_of d op) = record { counted = t.counted; few = record { in_scope = t.few; facts = room; terms = sums } } in
     let block : BlockOf known e = record {
       counted = c;
       few = few;
@@ -299,25 +299,25 @@ inner_ends known d op ns facts terms t at names none room sums c few short deep 
       few_terms = m;
       lines = omega (arith, t.lines, none);
       short = short;
-      outers = (outer, t.outers);
+      blocks = (outer, t.blocks);
       shallow = omega (arith, deep);
     } in
-    tied_there known e (Proving (head_of d) (around_of (outer_of d op ∷ d.outers)) []) places.Proving at names block refl
+    tied_there known e (Proving (head_of d) (around_of (outer_of d op ∷ d.blocks)) []) places.Proving at names block refl
 
 pub claim_alike : (known : List TitledStatement) (d : TheoremParser) (raws : List RawLit) → BlockOf known d → d.place ≡ places.Proving → FewNamed d.names
-    → Alike known (claimed d raws) (goes_on known d.in_scope (head_of d) (around_of d.outers) d.steps (rawlines.Claim raws) >>= then_limits known (rawlines.Claim raws))
+    → Alike known (claimed d raws) (goes_on known d.in_scope (head_of d) (around_of d.blocks) d.steps (rawlines.Claim raws) >>= then_limits known (rawlines.Claim raws))
 unfolding claimed
 claim_alike known d raws t at few =
     let f = rawlines.Claim raws in
-    both known (lits_in d.in_scope raws) (λ ls. deeper d (opened.Claim ls) 0 >>= λ e. few_monos raws >>= λ few. read_ok e) (λ ls. inner_block (head_of d) (around_of d.outers) d.steps (ByClaim ls)) (then_limits known f)
+    both known (lits_in d.in_scope raws) (λ ls. deeper d (kind.Claim ls) 0 >>= λ e. few_monos raws >>= λ few. read_ok e) (λ ls. inner_block (head_of d) (around_of d.blocks) d.steps (ByClaim ls)) (then_limits known f)
     (λ ls e.
-    let op = opened.Claim ls in
-    let n = Proving (head_of d) (around_of (outer_of d op ∷ d.outers)) [] in
+    let op = kind.Claim ls in
+    let n = Proving (head_of d) (around_of (outer_of d op ∷ d.blocks)) [] in
     let then : TheoremParser → Result TheoremParser FaultKind = λ x. few_monos raws >>= λ few. read_ok x in
     let next : Result TheoremParser FaultKind = deeper d op 0 >>= then in
-    let c : Counted d.in_scope (d.facts + 0) d.terms (context_in known (head_of d) (outer_of d op ∷ d.outers) []) = record { names = t.counted.names; facts = omega (arith, t.counted.facts); terms = t.counted.terms } in
+    let c : Counted d.in_scope (d.facts + 0) d.terms (context_in known (head_of d) (outer_of d op ∷ d.blocks) []) = record { names = t.counted.names; facts = omega (arith, t.counted.facts); terms = t.counted.terms } in
     inner_limits known d next op f d.in_scope (d.facts + 0) d.terms t refl c
-    (pass_objects known next n raws d.in_scope (d.lines + 1) (length d.outers + 2) (d.facts + 0) d.terms 0 t.few
+    (pass_objects known next n raws d.in_scope (d.lines + 1) (length d.blocks + 2) (d.facts + 0) d.terms 0 t.few
     (inner_then known d op 0 then n raws d.terms 0
     (λ a k w. test_monos known (read_ok (interrupted d op 0)) n raws d.terms 0
     (pass_terms known (read_ok (interrupted d op 0)) n d.terms 0 t.few_terms (omega arith)
@@ -325,15 +325,15 @@ claim_alike known d raws t at few =
 
 copies_alike : (known : List TitledStatement) (d : TheoremParser) (raw : RawSuperpose) (form : Superpose) (shown : List Lit) → BlockOf known d → d.place ≡ places.Proving → FewNamed d.names
     → Alike known
-    (few_objects (named d.in_scope superposing.sorts_copied raw.new) >>= λ objects. deeper d (opened.Superpose form raw.new shown) (length (superposing.gives_of_superposition form (scope_of_names d.in_scope))) >>= λ e. few_monos raw.shown >>= λ few.
+    (few_objects (named d.in_scope superposing.sorts_copied raw.new) >>= λ objects. deeper d (kind.Superpose form raw.new shown) (length (superposing.gives_of_superposition form (scope_of_names d.in_scope))) >>= λ e. few_monos raw.shown >>= λ few.
     terms_after e.terms (superposing.gives_of_superposition form (scope_of_names d.in_scope)) >>= λ n. read_ok (record e { in_scope = named d.in_scope superposing.sorts_copied raw.new; terms = n }))
-    (then_limits known (rawlines.Superpose raw) (Proving (head_of d) (around_of (outer_of d (opened.Superpose form raw.new shown) ∷ d.outers)) []))
+    (then_limits known (rawlines.Superpose raw) (Proving (head_of d) (around_of (outer_of d (kind.Superpose form raw.new shown) ∷ d.blocks)) []))
 copies_alike known d raw form shown t at few =
-    let op = opened.Superpose form raw.new shown in
-    let n = Proving (head_of d) (around_of (outer_of d op ∷ d.outers)) [] in
+    let op = kind.Superpose form raw.new shown in
+    let n = Proving (head_of d) (around_of (outer_of d op ∷ d.blocks)) [] in
     let given = superposing.gives_of_superposition form (scope_of_names d.in_scope) in
     let after = named d.in_scope superposing.sorts_copied raw.new in
-    let at_block = context_in known (head_of d) d.outers d.steps in
+    let at_block = context_in known (head_of d) d.blocks d.steps in
     let k = d.facts + length given in
     let m = d.terms + count_monomials given in
     let y : TheoremParser = interrupted d op (length given) in
@@ -342,10 +342,10 @@ copies_alike known d raw form shown t at few =
     let next : Result TheoremParser FaultKind = deeper d op (length given) >>= then in
     let renamed : Counted after k m (record { names = named d.in_scope superposing.sorts_copied raw.new; facts = at_block.facts ++ given }) =
     counted_with at_block d.in_scope after after given d.facts k d.terms m t.counted refl refl refl in
-    let c : Counted after k m (context_in known (head_of d) (outer_of d op ∷ d.outers) []) =
+    let c : Counted after k m (context_in known (head_of d) (outer_of d op ∷ d.blocks) []) =
     subst (λ (ns : Names). Counted after k m (record { names = named ns superposing.sorts_copied raw.new; facts = at_block.facts ++ superposing.gives_of_superposition form (scope_of_names ns) })) t.counted.names renamed in
     inner_limits known d (few_objects after >>= λ objects. next) op (rawlines.Superpose raw) after k m t refl c
-    (test_objects known next n raw.shown after (d.lines + 1) (length d.outers + 2) k m 0
+    (test_objects known next n raw.shown after (d.lines + 1) (length d.blocks + 2) k m 0
     (λ objects. inner_then known d op (length given) then n raw.shown m 0
     (λ a deep w. test_monos known (terms_after y.terms given >>= λ n. last y n) n raw.shown m 0
     (test_in known (read_ok m) (last y) n m most_terms limits.Terms (blank_tests 0)
@@ -353,34 +353,34 @@ copies_alike known d raw form shown t at few =
     (inner_ends known d op after k m t at few refl (omega (arith, t.few_facts)) (omega (arith, t.few_terms)) c objects a deep w z))))))
 
 pub superpose_alike : (known : List TitledStatement) (d : TheoremParser) (raw : RawSuperpose) → BlockOf known d → d.place ≡ places.Proving → FewNamed d.names
-    → Alike known (superposed d raw) (goes_on known d.in_scope (head_of d) (around_of d.outers) d.steps (rawlines.Superpose raw) >>= then_limits known (rawlines.Superpose raw))
+    → Alike known (superposed d raw) (goes_on known d.in_scope (head_of d) (around_of d.blocks) d.steps (rawlines.Superpose raw) >>= then_limits known (rawlines.Superpose raw))
 unfolding superposed
 superpose_alike known d raw t at few =
     both known (superpose_in d.in_scope raw)
-    (λ p. few_objects (named d.in_scope superposing.sorts_copied raw.new) >>= λ objects. deeper d (opened.Superpose p.0 raw.new p.1) (length (superposing.gives_of_superposition p.0 (scope_of_names d.in_scope))) >>= λ e. few_monos raw.shown >>= λ few.
+    (λ p. few_objects (named d.in_scope superposing.sorts_copied raw.new) >>= λ objects. deeper d (kind.Superpose p.0 raw.new p.1) (length (superposing.gives_of_superposition p.0 (scope_of_names d.in_scope))) >>= λ e. few_monos raw.shown >>= λ few.
     terms_after e.terms (superposing.gives_of_superposition p.0 (scope_of_names d.in_scope)) >>= λ n. read_ok (record e { in_scope = named d.in_scope superposing.sorts_copied raw.new; terms = n }))
-    (λ p. inner_block (head_of d) (around_of d.outers) d.steps (BySuperposition p.0 raw.new p.1)) (then_limits known (rawlines.Superpose raw))
+    (λ p. inner_block (head_of d) (around_of d.blocks) d.steps (BySuperposition p.0 raw.new p.1)) (then_limits known (rawlines.Superpose raw))
     (λ p e. copies_alike known d raw p.0 p.1 t at few)
 
 pub cases_alike : (known : List TitledStatement) (d : TheoremParser) (r : RawLit) → BlockOf known d → d.place ≡ places.Proving → FewNamed d.names
-    → Alike known (split d r) (goes_on known d.in_scope (head_of d) (around_of d.outers) d.steps (rawlines.Cases r) >>= then_limits known (rawlines.Cases r))
+    → Alike known (split d r) (goes_on known d.in_scope (head_of d) (around_of d.blocks) d.steps (rawlines.Cases r) >>= then_limits known (rawlines.Cases r))
 unfolding split
 cases_alike known d r t at few =
     let f = rawlines.Cases r in
-    both known (lit_in d.in_scope r) (λ l. deeper d (opened.First l) 1 >>= λ e. with_terms e (r ∷ [])) (λ l. inner_block (head_of d) (around_of d.outers) d.steps (ByCase l)) (then_limits known f)
+    both known (lit_in d.in_scope r) (λ l. deeper d (kind.First l) 1 >>= λ e. with_terms e (r ∷ [])) (λ l. inner_block (head_of d) (around_of d.blocks) d.steps (ByCase l)) (then_limits known f)
     (λ l e.
-    let op = opened.First l in
-    let n = Proving (head_of d) (around_of (outer_of d op ∷ d.outers)) [] in
-    let at_block = context_in known (head_of d) d.outers d.steps in
+    let op = kind.First l in
+    let n = Proving (head_of d) (around_of (outer_of d op ∷ d.blocks)) [] in
+    let at_block = context_in known (head_of d) d.blocks d.steps in
     let m = d.terms + count_monos (r ∷ []) in
     let count : count_monos (r ∷ []) ≡ monomials l.atom = one_count d.in_scope r l e in
     let sum : d.terms + count_monomials (l ∷ []) ≡ m = omega (arith, count, count_first l []) in
-    let c : Counted d.in_scope (d.facts + 1) m (context_in known (head_of d) (outer_of d op ∷ d.outers) []) =
+    let c : Counted d.in_scope (d.facts + 1) m (context_in known (head_of d) (outer_of d op ∷ d.blocks) []) =
     counted_with at_block d.in_scope d.in_scope at_block.names (l ∷ []) d.facts (d.facts + 1) d.terms m t.counted t.counted.names refl sum in
     let then : TheoremParser → Result TheoremParser FaultKind = λ x. with_terms x (r ∷ []) in
     let next : Result TheoremParser FaultKind = deeper d op 1 >>= then in
     inner_limits known d next op f d.in_scope (d.facts + 1) m t refl c
-    (pass_objects known next n (r ∷ []) d.in_scope (d.lines + 1) (length d.outers + 2) (d.facts + 1) m 0 t.few
+    (pass_objects known next n (r ∷ []) d.in_scope (d.lines + 1) (length d.blocks + 2) (d.facts + 1) m 0 t.few
     (inner_then known d op 1 then n (r ∷ []) m 0
     (λ a k w. terms_alike known (interrupted d op 1) (r ∷ []) n
     (λ z. inner_ends known d op d.in_scope (d.facts + 1) m t at few refl w (omega (arith, z, count)) c t.few a k w z)))))

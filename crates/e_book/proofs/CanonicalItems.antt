@@ -18,8 +18,8 @@ use Rattle.e_line.specs.declared.raw_line.RawLine.{RawLine}
 use Rattle.e_line.specs.declared.raw_line.RawLine.TheVariants as rawlines
 use Rattle.e_line.specs.declared.items.BookLine.TheVariants.{Plain}
 use Rattle.e_names.specs.declared.known.Known.{Known}
-use Rattle.e_book.specs.declared.draft.Section.TheVariants.{Done}
-use Rattle.e_book.specs.declared.draft.TheoremParser.{TheoremParser}
+use Rattle.e_book.specs.declared.parser.Section.TheVariants.{Done}
+use Rattle.e_book.specs.declared.parser.TheoremParser.{TheoremParser}
 use Rattle.e_book.specs.declared.coming.Coming.{Coming}
 use Rattle.e_literal.specs.declared.object.Sort.TheVariants.{Point, Line, Circle}
 use Rattle.e_line.specs.Limits.{most_theorems}
@@ -28,7 +28,7 @@ use Rattle.e_names.specs.Titled.{defines, are_notions}
 use Rattle.e_names.specs.Scope.{scope_of_names, lit_in}
 use Rattle.e_line.specs.RawLines.{raw_line_named, raw_line_of}
 use Rattle.e_names.specs.Fits.{NamesDiffer}
-use Rattle.e_book.specs.DraftViews.{entry_of_draft}
+use Rattle.e_book.specs.ParserViews.{entry_of_parser}
 use Rattle.e_book.specs.TheoremViews.{TheoremView}
 use Rattle.e_names.specs.Canonical.{raw_of}
 use Rattle.e_line.specs.Canonical.{sum_words, sums_words, signed_words, lit_words, lits_words, raw_line_words, line_of as written_line}
@@ -46,7 +46,7 @@ use Rattle.e_book.specs.inner.Machine as machine
 use Rattle.e_book.specs.inner.Machine.{coming, begins_theorem, goes_on, line_step, item_from}
 use Rattle.e_line.proofs.SumsAgain.{is_mono_word, mono_word_differs, Begins, sum_begins, name_word}
 use Rattle.e_line.proofs.LitsAgain.{AtomNamed, LitNamed, LitsNamed, split_again}
-use Rattle.e_line.proofs.SuperposesAgain.{lits_behind}
+use Rattle.e_line.proofs.SuperposesAgain.{lits_after}
 use Rattle.e_line.proofs.Respelled.{GoodForm, as_read, form_again}
 use Rattle.e_book.proofs.LineWords.{words_again, not_skipped}
 use Rattle.e_names.proofs.Lookups.{in_order}
@@ -54,7 +54,7 @@ use Rattle.e_names.proofs.LitLookups.{lit_number_again}
 use Rattle.e_book.proofs.Declared.{Runs, runs_append}
 use Rattle.e_book.proofs.LinesRead.{Inside, proving}
 use Rattle.e_book.proofs.ScriptParts.{same_script}
-use Rattle.e_book.proofs.CanonicalRead.{started, begins, stating_forms, run_statement, run_proof_lines, shut_draft, closed_last, step_end}
+use Rattle.e_book.proofs.CanonicalRead.{started, begins, stating_forms, run_statement, run_proof_lines, shut_parser, closed_last, step_end}
 use Rattle.e_book.proofs.ComingTied.{items_read_alike}
 
 -- ---- literals that are written out
@@ -121,7 +121,7 @@ plain_again (rawlines.Show []) h = absurd h
 plain_again (rawlines.Show (l ∷ [])) h = rw (lits_no_item (l ∷ []) (h, tt), form_again (rawlines.Show (l ∷ [])) h) refl
 plain_again (rawlines.Show (l ∷ m ∷ ls)) h = absurd h
 plain_again (rawlines.Claim ls) h = rw (lits_no_item ls h, form_again (rawlines.Claim ls) h) refl
-plain_again (rawlines.Superpose s) h = rw (lits_behind s h, lits_no_item s.shown h.shown, form_again (rawlines.Superpose s) h) refl
+plain_again (rawlines.Superpose s) h = rw (lits_after s h, lits_no_item s.shown h.shown, form_again (rawlines.Superpose s) h) refl
 plain_again (rawlines.Declare Point ns) h = rw (form_again (rawlines.Declare Point ns) h) refl
 plain_again (rawlines.Declare Line ns) h = rw (form_again (rawlines.Declare Line ns) h) refl
 plain_again (rawlines.Declare Circle ns) h = rw (form_again (rawlines.Declare Circle ns) h) refl
@@ -141,7 +141,7 @@ abbrev found : BookItem → Rest → Answer
 found i rest = Ok (Some (i, rest))
 
 next_read : (known : Known) (last : ℕ) (d e : TheoremParser) (l : LineView) (after : Rest) (f : RawLine) → l.bytes ≡ written_line f → GoodForm f → step known.theorems d (as_read f) ≡ Ok e
-    → item_from known last (Some (theorem d)) (Ok l ∷ after) ≡ cond (is_last e.place) (found (OfTheorem (entry_of_draft e)) after) (item_from known last (Some (theorem e)) after)
+    → item_from known last (Some (theorem d)) (Ok l ∷ after) ≡ cond (is_last e.place) (found (OfTheorem (entry_of_parser e)) after) (item_from known last (Some (theorem e)) after)
 next_read known last d e l after f b good h =
     let words : tokens_of l.bytes ≡ raw_line_words f = ap tokens_of b ∙ words_again f good in
     let next : line_step known (Some (theorem d)) (raw_line_words f) ≡ Ok (theorem e) = next_taken known d e f good h in
@@ -161,15 +161,15 @@ reads_runs known last d u (f ∷ fs) gs (Err x ∷ all) rest r sh = absurd sh
 reads_runs known last d u (f ∷ fs) gs (Ok l ∷ all) rest r sh =
     let more = reads_runs known last r.0 u fs gs all rest r.4 sh.1 in
     let here = next_read known last d r.0 l all f sh.0 r.1 r.2 in
-    let goes : cond (is_last r.0.place) (found (OfTheorem (entry_of_draft r.0)) all) (item_from known last (Some (theorem r.0)) all) ≡ item_from known last (Some (theorem r.0)) all = rw r.3 refl in
+    let goes : cond (is_last r.0.place) (found (OfTheorem (entry_of_parser r.0)) all) (item_from known last (Some (theorem r.0)) all) ≡ item_from known last (Some (theorem r.0)) all = rw r.3 refl in
     record { ahead = more.ahead; shown = more.shown; same = here ∙ goes ∙ more.same }
 
-end_read : (known : Known) (number : ℕ) (t : TheoremView) (last : Inside) (all rest : Rest) → entry_of_draft (shut_draft t last) ≡ t → Shows all (written_line rawlines.End ∷ []) rest
-    → item_from known number (Some (theorem (shut_draft t last))) all ≡ found (OfTheorem t) rest
+end_read : (known : Known) (number : ℕ) (t : TheoremView) (last : Inside) (all rest : Rest) → entry_of_parser (shut_parser t last) ≡ t → Shows all (written_line rawlines.End ∷ []) rest
+    → item_from known number (Some (theorem (shut_parser t last))) all ≡ found (OfTheorem t) rest
 end_read known number t last [] rest same sh = absurd sh
 end_read known number t last (Err x ∷ all) rest same sh = absurd sh
 end_read known number t last (Ok l ∷ all) rest same sh =
-    let d = shut_draft t last in
+    let d = shut_parser t last in
     next_read known number d (record d { place = Done }) l all rawlines.End sh.0 tt (step_end known.theorems t last)
     ∙ ap (λ (x : TheoremView). found (OfTheorem x) all) same ∙ ap (λ (ls : Rest). found (OfTheorem t) ls) sh.1
 
@@ -203,7 +203,7 @@ canonical_items known last t (Ok l ∷ all) rest h free sh =
     let o = in_order t.names h.point_names h.line_names h.circle_names h.fits.differ in
     let before = known.theorems in
     let proof = run_proof_lines before t h o in
-    let d = shut_draft t proof.last in
+    let d = shut_parser t proof.last in
     let first = begun t.title in
     let script = script_forms before (names_of_proof t) t.script in
     let front = stating_forms t ++ script in

@@ -20,12 +20,12 @@ use Rattle.e_deriv.specs.Lines.{lines}
 use Rattle.e_line.specs.declared.fault.BookFault.{BookFault}
 use Rattle.e_line.specs.declared.raw_line.RawLine.{RawLine}
 use Rattle.e_line.specs.declared.raw_line.RawLine.TheVariants as rawlines
-use Rattle.e_book.specs.declared.draft.Section.TheVariants.{Closed, Done}
-use Rattle.e_book.specs.declared.draft.TheoremParser.{TheoremParser}
+use Rattle.e_book.specs.declared.parser.Section.TheVariants.{Closed, Done}
+use Rattle.e_book.specs.declared.parser.TheoremParser.{TheoremParser}
 use Rattle.e_names.specs.TitledStatements.{TitledStatement, stated_by}
 use Rattle.e_names.specs.Scope.{scope_of_names}
 use Rattle.e_book.specs.Steps.{closed, stepped, step, begun}
-use Rattle.e_book.specs.DraftViews.{entry_of_draft}
+use Rattle.e_book.specs.ParserViews.{entry_of_parser}
 use Rattle.e_book.specs.TheoremViews.{TheoremView}
 use Rattle.e_book.specs.Fits.{few_facts, few_terms}
 use Rattle.e_book.specs.Book.{line_step, is_done, read_from}
@@ -43,7 +43,7 @@ use Rattle.e_names.proofs.Building.{declared_scope}
 use Rattle.e_names.proofs.Growing.{first_in_order, lit_of_first}
 use Rattle.e_names.proofs.PlainLits.{Plain}
 use Rattle.e_book.proofs.FittingScripts.{line_fits}
-use Rattle.e_book.proofs.HeadRead.{declaring, declared_lines, given_draft, making, made_lines, showing, run_title, run_all_given, run_all_shown}
+use Rattle.e_book.proofs.HeadRead.{declaring, declared_lines, given_parser, making, made_lines, showing, run_title, run_all_given, run_all_shown}
 use Rattle.e_book.proofs.LinesRead.{Inside, proving, Closes}
 use Rattle.e_book.proofs.ScriptParts.{steps_of, close_of, same_script}
 use Rattle.e_book.proofs.ScriptRead.{Taken, run_script}
@@ -57,22 +57,22 @@ given_forms_of s ns (l ∷ ls) h =
     let p = and_parts (all_in_scope s l) (list_all (all_in_scope s) ls) h in
     rw (lit_of_first s ns l p.0, given_forms_of s ns ls p.1) refl
 
--- the draft behind the word proof
+-- the parser after the word proof
 abbrev pub started : TheoremView → TheoremParser
 started t = showing t.title t.names t.statement.declared t.statement.given t.statement.made t.statement.shown
 
 abbrev pub begins : TheoremView → Inside
-begins t = record { outers = []; in_scope = names_of_proof t; steps = []; lines = 0; facts = length t.statement.given; terms = count_monomials t.statement.given }
+begins t = record { blocks = []; in_scope = names_of_proof t; steps = []; lines = 0; facts = length t.statement.given; terms = count_monomials t.statement.given }
 
 run_proof : (known : List TitledStatement) (t : TheoremView) → Runs known (Some (started t)) (rawlines.Proof ∷ []) (Some (proving (started t) (begins t)))
 unfolding step stepped
 run_proof known t = (proving (started t) (begins t), tt, refl, refl, refl)
 
--- the lines behind the title
+-- the lines after the title
 abbrev pub stating_forms : TheoremView → List RawLine
 stating_forms t = given_forms t.names t.statement ++ (shown_forms t.names t.statement ++ rawlines.Proof ∷ [])
 
--- the lines of the statement lead from the title to the draft that begins the proof
+-- the lines of the statement lead from the title to the parser that begins the proof
 pub run_statement : (known : List TitledStatement) (t : TheoremView) → HasSpelling known t → InOrder t.names → Runs known (Some (begun t.title)) (stating_forms t) (Some (proving (started t) (begins t)))
 run_statement known t h o =
     let ns = t.names in
@@ -83,7 +83,7 @@ run_statement known t h o =
     let end : Option TheoremParser = Some (proving (started t) (begins t)) in
     let titled : Option TheoremParser = Some (begun t.title) in
     let declared : Option TheoremParser = Some (declaring t.title dn st.declared) in
-    let given : Option TheoremParser = Some (given_draft t.title dn st.declared st.given) in
+    let given : Option TheoremParser = Some (given_parser t.title dn st.declared st.given) in
     let made : Option TheoremParser = Some (making t.title st.declared st.given ns st.made) in
     let f4 : List RawLine = rawlines.Proof ∷ [] in
     let f3 : List RawLine = map made_form (grouped ns (made_objects st)) ++ map (show_form ns) st.shown in
@@ -150,7 +150,7 @@ record Left (known : List TitledStatement) (last : ℕ) (s u : Option TheoremPar
   same : read_from known last s all ≡ read_from known last u ahead
 
 one_read : (known : List TitledStatement) (last : ℕ) (s : Option TheoremParser) (l : LineView) (after : List (Result LineView LineFault)) (f : RawLine) (e : TheoremParser) → l.bytes ≡ line_of f → GoodForm f → form_step known s (as_read f) ≡ Ok e
-    → read_from known last s (Ok l ∷ after) ≡ cond (is_done e) (Ok (Some (entry_of_draft e, after))) (read_from known last (Some e) after)
+    → read_from known last s (Ok l ∷ after) ≡ cond (is_done e) (Ok (Some (entry_of_parser e, after))) (read_from known last (Some e) after)
 one_read known last s l after f e b good h =
     let words : tokens_of l.bytes ≡ raw_line_words f = ap tokens_of b ∙ words_again f good in
     let next : line_step known s (raw_line_words f) ≡ Ok e = line_taken known s f good ∙ h in
@@ -163,7 +163,7 @@ reads_runs known last s u (f ∷ fs) gs (Err x ∷ all) rest r sh = absurd sh
 reads_runs known last s u (f ∷ fs) gs (Ok l ∷ all) rest r sh =
     let more = reads_runs known last (Some r.0) u fs gs all rest r.4 sh.1 in
     let here = one_read known last s l all f r.0 sh.0 r.1 r.2 in
-    let goes : cond (is_done r.0) (Ok (Some (entry_of_draft r.0, all))) (read_from known last (Some r.0) all) ≡ read_from known last (Some r.0) all = rw r.3 refl in
+    let goes : cond (is_done r.0) (Ok (Some (entry_of_parser r.0, all))) (read_from known last (Some r.0) all) ≡ read_from known last (Some r.0) all = rw r.3 refl in
     record { ahead = more.ahead; shown = more.shown; same = here ∙ goes ∙ more.same }
 
 abbrev answered : TheoremView → List (Result LineView LineFault) → Result (Option (TheoremView × List (Result LineView LineFault))) BookFault
@@ -171,24 +171,24 @@ answered t rest = Ok (Some (t, rest))
 
 -- ---- the whole
 
--- the draft behind the last close line
-abbrev pub shut_draft : TheoremView → Inside → TheoremParser
-shut_draft t last = record (proving (started t) last) { steps = steps_of t.script; outers = []; close = close_of t.script; place = Closed }
+-- the parser after the last close line
+abbrev pub shut_parser : TheoremView → Inside → TheoremParser
+shut_parser t last = record (proving (started t) last) { steps = steps_of t.script; blocks = []; close = close_of t.script; place = Closed }
 
-pub closed_last : (t : TheoremView) (last : Inside) → closed (proving (started t) last) [] (steps_of t.script) (close_of t.script) ≡ Ok (shut_draft t last)
+pub closed_last : (t : TheoremView) (last : Inside) → closed (proving (started t) last) [] (steps_of t.script) (close_of t.script) ≡ Ok (shut_parser t last)
 unfolding closed
 closed_last t last = refl
 
-pub step_end : (known : List TitledStatement) (t : TheoremView) (last : Inside) → step known (shut_draft t last) rawlines.End ≡ Ok (record (shut_draft t last) { place = Done })
+pub step_end : (known : List TitledStatement) (t : TheoremView) (last : Inside) → step known (shut_parser t last) rawlines.End ≡ Ok (record (shut_parser t last) { place = Done })
 unfolding step stepped
 step_end known t last = refl
 
 end_read : (known : List TitledStatement) (number : ℕ) (t : TheoremView) (last : Inside) (all rest : List (Result LineView LineFault)) → Closes (steps_of t.script) (close_of t.script) t.script → Shows all (line_of rawlines.End ∷ []) rest
-    → read_from known number (Some (shut_draft t last)) all ≡ answered t rest
+    → read_from known number (Some (shut_parser t last)) all ≡ answered t rest
 end_read known number t last [] rest same sh = absurd sh
 end_read known number t last (Err x ∷ all) rest same sh = absurd sh
 end_read known number t last (Ok l ∷ all) rest same sh =
-    let d = shut_draft t last in
+    let d = shut_parser t last in
     one_read known number (Some d) l all rawlines.End (record d { place = Done }) sh.0 tt (step_end known t last)
     ∙ ap (λ (s : Script). answered (record t { script = s }) all) same ∙ ap (λ (ls : List (Result LineView LineFault)). answered t ls) sh.1
 
@@ -197,7 +197,7 @@ pub canonical_lines_read : (known : List TitledStatement) (last : ℕ) (t : Theo
 canonical_lines_read known last t all rest h sh =
     let o = in_order t.names h.point_names h.line_names h.circle_names h.fits.differ in
     let proof = run_proof_lines known t h o in
-    let d = shut_draft t proof.last in
+    let d = shut_parser t proof.last in
     let runs : Runs known None (front known t) (Some d) =
     runs_append known None (Some (proving (started t) (begins t))) (Some d) (head_forms t) (script_forms known (names_of_proof t) t.script) (run_head known t h o) (proof.runs d (closed_last t proof.last) refl) in
     let whole : forms_of known t ≡ front known t ++ rawlines.End ∷ [] = sym (append_assoc (head_forms t) (script_forms known (names_of_proof t) t.script) (rawlines.End ∷ [])) in

@@ -62,7 +62,7 @@ two_points : let_line (construction MeetBoth (obj Line 0 ∷ obj Circle 0 ∷ []
 unfolding pieces
 two_points = refl
 
--- a new object is in scope behind its line
+-- a new object is in scope after its line
 abbrev script : Script
 script = Make (construction LineThrough (obj Point 0 ∷ obj Point 1 ∷ []) []) (codes "M" ∷ []) [] (Qed (obj Point 0 ∷ obj Line 1 ∷ []) [])
 

@@ -26,9 +26,9 @@ use Rattle.e_line.specs.declared.items.Listing.TheVariants as listings
 use Rattle.e_line.specs.declared.items.BookLine.{BookLine}
 use Rattle.e_line.specs.declared.items.BookLine.TheVariants.{Plain, Define, Listed}
 use Rattle.e_names.specs.declared.known.Known.{Known}
-use Rattle.e_book.specs.declared.draft.Section.{Section}
-use Rattle.e_book.specs.declared.draft.Section.TheVariants as places
-use Rattle.e_book.specs.declared.draft.TheoremParser.{TheoremParser}
+use Rattle.e_book.specs.declared.parser.Section.{Section}
+use Rattle.e_book.specs.declared.parser.Section.TheVariants as places
+use Rattle.e_book.specs.declared.parser.TheoremParser.{TheoremParser}
 use Rattle.e_book.specs.declared.coming.Coming.{Coming}
 use Rattle.e_line.specs.Reading.{◌>>=◌, with_front}
 use Rattle.e_names.specs.TitledStatements.{TitledStatement, is_known}
@@ -38,18 +38,18 @@ use Rattle.e_line.specs.Limits.{most_notions, most_expanded, within}
 use Rattle.e_names.specs.Scope.{scope_of_names, right_count, lit_in, lits_in}
 use Rattle.e_line.specs.LineLimits.{few_monos}
 use Rattle.e_names.specs.Canonical.{raw_of}
-use Rattle.e_book.specs.DraftViews.{entry_of_draft}
+use Rattle.e_book.specs.ParserViews.{entry_of_parser}
 use Rattle.e_book.specs.Steps.{allowed, declared, declares, shows, begun, begin, step}
 use Rattle.e_book.specs.Book.{is_last}
 use Rattle.e_line.specs.Items.{line_of, listing_form, is_show}
 use Rattle.e_names.specs.Meanings.{items_in}
 use Rattle.e_book.specs.Grammar.{Rest, is_skipped, put_at}
-use Rattle.e_book.specs.Definitions.{BookItem, OfTheorem, OfNotion, Answer, has_notion_title, IsGood}
+use Rattle.e_book.specs.Definitions.{BookItem, OfTheorem, OfNotion, Answer, has_notion_title, IsWellFormedItem}
 use Rattle.e_book.specs.inner.Machine as machine
-use Rattle.e_book.specs.inner.Machine.{names_there, is_ready, written, coming, begins_theorem, begins_definition, is_showing, defines_on, with_draft, goes_on, lists, line_step, notion_of_draft, item_of, item_from, is_done}
+use Rattle.e_book.specs.inner.Machine.{names_there, is_ready, written, coming, begins_theorem, begins_definition, is_showing, defines_on, with_parser, goes_on, lists, line_step, notion_of_parser, item_of, item_from, is_done}
 use Rattle.e_line.proofs.Bound.{bind_ok, ok_is, read_ok, each_length}
 use Rattle.e_names.proofs.FreshTitles.{neither, was_free}
-use Rattle.e_book.proofs.Drafts.{HeadOf, Body, Good}
+use Rattle.e_book.proofs.ParserFits.{HeadOf, Body, Good}
 use Rattle.e_book.proofs.StatementLines.{IsStating}
 use Rattle.e_book.proofs.ComingTied.{stating_declares, stating_shows}
 use Rattle.e_names.proofs.Citations.{counted}
@@ -69,7 +69,7 @@ record GoodTheorem (known : Known) (d : TheoremParser) : Type 0 where
   spelled : Spelled known.theorems d
   title : defines known.notions d.title ≡ false
 
--- a definition is a statement so far; behind its last line only what it means counts
+-- a definition is a statement so far; after its last line only what it means counts
 abbrev StatesOf : List TitledStatement → Section → TheoremParser → Type 0
 StatesOf known places.Done d = Unit {0}
 StatesOf known p d = IsStating p × Body known p d
@@ -92,7 +92,7 @@ GoodBy known true d = GoodDefinition known d
 GoodBy known false d = GoodTheorem known d
 
 abbrev GoodComing : Known → Coming → Type 0
-GoodComing known c = GoodBy known c.defines c.draft
+GoodComing known c = GoodBy known c.defines c.parser
 
 -- ---- a line of a theorem
 
@@ -189,14 +189,14 @@ definition_on known d e f g s h = absurd cc
 
 -- ---- a line without items
 
-plain_by : (b : Bool) (known : Known) (c e : Coming) (f : RawLine) → c.defines ≡ b → GoodBy known b c.draft → Said f
-    → cond b (defines_on c.draft f >>= λ d. Ok (with_draft c d)) (step known.theorems c.draft f >>= λ d. Ok (with_draft c d)) ≡ Ok e → GoodComing known e
+plain_by : (b : Bool) (known : Known) (c e : Coming) (f : RawLine) → c.defines ≡ b → GoodBy known b c.parser → Said f
+    → cond b (defines_on c.parser f >>= λ d. Ok (with_parser c d)) (step known.theorems c.parser f >>= λ d. Ok (with_parser c d)) ≡ Ok e → GoodComing known e
 plain_by true known c e f t g s h =
-    let d = bind_ok (defines_on c.draft f) (λ d. read_ok (with_draft c d)) e h in
-    subst (λ (x : Coming). GoodComing known x) (ok_is (with_draft c d.0) e d.2) (subst (λ (b : Bool). GoodBy known b d.0) (sym t) (definition_on known c.draft d.0 f g s d.1))
+    let d = bind_ok (defines_on c.parser f) (λ d. read_ok (with_parser c d)) e h in
+    subst (λ (x : Coming). GoodComing known x) (ok_is (with_parser c d.0) e d.2) (subst (λ (b : Bool). GoodBy known b d.0) (sym t) (definition_on known c.parser d.0 f g s d.1))
 plain_by false known c e f t g s h =
-    let d = bind_ok (step known.theorems c.draft f) (λ d. read_ok (with_draft c d)) e h in
-    subst (λ (x : Coming). GoodComing known x) (ok_is (with_draft c d.0) e d.2) (subst (λ (b : Bool). GoodBy known b d.0) (sym t) (theorem_on known c.draft d.0 f g s d.1))
+    let d = bind_ok (step known.theorems c.parser f) (λ d. read_ok (with_parser c d)) e h in
+    subst (λ (x : Coming). GoodComing known x) (ok_is (with_parser c d.0) e d.2) (subst (λ (b : Bool). GoodBy known b d.0) (sym t) (theorem_on known c.parser d.0 f g s d.1))
 
 plain_kept : (known : Known) (c e : Coming) (f : RawLine) → GoodComing known c → Said f → goes_on known c f ≡ Ok e → GoodComing known e
 unfolding goes_on
@@ -224,12 +224,12 @@ listed_kept : (known : Known) (c e : Coming) (line : Listing) (is : List RawItem
 unfolding lists
 listed_kept known c e line is all g head some said h =
     let add : (RawLine × ℕ) → Coming → Result Coming FaultKind = λ w x. within (x.expanded + w.1) most_expanded limits.Expanded >>= λ few. read_ok (record x { expanded = x.expanded + w.1 }) in
-    let r = bind_ok (right_count (not c.defines || is_show line)) (λ right. written known.notions c.draft line is >>= λ w. goes_on known c w.0 >>= λ x. add w x) e h in
-    let w = bind_ok (written known.notions c.draft line is) (λ w. goes_on known c w.0 >>= λ x. add w x) e r.2 in
+    let r = bind_ok (right_count (not c.defines || is_show line)) (λ right. written known.notions c.parser line is >>= λ w. goes_on known c w.0 >>= λ x. add w x) e h in
+    let w = bind_ok (written known.notions c.parser line is) (λ w. goes_on known c w.0 >>= λ x. add w x) e r.2 in
     let x = bind_ok (goes_on known c w.0.0) (λ x. add w.0 x) e w.2 in
     let f = bind_ok (within (x.0.expanded + w.0.1) most_expanded limits.Expanded) (λ few. read_ok (record x.0 { expanded = x.0.expanded + w.0.1 })) e x.2 in
     subst (λ (y : Coming). GoodComing known y) (ok_is (record x.0 { expanded = x.0.expanded + w.0.1 }) e f.2)
-    (plain_kept known c x.0 w.0.0 g (out_said known c.draft line is w.0 all head some said w.1) x.1)
+    (plain_kept known c x.0 w.0.0 g (out_said known c.parser line is w.0 all head some said w.1) x.1)
 
 -- ---- each line
 
@@ -288,9 +288,9 @@ each_shown p q (l ∷ ls) h k =
     let b = and_parts (q l) (list_all q ls) k in
     rw (a.0, b.0, each_shown p q ls a.1 b.1) refl
 
-definition_good : (known : Known) (d : TheoremParser) → GoodDefinition known d → is_last d.place ≡ true → IsGood known (OfNotion (notion_of_draft d))
+definition_good : (known : Known) (d : TheoremParser) → GoodDefinition known d → is_last d.place ≡ true → IsWellFormedItem known (OfNotion (notion_of_parser d))
 definition_good known d g a =
-    let n = (notion_of_draft d).notion in
+    let n = (notion_of_parser d).notion in
     let some : 0 < length d.shown = subst (λ (p : Section). MeansThere p d.shown) (last_is d.place a) g.means in
     let scope : grown nothing d.declared ≡ scope_of_names d.names = sym (ap (grown (grown nothing d.declared)) g.made) ∙ g.head.scope in
     let shown : list_all (all_in_scope (grown nothing d.declared)) d.shown ≡ true = subst (λ (s : Scope). list_all (all_in_scope s) d.shown ≡ true) (sym scope) g.head.shown in
@@ -303,12 +303,12 @@ definition_good known d g a =
     let statement : is_small_statement (as_stated n) ≡ true = and_from (is_statement (as_stated n)) (is_small (all_objects (as_stated n))) states small in
     (g.title, and_from (means_something n) (is_small_statement (as_stated n)) (lt-ltb 0 (length d.shown) some) statement)
 
-whole_by : (b : Bool) (known : Known) (d : TheoremParser) → GoodBy known b d → is_last d.place ≡ true → IsGood known (cond b (OfNotion (notion_of_draft d)) (OfTheorem (entry_of_draft d)))
+whole_by : (b : Bool) (known : Known) (d : TheoremParser) → GoodBy known b d → is_last d.place ≡ true → IsWellFormedItem known (cond b (OfNotion (notion_of_parser d)) (OfTheorem (entry_of_parser d)))
 whole_by true known d g a = definition_good known d g a
 whole_by false known d g a = (done_spelled known.theorems d g.good g.spelled a, g.title)
 
-whole_good : (known : Known) (c : Coming) → GoodComing known c → is_done c ≡ true → IsGood known (item_of c)
-whole_good known c g a = whole_by c.defines known c.draft g a
+whole_good : (known : Known) (c : Coming) → GoodComing known c → is_done c ≡ true → IsWellFormedItem known (item_of c)
+whole_good known c g a = whole_by c.defines known c.parser g a
 
 -- ---- all lines
 
@@ -328,7 +328,7 @@ put_ok : (n : ℕ) (r : Result Coming FaultKind) (c : Coming) → put_at n r ≡
 put_ok n (Ok x) c e = cc
 put_ok n (Err k) c e = absurd cc
 
-reading_good : (known : Known) (last : ℕ) (o : Option Coming) (lines rest : Rest) (i : BookItem) → are_notions known.notions ≡ true → GoodSoFar known o → item_from known last o lines ≡ found i rest → IsGood known i
+reading_good : (known : Known) (last : ℕ) (o : Option Coming) (lines rest : Rest) (i : BookItem) → are_notions known.notions ≡ true → GoodSoFar known o → item_from known last o lines ≡ found i rest → IsWellFormedItem known i
 reading_good known last None [] rest i all g e = absurd cc
 reading_good known last (Some c) [] rest i all g e = absurd cc
 reading_good known last o (Err f ∷ lines) rest i all g e = absurd cc
@@ -342,11 +342,11 @@ reading_good known last o (Ok line ∷ lines) rest i all g e =
           let c = bind_ok next then (Some (i, rest)) s.1 in
           let good = line_kept known o words c.0 all g (put_ok line.number (line_step known o words) c.0 c.1) in
           elim (either_read (is_done c.0) (found (item_of c.0) lines) (item_from known last (Some c.0) lines) (found i rest) c.2) [
-            | inl q ↦ subst (λ (x : BookItem). IsGood known x) (same_item (item_of c.0) i lines rest q.1) (whole_good known c.0 good q.0)
+            | inl q ↦ subst (λ (x : BookItem). IsWellFormedItem known x) (same_item (item_of c.0) i lines rest q.1) (whole_good known c.0 good q.0)
             | inr q ↦ reading_good known last (Some c.0) lines rest i all good q.1
           ]
     ]
 
 -- what is read has a spelling, or is a notion
-pub read_is_good : (known : Known) (last : ℕ) (i : BookItem) (lines rest : Rest) → are_notions known.notions ≡ true → item_from known last None lines ≡ Ok (Some (i, rest)) → IsGood known i
-read_is_good known last i lines rest all e = reading_good known last None lines rest i all tt e
+pub read_is_well_formed : (known : Known) (last : ℕ) (i : BookItem) (lines rest : Rest) → are_notions known.notions ≡ true → item_from known last None lines ≡ Ok (Some (i, rest)) → IsWellFormedItem known i
+read_is_well_formed known last i lines rest all e = reading_good known last None lines rest i all tt e

@@ -17,9 +17,9 @@ use Rattle.e_line.specs.declared.items.Listing.TheVariants as listings
 use Rattle.e_line.specs.declared.items.BookLine.{BookLine}
 use Rattle.e_line.specs.declared.items.BookLine.TheVariants.{Plain, Define, Listed}
 use Rattle.e_names.specs.declared.known.Known.{Known}
-use Rattle.e_book.specs.declared.draft.Section.{Section}
-use Rattle.e_book.specs.declared.draft.Section.TheVariants as places
-use Rattle.e_book.specs.declared.draft.TheoremParser.{TheoremParser}
+use Rattle.e_book.specs.declared.parser.Section.{Section}
+use Rattle.e_book.specs.declared.parser.Section.TheVariants as places
+use Rattle.e_book.specs.declared.parser.TheoremParser.{TheoremParser}
 use Rattle.e_book.specs.declared.coming.Coming.{Coming as Held}
 use Rattle.e_line.specs.Reading.{◌>>=◌, with_front}
 use Rattle.e_names.specs.TitledStatements.{TitledStatement}
@@ -40,9 +40,9 @@ use Rattle.e_book.specs.Grammar.{nothing_said, begins, with_new, none_given, non
 use Rattle.e_book.specs.Definitions.{BookItem, Coming, InTheorem, InDefinition, Defined, has_notion_title, first_line, says_more, still_defined, ends_definition, plain_line, written_out, counted, listed_line, next_line, line_said, Answer, OfTheorem, OfNotion, whole, whole_or, item_from}
 use Rattle.e_line.specs.Faults.{at_line}
 use Rattle.e_book.specs.Book.{is_last}
-use Rattle.e_book.specs.DraftViews.{statement_of_draft, entry_of_draft}
+use Rattle.e_book.specs.ParserViews.{statement_of_parser, entry_of_parser}
 use Rattle.e_book.specs.inner.Machine as machine
-use Rattle.e_book.specs.inner.Machine.{names_at_place, head_names, written, coming, begins_theorem, begins_definition, is_showing, defines_on, with_draft, goes_on, lists, line_step, notion_of_draft, item_of}
+use Rattle.e_book.specs.inner.Machine.{names_at_place, head_names, written, coming, begins_theorem, begins_definition, is_showing, defines_on, with_parser, goes_on, lists, line_step, notion_of_parser, item_of}
 use Rattle.e_line.proofs.Bound.{bind_ok, ok_is, read_ok}
 use Rattle.e_book.proofs.LimitTests.{by_test, then_limits}
 use Rattle.e_book.proofs.ParserState.{around_of, head_of, open_there, open_of, BlockOf, UnprovedOf, Stands, Body, Tied, Alike}
@@ -54,7 +54,7 @@ use Rattle.e_line.proofs.LinesByWord.{LineSaid, line_read_as}
 -- ---- what the parser holds is what has been said
 
 abbrev pub definition_there : TheoremParser → ℕ → Section → Coming
-definition_there d n places.Done = Defined (notion_of_draft d)
+definition_there d n places.Done = Defined (notion_of_parser d)
 definition_there d n p = InDefinition (head_of d) n
 
 abbrev pub said_by : Bool → TheoremParser → ℕ → Coming
@@ -62,7 +62,7 @@ said_by true d n = definition_there d n d.place
 said_by false d n = InTheorem (open_of d) n
 
 abbrev pub said_of : Held → Coming
-said_of c = said_by c.defines c.draft c.expanded
+said_of c = said_by c.defines c.parser c.expanded
 
 -- a definition has no proof
 abbrev pub DefinitionTied : Section → TheoremParser → Type 0
@@ -74,7 +74,7 @@ TiedBy known true d = FewNamed d.names × DefinitionTied d.place d
 TiedBy known false d = Tied known d
 
 abbrev pub TiedComing : Known → Held → Type 0
-TiedComing known c = TiedBy known.theorems c.defines c.draft
+TiedComing known c = TiedBy known.theorems c.defines c.parser
 
 -- the parser's answer to a line, and the grammar's: one fault, or what the parser holds is what has been said
 abbrev pub AlikeComing : Known → Result Held FaultKind → Result Coming FaultKind → Type 0
@@ -83,7 +83,7 @@ AlikeComing known (Ok e) (Err k) = ⊥
 AlikeComing known (Err j) (Ok n) = ⊥
 AlikeComing known (Err j) (Err k) = j ≡ k
 
--- behind what both read alike
+-- after what both read alike
 both : {A : Type 0} (known : Known) (r : Result A FaultKind) (f : A → Result Held FaultKind) (g : A → Result Coming FaultKind) → ((x : A) → r ≡ Ok x → AlikeComing known (f x) (g x)) → AlikeComing known (r >>= f) (r >>= g)
 both known (Ok x) f g h = h x refl
 both known (Err k) f g h = refl
@@ -91,7 +91,7 @@ both known (Err k) f g h = refl
 -- ---- a theorem
 
 in_theorem : (known : Known) (c : Held) (n : ℕ) (r : Result TheoremParser FaultKind) (q : Result Open FaultKind) → c.defines ≡ false → c.expanded ≡ n → Alike known.theorems r q
-    → AlikeComing known (r >>= λ d. Ok (with_draft c d)) (q >>= λ o. Ok (InTheorem o n))
+    → AlikeComing known (r >>= λ d. Ok (with_parser c d)) (q >>= λ o. Ok (InTheorem o n))
 in_theorem known c n (Ok d) (Ok o) t e a = (ap (λ (b : Bool). said_by b d c.expanded) t ∙ ap (λ (m : ℕ). InTheorem (open_of d) m) e ∙ ap (λ (x : Open). InTheorem x n) a.0, subst (λ (b : Bool). TiedBy known.theorems b d) (sym t) a.1)
 in_theorem known c n (Err j) (Err k) t e a = a
 in_theorem known c n (Ok d) (Err k) t e a = absurd a
@@ -126,16 +126,16 @@ stating_after known h (rawlines.Show raws) o m e =
     let s = shown_states h raws a.0 a.1 in (s.0, sym (ok_is a.0 o k.2) ∙ s.1)
 stating_after known h f o m e = absurd cc
 
--- a draft at such a place is a statement
-stating_draft : (d : TheoremParser) (p : Section) (g : Head) → open_there d p ≡ Stating g → IsStating p
-stating_draft d places.Declaring g e = tt
-stating_draft d places.Giving g e = tt
-stating_draft d places.Making g e = tt
-stating_draft d places.Showing g e = tt
-stating_draft d places.Proving g e = absurd cc
-stating_draft d places.Splitting g e = absurd cc
-stating_draft d places.Closed g e = absurd cc
-stating_draft d places.Done g e = absurd cc
+-- a parser at such a place is a statement
+stating_parser : (d : TheoremParser) (p : Section) (g : Head) → open_there d p ≡ Stating g → IsStating p
+stating_parser d places.Declaring g e = tt
+stating_parser d places.Giving g e = tt
+stating_parser d places.Making g e = tt
+stating_parser d places.Showing g e = tt
+stating_parser d places.Proving g e = absurd cc
+stating_parser d places.Splitting g e = absurd cc
+stating_parser d places.Closed g e = absurd cc
+stating_parser d places.Done g e = absurd cc
 
 head_there : (d : TheoremParser) (p : Section) → IsStating p → open_there d p ≡ Stating (head_of d)
 head_there d places.Declaring s = refl
@@ -166,15 +166,15 @@ body_tied known d places.Showing s t = (t.1, t.2)
 body_tied known d p s t = absurd s
 
 in_definition : (known : Known) (c : Held) (h : Head) (f : RawLine) (n : ℕ) (r : Result TheoremParser FaultKind) → c.defines ≡ true → c.expanded ≡ n → says_more f ≡ true → Alike known.theorems r (line_after known.theorems (Some (Stating h)) f)
-    → AlikeComing known (r >>= λ d. Ok (with_draft c d)) (line_after known.theorems (Some (Stating h)) f >>= λ o. still_defined n o)
+    → AlikeComing known (r >>= λ d. Ok (with_parser c d)) (line_after known.theorems (Some (Stating h)) f >>= λ o. still_defined n o)
 in_definition known c h f n r t e m a = by r (line_after known.theorems (Some (Stating h)) f) (λ o k. stating_after known.theorems h f o m k) a where
   by : (r : Result TheoremParser FaultKind) (q : Result Open FaultKind) → ((o : Open) → q ≡ Ok o → (g : Head) × (o ≡ Stating g)) → Alike known.theorems r q
-      → AlikeComing known (r >>= λ d. Ok (with_draft c d)) (q >>= λ o. still_defined n o)
+      → AlikeComing known (r >>= λ d. Ok (with_parser c d)) (q >>= λ o. still_defined n o)
   by (Ok d) (Ok o) s a =
       let g = s o refl in
-      let st = stating_draft d d.place g.0 (a.0 ∙ g.1) in
+      let st = stating_parser d d.place g.0 (a.0 ∙ g.1) in
       let still : still_defined n o ≡ Ok (InDefinition (head_of d) n) = ap (still_defined n) (sym a.0 ∙ head_there d d.place st) in
-      subst (λ (x : Result Coming FaultKind). AlikeComing known (Ok (with_draft c d)) x) (sym still) (
+      subst (λ (x : Result Coming FaultKind). AlikeComing known (Ok (with_parser c d)) x) (sym still) (
         ap (λ (b : Bool). said_by b d c.expanded) t ∙ definition_at d c.expanded d.place st ∙ ap (λ (k : ℕ). InDefinition (head_of d) k) e,
         subst (λ (b : Bool). TiedBy known.theorems b d) (sym t) (a.1.names, tied_body known.theorems d d.place st a.1.body),
       )
@@ -189,7 +189,7 @@ by_place false r = refl
 
 -- the last line of a definition
 ends_alike : (known : Known) (c : Held) (d : TheoremParser) (p : Section) → d.place ≡ p → c.defines ≡ true → FewNamed d.names → DefinitionTied p d → IsStating p
-    → AlikeComing known ((right_count (is_showing p) >>= λ right. Ok (record d { place = places.Done })) >>= λ x. Ok (with_draft c x)) (ends_definition (head_of d) rawlines.End)
+    → AlikeComing known ((right_count (is_showing p) >>= λ right. Ok (record d { place = places.Done })) >>= λ x. Ok (with_parser c x)) (ends_definition (head_of d) rawlines.End)
 ends_alike known c d places.Declaring at t few body s = let none : is_empty d.shown ≡ true = body.1.2 in rw none refl
 ends_alike known c d places.Giving at t few body s = let none : is_empty d.shown ≡ true = body.1.2 in rw none refl
 ends_alike known c d places.Making at t few body s = let none : is_empty d.shown ≡ true = body.1.1 in rw none refl
@@ -210,40 +210,40 @@ unfolding defines_on step stepped
 stating_shows known d raws = by_place (allowed d.place (rawlines.Show raws)) (shows d raws)
 
 -- more is said in a definition
-more_said : (known : Known) (c : Held) (f : RawLine) → IsStating c.draft.place → c.defines ≡ true → says_more f ≡ true → FewNamed c.draft.names → DefinitionTied c.draft.place c.draft → HasItems f → defines_on c.draft f ≡ step known.theorems c.draft f
-    → AlikeComing known (defines_on c.draft f >>= λ x. Ok (with_draft c x)) (line_after known.theorems (Some (Stating (head_of c.draft))) f >>= λ o. still_defined c.expanded o)
+more_said : (known : Known) (c : Held) (f : RawLine) → IsStating c.parser.place → c.defines ≡ true → says_more f ≡ true → FewNamed c.parser.names → DefinitionTied c.parser.place c.parser → HasItems f → defines_on c.parser f ≡ step known.theorems c.parser f
+    → AlikeComing known (defines_on c.parser f >>= λ x. Ok (with_parser c x)) (line_after known.theorems (Some (Stating (head_of c.parser))) f >>= λ o. still_defined c.expanded o)
 more_said known c f st t m few body some is =
-    let d = c.draft in
+    let d = c.parser in
     let tied : Tied known.theorems d = record { names = few; body = body_tied known.theorems d d.place st body } in
     let alike = subst (λ (o : Open). Alike known.theorems (step known.theorems d f) (line_after known.theorems (Some o) f)) (head_there d d.place st) (step_alike known.theorems d f tied some) in
-    subst (λ (r : Result TheoremParser FaultKind). AlikeComing known (r >>= λ x. Ok (with_draft c x)) (line_after known.theorems (Some (Stating (head_of d))) f >>= λ o. still_defined c.expanded o)) (sym is)
+    subst (λ (r : Result TheoremParser FaultKind). AlikeComing known (r >>= λ x. Ok (with_parser c x)) (line_after known.theorems (Some (Stating (head_of d))) f >>= λ o. still_defined c.expanded o)) (sym is)
     (in_definition known c (head_of d) f c.expanded (step known.theorems d f) t refl m alike)
 
-plain_stating : (known : Known) (c : Held) (f : RawLine) → IsStating c.draft.place → c.defines ≡ true → FewNamed c.draft.names → DefinitionTied c.draft.place c.draft → HasItems f
-    → AlikeComing known (defines_on c.draft f >>= λ x. Ok (with_draft c x)) (plain_line known (InDefinition (head_of c.draft) c.expanded) f)
+plain_stating : (known : Known) (c : Held) (f : RawLine) → IsStating c.parser.place → c.defines ≡ true → FewNamed c.parser.names → DefinitionTied c.parser.place c.parser → HasItems f
+    → AlikeComing known (defines_on c.parser f >>= λ x. Ok (with_parser c x)) (plain_line known (InDefinition (head_of c.parser) c.expanded) f)
 unfolding defines_on
-plain_stating known c (rawlines.Declare sort new) st t few body some = more_said known c (rawlines.Declare sort new) st t refl few body some (stating_declares known.theorems c.draft sort new)
-plain_stating known c (rawlines.Show raws) st t few body some = more_said known c (rawlines.Show raws) st t refl few body some (stating_shows known.theorems c.draft raws)
-plain_stating known c rawlines.End st t few body some = ends_alike known c c.draft c.draft.place refl t few body st
+plain_stating known c (rawlines.Declare sort new) st t few body some = more_said known c (rawlines.Declare sort new) st t refl few body some (stating_declares known.theorems c.parser sort new)
+plain_stating known c (rawlines.Show raws) st t few body some = more_said known c (rawlines.Show raws) st t refl few body some (stating_shows known.theorems c.parser raws)
+plain_stating known c rawlines.End st t few body some = ends_alike known c c.parser c.parser.place refl t few body st
 plain_stating known c f st t few body some = refl
 
--- behind its last line nothing may come
-plain_done : (known : Known) (c : Held) (d : TheoremParser) (f : RawLine) → d.place ≡ places.Done → AlikeComing known (defines_on d f >>= λ x. Ok (with_draft c x)) (plain_line known (Defined (notion_of_draft d)) f)
+-- after its last line nothing may come
+plain_done : (known : Known) (c : Held) (d : TheoremParser) (f : RawLine) → d.place ≡ places.Done → AlikeComing known (defines_on d f >>= λ x. Ok (with_parser c x)) (plain_line known (Defined (notion_of_parser d)) f)
 unfolding defines_on
 plain_done known c d (rawlines.Declare sort new) at = rw at refl
 plain_done known c d (rawlines.Show raws) at = rw at refl
 plain_done known c d rawlines.End at = rw at refl
 plain_done known c d f at = refl
 
-at_stating : (known : Known) (c : Held) (p : Section) (f : RawLine) → c.draft.place ≡ p → IsStating p → c.defines ≡ true → FewNamed c.draft.names → DefinitionTied p c.draft → HasItems f
-    → AlikeComing known (defines_on c.draft f >>= λ x. Ok (with_draft c x)) (plain_line known (definition_there c.draft c.expanded p) f)
+at_stating : (known : Known) (c : Held) (p : Section) (f : RawLine) → c.parser.place ≡ p → IsStating p → c.defines ≡ true → FewNamed c.parser.names → DefinitionTied p c.parser → HasItems f
+    → AlikeComing known (defines_on c.parser f >>= λ x. Ok (with_parser c x)) (plain_line known (definition_there c.parser c.expanded p) f)
 at_stating known c p f at st t few body some =
-    subst (λ (x : Coming). AlikeComing known (defines_on c.draft f >>= λ x. Ok (with_draft c x)) (plain_line known x f)) (sym (definition_at c.draft c.expanded p st))
-    (plain_stating known c f (subst IsStating (sym at) st) t few (subst (λ (q : Section). DefinitionTied q c.draft) (sym at) body) some)
+    subst (λ (x : Coming). AlikeComing known (defines_on c.parser f >>= λ x. Ok (with_parser c x)) (plain_line known x f)) (sym (definition_at c.parser c.expanded p st))
+    (plain_stating known c f (subst IsStating (sym at) st) t few (subst (λ (q : Section). DefinitionTied q c.parser) (sym at) body) some)
 
-plain_at : (known : Known) (c : Held) (p : Section) (f : RawLine) → c.draft.place ≡ p → c.defines ≡ true → FewNamed c.draft.names → DefinitionTied p c.draft → HasItems f
-    → AlikeComing known (defines_on c.draft f >>= λ x. Ok (with_draft c x)) (plain_line known (definition_there c.draft c.expanded p) f)
-plain_at known c places.Done f at t few body some = plain_done known c c.draft f at
+plain_at : (known : Known) (c : Held) (p : Section) (f : RawLine) → c.parser.place ≡ p → c.defines ≡ true → FewNamed c.parser.names → DefinitionTied p c.parser → HasItems f
+    → AlikeComing known (defines_on c.parser f >>= λ x. Ok (with_parser c x)) (plain_line known (definition_there c.parser c.expanded p) f)
+plain_at known c places.Done f at t few body some = plain_done known c c.parser f at
 plain_at known c places.Declaring f at t few body some = at_stating known c places.Declaring f at tt t few body some
 plain_at known c places.Giving f at t few body some = at_stating known c places.Giving f at tt t few body some
 plain_at known c places.Making f at t few body some = at_stating known c places.Making f at tt t few body some
@@ -252,10 +252,10 @@ plain_at known c places.Proving f at t few body some = absurd body.0
 plain_at known c places.Splitting f at t few body some = absurd body.0
 plain_at known c places.Closed f at t few body some = absurd body.0
 
-plain_by : (b : Bool) (known : Known) (c : Held) (f : RawLine) → c.defines ≡ b → TiedBy known.theorems b c.draft → HasItems f
-    → AlikeComing known (cond b (defines_on c.draft f >>= λ d. Ok (with_draft c d)) (step known.theorems c.draft f >>= λ d. Ok (with_draft c d))) (plain_line known (said_by b c.draft c.expanded) f)
-plain_by true known c f t tied some = plain_at known c c.draft.place f refl t tied.0 tied.1 some
-plain_by false known c f t tied some = in_theorem known c c.expanded (step known.theorems c.draft f) (line_after known.theorems (Some (open_of c.draft)) f) t refl (step_alike known.theorems c.draft f tied some)
+plain_by : (b : Bool) (known : Known) (c : Held) (f : RawLine) → c.defines ≡ b → TiedBy known.theorems b c.parser → HasItems f
+    → AlikeComing known (cond b (defines_on c.parser f >>= λ d. Ok (with_parser c d)) (step known.theorems c.parser f >>= λ d. Ok (with_parser c d))) (plain_line known (said_by b c.parser c.expanded) f)
+plain_by true known c f t tied some = plain_at known c c.parser.place f refl t tied.0 tied.1 some
+plain_by false known c f t tied some = in_theorem known c c.expanded (step known.theorems c.parser f) (line_after known.theorems (Some (open_of c.parser)) f) t refl (step_alike known.theorems c.parser f tied some)
 
 plain_alike : (known : Known) (c : Held) (f : RawLine) → TiedComing known c → HasItems f → AlikeComing known (goes_on known c f) (plain_line known (said_of c) f)
 unfolding goes_on
@@ -297,21 +297,21 @@ copied (Ok x) (Err k) f = refl
 copied (Err j) q f = refl
 
 ready_proving : (known : List TitledStatement) (d : TheoremParser) (args new : List (List ℕ)) → BlockOf known d
-    → SameFault (placed_in d.in_scope args >>= λ form. fresh d.in_scope [] new) (next known (Proving (head_of d) (around_of d.outers) d.steps) (listing_form (listings.Superpose args new) []))
+    → SameFault (placed_in d.in_scope args >>= λ form. fresh d.in_scope [] new) (next known (Proving (head_of d) (around_of d.blocks) d.steps) (listing_form (listings.Superpose args new) []))
 unfolding superpose_in
 ready_proving known d args new b =
-    subst (λ (ns : Names). SameFault (placed_in d.in_scope args >>= λ form. fresh d.in_scope [] new) (goes_on_there known ns (head_of d) (around_of d.outers) d.steps (listing_form (listings.Superpose args new) []))) b.counted.names
-    (copied (placed_in d.in_scope args) (fresh d.in_scope [] new) (λ p. Proving (head_of d) (record { steps = d.steps; opener = BySuperposition p.0 new p.1 } ∷ around_of d.outers) []))
+    subst (λ (ns : Names). SameFault (placed_in d.in_scope args >>= λ form. fresh d.in_scope [] new) (goes_on_there known ns (head_of d) (around_of d.blocks) d.steps (listing_form (listings.Superpose args new) []))) b.counted.names
+    (copied (placed_in d.in_scope args) (fresh d.in_scope [] new) (λ p. Proving (head_of d) (record { steps = d.steps; opener = BySuperposition p.0 new p.1 } ∷ around_of d.blocks) []))
 
 abbrev given_none : TheoremParser → Open
-given_none d = Stating (record (head_of d) { statement = record (statement_of_draft d) { given = d.given ++ [] } })
+given_none d = Stating (record (head_of d) { statement = record (statement_of_parser d) { given = d.given ++ [] } })
 
 ready_at : (known : List TitledStatement) (p : Section) (d : TheoremParser) (line : Listing) → Body known p d
     → SameFault (right_count (allowed p (listing_form line [])) >>= λ right. head_names d.in_scope line) (next known (open_there d p) (listing_form line []))
-ready_at known places.Declaring d listings.Given b = placed true (none_made (statement_of_draft d)) (given_none d) (may_give places.Declaring d [] tt b.0)
-ready_at known places.Giving d listings.Given b = placed true (none_made (statement_of_draft d)) (given_none d) (may_give places.Giving d [] tt b.0)
-ready_at known places.Making d listings.Given b = placed false (none_made (statement_of_draft d)) (given_none d) (may_give places.Making d [] tt b.0)
-ready_at known places.Showing d listings.Given b = placed false (none_made (statement_of_draft d)) (given_none d) (may_give places.Showing d [] tt b.0)
+ready_at known places.Declaring d listings.Given b = placed true (none_made (statement_of_parser d)) (given_none d) (may_give places.Declaring d [] tt b.0)
+ready_at known places.Giving d listings.Given b = placed true (none_made (statement_of_parser d)) (given_none d) (may_give places.Giving d [] tt b.0)
+ready_at known places.Making d listings.Given b = placed false (none_made (statement_of_parser d)) (given_none d) (may_give places.Making d [] tt b.0)
+ready_at known places.Showing d listings.Given b = placed false (none_made (statement_of_parser d)) (given_none d) (may_give places.Showing d [] tt b.0)
 ready_at known places.Proving d listings.Given b = refl
 ready_at known places.Splitting d listings.Given b = refl
 ready_at known places.Closed d listings.Given b = refl
@@ -378,15 +378,15 @@ abbrev put_out : Known → Listing → List RawItem → Names → Result (RawLin
 put_out known line is ns = items_in known.notions ns 0 is >>= λ p. Ok (listing_form line (map (raw_of ns) p.0), p.1)
 
 -- where it may not come, neither looks further
-behind_place : {A : Type 0} (b : Bool) (r : Result (Unit {0}) FaultKind) (q : Result A FaultKind) (x y : Result (RawLine × ℕ) FaultKind) → SameFault (right_count b >>= λ right. r) q → (b ≡ true → x ≡ y) → ((right_count b >>= λ right. r) >>= λ ready. x) ≡ (q >>= λ there. y)
-behind_place true r q x y s e = same_then r q x y s (e refl)
-behind_place false r (Ok a) x y s e = absurd s
-behind_place false r (Err k) x y s e = ap (λ (z : FaultKind). fault z) s
+after_place : {A : Type 0} (b : Bool) (r : Result (Unit {0}) FaultKind) (q : Result A FaultKind) (x y : Result (RawLine × ℕ) FaultKind) → SameFault (right_count b >>= λ right. r) q → (b ≡ true → x ≡ y) → ((right_count b >>= λ right. r) >>= λ ready. x) ≡ (q >>= λ there. y)
+after_place true r q x y s e = same_then r q x y s (e refl)
+after_place false r (Ok a) x y s e = absurd s
+after_place false r (Err k) x y s e = ap (λ (z : FaultKind). fault z) s
 
 written_at : (known : Known) (p : Section) (d : TheoremParser) (line : Listing) (is : List RawItem) → d.place ≡ p → Body known.theorems p d → written known.notions d line is ≡ written_out known (open_there d p) line is
 written_at known p d line is at b =
     subst (λ (q : Section). ((right_count (allowed q (listing_form line [])) >>= λ right. head_names d.in_scope line) >>= λ ready. put_out known line is (names_at_place q d.names d.in_scope)) ≡ written_out known (open_there d p) line is) (sym at)
-    (behind_place (allowed p (listing_form line [])) (head_names d.in_scope line) (next known.theorems (open_there d p) (listing_form line [])) (put_out known line is (names_at_place p d.names d.in_scope))
+    (after_place (allowed p (listing_form line [])) (head_names d.in_scope line) (next known.theorems (open_there d p) (listing_form line [])) (put_out known line is (names_at_place p d.names d.in_scope))
     (put_out known line is (context_at known.theorems (open_there d p)).names) (ready_at known.theorems p d line b) (λ may. ap (put_out known line is) (names_at known.theorems p d line b may)))
 
 written_alike : (known : Known) (d : TheoremParser) (line : Listing) (is : List RawItem) → Tied known.theorems d → written known.notions d line is ≡ written_out known (open_of d) line is
@@ -439,7 +439,7 @@ out_shows known o line is w s e =
 
 -- it is a theorem, or its last line has not come
 abbrev GoesOn : Held → Type 0
-GoesOn c = (c.defines ≡ false) ⊎ IsStating c.draft.place
+GoesOn c = (c.defines ≡ false) ⊎ IsStating c.parser.place
 
 abbrev add_count : ℕ → Held → Result Held FaultKind
 add_count k e = within (e.expanded + k) most_expanded limits.Expanded >>= λ few. Ok (record e { expanded = e.expanded + k })
@@ -448,16 +448,16 @@ limit_by : (known : Known) (f : Held) (n : Coming) (a : ℕ) → AlikeComing kno
 limit_by known f n a h =
     by_test (λ (over under : Bool). AlikeComing known (cond over (Err (Limit limits.Expanded)) (read_ok tt) >>= λ few. Ok f) (all_kept ((under, limits.Expanded) ∷ []) >>= λ kept. Ok n)) a most_expanded refl (λ le. h)
 
-counted_by : (known : Known) (e : Held) (k : ℕ) (b : Bool) → e.defines ≡ b → GoesOn e → TiedBy known.theorems b e.draft → AlikeComing known (add_count k e) (counted k (said_by b e.draft e.expanded))
+counted_by : (known : Known) (e : Held) (k : ℕ) (b : Bool) → e.defines ≡ b → GoesOn e → TiedBy known.theorems b e.parser → AlikeComing known (add_count k e) (counted k (said_by b e.parser e.expanded))
 counted_by known e k false t on tied =
-    limit_by known (record e { expanded = e.expanded + k }) (InTheorem (open_of e.draft) (e.expanded + k)) (e.expanded + k)
-    (ap (λ (b : Bool). said_by b e.draft (e.expanded + k)) t, subst (λ (b : Bool). TiedBy known.theorems b e.draft) (sym t) tied)
+    limit_by known (record e { expanded = e.expanded + k }) (InTheorem (open_of e.parser) (e.expanded + k)) (e.expanded + k)
+    (ap (λ (b : Bool). said_by b e.parser (e.expanded + k)) t, subst (λ (b : Bool). TiedBy known.theorems b e.parser) (sym t) tied)
 counted_by known e k true t (inl h) tied = absurd (let no : true ≡ false = sym t ∙ h in cc)
 counted_by known e k true t (inr st) tied =
-    let is : said_by true e.draft e.expanded ≡ InDefinition (head_of e.draft) e.expanded = definition_at e.draft e.expanded e.draft.place st in
+    let is : said_by true e.parser e.expanded ≡ InDefinition (head_of e.parser) e.expanded = definition_at e.parser e.expanded e.parser.place st in
     subst (λ (n : Coming). AlikeComing known (add_count k e) (counted k n)) (sym is)
-    (limit_by known (record e { expanded = e.expanded + k }) (InDefinition (head_of e.draft) (e.expanded + k)) (e.expanded + k)
-    (ap (λ (b : Bool). said_by b e.draft (e.expanded + k)) t ∙ definition_at e.draft (e.expanded + k) e.draft.place st, subst (λ (b : Bool). TiedBy known.theorems b e.draft) (sym t) tied))
+    (limit_by known (record e { expanded = e.expanded + k }) (InDefinition (head_of e.parser) (e.expanded + k)) (e.expanded + k)
+    (ap (λ (b : Bool). said_by b e.parser (e.expanded + k)) t ∙ definition_at e.parser (e.expanded + k) e.parser.place st, subst (λ (b : Bool). TiedBy known.theorems b e.parser) (sym t) tied))
 
 then_counted : (known : Known) (k : ℕ) (r : Result Held FaultKind) (q : Result Coming FaultKind) → ((e : Held) → r ≡ Ok e → GoesOn e) → AlikeComing known r q → AlikeComing known (r >>= λ e. add_count k e) (q >>= λ n. counted k n)
 then_counted known k (Ok e) (Ok n) on a = subst (λ (x : Coming). AlikeComing known (add_count k e) (counted k x)) a.0 (counted_by known e k e.defines refl (on e refl) a.1)
@@ -476,15 +476,15 @@ shown_there d e raws h =
     ap (λ (x : TheoremParser). x.place) (sym (ok_is (then ls.0) e f.2))
 
 stays : (known : Known) (c e : Held) (b : Bool) (f : RawLine) → c.defines ≡ b → (b ≡ true → (raws : List RawLit) × (f ≡ rawlines.Show raws))
-    → cond b (defines_on c.draft f >>= λ d. Ok (with_draft c d)) (step known.theorems c.draft f >>= λ d. Ok (with_draft c d)) ≡ Ok e → GoesOn e
+    → cond b (defines_on c.parser f >>= λ d. Ok (with_parser c d)) (step known.theorems c.parser f >>= λ d. Ok (with_parser c d)) ≡ Ok e → GoesOn e
 stays known c e false f t show h =
-    let d = bind_ok (step known.theorems c.draft f) (λ d. read_ok (with_draft c d)) e h in
-    inl (ap (λ (x : Held). x.defines) (sym (ok_is (with_draft c d.0) e d.2)) ∙ t)
+    let d = bind_ok (step known.theorems c.parser f) (λ d. read_ok (with_parser c d)) e h in
+    inl (ap (λ (x : Held). x.defines) (sym (ok_is (with_parser c d.0) e d.2)) ∙ t)
 stays known c e true f t show h =
-    let d = bind_ok (defines_on c.draft f) (λ d. read_ok (with_draft c d)) e h in
+    let d = bind_ok (defines_on c.parser f) (λ d. read_ok (with_parser c d)) e h in
     let s = show refl in
-    let at : d.0.place ≡ places.Showing = shown_there c.draft d.0 s.0 (subst (λ (g : RawLine). defines_on c.draft g ≡ Ok d.0) s.1 d.1) in
-    inr (subst IsStating (sym (ap (λ (x : Held). x.draft.place) (sym (ok_is (with_draft c d.0) e d.2)) ∙ at)) tt)
+    let at : d.0.place ≡ places.Showing = shown_there c.parser d.0 s.0 (subst (λ (g : RawLine). defines_on c.parser g ≡ Ok d.0) s.1 d.1) in
+    inr (subst IsStating (sym (ap (λ (x : Held). x.parser.place) (sym (ok_is (with_parser c d.0) e d.2)) ∙ at)) tt)
 
 goes_on_stays : (known : Known) (c e : Held) (f : RawLine) → (c.defines ≡ true → (raws : List RawLit) × (f ≡ rawlines.Show raws)) → goes_on known c f ≡ Ok e → GoesOn e
 unfolding goes_on
@@ -493,48 +493,48 @@ goes_on_stays known c e f show h = stays known c e c.defines f refl show h
 -- ---- a line with items, whole: it is written out, taken so, and counted
 
 abbrev take_out : Known → Held → Listing → List RawItem → Result Held FaultKind
-take_out known c line is = written known.notions c.draft line is >>= λ w. goes_on known c w.0 >>= λ e. add_count w.1 e
+take_out known c line is = written known.notions c.parser line is >>= λ w. goes_on known c w.0 >>= λ e. add_count w.1 e
 
 abbrev take_said : Known → Open → Coming → Listing → List RawItem → Result Coming FaultKind
 take_said known o n line is = written_out known o line is >>= λ w. plain_line known n w.0 >>= λ x. counted w.1 x
 
 listed_on : (known : Known) (c : Held) (o : Open) (line : Listing) (is : List RawItem) (n : Coming) → are_notions known.notions ≡ true → 0 < length is → TiedComing known c → said_of c ≡ n → (c.defines ≡ true → is_show line ≡ true)
-    → written known.notions c.draft line is ≡ written_out known o line is → AlikeComing known (take_out known c line is) (take_said known o n line is)
+    → written known.notions c.parser line is ≡ written_out known o line is → AlikeComing known (take_out known c line is) (take_said known o n line is)
 listed_on known c o line is n all some tied said show same =
     subst (λ (r : Result (RawLine × ℕ) FaultKind). AlikeComing known (r >>= λ w. goes_on known c w.0 >>= λ e. add_count w.1 e) (take_said known o n line is)) (sym same)
     (both known (written_out known o line is) (λ w. goes_on known c w.0 >>= λ e. add_count w.1 e) (λ w. plain_line known n w.0 >>= λ x. counted w.1 x)
     (λ w q. then_counted known w.1 (goes_on known c w.0) (plain_line known n w.0) (λ e h. goes_on_stays known c e w.0 (λ t. out_shows known o line is w (show t) q) h)
     (subst (λ (x : Coming). AlikeComing known (goes_on known c w.0) (plain_line known x w.0)) said (plain_alike known c w.0 tied (out_has known o line is w all some q)))))
 
-listed_stating : (known : Known) (c : Held) (line : Listing) (is : List RawItem) (s : Bool) → is_show line ≡ s → are_notions known.notions ≡ true → 0 < length is → IsStating c.draft.place → c.defines ≡ true → FewNamed c.draft.names → DefinitionTied c.draft.place c.draft
-    → AlikeComing known (right_count s >>= λ right. take_out known c line is) (cond s (take_said known (Stating (head_of c.draft)) (InDefinition (head_of c.draft) c.expanded) line is) (Err Malformed))
+listed_stating : (known : Known) (c : Held) (line : Listing) (is : List RawItem) (s : Bool) → is_show line ≡ s → are_notions known.notions ≡ true → 0 < length is → IsStating c.parser.place → c.defines ≡ true → FewNamed c.parser.names → DefinitionTied c.parser.place c.parser
+    → AlikeComing known (right_count s >>= λ right. take_out known c line is) (cond s (take_said known (Stating (head_of c.parser)) (InDefinition (head_of c.parser) c.expanded) line is) (Err Malformed))
 listed_stating known c line is true show all some st t few body =
-    let d = c.draft in
+    let d = c.parser in
     let tied : Tied known.theorems d = record { names = few; body = body_tied known.theorems d d.place st body } in
     let said : said_of c ≡ InDefinition (head_of d) c.expanded = ap (λ (b : Bool). said_by b d c.expanded) t ∙ definition_at d c.expanded d.place st in
     listed_on known c (Stating (head_of d)) line is (InDefinition (head_of d) c.expanded) all some (subst (λ (b : Bool). TiedBy known.theorems b d) (sym t) (few, body)) said (λ x. show)
     (written_alike known d line is tied ∙ ap (λ (o : Open). written_out known o line is) (head_there d d.place st))
 listed_stating known c line is false show all some st t few body = refl
 
--- behind the last line of a definition
-not_ready : (known : Known) (c : Held) (line : Listing) (is : List RawItem) → c.draft.place ≡ places.Done → take_out known c line is ≡ Err Malformed
+-- after the last line of a definition
+not_ready : (known : Known) (c : Held) (line : Listing) (is : List RawItem) → c.parser.place ≡ places.Done → take_out known c line is ≡ Err Malformed
 not_ready known c listings.Given is at = rw at refl
 not_ready known c listings.Show is at = rw at refl
 not_ready known c listings.Claim is at = rw at refl
 not_ready known c (listings.Superpose args new) is at = rw at refl
 
-listed_done : (known : Known) (c : Held) (line : Listing) (is : List RawItem) (s : Bool) → c.draft.place ≡ places.Done → AlikeComing known (right_count s >>= λ right. take_out known c line is) (Err Malformed)
+listed_done : (known : Known) (c : Held) (line : Listing) (is : List RawItem) (s : Bool) → c.parser.place ≡ places.Done → AlikeComing known (right_count s >>= λ right. take_out known c line is) (Err Malformed)
 listed_done known c line is false at = refl
 listed_done known c line is true at = subst (λ (r : Result Held FaultKind). AlikeComing known r (Err Malformed)) (sym (not_ready known c line is at)) refl
 
-listed_there : (known : Known) (c : Held) (p : Section) (line : Listing) (is : List RawItem) → c.draft.place ≡ p → IsStating p → are_notions known.notions ≡ true → 0 < length is → c.defines ≡ true → FewNamed c.draft.names → DefinitionTied p c.draft
-    → AlikeComing known (right_count (is_show line) >>= λ right. take_out known c line is) (listed_line known (definition_there c.draft c.expanded p) line is)
+listed_there : (known : Known) (c : Held) (p : Section) (line : Listing) (is : List RawItem) → c.parser.place ≡ p → IsStating p → are_notions known.notions ≡ true → 0 < length is → c.defines ≡ true → FewNamed c.parser.names → DefinitionTied p c.parser
+    → AlikeComing known (right_count (is_show line) >>= λ right. take_out known c line is) (listed_line known (definition_there c.parser c.expanded p) line is)
 listed_there known c p line is at st all some t few body =
-    subst (λ (x : Coming). AlikeComing known (right_count (is_show line) >>= λ right. take_out known c line is) (listed_line known x line is)) (sym (definition_at c.draft c.expanded p st))
-    (listed_stating known c line is (is_show line) refl all some (subst IsStating (sym at) st) t few (subst (λ (q : Section). DefinitionTied q c.draft) (sym at) body))
+    subst (λ (x : Coming). AlikeComing known (right_count (is_show line) >>= λ right. take_out known c line is) (listed_line known x line is)) (sym (definition_at c.parser c.expanded p st))
+    (listed_stating known c line is (is_show line) refl all some (subst IsStating (sym at) st) t few (subst (λ (q : Section). DefinitionTied q c.parser) (sym at) body))
 
-listed_at : (known : Known) (c : Held) (p : Section) (line : Listing) (is : List RawItem) → c.draft.place ≡ p → are_notions known.notions ≡ true → 0 < length is → c.defines ≡ true → FewNamed c.draft.names → DefinitionTied p c.draft
-    → AlikeComing known (right_count (is_show line) >>= λ right. take_out known c line is) (listed_line known (definition_there c.draft c.expanded p) line is)
+listed_at : (known : Known) (c : Held) (p : Section) (line : Listing) (is : List RawItem) → c.parser.place ≡ p → are_notions known.notions ≡ true → 0 < length is → c.defines ≡ true → FewNamed c.parser.names → DefinitionTied p c.parser
+    → AlikeComing known (right_count (is_show line) >>= λ right. take_out known c line is) (listed_line known (definition_there c.parser c.expanded p) line is)
 listed_at known c places.Done line is at all some t few body = listed_done known c line is (is_show line) at
 listed_at known c places.Declaring line is at all some t few body = listed_there known c places.Declaring line is at tt all some t few body
 listed_at known c places.Giving line is at all some t few body = listed_there known c places.Giving line is at tt all some t few body
@@ -544,12 +544,12 @@ listed_at known c places.Proving line is at all some t few body = absurd body.0
 listed_at known c places.Splitting line is at all some t few body = absurd body.0
 listed_at known c places.Closed line is at all some t few body = absurd body.0
 
-listed_by : (b : Bool) (known : Known) (c : Held) (line : Listing) (is : List RawItem) → c.defines ≡ b → are_notions known.notions ≡ true → 0 < length is → TiedBy known.theorems b c.draft
-    → AlikeComing known (right_count (not b || is_show line) >>= λ right. take_out known c line is) (listed_line known (said_by b c.draft c.expanded) line is)
-listed_by true known c line is t all some tied = listed_at known c c.draft.place line is refl all some t tied.0 tied.1
+listed_by : (b : Bool) (known : Known) (c : Held) (line : Listing) (is : List RawItem) → c.defines ≡ b → are_notions known.notions ≡ true → 0 < length is → TiedBy known.theorems b c.parser
+    → AlikeComing known (right_count (not b || is_show line) >>= λ right. take_out known c line is) (listed_line known (said_by b c.parser c.expanded) line is)
+listed_by true known c line is t all some tied = listed_at known c c.parser.place line is refl all some t tied.0 tied.1
 listed_by false known c line is t all some tied =
-    listed_on known c (open_of c.draft) line is (InTheorem (open_of c.draft) c.expanded) all some (subst (λ (b : Bool). TiedBy known.theorems b c.draft) (sym t) tied) (ap (λ (b : Bool). said_by b c.draft c.expanded) t)
-    (λ h. absurd (let no : true ≡ false = sym h ∙ t in cc)) (written_alike known c.draft line is tied)
+    listed_on known c (open_of c.parser) line is (InTheorem (open_of c.parser) c.expanded) all some (subst (λ (b : Bool). TiedBy known.theorems b c.parser) (sym t) tied) (ap (λ (b : Bool). said_by b c.parser c.expanded) t)
+    (λ h. absurd (let no : true ≡ false = sym h ∙ t in cc)) (written_alike known c.parser line is tied)
 
 listed_alike : (known : Known) (c : Held) (line : Listing) (is : List RawItem) → are_notions known.notions ≡ true → 0 < length is → TiedComing known c → AlikeComing known (lists known c line is) (listed_line known (said_of c) line is)
 unfolding lists
@@ -581,7 +581,7 @@ first_theorem known f =
 
 nothing_tied : (t : List ℕ) → FewNamed (begun t).names × DefinitionTied places.Declaring (begun t)
 nothing_tied t =
-    (record { points = omega arith; lines = omega arith; circles = omega arith }, (tt, (refl, refl, refl), record { steps = refl; outers = refl; lines = refl; facts = refl; terms = refl; few_facts = omega arith; few_terms = omega arith }))
+    (record { points = omega arith; lines = omega arith; circles = omega arith }, (tt, (refl, refl, refl), record { steps = refl; blocks = refl; lines = refl; facts = refl; terms = refl; few_facts = omega arith; few_terms = omega arith }))
 
 first_definition : (known : Known) (t : List ℕ) → AlikeComing known (begins_definition known t) (first_line known (Define t))
 unfolding begins_definition
@@ -626,16 +626,16 @@ abbrev wrong_at : ℕ → FaultKind → Answer
 wrong_at number kind = Err (at_line number kind)
 
 -- it ends, or its lines go on
-theorem_ends : (d : TheoremParser) (n : ℕ) (p : Section) (lines : Rest) (x y : Answer) → x ≡ y → cond (is_last p) (found (OfTheorem (entry_of_draft d)) lines) x ≡ whole_or (whole (InTheorem (open_there d p) n)) lines y
+theorem_ends : (d : TheoremParser) (n : ℕ) (p : Section) (lines : Rest) (x y : Answer) → x ≡ y → cond (is_last p) (found (OfTheorem (entry_of_parser d)) lines) x ≡ whole_or (whole (InTheorem (open_there d p) n)) lines y
 theorem_ends d n places.Done lines x y e = refl
 theorem_ends d n p lines x y e = e
 
-definition_ends : (d : TheoremParser) (n : ℕ) (p : Section) (lines : Rest) (x y : Answer) → x ≡ y → cond (is_last p) (found (OfNotion (notion_of_draft d)) lines) x ≡ whole_or (whole (definition_there d n p)) lines y
+definition_ends : (d : TheoremParser) (n : ℕ) (p : Section) (lines : Rest) (x y : Answer) → x ≡ y → cond (is_last p) (found (OfNotion (notion_of_parser d)) lines) x ≡ whole_or (whole (definition_there d n p)) lines y
 definition_ends d n places.Done lines x y e = refl
 definition_ends d n p lines x y e = e
 
 coming_ends : (b : Bool) (d : TheoremParser) (n : ℕ) (lines : Rest) (x y : Answer) → x ≡ y
-    → cond (is_last d.place) (found (cond b (OfNotion (notion_of_draft d)) (OfTheorem (entry_of_draft d))) lines) x ≡ whole_or (whole (said_by b d n)) lines y
+    → cond (is_last d.place) (found (cond b (OfNotion (notion_of_parser d)) (OfTheorem (entry_of_parser d))) lines) x ≡ whole_or (whole (said_by b d n)) lines y
 coming_ends true d n lines x y e = definition_ends d n d.place lines x y e
 coming_ends false d n lines x y e = theorem_ends d n d.place lines x y e
 
@@ -644,7 +644,7 @@ after_alike : (known : Known) (last number : ℕ) (lines : Rest) (r : Result Hel
     → (put_at number r >>= λ c. cond (machine.is_done c) (found (item_of c) lines) (machine.item_from known last (Some c) lines))
     ≡ (put_at number q >>= λ n. whole_or (whole n) lines (item_from known last (Some n) lines))
 after_alike known last number lines (Ok e) (Ok n) a more =
-    coming_ends e.defines e.draft e.expanded lines (machine.item_from known last (Some e) lines) (item_from known last (Some (said_of e)) lines) (more e a.1)
+    coming_ends e.defines e.parser e.expanded lines (machine.item_from known last (Some e) lines) (item_from known last (Some (said_of e)) lines) (more e a.1)
     ∙ ap (λ (x : Coming). whole_or (whole x) lines (item_from known last (Some x) lines)) a.0
 after_alike known last number lines (Err j) (Err k) a more = ap (λ (x : FaultKind). wrong_at number x) a
 after_alike known last number lines (Ok e) (Err k) a more = absurd a

@@ -4,8 +4,8 @@ use Rattle.e_literal.specs.declared.literal.Lit.{Lit}
 use Rattle.e_construct.specs.declared.superpose.Superpose.{Superpose}
 use Rattle.e_construct.specs.Superposing as superposing
 use Rattle.e_deriv.specs.Naming.{named}
-use Rattle.e_book.specs.declared.blocks.BlockKind.TheVariants as opened
-use Rattle.e_book.specs.declared.draft.TheoremParser.{TheoremParser}
+use Rattle.e_book.specs.declared.blocks.BlockKind.TheVariants as kind
+use Rattle.e_book.specs.declared.parser.TheoremParser.{TheoremParser}
 use Rattle.e_line.specs.declared.superposes.RawSuperpose.{RawSuperpose}
 use Rattle.e_names.specs.Scope.{scope_of_names}
 use Rattle.e_names.specs.Superposes.{superpose_in}
@@ -14,6 +14,6 @@ use Rattle.e_book.specs.Steps.{copies_begun, superposed}
 
 pub superposed_is : (d : TheoremParser) (raw : RawSuperpose) (form : Superpose) (shown : List Lit) (u : Unit {0}) → superpose_in d.in_scope raw ≡ Ok (form, shown)
     → few_objects (named d.in_scope superposing.sorts_copied raw.new) ≡ Ok u
-    → superposed d raw ≡ copies_begun d (opened.Superpose form raw.new shown) (named d.in_scope superposing.sorts_copied raw.new) (superposing.gives_of_superposition form (scope_of_names d.in_scope)) raw.shown
+    → superposed d raw ≡ copies_begun d (kind.Superpose form raw.new shown) (named d.in_scope superposing.sorts_copied raw.new) (superposing.gives_of_superposition form (scope_of_names d.in_scope)) raw.shown
 unfolding superposed copies_begun
 superposed_is d raw form shown u placed few = rw (placed, few) refl

@@ -13,7 +13,7 @@ use Rattle.e_literal.proofs.Growing.{count_one}
 use Rattle.e_deriv.specs.declared.names.Names.{Names}
 use Rattle.e_line.specs.declared.fault.FaultKind.{FaultKind}
 use Rattle.e_line.specs.declared.raw_line.RawLine.{RawLine}
-use Rattle.e_book.specs.declared.draft.TheoremParser.{TheoremParser}
+use Rattle.e_book.specs.declared.parser.TheoremParser.{TheoremParser}
 use Rattle.e_line.specs.Reading.{◌>>=◌}
 use Rattle.e_line.specs.Limits.{most_of, what_of, within}
 use Rattle.e_names.specs.TitledStatements.{TitledStatement}
@@ -84,7 +84,7 @@ declared_joined ns Circle name more f =
 
 -- ---- lines of names
 
--- a line with a name puts it behind those of its sort, and a line with more names does what a name and the others do
+-- a line with a name puts it after those of its sort, and a line with more names does what a name and the others do
 pub record LinesOfNames (known : List TitledStatement) (say : Sort → List (List ℕ) → RawLine) (at : Names → List Sort → TheoremParser) : Type 0 where
   pub good : (sort : Sort) (n : List ℕ) (more : List (List ℕ)) → AreNames (n ∷ more) → GoodForm (say sort (n ∷ more))
   pub said : (sort : Sort) (names : List (List ℕ)) → GoodForm (say sort names) → AreNames names
@@ -173,7 +173,7 @@ room_next ns s Circle f lt = omega (arith, lt, f.circles, length-take-le s.circl
 next : (ns : Names) (s : Scope) (sort : Sort) → InOrder ns → Few ns → count_of s sort < count_of (scope_of_names ns) sort → Next (first_names s ns) sort (name_at (names_of_sort ns sort) (count_of s sort))
 next ns s sort o f lt = record { named = named_at ns sort (count_of s sort) o (lt-ltb _ _ lt); free = free_next ns s sort o lt; few = room_next ns s sort f lt }
 
--- the lines of the objects from some scope on, behind which more objects come
+-- the lines of the objects from some scope on, after which more objects come
 pub run_from : (known : List TitledStatement) (say : Sort → List (List ℕ) → RawLine) (at : Names → List Sort → TheoremParser) (l : LinesOfNames known say at) (ns : Names) (s : Scope) (before more after : List Sort) → InOrder ns → Few ns
     → grown (grown s more) after ≡ scope_of_names ns → Runs known (Some (at (first_names s ns) before)) (map (says say) (grouped ns (next_objects s more))) (Some (at (first_names (grown s more) ns) (before ++ more)))
 run_from known say at l ns s before [] after o f e = ap (λ (x : List Sort). Some (at (first_names s ns) x)) (sym (append-nil before))

@@ -26,8 +26,8 @@ by_case true x y z P e t f = t refl e
 by_case false x y z P e t f = f refl e
 
 -- what follows a line
-abbrev behind : Known → ℕ → Rest → Coming → Answer
-behind known last lines n = whole_or (whole n) lines (item_from known last (Some n) lines)
+abbrev after : Known → ℕ → Rest → Coming → Answer
+after known last lines n = whole_or (whole n) lines (item_from known last (Some n) lines)
 
 pub front_fault : (known : Known) (o left : Option Coming) (front : Rest) (line : Result LineView LineFault) (fault : BookFault) → Leaves known o front left → IsFaulty known left line fault
     → (last : ℕ) (other : Rest) → item_from known last o (front ++ line ∷ other) ≡ wrong fault
@@ -38,7 +38,7 @@ front_fault known o left [] (Ok l) fault e q last other =
 front_fault known o left (Err f ∷ ls) line fault h q last other = absurd h
 front_fault known o left (Ok l ∷ ls) line fault h q last other =
     in_case (is_skipped (tokens_of l.bytes)) (item_from known last o (ls ++ line ∷ other))
-    (put_there l.number (line_said known o (tokens_of l.bytes)) >>= λ n. behind known last (ls ++ line ∷ other) n) (wrong fault)
+    (put_there l.number (line_said known o (tokens_of l.bytes)) >>= λ n. after known last (ls ++ line ∷ other) n) (wrong fault)
     (λ t. front_fault known o left ls line fault (h.0 t) q last other)
     (λ f. let s = h.1 f in rw (s.1, s.2) (front_fault known (Some s.0) left ls line fault s.3 q last other))
 
@@ -62,7 +62,7 @@ unfinished known last n ls fault None is e = (is, e)
 unfinished known last n ls fault (Some t) is e = absurd cc
 
 -- what a line made of it, where it ends in a fault
-went : (known : Known) (last : ℕ) (l : LineView) (ls : Rest) (r : Result Coming FaultKind) (fault : BookFault) → (put_there l.number r >>= λ n. behind known last ls n) ≡ wrong fault
+went : (known : Known) (last : ℕ) (l : LineView) (ls : Rest) (r : Result Coming FaultKind) (fault : BookFault) → (put_there l.number r >>= λ n. after known last ls n) ≡ wrong fault
     → (put_there l.number r ≡ Err fault) ⊎ ((n : Coming) × (r ≡ read_coming n) × (whole n ≡ None) × (item_from known last (Some n) ls ≡ wrong fault))
 went known last l ls (Err k) fault e = inl cc
 went known last l ls (Ok n) fault e = let u = unfinished known last n ls fault (whole n) refl e in inr (n, refl, u.0, u.1)
@@ -72,7 +72,7 @@ first_fault known last o [] fault e = let u = unended last o fault e in inr (u.0
 first_fault known last o (Err f ∷ ls) fault e = inl (record { front = []; line = Err f; rest = ls; all = refl; left = o; taken = refl; faulty = cc })
 first_fault known last o (Ok l ∷ ls) fault e =
     by_case (is_skipped (tokens_of l.bytes)) (item_from known last o ls)
-    (put_there l.number (line_said known o (tokens_of l.bytes)) >>= λ n. behind known last ls n) (wrong fault) (IsFirst known last o (Ok l ∷ ls) fault) e
+    (put_there l.number (line_said known o (tokens_of l.bytes)) >>= λ n. after known last ls n) (wrong fault) (IsFirst known last o (Ok l ∷ ls) fault) e
     (λ t h. longer known last o o l ls fault (λ front left k. ((λ u. k), (λ f. absurd cc))) (first_fault known last o ls fault h))
     (λ f h. elim (went known last l ls (line_said known o (tokens_of l.bytes)) fault h) [
       | inl x ↦ inl (record { front = []; line = Ok l; rest = ls; all = refl; left = o; taken = refl; faulty = (f, x) })

@@ -64,7 +64,7 @@ with_copies at form names =
 abbrev pub with_lit : Spot → Lit → Spot
 with_lit at lit = spot at.before at.names (at.facts + 1) (at.terms + monomials lit.atom)
 
--- where the line behind a use of the theorem at a place stands
+-- where the line after a use of the theorem at a place stands
 abbrev pub with_use : Spot → ℕ → List (List ℕ) → Spot
 with_use at theorem names =
     let t = theorem_at at.before theorem in

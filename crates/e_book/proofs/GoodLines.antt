@@ -48,7 +48,7 @@ use Rattle.e_names.specs.Fits.{is_diagram_lit}
 use Rattle.e_book.specs.Fits.{has_good_literals, few_terms}
 use Rattle.e_book.proofs.FittingScripts.{line_fits}
 use Rattle.e_names.proofs.ShortLits.{count_first}
-use Rattle.e_names.proofs.LitLookups.{diagram_is_good}
+use Rattle.e_names.proofs.LitLookups.{diagram_is_well_formed}
 use Rattle.e_names.proofs.WellRead.{no_monomials}
 use Rattle.e_book.proofs.Renaming.{renamed_good, made_moved}
 
@@ -204,7 +204,7 @@ unfolding lines has_good_literals few_terms
 lines_good bs states before sorts shown goal (Cite by rest) g f s other facts n good w le few h fit =
     let p = and_parts (is_citation s by) (list_all (line_fits bs) (lines bs rest (rest_of g) s (joined other by.lit) (goal_for before sorts shown))) fit in
     let q = and_parts (is_diagram_lit by.lit) (has_good_literals rest) h in
-    let lit : is_well_formed_in s by.lit ≡ true = rw (cited_in_scope s by p.0, diagram_is_good by.lit q.0) refl in
+    let lit : is_well_formed_in s by.lit ≡ true = rw (cited_in_scope s by p.0, diagram_is_well_formed by.lit q.0) refl in
     let next = good_joined s facts by.lit n good lit in
     let same : GoodFacts s (joined facts by.lit) n = record { good = next.good; few = omega (arith, next.few, no_monomials by.lit.atom q.0) } in
     (facts_fit s facts n good le, λ is. (refl, lines_good bs states before sorts shown goal rest (rest_of g) (rest_of f) s (joined other by.lit) (joined facts by.lit) n same w le few q.1 p.1))
@@ -254,9 +254,9 @@ lines_good bs states before sorts shown goal (Apply theorem pattern names certs 
 lines_good bs states before sorts shown goal (Claim claimed inner rest) g f s other facts n good w le few h fit =
     let m = n + count_monomials claimed in
     let inside = lines bs inner (inner_of g) s other (goal_for s [] claimed) in
-    let behind = lines bs rest (rest_of g) s (joined_all other claimed) (goal_for before sorts shown) in
-    let p = and_parts (are_over s claimed) (list_all (line_fits bs) (inside ++ behind)) fit in
-    let q = parted (line_fits bs) inside behind p.1 in
+    let after = lines bs rest (rest_of g) s (joined_all other claimed) (goal_for before sorts shown) in
+    let p = and_parts (are_over s claimed) (list_all (line_fits bs) (inside ++ after)) fit in
+    let q = parted (line_fits bs) inside after p.1 in
     let l = and_parts (list_all is_well_formed claimed) (has_good_literals inner && has_good_literals rest) h in
     let k = and_parts (has_good_literals inner) (has_good_literals rest) l.1 in
     let r = and_parts (few_terms bs n s inner) (leb m most_terms && few_terms bs m s rest) few in
@@ -277,10 +277,10 @@ lines_good bs states before sorts shown goal (Superposed form names copied certs
     let i = n + count_monomials given in
     let m = n + count_monomials copied in
     let inside = lines bs inner (inner_of g) t (joined_all other given) (goal_for s [] copied) in
-    let behind = lines bs rest (rest_of g) s (joined_all other copied) (goal_for before sorts shown) in
-    let p = and_parts (superposing.fits_superposition form s && are_over s copied) (list_all (line_fits bs) (inside ++ behind)) fit in
+    let after = lines bs rest (rest_of g) s (joined_all other copied) (goal_for before sorts shown) in
+    let p = and_parts (superposing.fits_superposition form s && are_over s copied) (list_all (line_fits bs) (inside ++ after)) fit in
     let o = and_parts (superposing.fits_superposition form s) (are_over s copied) p.0 in
-    let q = parted (line_fits bs) inside behind p.1 in
+    let q = parted (line_fits bs) inside after p.1 in
     let l = and_parts (list_all is_well_formed copied) (has_good_literals inner && has_good_literals rest) h in
     let k = and_parts (has_good_literals inner) (has_good_literals rest) l.1 in
     let a = room i (few_terms bs i t inner && (leb m most_terms && few_terms bs m s rest)) few in

@@ -9,16 +9,16 @@ use Rattle.e_line.specs.declared.fault.BookFault.{BookFault}
 use Rattle.e_line.specs.declared.raw_line.RawLine.{RawLine}
 use Rattle.e_line.specs.declared.raw_line.RawLine.TheVariants as rawlines
 use Rattle.e_book.specs.declared.steps.CloseLine.TheVariants as closes
-use Rattle.e_book.specs.declared.draft.TheoremParser.{TheoremParser}
-use Rattle.e_book.specs.declared.draft.Section.{Section}
-use Rattle.e_book.specs.declared.draft.Section.TheVariants as places
+use Rattle.e_book.specs.declared.parser.TheoremParser.{TheoremParser}
+use Rattle.e_book.specs.declared.parser.Section.{Section}
+use Rattle.e_book.specs.declared.parser.Section.TheVariants as places
 use Rattle.e_line.specs.Faults.{at_line}
 use Rattle.e_line.specs.Reading.{◌>>=◌, names_of, not_empty, some_names}
 use Rattle.e_line.specs.Literals.{is_diagram_raw}
 use Rattle.e_line.specs.RawLines.{raw_line_of}
 use Rattle.e_names.specs.TitledStatements.{TitledStatement, is_known}
 use Rattle.e_line.specs.Limits.{most_theorems, within}
-use Rattle.e_book.specs.DraftViews.{entry_of_draft}
+use Rattle.e_book.specs.ParserViews.{entry_of_parser}
 use Rattle.e_book.specs.TheoremViews.{TheoremView}
 use Rattle.e_book.specs.LineLimits.{FewNamed}
 use Rattle.e_book.specs.Steps.{allowed, built, applied, claimed, superposed, split, cited, inferred, concluded, shut, stepped, step, begin, begun}
@@ -30,7 +30,7 @@ use Rattle.e_book.specs.Canonical.{forms_of}
 use Rattle.e_book.specs.HasSpelling.{HasSpelling}
 use Rattle.e_book.specs.Laws.{Shows}
 use Rattle.e_book.specs.Book.{line_step, is_last, is_done}
-use Rattle.e_book.specs.Book as parser
+use Rattle.e_book.specs.Book as book
 use Rattle.e_line.proofs.Bound.{bind_ok, ok_is, read_ok}
 use Rattle.e_book.proofs.CanonicalRead.{canonical_lines_read}
 use Rattle.e_book.proofs.ReadSpelled.{read_is_spelled}
@@ -128,10 +128,10 @@ at_showing known d rawlines.Proof at s u few some = proof_alike known places.Sho
 at_showing known d f at s u few some = refl
 
 -- a line of a block, in which the names are those of what has been said
-in_block : (known : List TitledStatement) (d : TheoremParser) (f : RawLine) (r : Result TheoremParser FaultKind) → BlockOf known d → Alike known r (goes_on known d.in_scope (head_of d) (around_of d.outers) d.steps f >>= then_limits known f)
-    → Alike known r (next known (Proving (head_of d) (around_of d.outers) d.steps) f >>= then_limits known f)
+in_block : (known : List TitledStatement) (d : TheoremParser) (f : RawLine) (r : Result TheoremParser FaultKind) → BlockOf known d → Alike known r (goes_on known d.in_scope (head_of d) (around_of d.blocks) d.steps f >>= then_limits known f)
+    → Alike known r (next known (Proving (head_of d) (around_of d.blocks) d.steps) f >>= then_limits known f)
 in_block known d f r t a =
-    subst (λ (ns : Names). Alike known r (goes_on known ns (head_of d) (around_of d.outers) d.steps f >>= then_limits known f)) t.counted.names a
+    subst (λ (ns : Names). Alike known r (goes_on known ns (head_of d) (around_of d.blocks) d.steps f >>= then_limits known f)) t.counted.names a
 
 at_proving : (known : List TitledStatement) (d : TheoremParser) (f : RawLine) → d.place ≡ places.Proving → BlockOf known d → FewNamed d.names → HasItems f → Line known places.Proving d f
 unfolding stepped
@@ -183,7 +183,7 @@ free_title known false x y h = h
 begun_tied : (known : List TitledStatement) (t : List ℕ) → Alike known (read_ok (begun t)) (read_ok (Stating (nothing_said t)))
 begun_tied known t =
     let few : FewNamed (begun t).names = record { points = omega arith; lines = omega arith; circles = omega arith } in
-    let none : UnprovedOf (begun t) = record { steps = refl; outers = refl; lines = refl; facts = refl; terms = refl; few_facts = omega arith; few_terms = omega arith } in
+    let none : UnprovedOf (begun t) = record { steps = refl; blocks = refl; lines = refl; facts = refl; terms = refl; few_facts = omega arith; few_terms = omega arith } in
     tied_there known (begun t) (Stating (nothing_said t)) places.Declaring refl few ((refl, refl, refl), none) refl
 
 abbrev begins_titled : List TitledStatement → List ℕ → Result Open FaultKind
@@ -229,43 +229,43 @@ abbrev wrong_at : ℕ → FaultKind → Answer
 wrong_at number kind = Err (at_line number kind)
 
 -- a theorem ends, or its lines go on
-ends_alike : (d : TheoremParser) (p : Section) (lines : Rest) (x y : Answer) → x ≡ y → cond (is_last p) (whole (entry_of_draft d) lines) x ≡ or_more (ended (open_there d p)) lines y
+ends_alike : (d : TheoremParser) (p : Section) (lines : Rest) (x y : Answer) → x ≡ y → cond (is_last p) (whole (entry_of_parser d) lines) x ≡ or_more (ended (open_there d p)) lines y
 ends_alike d places.Done lines x y e = refl
 ends_alike d p lines x y e = e
 
 after_alike : (known : List TitledStatement) (last number : ℕ) (lines : Rest) (r : Result TheoremParser FaultKind) (q : Result Open FaultKind) → Alike known r q
-    → ((e : TheoremParser) → Tied known e → parser.read_from known last (Some e) lines ≡ grammar.read_from known last (Some (open_of e)) lines)
-    → (put_at number r >>= λ d. cond (is_done d) (whole (entry_of_draft d) lines) (parser.read_from known last (Some d) lines))
+    → ((e : TheoremParser) → Tied known e → book.read_from known last (Some e) lines ≡ grammar.read_from known last (Some (open_of e)) lines)
+    → (put_at number r >>= λ d. cond (is_done d) (whole (entry_of_parser d) lines) (book.read_from known last (Some d) lines))
     ≡ (put_at number q >>= λ n. or_more (ended n) lines (grammar.read_from known last (Some n) lines))
 after_alike known last number lines (Ok e) (Ok n) a more =
-    ends_alike e e.place lines (parser.read_from known last (Some e) lines) (grammar.read_from known last (Some (open_of e)) lines) (more e a.1)
+    ends_alike e e.place lines (book.read_from known last (Some e) lines) (grammar.read_from known last (Some (open_of e)) lines) (more e a.1)
     ∙ ap (λ (o : Open). or_more (ended o) lines (grammar.read_from known last (Some o) lines)) a.0
 after_alike known last number lines (Err j) (Err k) a more = ap (λ (x : FaultKind). wrong_at number x) a
 after_alike known last number lines (Ok e) (Err k) a more = absurd a
 after_alike known last number lines (Err j) (Ok n) a more = absurd a
 
-read_alike : (known : List TitledStatement) (last : ℕ) (o : Option TheoremParser) (lines : Rest) → TiedSoFar known o → parser.read_from known last o lines ≡ grammar.read_from known last (said o) lines
+read_alike : (known : List TitledStatement) (last : ℕ) (o : Option TheoremParser) (lines : Rest) → TiedSoFar known o → book.read_from known last o lines ≡ grammar.read_from known last (said o) lines
 read_alike known last None [] t = refl
 read_alike known last (Some d) [] t = refl
 read_alike known last None (Err f ∷ lines) t = refl
 read_alike known last (Some d) (Err f ∷ lines) t = refl
 read_alike known last None (Ok line ∷ lines) t =
     let words = tokens_of line.bytes in
-    in_case (is_skipped words) (parser.read_from known last None lines)
-    (put_at line.number (line_step known None words) >>= λ d. cond (is_done d) (whole (entry_of_draft d) lines) (parser.read_from known last (Some d) lines))
+    in_case (is_skipped words) (book.read_from known last None lines)
+    (put_at line.number (line_step known None words) >>= λ d. cond (is_done d) (whole (entry_of_parser d) lines) (book.read_from known last (Some d) lines))
     (grammar.read_from known last None lines) (put_at line.number (line_read known None words) >>= λ n. or_more (ended n) lines (grammar.read_from known last (Some n) lines))
     (read_alike known last None lines t)
     (after_alike known last line.number lines (line_step known None words) (line_read known None words) (words_alike known None words t) (λ e u. read_alike known last (Some e) lines u))
 read_alike known last (Some d) (Ok line ∷ lines) t =
     let words = tokens_of line.bytes in
     let o : Open = open_of d in
-    in_case (is_skipped words) (parser.read_from known last (Some d) lines)
-    (put_at line.number (line_step known (Some d) words) >>= λ x. cond (is_done x) (whole (entry_of_draft x) lines) (parser.read_from known last (Some x) lines))
+    in_case (is_skipped words) (book.read_from known last (Some d) lines)
+    (put_at line.number (line_step known (Some d) words) >>= λ x. cond (is_done x) (whole (entry_of_parser x) lines) (book.read_from known last (Some x) lines))
     (grammar.read_from known last (Some o) lines) (put_at line.number (line_read known (Some o) words) >>= λ n. or_more (ended n) lines (grammar.read_from known last (Some n) lines))
     (read_alike known last (Some d) lines t)
     (after_alike known last line.number lines (line_step known (Some d) words) (line_read known (Some o) words) (words_alike known (Some d) words t) (λ e u. read_alike known last (Some e) lines u))
 
-pub grammar_read : (known : List TitledStatement) (last : ℕ) (lines : Rest) → parser.read_from known last None lines ≡ grammar.read_from known last None lines
+pub grammar_read : (known : List TitledStatement) (last : ℕ) (lines : Rest) → book.read_from known last None lines ≡ grammar.read_from known last None lines
 grammar_read known last lines = read_alike known last None lines tt
 
 -- ---- what is known of what the parser reads, of what the grammar reads

@@ -10,9 +10,9 @@ use Rattle.e_deriv.specs.Naming.{names_of_sort}
 use Rattle.e_line.specs.declared.fault.FaultKind.{FaultKind}
 use Rattle.e_line.specs.declared.raw_line.RawLine.TheVariants as rawlines
 use Rattle.e_book.specs.declared.steps.CloseLine.TheVariants as closes
-use Rattle.e_book.specs.declared.draft.Section.{Section}
-use Rattle.e_book.specs.declared.draft.Section.TheVariants.{Declaring, Giving, Making, Showing}
-use Rattle.e_book.specs.declared.draft.TheoremParser.{TheoremParser}
+use Rattle.e_book.specs.declared.parser.Section.{Section}
+use Rattle.e_book.specs.declared.parser.Section.TheVariants.{Declaring, Giving, Making, Showing}
+use Rattle.e_book.specs.declared.parser.TheoremParser.{TheoremParser}
 use Rattle.e_line.specs.Reading.{◌>>=◌}
 use Rattle.e_line.specs.Limits.{most_of, most_theorems, most_facts, most_terms, monomials, count_monomials}
 use Rattle.e_names.specs.TitledStatements.{TitledStatement, is_known}
@@ -29,10 +29,10 @@ use Rattle.e_names.proofs.ShortLits.{few_again, count_again, count_more, count_f
 use Rattle.e_names.proofs.NewNames.{Free, plus}
 use Rattle.e_book.proofs.Declared.{Runs, LinesOfNames, declared_one, declared_joined}
 
--- a draft before the word proof
+-- a parser before the word proof
 abbrev pub stating : List ℕ → Names → List Sort → List Lit → List Sort → List Lit → ℕ → ℕ → Section → TheoremParser
 stating t ns sorts given made shown facts terms place =
-    record { title = t; names = ns; in_scope = no_names; declared = sorts; given = given; made = made; shown = shown; steps = []; lines = 0; facts = facts; terms = terms; outers = []; close = closes.Qed []; place = place }
+    record { title = t; names = ns; in_scope = no_names; declared = sorts; given = given; made = made; shown = shown; steps = []; lines = 0; facts = facts; terms = terms; blocks = []; close = closes.Qed []; place = place }
 
 -- ---- the title
 
@@ -114,12 +114,12 @@ abbrev after_given : List Lit → Section
 after_given [] = Declaring
 after_given (l ∷ ls) = Giving
 
--- a draft behind its given lines
-abbrev pub given_draft : List ℕ → Names → List Sort → List Lit → TheoremParser
-given_draft t ns sorts given = stating t ns sorts given [] [] (length given) (count_monomials given) (after_given given)
+-- a parser after its given lines
+abbrev pub given_parser : List ℕ → Names → List Sort → List Lit → TheoremParser
+given_parser t ns sorts given = stating t ns sorts given [] [] (length given) (count_monomials given) (after_given given)
 
 pub run_all_given : (known : List TitledStatement) (t : List ℕ) (ns : Names) (sorts : List Sort) (given : List Lit) → InOrder ns → Plain ns given → length given ≤ most_facts → count_monomials given ≤ most_terms
-    → Runs known (Some (declaring t ns sorts)) (map (given_form ns) given) (Some (given_draft t ns sorts given))
+    → Runs known (Some (declaring t ns sorts)) (map (given_form ns) given) (Some (given_parser t ns sorts given))
 run_all_given known t ns sorts [] o p few short = refl
 run_all_given known t ns sorts (l ∷ more) o p few short =
     let q = plain_first ns l more p in (
@@ -136,7 +136,7 @@ abbrev after_made : List Lit → List Sort → Section
 after_made given [] = after_given given
 after_made given (sort ∷ sorts) = Making
 
--- a draft behind its made lines
+-- a parser after its made lines
 abbrev pub making : List ℕ → List Sort → List Lit → Names → List Sort → TheoremParser
 making t sorts given ns made = stating t ns sorts given made [] (length given) (count_monomials given) (after_made given made)
 
@@ -189,7 +189,7 @@ made_lines known t sorts given = record {
 
 -- ---- shown literals
 
--- a draft behind its shown lines
+-- a parser after its shown lines
 abbrev pub showing : List ℕ → Names → List Sort → List Lit → List Sort → List Lit → TheoremParser
 showing t ns sorts given made shown = stating t ns sorts given made shown (length given) (count_monomials given) Showing
 

@@ -7,15 +7,15 @@ use Rattle.e_deriv.specs.Script.{Script}
 use Rattle.e_deriv.specs.PlainStep.{PlainStep, Claimed, Copied, all_before}
 use Rattle.e_book.specs.declared.blocks.OpenBlock.{OpenBlock}
 use Rattle.e_book.specs.declared.blocks.BlockKind.{BlockKind}
-use Rattle.e_book.specs.declared.blocks.BlockKind.TheVariants as opened
-use Rattle.e_book.specs.declared.draft.TheoremParser.{TheoremParser}
+use Rattle.e_book.specs.declared.blocks.BlockKind.TheVariants as kind
+use Rattle.e_book.specs.declared.parser.TheoremParser.{TheoremParser}
 use Rattle.e_line.specs.declared.fault.FaultKind.{FaultKind}
 use Rattle.e_line.specs.declared.fault.What.TheVariants as limits
 use Rattle.e_line.specs.declared.fault.LineError.{LineError}
 use Rattle.e_book.specs.declared.steps.CloseLine.{CloseLine}
 use Rattle.e_book.specs.declared.steps.CloseLine.TheVariants as closes
 use Rattle.e_line.specs.Reading.{◌>>=◌, Fails, Moves}
-use Rattle.e_book.specs.DraftViews.{script_of_close}
+use Rattle.e_book.specs.ParserViews.{script_of_close}
 use Rattle.e_line.specs.Limits.{most_facts, most_depth, within}
 use Rattle.e_book.specs.Steps.{terms_after, counted_from, resumed, closed_inside, closed, ClosesInside, FitsOuter, FitsScope}
 
@@ -23,91 +23,91 @@ use Rattle.e_book.specs.Steps.{terms_after, counted_from, resumed, closed_inside
 pub any_reversed : {X : Type 0} (p : X → Bool) (xs : List X) → list_any p (reverse xs) ≡ list_any p xs
 any_reversed p xs = sym (list_any-IsPermutation p xs (reverse xs) (IsPermutation-reverse xs))
 
--- ---- closing looks at neither the steps nor the blocks around that a draft has
+-- ---- closing looks at neither the steps nor the blocks around that a parser has
 
 abbrev resumed_by : TheoremParser → OpenBlock → List OpenBlock → ℕ → PlainStep → Result (Unit {0}) FaultKind → Result ℕ FaultKind → Result TheoremParser FaultKind
-resumed_by d o os n s few terms = (few >>= λ u. terms >>= λ m. Ok (record d { facts = n; terms = m })) >>= λ e. Ok (record e { steps = o.steps ++ s ∷ []; in_scope = o.in_scope; outers = os })
+resumed_by d o os n s few terms = (few >>= λ u. terms >>= λ m. Ok (record d { facts = n; terms = m })) >>= λ e. Ok (record e { steps = o.steps ++ s ∷ []; in_scope = o.in_scope; blocks = os })
 
 resumed_by_alike : (d : TheoremParser) (xs : List OpenBlock) (ss : List PlainStep) (o : OpenBlock) (os : List OpenBlock) (n : ℕ) (s : PlainStep) (few : Result (Unit {0}) FaultKind) (terms : Result ℕ FaultKind)
-    → resumed_by (record d { outers = xs; steps = ss }) o os n s few terms ≡ resumed_by d o os n s few terms
+    → resumed_by (record d { blocks = xs; steps = ss }) o os n s few terms ≡ resumed_by d o os n s few terms
 resumed_by_alike d xs ss o os n s (Ok u) (Ok m) = refl
 resumed_by_alike d xs ss o os n s (Ok u) (Err e) = refl
 resumed_by_alike d xs ss o os n s (Err e) terms = refl
 
 resumed_alike : (d : TheoremParser) (xs : List OpenBlock) (ss : List PlainStep) (o : OpenBlock) (os : List OpenBlock) (shown : List Lit) (s : PlainStep)
-    → resumed (record d { outers = xs; steps = ss }) o os shown s ≡ resumed d o os shown s
+    → resumed (record d { blocks = xs; steps = ss }) o os shown s ≡ resumed d o os shown s
 unfolding resumed counted_from
 resumed_alike d xs ss o os shown s =
     resumed_by_alike d xs ss o os (o.facts + length shown) s (within (o.facts + length shown) most_facts limits.Facts) (terms_after o.terms shown)
 
 -- nor at its steps, which were taken out
 pub emptied : (d : TheoremParser) (o : OpenBlock) (os : List OpenBlock) (shown : List Lit) (s : PlainStep) → resumed d o os shown s ≡ resumed (record d { steps = [] }) o os shown s
-emptied d o os shown s = sym (resumed_alike d d.outers [] o os shown s)
+emptied d o os shown s = sym (resumed_alike d d.blocks [] o os shown s)
 
 inside_alike : (d : TheoremParser) (xs : List OpenBlock) (ss : List PlainStep) (o : OpenBlock) (os : List OpenBlock) (inner : Script) (again : CloseLine → Result TheoremParser FaultKind) (what : BlockKind)
-    → closed_inside (record d { outers = xs; steps = ss }) o os inner again what ≡ closed_inside d o os inner again what
-inside_alike d xs ss o os inner again (opened.Claim shown) = resumed_alike d xs ss o os shown (Claimed shown inner)
-inside_alike d xs ss o os inner again (opened.Superpose form names shown) = resumed_alike d xs ss o os shown (Copied form names shown [] inner)
-inside_alike d xs ss o os inner again (opened.First lit) = refl
-inside_alike d xs ss o os inner again (opened.Second lit first) = refl
+    → closed_inside (record d { blocks = xs; steps = ss }) o os inner again what ≡ closed_inside d o os inner again what
+inside_alike d xs ss o os inner again (kind.Claim shown) = resumed_alike d xs ss o os shown (Claimed shown inner)
+inside_alike d xs ss o os inner again (kind.Superpose form names shown) = resumed_alike d xs ss o os shown (Copied form names shown [] inner)
+inside_alike d xs ss o os inner again (kind.First lit) = refl
+inside_alike d xs ss o os inner again (kind.Second lit first) = refl
 
 again_alike : (d : TheoremParser) (xs : List OpenBlock) (ss : List PlainStep) (o : OpenBlock) (os : List OpenBlock) (inner : Script) (f g : CloseLine → Result TheoremParser FaultKind) (what : BlockKind)
-    → ((c : CloseLine) → f c ≡ g c) → closed_inside (record d { outers = xs; steps = ss }) o os inner f what ≡ closed_inside d o os inner g what
-again_alike d xs ss o os inner f g (opened.Claim shown) same = resumed_alike d xs ss o os shown (Claimed shown inner)
-again_alike d xs ss o os inner f g (opened.Superpose form names shown) same = resumed_alike d xs ss o os shown (Copied form names shown [] inner)
-again_alike d xs ss o os inner f g (opened.First lit) same = refl
-again_alike d xs ss o os inner f g (opened.Second lit first) same = same (closes.Cases lit first inner)
+    → ((c : CloseLine) → f c ≡ g c) → closed_inside (record d { blocks = xs; steps = ss }) o os inner f what ≡ closed_inside d o os inner g what
+again_alike d xs ss o os inner f g (kind.Claim shown) same = resumed_alike d xs ss o os shown (Claimed shown inner)
+again_alike d xs ss o os inner f g (kind.Superpose form names shown) same = resumed_alike d xs ss o os shown (Copied form names shown [] inner)
+again_alike d xs ss o os inner f g (kind.First lit) same = refl
+again_alike d xs ss o os inner f g (kind.Second lit first) same = same (closes.Cases lit first inner)
 
 closed_alike : (d : TheoremParser) (xs : List OpenBlock) (ss : List PlainStep) (os : List OpenBlock) (steps : List PlainStep) (close : CloseLine)
-    → closed (record d { outers = xs; steps = ss }) os steps close ≡ closed d os steps close
+    → closed (record d { blocks = xs; steps = ss }) os steps close ≡ closed d os steps close
 unfolding closed
 closed_alike d xs ss [] steps close = refl
 closed_alike d xs ss (o ∷ os) steps close =
-    again_alike d xs ss o os (all_before steps (script_of_close close)) (λ c. closed (record d { outers = xs; steps = ss }) os o.steps c) (λ c. closed d os o.steps c) o.opened
+    again_alike d xs ss o os (all_before steps (script_of_close close)) (λ c. closed (record d { blocks = xs; steps = ss }) os o.steps c) (λ c. closed d os o.steps c) o.kind
     (λ c. closed_alike d xs ss os o.steps c)
 
 -- ---- the innermost of the blocks around is taken out
 
-top_alike : (d : TheoremParser) (o : OpenBlock) (os : List OpenBlock) (close : CloseLine) → d.outers ≡ o ∷ os
-    → closed_inside (record d { outers = os }) o os (all_before d.steps (script_of_close close)) (λ c. closed d os o.steps c) o.opened ≡ closed d d.outers d.steps close
+top_alike : (d : TheoremParser) (o : OpenBlock) (os : List OpenBlock) (close : CloseLine) → d.blocks ≡ o ∷ os
+    → closed_inside (record d { blocks = os }) o os (all_before d.steps (script_of_close close)) (λ c. closed d os o.steps c) o.kind ≡ closed d d.blocks d.steps close
 unfolding closed
 top_alike d o os close is =
-    inside_alike d os d.steps o os (all_before d.steps (script_of_close close)) (λ c. closed d os o.steps c) o.opened
+    inside_alike d os d.steps o os (all_before d.steps (script_of_close close)) (λ c. closed d os o.steps c) o.kind
     ∙ ap (λ (xs : List OpenBlock). closed d xs d.steps close) (sym is)
 
 -- closing stops there, or goes on, or fails
-pub top_stops : (d q : TheoremParser) (o : OpenBlock) (os : List OpenBlock) (close : CloseLine) → d.outers ≡ o ∷ os → ClosesInside (record d { outers = os }) o close (Ok None) q
-    → closed d d.outers d.steps close ≡ Ok q
+pub top_stops : (d q : TheoremParser) (o : OpenBlock) (os : List OpenBlock) (close : CloseLine) → d.blocks ≡ o ∷ os → ClosesInside (record d { blocks = os }) o close (Ok None) q
+    → closed d d.blocks d.steps close ≡ Ok q
 top_stops d q o os close is inside = sym (top_alike d o os close is) ∙ inside (λ c. closed d os o.steps c)
 
-pub top_goes_on : (d q new : TheoremParser) (o : OpenBlock) (os : List OpenBlock) (close next : CloseLine) (result : Result (Unit {0}) LineError) → d.outers ≡ o ∷ os
-    → ClosesInside (record d { outers = os }) o close (Ok (Some next)) q → Moves result new (closed q q.outers q.steps next) → Moves result new (closed d d.outers d.steps close)
+pub top_goes_on : (d q new : TheoremParser) (o : OpenBlock) (os : List OpenBlock) (close next : CloseLine) (result : Result (Unit {0}) LineError) → d.blocks ≡ o ∷ os
+    → ClosesInside (record d { blocks = os }) o close (Ok (Some next)) q → Moves result new (closed q q.blocks q.steps next) → Moves result new (closed d d.blocks d.steps close)
 top_goes_on d q new o os close next result is inside moves =
     let again : CloseLine → Result TheoremParser FaultKind = λ c. closed d os o.steps c in
-    let p : TheoremParser = record d { outers = os; steps = o.steps } in
-    let there : closed q q.outers q.steps next ≡ closed p os o.steps next = ap (λ (x : TheoremParser). closed x x.outers x.steps next) inside.1 in
+    let p : TheoremParser = record d { blocks = os; steps = o.steps } in
+    let there : closed q q.blocks q.steps next ≡ closed p os o.steps next = ap (λ (x : TheoremParser). closed x x.blocks x.steps next) inside.1 in
     subst (Moves result new) (there ∙ closed_alike d os o.steps os o.steps next ∙ sym (inside.0 again) ∙ top_alike d o os close is) moves
 
-pub top_fails : (d q : TheoremParser) (o : OpenBlock) (os : List OpenBlock) (close : CloseLine) (e : LineError) → d.outers ≡ o ∷ os → ClosesInside (record d { outers = os }) o close (Err e) q
-    → Fails e (closed d d.outers d.steps close)
+pub top_fails : (d q : TheoremParser) (o : OpenBlock) (os : List OpenBlock) (close : CloseLine) (e : LineError) → d.blocks ≡ o ∷ os → ClosesInside (record d { blocks = os }) o close (Err e) q
+    → Fails e (closed d d.blocks d.steps close)
 top_fails d q o os close e is inside = subst (Fails e) (top_alike d o os close is) (inside (λ c. closed d os o.steps c))
 
 -- ---- what fits
 
 pub record TopFits (d : TheoremParser) (o : OpenBlock) (os : List OpenBlock) : Type 0 where
-  pub draft : FitsScope (record d { outers = os })
+  pub parser : FitsScope (record d { blocks = os })
   pub room : length os + 2 ≤ most_depth
   pub outer : FitsOuter o
 
 -- ---- what a block shows is too much
 
-pub resumed_fails : (d p new : TheoremParser) (o : OpenBlock) (close : CloseLine) (shown : List Lit) (step : PlainStep) (inner : Script) (what : BlockKind) (e : LineError) → o.opened ≡ what → p ≡ record d { steps = [] }
-    → inner ≡ all_before d.steps (script_of_close close) → ((again : CloseLine → Result TheoremParser FaultKind) → closed_inside d o d.outers inner again what ≡ resumed d o d.outers shown step)
-    → Fails e (resumed p (record o { opened = what }) p.outers shown step) → ClosesInside d o close (Err e) new
+pub resumed_fails : (d p new : TheoremParser) (o : OpenBlock) (close : CloseLine) (shown : List Lit) (step : PlainStep) (inner : Script) (what : BlockKind) (e : LineError) → o.kind ≡ what → p ≡ record d { steps = [] }
+    → inner ≡ all_before d.steps (script_of_close close) → ((again : CloseLine → Result TheoremParser FaultKind) → closed_inside d o d.blocks inner again what ≡ resumed d o d.blocks shown step)
+    → Fails e (resumed p (record o { kind = what }) p.blocks shown step) → ClosesInside d o close (Err e) new
 resumed_fails d p new o close shown step inner what e is taken block shows fails again =
-    let whole : record o { opened = what } ≡ o = sym (ap (λ (x : BlockKind). record o { opened = x }) is) in
-    let there : resumed p (record o { opened = what }) p.outers shown step ≡ resumed d o d.outers shown step =
-    ap (λ (x : OpenBlock). resumed p x p.outers shown step) whole ∙ ap (λ (x : TheoremParser). resumed x o x.outers shown step) taken ∙ sym (emptied d o d.outers shown step) in
-    let here : closed_inside d o d.outers (all_before d.steps (script_of_close close)) again o.opened ≡ resumed d o d.outers shown step =
-    ap (λ (s : Script). closed_inside d o d.outers s again o.opened) (sym block) ∙ ap (λ (x : BlockKind). closed_inside d o d.outers inner again x) is ∙ shows again in
+    let whole : record o { kind = what } ≡ o = sym (ap (λ (x : BlockKind). record o { kind = x }) is) in
+    let there : resumed p (record o { kind = what }) p.blocks shown step ≡ resumed d o d.blocks shown step =
+    ap (λ (x : OpenBlock). resumed p x p.blocks shown step) whole ∙ ap (λ (x : TheoremParser). resumed x o x.blocks shown step) taken ∙ sym (emptied d o d.blocks shown step) in
+    let here : closed_inside d o d.blocks (all_before d.steps (script_of_close close)) again o.kind ≡ resumed d o d.blocks shown step =
+    ap (λ (s : Script). closed_inside d o d.blocks s again o.kind) (sym block) ∙ ap (λ (x : BlockKind). closed_inside d o d.blocks inner again x) is ∙ shows again in
     subst (Fails e) (there ∙ sym here) fails

@@ -1,4 +1,4 @@
--- Each line keeps what is known of a draft, and so of the theorem that is read.
+-- Each line keeps what is known of a parser, and so of the theorem that is read.
 use Rattle.std.proofs.Common.{◌≡◌, ℕ, zero, suc, ◌+◌, ◌≤◌, Bool, true, false, cond, inl, inr, List, [], ◌∷◌, ◌++◌, length, replicate, Option, Some, None, Result, Ok, Err, refl, sym, ap, subst, ◌∙◌, arith, length-append}
 use Rattle.std.specs.List.{list_all}
 use Rattle.e_literal.specs.declared.object.Sort.{Sort}
@@ -29,9 +29,9 @@ use Rattle.e_line.specs.declared.applies.RawApply.{RawApply}
 use Rattle.e_book.specs.declared.blocks.OpenBlock.{OpenBlock}
 use Rattle.e_line.specs.declared.raw_line.RawLine.{RawLine}
 use Rattle.e_line.specs.declared.raw_line.RawLine.TheVariants as rawlines
-use Rattle.e_book.specs.declared.draft.Section.{Section}
-use Rattle.e_book.specs.declared.draft.Section.TheVariants.{Declaring, Giving, Making, Showing, Proving, Splitting, Closed, Done}
-use Rattle.e_book.specs.declared.draft.TheoremParser.{TheoremParser}
+use Rattle.e_book.specs.declared.parser.Section.{Section}
+use Rattle.e_book.specs.declared.parser.Section.TheVariants.{Declaring, Giving, Making, Showing, Proving, Splitting, Closed, Done}
+use Rattle.e_book.specs.declared.parser.TheoremParser.{TheoremParser}
 use Rattle.e_line.specs.Reading.{◌>>=◌, with_front}
 use Rattle.e_line.specs.Limits.{most_theorems, most_of, most_facts, what_of, within, count_monomials}
 use Rattle.e_names.specs.TitledStatements.{TitledStatement, is_known, stated_by}
@@ -40,7 +40,7 @@ use Rattle.e_line.specs.RawLines.{raw_line_of}
 use Rattle.e_line.specs.LineLimits.{count_monos, few_monos}
 use Rattle.e_book.specs.LineLimits.{FewNamed}
 use Rattle.e_book.specs.Steps.{with_terms, allowed, declared, stepped, step, begin, begun}
-use Rattle.e_book.specs.DraftViews.{script_of_close, entry_of_draft, statement_of_draft}
+use Rattle.e_book.specs.ParserViews.{script_of_close, entry_of_parser, statement_of_parser}
 use Rattle.e_book.specs.TheoremViews.{TheoremView}
 use Rattle.e_names.specs.Fits.{NamesDiffer}
 use Rattle.e_book.specs.Fits.{few_facts, few_terms, Fits}
@@ -56,7 +56,7 @@ use Rattle.e_names.proofs.Distinct.{still_differ}
 use Rattle.e_names.proofs.Building.{declared_scope}
 use Rattle.e_book.proofs.FittingScripts.{Spot, spot, line_fits}
 use Rattle.e_book.proofs.OpenBlocks.{Open, open_first}
-use Rattle.e_book.proofs.Drafts.{HeadOf, start, NoProof, NoProofOf, OpenOf, ShutOf, Body, Good}
+use Rattle.e_book.proofs.ParserFits.{HeadOf, start, NoProof, NoProofOf, OpenOf, ShutOf, Body, Good}
 use Rattle.e_book.proofs.KeptBlocks.{lits_within, keeps_by, keeps_hence, keeps_let, keeps_apply, keeps_claim, keeps_superpose, keeps_cases, keeps_else, keeps_qed, keeps_contradiction}
 
 abbrev more : Scope → Sort → ℕ → Scope
@@ -191,7 +191,7 @@ keeps_given known d e raws good a said h =
       few_given = omega (arith, facts, le);
       few_terms = omega (arith, terms, t.within);
     } in
-    let none_now : NoProofOf x = record { steps = none.steps; outers = none.outers; lines = none.lines; facts = facts; terms = terms } in
+    let none_now : NoProofOf x = record { steps = none.steps; blocks = none.blocks; lines = none.lines; facts = facts; terms = terms } in
     subst (λ (y : TheoremParser). Good known y) t.is (record { head = head; body = (at.0, at.1, none_now) })
 
 keeps_made : (known : List TitledStatement) (d e : TheoremParser) (sort : Sort) (ns : List (List ℕ)) → Good known d → allowed d.place (rawlines.Made sort ns) ≡ true → stepped known d (rawlines.Made sort ns) ≡ Ok e → Good known e
@@ -248,7 +248,7 @@ keeps_shown known d e raws good a said h =
 first_line : (at : Spot) (made : List Sort) (gs : List Lit) (os : List OpenBlock) (ss : List PlainStep) (n facts terms : ℕ) → at.facts ≡ length gs → at.terms ≡ count_monomials gs → NoProof gs ss os n facts terms
     → Open at made os ss (spot at.before at.names facts terms) n
 first_line at made gs os ss n facts terms f t none =
-    subst (λ (l : List OpenBlock). Open at made l ss (spot at.before at.names facts terms) n) (sym none.outers)
+    subst (λ (l : List OpenBlock). Open at made l ss (spot at.before at.names facts terms) n) (sym none.blocks)
     (subst (λ (l : List PlainStep). Open at made [] l (spot at.before at.names facts terms) n) (sym none.steps)
     (subst (λ (k : ℕ). Open at made [] [] (spot at.before at.names facts terms) k) (sym none.lines)
     (subst (λ (k : ℕ). Open at made [] [] (spot at.before at.names k terms) 0) (f ∙ sym none.facts)
@@ -258,7 +258,7 @@ keeps_proof : (known : List TitledStatement) (d e : TheoremParser) → Good know
 unfolding stepped
 keeps_proof known d e g a h =
     let x : TheoremParser = record d { in_scope = (start known d).names; place = Proving } in
-    let open_now : OpenOf known x = first_line (start known d) d.made d.given d.outers d.steps d.lines d.facts d.terms refl refl (beginning known d.place d a g.body) in
+    let open_now : OpenOf known x = first_line (start known d) d.made d.given d.blocks d.steps d.lines d.facts d.terms refl refl (beginning known d.place d a g.body) in
     subst (λ (y : TheoremParser). Good known y) (ok_is x e h) (record { head = g.head; body = open_now })
 
 -- ---- the proof
@@ -355,7 +355,7 @@ good_begun known t n =
       few_given = omega arith;
       few_terms = omega arith;
     } in
-    let none : NoProofOf (begun t) = record { steps = refl; outers = refl; lines = refl; facts = refl; terms = refl } in
+    let none : NoProofOf (begun t) = record { steps = refl; blocks = refl; lines = refl; facts = refl; terms = refl } in
     record { head = head; body = (refl, refl, refl, none) }
 
 pub keeps_begin : (known : List TitledStatement) (f : RawLine) (e : TheoremParser) → begin known f ≡ Ok e → Good known e
@@ -370,7 +370,7 @@ abbrev GoodSoFar : List TitledStatement → Option TheoremParser → Type 0
 GoodSoFar known None = Unit {0}
 GoodSoFar known (Some d) = Good known d
 
-keeps_line : (known : List TitledStatement) (draft : Option TheoremParser) (words : List (List ℕ)) (e : TheoremParser) → GoodSoFar known draft → line_step known draft words ≡ Ok e → Good known e
+keeps_line : (known : List TitledStatement) (parser : Option TheoremParser) (words : List (List ℕ)) (e : TheoremParser) → GoodSoFar known parser → line_step known parser words ≡ Ok e → Good known e
 unfolding line_step
 keeps_line known None words e g h = let f = bind_ok (raw_line_of words) (λ f. begin known f) e h in keeps_begin known f.0 e f.2
 keeps_line known (Some d) words e g h = let f = bind_ok (raw_line_of words) (λ f. step known d f) e h in keeps known d e f.0 g (form_said words f.0 f.1) f.2
@@ -380,10 +380,10 @@ last_shut : (known : List TitledStatement) (p : Section) (d : TheoremParser) →
 last_shut known Done d a b = b
 last_shut known p d a b = absurd cc
 
-pub fits_read : (known : List TitledStatement) (d : TheoremParser) → Good known d → is_done d ≡ true → Fits known (entry_of_draft d)
+pub fits_read : (known : List TitledStatement) (d : TheoremParser) → Good known d → is_done d ≡ true → Fits known (entry_of_parser d)
 fits_read known d good a =
     let g = good.head in
-    let t = stated (statement_of_draft d) in
+    let t = stated (statement_of_parser d) in
     let script = all_before d.steps (script_of_close d.close) in
     let before = stated_by known in
     let s = last_shut known d.place d a good.body in
@@ -412,21 +412,21 @@ fits_read known d good a =
     }
 
 -- a theorem that is read fits
-pub reading_fits : (known : List TitledStatement) (last : ℕ) (draft : Option TheoremParser) (lines rest : List (Result LineView LineFault)) (t : TheoremView) → GoodSoFar known draft → read_from known last draft lines ≡ answered (pair t rest) → Fits known t
+pub reading_fits : (known : List TitledStatement) (last : ℕ) (parser : Option TheoremParser) (lines rest : List (Result LineView LineFault)) (t : TheoremView) → GoodSoFar known parser → read_from known last parser lines ≡ answered (pair t rest) → Fits known t
 reading_fits known last None [] rest t g e = absurd cc
 reading_fits known last (Some d) [] rest t g e = absurd cc
-reading_fits known last draft (Err f ∷ lines) rest t g e = absurd cc
-reading_fits known last draft (Ok line ∷ lines) rest t g e =
+reading_fits known last parser (Err f ∷ lines) rest t g e = absurd cc
+reading_fits known last parser (Ok line ∷ lines) rest t g e =
     let words = tokens_of line.bytes in
-    let next : Result TheoremParser BookFault = put_at line.number (line_step known draft words) in
-    let then : TheoremParser → Result Answer BookFault = λ d. cond (is_done d) (answered (pair (entry_of_draft d) lines)) (read_from known last (Some d) lines) in
-    elim (skip_or (is_skipped words) (read_from known last draft lines) (next >>= then) (answered (pair t rest)) e) [
-      | inl s ↦ reading_fits known last draft lines rest t g s.1
+    let next : Result TheoremParser BookFault = put_at line.number (line_step known parser words) in
+    let then : TheoremParser → Result Answer BookFault = λ d. cond (is_done d) (answered (pair (entry_of_parser d) lines)) (read_from known last (Some d) lines) in
+    elim (skip_or (is_skipped words) (read_from known last parser lines) (next >>= then) (answered (pair t rest)) e) [
+      | inl s ↦ reading_fits known last parser lines rest t g s.1
       | inr s ↦
           let d = bind_ok next then (pair t rest) s.1 in
-          let good = keeps_line known draft words d.0 g (put_ok line.number (line_step known draft words) d.0 d.1) in
-          elim (skip_or (is_done d.0) (answered (pair (entry_of_draft d.0) lines)) (read_from known last (Some d.0) lines) (answered (pair t rest)) d.2) [
-            | inl q ↦ subst (λ (x : TheoremView). Fits known x) (first_is (entry_of_draft d.0) t lines rest q.1) (fits_read known d.0 good q.0)
+          let good = keeps_line known parser words d.0 g (put_ok line.number (line_step known parser words) d.0 d.1) in
+          elim (skip_or (is_done d.0) (answered (pair (entry_of_parser d.0) lines)) (read_from known last (Some d.0) lines) (answered (pair t rest)) d.2) [
+            | inl q ↦ subst (λ (x : TheoremView). Fits known x) (first_is (entry_of_parser d.0) t lines rest q.1) (fits_read known d.0 good q.0)
             | inr q ↦ reading_fits known last (Some d.0) lines rest t good q.1
           ]
     ]

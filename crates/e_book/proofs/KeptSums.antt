@@ -5,12 +5,12 @@ use Rattle.e_literal.specs.declared.literal.Lit.{Lit}
 use Rattle.e_deriv.specs.declared.names.Names.{Names}
 use Rattle.e_line.specs.declared.fault.What.TheVariants as limits
 use Rattle.e_line.specs.declared.literal.RawLit.{RawLit}
-use Rattle.e_book.specs.declared.draft.TheoremParser.{TheoremParser}
+use Rattle.e_book.specs.declared.parser.TheoremParser.{TheoremParser}
 use Rattle.e_line.specs.Reading.{◌>>=◌}
 use Rattle.e_line.specs.Limits.{most_terms, within, monomials, count_monomials}
 use Rattle.e_names.specs.Scope.{lit_in}
 use Rattle.e_line.specs.LineLimits.{count_monos, few_monos}
-use Rattle.e_book.specs.Steps.{terms_behind, terms_after, with_terms}
+use Rattle.e_book.specs.Steps.{terms_after_raw, terms_after, with_terms}
 use Rattle.e_book.proofs.Answered.{within_ok}
 use Rattle.e_line.proofs.Bound.{bind_ok, ok_is, read_ok}
 use Rattle.e_names.proofs.ShortLits.{count_first}
@@ -28,12 +28,12 @@ unfolding with_terms
 terms_added d e raws h =
     let n = d.terms + count_monos raws in
     let then : ℕ → TheoremParser = λ n. record d { terms = n } in
-    let f = bind_ok (few_monos raws) (λ few. terms_behind d.terms raws >>= λ n. read_ok (then n)) e h in
-    let t = bind_ok (terms_behind d.terms raws) (λ n. read_ok (then n)) e f.2 in
+    let f = bind_ok (few_monos raws) (λ few. terms_after_raw d.terms raws >>= λ n. read_ok (then n)) e h in
+    let t = bind_ok (terms_after_raw d.terms raws) (λ n. read_ok (then n)) e f.2 in
     let w = bind_ok (within n most_terms limits.Terms) (λ few. read_ok n) t.0 t.1 in
     record { few = few_ok raws f.0 f.1; within = within_ok n most_terms limits.Terms w.0 w.1; is = ap then (ok_is n t.0 w.2) ∙ ok_is (then t.0) e t.2 }
 
--- what stands behind more monomials
+-- what stands after more monomials
 pub terms_within : (n m : ℕ) (ls : List Lit) → terms_after n ls ≡ Ok m → (n + count_monomials ls ≤ most_terms) × (n + count_monomials ls ≡ m)
 terms_within n m ls h =
     let k = n + count_monomials ls in

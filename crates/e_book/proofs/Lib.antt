@@ -7,7 +7,7 @@ pub mod SplitCounts
 pub mod KeptSums
 pub mod FittingScripts
 pub mod OpenBlocks
-pub mod Drafts
+pub mod ParserFits
 pub mod KeptBlocks
 pub mod Keeps
 pub mod Renaming

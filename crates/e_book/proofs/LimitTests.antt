@@ -9,7 +9,7 @@ use Rattle.e_line.specs.declared.fault.What.{What}
 use Rattle.e_line.specs.declared.fault.What.TheVariants as limits
 use Rattle.e_line.specs.declared.literal.RawLit.{RawLit}
 use Rattle.e_line.specs.declared.raw_line.RawLine.{RawLine}
-use Rattle.e_book.specs.declared.draft.TheoremParser.{TheoremParser}
+use Rattle.e_book.specs.declared.parser.TheoremParser.{TheoremParser}
 use Rattle.e_line.specs.Reading.{◌>>=◌}
 use Rattle.e_names.specs.TitledStatements.{TitledStatement}
 use Rattle.e_line.specs.Limits.{most_of, most_steps, most_depth, most_facts, most_terms, most_blanks, within}
@@ -85,7 +85,7 @@ pub test : (known : List TitledStatement) (r : Result TheoremParser FaultKind) (
 test known r n a most what ps h =
     by_test (λ (o f : Bool). Alike known (limited o what >>= λ few. r) (kept ((f, what) ∷ ps) n)) a most refl h
 
--- the same, where more is read behind it
+-- the same, where more is read after it
 pub test_in : {A : Type 0} (known : List TitledStatement) (q : Result A FaultKind) (r : A → Result TheoremParser FaultKind) (n : Open) (a most : ℕ) (what : What) (ps : Tests) → (a ≤ most → Alike known (q >>= r) (kept ps n))
     → Alike known ((within a most what >>= λ few. q) >>= r) (kept ((leb a most, what) ∷ ps) n)
 test_in {A} known q r n a most what ps h =
@@ -149,12 +149,12 @@ pub pass_terms : (known : List TitledStatement) (r : Result TheoremParser FaultK
 pass_terms known r n m b few blanks h =
     pass_le known r n m most_terms limits.Terms (blank_tests b) few (pass_le known r n b most_blanks limits.Blanks [] blanks h)
 
--- those behind the limit of facts, on a line without literals of magnitudes
+-- those after the limit of facts, on a line without literals of magnitudes
 pub pass_rest : (known : List TitledStatement) (r : Result TheoremParser FaultKind) (n : Open) (raws : List RawLit) (m b : ℕ) → are_short raws ≡ true → are_small raws ≡ true → m ≤ most_terms → b ≤ most_blanks → Alike known r (read_ok n)
     → Alike known r (kept (literal_tests raws m b) n)
 pass_rest known r n raws m b short small few blanks h = pass_literals known r n raws m b short small (pass_terms known r n m b few blanks h)
 
--- those behind the limits of objects, on a line that nothing can be wrong with
+-- those after the limits of objects, on a line that nothing can be wrong with
 pub pass_later : (known : List TitledStatement) (r : Result TheoremParser FaultKind) (n : Open) (s d k m : ℕ) → s ≤ most_steps → d ≤ most_depth → k ≤ most_facts → m ≤ most_terms → Alike known r (read_ok n) → Alike known r (kept (step_tests [] s d k m 0) n)
 pass_later known r n s d k m steps depth facts terms h =
     pass_le known r n s most_steps limits.Steps (depth_tests [] d k m 0) steps
@@ -181,7 +181,7 @@ pub both_in : {A B : Type 0} (known : List TitledStatement) (r : Result A FaultK
 both_in {A} {B} known (Ok x) p f g k h = h x refl
 both_in {A} {B} known (Err e) p f g k h = refl
 
--- the same, where nothing is asked behind it
+-- the same, where nothing is asked after it
 pub both_read : {A : Type 0} (known : List TitledStatement) (r : Result A FaultKind) (f : A → Result TheoremParser FaultKind) (g : A → Result Open FaultKind) → ((x : A) → r ≡ Ok x → Alike known (f x) (g x)) → Alike known (r >>= f) (r >>= g)
 both_read {A} known (Ok x) f g h = h x refl
 both_read {A} known (Err e) f g h = refl

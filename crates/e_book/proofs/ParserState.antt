@@ -1,4 +1,4 @@
--- What the parser holds while the lines of a theorem come, and what they have said: the one is told by the other.
+-- What the parser holds while the lines of a theorem come, and what they have said: the one follows from the other.
 use Rattle.std.proofs.Common.{◌≡◌, ℕ, ◌+◌, ◌≤◌, true, false, List, [], ◌∷◌, length, Result, Ok, Err, sym, ap, subst, ◌∙◌}
 use Rattle.e_literal.specs.declared.literal.Lit.{Lit}
 use Rattle.e_deriv.specs.declared.names.Names.{Names}
@@ -7,15 +7,15 @@ use Rattle.e_deriv.specs.PlainStep.{PlainStep, all_before}
 use Rattle.e_line.specs.declared.fault.FaultKind.{FaultKind}
 use Rattle.e_book.specs.declared.blocks.OpenBlock.{OpenBlock}
 use Rattle.e_book.specs.declared.blocks.BlockKind.{BlockKind}
-use Rattle.e_book.specs.declared.blocks.BlockKind.TheVariants as opened
-use Rattle.e_book.specs.declared.draft.TheoremParser.{TheoremParser}
-use Rattle.e_book.specs.declared.draft.Section.{Section}
-use Rattle.e_book.specs.declared.draft.Section.TheVariants as places
+use Rattle.e_book.specs.declared.blocks.BlockKind.TheVariants as kind
+use Rattle.e_book.specs.declared.parser.TheoremParser.{TheoremParser}
+use Rattle.e_book.specs.declared.parser.Section.{Section}
+use Rattle.e_book.specs.declared.parser.Section.TheVariants as places
 use Rattle.e_names.specs.TitledStatements.{TitledStatement}
 use Rattle.e_line.specs.Limits.{most_steps, most_depth, most_facts, most_terms, count_monomials}
 use Rattle.e_book.specs.LineLimits.{FewNamed}
 use Rattle.e_book.specs.Steps.{FitsOuter}
-use Rattle.e_book.specs.DraftViews.{statement_of_draft, entry_of_draft, script_of_close}
+use Rattle.e_book.specs.ParserViews.{statement_of_parser, entry_of_parser, script_of_close}
 use Rattle.e_book.specs.Open.{Head, Opener, ByClaim, BySuperposition, ByCase, ByElse, Enclosing, Open, Stating, Proving, Splitting, Proved, Ended}
 use Rattle.e_book.specs.Counts.{LineContext, after_steps, first_context, count_lines, lines_around}
 use Rattle.e_book.specs.Grammar.{is_empty}
@@ -24,23 +24,23 @@ use Rattle.e_line.proofs.Bound.{read_ok}
 -- ---- what has been said
 
 abbrev pub opener_of : BlockKind → Opener
-opener_of (opened.Claim shown) = ByClaim shown
-opener_of (opened.Superpose form names shown) = BySuperposition form names shown
-opener_of (opened.First lit) = ByCase lit
-opener_of (opened.Second lit first) = ByElse lit first
+opener_of (kind.Claim shown) = ByClaim shown
+opener_of (kind.Superpose form names shown) = BySuperposition form names shown
+opener_of (kind.First lit) = ByCase lit
+opener_of (kind.Second lit first) = ByElse lit first
 
 abbrev pub around_of : List OpenBlock → List Enclosing
 around_of [] = []
-around_of (o ∷ os) = record { steps = o.steps; opener = opener_of o.opened } ∷ around_of os
+around_of (o ∷ os) = record { steps = o.steps; opener = opener_of o.kind } ∷ around_of os
 
 abbrev pub head_of : TheoremParser → Head
-head_of d = record { title = d.title; names = d.names; statement = statement_of_draft d }
+head_of d = record { title = d.title; names = d.names; statement = statement_of_parser d }
 
 abbrev pub open_there : TheoremParser → Section → Open
-open_there d places.Proving = Proving (head_of d) (around_of d.outers) d.steps
-open_there d places.Splitting = Splitting (head_of d) (around_of d.outers)
+open_there d places.Proving = Proving (head_of d) (around_of d.blocks) d.steps
+open_there d places.Splitting = Splitting (head_of d) (around_of d.blocks)
 open_there d places.Closed = Proved (head_of d) (all_before d.steps (script_of_close d.close))
-open_there d places.Done = Ended (entry_of_draft d)
+open_there d places.Done = Ended (entry_of_parser d)
 open_there d place = Stating (head_of d)
 
 abbrev pub open_of : TheoremParser → Open
@@ -62,9 +62,9 @@ pub record OuterTied (known : List TitledStatement) (h : Head) (os : List OpenBl
   pub counted : Counted o.in_scope o.facts o.terms (context_in known h os o.steps)
   pub few : FitsOuter o
 
-abbrev pub OutersTied : List TitledStatement → Head → List OpenBlock → Type 0
-OutersTied known h [] = Unit {0}
-OutersTied known h (o ∷ os) = OuterTied known h os o × OutersTied known h os
+abbrev pub BlocksTied : List TitledStatement → Head → List OpenBlock → Type 0
+BlocksTied known h [] = Unit {0}
+BlocksTied known h (o ∷ os) = OuterTied known h os o × BlocksTied known h os
 
 -- an open block with its counts, all within the limits
 pub record BlockTied (known : List TitledStatement) (h : Head) (os : List OpenBlock) (ss : List PlainStep) (ns : Names) (n k m : ℕ) : Type 0 where
@@ -74,16 +74,16 @@ pub record BlockTied (known : List TitledStatement) (h : Head) (os : List OpenBl
   pub few_terms : m ≤ most_terms
   pub lines : n ≡ count_lines ss + lines_around (around_of os)
   pub short : n ≤ most_steps
-  pub outers : OutersTied known h os
+  pub blocks : BlocksTied known h os
   pub shallow : length os + 1 ≤ most_depth
 
 abbrev pub BlockOf : List TitledStatement → TheoremParser → Type 0
-BlockOf known d = BlockTied known (head_of d) d.outers d.steps d.in_scope d.lines d.facts d.terms
+BlockOf known d = BlockTied known (head_of d) d.blocks d.steps d.in_scope d.lines d.facts d.terms
 
 -- no line of the proof has come
 pub record Unproved (given : List Lit) (ss : List PlainStep) (os : List OpenBlock) (n k m : ℕ) : Type 0 where
   pub steps : ss ≡ []
-  pub outers : os ≡ []
+  pub blocks : os ≡ []
   pub lines : n ≡ 0
   pub facts : k ≡ length given
   pub terms : m ≡ count_monomials given
@@ -91,7 +91,7 @@ pub record Unproved (given : List Lit) (ss : List PlainStep) (os : List OpenBloc
   pub few_terms : m ≤ most_terms
 
 abbrev pub UnprovedOf : TheoremParser → Type 0
-UnprovedOf d = Unproved d.given d.steps d.outers d.lines d.facts d.terms
+UnprovedOf d = Unproved d.given d.steps d.blocks d.lines d.facts d.terms
 
 -- which parts of the statement stand already
 abbrev pub Stands : Section → TheoremParser → Type 0
@@ -119,7 +119,7 @@ Alike known (Ok e) (Err k) = ⊥
 Alike known (Err j) (Ok n) = ⊥
 Alike known (Err j) (Err k) = j ≡ k
 
--- a draft at this place
+-- a parser at this place
 pub tied_there : (known : List TitledStatement) (e : TheoremParser) (n : Open) (p : Section) → e.place ≡ p → FewNamed e.names → Body known p e → open_there e p ≡ n → Alike known (read_ok e) (read_ok n)
 tied_there known e n p at few body is =
     (ap (λ (q : Section). open_there e q) at ∙ is, record { names = few; body = subst (λ (q : Section). Body known q e) (sym at) body })

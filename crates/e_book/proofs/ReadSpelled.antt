@@ -29,14 +29,14 @@ use Rattle.e_line.specs.declared.superposes.RawSuperpose.{RawSuperpose}
 use Rattle.e_line.specs.declared.applies.RawApply.{RawApply}
 use Rattle.e_book.specs.declared.blocks.OpenBlock.{OpenBlock}
 use Rattle.e_book.specs.declared.blocks.BlockKind.{BlockKind}
-use Rattle.e_book.specs.declared.blocks.BlockKind.TheVariants as opened
+use Rattle.e_book.specs.declared.blocks.BlockKind.TheVariants as kind
 use Rattle.e_line.specs.declared.raw_line.RawLine.{RawLine}
 use Rattle.e_line.specs.declared.raw_line.RawLine.TheVariants as rawlines
 use Rattle.e_book.specs.declared.steps.CloseLine.{CloseLine}
 use Rattle.e_book.specs.declared.steps.CloseLine.TheVariants as closes
-use Rattle.e_book.specs.declared.draft.Section.{Section}
-use Rattle.e_book.specs.declared.draft.Section.TheVariants.{Declaring, Giving, Making, Showing, Proving, Splitting, Closed, Done}
-use Rattle.e_book.specs.declared.draft.TheoremParser.{TheoremParser}
+use Rattle.e_book.specs.declared.parser.Section.{Section}
+use Rattle.e_book.specs.declared.parser.Section.TheVariants.{Declaring, Giving, Making, Showing, Proving, Splitting, Closed, Done}
+use Rattle.e_book.specs.declared.parser.TheoremParser.{TheoremParser}
 use Rattle.e_line.specs.Reading.{◌>>=◌, with_front}
 use Rattle.e_line.specs.Limits.{most_theorems, most_of, most_steps, most_depth, most_facts, most_blanks, what_of, within, monomials}
 use Rattle.e_book.specs.Blocks.{made_in}
@@ -48,7 +48,7 @@ use Rattle.e_line.specs.RawLines.{raw_line_of}
 use Rattle.e_line.specs.LineLimits.{count_monos, few_monos}
 use Rattle.e_book.specs.LineLimits.{few_objects}
 use Rattle.e_book.specs.Steps.{terms_after, with_terms, allowed, declared, with_step, built, used_by, applied, interrupted, deeper, claimed, superposed, split, counted_from, resumed, closed_inside, closed, shut, stepped, step, begin, begun}
-use Rattle.e_book.specs.DraftViews.{script_of_close, statement_of_draft, entry_of_draft}
+use Rattle.e_book.specs.ParserViews.{script_of_close, statement_of_parser, entry_of_parser}
 use Rattle.e_book.specs.TheoremViews.{TheoremView}
 use Rattle.e_book.specs.Grammar.{is_skipped, put_at}
 use Rattle.e_book.specs.Book.{line_step, is_last, is_done, read_from}
@@ -58,7 +58,7 @@ use Rattle.e_names.specs.HasSpelling.{is_place, is_named_by_title}
 use Rattle.e_book.specs.HasSpelling.{HasSpelling, is_plain, names_theorems}
 use Rattle.e_book.proofs.Answered.{within_ok, passes, untaken, put_ok, answered, pair, first_is, skip_or, Answer}
 use Rattle.e_line.proofs.Bound.{bind_ok, ok_is, read_ok, each_length}
-use Rattle.e_book.proofs.Drafts.{Good}
+use Rattle.e_book.proofs.ParserFits.{Good}
 use Rattle.e_book.proofs.Keeps.{reading_fits, fits_read, no_title}
 use Rattle.e_names.proofs.SaidForms.{Said, form_said}
 use Rattle.e_book.proofs.KeptSums.{terms_added}
@@ -103,18 +103,18 @@ is_plain_close known (closes.Qed objects) = true
 is_plain_close known closes.Contradiction = true
 is_plain_close known (closes.Cases lit first second) = is_said known first && is_said known second
 
-abbrev is_plain_opened : List TitledStatement → BlockKind → Bool
-is_plain_opened known (opened.Claim shown) = ltb 0 (length shown)
-is_plain_opened known (opened.Superpose form names shown) = list_all is_name names && ltb 0 (length shown)
-is_plain_opened known (opened.First lit) = true
-is_plain_opened known (opened.Second lit first) = is_said known first
+abbrev is_plain_kind : List TitledStatement → BlockKind → Bool
+is_plain_kind known (kind.Claim shown) = ltb 0 (length shown)
+is_plain_kind known (kind.Superpose form names shown) = list_all is_name names && ltb 0 (length shown)
+is_plain_kind known (kind.First lit) = true
+is_plain_kind known (kind.Second lit first) = is_said known first
 
 abbrev is_plain_outer : List TitledStatement → OpenBlock → Bool
-is_plain_outer known o = list_all (is_plain_step known) o.steps && is_plain_opened known o.opened
+is_plain_outer known o = list_all (is_plain_step known) o.steps && is_plain_kind known o.kind
 
-record PlainBlocks (known : List TitledStatement) (steps : List PlainStep) (outers : List OpenBlock) (close : CloseLine) : Type 0 where
+record PlainBlocks (known : List TitledStatement) (steps : List PlainStep) (blocks : List OpenBlock) (close : CloseLine) : Type 0 where
   inside : list_all (is_plain_step known) steps ≡ true
-  around : list_all (is_plain_outer known) outers ≡ true
+  around : list_all (is_plain_outer known) blocks ≡ true
   shut : is_plain_close known close ≡ true
 
 one_more : (known : List TitledStatement) (ss : List PlainStep) (s : PlainStep) → list_all (is_plain_step known) ss ≡ true → is_plain_step known s ≡ true → list_all (is_plain_step known) (ss ++ s ∷ []) ≡ true
@@ -188,7 +188,7 @@ pub record Spelled (known : List TitledStatement) (d : TheoremParser) : Type 0 w
   title : is_title d.title ≡ true
   naming : Naming d.names
   some : SomeShown d.place d.shown
-  blocks : PlainBlocks known d.steps d.outers d.close
+  blocks : PlainBlocks known d.steps d.blocks d.close
 
 declared_is : (ns : Names) (sort : Sort) (new : List (List ℕ)) (names : Names) → declared ns sort new ≡ Ok names → with_names ns sort (names_of_sort ns sort ++ new) ≡ names
 unfolding declared
@@ -242,7 +242,7 @@ spelled_shown known d e raws g said h =
     let x-is : then (d.shown ++ ls.0) ≡ e = ap then (ok_is (d.shown ++ ls.0) all.0 ls.2) ∙ ok_is (then all.0) e f.2 in
     subst (λ (y : TheoremParser). Spelled known y) x-is (record { few = g.few; title = g.title; naming = g.naming; some = omega (arith, n, said, length-append d.shown ls.0); blocks = g.blocks })
 
--- with other names in scope, and with other counts, at a place behind the show lines
+-- with other names in scope, and with other counts, at a place after the show lines
 moved : (known : List TitledStatement) (d : TheoremParser) (p : Section) (in_scope : Names) (lines facts terms : ℕ) → Spelled known d → SomeShown p d.shown
     → Spelled known (record d { in_scope = in_scope; lines = lines; facts = facts; terms = terms; place = p })
 moved known d p in_scope lines facts terms g some = record { few = g.few; title = g.title; naming = g.naming; some = some; blocks = g.blocks }
@@ -345,17 +345,17 @@ at_close p shown a s = absurd cc
 spelled_proof : (known : List TitledStatement) (d e : TheoremParser) → Spelled known d → allowed d.place rawlines.Proof ≡ true → stepped known d rawlines.Proof ≡ Ok e → Spelled known e
 unfolding stepped
 spelled_proof known d e g a h =
-    let names = declared_names (stated (statement_of_draft d)) d.names in
+    let names = declared_names (stated (statement_of_parser d)) d.names in
     subst (λ (y : TheoremParser). Spelled known y) (ok_is (record d { in_scope = names; place = Proving }) e h) (moved known d Proving names d.lines d.facts d.terms g (at_proof d.place d.shown a g.some))
 
 -- ---- blocks inside blocks
 
-spelled_deeper : (known : List TitledStatement) (d e : TheoremParser) (o : BlockKind) (n : ℕ) → Spelled known d → is_plain_opened known o ≡ true → deeper d o n ≡ Ok e → Spelled known e
+spelled_deeper : (known : List TitledStatement) (d e : TheoremParser) (o : BlockKind) (n : ℕ) → Spelled known d → is_plain_kind known o ≡ true → deeper d o n ≡ Ok e → Spelled known e
 unfolding deeper
 spelled_deeper known d e o n g p h =
     let x : TheoremParser = interrupted d o n in
-    let a = bind_ok (within (d.lines + 1) most_steps limits.Steps) (λ few. within (length d.outers + 2) most_depth limits.Depth >>= λ shallow. within (d.facts + n) most_facts limits.Facts >>= λ none. read_ok x) e h in
-    let b = bind_ok (within (length d.outers + 2) most_depth limits.Depth) (λ shallow. within (d.facts + n) most_facts limits.Facts >>= λ none. read_ok x) e a.2 in
+    let a = bind_ok (within (d.lines + 1) most_steps limits.Steps) (λ few. within (length d.blocks + 2) most_depth limits.Depth >>= λ shallow. within (d.facts + n) most_facts limits.Facts >>= λ none. read_ok x) e h in
+    let b = bind_ok (within (length d.blocks + 2) most_depth limits.Depth) (λ shallow. within (d.facts + n) most_facts limits.Facts >>= λ none. read_ok x) e a.2 in
     let c = bind_ok (within (d.facts + n) most_facts limits.Facts) (λ none. read_ok x) e b.2 in
     subst (λ (y : TheoremParser). Spelled known y) (ok_is x e c.2)
     (record { few = g.few; title = g.title; naming = g.naming; some = g.some; blocks = record { inside = refl; around = rw (g.blocks.inside, p, g.blocks.around) refl; shut = g.blocks.shut } })
@@ -363,12 +363,12 @@ spelled_deeper known d e o n g p h =
 spelled_claim : (known : List TitledStatement) (d e : TheoremParser) (raws : List RawLit) → Spelled known d → 0 < length raws → stepped known d (rawlines.Claim raws) ≡ Ok e → Spelled known e
 unfolding stepped claimed
 spelled_claim known d e raws g said h =
-    let ls = bind_ok (lits_in d.in_scope raws) (λ ls. deeper d (opened.Claim ls) 0 >>= λ x. few_monos raws >>= λ few. read_ok x) e h in
-    let x = bind_ok (deeper d (opened.Claim ls.0) 0) (λ x. few_monos raws >>= λ few. read_ok x) e ls.2 in
+    let ls = bind_ok (lits_in d.in_scope raws) (λ ls. deeper d (kind.Claim ls) 0 >>= λ x. few_monos raws >>= λ few. read_ok x) e h in
+    let x = bind_ok (deeper d (kind.Claim ls.0) 0) (λ x. few_monos raws >>= λ few. read_ok x) e ls.2 in
     let f = bind_ok (few_monos raws) (λ few. read_ok x.0) e x.2 in
     let n = each_length (lit_in d.in_scope) raws ls.0 ls.1 in
     let some : ltb 0 (length ls.0) ≡ true = lt-ltb _ _ (omega (arith, n, said)) in
-    subst (λ (y : TheoremParser). Spelled known y) (ok_is x.0 e f.2) (spelled_deeper known d x.0 (opened.Claim ls.0) 0 g some x.1)
+    subst (λ (y : TheoremParser). Spelled known y) (ok_is x.0 e f.2) (spelled_deeper known d x.0 (kind.Claim ls.0) 0 g some x.1)
 
 abbrev pair_of : Superpose → List Lit → Superpose × List Lit
 pair_of form ls = (form, ls)
@@ -388,9 +388,9 @@ spelled_superpose known d e raw g names said h =
     let after = named d.in_scope superposing.sorts_copied raw.new in
     let gives : Superpose × List Lit → List Lit = λ p. superposing.gives_of_superposition p.0 (scope_of_names d.in_scope) in
     let then : TheoremParser → ℕ → TheoremParser = λ x n. record x { in_scope = after; terms = n } in
-    let p = bind_ok (superpose_in d.in_scope raw) (λ p. few_objects after >>= λ objects. deeper d (opened.Superpose p.0 raw.new p.1) (length (gives p)) >>= λ x. few_monos raw.shown >>= λ few. terms_after x.terms (gives p) >>= λ n. read_ok (then x n)) e h in
+    let p = bind_ok (superpose_in d.in_scope raw) (λ p. few_objects after >>= λ objects. deeper d (kind.Superpose p.0 raw.new p.1) (length (gives p)) >>= λ x. few_monos raw.shown >>= λ few. terms_after x.terms (gives p) >>= λ n. read_ok (then x n)) e h in
     let given = gives p.0 in
-    let o = opened.Superpose p.0.0 raw.new p.0.1 in
+    let o = kind.Superpose p.0.0 raw.new p.0.1 in
     let w = bind_ok (few_objects after) (λ objects. deeper d o (length given) >>= λ x. few_monos raw.shown >>= λ few. terms_after x.terms given >>= λ n. read_ok (then x n)) e p.2 in
     let x = bind_ok (deeper d o (length given)) (λ x. few_monos raw.shown >>= λ few. terms_after x.terms given >>= λ n. read_ok (then x n)) e w.2 in
     let f = bind_ok (few_monos raw.shown) (λ few. terms_after x.0.terms given >>= λ n. read_ok (then x.0 n)) e x.2 in
@@ -402,9 +402,9 @@ spelled_superpose known d e raw g names said h =
 spelled_split : (known : List TitledStatement) (d e : TheoremParser) (raw : RawLit) → Spelled known d → stepped known d (rawlines.Cases raw) ≡ Ok e → Spelled known e
 unfolding stepped split
 spelled_split known d e raw g h =
-    let l = bind_ok (lit_in d.in_scope raw) (λ l. deeper d (opened.First l) 1 >>= λ x. with_terms x (raw ∷ [])) e h in
-    let x = bind_ok (deeper d (opened.First l.0) 1) (λ x. with_terms x (raw ∷ [])) e l.2 in
-    spelled_terms known x.0 e (raw ∷ []) (spelled_deeper known d x.0 (opened.First l.0) 1 g refl x.1) x.2
+    let l = bind_ok (lit_in d.in_scope raw) (λ l. deeper d (kind.First l) 1 >>= λ x. with_terms x (raw ∷ [])) e h in
+    let x = bind_ok (deeper d (kind.First l.0) 1) (λ x. with_terms x (raw ∷ [])) e l.2 in
+    spelled_terms known x.0 e (raw ∷ []) (spelled_deeper known d x.0 (kind.First l.0) 1 g refl x.1) x.2
 
 spelled_else : (known : List TitledStatement) (d e : TheoremParser) → Spelled known d → allowed d.place rawlines.Else ≡ true → stepped known d rawlines.Else ≡ Ok e → Spelled known e
 unfolding stepped
@@ -427,7 +427,7 @@ spelled_resumed : (known : List TitledStatement) (d e : TheoremParser) (o : Open
 unfolding resumed counted_from
 spelled_resumed known d e o os shown s g inside around p h =
     let count : ℕ → TheoremParser = λ n. record d { facts = o.facts + length shown; terms = n } in
-    let then : TheoremParser → TheoremParser = λ x. record x { steps = o.steps ++ s ∷ []; in_scope = o.in_scope; outers = os } in
+    let then : TheoremParser → TheoremParser = λ x. record x { steps = o.steps ++ s ∷ []; in_scope = o.in_scope; blocks = os } in
     let counting = within (o.facts + length shown) most_facts limits.Facts >>= λ few. terms_after o.terms shown >>= λ n. read_ok (count n) in
     let x = bind_ok counting (λ x. read_ok (then x)) e h in
     let f = bind_ok (within (o.facts + length shown) most_facts limits.Facts) (λ few. terms_after o.terms shown >>= λ n. read_ok (count n)) x.0 x.1 in
@@ -436,25 +436,25 @@ spelled_resumed known d e o os shown s g inside around p h =
     (record { few = g.few; title = g.title; naming = g.naming; some = g.here; blocks = record { inside = one_more known o.steps s inside p; around = around; shut = g.shut } })
 
 abbrev shut_last : TheoremParser → List PlainStep → CloseLine → TheoremParser
-shut_last d steps close = record d { steps = steps; outers = []; close = close; place = Closed }
+shut_last d steps close = record d { steps = steps; blocks = []; close = close; place = Closed }
 
--- behind the first block of a split
+-- after the first block of a split
 abbrev at_second : TheoremParser → OpenBlock → List OpenBlock → Lit → Script → TheoremParser
 at_second d o os lit inner =
-    record d { steps = []; in_scope = o.in_scope; facts = o.facts + 1; terms = o.terms + monomials lit.atom; outers = record o { opened = opened.Second lit inner } ∷ os; place = Splitting }
+    record d { steps = []; in_scope = o.in_scope; facts = o.facts + 1; terms = o.terms + monomials lit.atom; blocks = record o { kind = kind.Second lit inner } ∷ os; place = Splitting }
 
 -- a block is closed inside one that was interrupted; the second block of a split closes that one again
-spelled_inside : (known : List TitledStatement) (d e : TheoremParser) (o : OpenBlock) (os : List OpenBlock) (inner : Script) (by : BlockKind) → HeadSpelled known d → list_all (is_plain_step known) o.steps ≡ true → is_plain_opened known by ≡ true → list_all (is_plain_outer known) os ≡ true
+spelled_inside : (known : List TitledStatement) (d e : TheoremParser) (o : OpenBlock) (os : List OpenBlock) (inner : Script) (by : BlockKind) → HeadSpelled known d → list_all (is_plain_step known) o.steps ≡ true → is_plain_kind known by ≡ true → list_all (is_plain_outer known) os ≡ true
     → is_said known inner ≡ true → ((close : CloseLine) → is_plain_close known close ≡ true → closed d os o.steps close ≡ Ok e → Spelled known e)
     → closed_inside d o os inner (λ c. closed d os o.steps c) by ≡ Ok e → Spelled known e
-spelled_inside known d e o os inner (opened.Claim shown) g inside p around q again h = spelled_resumed known d e o os shown (Claimed shown inner) g inside around (rw (p, q) refl) h
-spelled_inside known d e o os inner (opened.Superpose form names shown) g inside p around q again h =
+spelled_inside known d e o os inner (kind.Claim shown) g inside p around q again h = spelled_resumed known d e o os shown (Claimed shown inner) g inside around (rw (p, q) refl) h
+spelled_inside known d e o os inner (kind.Superpose form names shown) g inside p around q again h =
     let n = and_parts (list_all is_name names) (ltb 0 (length shown)) p in
     spelled_resumed known d e o os shown (Copied form names shown [] inner) g inside around (rw (n.0, n.1, q) refl) h
-spelled_inside known d e o os inner (opened.First lit) g inside p around q again h =
+spelled_inside known d e o os inner (kind.First lit) g inside p around q again h =
     subst (λ (y : TheoremParser). Spelled known y) (ok_is (at_second d o os lit inner) e h)
     (record { few = g.few; title = g.title; naming = g.naming; some = g.some; blocks = record { inside = refl; around = rw (inside, q, around) refl; shut = g.shut } })
-spelled_inside known d e o os inner (opened.Second lit first) g inside p around q again h = again (closes.Cases lit first inner) (rw (p, q) refl) h
+spelled_inside known d e o os inner (kind.Second lit first) g inside p around q again h = again (closes.Cases lit first inner) (rw (p, q) refl) h
 
 spelled_closed : (known : List TitledStatement) (d e : TheoremParser) (os : List OpenBlock) (ss : List PlainStep) (close : CloseLine) → HeadSpelled known d → list_all (is_plain_outer known) os ≡ true → list_all (is_plain_step known) ss ≡ true → is_plain_close known close ≡ true
     → closed d os ss close ≡ Ok e → Spelled known e
@@ -464,20 +464,20 @@ spelled_closed known d e [] ss close g around inside k h =
     (record { few = g.few; title = g.title; naming = g.naming; some = g.some; blocks = record { inside = inside; around = refl; shut = k } })
 spelled_closed known d e (o ∷ os) ss close g around inside k h =
     let p = and_parts (is_plain_outer known o) (list_all (is_plain_outer known) os) around in
-    let q = and_parts (list_all (is_plain_step known) o.steps) (is_plain_opened known o.opened) p.0 in
-    spelled_inside known d e o os (all_before ss (script_of_close close)) o.opened g q.0 q.1 p.1 (plain_script known ss close inside k) (λ c kc hc. spelled_closed known d e os o.steps c g p.1 q.0 kc hc) h
+    let q = and_parts (list_all (is_plain_step known) o.steps) (is_plain_kind known o.kind) p.0 in
+    spelled_inside known d e o os (all_before ss (script_of_close close)) o.kind g q.0 q.1 p.1 (plain_script known ss close inside k) (λ c kc hc. spelled_closed known d e os o.steps c g p.1 q.0 kc hc) h
 
 spelled_shut : (known : List TitledStatement) (d e : TheoremParser) (close : CloseLine) → Spelled known d → 0 < length d.shown → is_plain_close known close ≡ true → shut d close ≡ Ok e → Spelled known e
 unfolding shut
 spelled_shut known d e close g some k h =
     let x : TheoremParser = record d { lines = d.lines + 1 } in
-    let w = bind_ok (within (d.lines + 1) most_steps limits.Steps) (λ few. closed x d.outers d.steps close) e h in
-    spelled_closed known x e d.outers d.steps close (record { few = g.few; title = g.title; naming = g.naming; some = some; here = g.some; shut = g.blocks.shut }) g.blocks.around g.blocks.inside k w.2
+    let w = bind_ok (within (d.lines + 1) most_steps limits.Steps) (λ few. closed x d.blocks d.steps close) e h in
+    spelled_closed known x e d.blocks d.steps close (record { few = g.few; title = g.title; naming = g.naming; some = some; here = g.some; shut = g.blocks.shut }) g.blocks.around g.blocks.inside k w.2
 
 spelled_qed : (known : List TitledStatement) (d e : TheoremParser) (ns : List (List ℕ)) → Spelled known d → allowed d.place (rawlines.Qed ns) ≡ true → stepped known d (rawlines.Qed ns) ≡ Ok e → Spelled known e
 unfolding stepped
 spelled_qed known d e ns g a h =
-    let os = bind_ok (qed_in d.in_scope (made_in d.outers d.made) ns) (λ os. shut d (closes.Qed os)) e h in
+    let os = bind_ok (qed_in d.in_scope (made_in d.blocks d.made) ns) (λ os. shut d (closes.Qed os)) e h in
     spelled_shut known d e (closes.Qed os.0) g (at_qed d.place d.shown ns a g.some) refl os.2
 
 spelled_contradiction : (known : List TitledStatement) (d e : TheoremParser) → Spelled known d → allowed d.place rawlines.Contradiction ≡ true → stepped known d rawlines.Contradiction ≡ Ok e → Spelled known e
@@ -531,7 +531,7 @@ abbrev SpelledSoFar : List TitledStatement → Option TheoremParser → Type 0
 SpelledSoFar known None = Unit {0}
 SpelledSoFar known (Some d) = Spelled known d
 
-spelled_line : (known : List TitledStatement) (draft : Option TheoremParser) (words : List (List ℕ)) (e : TheoremParser) → SpelledSoFar known draft → line_step known draft words ≡ Ok e → Spelled known e
+spelled_line : (known : List TitledStatement) (parser : Option TheoremParser) (words : List (List ℕ)) (e : TheoremParser) → SpelledSoFar known parser → line_step known parser words ≡ Ok e → Spelled known e
 unfolding line_step
 spelled_line known None words e g h = let f = bind_ok (raw_line_of words) (λ f. begin known f) e h in spelled_begin known f.0 e (form_said words f.0 f.1) f.2
 spelled_line known (Some d) words e g h = let f = bind_ok (raw_line_of words) (λ f. step known d f) e h in spelled_next known d e f.0 g (form_said words f.0 f.1) f.2
@@ -548,24 +548,24 @@ at_last : (p : Section) (shown : List Lit) → is_last p ≡ true → SomeShown 
 at_last Done shown a s = s
 at_last p shown a s = absurd cc
 
-pub all_named : (known : List TitledStatement) (d : TheoremParser) → Spelled known d → is_done d ≡ true → Named known (entry_of_draft d)
+pub all_named : (known : List TitledStatement) (d : TheoremParser) → Spelled known d → is_done d ≡ true → Named known (entry_of_parser d)
 all_named known d g a = record { few = g.few; title = g.title; naming = g.naming; some = at_last d.place d.shown a g.some; said = plain_script known d.steps d.close g.blocks.inside g.blocks.shut }
 
-reading_names : (known : List TitledStatement) (last : ℕ) (draft : Option TheoremParser) (lines rest : List (Result LineView LineFault)) (t : TheoremView) → SpelledSoFar known draft → read_from known last draft lines ≡ answered (pair t rest) → Named known t
+reading_names : (known : List TitledStatement) (last : ℕ) (parser : Option TheoremParser) (lines rest : List (Result LineView LineFault)) (t : TheoremView) → SpelledSoFar known parser → read_from known last parser lines ≡ answered (pair t rest) → Named known t
 reading_names known last None [] rest t g e = absurd cc
 reading_names known last (Some d) [] rest t g e = absurd cc
-reading_names known last draft (Err f ∷ lines) rest t g e = absurd cc
-reading_names known last draft (Ok line ∷ lines) rest t g e =
+reading_names known last parser (Err f ∷ lines) rest t g e = absurd cc
+reading_names known last parser (Ok line ∷ lines) rest t g e =
     let words = tokens_of line.bytes in
-    let next : Result TheoremParser BookFault = put_at line.number (line_step known draft words) in
-    let then : TheoremParser → Result Answer BookFault = λ d. cond (is_done d) (answered (pair (entry_of_draft d) lines)) (read_from known last (Some d) lines) in
-    elim (skip_or (is_skipped words) (read_from known last draft lines) (next >>= then) (answered (pair t rest)) e) [
-      | inl s ↦ reading_names known last draft lines rest t g s.1
+    let next : Result TheoremParser BookFault = put_at line.number (line_step known parser words) in
+    let then : TheoremParser → Result Answer BookFault = λ d. cond (is_done d) (answered (pair (entry_of_parser d) lines)) (read_from known last (Some d) lines) in
+    elim (skip_or (is_skipped words) (read_from known last parser lines) (next >>= then) (answered (pair t rest)) e) [
+      | inl s ↦ reading_names known last parser lines rest t g s.1
       | inr s ↦
           let d = bind_ok next then (pair t rest) s.1 in
-          let good = spelled_line known draft words d.0 g (put_ok line.number (line_step known draft words) d.0 d.1) in
-          elim (skip_or (is_done d.0) (answered (pair (entry_of_draft d.0) lines)) (read_from known last (Some d.0) lines) (answered (pair t rest)) d.2) [
-            | inl q ↦ subst (λ (x : TheoremView). Named known x) (first_is (entry_of_draft d.0) t lines rest q.1) (all_named known d.0 good q.0)
+          let good = spelled_line known parser words d.0 g (put_ok line.number (line_step known parser words) d.0 d.1) in
+          elim (skip_or (is_done d.0) (answered (pair (entry_of_parser d.0) lines)) (read_from known last (Some d.0) lines) (answered (pair t rest)) d.2) [
+            | inl q ↦ subst (λ (x : TheoremView). Named known x) (first_is (entry_of_parser d.0) t lines rest q.1) (all_named known d.0 good q.0)
             | inr q ↦ reading_names known last (Some d.0) lines rest t good q.1
           ]
     ]
@@ -585,9 +585,9 @@ has_spelling known t f n =
       theorems = s.1;
     }
 
--- a draft whose last line has come
-pub done_spelled : (known : List TitledStatement) (d : TheoremParser) → Good known d → Spelled known d → is_done d ≡ true → HasSpelling known (entry_of_draft d)
-done_spelled known d good g a = has_spelling known (entry_of_draft d) (fits_read known d good a) (all_named known d g a)
+-- a parser whose last line has come
+pub done_spelled : (known : List TitledStatement) (d : TheoremParser) → Good known d → Spelled known d → is_done d ≡ true → HasSpelling known (entry_of_parser d)
+done_spelled known d good g a = has_spelling known (entry_of_parser d) (fits_read known d good a) (all_named known d g a)
 
 pub read_is_spelled : (known : List TitledStatement) (last : ℕ) (t : TheoremView) (lines rest : List (Result LineView LineFault)) → read_from known last None lines ≡ Ok (Some (t, rest)) → HasSpelling known t
 read_is_spelled known last t lines rest e = has_spelling known t (reading_fits known last None lines rest t tt e) (reading_names known last None lines rest t tt e)

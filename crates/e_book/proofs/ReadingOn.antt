@@ -18,9 +18,9 @@ use Rattle.e_line.specs.Reading.{Fails, ◌>>=◌}
 use Rattle.e_names.specs.declared.known.Known.{Known}
 use Rattle.e_names.specs.Titled.{are_notions}
 use Rattle.e_book.specs.Grammar.{is_skipped, put_at, BookFails}
-use Rattle.e_book.specs.Definitions.{BookItem, IsGoodItem, view_of}
+use Rattle.e_book.specs.Definitions.{BookItem, HasWellFormedView, view_of}
 use Rattle.e_book.specs.inner.Machine.{line_step, is_done, item_of, at_end, item_from, IsBegun, TakesWords, TakesLine, ReadsOn, end_of}
-use Rattle.e_book.proofs.ComingKept.{read_is_good}
+use Rattle.e_book.proofs.ComingKept.{read_is_well_formed}
 
 abbrev Rest : Type 0
 Rest = List (Result LineView LineFault)
@@ -60,7 +60,7 @@ worded : (known : Known) (last : ℕ) (old : Option Coming) (l : LineView) (more
 worded known last old l more h =
     on_false (is_skipped (tokens_of l.bytes)) (item_from known last old more) (put old l known >>= (λ d. then_on known last more d)) h
 
--- the words made this draft
+-- the words made this parser
 worded_as : (known : Known) (last : ℕ) (old : Option Coming) (l : LineView) (more : Rest) (d : Coming) → is_skipped (tokens_of l.bytes) ≡ false → line_step known old (tokens_of l.bytes) ≡ Ok d → item_from known last old (Ok l ∷ more) ≡ then_on known last more d
 worded_as known last old l more d h e =
     worded known last old l more h ∙ ap (λ (r : Result Coming FaultKind). put_at l.number r >>= (λ x. then_on known last more x)) e
@@ -166,12 +166,12 @@ begun_after known old new lines left (Ok (Some t)) b h = subst (λ (d : Option C
 begun_after known old new lines left (Err f) b h = tt
 
 pub good_after : (known : Known) (old new : Option Coming) (lines left : Rest) (r : Result (Option Item) BookFault) → are_notions known.notions ≡ true → IsBegun known old → ReadsOn known old lines r new left
-    → IfOk r (λ o. IfSome o (IsGoodItem known))
+    → IfOk r (λ o. IfSome o (HasWellFormedView known))
 good_after known old new lines left (Ok None) all b h = tt
-good_after known old new lines left (Ok (Some i)) all b h = read_is_good known 0 (view_of i) (b.front ++ (lines ++ [])) (left ++ []) all (b.reads 0 (lines ++ []) ∙ h.2 0 [])
+good_after known old new lines left (Ok (Some i)) all b h = read_is_well_formed known 0 (view_of i) (b.front ++ (lines ++ [])) (left ++ []) all (b.reads 0 (lines ++ []) ∙ h.2 0 [])
 good_after known old new lines left (Err f) all b h = tt
 
--- ---- where no lines come behind those that are ahead
+-- ---- where no lines come after those that are ahead
 
 -- before the first line
 pub from_none : (known : Known) (old new : Option Coming) (lines left : Rest) (o p : Option Item) → old ≡ None → o ≡ p → ReadsOn known old lines (Ok o) new left → ReadsOn known None lines (Ok p) new left

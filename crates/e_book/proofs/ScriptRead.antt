@@ -27,10 +27,10 @@ use Rattle.e_deriv.specs.Goal.{Goal, goal_of}
 use Rattle.e_deriv.specs.Lines.{Line, lines}
 use Rattle.e_deriv.specs.Parts.{written as written_args}
 use Rattle.e_deriv.specs.Steps.{are_over, is_citation}
-use Rattle.e_book.specs.declared.blocks.BlockKind.TheVariants as opened
+use Rattle.e_book.specs.declared.blocks.BlockKind.TheVariants as kind
 use Rattle.e_book.specs.declared.steps.CloseLine.{CloseLine}
 use Rattle.e_book.specs.declared.steps.CloseLine.TheVariants as closes
-use Rattle.e_book.specs.declared.draft.TheoremParser.{TheoremParser}
+use Rattle.e_book.specs.declared.parser.TheoremParser.{TheoremParser}
 use Rattle.e_line.specs.Limits.{most_steps, most_depth, most_facts, most_terms, most_blanks, monomials, count_monomials}
 use Rattle.e_book.specs.Blocks.{made_in}
 use Rattle.e_names.specs.TitledStatements.{TitledStatement, stated_by, theorem_of}
@@ -58,7 +58,7 @@ use Rattle.e_names.proofs.Superposed.{GoodSuperpose, superpose_named}
 use Rattle.e_names.proofs.Applied.{GoodApply, apply_named}
 use Rattle.e_book.proofs.FittingScripts.{line_fits}
 use Rattle.e_book.proofs.ScriptParts.{steps_of, close_of, same_script, at_least, deep_at_least}
-use Rattle.e_book.proofs.LinesRead.{Inside, proving, splitting, behind, deep, written, copied, resume, second, applied_behind, step_cite, step_hence, step_let, step_apply, step_claim, step_superpose, step_cases, step_else, step_qed, step_contradiction, claim_closed, superpose_closed, first_closed, second_closed}
+use Rattle.e_book.proofs.LinesRead.{Inside, proving, splitting, after_step, deep, written, copied, resume, second, applied_after, step_cite, step_hence, step_let, step_apply, step_claim, step_superpose, step_cases, step_else, step_qed, step_contradiction, claim_closed, superpose_closed, first_closed, second_closed}
 
 -- a line with a certificate is not plain
 no_cert : false ≡ true → ⊥
@@ -75,12 +75,12 @@ both_fit known xs ys h = let p = line_fits (stated_by known) in and_parts (list_
 
 pub record Ready (known : List TitledStatement) (d : TheoremParser) (i : Inside) (script : Script) (given : List Lit) (goal : Goal) : Type 0 where
   pub order : InOrder i.in_scope
-  pub goal_sorts : sorts_of goal.made ≡ made_in i.outers d.made
+  pub goal_sorts : sorts_of goal.made ≡ made_in i.blocks d.made
   pub plain : is_plain script ≡ true
   pub fitting : list_all (line_fits (stated_by known)) (lines (stated_by known) script script (scope_of_names i.in_scope) given goal) ≡ true
   pub new_names : NewNamesFit (stated_by known) i.in_scope script
   pub few : i.lines + size script ≤ most_steps
-  pub shallow : length i.outers + depth script ≤ most_depth
+  pub shallow : length i.blocks + depth script ≤ most_depth
   pub good : has_good_literals script ≡ true
   pub theorems : names_theorems known script ≡ true
   pub blanks : few_blanks script ≡ true
@@ -91,20 +91,20 @@ pub record Ready (known : List TitledStatement) (d : TheoremParser) (i : Inside)
 pub record Taken (known : List TitledStatement) (d : TheoremParser) (i : Inside) (script : Script) : Type 0 where
   pub last : Inside
   pub lines : last.lines ≡ i.lines + size script
-  pub runs : (e : TheoremParser) → closed (proving d last) i.outers (i.steps ++ steps_of script) (close_of script) ≡ Ok e → is_done e ≡ false
+  pub runs : (e : TheoremParser) → closed (proving d last) i.blocks (i.steps ++ steps_of script) (close_of script) ≡ Ok e → is_done e ≡ false
       → Runs known (Some (proving d i)) (script_forms known i.in_scope script) (Some e)
 
--- one more step, and what comes behind it
-pub one_more : (d : TheoremParser) (last i : Inside) (s : PlainStep) (rest : Script) (e : TheoremParser) → closed (proving d last) i.outers (i.steps ++ s ∷ steps_of rest) (close_of rest) ≡ Ok e
-    → closed (proving d last) i.outers ((i.steps ++ s ∷ []) ++ steps_of rest) (close_of rest) ≡ Ok e
-one_more d last i s rest e h = ap (λ (l : List PlainStep). closed (proving d last) i.outers l (close_of rest)) (append_assoc i.steps (s ∷ []) (steps_of rest)) ∙ h
+-- one more step, and what comes after it
+pub one_more : (d : TheoremParser) (last i : Inside) (s : PlainStep) (rest : Script) (e : TheoremParser) → closed (proving d last) i.blocks (i.steps ++ s ∷ steps_of rest) (close_of rest) ≡ Ok e
+    → closed (proving d last) i.blocks ((i.steps ++ s ∷ []) ++ steps_of rest) (close_of rest) ≡ Ok e
+one_more d last i s rest e h = ap (λ (l : List PlainStep). closed (proving d last) i.blocks l (close_of rest)) (append_assoc i.steps (s ∷ []) (steps_of rest)) ∙ h
 
-pub no_more : (d : TheoremParser) (last i : Inside) (close : CloseLine) (e : TheoremParser) → closed (proving d last) i.outers (i.steps ++ []) close ≡ Ok e → closed (proving d last) i.outers i.steps close ≡ Ok e
-no_more d last i close e h = ap (λ (l : List PlainStep). closed (proving d last) i.outers l close) (sym (append-nil i.steps)) ∙ h
+pub no_more : (d : TheoremParser) (last i : Inside) (close : CloseLine) (e : TheoremParser) → closed (proving d last) i.blocks (i.steps ++ []) close ≡ Ok e → closed (proving d last) i.blocks i.steps close ≡ Ok e
+no_more d last i close e h = ap (λ (l : List PlainStep). closed (proving d last) i.blocks l close) (sym (append-nil i.steps)) ∙ h
 
 -- ---- steps without a block inside
 
-pub cite_ready : (known : List TitledStatement) (d : TheoremParser) (i : Inside) (b : By) (rest : Script) (given : List Lit) (goal : Goal) → Ready known d i (Cite b rest) given goal → Ready known d (behind i (Cited b) 1) rest (joined given b.lit) goal
+pub cite_ready : (known : List TitledStatement) (d : TheoremParser) (i : Inside) (b : By) (rest : Script) (given : List Lit) (goal : Goal) → Ready known d i (Cite b rest) given goal → Ready known d (after_step i (Cited b) 1) rest (joined given b.lit) goal
 unfolding is_plain lines NewNamesFit size depth has_good_literals few_facts few_terms names_theorems few_blanks
 cite_ready known d i b rest given goal r =
     let s = scope_of_names i.in_scope in
@@ -123,7 +123,7 @@ cite_ready known d i b rest given goal r =
       terms = r.terms;
     }
 
-cite_taken : (known : List TitledStatement) (d : TheoremParser) (i : Inside) (b : By) (rest : Script) (given : List Lit) (goal : Goal) → Ready known d i (Cite b rest) given goal → Taken known d (behind i (Cited b) 1) rest → Taken known d i (Cite b rest)
+cite_taken : (known : List TitledStatement) (d : TheoremParser) (i : Inside) (b : By) (rest : Script) (given : List Lit) (goal : Goal) → Ready known d i (Cite b rest) given goal → Taken known d (after_step i (Cited b) 1) rest → Taken known d i (Cite b rest)
 unfolding script_forms lines size has_good_literals few_facts
 cite_taken known d i b rest given goal r t =
     let s = scope_of_names i.in_scope in
@@ -134,7 +134,7 @@ cite_taken known d i b rest given goal r t =
       last = t.last;
       lines = omega (arith, t.lines);
       runs = λ e h done. (
-        proving d (behind i (Cited b) 1),
+        proving d (after_step i (Cited b) 1),
         by_good i.in_scope b r.order fit good,
         step_cite known d i b r.order fit good (omega (arith, r.few)) most,
         refl,
@@ -143,7 +143,7 @@ cite_taken known d i b rest given goal r t =
     }
 
 abbrev pub inferred : Inside → Lit → Inside
-inferred i l = written (behind i (Inferred l None) 1) (monomials l.atom)
+inferred i l = written (after_step i (Inferred l None) 1) (monomials l.atom)
 
 pub hence_ready : (known : List TitledStatement) (d : TheoremParser) (i : Inside) (l : Lit) (rest : Script) (given : List Lit) (goal : Goal) → Ready known d i (Hence l None rest) given goal → Ready known d (inferred i l) rest (joined given l) goal
 unfolding is_plain lines NewNamesFit size depth has_good_literals few_facts few_terms names_theorems few_blanks
@@ -190,7 +190,7 @@ abbrev pub gifts : Inside → Construction → ℕ
 gifts i form = length (gives_of_construction form (scope_of_names i.in_scope))
 
 abbrev pub constructed : Inside → Construction → List (List ℕ) → Inside
-constructed i form names = record (behind i (Made form names []) (gifts i form)) { in_scope = named i.in_scope (sorts_made form) names }
+constructed i form names = record (after_step i (Made form names []) (gifts i form)) { in_scope = named i.in_scope (sorts_made form) names }
 
 pub make_good : (known : List TitledStatement) (d : TheoremParser) (i : Inside) (form : Construction) (names : List (List ℕ)) (rest : Script) (given : List Lit) (goal : Goal) → Ready known d i (Make form names [] rest) given goal → GoodLet i.in_scope form names
 unfolding lines NewNamesFit
@@ -247,15 +247,15 @@ make_taken known d i form names rest given goal r t =
       );
     }
 
--- what is known of a use of an earlier theorem, and of what comes behind it
+-- what is known of a use of an earlier theorem, and of what comes after it
 pub record ApplyParts (known : List TitledStatement) (d : TheoremParser) (i : Inside) (theorem : ℕ) (args : List (Option Obj)) (names : List (List ℕ)) (rest : Script) (given : List Lit) (goal : Goal) : Type 0 where
   pub good : GoodApply known i.in_scope theorem args names
   pub named : AreNames names
-  pub few : few_objects (applied_behind i (theorem_of known theorem) theorem args names).in_scope ≡ Ok tt
+  pub few : few_objects (applied_after i (theorem_of known theorem) theorem args names).in_scope ≡ Ok tt
   pub facts : i.facts + length (theorem_of known theorem).shown ≤ most_facts
   pub terms : i.terms + count_monomials (theorem_of known theorem).shown ≤ most_terms
   pub blanks : count_blanks args ≤ most_blanks
-  pub next : Ready known d (applied_behind i (theorem_of known theorem) theorem args names) rest (joined_all given (gives_of_use (theorem_of known theorem) (written_args args) (scope_of_names i.in_scope))) goal
+  pub next : Ready known d (applied_after i (theorem_of known theorem) theorem args names) rest (joined_all given (gives_of_use (theorem_of known theorem) (written_args args) (scope_of_names i.in_scope))) goal
 
 pub apply_parts : (known : List TitledStatement) (d : TheoremParser) (i : Inside) (theorem : ℕ) (args : List (Option Obj)) (names : List (List ℕ)) (rest : Script) (given : List Lit) (goal : Goal) → Ready known d i (Apply theorem args names [] rest) given goal
     → ApplyParts known d i theorem args names rest given goal
@@ -264,7 +264,7 @@ apply_parts known d i theorem args names rest given goal r =
     let before = stated_by known in
     let s = scope_of_names i.in_scope in
     let t = theorem_of known theorem in
-    let after = applied_behind i t theorem args names in
+    let after = applied_after i t theorem args names in
     let facts = joined_all given (gives_of_use t (written_args args) s) in
     let n = i.facts + length t.shown in
     let m = i.terms + count_monomials t.shown in
@@ -300,11 +300,11 @@ apply_parts known d i theorem args names rest given goal r =
     }
 
 apply_taken : (known : List TitledStatement) (d : TheoremParser) (i : Inside) (theorem : ℕ) (args : List (Option Obj)) (names : List (List ℕ)) (rest : Script) (given : List Lit) (goal : Goal) → Ready known d i (Apply theorem args names [] rest) given goal
-    → Taken known d (applied_behind i (theorem_of known theorem) theorem args names) rest → Taken known d i (Apply theorem args names [] rest)
+    → Taken known d (applied_after i (theorem_of known theorem) theorem args names) rest → Taken known d i (Apply theorem args names [] rest)
 unfolding script_forms size
 apply_taken known d i theorem args names rest given goal r t =
     let p = apply_parts known d i theorem args names rest given goal r in
-    let after = applied_behind i (theorem_of known theorem) theorem args names in
+    let after = applied_after i (theorem_of known theorem) theorem args names in
     record {
       last = t.last;
       lines = omega (arith, t.lines);
@@ -384,7 +384,7 @@ claim_parts known d i shown inner rest given goal r =
 pub no_more_facts : (known : List TitledStatement) (n : ℕ) (s : Scope) (inner : Script) → few_facts (stated_by known) n s inner ≡ true → few_facts (stated_by known) (n + 0) s inner ≡ true
 no_more_facts known n s inner h = subst (λ (k : ℕ). few_facts (stated_by known) k s inner ≡ true) (omega arith) h
 
-pub claim_inner : (known : List TitledStatement) (d : TheoremParser) (i : Inside) (shown : List Lit) (inner rest : Script) (given : List Lit) (goal : Goal) → Ready known d i (Claim shown inner rest) given goal → Ready known d (deep i (opened.Claim shown) 0) inner given (goal_of shown)
+pub claim_inner : (known : List TitledStatement) (d : TheoremParser) (i : Inside) (shown : List Lit) (inner rest : Script) (given : List Lit) (goal : Goal) → Ready known d i (Claim shown inner rest) given goal → Ready known d (deep i (kind.Claim shown) 0) inner given (goal_of shown)
 unfolding NewNamesFit size depth
 claim_inner known d i shown inner rest given goal r =
     let p = claim_parts known d i shown inner rest given goal r in
@@ -424,11 +424,11 @@ claim_rest known d i n shown inner rest given goal e r =
     }
 
 claim_taken : (known : List TitledStatement) (d : TheoremParser) (i : Inside) (shown : List Lit) (inner rest : Script) (given : List Lit) (goal : Goal) → Ready known d i (Claim shown inner rest) given goal
-    → (t : Taken known d (deep i (opened.Claim shown) 0) inner) → Taken known d (resume i t.last.lines (Claimed shown inner) shown) rest → Taken known d i (Claim shown inner rest)
+    → (t : Taken known d (deep i (kind.Claim shown) 0) inner) → Taken known d (resume i t.last.lines (Claimed shown inner) shown) rest → Taken known d i (Claim shown inner rest)
 unfolding script_forms size depth
 claim_taken known d i shown inner rest given goal r t u =
     let p = claim_parts known d i shown inner rest given goal r in
-    let begins = deep i (opened.Claim shown) 0 in
+    let begins = deep i (kind.Claim shown) 0 in
     let after = resume i t.last.lines (Claimed shown inner) shown in
     let few : i.facts + 0 ≤ most_facts = omega (arith, p.facts) in
     record {
@@ -587,7 +587,7 @@ copy_taken known d i form names shown inner rest given goal r t u =
 -- ---- a split
 
 abbrev pub opens : Inside → Lit → Inside
-opens i l = written (deep i (opened.First l) 1) (monomials l.atom)
+opens i l = written (deep i (kind.First l) 1) (monomials l.atom)
 
 pub record CasesParts (known : List TitledStatement) (i : Inside) (l : Lit) (one two : Script) (given : List Lit) (goal : Goal) : Type 0 where
   pub plain_first : is_plain one ≡ true
@@ -721,13 +721,13 @@ unfolding script_forms lines size
 qed_taken known d i os given goal r =
     let s = scope_of_names i.in_scope in
     let q = (and_parts (are_of_sorts s (sorts_of goal.made) os) true r.fitting).0 in
-    let h : are_of_sorts s (made_in i.outers d.made) os ≡ true = subst (λ (l : List Sort). are_of_sorts s l os ≡ true) r.goal_sorts q in
+    let h : are_of_sorts s (made_in i.blocks d.made) os ≡ true = subst (λ (l : List Sort). are_of_sorts s l os ≡ true) r.goal_sorts q in
     record {
       last = one_line i;
       lines = refl;
       runs = λ e c done. (
         e,
-        objects_named i.in_scope os r.order (of_sorts_in_scope s (made_in i.outers d.made) os h),
+        objects_named i.in_scope os r.order (of_sorts_in_scope s (made_in i.blocks d.made) os h),
         step_qed known d i os r.order h (omega (arith, r.few)) ∙ no_more d (one_line i) i (closes.Qed os) e c,
         done,
         refl,
@@ -746,7 +746,7 @@ contradiction_taken known d i given goal r = record {
 
 pub run_script : (known : List TitledStatement) (d : TheoremParser) (i : Inside) (script : Script) (given : List Lit) (goal : Goal) → Ready known d i script given goal → Taken known d i script
 unfolding is_plain
-run_script known d i (Cite b rest) given goal r = cite_taken known d i b rest given goal r (run_script known d (behind i (Cited b) 1) rest (joined given b.lit) goal (cite_ready known d i b rest given goal r))
+run_script known d i (Cite b rest) given goal r = cite_taken known d i b rest given goal r (run_script known d (after_step i (Cited b) 1) rest (joined given b.lit) goal (cite_ready known d i b rest given goal r))
 run_script known d i (Hence l None rest) given goal r = hence_taken known d i l rest given goal r (run_script known d (inferred i l) rest (joined given l) goal (hence_ready known d i l rest given goal r))
 run_script known d i (Hence l (Some cert) rest) given goal r = absurd (no_cert r.plain)
 run_script known d i (Make form names [] rest) given goal r =
@@ -755,10 +755,10 @@ run_script known d i (Make form names (c ∷ cs) rest) given goal r = absurd (no
 run_script known d i (Apply theorem args names [] rest) given goal r =
     let p = apply_parts known d i theorem args names rest given goal r in
     let t = theorem_of known theorem in
-    apply_taken known d i theorem args names rest given goal r (run_script known d (applied_behind i t theorem args names) rest (joined_all given (gives_of_use t (written_args args) (scope_of_names i.in_scope))) goal p.next)
+    apply_taken known d i theorem args names rest given goal r (run_script known d (applied_after i t theorem args names) rest (joined_all given (gives_of_use t (written_args args) (scope_of_names i.in_scope))) goal p.next)
 run_script known d i (Apply theorem args names (c ∷ cs) rest) given goal r = absurd (no_cert r.plain)
 run_script known d i (Claim shown inner rest) given goal r =
-    let t = run_script known d (deep i (opened.Claim shown) 0) inner given (goal_of shown) (claim_inner known d i shown inner rest given goal r) in
+    let t = run_script known d (deep i (kind.Claim shown) 0) inner given (goal_of shown) (claim_inner known d i shown inner rest given goal r) in
     let u = run_script known d (resume i t.last.lines (Claimed shown inner) shown) rest (joined_all given shown) goal (claim_rest known d i t.last.lines shown inner rest given goal t.lines r) in
     claim_taken known d i shown inner rest given goal r t u
 run_script known d i (Superposed form names shown [] inner rest) given goal r =

@@ -15,9 +15,9 @@ use Rattle.e_line.specs.declared.fault.What.TheVariants as limits
 use Rattle.e_line.specs.declared.literal.RawLit.{RawLit}
 use Rattle.e_book.specs.declared.blocks.OpenBlock.{OpenBlock}
 use Rattle.e_line.specs.declared.raw_line.RawLine.TheVariants as rawlines
-use Rattle.e_book.specs.declared.draft.TheoremParser.{TheoremParser}
-use Rattle.e_book.specs.declared.draft.Section.{Section}
-use Rattle.e_book.specs.declared.draft.Section.TheVariants as places
+use Rattle.e_book.specs.declared.parser.TheoremParser.{TheoremParser}
+use Rattle.e_book.specs.declared.parser.Section.{Section}
+use Rattle.e_book.specs.declared.parser.Section.TheVariants as places
 use Rattle.e_line.specs.Reading.{◌>>=◌}
 use Rattle.e_names.specs.TitledStatements.{TitledStatement}
 use Rattle.e_line.specs.Limits.{most_of, most_steps, most_depth, most_facts, most_terms, what_of, within, count_monomials}
@@ -25,7 +25,7 @@ use Rattle.e_names.specs.Scope.{fresh, lit_in, lits_in}
 use Rattle.e_line.specs.LineLimits.{count_monos, few_monos}
 use Rattle.e_book.specs.LineLimits.{FewNamed}
 use Rattle.e_book.specs.Steps.{allowed, declared, with_terms, declares, supposes, makes, shows, proof_begun}
-use Rattle.e_book.specs.DraftViews.{statement_of_draft}
+use Rattle.e_book.specs.ParserViews.{statement_of_parser}
 use Rattle.e_book.specs.Open.{Open, Stating, Proving}
 use Rattle.e_book.specs.Counts.{LineContext}
 use Rattle.e_book.specs.Grammar.{is_empty, none_made, none_given, with_new, states}
@@ -43,10 +43,10 @@ read_open n = Ok n
 
 -- ---- lists that are not empty
 
-some_behind : {A : Type 0} (xs ys : List A) → 0 < length ys → is_empty (xs ++ ys) ≡ false
-some_behind {A} [] [] h = absurd (omega (arith, h))
-some_behind {A} [] (y ∷ ys) h = refl
-some_behind {A} (x ∷ xs) ys h = refl
+some_after : {A : Type 0} (xs ys : List A) → 0 < length ys → is_empty (xs ++ ys) ≡ false
+some_after {A} [] [] h = absurd (omega (arith, h))
+some_after {A} [] (y ∷ ys) h = refl
+some_after {A} (x ∷ xs) ys h = refl
 
 some_times : {A : Type 0} (n : ℕ) (x : A) → 0 < n → 0 < length (replicate n x)
 some_times {A} zero x h = absurd (omega (arith, h))
@@ -67,14 +67,14 @@ IsStating places.Closed = ⊥
 IsStating places.Done = ⊥
 IsStating place = Unit {0}
 
-may_declare : (p : Section) (d : TheoremParser) (sort : Sort) (new : List (List ℕ)) → IsStating p → Stands p d → allowed p (rawlines.Declare sort new) ≡ none_given (statement_of_draft d)
-may_declare places.Declaring d sort new st s = sym (and_from (is_empty d.given) (none_made (statement_of_draft d)) s.0 (and_from (is_empty d.made) (is_empty d.shown) s.1 s.2))
-may_declare places.Giving d sort new st s = sym (and_left (is_empty d.given) (none_made (statement_of_draft d)) s.0)
-may_declare places.Making d sort new st s = sym (and_right (is_empty d.given) (none_made (statement_of_draft d)) (and_left (is_empty d.made) (is_empty d.shown) s.0))
-may_declare places.Showing d sort new st s = sym (and_right (is_empty d.given) (none_made (statement_of_draft d)) (and_right (is_empty d.made) (is_empty d.shown) s))
+may_declare : (p : Section) (d : TheoremParser) (sort : Sort) (new : List (List ℕ)) → IsStating p → Stands p d → allowed p (rawlines.Declare sort new) ≡ none_given (statement_of_parser d)
+may_declare places.Declaring d sort new st s = sym (and_from (is_empty d.given) (none_made (statement_of_parser d)) s.0 (and_from (is_empty d.made) (is_empty d.shown) s.1 s.2))
+may_declare places.Giving d sort new st s = sym (and_left (is_empty d.given) (none_made (statement_of_parser d)) s.0)
+may_declare places.Making d sort new st s = sym (and_right (is_empty d.given) (none_made (statement_of_parser d)) (and_left (is_empty d.made) (is_empty d.shown) s.0))
+may_declare places.Showing d sort new st s = sym (and_right (is_empty d.given) (none_made (statement_of_parser d)) (and_right (is_empty d.made) (is_empty d.shown) s))
 may_declare p d sort new st s = absurd st
 
-pub may_give : (p : Section) (d : TheoremParser) (raws : List RawLit) → IsStating p → Stands p d → allowed p (rawlines.Given raws) ≡ none_made (statement_of_draft d)
+pub may_give : (p : Section) (d : TheoremParser) (raws : List RawLit) → IsStating p → Stands p d → allowed p (rawlines.Given raws) ≡ none_made (statement_of_parser d)
 may_give places.Declaring d raws st s = sym (and_from (is_empty d.made) (is_empty d.shown) s.1 s.2)
 may_give places.Giving d raws st s = sym (and_from (is_empty d.made) (is_empty d.shown) s.1 s.2)
 may_give places.Making d raws st s = sym (and_left (is_empty d.made) (is_empty d.shown) s.0)
@@ -165,7 +165,7 @@ declare_alike known p d sort new st at s u few =
     let r : Names → Result TheoremParser FaultKind = λ names. read_ok (record d { names = names; declared = d.declared ++ replicate (length new) sort }) in
     let fits : Result Names FaultKind = within (length (names_of_sort d.names sort) + length new) (most_of sort) (what_of sort) >>= λ few. read_ok now in
     let g = few_given d u in
-    in_place known (allowed p f) (none_given (statement_of_draft d)) (declares d sort new) (fresh d.names [] new >>= λ free. read_open n) (then_limits known f) (may_declare p d sort new st s)
+    in_place known (allowed p f) (none_given (statement_of_parser d)) (declares d sort new) (fresh d.names [] new >>= λ free. read_open n) (then_limits known f) (may_declare p d sort new st s)
     (λ may. both_in known (fresh d.names [] new) (λ free. fits) r (λ free. read_open n) (then_limits known f)
     (λ free q. new_alike known d.names sort new r n 0 0 (length d.given) (count_monomials d.given) few
     (λ some. pass_later known (read_ok e) n 0 0 (length d.given) (count_monomials d.given) (omega arith) (omega arith) g.facts g.terms
@@ -187,12 +187,12 @@ make_alike known p d sort new st s u few some_new =
     (λ may. both_in known (fresh d.names [] new) (λ free. fits) r (λ free. read_open n) (then_limits known f)
     (λ free q. new_alike known d.names sort new r n 0 0 (length d.given) (count_monomials d.given) few
     (λ some. pass_later known (read_ok e) n 0 0 (length d.given) (count_monomials d.given) (omega arith) (omega arith) g.facts g.terms
-    (let stands : Stands places.Making e = (some_behind d.made (replicate (length new) sort) (some_times (length new) sort some_new), sym (may_make p d sort new st s) ∙ may) in
+    (let stands : Stands places.Making e = (some_after d.made (replicate (length new) sort) (some_times (length new) sort some_new), sym (may_make p d sort new st s) ∙ may) in
     tied_there known e n places.Making refl some (stands, u) refl))))
 
 -- ---- given literals
 
-given_alike : (known : List TitledStatement) (d : TheoremParser) (raws : List RawLit) (ls : List Lit) → UnprovedOf d → FewNamed d.names → 0 < length raws → none_made (statement_of_draft d) ≡ true → lits_in d.names raws ≡ Ok ls
+given_alike : (known : List TitledStatement) (d : TheoremParser) (raws : List RawLit) (ls : List Lit) → UnprovedOf d → FewNamed d.names → 0 < length raws → none_made (statement_of_parser d) ≡ true → lits_in d.names raws ≡ Ok ls
     → Alike known (within (d.facts + length raws) most_facts limits.Facts >>= λ few. with_terms (record d { given = d.given ++ ls; facts = d.facts + length raws; place = places.Giving }) raws)
     (then_limits known (rawlines.Given raws) (Stating (head_of (record d { given = d.given ++ ls }))))
 given_alike known d raws ls u few some none e =
@@ -218,8 +218,8 @@ given_alike known d raws ls u few some none e =
     (test known next n facts most_facts limits.Facts (literal_tests raws terms 0)
     (λ w. terms_alike known y raws n
     (λ z.
-    let stands : Stands places.Giving x = (some_behind d.given ls (omega (arith, some, count)), empty.0, empty.1) in
-    let unproved : UnprovedOf x = record { steps = u.steps; outers = u.outers; lines = u.lines; facts = k; terms = m; few_facts = w; few_terms = z } in
+    let stands : Stands places.Giving x = (some_after d.given ls (omega (arith, some, count)), empty.0, empty.1) in
+    let unproved : UnprovedOf x = record { steps = u.steps; blocks = u.blocks; lines = u.lines; facts = k; terms = m; few_facts = w; few_terms = z } in
     tied_there known x n places.Giving refl few (stands, unproved) refl))))))
 
 pub give_alike : (known : List TitledStatement) (p : Section) (d : TheoremParser) (raws : List RawLit) → IsStating p → Stands p d → UnprovedOf d → FewNamed d.names → 0 < length raws
@@ -228,7 +228,7 @@ give_alike known p d raws st s u few some =
     let f = rawlines.Given raws in
     let said : List Lit → Result Open FaultKind = λ ls. read_open (Stating (head_of (record d { given = d.given ++ ls }))) in
     let next : List Lit → Result TheoremParser FaultKind = λ ls. within (d.facts + length raws) most_facts limits.Facts >>= λ few. with_terms (record d { given = ls; facts = d.facts + length raws; place = places.Giving }) raws in
-    in_place known (allowed p f) (none_made (statement_of_draft d)) (supposes d raws) (lits_in d.names raws >>= said) (then_limits known f) (may_give p d raws st s)
+    in_place known (allowed p f) (none_made (statement_of_parser d)) (supposes d raws) (lits_in d.names raws >>= said) (then_limits known f) (may_give p d raws st s)
     (λ may. both_in known (lits_in d.names raws) (λ ls. read_ok (d.given ++ ls)) next said (then_limits known f)
     (λ ls e. given_alike known d raws ls u few some (sym (may_give p d raws st s) ∙ may) e))
 
@@ -250,7 +250,7 @@ show_alike known p d raws st u few some =
     let n = Stating (head_of x) in
     let r : Result TheoremParser FaultKind = few_monos raws >>= λ few. read_ok x in
     let count : length ls ≡ length raws = each_length (lit_in d.names) raws ls e in
-    let stands : Stands places.Showing x = some_behind d.shown ls (omega (arith, some, count)) in
+    let stands : Stands places.Showing x = some_after d.shown ls (omega (arith, some, count)) in
     pass_objects known r n raws d.names 0 0 k m 0 few
     (pass_le known r n 0 most_steps limits.Steps (depth_tests raws 0 k m 0) (omega arith)
     (pass_le known r n 0 most_depth limits.Depth (fact_tests raws k m 0) (omega arith)
@@ -260,16 +260,16 @@ show_alike known p d raws st u few some =
 
 -- ---- the proof begins
 
-few_declared : (d : TheoremParser) → FewNamed d.names → FewNamed (declared_names (stated (statement_of_draft d)) d.names)
+few_declared : (d : TheoremParser) → FewNamed d.names → FewNamed (declared_names (stated (statement_of_parser d)) d.names)
 few_declared d few =
-    let s = scope_of (stated (statement_of_draft d)) in
+    let s = scope_of (stated (statement_of_parser d)) in
     record {
       points = omega (arith, few.points, take_short s.points d.names.points);
       lines = omega (arith, few.lines, take_short s.lines d.names.lines);
       circles = omega (arith, few.circles, take_short s.circles d.names.circles);
     }
 
-proof_block : (known : List TitledStatement) (d : TheoremParser) (ns : Names) → UnprovedOf d → FewNamed ns → ns ≡ declared_names (stated (statement_of_draft d)) d.names → BlockTied known (head_of d) d.outers d.steps ns d.lines d.facts d.terms
+proof_block : (known : List TitledStatement) (d : TheoremParser) (ns : Names) → UnprovedOf d → FewNamed ns → ns ≡ declared_names (stated (statement_of_parser d)) d.names → BlockTied known (head_of d) d.blocks d.steps ns d.lines d.facts d.terms
 proof_block known d ns u few is =
     let first : BlockTied known (head_of d) [] [] ns 0 d.facts d.terms = record {
       counted = record { names = is; facts = u.facts; terms = u.terms };
@@ -278,10 +278,10 @@ proof_block known d ns u few is =
       few_terms = u.few_terms;
       lines = refl;
       short = omega arith;
-      outers = tt;
+      blocks = tt;
       shallow = omega arith;
     } in
-    subst (λ (os : List OpenBlock). BlockTied known (head_of d) os d.steps ns d.lines d.facts d.terms) (sym u.outers)
+    subst (λ (os : List OpenBlock). BlockTied known (head_of d) os d.steps ns d.lines d.facts d.terms) (sym u.blocks)
     (subst (λ (ss : List PlainStep). BlockTied known (head_of d) [] ss ns d.lines d.facts d.terms) (sym u.steps)
     (subst (λ (n : ℕ). BlockTied known (head_of d) [] [] ns n d.facts d.terms) (sym u.lines) first))
 
@@ -289,13 +289,13 @@ pub proof_alike : (known : List TitledStatement) (p : Section) (d : TheoremParse
     → Alike known (cond (allowed p rawlines.Proof) (proof_begun d) (Err Malformed)) (states (head_of d) rawlines.Proof >>= then_limits known rawlines.Proof)
 proof_alike known p d st s u few =
     let f = rawlines.Proof in
-    let ns = declared_names (stated (statement_of_draft d)) d.names in
+    let ns = declared_names (stated (statement_of_parser d)) d.names in
     let n = Proving (head_of d) [] [] in
     let e : TheoremParser = record d { in_scope = ns; place = places.Proving } in
     let some = few_declared d few in
     let c : Counted ns d.facts d.terms (context_in known (head_of d) [] []) = record { names = refl; facts = u.facts; terms = u.terms } in
-    let is : Proving (head_of d) (around_of d.outers) d.steps ≡ n =
-    ap (λ (os : List OpenBlock). Proving (head_of d) (around_of os) d.steps) u.outers ∙ ap (λ (ss : List PlainStep). Proving (head_of d) [] ss) u.steps in
+    let is : Proving (head_of d) (around_of d.blocks) d.steps ≡ n =
+    ap (λ (os : List OpenBlock). Proving (head_of d) (around_of os) d.steps) u.blocks ∙ ap (λ (ss : List PlainStep). Proving (head_of d) [] ss) u.steps in
     begins_proof known (allowed p f) (is_empty d.shown) (proof_begun d) (read_open n) (then_limits known f) (may_prove p d st s)
     (block_limits known (read_ok e) (head_of d) [] [] f ns 0 1 d.facts d.terms c refl refl
     (pass_all known (read_ok e) n ns 0 1 d.facts d.terms some (omega arith) (omega arith) u.few_facts u.few_terms

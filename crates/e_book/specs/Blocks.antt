@@ -4,21 +4,21 @@ use Rattle.std.specs.List.{list_any}
 use Rattle.e_literal.specs.declared.object.Sort.{Sort}
 use Rattle.e_book.specs.declared.blocks.OpenBlock.{OpenBlock}
 use Rattle.e_book.specs.declared.blocks.BlockKind.{BlockKind}
-use Rattle.e_book.specs.declared.blocks.BlockKind.TheVariants as opened
+use Rattle.e_book.specs.declared.blocks.BlockKind.TheVariants as kind
 
 -- a claim and a superposition have goals of their own, without made objects; a block of a split has that of the block it closes
 abbrev pub is_claim : BlockKind → Bool
-is_claim (opened.Claim shown) = true
-is_claim (opened.Superpose form names shown) = true
-is_claim (opened.First lit) = false
-is_claim (opened.Second lit first) = false
+is_claim (kind.Claim shown) = true
+is_claim (kind.Superpose form names shown) = true
+is_claim (kind.First lit) = false
+is_claim (kind.Second lit first) = false
 
 abbrev pub has_claim : List OpenBlock → Bool
-has_claim outers = list_any (λ o. is_claim o.opened) outers
+has_claim blocks = list_any (λ o. is_claim o.kind) blocks
 
 -- the made objects of the goal of a block inside these
 abbrev pub made_in : List OpenBlock → List Sort → List Sort
-made_in outers made = if has_claim outers then [] else made
+made_in blocks made = if has_claim blocks then [] else made
 
 -- the innermost is taken out
 abbrev pub TopIs : List OpenBlock → Option OpenBlock → List OpenBlock → Type 0

@@ -6,13 +6,13 @@ use Rattle.e_text.specs.declared.line.LineFault.{LineFault}
 use Rattle.e_line.specs.declared.fault.FaultKind.{FaultKind}
 use Rattle.e_line.specs.declared.fault.BookFault.{BookFault}
 use Rattle.e_line.specs.declared.fault.BookFault.TheVariants as faults
-use Rattle.e_book.specs.declared.draft.Section.{Section}
-use Rattle.e_book.specs.declared.draft.Section.TheVariants as places
-use Rattle.e_book.specs.declared.draft.TheoremParser.{TheoremParser}
+use Rattle.e_book.specs.declared.parser.Section.{Section}
+use Rattle.e_book.specs.declared.parser.Section.TheVariants as places
+use Rattle.e_book.specs.declared.parser.TheoremParser.{TheoremParser}
 use Rattle.e_line.specs.Faults.{line_fault}
 use Rattle.e_line.specs.Reading.{◌>>=◌}
 use Rattle.e_names.specs.TitledStatements.{TitledStatement}
-use Rattle.e_book.specs.DraftViews.{entry_of_draft}
+use Rattle.e_book.specs.ParserViews.{entry_of_parser}
 use Rattle.e_book.specs.TheoremViews.{TheoremView}
 use Rattle.e_line.specs.RawLines.{raw_line_of}
 use Rattle.e_book.specs.Grammar.{is_skipped, put_at}
@@ -37,8 +37,8 @@ at_end last (Some d) = Err (faults.Unended last)
 
 -- the next theorem and the lines after it, or the first fault; last is the number after the last line
 abbrev pub read_from : List TitledStatement → ℕ → Option TheoremParser → List (Result LineView LineFault) → Result (Option (TheoremView × List (Result LineView LineFault))) BookFault
-read_from known last draft [] = at_end last draft
-read_from known last draft (Err f ∷ lines) = Err (line_fault f)
-read_from known last draft (Ok line ∷ lines) =
-    if is_skipped (tokens_of line.bytes) then read_from known last draft lines else
-    (put_at line.number (line_step known draft (tokens_of line.bytes)) >>= λ d. if is_done d then Ok (Some (entry_of_draft d, lines)) else read_from known last (Some d) lines)
+read_from known last parser [] = at_end last parser
+read_from known last parser (Err f ∷ lines) = Err (line_fault f)
+read_from known last parser (Ok line ∷ lines) =
+    if is_skipped (tokens_of line.bytes) then read_from known last parser lines else
+    (put_at line.number (line_step known parser (tokens_of line.bytes)) >>= λ d. if is_done d then Ok (Some (entry_of_parser d, lines)) else read_from known last (Some d) lines)

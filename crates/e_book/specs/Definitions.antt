@@ -161,12 +161,12 @@ BookReads (Err f) new read = BookFails f read
 
 -- A theorem that is read has a spelling, and a title that no definition has. A definition that is read has a title that nothing has, means
 -- something, and speaks of its declared objects alone.
-abbrev pub IsGood : Known → BookItem → Type 0
-IsGood known (OfTheorem t) = HasSpelling known.theorems t × (defines known.notions t.title ≡ false)
-IsGood known (OfNotion n) = (is_taken known n.title ≡ false) × IsTrue (is_notion n.notion)
+abbrev pub IsWellFormedItem : Known → BookItem → Type 0
+IsWellFormedItem known (OfTheorem t) = HasSpelling known.theorems t × (defines known.notions t.title ≡ false)
+IsWellFormedItem known (OfNotion n) = (is_taken known n.title ≡ false) × IsTrue (is_notion n.notion)
 
-abbrev pub IsGoodItem : Known → Item → Type 0
-IsGoodItem known i = IsGood known (view_of i)
+abbrev pub HasWellFormedView : Known → Item → Type 0
+HasWellFormedView known i = IsWellFormedItem known (view_of i)
 
 -- where the theorems before are statements, a theorem that is read can be judged, and is one
 abbrev pub IsFittingItem : Known → Item → Type 0

@@ -10,7 +10,7 @@ use Rattle.e_line.specs.declared.fault.BookFault.{BookFault}
 use Rattle.e_names.specs.declared.known.Known.{Known}
 use Rattle.e_names.specs.Titled.{Titled, defines, are_notions}
 use Rattle.e_book.specs.TheoremViews.{TheoremView}
-use Rattle.e_book.specs.Definitions.{OfTheorem, OfNotion, item_from, IsGood}
+use Rattle.e_book.specs.Definitions.{OfTheorem, OfNotion, item_from, IsWellFormedItem}
 use Rattle.e_book.specs.FirstFault.{BreaksAt, IsFirst}
 use Rattle.e_names.specs.Scope.{scope_of_names, lit_in}
 use Rattle.e_names.specs.Fits.{NamesDiffer}
@@ -43,7 +43,7 @@ ReadTheoremsHaveASpelling =
 abbrev pub ReadDefinitionsAreNotions : Type 0
 ReadDefinitionsAreNotions =
     (known : Known) (last : ℕ) (n : Titled) (lines rest : List (Result LineView LineFault)) → IsTrue (are_notions known.notions)
-    → item_from known last None lines ≡ Ok (Some (OfNotion n, rest)) → IsGood known (OfNotion n)
+    → item_from known last None lines ≡ Ok (Some (OfNotion n, rest)) → IsWellFormedItem known (OfNotion n)
 
 -- Literals that are written out, with the names of their objects, are read as they were: so an item stands for the literals of its notion,
 -- with its objects for the declared ones.

@@ -19,21 +19,21 @@ use Rattle.e_line.specs.declared.superposes.RawSuperpose.{RawSuperpose}
 use Rattle.e_line.specs.declared.applies.RawApply.{RawApply}
 use Rattle.e_book.specs.declared.blocks.OpenBlock.{OpenBlock}
 use Rattle.e_book.specs.declared.blocks.BlockKind.{BlockKind}
-use Rattle.e_book.specs.declared.blocks.BlockKind.TheVariants as opened
+use Rattle.e_book.specs.declared.blocks.BlockKind.TheVariants as kind
 use Rattle.e_line.specs.declared.raw_line.RawLine.{RawLine}
 use Rattle.e_line.specs.declared.raw_line.RawLine.TheVariants as rawlines
 use Rattle.e_book.specs.declared.steps.CloseLine.{CloseLine}
 use Rattle.e_book.specs.declared.steps.CloseLine.TheVariants as closes
-use Rattle.e_book.specs.declared.draft.Section.{Section}
-use Rattle.e_book.specs.declared.draft.Section.TheVariants.{Declaring, Giving, Making, Showing, Proving, Splitting, Closed, Done}
-use Rattle.e_book.specs.declared.draft.TheoremParser.{TheoremParser}
+use Rattle.e_book.specs.declared.parser.Section.{Section}
+use Rattle.e_book.specs.declared.parser.Section.TheVariants.{Declaring, Giving, Making, Showing, Proving, Splitting, Closed, Done}
+use Rattle.e_book.specs.declared.parser.TheoremParser.{TheoremParser}
 use Rattle.e_book.specs.declared.inner.Saved.{Saved}
 use Rattle.e_line.specs.declared.fault.LineError.{LineError}
 use Rattle.e_line.specs.Reading.{◌>>=◌, with_front, Fails}
 use Rattle.e_line.specs.Limits.{most_theorems, most_of, most_steps, most_depth, most_facts, most_terms, most_blanks, what_of, within, monomials, count_monomials}
 use Rattle.e_theorem.specs.Statements.{stated}
 use Rattle.e_names.specs.TitledStatements.{TitledStatement, is_known, theorem_of}
-use Rattle.e_book.specs.DraftViews.{statement_of_draft, script_of_close}
+use Rattle.e_book.specs.ParserViews.{statement_of_parser, script_of_close}
 use Rattle.e_line.specs.LineLimits.{count_monos, few_monos}
 use Rattle.e_book.specs.LineLimits.{few_objects, FewNamed}
 use Rattle.e_book.specs.Blocks.{made_in}
@@ -82,8 +82,8 @@ with_step d s given = do
   Ok (record d { lines = d.lines + 1; steps = d.steps ++ s ∷ []; facts = d.facts + given })
 
 -- this many monomials and those of the literals, or the limit of all
-abbrev pub terms_behind : ℕ → List RawLit → Result ℕ FaultKind
-terms_behind n raws = within (n + count_monos raws) most_terms limits.Terms >>= λ few. Ok (n + count_monos raws)
+abbrev pub terms_after_raw : ℕ → List RawLit → Result ℕ FaultKind
+terms_after_raw n raws = within (n + count_monos raws) most_terms limits.Terms >>= λ few. Ok (n + count_monos raws)
 
 abbrev pub terms_after : ℕ → List Lit → Result ℕ FaultKind
 terms_after n ls = within (n + count_monomials ls) most_terms limits.Terms >>= λ few. Ok (n + count_monomials ls)
@@ -92,7 +92,7 @@ terms_after n ls = within (n + count_monomials ls) most_terms limits.Terms >>= �
 unfoldable pub with_terms : TheoremParser → List RawLit → Result TheoremParser FaultKind
 with_terms d raws = do
   few ← few_monos raws
-  n ← terms_behind d.terms raws
+  n ← terms_after_raw d.terms raws
   Ok (record d { terms = n })
 
 -- a construction: its names, then the limits of objects, of steps and of facts. Its new objects are in scope after it.
@@ -124,32 +124,32 @@ applied known d raw = do
 
 -- the block that an inner one interrupts
 abbrev pub outer_of : TheoremParser → BlockKind → OpenBlock
-outer_of d opened = record { steps = d.steps; in_scope = d.in_scope; facts = d.facts; terms = d.terms; opened = opened }
+outer_of d kind = record { steps = d.steps; in_scope = d.in_scope; facts = d.facts; terms = d.terms; kind = kind }
 
 -- an inner block begins, in which this many literals are facts at once
 abbrev pub interrupted : TheoremParser → BlockKind → ℕ → TheoremParser
-interrupted d opened given = record d { lines = d.lines + 1; outers = outer_of d opened ∷ d.outers; steps = []; facts = d.facts + given }
+interrupted d kind given = record d { lines = d.lines + 1; blocks = outer_of d kind ∷ d.blocks; steps = []; facts = d.facts + given }
 
 -- the limits of steps, of depth and of facts there
 unfoldable pub room_inside : TheoremParser → ℕ → Result (Unit {0}) FaultKind
 room_inside d given = do
   few ← within (d.lines + 1) most_steps limits.Steps
-  shallow ← within (length d.outers + 2) most_depth limits.Depth
+  shallow ← within (length d.blocks + 2) most_depth limits.Depth
   within (d.facts + given) most_facts limits.Facts
 
 -- a line that begins an inner block, within these limits
 unfoldable pub deeper : TheoremParser → BlockKind → ℕ → Result TheoremParser FaultKind
-deeper d opened given = do
+deeper d kind given = do
   few ← within (d.lines + 1) most_steps limits.Steps
-  shallow ← within (length d.outers + 2) most_depth limits.Depth
+  shallow ← within (length d.blocks + 2) most_depth limits.Depth
   none ← within (d.facts + given) most_facts limits.Facts
-  Ok (interrupted d opened given)
+  Ok (interrupted d kind given)
 
 -- a claim: its literals are facts only after its block
 unfoldable pub claimed : TheoremParser → List RawLit → Result TheoremParser FaultKind
 claimed d raws = do
   ls ← lits_in d.in_scope raws
-  e ← deeper d (opened.Claim ls) 0
+  e ← deeper d (kind.Claim ls) 0
   few ← few_monos raws
   Ok e
 
@@ -168,7 +168,7 @@ superposed d raw = do
   let given = superposing.gives_of_superposition p.0 (scope_of_names d.in_scope)
   let after = named d.in_scope superposing.sorts_copied raw.new
   objects ← few_objects after
-  e ← deeper d (opened.Superpose p.0 raw.new p.1) (length given)
+  e ← deeper d (kind.Superpose p.0 raw.new p.1) (length given)
   few ← few_monos raw.shown
   n ← terms_after e.terms given
   Ok (record e { in_scope = after; terms = n })
@@ -177,7 +177,7 @@ superposed d raw = do
 unfoldable pub split : TheoremParser → RawLit → Result TheoremParser FaultKind
 split d raw = do
   l ← lit_in d.in_scope raw
-  e ← deeper d (opened.First l) 1
+  e ← deeper d (kind.First l) 1
   with_terms e (raw ∷ [])
 
 -- the counts after a block that shows these literals: the limits of facts and of monomials
@@ -191,44 +191,44 @@ counted_from d facts terms shown = do
 unfoldable pub resumed : TheoremParser → OpenBlock → List OpenBlock → List Lit → PlainStep → Result TheoremParser FaultKind
 resumed d o os shown s = do
   e ← counted_from d o.facts o.terms shown
-  Ok (record e { steps = o.steps ++ s ∷ []; in_scope = o.in_scope; outers = os })
+  Ok (record e { steps = o.steps ++ s ∷ []; in_scope = o.in_scope; blocks = os })
 
 -- A block inside another is closed. A claim or a superposition is a step of the block around it. After the first block of a
 -- split comes `else`. After the second one the split closes the block around it.
 abbrev pub closed_inside : TheoremParser → OpenBlock → List OpenBlock → Script → (CloseLine → Result TheoremParser FaultKind) → BlockKind → Result TheoremParser FaultKind
-closed_inside d o os inner close (opened.Claim shown) = resumed d o os shown (Claimed shown inner)
-closed_inside d o os inner close (opened.Superpose form names shown) = resumed d o os shown (Copied form names shown [] inner)
-closed_inside d o os inner close (opened.First lit) =
-    Ok (record d { steps = []; in_scope = o.in_scope; facts = o.facts + 1; terms = o.terms + monomials lit.atom; outers = record o { opened = opened.Second lit inner } ∷ os; place = Splitting })
-closed_inside d o os inner close (opened.Second lit first) = close (closes.Cases lit first inner)
+closed_inside d o os inner close (kind.Claim shown) = resumed d o os shown (Claimed shown inner)
+closed_inside d o os inner close (kind.Superpose form names shown) = resumed d o os shown (Copied form names shown [] inner)
+closed_inside d o os inner close (kind.First lit) =
+    Ok (record d { steps = []; in_scope = o.in_scope; facts = o.facts + 1; terms = o.terms + monomials lit.atom; blocks = record o { kind = kind.Second lit inner } ∷ os; place = Splitting })
+closed_inside d o os inner close (kind.Second lit first) = close (closes.Cases lit first inner)
 
 -- the block with these steps inside these blocks is closed
 unfoldable pub closed : TheoremParser → List OpenBlock → List PlainStep → CloseLine → Result TheoremParser FaultKind
-closed d [] steps close = Ok (record d { steps = steps; outers = []; close = close; place = Closed })
-closed d (o ∷ os) steps close = closed_inside d o os (all_before steps (script_of_close close)) (λ c. closed d os o.steps c) o.opened
+closed d [] steps close = Ok (record d { steps = steps; blocks = []; close = close; place = Closed })
+closed d (o ∷ os) steps close = closed_inside d o os (all_before steps (script_of_close close)) (λ c. closed d os o.steps c) o.kind
 
 -- a block that an inner one interrupts, with what began that one
 abbrev pub outer_with : Saved → BlockKind → OpenBlock
-outer_with around opened = record { steps = around.steps; in_scope = around.in_scope; facts = around.facts; terms = around.terms; opened = opened }
+outer_with around kind = record { steps = around.steps; in_scope = around.in_scope; facts = around.facts; terms = around.terms; kind = kind }
 
 -- after the first block of a split, where the second begins
 abbrev pub second_begun : TheoremParser → Saved → Lit → Script → TheoremParser
 second_begun d around lit first =
-    record d { in_scope = around.in_scope; facts = around.facts + 1; terms = around.terms + monomials lit.atom; outers = outer_with around (opened.Second lit first) ∷ d.outers; place = Splitting }
+    record d { in_scope = around.in_scope; facts = around.facts + 1; terms = around.terms + monomials lit.atom; blocks = outer_with around (kind.Second lit first) ∷ d.blocks; place = Splitting }
 
--- what closing the open block inside another one leaves: the draft, or the close of that other block
+-- what closing the open block inside another one leaves: the parser, or the close of that other block
 abbrev pub ClosesInside : TheoremParser → OpenBlock → CloseLine → Result (Option CloseLine) LineError → TheoremParser → Type 0
 ClosesInside d o close (Ok None) new =
-    (again : CloseLine → Result TheoremParser FaultKind) → closed_inside d o d.outers (all_before d.steps (script_of_close close)) again o.opened ≡ Ok new
+    (again : CloseLine → Result TheoremParser FaultKind) → closed_inside d o d.blocks (all_before d.steps (script_of_close close)) again o.kind ≡ Ok new
 ClosesInside d o close (Ok (Some next)) new =
-    ((again : CloseLine → Result TheoremParser FaultKind) → closed_inside d o d.outers (all_before d.steps (script_of_close close)) again o.opened ≡ again next)
+    ((again : CloseLine → Result TheoremParser FaultKind) → closed_inside d o d.blocks (all_before d.steps (script_of_close close)) again o.kind ≡ again next)
     × (new ≡ record d { steps = o.steps })
 ClosesInside d o close (Err e) new =
-    (again : CloseLine → Result TheoremParser FaultKind) → Fails e (closed_inside d o d.outers (all_before d.steps (script_of_close close)) again o.opened)
+    (again : CloseLine → Result TheoremParser FaultKind) → Fails e (closed_inside d o d.blocks (all_before d.steps (script_of_close close)) again o.kind)
 
 -- a close line: the limit of steps, and what it closes
 unfoldable pub shut : TheoremParser → CloseLine → Result TheoremParser FaultKind
-shut d close = within (d.lines + 1) most_steps limits.Steps >>= λ few. closed (record d { lines = d.lines + 1 }) d.outers d.steps close
+shut d close = within (d.lines + 1) most_steps limits.Steps >>= λ few. closed (record d { lines = d.lines + 1 }) d.blocks d.steps close
 
 -- declared objects
 abbrev pub declares : TheoremParser → Sort → List (List ℕ) → Result TheoremParser FaultKind
@@ -248,7 +248,7 @@ shows d raws = with_front d.shown (lits_in d.names raws) >>= λ ls. few_monos ra
 
 -- the proof begins with the declared objects, and the names of the made ones are free again
 abbrev pub proof_begun : TheoremParser → Result TheoremParser FaultKind
-proof_begun d = Ok (record d { in_scope = declared_names (stated (statement_of_draft d)) d.names; place = Proving })
+proof_begun d = Ok (record d { in_scope = declared_names (stated (statement_of_parser d)) d.names; place = Proving })
 
 -- a citation: its rule, its names and its literal, then the limits
 abbrev pub cited : TheoremParser → List ℕ → List (List ℕ) → RawLit → Result TheoremParser FaultKind
@@ -260,7 +260,7 @@ inferred d raw = lit_in d.in_scope raw >>= λ l. with_step d (Inferred l None) 1
 
 -- the close by qed: its objects, then the limit of steps
 abbrev pub concluded : TheoremParser → List (List ℕ) → Result TheoremParser FaultKind
-concluded d ns = qed_in d.in_scope (made_in d.outers d.made) ns >>= λ objects. shut d (closes.Qed objects)
+concluded d ns = qed_in d.in_scope (made_in d.blocks d.made) ns >>= λ objects. shut d (closes.Qed objects)
 
 unfoldable pub stepped : List TitledStatement → TheoremParser → RawLine → Result TheoremParser FaultKind
 stepped known d (rawlines.Theorem t) = Err Malformed
@@ -291,18 +291,18 @@ count_names ns = length ns.points + length ns.lines + length ns.circles
 
 -- how many literals the inner block begins with, where `else` begins another with as many
 abbrev pub begun_with : BlockKind → ℕ
-begun_with (opened.First lit) = 1
+begun_with (kind.First lit) = 1
 begun_with other = 0
 
 -- how many monomials they have
 abbrev pub begun_terms : BlockKind → ℕ
-begun_terms (opened.First lit) = monomials lit.atom
+begun_terms (kind.First lit) = monomials lit.atom
 begun_terms other = 0
 
 pub record FitsOuter (o : OpenBlock) : Type 0 where
   pub in_scope : FewNamed o.in_scope
-  pub facts : o.facts + begun_with o.opened ≤ most_facts
-  pub terms : o.terms + begun_terms o.opened ≤ most_terms
+  pub facts : o.facts + begun_with o.kind ≤ most_facts
+  pub terms : o.terms + begun_terms o.kind ≤ most_terms
 
 abbrev pub AllFit : List OpenBlock → Type 0
 AllFit [] = Unit {0}
@@ -316,13 +316,13 @@ pub record FitsScope (d : TheoremParser) : Type 0 where
   pub lines : d.lines ≤ most_steps
   pub facts : d.facts ≤ most_facts
   pub terms : d.terms ≤ most_terms
-  pub outers : AllFit d.outers
-  pub shallow : length d.outers + 1 ≤ most_depth
+  pub blocks : AllFit d.blocks
+  pub shallow : length d.blocks + 1 ≤ most_depth
 
 -- a block inside the open one, with this many facts, is within the limits
 pub record HasRoom (d : TheoremParser) (given : ℕ) : Type 0 where
   pub lines : d.lines + 1 ≤ most_steps
-  pub depth : length d.outers + 2 ≤ most_depth
+  pub depth : length d.blocks + 2 ≤ most_depth
   pub facts : d.facts + given ≤ most_facts
 
 abbrev pub no_names : Names
@@ -330,7 +330,7 @@ no_names = record { points = []; lines = []; circles = [] }
 
 -- a theorem of which only the title has come
 abbrev pub begun : List ℕ → TheoremParser
-begun title = record { title = title; names = no_names; in_scope = no_names; declared = []; given = []; made = []; shown = []; steps = []; lines = 0; facts = 0; terms = 0; outers = []; close = closes.Qed []; place = Declaring }
+begun title = record { title = title; names = no_names; in_scope = no_names; declared = []; given = []; made = []; shown = []; steps = []; lines = 0; facts = 0; terms = 0; blocks = []; close = closes.Qed []; place = Declaring }
 
 -- a theorem begins with its title, which no earlier one has
 unfoldable pub begin : List TitledStatement → RawLine → Result TheoremParser FaultKind

@@ -82,13 +82,13 @@ pub struct OpenBlock {
     /// How many monomials they have.
     pub terms: usize,
     /// What began the inner block.
-    pub opened: BlockKind,
+    pub kind: BlockKind,
 }
 
 /// The blocks that are interrupted, seen as a list with the innermost first.
 #[derive(Drop)]
 pub struct BlockStack {
-    outers: Vec<OpenBlock>,
+    blocks: Vec<OpenBlock>,
 }
 
 impl Model for BlockStack {
@@ -101,7 +101,7 @@ impl Model for BlockStack {
 
     ghost coded = { coded_list open_block.the_row.coded };
 
-    ghost view = { λ o. reverse o.outers.items };
+    ghost view = { λ o. reverse o.blocks.items };
 }
 
 impl BlockStack {
@@ -110,7 +110,7 @@ impl BlockStack {
         ensures { result ≡ [] }
     {
         BlockStack {
-            outers: Vec::new(alloc),
+            blocks: Vec::new(alloc),
         }
     }
 
@@ -118,21 +118,21 @@ impl BlockStack {
     pub fn len(&self) -> usize
         ensures { result ≡ length self.now }
     {
-        self.outers.len()
+        self.blocks.len()
     }
 
     /// They, the outermost first.
     pub fn items(&self) -> &[OpenBlock]
         ensures { reverse result.now ≡ self.now }
     {
-        &self.outers
+        &self.blocks
     }
 
     /// One more, which is the innermost now. It fails only out of memory.
     pub(crate) fn push(&mut self, outer: OpenBlock) -> Result<(), AllocError>
         ensures { OnOk result (self.new ≡ outer ∷ self.old) }
     {
-        self.outers.push(outer)?;
+        self.blocks.push(outer)?;
         Ok(())
     }
 
@@ -140,7 +140,7 @@ impl BlockStack {
     pub fn pop(&mut self) -> Option<OpenBlock>
         ensures { TopIs self.old result self.new }
     {
-        self.outers.pop()
+        self.blocks.pop()
     }
 
     /// Whether one of them was interrupted by a claim or a superposition, whose block makes
@@ -149,22 +149,22 @@ impl BlockStack {
     pub fn has_claim(&self) -> bool
         ensures { result ≡ Rattle.e_book.specs.Blocks.has_claim self.now }
     {
-        any_claim(&self.outers)
+        any_claim(&self.blocks)
     }
 }
 
 /// Whether one of these blocks was interrupted by a claim or a superposition.
-fn any_claim(outers: &[OpenBlock]) -> bool
-    ensures { result ≡ Rattle.e_book.specs.Blocks.has_claim outers.now }
+fn any_claim(blocks: &[OpenBlock]) -> bool
+    ensures { result ≡ Rattle.e_book.specs.Blocks.has_claim blocks.now }
 {
-    outers.iter().any(|outer| is_claim(&outer.opened))
+    blocks.iter().any(|outer| is_claim(&outer.kind))
 }
 
 /// Whether the block has a goal of its own.
-fn is_claim(opened: &BlockKind) -> bool
-    ensures { result ≡ Rattle.e_book.specs.Blocks.is_claim opened.now }
+fn is_claim(kind: &BlockKind) -> bool
+    ensures { result ≡ Rattle.e_book.specs.Blocks.is_claim kind.now }
 {
-    match opened {
+    match kind {
         BlockKind::Claim { .. } | BlockKind::Superpose { .. } => true,
         BlockKind::First { .. } | BlockKind::Second { .. } => false,
     }

@@ -5,7 +5,7 @@ ghost use Rattle.e_deriv.specs.Fitting.{is_small_statement};
 ghost use Rattle.e_names.specs.TitledStatements.{stated_by};
 ghost use Rattle.e_names.specs.Titled.{are_notions};
 ghost use Rattle.e_book.specs.Grammar.{last_line};
-ghost use Rattle.e_book.specs.Definitions.{item_from, BookReads, IsGoodItem, IsFittingItem};
+ghost use Rattle.e_book.specs.Definitions.{item_from, BookReads, HasWellFormedView, IsFittingItem};
 ghost use Rattle.e_book.specs.inner.Machine as machine;
 
 use crate::item::Item;
@@ -67,7 +67,7 @@ pub fn next_item(alloc: Global, lines: &mut Lines, known: &Known) -> Result<Opti
     ensures read { BookReads result lines.new (item_from known.now (last_line lines.old) None lines.old.lines) }
     ensures last { OnOk result (last_line lines.new ≡ last_line lines.old) }
     ensures shorter { IfOk result (λ t. OnSome t (length lines.new.lines < length lines.old.lines)) }
-    ensures good { IfOk result (λ o. IfSome o (IsGoodItem known.now)) }
+    ensures good { IfOk result (λ o. IfSome o (HasWellFormedView known.now)) }
     ensures fitting { IfOk result (λ o. IfSome o (IsFittingItem known.now)) }
 {
     read_item(alloc, lines, known)

@@ -7,11 +7,11 @@ ghost use Rattle.e_line.specs.Items.{listing_form, superpose_form, is_show};
 ghost use Rattle.e_names.specs.Scope.{right_count};
 ghost use Rattle.e_book.specs.Definitions.{has_notion_title, OfNotion, view_of};
 ghost use Rattle.e_book.specs.Steps.{allowed, FitsScope};
-ghost use Rattle.e_book.specs.inner.Machine.{FitsComing, is_ready, written, begins, begins_theorem, begins_definition, step, goes_on, defines_on, lists, item_of, notion_of_draft};
+ghost use Rattle.e_book.specs.inner.Machine.{FitsComing, is_ready, written, begins, begins_theorem, begins_definition, step, goes_on, defines_on, lists, item_of, notion_of_parser};
 
-use crate::draft::{Section, TheoremParser, allowed};
 use crate::item::Item;
 use crate::limits::MAX_NOTIONS;
+use crate::parser::{Section, TheoremParser, allowed};
 use e_line::{
     BookLine, FaultKind, LineError, Listing, RawItem, RawLine, RawLit, RawSuperpose, What, within,
 };
@@ -25,9 +25,9 @@ use std::mem;
 /// What has come of a theorem or of a definition.
 #[derive(Drop)]
 pub struct Coming {
-    /// Whether it is a definition: what it means is what its draft shows.
+    /// Whether it is a definition: what it means is what its parser shows.
     pub defines: bool,
-    pub draft: TheoremParser,
+    pub parser: TheoremParser,
     /// How many literals its items stand for.
     pub expanded: usize,
 }
@@ -96,10 +96,10 @@ impl Coming {
         if has_notion_title(known, form) {
             return Err(LineError::Fault(FaultKind::NameTaken));
         }
-        let draft = TheoremParser::begin(alloc, &known.theorems, form)?;
+        let parser = TheoremParser::begin(alloc, &known.theorems, form)?;
         Ok(Coming {
             defines: false,
-            draft,
+            parser,
             expanded: 0,
         })
     }
@@ -117,7 +117,7 @@ impl Coming {
         }
         Ok(Coming {
             defines: true,
-            draft: TheoremParser::begun(alloc, title),
+            parser: TheoremParser::begun(alloc, title),
             expanded: 0,
         })
     }
@@ -167,29 +167,29 @@ impl Coming {
         if self.defines {
             return self.define(alloc, form);
         }
-        self.draft.step(alloc, &known.theorems, form)
+        self.parser.step(alloc, &known.theorems, form)
     }
 
     /// A line of a definition.
     #[tactic(auto, unfolding(crate::specs::inner::Machine::defines_on))]
     fn define(&mut self, alloc: Global, form: &RawLine) -> Result<(), LineError>
-        requires { FitsScope self.old.draft }
-        ensures value { Moves result self.new.draft (defines_on self.old.draft form.now) }
-        ensures fits { OnOk result (FitsScope self.new.draft) }
+        requires { FitsScope self.old.parser }
+        ensures value { Moves result self.new.parser (defines_on self.old.parser form.now) }
+        ensures fits { OnOk result (FitsScope self.new.parser) }
         ensures kept { (self.new.defines ≡ self.old.defines) × (self.new.expanded ≡ self.old.expanded) }
     {
         match form {
             RawLine::Declare(sort, names) => {
-                right_place(allowed(self.draft.place, form))?;
-                self.draft.on_declare(alloc, *sort, names.items())
+                right_place(allowed(self.parser.place, form))?;
+                self.parser.on_declare(alloc, *sort, names.items())
             }
             RawLine::Show(raw) => {
-                right_place(allowed(self.draft.place, form))?;
-                self.draft.on_show(alloc, raw.items())
+                right_place(allowed(self.parser.place, form))?;
+                self.parser.on_show(alloc, raw.items())
             }
             RawLine::End => {
-                right_place(matches!(self.draft.place, Section::Showing))?;
-                self.draft.place = Section::Done;
+                right_place(matches!(self.parser.place, Section::Showing))?;
+                self.parser.place = Section::Done;
                 Ok(())
             }
             _ => Err(LineError::Fault(FaultKind::Malformed)),
@@ -231,11 +231,11 @@ impl Coming {
     ) -> Result<Written, LineError>
         requires coming { FitsComing known.now self.now }
         requires notions { IsTrue (are_notions known.now.notions) }
-        ensures value { Gives (λ w. (w.form, w.count)) result (written known.now.notions self.now.draft line.now items.now) }
+        ensures value { Gives (λ w. (w.form, w.count)) result (written known.now.notions self.now.parser line.now items.now) }
         ensures count { IfOk result (λ w. w.count ≤ most_expanded + 1) }
     {
-        self.draft.ready(line)?;
-        let names = self.draft.names_there();
+        self.parser.ready(line)?;
+        let names = self.parser.names_there();
         let mut raws = Items::empty(alloc);
         let count = put_items(alloc, &known.notions, names, items, 0, &mut raws)?;
         let form = listing_form(alloc, line, raws)?;
@@ -246,24 +246,28 @@ impl Coming {
     pub(crate) fn into_item(self, alloc: Global) -> Item
         ensures { view_of result ≡ item_of self }
     {
-        let Coming { defines, draft, .. } = self;
+        let Coming {
+            defines,
+            parser,
+            ..
+        } = self;
         if defines {
-            return into_definition(draft);
+            return into_definition(parser);
         }
-        Item::Theorem(draft.into_theorem(alloc))
+        Item::Theorem(parser.into_theorem(alloc))
     }
 }
 
 /// The definition that the lines make.
-fn into_definition(draft: TheoremParser) -> Item
-    ensures { view_of result ≡ OfNotion (notion_of_draft draft) }
+fn into_definition(parser: TheoremParser) -> Item
+    ensures { view_of result ≡ OfNotion (notion_of_parser parser) }
 {
     let TheoremParser {
         title,
         declared,
         shown,
         ..
-    } = draft;
+    } = parser;
     Item::Notion(
         title,
         Notion {

@@ -5,10 +5,10 @@ ghost use Rattle.e_deriv.specs.Naming.{named};
 ghost use Rattle.e_book.specs.LineLimits.{few_objects, FewNamed};
 
 use crate::blocks::{BlockKind, Closed, OpenBlock};
-use crate::draft::{Section, TheoremParser};
 use crate::limits::{
     MAX_DEPTH, MAX_FACTS, MAX_STEPS, facts_of, few_objects, monomials, terms_of, terms_with,
 };
+use crate::parser::{Section, TheoremParser};
 use crate::steps::{CloseLine, Steps};
 use e_construct::Superpose;
 use e_deriv::{Names, Step};
@@ -58,7 +58,7 @@ impl TheoremParser {
     ghost use Rattle.e_book.specs.LineLimits.{few_objects};
     ghost use Rattle.e_book.specs.Steps.{FitsScope, FitsOuter, HasRoom, ClosesInside, concluded, with_terms, room_inside, interrupted, begun_with, begun_terms, claimed, superposed, copies_begun, split, outer_with, resumed, second_begun, closed, shut};
     ghost use Rattle.e_book.specs.Blocks.{made_in};
-    ghost use Rattle.e_book.specs.DraftViews.{script_of_close};
+    ghost use Rattle.e_book.specs.ParserViews.{script_of_close};
 
     /// The limits of a line that begins an inner block with this many facts: of steps, of depth and
     /// of facts.
@@ -69,7 +69,7 @@ impl TheoremParser {
         ensures room { IfOk result (λ u. HasRoom self.now given) }
     {
         within(self.lines + 1, MAX_STEPS, What::Steps)?;
-        within(self.outers.len() + 2, MAX_DEPTH, What::Depth)?;
+        within(self.blocks.len() + 2, MAX_DEPTH, What::Depth)?;
         if given > MAX_FACTS - self.facts {
             return Err(LineError::Fault(FaultKind::Limit(What::Facts)));
         }
@@ -77,23 +77,18 @@ impl TheoremParser {
     }
 
     /// An inner block begins, in which this many literals are facts at once.
-    fn interrupt(
-        &mut self,
-        alloc: Global,
-        opened: BlockKind,
-        given: usize,
-    ) -> Result<(), AllocError>
-        requires draft { FitsScope self.old }
+    fn interrupt(&mut self, alloc: Global, kind: BlockKind, given: usize) -> Result<(), AllocError>
+        requires parser { FitsScope self.old }
         requires room { HasRoom self.old given }
-        requires begun { begun_with opened ≤ given }
-        requires terms { self.old.terms + begun_terms opened ≤ most_terms }
-        ensures value { OnOk result (self.new ≡ interrupted self.old opened given) }
+        requires begun { begun_with kind ≤ given }
+        requires terms { self.old.terms + begun_terms kind ≤ most_terms }
+        ensures value { OnOk result (self.new ≡ interrupted self.old kind given) }
         ensures fits { OnOk result (FitsScope self.new) }
     {
         let in_scope = match self.in_scope.copy(alloc) {
             Ok(in_scope) => in_scope,
             Err(error) => {
-                mem::drop(opened);
+                mem::drop(kind);
                 return Err(error);
             }
         };
@@ -102,9 +97,9 @@ impl TheoremParser {
             in_scope,
             facts: self.facts,
             terms: self.terms,
-            opened,
+            kind,
         };
-        self.outers.push(outer)?;
+        self.blocks.push(outer)?;
         self.lines += 1;
         self.facts += given;
         Ok(())
@@ -140,8 +135,8 @@ impl TheoremParser {
         let given = form.gives(alloc, scope_of_names(&self.in_scope))?;
         let names = Items::new(Vec::from_slice(alloc, raw.new.items())?);
         let after = names_with(alloc, &self.in_scope, form.made(), raw.new.items())?;
-        let opened = BlockKind::Superpose { form, names, shown };
-        self.begin_copies(alloc, opened, after, &given, raw.shown.items())
+        let kind = BlockKind::Superpose { form, names, shown };
+        self.begin_copies(alloc, kind, after, &given, raw.shown.items())
     }
 
     /// The block of a superposition begins with these names and facts: the limits of steps, of
@@ -150,37 +145,37 @@ impl TheoremParser {
     fn begin_copies(
         &mut self,
         alloc: Global,
-        opened: BlockKind,
+        kind: BlockKind,
         after: Names,
         given: &[Lit],
         shown: &[RawLit],
     ) -> Result<(), LineError>
-        requires draft { FitsScope self.old }
+        requires parser { FitsScope self.old }
         requires after { FewNamed after }
-        requires begun { begun_with opened ≡ 0 }
-        requires terms { begun_terms opened ≡ 0 }
-        ensures value { Moves result self.new (copies_begun self.old opened after given.now shown.now) }
+        requires begun { begun_with kind ≡ 0 }
+        requires terms { begun_terms kind ≡ 0 }
+        ensures value { Moves result self.new (copies_begun self.old kind after given.now shown.now) }
         ensures fits { OnOk result (FitsScope self.new) }
     {
         if let Err(trouble) = self.room_inside(given.len()) {
-            mem::drop(opened);
+            mem::drop(kind);
             mem::drop(after);
             return Err(trouble);
         }
         if let Err(trouble) = few_monos(shown) {
-            mem::drop(opened);
+            mem::drop(kind);
             mem::drop(after);
             return Err(trouble);
         }
         let terms = match terms_of(self.terms, given) {
             Ok(terms) => terms,
             Err(trouble) => {
-                mem::drop(opened);
+                mem::drop(kind);
                 mem::drop(after);
                 return Err(trouble);
             }
         };
-        if let Err(trouble) = self.interrupt(alloc, opened, given.len()) {
+        if let Err(trouble) = self.interrupt(alloc, kind, given.len()) {
             mem::drop(after);
             return Err(trouble.into());
         }
@@ -230,9 +225,9 @@ impl TheoremParser {
 
     /// The made objects of the goal of the block that is open.
     fn goal_made(&self) -> &[Sort]
-        ensures { result.now ≡ made_in self.now.outers self.now.made }
+        ensures { result.now ≡ made_in self.now.blocks self.now.made }
     {
-        if self.outers.has_claim() {
+        if self.blocks.has_claim() {
             return &[];
         }
         self.made.items()
@@ -257,10 +252,10 @@ impl TheoremParser {
     #[tactic(auto, unfolding(crate::specs::Steps::closed))]
     fn close_block(&mut self, alloc: Global, close: CloseLine) -> Result<(), LineError>
         requires { FitsScope self.old }
-        ensures value { Moves result self.new (closed self.old self.old.outers self.old.steps close) }
+        ensures value { Moves result self.new (closed self.old self.old.blocks self.old.steps close) }
         ensures fits { OnOk result (FitsScope self.new) }
     {
-        let Some(outer) = self.outers.pop() else {
+        let Some(outer) = self.blocks.pop() else {
             mem::drop(mem::replace(&mut self.close, close));
             self.place = Section::Closed;
             return Ok(());
@@ -279,8 +274,8 @@ impl TheoremParser {
         outer: OpenBlock,
         close: CloseLine,
     ) -> Result<Option<CloseLine>, LineError>
-        requires draft { FitsScope self.old }
-        requires room { length self.old.outers + 2 ≤ most_depth }
+        requires parser { FitsScope self.old }
+        requires room { length self.old.blocks + 2 ≤ most_depth }
         requires outer { FitsOuter outer }
         ensures value { ClosesInside self.old outer close result self.new }
         ensures fits { OnOk result (FitsScope self.new) }
@@ -297,7 +292,7 @@ impl TheoremParser {
             in_scope,
             facts,
             terms,
-            opened,
+            kind,
         } = outer;
         let around = Saved {
             steps,
@@ -305,7 +300,7 @@ impl TheoremParser {
             facts,
             terms,
         };
-        match opened {
+        match kind {
             BlockKind::Claim { shown } => {
                 self.end_claim(alloc, around, shown, inner)?;
                 Ok(None)
@@ -354,9 +349,9 @@ impl TheoremParser {
         shown: Items<Lit>,
         inner: Closed,
     ) -> Result<(), LineError>
-        requires draft { FitsScope self.old }
+        requires parser { FitsScope self.old }
         requires outer { FitsOuter (outer_with around (BlockKind.Claim shown)) }
-        ensures value { Moves result self.new (resumed self.old (outer_with around (BlockKind.Claim shown)) self.old.outers shown (Claimed shown inner)) }
+        ensures value { Moves result self.new (resumed self.old (outer_with around (BlockKind.Claim shown)) self.old.blocks shown (Claimed shown inner)) }
         ensures fits { OnOk result (FitsScope self.new) }
     {
         let facts = match facts_of(around.facts, shown.items()) {
@@ -395,9 +390,9 @@ impl TheoremParser {
         shown: Items<Lit>,
         inner: Closed,
     ) -> Result<(), LineError>
-        requires draft { FitsScope self.old }
+        requires parser { FitsScope self.old }
         requires outer { FitsOuter (outer_with around (BlockKind.Superpose form names shown)) }
-        ensures value { Moves result self.new (resumed self.old (outer_with around (BlockKind.Superpose form names shown)) self.old.outers shown (Copied form names shown [] inner)) }
+        ensures value { Moves result self.new (resumed self.old (outer_with around (BlockKind.Superpose form names shown)) self.old.blocks shown (Copied form names shown [] inner)) }
         ensures fits { OnOk result (FitsScope self.new) }
     {
         let facts = match facts_of(around.facts, shown.items()) {
@@ -468,8 +463,8 @@ impl TheoremParser {
         lit: Lit,
         first: Closed,
     ) -> Result<(), AllocError>
-        requires draft { FitsScope self.old }
-        requires room { length self.old.outers + 2 ≤ most_depth }
+        requires parser { FitsScope self.old }
+        requires room { length self.old.blocks + 2 ≤ most_depth }
         requires outer { FitsOuter (outer_with around (BlockKind.First lit)) }
         ensures value { OnOk result (self.new ≡ second_begun self.old around lit first) }
         ensures fits { OnOk result (FitsScope self.new) }
@@ -493,13 +488,13 @@ impl TheoremParser {
         mem::drop(mem::replace(&mut self.in_scope, copied));
         self.facts = facts + 1;
         self.terms = terms + monomials(&lit);
-        let opened = BlockKind::Second { lit, first };
-        self.outers.push(OpenBlock {
+        let kind = BlockKind::Second { lit, first };
+        self.blocks.push(OpenBlock {
             steps,
             in_scope,
             facts,
             terms,
-            opened,
+            kind,
         })?;
         self.place = Section::Splitting;
         Ok(())

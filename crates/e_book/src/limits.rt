@@ -4,7 +4,7 @@ ghost use Rattle.e_line.specs.Reading.{Gives};
 ghost use Rattle.e_line.specs.declared.fault.What.TheVariants as limits;
 ghost use Rattle.e_line.specs.Limits.{most_facts, most_terms, most_of, what_of, within};
 ghost use Rattle.e_book.specs.LineLimits.{few_objects, FewNamed};
-ghost use Rattle.e_book.specs.Steps.{terms_behind, terms_after};
+ghost use Rattle.e_book.specs.Steps.{terms_after_raw, terms_after};
 
 use e_deriv::Names;
 use e_line::{FaultKind, LineError, RawLit, What, count_of, within};
@@ -77,7 +77,7 @@ pub(crate) fn few_objects(names: &Names) -> Result<(), LineError>
 /// So many monomials and those of the literals, or the limit of all.
 pub(crate) fn terms_with(before: usize, lits: &[RawLit]) -> Result<usize, LineError>
     requires { before ≤ most_terms }
-    ensures { Gives (λ n. n) result (terms_behind before lits.now) }
+    ensures { Gives (λ n. n) result (terms_after_raw before lits.now) }
 {
     let mut terms = before;
     for lit in lits {

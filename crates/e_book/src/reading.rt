@@ -5,12 +5,12 @@ ghost use Rattle.e_text.specs.Tokens.{tokens_of};
 ghost use Rattle.e_line.specs.Reading.{texts, Gives};
 ghost use Rattle.e_book.specs.Grammar.{starts_with_hash, is_skipped, last_line};
 ghost use Rattle.e_names.specs.Titled.{are_notions};
-ghost use Rattle.e_book.specs.Definitions.{IsGoodItem};
+ghost use Rattle.e_book.specs.Definitions.{HasWellFormedView};
 ghost use Rattle.e_book.specs.inner.Machine.{FitsComing, line_step, is_done, IsBegun, TakesWords, TakesLine, ReadsOn, end_of};
 
 use crate::coming::Coming;
-use crate::draft::Section;
 use crate::item::Item;
+use crate::parser::Section;
 use e_line::{BookFault, LineError, collected, line_of, of_line};
 use e_names::Known;
 use e_text::{Line, Lines};
@@ -39,7 +39,7 @@ pub fn is_skipped(words: &[&[u8]]) -> bool
 fn is_done(coming: &Coming) -> bool
     ensures { result ≡ is_done coming.now }
 {
-    matches!(coming.draft.place, Section::Done)
+    matches!(coming.parser.place, Section::Done)
 }
 
 /// A line begins a theorem or a definition, or goes on with it.
@@ -203,7 +203,7 @@ impl Reading {
         ensures shorter { IfOk result (λ t. OnSome t (length lines.new.lines < length lines.old.lines)) }
         ensures fits { OnOk result (IfSome self.new.coming (FitsComing known.now)) }
         ensures begun { OnOk result (IsBegun known.now self.new.coming) }
-        ensures good { IfOk result (λ o. IfSome o (IsGoodItem known.now)) }
+        ensures good { IfOk result (λ o. IfSome o (HasWellFormedView known.now)) }
     {
         self.read_lines(alloc, lines, known)
     }

@@ -2,7 +2,7 @@
 ghost use Rattle.std.specs.Prelude.{◌≡◌, ◌++◌, ◌∷◌, [], IfOk, OnOk, length};
 ghost use Rattle.e_deriv.specs.Script.{script_of, close_script};
 ghost use Rattle.e_deriv.specs.PlainStep.{plain_step, all_before};
-ghost use Rattle.e_book.specs.DraftViews.{script_of_close};
+ghost use Rattle.e_book.specs.ParserViews.{script_of_close};
 
 use crate::blocks::Closed;
 use e_deriv::{Block, Close, Step};

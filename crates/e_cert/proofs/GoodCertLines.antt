@@ -48,11 +48,11 @@ use Rattle.e_cert.specs.declared.kept.StepCerts.{StepCerts}
 use Rattle.e_cert.specs.declared.kept.StepCerts.TheVariants as kept
 use Rattle.e_cert.specs.CertLines.{cert_line_of, cert_line_text, row_is_of, cert_line_is_of}
 use Rattle.e_cert.specs.Strict.{is_strict_cert_line, exact_cert_line}
-use Rattle.e_cert.specs.Owed.{most_rows, fact_in, row_in, with_row, row_put, sum_begun, differs_put, sums_ended, has_more, certificate, transfer_put, part_put, metric_put, takes_metric, clash_put, transfer_rule, count_others, transfer_at, transfer_in, transfer_begun, ended, sums_behind, due_behind, after_cert_line, kept_of, finish_certs}
+use Rattle.e_cert.specs.Owed.{most_rows, fact_in, row_in, with_row, row_put, sum_begun, differs_put, sums_ended, has_more, certificate, transfer_put, part_put, metric_put, takes_metric, clash_put, transfer_rule, count_others, transfer_at, transfer_in, transfer_begun, ended, sums_after, due_after, after_cert_line, kept_of, finish_certs}
 use Rattle.e_clause.specs.Written.{is_writable_name}
 use Rattle.e_clause.specs.declared.cert.Version.{Version}
 use Rattle.e_clause.specs.Versions.{by_literals, by_places, is_name_of, is_sum_of, are_sums_of, is_part_of, is_cert_of, is_against_of}
-use Rattle.e_cert.proofs.GoodKept.{AreGood}
+use Rattle.e_cert.proofs.GoodKept.{AreOfVersion}
 use Rattle.e_cert.proofs.CertLineLits.{OfRow, OfCertLine, cert_line_lit}
 
 -- ---- what is said: no coefficient of a row's literal is 0
@@ -121,32 +121,32 @@ version_row v ns rows.Below r of said e = subst (λ (x : RowName). is_name_of v 
 module _ (v : Version) where
   -- ---- what is owed
 
-  abbrev pub is_good_open : Option OpenSums → Bool
-  is_good_open None = true
-  is_good_open (Some sums.Begun) = true
-  is_good_open (Some (sums.One sum)) = is_sum_of v sum
-  is_good_open (Some (sums.Differs differs)) = is_name_of v differs
-  is_good_open (Some (sums.Above differs sum)) = is_name_of v differs && is_sum_of v sum
-  is_good_open (Some (sums.Below differs above sum)) = is_name_of v differs && (is_sum_of v above && is_sum_of v sum)
+  abbrev pub is_open_of : Option OpenSums → Bool
+  is_open_of None = true
+  is_open_of (Some sums.Begun) = true
+  is_open_of (Some (sums.One sum)) = is_sum_of v sum
+  is_open_of (Some (sums.Differs differs)) = is_name_of v differs
+  is_open_of (Some (sums.Above differs sum)) = is_name_of v differs && is_sum_of v sum
+  is_open_of (Some (sums.Below differs above sum)) = is_name_of v differs && (is_sum_of v above && is_sum_of v sum)
 
-  abbrev pub are_good_certs : List Cert → Bool
-  are_good_certs cs = list_all (is_cert_of v) cs
+  abbrev pub are_certs_of : List Cert → Bool
+  are_certs_of cs = list_all (is_cert_of v) cs
 
-  abbrev pub are_good_parts : List Part → Bool
-  are_good_parts ps = list_all (is_part_of v) ps
+  abbrev pub are_parts_of : List Part → Bool
+  are_parts_of ps = list_all (is_part_of v) ps
 
-  abbrev pub is_good_due : Obligation → Bool
-  is_good_due due.Nothing = true
-  is_good_due (due.Literals wanted certs None) = are_good_certs certs
-  is_good_due (due.Literals wanted certs (Some t)) = are_good_certs certs && are_good_parts t.parts
-  is_good_due (due.Contradiction None) = true
-  is_good_due (due.Contradiction (Some a)) = is_against_of v a
+  abbrev pub is_obligation_of : Obligation → Bool
+  is_obligation_of due.Nothing = true
+  is_obligation_of (due.Literals wanted certs None) = are_certs_of certs
+  is_obligation_of (due.Literals wanted certs (Some t)) = are_certs_of certs && are_parts_of t.parts
+  is_obligation_of (due.Contradiction None) = true
+  is_obligation_of (due.Contradiction (Some a)) = is_against_of v a
 
   abbrev pub GoodOpen : Option OpenSums → Type 0
-  GoodOpen s = is_good_open s ≡ true
+  GoodOpen s = is_open_of s ≡ true
 
   abbrev pub GoodDue : Obligation → Type 0
-  GoodDue d = is_good_due d ≡ true
+  GoodDue d = is_obligation_of d ≡ true
 
   pub record GoodOwed (o : Pending) : Type 0 where
     pub certs : GoodDue o.due
@@ -205,7 +205,7 @@ module _ (v : Version) where
 
   -- ---- certificates
 
-  transfer_put_good : (wanted : List Lit) (certs : List Cert) (t : OpenTransfer) (new : Obligation) → are_good_certs certs ≡ true → are_good_parts t.parts ≡ true → transfer_put wanted certs t ≡ Ok new → GoodDue new
+  transfer_put_good : (wanted : List Lit) (certs : List Cert) (t : OpenTransfer) (new : Obligation) → are_certs_of certs ≡ true → are_parts_of t.parts ≡ true → transfer_put wanted certs t ≡ Ok new → GoodDue new
   transfer_put_good wanted certs t new h k e =
       either GoodDue (length t.parts == t.owed) (read_ok (due.Literals wanted (certs ++ certificate t ∷ []) None)) (read_ok (due.Literals wanted certs (Some t))) new e
       (to_due (due.Literals wanted (certs ++ certificate t ∷ []) None) new (all_both (is_cert_of v) certs (certificate t ∷ []) h (and_from _ _ k refl)))
@@ -216,7 +216,7 @@ module _ (v : Version) where
       let x = passed (has_more wanted certs) (read_ok (due.Literals wanted (certs ++ Plain p ∷ []) None)) new e in
       to_due (due.Literals wanted (certs ++ Plain p ∷ []) None) new (all_both (is_cert_of v) certs (Plain p ∷ []) h (and_from _ _ k refl)) x.1
   part_put_good (due.Literals wanted certs (Some t)) p new h k e =
-      let q = and_parts (are_good_certs certs) (are_good_parts t.parts) h in
+      let q = and_parts (are_certs_of certs) (are_parts_of t.parts) h in
       transfer_put_good wanted certs (record t { parts = t.parts ++ p ∷ [] }) new q.0 (all_both (is_part_of v) t.parts (p ∷ []) q.1 (and_from _ _ k refl)) e
   part_put_good d p new h k e = absurd cc
 
@@ -231,7 +231,7 @@ module _ (v : Version) where
   clash_put_good d l new e = absurd cc
 
   -- a transfer that is begun has no part yet
-  no_parts : (ns : Names) (l : Lit) (title : List ℕ) (raws : List (List ℕ)) (t : OpenTransfer) → transfer_in ns l title raws ≡ Ok t → are_good_parts t.parts ≡ true
+  no_parts : (ns : Names) (l : Lit) (title : List ℕ) (raws : List (List ℕ)) (t : OpenTransfer) → transfer_in ns l title raws ≡ Ok t → are_parts_of t.parts ≡ true
   unfolding transfer_in transfer_at
   no_parts ns l title raws t e =
       let then : ℕ → List Obj → List Lit → OpenTransfer = λ r args lits. record { rule = r; args = args; parts = []; owed = count_others l lits } in
@@ -243,7 +243,7 @@ module _ (v : Version) where
       let right = bind_ok (right_count (length raws == s.0.points + s.0.lines + s.0.circles)) (λ right. third r.0 s.0) t s.2 in
       let args = bind_ok (args_in ns s.0 raws) (λ args. last r.0 args) t right.2 in
       let lits = bind_ok (or_malformed (Inst r.0 args.0)) (λ lits. read_ok (then r.0 args.0 lits)) t args.2 in
-      subst (λ (x : OpenTransfer). are_good_parts x.parts ≡ true) (ok_is (then r.0 args.0 lits.0) t lits.2) refl
+      subst (λ (x : OpenTransfer). are_parts_of x.parts ≡ true) (ok_is (then r.0 args.0 lits.0) t lits.2) refl
 
   transfer_begun_good : (ns : Names) (d : Obligation) (title : List ℕ) (raws : List (List ℕ)) (new : Obligation) → GoodDue d → transfer_begun ns d title raws ≡ Ok new → GoodDue new
   transfer_begun_good ns (due.Literals wanted certs None) title raws new h e =
@@ -262,65 +262,65 @@ module _ (v : Version) where
       let d = bind_ok (metric_put o.due (record { sums = all.0 })) (λ d. read_ok (then d)) e all.2 in
       to_owed (then d.0) e (record { certs = metric_put_good o.due (record { sums = all.0 }) d.0 h.certs (sums_ended_good s all.0 k all.1) d.1; rows_of_sums = refl }) d.2
 
-  -- behind a line of a certificate what was read is good
+  -- after a line of a certificate what was read is good
   after_cert_line_good : (o : Pending) (m : CertLine) (new : Pending) → GoodOwed o → cert_line_is_of v m ≡ true → CertLineSaid m → after_cert_line o m ≡ Ok new → GoodOwed new
   unfolding after_cert_line
   after_cert_line_good o certlines.Fact new h of said same =
-      let e = bind_ok (ended o o.sums) (λ e. part_put e.due parts.Fact >>= λ d. read_ok (due_behind e d)) new same in
+      let e = bind_ok (ended o o.sums) (λ e. part_put e.due parts.Fact >>= λ d. read_ok (due_after e d)) new same in
       let g = ended_good o o.sums e.0 h h.rows_of_sums e.1 in
-      let d = bind_ok (part_put e.0.due parts.Fact) (λ d. read_ok (due_behind e.0 d)) new e.2 in
-      to_owed (due_behind e.0 d.0) new (record { certs = part_put_good e.0.due parts.Fact d.0 g.certs of d.1; rows_of_sums = g.rows_of_sums }) d.2
+      let d = bind_ok (part_put e.0.due parts.Fact) (λ d. read_ok (due_after e.0 d)) new e.2 in
+      to_owed (due_after e.0 d.0) new (record { certs = part_put_good e.0.due parts.Fact d.0 g.certs of d.1; rows_of_sums = g.rows_of_sums }) d.2
   after_cert_line_good o (certlines.FactAt k) new h of said same =
-      let e = bind_ok (ended o o.sums) (λ e. part_put e.due (parts.FactAt k) >>= λ d. read_ok (due_behind e d)) new same in
+      let e = bind_ok (ended o o.sums) (λ e. part_put e.due (parts.FactAt k) >>= λ d. read_ok (due_after e d)) new same in
       let g = ended_good o o.sums e.0 h h.rows_of_sums e.1 in
-      let d = bind_ok (part_put e.0.due (parts.FactAt k)) (λ d. read_ok (due_behind e.0 d)) new e.2 in
-      to_owed (due_behind e.0 d.0) new (record { certs = part_put_good e.0.due (parts.FactAt k) d.0 g.certs (and_from (by_places v) (ltb k (2 ^ 32)) of said) d.1; rows_of_sums = g.rows_of_sums }) d.2
+      let d = bind_ok (part_put e.0.due (parts.FactAt k)) (λ d. read_ok (due_after e.0 d)) new e.2 in
+      to_owed (due_after e.0 d.0) new (record { certs = part_put_good e.0.due (parts.FactAt k) d.0 g.certs (and_from (by_places v) (ltb k (2 ^ 32)) of said) d.1; rows_of_sums = g.rows_of_sums }) d.2
   after_cert_line_good o certlines.Metric new h of said same =
-      let e = bind_ok (ended o o.sums) (λ e. cond (takes_metric e.due) (read_ok (sums_behind e sums.Begun)) (Err Malformed)) new same in
+      let e = bind_ok (ended o o.sums) (λ e. cond (takes_metric e.due) (read_ok (sums_after e sums.Begun)) (Err Malformed)) new same in
       let g = ended_good o o.sums e.0 h h.rows_of_sums e.1 in
-      let p = passed (takes_metric e.0.due) (read_ok (sums_behind e.0 sums.Begun)) new e.2 in
-      to_owed (sums_behind e.0 sums.Begun) new (record { certs = g.certs; rows_of_sums = refl }) p.1
+      let p = passed (takes_metric e.0.due) (read_ok (sums_after e.0 sums.Begun)) new e.2 in
+      to_owed (sums_after e.0 sums.Begun) new (record { certs = g.certs; rows_of_sums = refl }) p.1
   after_cert_line_good o (certlines.Transfer title raws) new h of said same =
-      let e = bind_ok (ended o o.sums) (λ e. transfer_begun e.names e.due title raws >>= λ d. read_ok (due_behind e d)) new same in
+      let e = bind_ok (ended o o.sums) (λ e. transfer_begun e.names e.due title raws >>= λ d. read_ok (due_after e d)) new same in
       let g = ended_good o o.sums e.0 h h.rows_of_sums e.1 in
-      let d = bind_ok (transfer_begun e.0.names e.0.due title raws) (λ d. read_ok (due_behind e.0 d)) new e.2 in
-      to_owed (due_behind e.0 d.0) new (record { certs = transfer_begun_good e.0.names e.0.due title raws d.0 g.certs d.1; rows_of_sums = g.rows_of_sums }) d.2
+      let d = bind_ok (transfer_begun e.0.names e.0.due title raws) (λ d. read_ok (due_after e.0 d)) new e.2 in
+      to_owed (due_after e.0 d.0) new (record { certs = transfer_begun_good e.0.names e.0.due title raws d.0 g.certs d.1; rows_of_sums = g.rows_of_sums }) d.2
   after_cert_line_good o (certlines.Clash raw) new h of said same =
-      let e = bind_ok (ended o o.sums) (λ e. lit_in e.names raw >>= λ l. clash_put e.due l >>= λ d. read_ok (due_behind e d)) new same in
+      let e = bind_ok (ended o o.sums) (λ e. lit_in e.names raw >>= λ l. clash_put e.due l >>= λ d. read_ok (due_after e d)) new same in
       let g = ended_good o o.sums e.0 h h.rows_of_sums e.1 in
-      let l = bind_ok (lit_in e.0.names raw) (λ l. clash_put e.0.due l >>= λ d. read_ok (due_behind e.0 d)) new e.2 in
-      let d = bind_ok (clash_put e.0.due l.0) (λ d. read_ok (due_behind e.0 d)) new l.2 in
-      to_owed (due_behind e.0 d.0) new (record { certs = clash_put_good e.0.due l.0 d.0 d.1; rows_of_sums = g.rows_of_sums }) d.2
+      let l = bind_ok (lit_in e.0.names raw) (λ l. clash_put e.0.due l >>= λ d. read_ok (due_after e.0 d)) new e.2 in
+      let d = bind_ok (clash_put e.0.due l.0) (λ d. read_ok (due_after e.0 d)) new l.2 in
+      to_owed (due_after e.0 d.0) new (record { certs = clash_put_good e.0.due l.0 d.0 d.1; rows_of_sums = g.rows_of_sums }) d.2
   after_cert_line_good o certlines.Sum new h of said same =
-      let s = bind_ok (sum_begun o.sums) (λ s. read_ok (sums_behind o s)) new same in
-      to_owed (sums_behind o s.0) new (record { certs = h.certs; rows_of_sums = sum_begun_good o.sums s.0 h.rows_of_sums s.1 }) s.2
+      let s = bind_ok (sum_begun o.sums) (λ s. read_ok (sums_after o s)) new same in
+      to_owed (sums_after o s.0) new (record { certs = h.certs; rows_of_sums = sum_begun_good o.sums s.0 h.rows_of_sums s.1 }) s.2
   after_cert_line_good o (certlines.Differs raw) new h of said same =
-      let r = bind_ok (row_in o.names raw) (λ r. differs_put o.sums r >>= λ s. read_ok (sums_behind o s)) new same in
-      let s = bind_ok (differs_put o.sums r.0) (λ s. read_ok (sums_behind o s)) new r.2 in
-      to_owed (sums_behind o s.0) new (record { certs = h.certs; rows_of_sums = differs_put_good o.sums r.0 s.0 (version_row v o.names raw r.0 of said r.1) s.1 }) s.2
+      let r = bind_ok (row_in o.names raw) (λ r. differs_put o.sums r >>= λ s. read_ok (sums_after o s)) new same in
+      let s = bind_ok (differs_put o.sums r.0) (λ s. read_ok (sums_after o s)) new r.2 in
+      to_owed (sums_after o s.0) new (record { certs = h.certs; rows_of_sums = differs_put_good o.sums r.0 s.0 (version_row v o.names raw r.0 of said r.1) s.1 }) s.2
   after_cert_line_good o (certlines.Row m raw) new h of said same =
-      let r = bind_ok (row_in o.names raw) (λ r. row_put o.sums m r >>= λ s. read_ok (sums_behind o s)) new same in
-      let s = bind_ok (row_put o.sums m r.0) (λ s. read_ok (sums_behind o s)) new r.2 in
-      to_owed (sums_behind o s.0) new (record { certs = h.certs; rows_of_sums = row_put_good o.sums m r.0 s.0 h.rows_of_sums (version_row v o.names raw r.0 of said r.1) s.1 }) s.2
+      let r = bind_ok (row_in o.names raw) (λ r. row_put o.sums m r >>= λ s. read_ok (sums_after o s)) new same in
+      let s = bind_ok (row_put o.sums m r.0) (λ s. read_ok (sums_after o s)) new r.2 in
+      to_owed (sums_after o s.0) new (record { certs = h.certs; rows_of_sums = row_put_good o.sums m r.0 s.0 h.rows_of_sums (version_row v o.names raw r.0 of said r.1) s.1 }) s.2
 
   pub strict_good : (o : Pending) (line : List ℕ) (ws : List (List ℕ)) (m : CertLine) (new : Pending) → GoodOwed o → cert_line_is_of v m ≡ true → exact_cert_line line ws ≡ Ok m → after_cert_line o m ≡ Ok new → GoodOwed new
   strict_good o line ws m new h of e same = after_cert_line_good o m new h of (strict_said line ws m e) same
 
-  to_kept : (x k : Option StepCerts) → AreGood v (option_to_list x) → read_ok x ≡ Ok k → AreGood v (option_to_list k)
-  to_kept x k h e = subst (λ (y : Option StepCerts). AreGood v (option_to_list y)) (ok_is x k e) h
+  to_kept : (x k : Option StepCerts) → AreOfVersion v (option_to_list x) → read_ok x ≡ Ok k → AreOfVersion v (option_to_list k)
+  to_kept x k h e = subst (λ (y : Option StepCerts). AreOfVersion v (option_to_list y)) (ok_is x k e) h
 
-  kept_good : (d : Obligation) (k : Option StepCerts) → GoodDue d → kept_of d ≡ Ok k → AreGood v (option_to_list k)
+  kept_good : (d : Obligation) (k : Option StepCerts) → GoodDue d → kept_of d ≡ Ok k → AreOfVersion v (option_to_list k)
   kept_good due.Nothing k h e = to_kept None k refl e
   kept_good (due.Literals wanted certs None) k h e = by (has_more wanted certs) e
     where
-      by : (b : Bool) → cond b (Err Malformed) (read_ok (Some (kept.Certs certs))) ≡ Ok k → AreGood v (option_to_list k)
+      by : (b : Bool) → cond b (Err Malformed) (read_ok (Some (kept.Certs certs))) ≡ Ok k → AreOfVersion v (option_to_list k)
       by true x = absurd cc
       by false x = to_kept (Some (kept.Certs certs)) k (and_from _ _ h refl) x
   kept_good (due.Literals wanted certs (Some t)) k h e = absurd cc
   kept_good (due.Contradiction None) k h e = absurd cc
   kept_good (due.Contradiction (Some a)) k h e = to_kept (Some (kept.Against a)) k (and_from _ _ h refl) e
 
-  pub settled_good : (o : Pending) (k : Option StepCerts) → GoodOwed o → finish_certs o ≡ Ok k → AreGood v (option_to_list k)
+  pub settled_good : (o : Pending) (k : Option StepCerts) → GoodOwed o → finish_certs o ≡ Ok k → AreOfVersion v (option_to_list k)
   unfolding finish_certs
   settled_good o k h same =
       let e = bind_ok (ended o o.sums) (λ e. kept_of e.due) k same in

@@ -8,9 +8,9 @@ use Rattle.e_clause.specs.Versions.{is_cert_of, is_against_of}
 
 module _ (v : Version) where
   -- what was read below a line is of the version
-  abbrev pub is_good_kept : StepCerts → Bool
-  is_good_kept (kept.Certs cs) = list_all (is_cert_of v) cs
-  is_good_kept (kept.Against a) = is_against_of v a
+  abbrev pub are_certs_of_version : StepCerts → Bool
+  are_certs_of_version (kept.Certs cs) = list_all (is_cert_of v) cs
+  are_certs_of_version (kept.Against a) = is_against_of v a
 
-  abbrev pub AreGood : List StepCerts → Type 0
-  AreGood ks = list_all is_good_kept ks ≡ true
+  abbrev pub AreOfVersion : List StepCerts → Type 0
+  AreOfVersion ks = list_all are_certs_of_version ks ≡ true

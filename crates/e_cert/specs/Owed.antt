@@ -158,22 +158,22 @@ abbrev pub ended : Pending → Option OpenSums → Result Pending FaultKind
 ended o None = Ok o
 ended o (Some s) = sums_ended s >>= λ all. metric_put o.due (record { sums = all }) >>= λ d. Ok (record o { due = d; sums = None })
 
-abbrev pub sums_behind : Pending → OpenSums → Pending
-sums_behind o s = record o { sums = Some s }
+abbrev pub sums_after : Pending → OpenSums → Pending
+sums_after o s = record o { sums = Some s }
 
-abbrev pub due_behind : Pending → Obligation → Pending
-due_behind o d = record o { due = d }
+abbrev pub due_after : Pending → Obligation → Pending
+due_after o d = record o { due = d }
 
 -- what is owed after a line of a certificate
 unfoldable pub after_cert_line : Pending → CertLine → Result Pending FaultKind
-after_cert_line o certlines.Fact = ended o o.sums >>= λ e. part_put e.due parts.Fact >>= λ d. Ok (due_behind e d)
-after_cert_line o (certlines.FactAt k) = ended o o.sums >>= λ e. part_put e.due (parts.FactAt k) >>= λ d. Ok (due_behind e d)
-after_cert_line o certlines.Metric = ended o o.sums >>= λ e. if takes_metric e.due then Ok (sums_behind e sums.Begun) else Err Malformed
-after_cert_line o (certlines.Transfer title raws) = ended o o.sums >>= λ e. transfer_begun e.names e.due title raws >>= λ d. Ok (due_behind e d)
-after_cert_line o (certlines.Clash raw) = ended o o.sums >>= λ e. lit_in e.names raw >>= λ l. clash_put e.due l >>= λ d. Ok (due_behind e d)
-after_cert_line o certlines.Sum = sum_begun o.sums >>= λ s. Ok (sums_behind o s)
-after_cert_line o (certlines.Differs raw) = row_in o.names raw >>= λ r. differs_put o.sums r >>= λ s. Ok (sums_behind o s)
-after_cert_line o (certlines.Row m raw) = row_in o.names raw >>= λ r. row_put o.sums m r >>= λ s. Ok (sums_behind o s)
+after_cert_line o certlines.Fact = ended o o.sums >>= λ e. part_put e.due parts.Fact >>= λ d. Ok (due_after e d)
+after_cert_line o (certlines.FactAt k) = ended o o.sums >>= λ e. part_put e.due (parts.FactAt k) >>= λ d. Ok (due_after e d)
+after_cert_line o certlines.Metric = ended o o.sums >>= λ e. if takes_metric e.due then Ok (sums_after e sums.Begun) else Err Malformed
+after_cert_line o (certlines.Transfer title raws) = ended o o.sums >>= λ e. transfer_begun e.names e.due title raws >>= λ d. Ok (due_after e d)
+after_cert_line o (certlines.Clash raw) = ended o o.sums >>= λ e. lit_in e.names raw >>= λ l. clash_put e.due l >>= λ d. Ok (due_after e d)
+after_cert_line o certlines.Sum = sum_begun o.sums >>= λ s. Ok (sums_after o s)
+after_cert_line o (certlines.Differs raw) = row_in o.names raw >>= λ r. differs_put o.sums r >>= λ s. Ok (sums_after o s)
+after_cert_line o (certlines.Row m raw) = row_in o.names raw >>= λ r. row_put o.sums m r >>= λ s. Ok (sums_after o s)
 
 -- what was read for a line, where nothing is owed any more; a line without certificates has nothing
 abbrev pub kept_of : Obligation → Result (Option StepCerts) FaultKind

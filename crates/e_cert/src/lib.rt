@@ -1,4 +1,4 @@
-//! The lines of certificates: told from their words, spelled again, and what a line owes while they
+//! The lines of certificates: read from their words, spelled again, and what a line owes while they
 //! come.
 #![tactic(auto)]
 

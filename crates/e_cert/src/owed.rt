@@ -131,7 +131,7 @@ fn row_put(sums: Option<OpenSums>, multiplier: i128, row: RowName) -> Result<Ope
     ensures { Gives (λ s. s) result (row_put sums multiplier row) }
 {
     match sums {
-        Some(sums) => row_behind(sums, multiplier, row),
+        Some(sums) => row_after(sums, multiplier, row),
         None => {
             mem::drop(row);
             Err(malformed())
@@ -140,7 +140,7 @@ fn row_put(sums: Option<OpenSums>, multiplier: i128, row: RowName) -> Result<Ope
 }
 
 /// A row comes after what has come of the sums.
-fn row_behind(sums: OpenSums, multiplier: i128, row: RowName) -> Result<OpenSums, LineError>
+fn row_after(sums: OpenSums, multiplier: i128, row: RowName) -> Result<OpenSums, LineError>
     ensures { Gives (λ s. s) result (row_put (Some sums) multiplier row) }
 {
     match sums {
@@ -177,13 +177,13 @@ fn sum_begun(alloc: Global, sums: Option<OpenSums>) -> Result<OpenSums, LineErro
     ensures { Gives (λ s. s) result (sum_begun sums) }
 {
     match sums {
-        Some(sums) => sum_behind(alloc, sums),
+        Some(sums) => sum_after(alloc, sums),
         None => Err(malformed()),
     }
 }
 
 /// A sum is begun after what has come of the sums.
-fn sum_behind(alloc: Global, sums: OpenSums) -> Result<OpenSums, LineError>
+fn sum_after(alloc: Global, sums: OpenSums) -> Result<OpenSums, LineError>
     ensures { Gives (λ s. s) result (sum_begun (Some sums)) }
 {
     match sums {

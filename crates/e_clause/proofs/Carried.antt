@@ -169,7 +169,7 @@ metric_kind : (a : Atom) → IsMagEq a ⊎ IsMagLt a → (k : Kind) × (kind_of_
 metric_kind a (inl p) = (kind_of_sums p.0 p.1, ap kind_of_atom p.2)
 metric_kind a (inr p) = (kind_of_sums p.0 p.1, ap kind_of_atom p.2)
 
--- the rows of literals behind one
+-- the rows of literals after one
 rest_so : (w : Term → ℕ) (which : Kind) (name : Lit → RowName) (l : Lit) (ls : List Lit) → SatisfyNamed w (rows_named name (of_kind which (l ∷ ls))) → SatisfyNamed w (rows_named name (of_kind which ls))
 rest_so w which name l ls h = by (is_of_kind which l) h
   where

@@ -107,13 +107,13 @@ spread_at v (s ∷ ss) t h a = elim (cases_Bool (term_eq (canonical s) (canonica
       ])
 ]
 
-abbrev is_good_at : List Lit → List Term → (Term → ℕ) → Term → Bool
-is_good_at facts ts v t = is_within v t && (is_zero_if_degenerate v t && (is_positive_if_apart facts v t && agrees_with v ts t))
+abbrev is_admissible_at : List Lit → List Term → (Term → ℕ) → Term → Bool
+is_admissible_at facts ts v t = is_within v t && (is_zero_if_degenerate v t && (is_positive_if_apart facts v t && agrees_with v ts t))
 
 -- an admissible assignment is what its spread gives
 pub spread_agrees : (facts : List Lit) (ts : List Term) (v : Term → ℕ) → is_admissible_over facts ts v ≡ true → Agree ts v (carried (spread v ts))
 spread_agrees facts ts v h t a =
-    let good : is_good_at facts ts v t ≡ true = all_among (is_good_at facts ts v) ts t h a in
+    let good : is_admissible_at facts ts v t ≡ true = all_among (is_admissible_at facts ts v) ts t h a in
     let after_within = and_right (is_within v t) (is_zero_if_degenerate v t && (is_positive_if_apart facts v t && agrees_with v ts t)) good in
     let flat : is_zero_if_degenerate v t ≡ true = and_left (is_zero_if_degenerate v t) (is_positive_if_apart facts v t && agrees_with v ts t) after_within in
     let one : agrees_with v ts t ≡ true = and_right (is_positive_if_apart facts v t) (agrees_with v ts t) (and_right (is_zero_if_degenerate v t) (is_positive_if_apart facts v t && agrees_with v ts t) after_within) in
@@ -138,7 +138,7 @@ model_of facts wanted v x =
     let ts = terms_of_step facts wanted in
     let w = spread v ts in
     let agree : Agree ts v (carried w) = spread_agrees facts ts v x.is_admissible in
-    let good : (t : Term) → is_among ts t ≡ true → is_good_at facts ts v t ≡ true = λ t a. all_among (is_good_at facts ts v) ts t x.is_admissible a in
+    let good : (t : Term) → is_among ts t ≡ true → is_admissible_at facts ts v t ≡ true = λ t a. all_among (is_admissible_at facts ts v) ts t x.is_admissible a in
     let bound : (t : Term) → is_among ts t ≡ true → is_within v t ≡ true =
     λ t a. and_left (is_within v t) (is_zero_if_degenerate v t && (is_positive_if_apart facts v t && agrees_with v ts t)) (good t a) in
     let positive : (t : Term) → is_among ts t ≡ true → is_positive_if_apart facts v t ≡ true =

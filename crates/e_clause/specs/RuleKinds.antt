@@ -1,4 +1,4 @@
--- The two kinds of rules, told apart by their numbers: those of diagrams and equality are the first
+-- The two kinds of rules, by their numbers: those of diagrams and equality are the first
 -- of the table.
 use Rattle.std.specs.Prelude.{ℕ, Bool, ◌&&◌, nat_le, nat_lt}
 

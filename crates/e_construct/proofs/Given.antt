@@ -84,25 +84,25 @@ other : (x y b : Bool) → x ≡ false → ((x || y) || b) ≡ true → (y || b)
 other true y b e h = absurd cc
 other false y b e h = h
 
-lands_behind : (s : Scope) (ls os : List Obj) (es : List Entry) (o : Obj) (b : Bool) → are_of_sorts s (sorts_of ls) os ≡ true → (is_letter ls o || b) ≡ true → (b ≡ true → lands s es o ≡ true)
+lands_after : (s : Scope) (ls os : List Obj) (es : List Entry) (o : Obj) (b : Bool) → are_of_sorts s (sorts_of ls) os ≡ true → (is_letter ls o || b) ≡ true → (b ≡ true → lands s es o ≡ true)
     → lands s (paired ls os ++ es) o ≡ true
-lands_behind s [] [] es o b f h k = k h
-lands_behind s [] (t ∷ os) es o b f h k = absurd cc
-lands_behind s (l ∷ ls) [] es o b f h k = absurd cc
-lands_behind s (l ∷ ls) (t ∷ os) es o b f h k =
+lands_after s [] [] es o b f h k = k h
+lands_after s [] (t ∷ os) es o b f h k = absurd cc
+lands_after s (l ∷ ls) [] es o b f h k = absurd cc
+lands_after s (l ∷ ls) (t ∷ os) es o b f h k =
     let p = and_parts (same_sort l.sort t.sort) (is_in_scope s t && are_of_sorts s (sorts_of ls) os) f in
     let q = and_parts (is_in_scope s t) (are_of_sorts s (sorts_of ls) os) p.1 in
     let here : same_obj l o ≡ true → suits s o t ≡ true = λ e.
     rw (subst (λ (y : Sort). same_sort y t.sort ≡ true) (same_sort_is l.sort o.sort (and_parts (same_sort l.sort o.sort) (eqb l.num o.num) e).0) p.0, q.0) refl in
     first_or s o t (image_in (paired ls os ++ es) o) (same_obj l o) here
-    (λ e. lands_behind s ls os es o b q.1 (other (same_obj l o) (is_letter ls o) b e h) k)
+    (λ e. lands_after s ls os es o b q.1 (other (same_obj l o) (is_letter ls o) b e h) k)
 
 none_else : {X : Type 0} → false ≡ true → X
 none_else e = absurd cc
 
 lands_paired : (s : Scope) (ls os : List Obj) (o : Obj) → are_of_sorts s (sorts_of ls) os ≡ true → (is_letter ls o || false) ≡ true → lands s (paired ls os) o ≡ true
 lands_paired s ls os o f h =
-    subst (λ (es : List Entry). lands s es o ≡ true) (append-nil (paired ls os)) (lands_behind s ls os [] o false f h (λ e. none_else e))
+    subst (λ (es : List Entry). lands s es o ≡ true) (append-nil (paired ls os)) (lands_after s ls os [] o false f h (λ e. none_else e))
 
 number_lands : (s : Scope) (sort : Sort) (n : ℕ) (v : Option Obj) → option_map_or (suits s (obj sort n)) v false ≡ true → ltb (option_map_or (λ (i : Obj). i.num) v n) (count_of s sort) ≡ true
 number_lands s sort n None h = absurd cc
@@ -226,7 +226,7 @@ fine_gives form s h =
     let made_are : are_of_sorts t (sorts_of r.made) new ≡ true = new_of_sorts s t (sorts_of r.made) (λ sort. omega arith) in
     let es = paired r.args form.args ++ paired r.made new in
     let land : (o : Obj) → (is_letter r.args o || is_letter r.made o) ≡ true → lands t es o ≡ true = λ o i.
-    lands_behind t r.args form.args (paired r.made new) o (is_letter r.made o) args i (λ e. lands_paired t r.made new o made_are (or_none (is_letter r.made o) e)) in
+    lands_after t r.args form.args (paired r.made new) o (is_letter r.made o) args i (λ e. lands_paired t r.made new o made_are (or_none (is_letter r.made o) e)) in
     let first = fine_renamed t es r.args r.made land r.gives g.gives g.gives_plain in
     list_all-append (is_fine t) (map (renamed (image_in es)) r.gives) (gives_of_avoided new form.avoid)
     ∙ rw (first, fine_gives_avoided s t r r.avoids form.avoid w g.avoids p.1 made_are) refl
@@ -250,30 +250,30 @@ gives_plain form s h =
 -- ---- well formed
 
 -- in scope, and well formed
-abbrev pub is_good : Scope → Lit → Bool
-is_good s l = all_in_scope s l && is_well_formed l
+abbrev pub is_well_formed_in : Scope → Lit → Bool
+is_well_formed_in s l = all_in_scope s l && is_well_formed l
 
 plain_atom_good : (n : Bool) (a : Atom) → is_plain (record { neg = n; atom = a }) ≡ true → is_well_formed_atom a ≡ true
 plain_atom_good n (atoms.MagEq x y) h = absurd cc
 plain_atom_good n (atoms.MagLt x y) h = absurd cc
 plain_atom_good n a h = refl
 
-fine_is_good : (s : Scope) (l : Lit) → is_fine s l ≡ true → is_good s l ≡ true
-fine_is_good s l h = let p = and_parts (all_in_scope s l) (is_plain l) h in rw (p.0, plain_atom_good l.neg l.atom p.1) refl
+fine_is_well_formed : (s : Scope) (l : Lit) → is_fine s l ≡ true → is_well_formed_in s l ≡ true
+fine_is_well_formed s l h = let p = and_parts (all_in_scope s l) (is_plain l) h in rw (p.0, plain_atom_good l.neg l.atom p.1) refl
 
-pub needs_good : (form : Construction) (s : Scope) → fits_construction form s ≡ true → list_all (is_good s) (needs_of_construction form) ≡ true
-needs_good form s h = every (is_fine s) (is_good s) (fine_is_good s) (needs_of_construction form) (fine_needs form s h)
+pub needs_good : (form : Construction) (s : Scope) → fits_construction form s ≡ true → list_all (is_well_formed_in s) (needs_of_construction form) ≡ true
+needs_good form s h = every (is_fine s) (is_well_formed_in s) (fine_is_well_formed s) (needs_of_construction form) (fine_needs form s h)
 
-pub gives_good : (form : Construction) (s : Scope) → fits_construction form s ≡ true → list_all (is_good (grown s (sorts_made form))) (gives_of_construction form s) ≡ true
+pub gives_good : (form : Construction) (s : Scope) → fits_construction form s ≡ true → list_all (is_well_formed_in (grown s (sorts_made form))) (gives_of_construction form s) ≡ true
 gives_good form s h =
     let t = grown s (sorts_made form) in
-    every (is_fine t) (is_good t) (fine_is_good t) (gives_of_construction form s) (fine_gives form s h)
+    every (is_fine t) (is_well_formed_in t) (fine_is_well_formed t) (gives_of_construction form s) (fine_gives form s h)
 
 -- ---- a superposition
 
 good_renamed : (s : Scope) (es : List Entry) (args made : List Obj) → ((o : Obj) → (is_letter args o || is_letter made o) ≡ true → lands s es o ≡ true)
     → (ls : List Lit) → list_all (is_over args made) ls ≡ true → list_all (λ l. is_well_formed (renamed (image_in es) l)) ls ≡ true
-    → list_all (is_good s) (map (renamed (image_in es)) ls) ≡ true
+    → list_all (is_well_formed_in s) (map (renamed (image_in es)) ls) ≡ true
 good_renamed s es args made land [] h d = refl
 good_renamed s es args made land (l ∷ ls) h d =
     let p = and_parts (is_over args made l) (list_all (is_over args made) ls) h in
@@ -286,7 +286,7 @@ superposition_needs x s h =
     let os = superposing.objects_of x in
     fine_renamed s (paired superposing.superposed_args os) superposing.superposed_args [] (λ o i. lands_paired s superposing.superposed_args os o h i) superposing.superposed_needs refl refl
 
-pub superposition_gives : (x : Superpose) (s : Scope) → superposing.fits_superposition x s ≡ true → list_all (is_good (grown s superposing.sorts_copied)) (superposing.gives_of_superposition x s) ≡ true
+pub superposition_gives : (x : Superpose) (s : Scope) → superposing.fits_superposition x s ≡ true → list_all (is_well_formed_in (grown s superposing.sorts_copied)) (superposing.gives_of_superposition x s) ≡ true
 superposition_gives x s h =
     let ls = superposing.superposed_args in
     let os = superposing.objects_of x in
@@ -296,9 +296,9 @@ superposition_gives x s h =
     let made_are : are_of_sorts t superposing.sorts_copied new ≡ true = new_of_sorts s t superposing.sorts_copied (λ sort. omega arith) in
     let es = paired ls os ++ paired superposing.copies new in
     let land : (o : Obj) → (is_letter ls o || is_letter superposing.copies o) ≡ true → lands t es o ≡ true = λ o i.
-    lands_behind t ls os (paired superposing.copies new) o (is_letter superposing.copies o) (of_sorts_more s t w (sorts_of ls) os h) i
+    lands_after t ls os (paired superposing.copies new) o (is_letter superposing.copies o) (of_sorts_more s t w (sorts_of ls) os h) i
     (λ e. lands_paired t superposing.copies new o made_are (or_none (is_letter superposing.copies o) e)) in
     good_renamed t es ls superposing.copies land superposing.superposed_gives refl refl
 
-pub superposition_needs_good : (x : Superpose) (s : Scope) → superposing.fits_superposition x s ≡ true → list_all (is_good s) (superposing.needs_of_superposition x) ≡ true
-superposition_needs_good x s h = every (is_fine s) (is_good s) (fine_is_good s) (superposing.needs_of_superposition x) (superposition_needs x s h)
+pub superposition_needs_good : (x : Superpose) (s : Scope) → superposing.fits_superposition x s ≡ true → list_all (is_well_formed_in s) (superposing.needs_of_superposition x) ≡ true
+superposition_needs_good x s h = every (is_fine s) (is_well_formed_in s) (fine_is_well_formed s) (superposing.needs_of_superposition x) (superposition_needs x s h)

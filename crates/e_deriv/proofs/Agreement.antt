@@ -16,7 +16,7 @@ use Rattle.e_clause.specs.Certify.{certify_all}
 use Rattle.e_clause.proofs.Sound.{all_allowed_of_certified, contradictory_of_certified}
 use Rattle.e_construct.specs.Construct.{sorts_made, gives_of_construction}
 use Rattle.e_construct.specs.Superposing as superposing
-use Rattle.e_theorem.specs.Choice.{fills, is_choice, IsGood}
+use Rattle.e_theorem.specs.Choice.{fills, is_choice, IsAllowedChoice}
 use Rattle.e_deriv.specs.Script.{Script, Cite, Hence, Make, Apply, Claim, Superposed, Qed, Contradiction, Cases}
 use Rattle.e_deriv.specs.Parts.{rest_of, inner_of, args_of, written, filled_in, filled_by}
 use Rattle.e_deriv.specs.Goal.{Goal, goal_of, facts_of_statement, goal_of_statement}
@@ -27,7 +27,7 @@ use Rattle.e_deriv.specs.Licensed.{AllLicensed}
 use Rattle.e_deriv.specs.Certified.{is_certified, certs_of, certified_beside, Certified}
 use Rattle.e_deriv.proofs.Choices.{written_again, no_blank_again, fills_again, least_of_good}
 
--- ---- lists of lines, one behind the other
+-- ---- lists of lines, one after the other
 
 pub both_licensed : (before : List StatementView) (xs ys : List Line) → AllLicensed before xs → AllLicensed before ys → AllLicensed before (xs ++ ys)
 both_licensed before [] ys h k = k
@@ -193,7 +193,7 @@ licensed_of_proves before (Make form names certs rest) s facts goal h =
     (record { fits = h.0; allowed = h.1; beside = tt }, licensed_of_proves before rest (grown s (sorts_made form)) (joined_all facts (gives_of_construction form s)) goal h.2)
 licensed_of_proves before (Apply theorem args names certs rest) s facts goal h =
     let t = theorem_at before theorem in
-    let good : IsGood t s facts args (written args) = record { is_choice = and_right (ltb theorem (length before)) (is_choice t s args (written args)) h.1; allowed = h.2 } in (
+    let good : IsAllowedChoice t s facts args (written args) = record { is_choice = and_right (ltb theorem (length before)) (is_choice t s args (written args)) h.1; allowed = h.2 } in (
       record { fits = h.1; allowed = h.2; beside = least_of_good t s facts args (written args) h.0 good },
       licensed_of_proves before rest (grown s t.made) (joined_all facts (gives_of_use t (written args) s)) goal h.3,
     )

@@ -194,7 +194,7 @@ claim_certified : Certified [] on_one_line (with_point two_on_line (Qed [] (Plai
 unfolding lines joined shape_row
 claim_certified = refl
 
--- behind the claim the point is gone
+-- after the claim the point is gone
 point_is_gone : verdict [] on_one_line (with_point two_on_line (Hence (between 0 2 1) (Some (Plain Fact)) (Qed [] (Plain Fact ∷ [])))) ≡ Err 4
 unfolding lines joined shape_row
 point_is_gone = refl

@@ -12,7 +12,7 @@ use Rattle.e_literal.specs.Rename.{same_obj}
 use Rattle.e_literal.specs.Use.{StatementView}
 use Rattle.e_literal.proofs.Sorts.{same_sort_is, same_obj_is, same_obj_self}
 use Rattle.e_literal.proofs.Booleans.{or_not_left, or_not_right, and_left, and_right}
-use Rattle.e_theorem.specs.Choice.{fills, is_choice, is_below, IsGood, IsLeast}
+use Rattle.e_theorem.specs.Choice.{fills, is_choice, is_below, IsAllowedChoice, IsLeast}
 use Rattle.e_deriv.specs.Parts.{written, has_no_blank, filled_in}
 
 abbrev the_object : Sort → ℕ → Obj
@@ -85,11 +85,11 @@ least_is_one t s facts pattern a b p q =
     (q.least a p.good) (p.least b q.good)
 
 -- a good choice for a pattern without blanks is the least
-pub least_of_good : (t : StatementView) (s : Scope) (facts : List Lit) (pattern : List (Option Obj)) (args : List Obj) → has_no_blank pattern ≡ true → IsGood t s facts pattern args → IsLeast t s facts pattern args
+pub least_of_good : (t : StatementView) (s : Scope) (facts : List Lit) (pattern : List (Option Obj)) (args : List Obj) → has_no_blank pattern ≡ true → IsAllowedChoice t s facts pattern args → IsLeast t s facts pattern args
 least_of_good t s facts pattern args n g =
     record { good = g; least = λ other o. ap (λ x. is_below x args) (same other o) ∙ not_below_self args }
   where
-    same : (other : List Obj) → IsGood t s facts pattern other → other ≡ args
+    same : (other : List Obj) → IsAllowedChoice t s facts pattern other → other ≡ args
     same other o =
         only_choice pattern other n (and_left (fills pattern other) _ o.is_choice)
         ∙ sym (only_choice pattern args n (and_left (fills pattern args) _ g.is_choice))

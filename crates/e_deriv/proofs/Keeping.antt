@@ -24,8 +24,8 @@ stay_joined facts l = by (has facts l)
 same_first : (x y : Lit) (xs ys : List Lit) → x ∷ xs ≡ y ∷ ys → x ≡ y
 same_first x y xs ys e = cc
 
-same_behind : (x y : Lit) (xs ys : List Lit) → x ∷ xs ≡ y ∷ ys → xs ≡ ys
-same_behind x y xs ys e = cc
+same_after : (x y : Lit) (xs ys : List Lit) → x ∷ xs ≡ y ∷ ys → xs ≡ ys
+same_after x y xs ys e = cc
 
 nothing : (x : Lit) (xs : List Lit) → [] ≡ x ∷ xs → ⊥
 nothing x xs e = cc
@@ -37,7 +37,7 @@ stay_on (x ∷ a) [] c h k = absurd (nothing x a h)
 stay_on (x ∷ a) (y ∷ b) [] h k = absurd (nothing y b k)
 stay_on (x ∷ a) (y ∷ b) (z ∷ c) h k =
     let first = same_first z y (take (length b) c) b k ∙ same_first y x (take (length a) b) a h in
-    let rest = stay_on a b c (same_behind y x (take (length a) b) a h) (same_behind z y (take (length b) c) b k) in
+    let rest = stay_on a b c (same_after y x (take (length a) b) a h) (same_after z y (take (length b) c) b k) in
     ap (λ l. l ∷ take (length a) c) first ∙ ap (λ ls. x ∷ ls) rest
 
 pub stay_all : (facts ls : List Lit) → take (length facts) (joined_all facts ls) ≡ facts

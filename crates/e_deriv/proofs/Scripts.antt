@@ -20,7 +20,7 @@ unfolding row_script
 row_script-items n end_of-Step rest = refl
 row_script-items n (more_of-Step s steps) rest = ap (step_script s) (row_script-items _ steps rest)
 
--- the row of steps that a block has behind a box
+-- the row of steps that a block has after a box
 abbrev row_of : Step → (n : _) × Row_of-Step n
 row_of (Claim' shown p n row close) = (_, row)
 row_of _ = (_, end_of-Step)

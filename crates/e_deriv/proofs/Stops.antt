@@ -145,10 +145,10 @@ first_place : (before : List StatementView) (a b : Line) (xs ys : List Line) (x 
 first_place before a b xs ys x y e p q =
     subst (λ z. SamePlace z y) (same_Some a x p.at) (subst (λ z. SamePlace a z) (same_Some b y q.at) e)
 
-behind : (before : List StatementView) (a : Line) (xs : List Line) (p : ℕ) (x : Line) → Stands before (a ∷ xs) (suc p) x → Stands before xs p x
-behind before a xs p x h = record { at = h.at; earlier = h.earlier.1 }
+stands_after : (before : List StatementView) (a : Line) (xs : List Line) (p : ℕ) (x : Line) → Stands before (a ∷ xs) (suc p) x → Stands before xs p x
+stands_after before a xs p x h = record { at = h.at; earlier = h.earlier.1 }
 
--- a line of two lists one behind the other stands in the first or in the second, and so in two such pairs of the same lengths
+-- a line of two lists one after the other stands in the first or in the second, and so in two such pairs of the same lengths
 record Both (before : List StatementView) (xs xs' : List Line) (p : ℕ) (x y : Line) : Type 0 where
   one : Stands before xs p x
   other : Stands before xs' p y
@@ -165,7 +165,7 @@ parted before [] (b ∷ xs') ys ys' p x y n h k = absurd (omega (arith, n))
 parted before (a ∷ xs) [] ys ys' p x y n h k = absurd (omega (arith, n))
 parted before (a ∷ xs) (b ∷ xs') ys ys' zero x y n h k = inl (record { one = record { at = h.at; earlier = tt }; other = record { at = k.at; earlier = tt } })
 parted before (a ∷ xs) (b ∷ xs') ys ys' (suc p) x y n h k =
-    elim (parted before xs xs' ys ys' p x y (omega (arith, n)) (behind before a (xs ++ ys) p x h) (behind before b (xs' ++ ys') p y k)) [
+    elim (parted before xs xs' ys ys' p x y (omega (arith, n)) (stands_after before a (xs ++ ys) p x h) (stands_after before b (xs' ++ ys') p y k)) [
       | inl r ↦ inl (record {
         one = record { at = r.one.at; earlier = (h.earlier.0, r.one.earlier) };
         other = record { at = r.other.at; earlier = (k.earlier.0, r.other.earlier) };
@@ -210,8 +210,8 @@ same_length before d f f' s facts goal = lines_length before d f s facts goal �
 alike : (here f f' : Script) (s : Scope) (facts : List Lit) (goal : Goal) → SamePlace (line here f s facts goal) (line here f' s facts goal)
 alike here f f' s facts goal = record { scope = refl; facts = refl; goal = refl; here = refl }
 
-nothing_behind : (before : List StatementView) (a : Line) (p : ℕ) (x : Line) → Stands before (a ∷ []) (suc p) x → ⊥
-nothing_behind before a p x h = none-some x h.at
+nothing_after : (before : List StatementView) (a : Line) (p : ℕ) (x : Line) → Stands before (a ∷ []) (suc p) x → ⊥
+nothing_after before a p x h = none-some x h.at
 
 same_context : (before : List StatementView) (d f f' : Script) (s : Scope) (facts : List Lit) (goal : Goal) (p : ℕ) (x y : Line) →
     Stands before (lines before d f s facts goal) p x → Stands before (lines before d f' s facts goal) p y → SamePlace x y
@@ -219,16 +219,16 @@ unfolding lines
 same_context before (Cite by rest) f f' s facts goal zero x y h k =
     first_place before _ _ (lines before rest (rest_of f) s (joined facts by.lit) goal) (lines before rest (rest_of f') s (joined facts by.lit) goal) x y (alike (Cite by rest) f f' s facts goal) h k
 same_context before (Cite by rest) f f' s facts goal (suc p) x y h k =
-    same_context before rest (rest_of f) (rest_of f') s (joined facts by.lit) goal p x y (behind before _ _ p x h) (behind before _ _ p y k)
+    same_context before rest (rest_of f) (rest_of f') s (joined facts by.lit) goal p x y (stands_after before _ _ p x h) (stands_after before _ _ p y k)
 same_context before (Hence lit cert rest) f f' s facts goal zero x y h k =
     first_place before _ _ (lines before rest (rest_of f) s (joined facts lit) goal) (lines before rest (rest_of f') s (joined facts lit) goal) x y (alike (Hence lit cert rest) f f' s facts goal) h k
 same_context before (Hence lit cert rest) f f' s facts goal (suc p) x y h k =
-    same_context before rest (rest_of f) (rest_of f') s (joined facts lit) goal p x y (behind before _ _ p x h) (behind before _ _ p y k)
+    same_context before rest (rest_of f) (rest_of f') s (joined facts lit) goal p x y (stands_after before _ _ p x h) (stands_after before _ _ p y k)
 same_context before (Make form names certs rest) f f' s facts goal zero x y h k =
     let after = joined_all facts (gives_of_construction form s) in
     first_place before _ _ (lines before rest (rest_of f) (grown s (sorts_made form)) after goal) (lines before rest (rest_of f') (grown s (sorts_made form)) after goal) x y (alike (Make form names certs rest) f f' s facts goal) h k
 same_context before (Make form names certs rest) f f' s facts goal (suc p) x y h k =
-    same_context before rest (rest_of f) (rest_of f') (grown s (sorts_made form)) (joined_all facts (gives_of_construction form s)) goal p x y (behind before _ _ p x h) (behind before _ _ p y k)
+    same_context before rest (rest_of f) (rest_of f') (grown s (sorts_made form)) (joined_all facts (gives_of_construction form s)) goal p x y (stands_after before _ _ p x h) (stands_after before _ _ p y k)
 same_context before (Apply theorem pattern names certs rest) f f' s facts goal zero x y h k =
     let t = theorem_at before theorem in
     first_place before _ _ (lines before rest (rest_of f) (grown s t.made) (joined_all facts (gives_of_use t (args_of f) s)) goal)
@@ -236,8 +236,8 @@ same_context before (Apply theorem pattern names certs rest) f f' s facts goal z
 same_context before (Apply theorem pattern names certs rest) f f' s facts goal (suc p) x y h k =
     let t = theorem_at before theorem in
     let e : args_of f' ≡ args_of f = least_is_one t s facts pattern (args_of f') (args_of f) k.earlier.0.beside h.earlier.0.beside in
-    let below = behind before _ (lines before rest (rest_of f') (grown s t.made) (joined_all facts (gives_of_use t (args_of f') s)) goal) p y k in
-    same_context before rest (rest_of f) (rest_of f') (grown s t.made) (joined_all facts (gives_of_use t (args_of f) s)) goal p x y (behind before _ _ p x h)
+    let below = stands_after before _ (lines before rest (rest_of f') (grown s t.made) (joined_all facts (gives_of_use t (args_of f') s)) goal) p y k in
+    same_context before rest (rest_of f) (rest_of f') (grown s t.made) (joined_all facts (gives_of_use t (args_of f) s)) goal p x y (stands_after before _ _ p x h)
     (subst (λ xs. Stands before (lines before rest (rest_of f') (grown s t.made) (joined_all facts (gives_of_use t xs s)) goal) p y) e below)
 same_context before (Claim shown inner rest) f f' s facts goal zero x y h k =
     first_place before _ _ (lines before inner (inner_of f) s facts (goal_of shown) ++ lines before rest (rest_of f) s (joined_all facts shown) goal)
@@ -247,7 +247,7 @@ same_context before (Claim shown inner rest) f f' s facts goal (suc p) x y h k =
     let one' = lines before inner (inner_of f') s facts (goal_of shown) in
     let other = lines before rest (rest_of f) s (joined_all facts shown) goal in
     let other' = lines before rest (rest_of f') s (joined_all facts shown) goal in
-    elim (parted before one one' other other' p x y (same_length before inner (inner_of f) (inner_of f') s facts (goal_of shown)) (behind before _ _ p x h) (behind before _ _ p y k)) [
+    elim (parted before one one' other other' p x y (same_length before inner (inner_of f) (inner_of f') s facts (goal_of shown)) (stands_after before _ _ p x h) (stands_after before _ _ p y k)) [
       | inl r ↦ same_context before inner (inner_of f) (inner_of f') s facts (goal_of shown) p x y r.one r.other
       | inr r ↦ same_context before rest (rest_of f) (rest_of f') s (joined_all facts shown) goal r.place x y r.one r.other
     ]
@@ -263,14 +263,14 @@ same_context before (Superposed form names shown certs inner rest) f f' s facts 
     let one' = lines before inner (inner_of f') g given (goal_of shown) in
     let other = lines before rest (rest_of f) s (joined_all facts shown) goal in
     let other' = lines before rest (rest_of f') s (joined_all facts shown) goal in
-    elim (parted before one one' other other' p x y (same_length before inner (inner_of f) (inner_of f') g given (goal_of shown)) (behind before _ _ p x h) (behind before _ _ p y k)) [
+    elim (parted before one one' other other' p x y (same_length before inner (inner_of f) (inner_of f') g given (goal_of shown)) (stands_after before _ _ p x h) (stands_after before _ _ p y k)) [
       | inl r ↦ same_context before inner (inner_of f) (inner_of f') g given (goal_of shown) p x y r.one r.other
       | inr r ↦ same_context before rest (rest_of f) (rest_of f') s (joined_all facts shown) goal r.place x y r.one r.other
     ]
 same_context before (Qed objects certs) f f' s facts goal zero x y h k = first_place before _ _ [] [] x y (alike (Qed objects certs) f f' s facts goal) h k
-same_context before (Qed objects certs) f f' s facts goal (suc p) x y h k = absurd (nothing_behind before _ p x h)
+same_context before (Qed objects certs) f f' s facts goal (suc p) x y h k = absurd (nothing_after before _ p x h)
 same_context before (Contradiction against) f f' s facts goal zero x y h k = first_place before _ _ [] [] x y (alike (Contradiction against) f f' s facts goal) h k
-same_context before (Contradiction against) f f' s facts goal (suc p) x y h k = absurd (nothing_behind before _ p x h)
+same_context before (Contradiction against) f f' s facts goal (suc p) x y h k = absurd (nothing_after before _ p x h)
 same_context before (Cases lit first second) f f' s facts goal zero x y h k =
     first_place before _ _ (lines before first (inner_of f) s (joined facts lit) goal ++ lines before second (rest_of f) s (joined facts (negation lit)) goal)
     (lines before first (inner_of f') s (joined facts lit) goal ++ lines before second (rest_of f') s (joined facts (negation lit)) goal) x y (alike (Cases lit first second) f f' s facts goal) h k
@@ -279,7 +279,7 @@ same_context before (Cases lit first second) f f' s facts goal (suc p) x y h k =
     let one' = lines before first (inner_of f') s (joined facts lit) goal in
     let other = lines before second (rest_of f) s (joined facts (negation lit)) goal in
     let other' = lines before second (rest_of f') s (joined facts (negation lit)) goal in
-    elim (parted before one one' other other' p x y (same_length before first (inner_of f) (inner_of f') s (joined facts lit) goal) (behind before _ _ p x h) (behind before _ _ p y k)) [
+    elim (parted before one one' other other' p x y (same_length before first (inner_of f) (inner_of f') s (joined facts lit) goal) (stands_after before _ _ p x h) (stands_after before _ _ p y k)) [
       | inl r ↦ same_context before first (inner_of f) (inner_of f') s (joined facts lit) goal p x y r.one r.other
       | inr r ↦ same_context before second (rest_of f) (rest_of f') s (joined facts (negation lit)) goal r.place x y r.one r.other
     ]
@@ -297,7 +297,7 @@ earlier_line before [] p q y lt h = absurd (none-some y h.at)
 earlier_line before (a ∷ xs) p zero y lt h = absurd (omega (arith, lt))
 earlier_line before (a ∷ xs) zero (suc q) y lt h = record { line = a; stands = record { at = refl; earlier = tt }; licensed = h.earlier.0 }
 earlier_line before (a ∷ xs) (suc p) (suc q) y lt h =
-    let e = earlier_line before xs p q y (omega (arith, lt)) (behind before a xs q y h) in
+    let e = earlier_line before xs p q y (omega (arith, lt)) (stands_after before a xs q y h) in
     record { line = e.line; stands = record { at = e.stands.at; earlier = (h.earlier.0, e.stands.earlier) }; licensed = e.licensed }
 
 -- in a list of licensed lines each is

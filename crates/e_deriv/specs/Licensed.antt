@@ -6,7 +6,7 @@ use Rattle.e_literal.specs.declared.literal.Lit.{Lit}
 use Rattle.e_literal.specs.Use.{StatementView}
 use Rattle.e_clause.specs.Allowed.{Allowed, AllAllowed}
 use Rattle.e_clause.specs.Consequence.{Contradictory}
-use Rattle.e_theorem.specs.Choice.{IsLeast, NoneIsGood}
+use Rattle.e_theorem.specs.Choice.{IsLeast, NoneIsAllowed}
 use Rattle.e_deriv.specs.declared.stop.Wanted.{Wanted}
 use Rattle.e_deriv.specs.declared.stop.Wanted.TheVariants.{Literal, Match, Contradiction as AContradiction}
 use Rattle.e_deriv.specs.Script.{Script, Cite, Hence, Make, Apply, Superposed, Qed, Contradiction}
@@ -47,7 +47,7 @@ Lacks before x (Make form names certs rest) (Literal l) = IsFirstNotAllowed x.sc
 Lacks before x (Apply theorem pattern names certs rest) (Literal l) =
     IsTrue (has_no_blank pattern) × IsFirstNotAllowed x.scope x.facts (needs_as_written before x) l
 Lacks before x (Apply theorem pattern names certs rest) Match =
-    IsFalse (has_no_blank pattern) × NoneIsGood (theorem_at before theorem) x.scope x.facts pattern
+    IsFalse (has_no_blank pattern) × NoneIsAllowed (theorem_at before theorem) x.scope x.facts pattern
 Lacks before x (Superposed form names shown certs inner rest) (Literal l) = IsFirstNotAllowed x.scope x.facts (needs_as_written before x) l
 Lacks before x (Qed objects certs) (Literal l) = IsFirstNotAllowed x.scope x.facts (needs_as_written before x) l
 Lacks before x (Contradiction against) AContradiction = ¬ Contradictory x.facts

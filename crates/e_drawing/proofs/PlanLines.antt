@@ -78,17 +78,17 @@ takes_nothing old new l r e = subst (λ (x : Result (Unit {0}) BookFault). Takes
 abbrev pub Alike : ℕ → Plan → Rest → Plan → Rest → Type 0
 Alike last old lines new left = plan_from last new left ≡ plan_from last old lines
 
-pub alike_more : (last : ℕ) (old now new : Plan) (lines left behind : Rest) (l : LineView) → left ≡ Ok l ∷ behind → Alike last old lines now left → TakesLine now l (Ok tt) new
-    → Alike last old lines new behind
-alike_more last old now new lines left behind l e h t = sym (t last behind) ∙ (ap (plan_from last now) (sym e) ∙ h)
+pub alike_more : (last : ℕ) (old now new : Plan) (lines left after : Rest) (l : LineView) → left ≡ Ok l ∷ after → Alike last old lines now left → TakesLine now l (Ok tt) new
+    → Alike last old lines new after
+alike_more last old now new lines left after l e h t = sym (t last after) ∙ (ap (plan_from last now) (sym e) ∙ h)
 
-pub fails_in_line : (last : ℕ) (old now : Plan) (lines left behind : Rest) (f : LineFault) → left ≡ Err f ∷ behind → Alike last old lines now left
+pub fails_in_line : (last : ℕ) (old now : Plan) (lines left after : Rest) (f : LineFault) → left ≡ Err f ∷ after → Alike last old lines now left
     → BookFails (line_fault f) (plan_from last old lines)
-fails_in_line last old now lines left behind f e h = book_fails (line_fault f) (plan_from last old lines) (sym h ∙ ap (plan_from last now) e)
+fails_in_line last old now lines left after f e h = book_fails (line_fault f) (plan_from last old lines) (sym h ∙ ap (plan_from last now) e)
 
-pub fails_at_line : (last : ℕ) (old now new : Plan) (lines left behind : Rest) (l : LineView) (f : BookFault) → left ≡ Ok l ∷ behind → Alike last old lines now left
+pub fails_at_line : (last : ℕ) (old now new : Plan) (lines left after : Rest) (l : LineView) (f : BookFault) → left ≡ Ok l ∷ after → Alike last old lines now left
     → TakesLine now l (Err f) new → BookFails f (plan_from last old lines)
-fails_at_line last old now new lines left behind l f e h t = subst (BookFails f) (ap (plan_from last now) (sym e) ∙ h) (t last behind)
+fails_at_line last old now new lines left after l f e h t = subst (BookFails f) (ap (plan_from last now) (sym e) ∙ h) (t last after)
 
 pub all_taken : (last line : ℕ) (old now : Plan) (lines left : Rest) (r : Result (Unit {0}) BookFault) → left ≡ [] → line ≡ last → Alike last old lines now left
     → PlanIs r now (at_end line now) → PlanIs r now (plan_from last old lines)

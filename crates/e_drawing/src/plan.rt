@@ -6,7 +6,7 @@ ghost use Rattle.e_line.specs.declared.fault.What.TheVariants as limits;
 ghost use Rattle.e_figure.specs.Figure.{has_direction, has_inside};
 ghost use Rattle.e_drawing.specs.Plans.{allowed, FitsPlan};
 ghost use Rattle.e_drawing.specs.Plans as plans;
-ghost use Rattle.e_drawing.specs.inner.Good.{IsGoodLine};
+ghost use Rattle.e_drawing.specs.inner.Nondegenerate.{IsNondegenerate};
 
 use crate::raw::RawLine;
 use e_book::{declare, no_names};
@@ -166,7 +166,7 @@ impl Plan {
     /// What the line adds.
     fn stepped(&mut self, alloc: Global, line: &RawLine) -> Result<(), LineError>
         requires fits { FitsPlan self.old }
-        requires line { IsGoodLine line.now }
+        requires line { IsNondegenerate line.now }
         ensures value { Moves result self.new (plans.stepped self.old line.now) }
         ensures fits { OnOk result (FitsPlan self.new) }
     {
@@ -191,7 +191,7 @@ impl Plan {
     #[tactic(auto, unfolding(crate::specs::Plans::step))]
     pub fn take(&mut self, alloc: Global, line: &RawLine) -> Result<(), LineError>
         requires fits { FitsPlan self.old }
-        requires line { IsGoodLine line.now }
+        requires line { IsNondegenerate line.now }
         ensures value { Moves result self.new (plans.step self.old line.now) }
         ensures fits { OnOk result (FitsPlan self.new) }
     {

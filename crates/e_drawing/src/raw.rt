@@ -1,7 +1,7 @@
 //! The lines of a figure text, known from their words by spelling alone.
 ghost use Rattle.std.specs.Prelude.{IfOk};
 ghost use Rattle.e_line.specs.Reading.{texts, Gives};
-ghost use Rattle.e_drawing.specs.inner.Good.{IsGoodLine};
+ghost use Rattle.e_drawing.specs.inner.Nondegenerate.{IsNondegenerate};
 ghost use Rattle.e_drawing.specs.Lines.{point_of, straight_of, round_of, alone, line_named, line_of};
 
 use crate::number::{coordinate, square};
@@ -29,7 +29,7 @@ pub enum RawLine {
 #[tactic(auto, unfolding(crate::specs::Lines::point_of))]
 fn point_of(words: &[&[u8]]) -> Result<RawLine, LineError>
     ensures value { Gives (λ l. l) result (point_of (texts words.now)) }
-    ensures good { IfOk result IsGoodLine }
+    ensures good { IfOk result IsNondegenerate }
 {
     let mut words = Words::new(words);
     let name = words.name()?;
@@ -43,7 +43,7 @@ fn point_of(words: &[&[u8]]) -> Result<RawLine, LineError>
 #[tactic(auto, unfolding(crate::specs::Lines::straight_of))]
 fn straight_of(words: &[&[u8]]) -> Result<RawLine, LineError>
     ensures value { Gives (λ l. l) result (straight_of (texts words.now)) }
-    ensures good { IfOk result IsGoodLine }
+    ensures good { IfOk result IsNondegenerate }
 {
     let mut words = Words::new(words);
     let name = words.name()?;
@@ -63,7 +63,7 @@ fn straight_of(words: &[&[u8]]) -> Result<RawLine, LineError>
 #[tactic(auto, unfolding(crate::specs::Lines::round_of))]
 fn round_of(words: &[&[u8]]) -> Result<RawLine, LineError>
     ensures value { Gives (λ l. l) result (round_of (texts words.now)) }
-    ensures good { IfOk result IsGoodLine }
+    ensures good { IfOk result IsNondegenerate }
 {
     let mut words = Words::new(words);
     let name = words.name()?;
@@ -80,9 +80,9 @@ fn round_of(words: &[&[u8]]) -> Result<RawLine, LineError>
 
 /// A line of one word.
 fn alone(words: &[&[u8]], line: RawLine) -> Result<RawLine, LineError>
-    requires { IsGoodLine line }
+    requires { IsNondegenerate line }
     ensures value { Gives (λ l. l) result (alone (texts words.now) line) }
-    ensures good { IfOk result IsGoodLine }
+    ensures good { IfOk result IsNondegenerate }
 {
     match Words::new(words).end() {
         Ok(()) => Ok(line),
@@ -97,7 +97,7 @@ fn alone(words: &[&[u8]], line: RawLine) -> Result<RawLine, LineError>
 #[tactic(auto, unfolding(crate::specs::Lines::line_named))]
 fn line_named(alloc: Global, word: &[u8], rest: &[&[u8]]) -> Result<RawLine, LineError>
     ensures value { Gives (λ l. l) result (line_named word.now (texts rest.now)) }
-    ensures good { IfOk result IsGoodLine }
+    ensures good { IfOk result IsNondegenerate }
 {
     if is(word, b"figure") {
         return alone(rest, RawLine::Figure);
@@ -129,7 +129,7 @@ fn line_named(alloc: Global, word: &[u8], rest: &[&[u8]]) -> Result<RawLine, Lin
 #[tactic(auto, unfolding(crate::specs::Lines::line_of))]
 pub fn line_of(alloc: Global, words: &[&[u8]]) -> Result<RawLine, LineError>
     ensures value { Gives (λ l. l) result (line_of (texts words.now)) }
-    ensures good { IfOk result IsGoodLine }
+    ensures good { IfOk result IsNondegenerate }
 {
     match words {
         [] => Err(LineError::Fault(FaultKind::Malformed)),

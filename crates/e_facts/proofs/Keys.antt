@@ -27,7 +27,7 @@ nowhere true false = refl
 nowhere false true = refl
 nowhere false false = refl
 
--- equal signs, told in both ways
+-- equal signs, stated in both ways
 signs : (n m : Bool) → same_neg n m ≡ beq m n
 signs true true = refl
 signs true false = refl

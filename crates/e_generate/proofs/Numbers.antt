@@ -15,7 +15,7 @@ one_more f i e out next less is so_far =
     rw is (append_assoc out (f i) (flat_map f (numbers (i + 1) (e - (i + 1)))))
     ∙ (ap (λ (ns : List ℕ). out ++ flat_map f ns) (sym (one_by_one i e less)) ∙ so_far)
 
--- nothing is left behind the last
+-- nothing is left after the last
 pub none_left : (f : ℕ → List ℕ) (i e : ℕ) (out : List ℕ) → e ≤ i → out ++ flat_map f (numbers i (e - i)) ≡ out
 none_left f i e out past =
     let none : e - i ≡ 0 = omega (arith, past) in

@@ -9,7 +9,7 @@ pub grown-nothing : (a : Option (List ℕ)) → Grew a a []
 grown-nothing None = refl
 grown-nothing (Some old) = ap (λ (l : List ℕ). Some l) (sym (append-nil old))
 
--- one text behind another
+-- one text after another
 pub grown : (a b c : Option (List ℕ)) (xs ys : List ℕ) → Grew a b xs → Grew b c ys → Grew a c (xs ++ ys)
 grown None b c xs ys p q = subst (λ (x : Option (List ℕ)). Grew x c ys) p q
 grown (Some old) b c xs ys p q = let r = subst (λ (x : Option (List ℕ)). Grew x c ys) p q in r ∙ ap (λ (l : List ℕ). Some l) (append_assoc old xs ys)

@@ -13,10 +13,10 @@ use Rattle.e_read.proofs.TakenLines.{either}
 use Rattle.e_verify.proofs.checking.PassedLines.{all_pass}
 use Rattle.e_judgement.specs.declared.judgement.Judgement.{Judgement}
 use Rattle.e_judgement.specs.declared.judgement.Judgement.TheVariants.{Bad, Garbled}
-use Rattle.e_judgement.specs.Judged.{Rest, with_theorem, ReadsNext, IsCertified, Passes, JudgedBehind, Closes, IsJudged, version_of, JudgedBehindHead, JudgesLines, lines_of_text}
+use Rattle.e_judgement.specs.Judged.{Rest, with_theorem, ReadsNext, IsCertified, Passes, JudgedAfter, Closes, IsJudged, version_of, JudgedAfterHead, JudgesLines, lines_of_text}
 use Rattle.e_judgement.specs.Laws.{EachTextIsJudged}
 
--- ---- fewer lines are left behind what is read
+-- ---- fewer lines are left after what is read
 
 abbrev Found : Type 0
 Found = Piece × Rest
@@ -39,12 +39,12 @@ shorter known last r [] p rest e = absurd cc
 shorter known last r (Err f ∷ lines) p rest e = absurd cc
 shorter known last r (Ok l ∷ lines) p rest e =
     let next : Result BlockParser ℕ = garbled_at l.number (taken known r l) in
-    let then : BlockParser → Result Found ℕ = λ x. or_on (finished x.draft x.kept) lines (piece_from known last x lines) in
-    elim (either (is_end known r.draft l) (found Last lines) (next >>= then) (found p rest) e) [
+    let then : BlockParser → Result Found ℕ = λ x. or_on (finished x.parser x.kept) lines (piece_from known last x lines) in
+    elim (either (is_end known r.parser l) (found Last lines) (next >>= then) (found p rest) e) [
       | inl q ↦ omega (arith, ap length (same_rest Last p lines rest q.1))
       | inr q ↦
           let x = bind_ok next then (p, rest) q.1 in
-          shorter_on (finished x.0.draft x.0.kept) lines rest (piece_from known last x.0 lines) p x.2 (λ h. shorter known last x.0 lines p rest h)
+          shorter_on (finished x.0.parser x.0.kept) lines rest (piece_from known last x.0 lines) p x.2 (λ h. shorter known last x.0 lines p rest h)
     ]
 
 module _ (v : Version) where
@@ -71,7 +71,7 @@ module _ (v : Version) where
   by_piece : (last : ℕ) (known : List TitledStatement) (lines : Rest) (a : Result Found ℕ) → piece_from known last (at_start v) lines ≡ a
       → ((t : TheoremView) (after : Rest) → ReadsNext v last known lines t after → Runs last (with_theorem known t) after) → Runs last known lines
   by_piece last known lines (Err line) e more = ends_here last known lines (Garbled line) (inr (inl (line, e, refl)))
-  by_piece last known lines (Ok (Last, rest)) e more = ends_here last known lines (JudgedBehind (length known) rest) (inl (rest, e, refl))
+  by_piece last known lines (Ok (Last, rest)) e more = ends_here last known lines (JudgedAfter (length known) rest) (inl (rest, e, refl))
   by_piece last known lines (Ok (Derived t, after)) e more =
       by_verdict last known lines after t e (verdict (stated_by known) (stated t.statement) t.script) refl (more t after e)
 
@@ -84,14 +84,14 @@ module _ (v : Version) where
 
   -- ---- the whole
 
-  judged_behind : (last : ℕ) (lines : Rest) → (j : Judgement) × IsJudged v last lines j
-  judged_behind last lines =
+  judged_after : (last : ℕ) (lines : Rest) → (j : Judgement) × IsJudged v last lines j
+  judged_after last lines =
       let r = by_size (length lines) last [] lines (omega arith) in
       (r.0, record { theorems = r.1; known = r.2; rest = r.3; passes = r.4; closes = r.5 })
 
-by_version : (o : Option Version) (lines : Rest) → (j : Judgement) × JudgedBehindHead o lines j
+by_version : (o : Option Version) (lines : Rest) → (j : Judgement) × JudgedAfterHead o lines j
 by_version None lines = (Garbled 1, refl)
-by_version (Some v) lines = judged_behind v (2 + length lines) lines
+by_version (Some v) lines = judged_after v (2 + length lines) lines
 
 by_lines : (lines : Rest) → (j : Judgement) × JudgesLines lines j
 by_lines [] = (Garbled 1, refl)

@@ -12,9 +12,9 @@ use Rattle.e_read.specs.Text.{Piece, Derived, Last}
 use Rattle.e_read.proofs.Bridge.{no_last, derived_is}
 use Rattle.e_judgement.specs.declared.judgement.Judgement.{Judgement}
 use Rattle.e_judgement.specs.declared.judgement.Judgement.TheVariants.{Bad, Garbled}
-use Rattle.e_judgement.specs.Judged.{Rest, with_theorem, ReadsNext, IsCertified, Passes, JudgedBehind, Closes, IsJudged, version_of, JudgedBehindHead, JudgesLines, JudgesText, lines_of_text}
+use Rattle.e_judgement.specs.Judged.{Rest, with_theorem, ReadsNext, IsCertified, Passes, JudgedAfter, Closes, IsJudged, version_of, JudgedAfterHead, JudgesLines, JudgesText, lines_of_text}
 
--- what was read, and the lines behind it
+-- what was read, and the lines after it
 abbrev Found : Type 0
 Found = Piece × Rest
 
@@ -86,7 +86,7 @@ same_bad known t u n m e h k =
 module _ (v : Version) where
   -- with the same known, the same lines end in one way
   one_close : (last : ℕ) (known : List TitledStatement) (lines : Rest) (a b : Judgement) → Closes v last known lines a → Closes v last known lines b → a ≡ b
-  one_close last known lines a b (inl h) (inl k) = h.2 ∙ ap (JudgedBehind (length known)) (same_end h.0 k.0 (sym h.1 ∙ k.1)) ∙ sym k.2
+  one_close last known lines a b (inl h) (inl k) = h.2 ∙ ap (JudgedAfter (length known)) (same_end h.0 k.0 (sym h.1 ∙ k.1)) ∙ sym k.2
   one_close last known lines a b (inl h) (inr (inl k)) = absurd (ended_not_broken h.0 k.0 (sym h.1 ∙ k.1))
   one_close last known lines a b (inl h) (inr (inr k)) = absurd (found_not_ended k.0 k.1 h.0 (sym k.3 ∙ h.1))
   one_close last known lines a b (inr (inl h)) (inl k) = absurd (ended_not_broken k.0 h.0 (sym k.1 ∙ h.1))
@@ -132,15 +132,15 @@ module _ (v : Version) where
   one_judged : (last : ℕ) (lines : Rest) (a b : Judgement) → IsJudged v last lines a → IsJudged v last lines b → a ≡ b
   one_judged last lines a b p q = one_way last [] lines p.theorems q.theorems p.known q.known p.rest q.rest a b p.passes q.passes p.closes q.closes
 
--- and so are those behind a head line
-pub one_behind_head : (o : Option Version) (lines : Rest) (a b : Judgement) → JudgedBehindHead o lines a → JudgedBehindHead o lines b → a ≡ b
-one_behind_head None lines a b h k = h ∙ sym k
-one_behind_head (Some v) lines a b h k = one_judged v (2 + length lines) lines a b h k
+-- and so are those after a head line
+pub one_after_head : (o : Option Version) (lines : Rest) (a b : Judgement) → JudgedAfterHead o lines a → JudgedAfterHead o lines b → a ≡ b
+one_after_head None lines a b h k = h ∙ sym k
+one_after_head (Some v) lines a b h k = one_judged v (2 + length lines) lines a b h k
 
 by_lines : (lines : Rest) (a b : Judgement) → JudgesLines lines a → JudgesLines lines b → a ≡ b
 by_lines [] a b h k = h ∙ sym k
 by_lines (Err f ∷ lines) a b h k = h ∙ sym k
-by_lines (Ok l ∷ lines) a b h k = one_behind_head (version_of l) lines a b h k
+by_lines (Ok l ∷ lines) a b h k = one_after_head (version_of l) lines a b h k
 
 pub one_judgement : (text : List ℕ) (a b : Judgement) → JudgesText text a → JudgesText text b → a ≡ b
 one_judgement text a b h k = by_lines (lines_of_text text) a b h k

@@ -14,7 +14,7 @@ use Rattle.e_read.specs.Text.{at_start, piece_from}
 use Rattle.e_judgement.specs.declared.judgement.Judgement.{Judgement}
 use Rattle.e_judgement.specs.declared.judgement.Judgement.TheVariants.{Garbled}
 use Rattle.e_judgement.specs.Steps.{Begins, version_at}
-use Rattle.e_judgement.specs.Judged.{Rest, with_theorem, ReadsNext, IsCertified, Passes, Closes, IsJudged, version_of, JudgedBehindHead, JudgesLines, lines_of_text, JudgesText}
+use Rattle.e_judgement.specs.Judged.{Rest, with_theorem, ReadsNext, IsCertified, Passes, Closes, IsJudged, version_of, JudgedAfterHead, JudgesLines, lines_of_text, JudgesText}
 
 module _ (v : Version) where
   pub record History (last : ℕ) (lines : Rest) (known : List TitledStatement) (rest : Rest) : Type 0 where
@@ -58,7 +58,7 @@ module _ (v : Version) where
 head_judged : (lines : Rest) (l : LineView) (v : Version) (after : Ahead) (j : Judgement) → lines ≡ Ok l ∷ after.lines → after.line ≡ 2 → version_of l ≡ Some v → IsJudged v (last_line after) after.lines j → JudgesLines lines j
 head_judged lines l v after j e n h k =
     subst (λ (x : Rest). JudgesLines x j) (sym e)
-    (subst (λ (o : Option Version). JudgedBehindHead o after.lines j) (sym h) (subst (λ (m : ℕ). IsJudged v (m + length after.lines) after.lines j) n k))
+    (subst (λ (o : Option Version). JudgedAfterHead o after.lines j) (sym h) (subst (λ (m : ℕ). IsJudged v (m + length after.lines) after.lines j) n k))
 
 text_judged : (text : List ℕ) (lines : Rest) (j : Judgement) → lines ≡ lines_of_text text → JudgesLines lines j → JudgesText text j
 text_judged text lines j e h = subst (λ (x : Rest). JudgesLines x j) e h
@@ -77,7 +77,7 @@ begins_not lines after h = record { head = sym h; taken = λ v t. absurd (none_i
 headless : (lines : Rest) → version_at lines ≡ None → JudgesLines lines (Garbled 1)
 headless [] h = refl
 headless (Err f ∷ lines) h = refl
-headless (Ok l ∷ lines) h = subst (λ (o : Option Version). JudgedBehindHead o lines (Garbled 1)) (sym h) refl
+headless (Ok l ∷ lines) h = subst (λ (o : Option Version). JudgedAfterHead o lines (Garbled 1)) (sym h) refl
 
 pub not_begun : (text : List ℕ) (lines : Rest) (after : Ahead) (found : Option Version) → lines ≡ lines_of_text text → Begins lines after found → found ≡ None → JudgesText text (Garbled 1)
 not_begun text lines after found is h e = text_judged text lines (Garbled 1) is (headless lines (sym h.head ∙ e))

@@ -58,9 +58,9 @@ small_with bs (Apply theorem args names certs rest) f g s facts more goal aim h 
     and_from _ _ p.0 (small_with bs rest (rest_of f) (rest_of g) t (joined_all facts (gives_of_use u (args_of f) s)) (joined_all more (gives_of_use u (args_of g) s)) goal aim p.1)
 small_with bs (Claim shown inner rest) f g s facts more goal aim h =
     let inside = lines bs (erased inner) (inner_of f) s facts (goal_of shown) in
-    let behind = lines bs (erased rest) (rest_of f) s (joined_all facts shown) goal in
-    let p = and_parts (is_small s) (list_all is_small_line (inside ++ behind)) h in
-    let q = parted inside behind p.1 in
+    let after = lines bs (erased rest) (rest_of f) s (joined_all facts shown) goal in
+    let p = and_parts (is_small s) (list_all is_small_line (inside ++ after)) h in
+    let q = parted inside after p.1 in
     and_from _ _ p.0
     (all_both is_small_line (lines bs inner (inner_of g) s more (goal_of shown)) _ (small_with bs inner (inner_of f) (inner_of g) s facts more (goal_of shown) (goal_of shown) q.0)
     (small_with bs rest (rest_of f) (rest_of g) s (joined_all facts shown) (joined_all more shown) goal aim q.1))
@@ -68,9 +68,9 @@ small_with bs (Superposed form names shown certs inner rest) f g s facts more go
     let t = grown s superposing.sorts_copied in
     let given = superposing.gives_of_superposition form s in
     let inside = lines bs (erased inner) (inner_of f) t (joined_all facts given) (goal_of shown) in
-    let behind = lines bs (erased rest) (rest_of f) s (joined_all facts shown) goal in
-    let p = and_parts (is_small s) (list_all is_small_line (inside ++ behind)) h in
-    let q = parted inside behind p.1 in
+    let after = lines bs (erased rest) (rest_of f) s (joined_all facts shown) goal in
+    let p = and_parts (is_small s) (list_all is_small_line (inside ++ after)) h in
+    let q = parted inside after p.1 in
     and_from _ _ p.0
     (all_both is_small_line (lines bs inner (inner_of g) t (joined_all more given) (goal_of shown)) _ (small_with bs inner (inner_of f) (inner_of g) t (joined_all facts given) (joined_all more given) (goal_of shown) (goal_of shown) q.0)
     (small_with bs rest (rest_of f) (rest_of g) s (joined_all facts shown) (joined_all more shown) goal aim q.1))

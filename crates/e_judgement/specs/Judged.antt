@@ -42,13 +42,13 @@ number_of (Ok l) = l.number
 number_of (Err f) = fault_line f
 
 -- nothing stands after the last line
-abbrev pub JudgedBehind : ℕ → Rest → Judgement
-JudgedBehind n [] = Verified n
-JudgedBehind n (x ∷ xs) = Garbled (number_of x)
+abbrev pub JudgedAfter : ℕ → Rest → Judgement
+JudgedAfter n [] = Verified n
+JudgedAfter n (x ∷ xs) = Garbled (number_of x)
 
 -- the last line comes
 abbrev pub EndsThere : Version → ℕ → List TitledStatement → Rest → Judgement → Type 0
-EndsThere v last known lines j = (rest : Rest) × (piece_from known last (at_start v) lines ≡ Ok (Last, rest)) × (j ≡ JudgedBehind (length known) rest)
+EndsThere v last known lines j = (rest : Rest) × (piece_from known last (at_start v) lines ≡ Ok (Last, rest)) × (j ≡ JudgedAfter (length known) rest)
 
 -- a line of the next block has no form at its place
 abbrev pub BreaksThere : Version → ℕ → List TitledStatement → Rest → Judgement → Type 0
@@ -85,15 +85,15 @@ abbrev pub version_of : LineView → Option Version
 version_of l = if is_head One l then Some One else if is_head Two l then Some Two else None
 
 -- after a line that says this the lines are judged so
-abbrev pub JudgedBehindHead : Option Version → Rest → Judgement → Type 0
-JudgedBehindHead None lines j = j ≡ Garbled 1
-JudgedBehindHead (Some v) lines j = IsJudged v (2 + length lines) lines j
+abbrev pub JudgedAfterHead : Option Version → Rest → Judgement → Type 0
+JudgedAfterHead None lines j = j ≡ Garbled 1
+JudgedAfterHead (Some v) lines j = IsJudged v (2 + length lines) lines j
 
 -- a text begins with the head line
 abbrev pub JudgesLines : Rest → Judgement → Type 0
 JudgesLines [] j = j ≡ Garbled 1
 JudgesLines (Err f ∷ lines) j = j ≡ Garbled 1
-JudgesLines (Ok l ∷ lines) j = JudgedBehindHead (version_of l) lines j
+JudgesLines (Ok l ∷ lines) j = JudgedAfterHead (version_of l) lines j
 
 -- the lines of a derivation text: each has at most 262,144 bytes, and all bytes count
 abbrev pub lines_of_text : List ℕ → Rest

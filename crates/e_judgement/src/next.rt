@@ -10,7 +10,7 @@ ghost use Rattle.e_names.specs.TitledStatements.{stated_by};
 ghost use Rattle.e_line.specs.Limits.{most_theorems};
 ghost use Rattle.e_verify.specs.Checking.{RejectIs};
 ghost use Rattle.e_verify.specs.Verdicts.{IsVerifiable};
-ghost use Rattle.e_judgement.specs.Judged.{JudgedBehind};
+ghost use Rattle.e_judgement.specs.Judged.{JudgedAfter};
 ghost use Rattle.e_judgement.specs.Steps.{NextIs, GoesOn};
 
 use crate::judgement::Judgement;
@@ -34,7 +34,7 @@ pub enum NextItem {
 
 /// After the last line of a text nothing comes.
 fn after_last_line(lines: &mut Lines, theorems: u32) -> Judgement
-    ensures { result ≡ JudgedBehind theorems lines.old.lines }
+    ensures { result ≡ JudgedAfter theorems lines.old.lines }
 {
     match lines.next() {
         None => Judgement::Verified { theorems },

@@ -9,7 +9,7 @@ use Rattle.e_literal.specs.Rename.{paired}
 use Rattle.e_literal.specs.Scopes.{nothing}
 use Rattle.e_literal.specs.Use.{StatementView}
 use Rattle.e_clause.specs.Wide.{IsTooWideLit}
-use Rattle.e_theorem.specs.Choice.{is_below, IsGood}
+use Rattle.e_theorem.specs.Choice.{is_below, IsAllowedChoice}
 use Rattle.e_theorem.proofs.Uses.{needs_declared}
 use Rattle.e_transfer.specs.declared.walk.Span.{Span}
 use Rattle.e_transfer.specs.Choice.{FitsSpans, Starts, ComesBefore, EachKept}
@@ -37,10 +37,10 @@ AllArgs b t pattern cs = map (λ c. filled_arguments b.scope (objects t) pattern
 
 -- a whole choice whose parts are all kept is good
 whole_good : (b : Basis) (t : StatementView) (pattern : List (Option Obj)) (c : List ℕ) → IsAsked b t pattern → has_empty (spans b t pattern) ≡ false → FitsSpans (spans b t pattern) c
-    → EachKept (Kept b t pattern) [] c → IsGood t b.scope b.facts pattern (Args b t pattern c)
+    → EachKept (Kept b t pattern) [] c → IsAllowedChoice t b.scope b.facts pattern (Args b t pattern c)
 whole_good b t pattern c asked some fits kept =
     let starts = fits_starts (spans b t pattern) c fits in
-    subst (λ (os : List Obj). IsGood t b.scope b.facts pattern os) (whole b.scope nothing b.scope nothing t.declared pattern c fits)
+    subst (λ (os : List Obj). IsAllowedChoice t b.scope b.facts pattern os) (whole b.scope nothing b.scope nothing t.declared pattern c fits)
     (record {
       is_choice = start_choice b t pattern c asked some starts;
       allowed = kept_allowed b t pattern c (filled_arguments nothing (objects t) pattern c) asked.states (whole b.scope b.scope nothing nothing t.declared pattern c fits)
@@ -51,7 +51,7 @@ fits_of : (b : Basis) (t : StatementView) (pattern : List (Option Obj)) (c : Lis
 fits_of b t pattern c w = subst (λ (x : List ℕ). FitsSpans (spans b t pattern) x) (sym w.is) w.fits
 
 good_of : (b : Basis) (t : StatementView) (pattern : List (Option Obj)) (c : List ℕ) → IsAsked b t pattern → has_empty (spans b t pattern) ≡ false
-    → IsKeptWhole (Kept b t pattern) [] (spans b t pattern) c → IsGood t b.scope b.facts pattern (Args b t pattern c)
+    → IsKeptWhole (Kept b t pattern) [] (spans b t pattern) c → IsAllowedChoice t b.scope b.facts pattern (Args b t pattern c)
 good_of b t pattern c asked some w =
     whole_good b t pattern c asked some (fits_of b t pattern c w) (subst (λ (x : List ℕ). EachKept (Kept b t pattern) [] x) (sym w.is) w.each)
 
@@ -59,9 +59,9 @@ good_of b t pattern c asked some w =
 
 -- each of the arguments are those of a choice
 all_good : (b : Basis) (t : StatementView) (pattern : List (Option Obj)) (cs : List (List ℕ)) (args : List Obj) (k : ℕ) → IsAsked b t pattern → has_empty (spans b t pattern) ≡ false
-    → Each (IsKeptWhole (Kept b t pattern) [] (spans b t pattern)) cs → k < length (AllArgs b t pattern cs) → slice_index_or (AllArgs b t pattern cs) k args ≡ args → IsGood t b.scope b.facts pattern args
+    → Each (IsKeptWhole (Kept b t pattern) [] (spans b t pattern)) cs → k < length (AllArgs b t pattern cs) → slice_index_or (AllArgs b t pattern cs) k args ≡ args → IsAllowedChoice t b.scope b.facts pattern args
 all_good b t pattern [] args k asked some h less is = absurd (omega (arith, less))
-all_good b t pattern (c ∷ cs) args zero asked some (h, hs) less is = subst (λ (x : List Obj). IsGood t b.scope b.facts pattern x) is (good_of b t pattern c asked some h)
+all_good b t pattern (c ∷ cs) args zero asked some (h, hs) less is = subst (λ (x : List Obj). IsAllowedChoice t b.scope b.facts pattern x) is (good_of b t pattern c asked some h)
 all_good b t pattern (c ∷ cs) args (suc k) asked some (h, hs) less is = all_good b t pattern cs args k asked some hs (omega (arith, less)) is
 
 below_args : (b : Basis) (t : StatementView) (pattern : List (Option Obj)) (c d : List ℕ) → FitsSpans (spans b t pattern) c → FitsSpans (spans b t pattern) d → ComesBefore c d

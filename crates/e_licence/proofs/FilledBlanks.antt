@@ -11,7 +11,7 @@ use Rattle.e_literal.proofs.Booleans.{and_left, and_right}
 use Rattle.e_clause.specs.Allowed.{AllAllowed}
 use Rattle.e_clause.specs.Judged.{are_well_formed_in}
 use Rattle.e_clause.specs.Wide.{IsTooWideLit}
-use Rattle.e_theorem.specs.Choice.{fills, is_choice, is_below, IsGood, IsLeast, NoneIsGood}
+use Rattle.e_theorem.specs.Choice.{fills, is_choice, is_below, IsAllowedChoice, IsLeast, NoneIsAllowed}
 use Rattle.e_theorem.specs.Pattern.{is_pattern}
 use Rattle.e_theorem.specs.WideChoice.{SomeChoiceIsTooWide}
 use Rattle.e_theorem.proofs.Uses.{needs_declared, declared_good}
@@ -49,31 +49,31 @@ pub record IsAsked (b : Basis) (t : StatementView) (pattern : List (Option Obj))
 
 -- ---- a good choice is wanted
 
-pub good_fits : (b : Basis) (t : StatementView) (pattern : List (Option Obj)) (args : List Obj) → IsGood t b.scope b.facts pattern args → FitsSpans (spans b t pattern) (chosen pattern args)
+pub good_fits : (b : Basis) (t : StatementView) (pattern : List (Option Obj)) (args : List Obj) → IsAllowedChoice t b.scope b.facts pattern args → FitsSpans (spans b t pattern) (chosen pattern args)
 good_fits b t pattern args good =
     chosen_fit b.scope nothing t.declared pattern args (and_left (fills pattern args) _ good.is_choice) (and_right (fills pattern args) _ good.is_choice)
 
-pub good_filled : (b : Basis) (t : StatementView) (pattern : List (Option Obj)) (args : List Obj) → IsGood t b.scope b.facts pattern args
+pub good_filled : (b : Basis) (t : StatementView) (pattern : List (Option Obj)) (args : List Obj) → IsAllowedChoice t b.scope b.facts pattern args
     → filled_arguments b.scope (objects t) pattern (chosen pattern args) ≡ args
 good_filled b t pattern args good =
     chosen_filled b.scope b.scope nothing t.declared pattern args (and_left (fills pattern args) _ good.is_choice) (and_right (fills pattern args) _ good.is_choice)
 
-pub good_wanted : (b : Basis) (t : StatementView) (pattern : List (Option Obj)) (args : List Obj) → is_statement t ≡ true → IsGood t b.scope b.facts pattern args
+pub good_wanted : (b : Basis) (t : StatementView) (pattern : List (Option Obj)) (args : List Obj) → is_statement t ≡ true → IsAllowedChoice t b.scope b.facts pattern args
     → Wanted b t pattern (chosen pattern args)
 good_wanted b t pattern args states good =
     subst (λ (os : List Obj). AllAllowed b.scope b.facts (map (at (paired (objects t) os)) t.given)) (sym (good_filled b t pattern args good))
     (subst (λ (ls : List Lit). AllAllowed b.scope b.facts ls) (needs_declared t args b.scope states (and_right (fills pattern args) _ good.is_choice)) good.allowed)
 
 -- so where none is wanted, none is good
-pub none_good : (b : Basis) (t : StatementView) (pattern : List (Option Obj)) → is_statement t ≡ true → NoneWanted (Wanted b t pattern) [] (spans b t pattern) → NoneIsGood t b.scope b.facts pattern
+pub none_good : (b : Basis) (t : StatementView) (pattern : List (Option Obj)) → is_statement t ≡ true → NoneWanted (Wanted b t pattern) [] (spans b t pattern) → NoneIsAllowed t b.scope b.facts pattern
 none_good b t pattern states none args good = none (chosen pattern args) (good_fits b t pattern args good) (good_wanted b t pattern args states good)
 
-pub none_where_empty : (b : Basis) (t : StatementView) (pattern : List (Option Obj)) → has_empty (spans b t pattern) ≡ true → NoneIsGood t b.scope b.facts pattern
+pub none_where_empty : (b : Basis) (t : StatementView) (pattern : List (Option Obj)) → has_empty (spans b t pattern) ≡ true → NoneIsAllowed t b.scope b.facts pattern
 none_where_empty b t pattern empty args good = none_fits (spans b t pattern) (chosen pattern args) empty (good_fits b t pattern args good)
 
 -- and where none below is wanted, no good choice is below
 none_below : (b : Basis) (t : StatementView) (pattern : List (Option Obj)) (c : List ℕ) (other : List Obj) → is_statement t ≡ true → NoneBelow (Wanted b t pattern) [] (spans b t pattern) c
-    → IsGood t b.scope b.facts pattern other → is_below other (filled_arguments nothing (objects t) pattern c) ≡ false
+    → IsAllowedChoice t b.scope b.facts pattern other → is_below other (filled_arguments nothing (objects t) pattern c) ≡ false
 none_below b t pattern c other states none good =
     elim (cases_Bool (is_below other (filled_arguments nothing (objects t) pattern c))) [
       | inl is ↦
@@ -176,7 +176,7 @@ found b t pattern os ns before after args o p asked search some is at_end claims
         (least b t pattern c asked (none_empty b t pattern os ns before search some) fits kept less)
 
 pub nothing_found : (b : Basis) (t : StatementView) (pattern : List (Option Obj)) (os : List Obj) (ns : List Span) (before after : List ℕ) (o : Verdict (Unit {0})) → is_statement t ≡ true
-    → IsSearch b t pattern os ns before → o ≡ verdict.No → SearchAnswer b t pattern os ns before after o → NoneIsGood t b.scope b.facts pattern
+    → IsSearch b t pattern os ns before → o ≡ verdict.No → SearchAnswer b t pattern os ns before after o → NoneIsAllowed t b.scope b.facts pattern
 nothing_found b t pattern os ns before after o states search is claims = none_good b t pattern states (claim b t pattern os ns before after o verdict.No search is claims).1
 
 pub stopped : (b : Basis) (t : StatementView) (pattern : List (Option Obj)) (os : List Obj) (ns : List Span) (before after : List ℕ) (o : Verdict (Unit {0})) (w : ℕ) → IsAsked b t pattern
@@ -188,5 +188,5 @@ stopped b t pattern os ns before after o w asked search some is claims = end (cl
         too_wide b t pattern c w asked (none_empty b t pattern os ns before search some) starts (subst (λ (x : List ℕ). Wide b t pattern x w) ends wide) less
 
 pub empty_span : (b : Basis) (t : StatementView) (pattern : List (Option Obj)) (os : List Obj) (ns : List Span) → os ≡ objects t → ns ≡ spans_of b.scope os pattern → has_empty ns ≡ true
-    → NoneIsGood t b.scope b.facts pattern
+    → NoneIsAllowed t b.scope b.facts pattern
 empty_span b t pattern os ns are is empty = none_where_empty b t pattern (sym (ap has_empty (is ∙ ap (λ y. spans_of b.scope y pattern) are)) ∙ empty)

@@ -6,7 +6,7 @@ use Rattle.e_literal.specs.declared.object.Scope.{Scope}
 use Rattle.e_literal.specs.declared.literal.Lit.{Lit}
 use Rattle.e_literal.specs.Use.{StatementView, needs_of_use}
 use Rattle.e_clause.specs.Wide.{IsTooWideLit}
-use Rattle.e_theorem.specs.Choice.{is_choice, is_below, IsGood}
+use Rattle.e_theorem.specs.Choice.{is_choice, is_below, IsAllowedChoice}
 use Rattle.e_licence.specs.Contexts.{Basis}
 use Rattle.e_licence.specs.declared.choices.FirstChoices.{FirstChoices}
 use Rattle.e_licence.specs.declared.choices.FirstChoices.TheVariants as first
@@ -23,16 +23,16 @@ is_above choices args = list_all (λ c. is_below c args) choices
 -- a good choice that is above all these
 pub record IsNext (t : StatementView) (scope : Scope) (facts : List Lit) (pattern : List (Option Obj)) (choices : List (List Obj)) : Type 0 where
   pub args : List Obj
-  pub good : IsGood t scope facts pattern args
+  pub good : IsAllowedChoice t scope facts pattern args
   pub above : IsTrue (is_above choices args)
 
 -- The first of the good choices in order, at most this many; and whether there are more. No good choice is missing before the last of
 -- these, and where there are no more none is missing at all.
 pub record AreFirst (t : StatementView) (scope : Scope) (facts : List Lit) (pattern : List (Option Obj)) (most : ℕ) (choices : List (List Obj)) (more : Bool) : Type 0 where
-  pub good : (args : List Obj) → Contains choices args → IsGood t scope facts pattern args
+  pub good : (args : List Obj) → Contains choices args → IsAllowedChoice t scope facts pattern args
   pub ascending : IsTrue (is_ascending choices)
   pub few : length choices ≤ most
-  pub none_missing : (other : List Obj) → IsGood t scope facts pattern other → Contains choices other ⊎ (IsTrue more × IsTrue (is_above choices other))
+  pub none_missing : (other : List Obj) → IsAllowedChoice t scope facts pattern other → Contains choices other ⊎ (IsTrue more × IsTrue (is_above choices other))
   pub next : IsTrue more → (length choices ≡ most) × IsNext t scope facts pattern choices
 
 -- under a choice a given literal is wide, and w is the width of one of its wide systems

@@ -17,7 +17,7 @@ use crate::licensing::{Licensed, licence_by};
 use e_literal::{Items, Lit, Map, NOTHING, Obj, Scope, count, next_objects, renamed};
 use e_metric::{MetricFacts, StepFacts};
 use e_theorem::Statement;
-use e_transfer::{Prepared, Span, Task, Verdict, is_good, prepare, search};
+use e_transfer::{Prepared, Span, Task, Verdict, is_well_formed_in, prepare, search};
 use std::alloc::{AllocError, Global};
 use std::mem;
 
@@ -247,10 +247,10 @@ impl<'a> Blanks<'a> {
     {
         let scope = self.context.scope();
         let image = renamed(alloc, lit, images)?;
-        if !is_good(scope, &image) {
+        if !is_well_formed_in(scope, &image) {
             return Ok(Verdict::Yes(()));
         }
-        if !first && is_good(scope, &renamed(alloc, lit, earlier)?) {
+        if !first && is_well_formed_in(scope, &renamed(alloc, lit, earlier)?) {
             return Ok(Verdict::Yes(()));
         }
         let metric_facts = self.step_facts.metric_facts();

@@ -17,6 +17,6 @@ pub use blanks::{Filled, match_blanks};
 pub use choices::{FirstChoices, first_choices};
 pub use context::Context;
 pub use contradiction::{Refuted, against};
-pub use e_transfer::{are_good_facts, is_good};
+pub use e_transfer::{are_limited_facts, is_well_formed_in};
 pub use licensing::{Licensed, licence};
 pub use limits::is_statement;

@@ -27,7 +27,7 @@ each_length {X} {Y} f (x ∷ xs) ys e =
 pub same_bytes : (w : List ℕ) → bytes_eq w w ≡ true
 same_bytes w = (bytes_eq-Decides w w).1 refl
 
--- ---- names are told from other words
+-- ---- names differ from other words
 
 differs_by : (t : Bool) (w c : List ℕ) → bytes_eq w c ≡ t → is_name w ≡ true → is_name c ≡ false → t ≡ false
 differs_by false w c e h n = refl

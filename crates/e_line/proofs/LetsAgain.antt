@@ -19,7 +19,7 @@ use Rattle.e_line.proofs.Bound.{name_differs}
 use Rattle.e_line.proofs.NamesAgain.{Without, names_again, some_names_again, cut_again, uncut_again}
 use Rattle.e_line.proofs.Pieces.{is_own_word, own_words_of, all_filled, new_again, arguments_again, alike, Filled, shapes_again, avoiding_shapes_again, first_alike}
 
--- names behind the word avoid stand only where a shape may avoid something
+-- names after the word avoid stand only where a shape may avoid something
 abbrev pub may_have : List (List ℕ) → Shape → Bool
 may_have [] s = true
 may_have (n ∷ ns) s = may_avoid s

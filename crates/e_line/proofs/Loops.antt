@@ -17,7 +17,7 @@ regroup : {Y : Type 0} (front : List Y) (y : Y) (read : Result (List Y) FaultKin
 regroup {Y} front y (Ok ys) = ap (λ (l : List Y). Ok l) (simp append_assoc)
 regroup front y (Err e) = refl
 
--- reading behind nothing is reading
+-- reading after nothing is reading
 pub from_none : {X : Type 0} (read : Result (List X) FaultKind) → with_front [] read ≡ read
 from_none (Ok xs) = refl
 from_none (Err e) = refl
@@ -46,11 +46,11 @@ is_done {X} {Y} f front all total is so_far =
 pub rest_at : {X : Type 0} (xs : List X) (i : ℕ) (d : X) → i < length xs → drop i xs ≡ get_or xs i d ∷ drop (i + 1) xs
 rest_at xs i d lt = rw add-one (drop-cons xs i d lt)
 
--- the parts behind a place
+-- the parts after a place
 abbrev pub parts_from : {X : Type 0} → (X → Bool) → ℕ → List X → List (List X)
 parts_from p at xs = if nat_le at (length xs) then slice_split p (drop at xs) else []
 
--- the first part, and the parts behind the place at which it ends
+-- the first part, and the parts after the place at which it ends
 pub parts_at : {X : Type 0} (p : X → Bool) (xs : List X) (d : X) (at end : ℕ) → at ≤ length xs → end ≡ at + position_or_len p (drop at xs)
     → parts_from p at xs ≡ take (end - at) (drop at xs) ∷ parts_from p (end + 1) xs
 parts_at p xs d at end le end-is =

@@ -40,9 +40,9 @@ get_front [] ys k lt = absurd (omega arith)
 get_front (x ∷ xs) ys zero lt = refl
 get_front (x ∷ xs) ys (suc k) lt = get_front xs ys k (omega arith)
 
-get_behind : (xs : List (List ℕ)) (y : List ℕ) (ys : List (List ℕ)) → get_or (xs ++ y ∷ ys) (length xs) [] ≡ y
-get_behind [] y ys = refl
-get_behind (x ∷ xs) y ys = get_behind xs y ys
+get_after : (xs : List (List ℕ)) (y : List ℕ) (ys : List (List ℕ)) → get_or (xs ++ y ∷ ys) (length xs) [] ≡ y
+get_after [] y ys = refl
+get_after (x ∷ xs) y ys = get_after xs y ys
 
 -- where the first word stands that passes
 none_at : (p : List ℕ → Bool) (ws : List (List ℕ)) (k : ℕ) → AllByRecursion (λ w. p w ≡ false) ws → k < length ws → p (get_or ws k []) ≡ false
@@ -54,7 +54,7 @@ pub first_place : (p : List ℕ → Bool) (front : List (List ℕ)) (word : List
     → position_or_len p (front ++ word ∷ ws) ≡ length front
 first_place p front word ws h is =
     let len : length (front ++ word ∷ ws) ≡ length front + suc (length ws) = length-append front (word ∷ ws) in
-    position_or_len_is p (front ++ word ∷ ws) (length front) [] (omega arith) (λ k lt. ap p (get_front front (word ∷ ws) k lt) ∙ none_at p front k h lt) (λ lt. ap p (get_behind front word ws) ∙ is)
+    position_or_len_is p (front ++ word ∷ ws) (length front) [] (omega arith) (λ k lt. ap p (get_front front (word ∷ ws) k lt) ∙ none_at p front k h lt) (λ lt. ap p (get_after front word ws) ∙ is)
 
 -- a cut at a word that stands once
 pub cut_again : (word : List ℕ) (front ws : List (List ℕ)) → Without word front → cut_at word (front ++ word ∷ ws) ≡ (front, ws, true)
@@ -62,7 +62,7 @@ cut_again word front ws h =
     let all = front ++ word ∷ ws in
     let len : length all ≡ length front + suc (length ws) = length-append front (word ∷ ws) in
     let at : position_or_len (λ w. bytes_eq w word) all ≡ length front = position_or_len_is (λ w. bytes_eq w word) all (length front) [] (omega arith)
-    (λ k lt. ap (λ w. bytes_eq w word) (get_front front (word ∷ ws) k lt) ∙ no_word_at word front k h lt) (λ lt. ap (λ w. bytes_eq w word) (get_behind front word ws) ∙ same_bytes word) in
+    (λ k lt. ap (λ w. bytes_eq w word) (get_front front (word ∷ ws) k lt) ∙ no_word_at word front k h lt) (λ lt. ap (λ w. bytes_eq w word) (get_after front word ws) ∙ same_bytes word) in
     let test : ltb (length front) (length all) ≡ true = lt-ltb _ _ (omega arith) in
     let first = take_at front (word ∷ ws) (length front) refl in
     let back : drop (length front + 1) all ≡ ws = sym (drop-drop 1 (length front) all) ∙ ap (λ (xs : List (List ℕ)). drop 1 xs) (drop_at front (word ∷ ws) (length front) refl) in

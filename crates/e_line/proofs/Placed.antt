@@ -65,12 +65,12 @@ none_left new ps ws i le = ap (λ (vs : List (List ℕ)). words_at new (map piec
     nothing [] = refl
     nothing (q ∷ qs) = refl
 
-abbrev behind_let : List (List ℕ) × List (List ℕ) × Bool → Result RawLet FaultKind
-behind_let p = avoided_of p.2 p.1 >>= λ avoid. let_named (shapes_of p.2 p.0) p.0 avoid
+abbrev after_let : List (List ℕ) × List (List ℕ) × Bool → Result RawLet FaultKind
+after_let p = avoided_of p.2 p.1 >>= λ avoid. let_named (shapes_of p.2 p.0) p.0 avoid
 
 -- a line with the word avoid, or without it
-pub let_parts : (words line behind : List (List ℕ)) (avoiding : Bool) (avoid : List (List ℕ)) (shapes : List Shape) → cut_at (codes "avoid") words ≡ (line, behind, avoiding) → avoided_of avoiding behind ≡ Ok avoid
+pub let_parts : (words line after : List (List ℕ)) (avoiding : Bool) (avoid : List (List ℕ)) (shapes : List Shape) → cut_at (codes "avoid") words ≡ (line, after, avoiding) → avoided_of avoiding after ≡ Ok avoid
     → shapes ≡ shapes_of avoiding line → let_of words ≡ let_named shapes line avoid
 unfolding let_of
-let_parts words line behind avoiding avoid shapes cut av ss =
-    ap behind_let cut ∙ ap (λ (r : Result (List (List ℕ)) FaultKind). r >>= λ avoid. let_named (shapes_of avoiding line) line avoid) av ∙ ap (λ (xs : List Shape). let_named xs line avoid) (sym ss)
+let_parts words line after avoiding avoid shapes cut av ss =
+    ap after_let cut ∙ ap (λ (r : Result (List (List ℕ)) FaultKind). r >>= λ avoid. let_named (shapes_of avoiding line) line avoid) av ∙ ap (λ (xs : List Shape). let_named xs line avoid) (sym ss)

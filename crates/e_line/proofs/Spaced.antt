@@ -1,4 +1,4 @@
--- Words behind spaces.
+-- Words after spaces.
 use Rattle.std.proofs.Common.{◌≡◌, ℕ, ◌+◌, ◌<◌, add-one, List, [], ◌∷◌, ◌++◌, length, drop, get_or, drop-cons, refl, sym, ap, subst, ◌∙◌, append_assoc, arith}
 use Rattle.std.proofs.lemmas.List.{append-nil}
 use Rattle.e_text.specs.Tokens.{spaced}
@@ -19,7 +19,7 @@ word a b w e = e ∙ ap (λ (l : List ℕ). a ++ 32 ∷ l) (sym (append-nil w))
 pub word_after : (a b c w : List ℕ) (ys : List (List ℕ)) → b ≡ a ++ 32 ∷ w → c ≡ b ++ spaced ys → c ≡ a ++ spaced (w ∷ ys)
 word_after a b c w ys e h = after a b c (w ∷ []) ys (word a b w e) h
 
--- a literal is written behind its semicolon, and the rest is still to be written
+-- a literal is written after its semicolon, and the rest is still to be written
 pub more_after : (a b c : List ℕ) (lits : List RawLit) (i : ℕ) (lit : RawLit) → i < length lits → lit ≡ get_or lits i lit → b ≡ a ++ 32 ∷ 59 ∷ [] → c ≡ b ++ spaced (lit_words lit)
     → c ++ spaced (more_words (drop (i + 1) lits)) ≡ a ++ spaced (more_words (drop i lits))
 more_after a b c lits i lit lt is e h =
@@ -28,7 +28,7 @@ more_after a b c lits i lit lt is e h =
     after a c (c ++ spaced (more_words (drop (i + 1) lits))) ((59 ∷ []) ∷ lit_words lit) (more_words (drop (i + 1) lits)) (word_after a b c (59 ∷ []) (lit_words lit) e h) refl
     ∙ ap (λ (ls : List RawLit). a ++ spaced (more_words ls)) (sym first)
 
--- the first literal is written, and then those behind it
+-- the first literal is written, and then those after it
 pub first_after : (a b c : List ℕ) (lits : List RawLit) (lit : RawLit) → 0 < length lits → lit ≡ get_or lits 0 lit → b ≡ a ++ spaced (lit_words lit) → c ≡ b ++ spaced (more_words (drop 1 lits))
     → c ≡ a ++ spaced (lits_words lits)
 first_after a b c [] lit lt is e h = absurd (omega (arith, lt))

@@ -46,6 +46,6 @@ superpose_again s g =
     ap (λ (ws : List (List ℕ)). head_of ws (drop 13 (front s ++ rest))) (take_at (front s) rest 13 n)
     ∙ ap (λ (ws : List (List ℕ)). head_of (front s) ws) (drop_at (front s) rest 13 n) ∙ head_again s g
 
--- behind the thirteen words before them
-pub lits_behind : (s : RawSuperpose) → SuperposeNamed s → drop 13 (superpose_words s) ≡ lits_words s.shown
-lits_behind s g = drop_at (front s) (lits_words s.shown) 13 (length-filled superpose_pieces s.new s.args g.made g.arguments)
+-- after the thirteen words before them
+pub lits_after : (s : RawSuperpose) → SuperposeNamed s → drop 13 (superpose_words s) ≡ lits_words s.shown
+lits_after s g = drop_at (front s) (lits_words s.shown) 13 (length-filled superpose_pieces s.new s.args g.made g.arguments)

@@ -198,9 +198,9 @@ fn line_named(
     if lists(word, b"claim", rest) {
         return listed(alloc, Listing::Claim, rest);
     }
-    let (head, behind) = parted(rest);
-    if lists(word, b"superpose", behind) {
-        return listed(alloc, placing_of(alloc, head)?, behind);
+    let (head, after) = parted(rest);
+    if lists(word, b"superpose", after) {
+        return listed(alloc, placing_of(alloc, head)?, after);
     }
     Ok(BookLine::Plain(raw_line_of(alloc, words)?))
 }

@@ -1,6 +1,6 @@
 //! A line by its spelling alone: its words to a raw line, and a raw line to its bytes.
 //!
-//! What a line says is told from its words; no name is looked up here.
+//! What a line says is read from its words; no name is looked up here.
 #![tactic(auto)]
 
 mod applies;

@@ -255,10 +255,10 @@ fn answer(
 /// minor of its rows has size at least 2^63, and no system that is not wide gives a certificate.
 /// Facts that contradict each other in any kind give every metric literal.
 ///
-/// [`are_few_facts`] and [`is_good_goal`] test the conditions.
+/// [`are_few_facts`] and [`is_metric_goal`] test the conditions.
 ///
 /// [`are_few_facts`]: crate::limits::are_few_facts
-/// [`is_good_goal`]: crate::limits::is_good_goal
+/// [`is_metric_goal`]: crate::limits::is_metric_goal
 pub fn follows(alloc: Global, facts: &Facts, goal: &Lit) -> Result<Metric, AllocError>
     requires facts { IsTrue (list_all is_well_formed facts.now) }
     requires few { length (terms_of_lits facts.now) ≤ 1100 }

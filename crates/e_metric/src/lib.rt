@@ -18,7 +18,7 @@ mod step_facts;
 mod systems;
 
 pub use consequence::{Metric, absurd, follows};
-pub use limits::{are_few_facts, is_good_goal, is_well_formed};
+pub use limits::{are_few_facts, is_metric_goal, is_well_formed};
 pub use metric_facts::MetricFacts;
 pub use step_facts::StepFacts;
 pub use systems::system;

@@ -23,7 +23,7 @@ fn is_of(which: Kind, term: Term) -> bool
 }
 
 // Whether each monomial is of the kind, with a coefficient from 1 to 1,000,000.
-fn are_good(which: Kind, sum: &[Mono]) -> bool
+fn are_bounded_monomials(which: Kind, sum: &[Mono]) -> bool
     ensures { result ≡ list_all
         (λ m. same_kind (kind_of_term m.term) which && is_bounded_coefficient m.coeff) sum.now }
 {
@@ -31,12 +31,15 @@ fn are_good(which: Kind, sum: &[Mono]) -> bool
 }
 
 #[tactic(auto, using(crate::proofs::terms::WellFormedSums::parts))]
-fn are_good_sums(which: Kind, x: &[Mono], y: &[Mono]) -> bool
+fn are_bounded_sums(which: Kind, x: &[Mono], y: &[Mono]) -> bool
     requires { which ≡ kind_of_sums x.now y.now }
     ensures { result ≡ WellFormed.are_well_formed_sums x.now y.now }
 {
     let monomials = x.len() + y.len();
-    1 <= monomials && monomials <= 32 && are_good(which, x) && are_good(which, y)
+    1 <= monomials
+        && monomials <= 32
+        && are_bounded_monomials(which, x)
+        && are_bounded_monomials(which, y)
 }
 
 /// Whether the literal is well formed: a diagram literal, or one with 1 to 32 monomials of one kind
@@ -46,13 +49,13 @@ pub fn is_well_formed(lit: &Lit) -> bool
 {
     let which = kind(lit).unwrap_or(Kind::Segment);
     match &lit.atom {
-        Atom::MagEq(x, y) | Atom::MagLt(x, y) => are_good_sums(which, x.items(), y.items()),
+        Atom::MagEq(x, y) | Atom::MagLt(x, y) => are_bounded_sums(which, x.items(), y.items()),
         _ => true,
     }
 }
 
 /// Whether the literal is a metric one, and well formed.
-pub fn is_good_goal(goal: &Lit) -> bool
+pub fn is_metric_goal(goal: &Lit) -> bool
     ensures { result ≡ is_well_formed_metric (Some goal.now) }
 {
     kind(goal).is_some() && is_well_formed(goal)

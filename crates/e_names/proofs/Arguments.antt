@@ -17,7 +17,7 @@ use Rattle.e_names.specs.Scope.{used, right_sort, arguments_in, objects_of_sorts
 abbrev pub one_takes : List Shape → List Obj → Bool
 one_takes shapes found = list_any (λ s. takes s found) shapes
 
--- what is read behind an object
+-- what is read after an object
 abbrev after : Names → List Shape → List Obj → List (List ℕ) → Obj → Bool → Result (List Obj) FaultKind
 after ns shapes found names o b = right_sort b >>= λ right. arguments_in ns shapes (found ++ o ∷ []) names
 

@@ -68,8 +68,8 @@ let_fits ns l form e =
 
 -- ---- a superposition that is read
 
--- the points and lines that a superposition places, each behind its name
-pub record Behind (ns : Names) (a b c k d g h l : List ℕ) (form : Superpose) : Type 0 where
+-- the points and lines that a superposition places, each after its name
+pub record EachAfterName (ns : Names) (a b c k d g h l : List ℕ) (form : Superpose) : Type 0 where
   pub na : ℕ
   pub nb : ℕ
   pub nc : ℕ
@@ -88,9 +88,9 @@ pub record Behind (ns : Names) (a b c k d g h l : List ℕ) (form : Superpose) :
   pub l_is : number_of ns Line l ≡ Ok nl
   pub form_is : superpose na nb nc nd ng nh nk nl ≡ form
 
-pub placed_behind : (ns : Names) (a b c k d g h l : List ℕ) (form : Superpose) → placed_in ns (a ∷ b ∷ c ∷ k ∷ d ∷ g ∷ h ∷ l ∷ []) ≡ Ok form → Behind ns a b c k d g h l form
+pub placed_after : (ns : Names) (a b c k d g h l : List ℕ) (form : Superpose) → placed_in ns (a ∷ b ∷ c ∷ k ∷ d ∷ g ∷ h ∷ l ∷ []) ≡ Ok form → EachAfterName ns a b c k d g h l form
 unfolding placed_in
-placed_behind ns a b c k d g h l form e =
+placed_after ns a b c k d g h l form e =
     let na = bind_ok (number_of ns Point a) (λ na. number_of ns Point b >>= λ nb. number_of ns Point c >>= λ nc. number_of ns Line k >>= λ nk. number_of ns Point d >>= λ nd. number_of ns Point g >>= λ ng. number_of ns Point h >>= λ nh. number_of ns Line l >>= λ nl. read_ok (superpose na nb nc nd ng nh nk nl)) form e in
     let nb = bind_ok (number_of ns Point b) (λ nb. number_of ns Point c >>= λ nc. number_of ns Line k >>= λ nk. number_of ns Point d >>= λ nd. number_of ns Point g >>= λ ng. number_of ns Point h >>= λ nh. number_of ns Line l >>= λ nl. read_ok (superpose na.0 nb nc nd ng nh nk nl)) form na.2 in
     let nc = bind_ok (number_of ns Point c) (λ nc. number_of ns Line k >>= λ nk. number_of ns Point d >>= λ nd. number_of ns Point g >>= λ ng. number_of ns Point h >>= λ nh. number_of ns Line l >>= λ nl. read_ok (superpose na.0 nb.0 nc nd ng nh nk nl)) form nb.2 in
@@ -122,7 +122,7 @@ placed_behind ns a b c k d g h l form e =
 placed_fits : (ns : Names) (args : List (List ℕ)) (form : Superpose) → placed_in ns args ≡ Ok form → superposing.fits_superposition form (scope_of_names ns) ≡ true
 unfolding placed_in
 placed_fits ns (a ∷ b ∷ c ∷ k ∷ d ∷ g ∷ h ∷ l ∷ []) form e =
-    let p = placed_behind ns a b c k d g h l form e in
+    let p = placed_after ns a b c k d g h l form e in
     let point : (name : List ℕ) (n : ℕ) → number_of ns Point name ≡ Ok n → ltb n (length ns.points) ≡ true = λ name n i. number_in_scope ns Point name n i in
     let line : (name : List ℕ) (n : ℕ) → number_of ns Line name ≡ Ok n → ltb n (length ns.lines) ≡ true = λ name n i. number_in_scope ns Line name n i in
     subst (λ (x : Superpose). superposing.fits_superposition x (scope_of_names ns) ≡ true) p.form_is

@@ -145,9 +145,9 @@ avoided_in_scope s NoObject (o ∷ os) h = let n = eqb-true (length (o ∷ os)) 
 avoided_in_scope s AnyObject os h = h
 avoided_in_scope s (AnyApartFrom x) os h = h
 
-may_behind : (s : Scope) (sh : Shape) (names : Obj → List ℕ) (os : List Obj) → avoids_well s (shape_row sh).avoids os ≡ true → may_have (map names os) sh ≡ true
-may_behind s sh names [] h = refl
-may_behind s sh names (o ∷ os) h = by_avoids (shape_row sh).avoids h where
+may_have_after : (s : Scope) (sh : Shape) (names : Obj → List ℕ) (os : List Obj) → avoids_well s (shape_row sh).avoids os ≡ true → may_have (map names os) sh ≡ true
+may_have_after s sh names [] h = refl
+may_have_after s sh names (o ∷ os) h = by_avoids (shape_row sh).avoids h where
   by_avoids : (a : Avoids) → avoids_well s a (o ∷ os) ≡ true → are_avoided a ≡ true
   by_avoids NoObject h = let n = eqb-true (length (o ∷ os)) 0 h in absurd (omega (arith, n))
   by_avoids AnyObject h = refl
@@ -182,5 +182,5 @@ let_named ns form names o h a =
         arguments = length-map form.args (name_of_object ns) ∙ of_sorts_length s (sorts_of (shape_row form.shape).args) form.args p.0 ∙ length-map (shape_row form.shape).args (λ o. o.sort) ∙ sym (names_all_objects form.shape).1;
       };
       avoided = objects_named ns form.avoid o (avoided_in_scope s (shape_row form.shape).avoids form.avoid p.1);
-      may = may_behind s form.shape (name_of_object ns) form.avoid p.1;
+      may = may_have_after s form.shape (name_of_object ns) form.avoid p.1;
     }

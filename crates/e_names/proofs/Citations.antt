@@ -41,7 +41,7 @@ object_sort ns sort name o e =
     let n = bind_ok (number_of ns sort name) (λ n. read_ok (obj sort n)) o e in
     subst (λ (x : Obj). same_sort x.sort sort ≡ true) (ok_is (obj sort n.0) o n.2) (same_sort_self sort)
 
--- three parts of these lengths, one behind the other
+-- three parts of these lengths, one after the other
 abbrev pub Parts : ℕ → ℕ → ℕ → List Obj → Type 0
 Parts p l c args =
     (eqb (length args) (p + l + c) && (all_of Point (take p args) && (all_of Line (take l (drop p args)) && all_of Circle (drop (p + l) args)))) ≡ true

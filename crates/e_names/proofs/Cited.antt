@@ -25,7 +25,7 @@ use Rattle.e_names.specs.Canonical.{name_of_object, raw_of, rule_name, by_form}
 use Rattle.e_names.specs.Fits.{is_diagram_lit}
 use Rattle.e_line.proofs.Respelled.{GoodForm}
 use Rattle.e_names.proofs.Lookups.{InOrder, objects_again, objects_named}
-use Rattle.e_names.proofs.LitLookups.{lit_number_again, lit_named, diagram_is_good, diagram_is_raw}
+use Rattle.e_names.proofs.LitLookups.{lit_number_again, lit_named, diagram_is_well_formed, diagram_is_raw}
 use Rattle.e_names.proofs.RuleNames.{title_again, rule_name_is}
 
 take_map : {A B : Type 0} (f : A → B) (n : ℕ) (xs : List A) → take n (map f xs) ≡ map f (take n xs)
@@ -127,9 +127,9 @@ unfolding by_in
 by_number_again ns b s h d =
     let c = cited ns b h in
     let count : eqb (length (map (name_of_object ns) b.args)) (c.row.points + c.row.lines + c.row.circles) ≡ true = ap (λ n. eqb n (c.row.points + c.row.lines + c.row.circles)) (length-map b.args (name_of_object ns)) ∙ c.fitting.count in
-    rw (rule_again ns b c, sig_again ns b c, count, args_again ns c.row b.args s c.fitting c.within, lit_number_again ns b.lit s c.lit (diagram_is_good b.lit d)) refl
+    rw (rule_again ns b c, sig_again ns b c, count, args_again ns c.row b.args s c.fitting c.within, lit_number_again ns b.lit s c.lit (diagram_is_well_formed b.lit d)) refl
 
 pub by_good : (ns : Names) (b : By) → InOrder ns → is_citation (scope_of_names ns) b ≡ true → is_diagram_lit b.lit ≡ true → GoodForm (by_form ns b)
 by_good ns b s h d =
     let c = cited ns b h in
-    (ap is_title (rule_name_is b.rule c.row c.at) ∙ title_again b.rule c.row c.at, objects_named ns b.args s c.within, lit_named ns b.lit s c.lit (diagram_is_good b.lit d), diagram_is_raw ns b.lit d)
+    (ap is_title (rule_name_is b.rule c.row c.at) ∙ title_again b.rule c.row c.at, objects_named ns b.args s c.within, lit_named ns b.lit s c.lit (diagram_is_well_formed b.lit d), diagram_is_raw ns b.lit d)

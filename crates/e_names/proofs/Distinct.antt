@@ -40,12 +40,12 @@ apart_turned : (xs ys : List (List ℕ)) → are_apart xs ys ≡ true → are_ap
 apart_turned [] ys h = refl
 apart_turned (x ∷ xs) ys h = let p = apart_first x xs ys h in rw (p.0, apart_turned xs ys p.1) refl
 
-apart_behind : (xs zs ys : List (List ℕ)) → are_apart xs ys ≡ true → are_apart zs ys ≡ true → are_apart (xs ++ zs) ys ≡ true
-apart_behind xs zs [] h k = refl
-apart_behind xs zs (y ∷ ys) h k =
+apart_after : (xs zs ys : List (List ℕ)) → are_apart xs ys ≡ true → are_apart zs ys ≡ true → are_apart (xs ++ zs) ys ≡ true
+apart_after xs zs [] h k = refl
+apart_after xs zs (y ∷ ys) h k =
     let p = and_parts (not (has xs y)) (are_apart xs ys) h in
     let q = and_parts (not (has zs y)) (are_apart zs ys) k in
-    rw (list_any-append (λ m. bytes_eq m y) xs zs, not-true (has xs y) p.0, not-true (has zs y) q.0, apart_behind xs zs ys p.1 q.1) refl
+    rw (list_any-append (λ m. bytes_eq m y) xs zs, not-true (has xs y) p.0, not-true (has zs y) q.0, apart_after xs zs ys p.1 q.1) refl
 
 apart_more : (xs ys zs : List (List ℕ)) → are_apart xs ys ≡ true → are_apart xs zs ≡ true → are_apart xs (ys ++ zs) ≡ true
 apart_more xs ys zs h k = list_all-append (λ n. not (has xs n)) ys zs ∙ rw (h, k) refl
@@ -80,8 +80,8 @@ fresh_apart ns seen (n ∷ new) u e =
     let r = fresh_apart ns (seen ++ n ∷ []) new u p.1 in
     record { points = rw (t.points, r.points) refl; lines = rw (t.lines, r.lines) refl; circles = rw (t.circles, r.circles) refl }
 
-not_behind : (old seen : List (List ℕ)) (n : List ℕ) → has old n ≡ false → has seen n ≡ false → has (old ++ seen) n ≡ false
-not_behind old seen n h k = list_any-append (λ m. bytes_eq m n) old seen ∙ rw (h, k) refl
+not_after : (old seen : List (List ℕ)) (n : List ℕ) → has old n ≡ false → has seen n ≡ false → has (old ++ seen) n ≡ false
+not_after old seen n h k = list_any-append (λ m. bytes_eq m n) old seen ∙ rw (h, k) refl
 
 fresh_distinct : (ns : Names) (old seen new : List (List ℕ)) (u : Unit {0}) → ((s : List (List ℕ)) (n : List ℕ) → Untaken ns s n → has old n ≡ false) → fresh ns seen new ≡ Ok u
     → are_distinct (old ++ seen) ≡ true → are_distinct (old ++ seen ++ new) ≡ true
@@ -89,7 +89,7 @@ fresh_distinct ns old seen [] u f e d = subst (λ (l : List (List ℕ)). are_dis
 fresh_distinct ns old seen (n ∷ new) u f e d =
     let p = passed (is_taken ns seen n) (fresh ns (seen ++ n ∷ []) new) u e in
     let t = untaken ns seen n p.0 in
-    let one : are_distinct (old ++ (seen ++ n ∷ [])) ≡ true = subst (λ (l : List (List ℕ)). are_distinct l ≡ true) (append_assoc old seen (n ∷ [])) (distinct_last (old ++ seen) n d (not_behind old seen n (f seen n t) t.among)) in
+    let one : are_distinct (old ++ (seen ++ n ∷ [])) ≡ true = subst (λ (l : List (List ℕ)). are_distinct l ≡ true) (append_assoc old seen (n ∷ [])) (distinct_last (old ++ seen) n d (not_after old seen n (f seen n t) t.among)) in
     let all = fresh_distinct ns old (seen ++ n ∷ []) new u f p.1 one in
     let regrouped : old ++ (seen ++ n ∷ []) ++ new ≡ old ++ seen ++ n ∷ new = ap (λ (l : List (List ℕ)). l ++ new) (sym (append_assoc old seen (n ∷ []))) ∙ append_assoc (old ++ seen) (n ∷ []) new in
     subst (λ (l : List (List ℕ)). are_distinct l ≡ true) regrouped all
@@ -107,8 +107,8 @@ still_differ ns Point new u d e =
       points = longer ns ns.points new u (λ s n t. t.points) e d.points;
       lines = d.lines;
       circles = d.circles;
-      points_lines = apart_behind ns.points new ns.lines d.points_lines (apart_turned ns.lines new f.lines);
-      points_circles = apart_behind ns.points new ns.circles d.points_circles (apart_turned ns.circles new f.circles);
+      points_lines = apart_after ns.points new ns.lines d.points_lines (apart_turned ns.lines new f.lines);
+      points_circles = apart_after ns.points new ns.circles d.points_circles (apart_turned ns.circles new f.circles);
       lines_circles = d.lines_circles;
     }
 still_differ ns Line new u d e =
@@ -119,7 +119,7 @@ still_differ ns Line new u d e =
       circles = d.circles;
       points_lines = apart_more ns.points ns.lines new d.points_lines f.points;
       points_circles = d.points_circles;
-      lines_circles = apart_behind ns.lines new ns.circles d.lines_circles (apart_turned ns.circles new f.circles);
+      lines_circles = apart_after ns.lines new ns.circles d.lines_circles (apart_turned ns.circles new f.circles);
     }
 still_differ ns Circle new u d e =
     let f = fresh_apart ns [] new u e in

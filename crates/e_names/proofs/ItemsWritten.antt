@@ -50,8 +50,8 @@ notion_at (m ∷ ns) title n all e = by (bytes_eq title m.title) (λ h. notion_a
   parts = and_parts (is_notion m.notion) (are_notions ns) all
 
   by : (b : Bool) → (notion_of ns title ≡ Some n → is_notion n ≡ true) → cond b (Some m.notion) (notion_of ns title) ≡ Some n → is_notion n ≡ true
-  by true behind h = subst (λ (x : Notion). is_notion x ≡ true) (let is : m.notion ≡ n = cc in is) parts.0
-  by false behind h = behind h
+  by true after h = subst (λ (x : Notion). is_notion x ≡ true) (let is : m.notion ≡ n = cc in is) parts.0
+  by false after h = after h
 
 known_is : (o : Option Notion) (n : Notion) → known_notion o ≡ Ok n → o ≡ Some n
 known_is None n e = absurd cc

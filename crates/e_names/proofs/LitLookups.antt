@@ -27,7 +27,7 @@ use Rattle.e_names.specs.Canonical.{raw_term, raw_mono, raw_sum, raw_atom, raw_s
 use Rattle.e_names.specs.Fits.{is_diagram_atom, is_diagram_lit}
 use Rattle.e_line.proofs.SumsAgain.{TermNamed, SumNamed}
 use Rattle.e_line.proofs.LitsAgain.{SidesNamed, AtomNamed, LitNamed}
-use Rattle.e_names.proofs.GoodSums.{is_good_mono, AreGood, GoodSums, good_sums, kind_is, turned}
+use Rattle.e_names.proofs.GoodSums.{is_bounded_mono, AreBounded, GoodSums, good_sums, kind_is, turned}
 use Rattle.e_names.proofs.Lookups.{InOrder, Within, used_again, number_again, named_at}
 use Rattle.e_names.proofs.Diagrams.{good_diagram}
 
@@ -85,14 +85,14 @@ first_raw_kind ns [] [] = refl
 record First (ns : Names) (k : Magnitude) (m : Mono) (ms : List Mono) : Type 0 where
   kind : same_kind (kind_of_term m.term) k ≡ true
   coeff : is_bounded_coefficient m.coeff ≡ true
-  good : AreGood k ms
+  good : AreBounded k ms
   here : TermWithin ns m.term
   within : SumWithin ns ms
 
-first_of : (ns : Names) (k : Magnitude) (m : Mono) (ms : List Mono) → AreGood k (m ∷ ms) → SumWithin ns (m ∷ ms) → First ns k m ms
+first_of : (ns : Names) (k : Magnitude) (m : Mono) (ms : List Mono) → AreBounded k (m ∷ ms) → SumWithin ns (m ∷ ms) → First ns k m ms
 first_of ns k m ms g w =
     let s = scope_of_names ns in
-    let p = and_parts (is_good_mono k m) (list_all (is_good_mono k) ms) g in
+    let p = and_parts (is_bounded_mono k m) (list_all (is_bounded_mono k) ms) g in
     let q = and_parts (same_kind (kind_of_term m.term) k) (is_bounded_coefficient m.coeff) p.0 in
     let r = and_parts (list_all (is_in_scope s) (objects_of_term m.term)) (list_all (is_in_scope s) (objects_of_sum ms)) (sym (list_all-append (is_in_scope s) (objects_of_term m.term) (objects_of_sum ms)) ∙ w) in
     record { kind = q.0; coeff = q.1; good = p.1; here = r.0; within = r.1 }
@@ -103,12 +103,12 @@ mono_number_again ns k m o s h =
     let kind : same_kind (kind_of_raw (raw_term ns m.term)) k ≡ true = ap (λ (z : Magnitude). same_kind z k) (raw_kind ns m.term) ∙ s in
     rw (kind, term_number_again ns m.term o h) refl
 
-sum_number_again : (ns : Names) (k : Magnitude) (ms : List Mono) → InOrder ns → AreGood k ms → SumWithin ns ms → each (mono_in ns k) (raw_sum ns ms) ≡ Ok ms
+sum_number_again : (ns : Names) (k : Magnitude) (ms : List Mono) → InOrder ns → AreBounded k ms → SumWithin ns ms → each (mono_in ns k) (raw_sum ns ms) ≡ Ok ms
 sum_number_again ns k [] o g w = refl
 sum_number_again ns k (m ∷ ms) o g w =
     let f = first_of ns k m ms g w in rw (mono_number_again ns k m o f.kind f.here, sum_number_again ns k ms o f.good f.within) refl
 
-sum_named : (ns : Names) (k : Magnitude) (ms : List Mono) → InOrder ns → AreGood k ms → SumWithin ns ms → SumNamed (raw_sum ns ms)
+sum_named : (ns : Names) (k : Magnitude) (ms : List Mono) → InOrder ns → AreBounded k ms → SumWithin ns ms → SumNamed (raw_sum ns ms)
 sum_named ns k [] o g w = tt
 sum_named ns k (m ∷ ms) o g w =
     let f = first_of ns k m ms g w in
@@ -254,8 +254,8 @@ lit_named ns l s h d = signed_named ns l.neg l.atom s h d
 
 -- ---- literals of diagrams and of equal objects
 
-pub diagram_is_good : (l : Lit) → is_diagram_lit l ≡ true → is_well_formed l ≡ true
-diagram_is_good l h = good_diagram l.atom h
+pub diagram_is_well_formed : (l : Lit) → is_diagram_lit l ≡ true → is_well_formed l ≡ true
+diagram_is_well_formed l h = good_diagram l.atom h
 
 raw_diagram : (ns : Names) (neg : Bool) (a : Atom) → is_diagram_atom a ≡ true → is_diagram_raw (raw_signed ns neg a).atom ≡ true
 raw_diagram ns neg (atoms.MagEq x y) h = absurd cc

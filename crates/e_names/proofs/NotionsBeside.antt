@@ -27,7 +27,7 @@ append_beside (u ∷ ts) (m ∷ ns) t n e = ap (λ (l : List Titled). titled u m
 
 -- ---- the notion with a title, by its place
 
--- the place of the first title that is this one, behind another
+-- the place of the first title that is this one, after another
 abbrev place : List (List ℕ) → List ℕ → ℕ
 place ts t = position_or_len (bytes_eq t) ts
 

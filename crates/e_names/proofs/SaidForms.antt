@@ -28,7 +28,7 @@ use Rattle.e_line.specs.Literals.{lit_of, is_diagram_raw, is_semicolon, lits_of}
 use Rattle.e_line.specs.Superposes.{superpose_pieces, head_of, superpose_of}
 use Rattle.e_line.specs.Lets.{are_words_of, new_words, argument_words, shapes_of, avoided_of, let_named, let_of}
 use Rattle.e_line.specs.declared.applies.RawApply.{RawApply}
-use Rattle.e_line.specs.Applies.{arguments_of, made_names as names_behind_as, apply_of}
+use Rattle.e_line.specs.Applies.{arguments_of, made_names as names_after_as, apply_of}
 use Rattle.e_line.specs.RawLines.{raw_line_of}
 use Rattle.e_names.specs.Scope.{used, number_of, on_sort, line_meets, meets_from, equal_at, atom_in, negated_in, lit_in, args_in, by_in, known_rule, variables_of, right_count}
 use Rattle.e_names.specs.Fits.{is_diagram_atom, is_diagram_lit}
@@ -84,21 +84,21 @@ let_said ws l e =
     let b = bind_ok (avoided_of parts.2 parts.1) rest l e in
     let_named_said (shapes_of parts.2 parts.0) parts.0 b.0 l b.2
 
-behind_as_said : (b : Bool) (ws ns : List (List ℕ)) → names_behind_as b ws ≡ Ok ns → AreNames ns
-behind_as_said false ws ns e = subst AreNames (ok_is [] ns e) tt
-behind_as_said true ws ns e = some_names_said ws ns e
+after_as_said : (b : Bool) (ws ns : List (List ℕ)) → names_after_as b ws ≡ Ok ns → AreNames ns
+after_as_said false ws ns e = subst AreNames (ok_is [] ns e) tt
+after_as_said true ws ns e = some_names_said ws ns e
 
 apply_said : (ws : List (List ℕ)) (a : RawApply) → apply_of ws ≡ Ok a → (is_title a.title ≡ true) × AreNames a.new
 unfolding apply_of
 apply_said ws a e =
     let made : List ℕ → List (Option (List ℕ)) → List (List ℕ) → RawApply = λ t args new. record { title = t; args = args; new = new } in
-    let rest : List ℕ × List (List ℕ) → Result RawApply FaultKind = λ t. arguments_of (cut_at (codes "as") t.1).0 >>= λ args. names_behind_as (cut_at (codes "as") t.1).2 (cut_at (codes "as") t.1).1 >>= λ new. read_ok (made t.0 args new) in
+    let rest : List ℕ × List (List ℕ) → Result RawApply FaultKind = λ t. arguments_of (cut_at (codes "as") t.1).0 >>= λ args. names_after_as (cut_at (codes "as") t.1).2 (cut_at (codes "as") t.1).1 >>= λ new. read_ok (made t.0 args new) in
     let t = bind_ok (title_at ws) rest a e in
     let parts = cut_at (codes "as") t.0.1 in
-    let args = bind_ok (arguments_of parts.0) (λ args. names_behind_as parts.2 parts.1 >>= λ new. read_ok (made t.0.0 args new)) a t.2 in
-    let new = bind_ok (names_behind_as parts.2 parts.1) (λ new. read_ok (made t.0.0 args.0 new)) a args.2 in
+    let args = bind_ok (arguments_of parts.0) (λ args. names_after_as parts.2 parts.1 >>= λ new. read_ok (made t.0.0 args new)) a t.2 in
+    let new = bind_ok (names_after_as parts.2 parts.1) (λ new. read_ok (made t.0.0 args.0 new)) a args.2 in
     subst (λ (x : RawApply). (is_title x.title ≡ true) × AreNames x.new) (ok_is (made t.0.0 args.0 new.0) a new.2)
-    (title_said ws t.0 t.1, behind_as_said parts.2 parts.1 new.0 new.1)
+    (title_said ws t.0 t.1, after_as_said parts.2 parts.1 new.0 new.1)
 
 pub some_lits_said : (ws : List (List ℕ)) (ls : List RawLit) → lits_of ws ≡ Ok ls → (0 < length ls) × LitsSaid ls
 some_lits_said ws ls e =

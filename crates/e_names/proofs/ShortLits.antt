@@ -18,15 +18,15 @@ use Rattle.e_line.specs.Limits.{most_monomials, most_coefficient, monomials, cou
 use Rattle.e_line.specs.Literals.{monos_of}
 use Rattle.e_line.specs.LineLimits.{are_short, are_small, count_monos, few_monos}
 use Rattle.e_names.specs.Canonical.{raw_mono, raw_sum, raw_signed, raw_of}
-use Rattle.e_names.proofs.GoodSums.{is_good_mono, AreGood, GoodSums, good_sums, turned}
+use Rattle.e_names.proofs.GoodSums.{is_bounded_mono, AreBounded, GoodSums, good_sums, turned}
 
 abbrev is_small : List RawMono → Bool
 is_small ms = list_all (λ m. leb m.coeff most_coefficient) ms
 
-small_sum : (ns : Names) (k : Magnitude) (ms : List Mono) → AreGood k ms → is_small (raw_sum ns ms) ≡ true
+small_sum : (ns : Names) (k : Magnitude) (ms : List Mono) → AreBounded k ms → is_small (raw_sum ns ms) ≡ true
 small_sum ns k [] g = refl
 small_sum ns k (m ∷ ms) g =
-    let p = and_parts (is_good_mono k m) (list_all (is_good_mono k) ms) g in
+    let p = and_parts (is_bounded_mono k m) (list_all (is_bounded_mono k) ms) g in
     let q = and_parts (same_kind (kind_of_term m.term) k) (is_bounded_coefficient m.coeff) p.0 in
     let c = and_parts (leb 1 m.coeff) (leb m.coeff most_coefficient) q.1 in
     rw (c.1, small_sum ns k ms p.1) refl

@@ -40,7 +40,7 @@ first_point s sorts (p ∷ ps) ls h =
     let b = and_parts (is_in_scope s (obj Point p)) (are_of_sorts s sorts (objects ps ls)) h in
     record { n = p; more = ps; is = refl; within = b.0; others = b.1 }
 
--- the two lines, behind which there is nothing
+-- the two lines, after which there is nothing
 record Lines (s : Scope) (ps ls : List ℕ) : Type 0 where
   k : ℕ
   l : ℕ

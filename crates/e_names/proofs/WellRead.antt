@@ -32,7 +32,7 @@ use Rattle.e_names.specs.Fits.{is_diagram_atom}
 use Rattle.e_line.proofs.Bound.{bind_ok, ok_is, read_ok, each_length}
 use Rattle.e_names.proofs.InScope.{mono_read, sums_read}
 use Rattle.e_line.proofs.SaidLits.{SumSaid, SidesSaid, AtomSaid, LitsSaid}
-use Rattle.e_names.proofs.GoodSums.{is_good_mono, AreGood, GoodSums, sums_good, turned}
+use Rattle.e_names.proofs.GoodSums.{is_bounded_mono, AreBounded, GoodSums, sums_good, turned}
 use Rattle.e_names.proofs.SaidForms.{atom_plain}
 use Rattle.e_names.proofs.ShortLits.{count_first}
 use Rattle.e_names.proofs.Diagrams.{good_diagram}
@@ -61,7 +61,7 @@ term_kind ns (rawterms.Area x y z) t e =
     to_kind (terms.Area p.0 q.0 r.0) t (kind_of_raw (rawterms.Area x y z)) refl r.2
 term_kind ns rawterms.Right t e = to_kind terms.Right t (kind_of_raw rawterms.Right) refl e
 
-good_mono : (ns : Names) (k : Magnitude) (r : RawMono) (m : Mono) → mono_in ns k r ≡ Ok m → 1 ≤ r.coeff → leb r.coeff most_coefficient ≡ true → is_good_mono k m ≡ true
+good_mono : (ns : Names) (k : Magnitude) (r : RawMono) (m : Mono) → mono_in ns k r ≡ Ok m → 1 ≤ r.coeff → leb r.coeff most_coefficient ≡ true → is_bounded_mono k m ≡ true
 good_mono ns k r m e some small =
     let is = mono_read ns k r m e in
     let kind : same_kind (kind_of_term m.term) k ≡ true = ap (λ (z : Magnitude). same_kind z k) (term_kind ns r.term m.term is.term) ∙ is.kind in
@@ -69,13 +69,13 @@ good_mono ns k r m e some small =
     let most : leb m.coeff most_coefficient ≡ true = subst (λ (n : ℕ). leb n most_coefficient ≡ true) is.coeff small in
     rw (kind, least, most) refl
 
-good_sum : (ns : Names) (k : Magnitude) (rs : List RawMono) (ms : List Mono) → each (mono_in ns k) rs ≡ Ok ms → SumSaid rs → is_small rs ≡ true → AreGood k ms
-good_sum ns k [] ms e said small = subst (AreGood k) (ok_is [] ms e) refl
+good_sum : (ns : Names) (k : Magnitude) (rs : List RawMono) (ms : List Mono) → each (mono_in ns k) rs ≡ Ok ms → SumSaid rs → is_small rs ≡ true → AreBounded k ms
+good_sum ns k [] ms e said small = subst (AreBounded k) (ok_is [] ms e) refl
 good_sum ns k (r ∷ rs) ms e said small =
     let a = bind_ok (mono_in ns k r) (λ m. each (mono_in ns k) rs >>= λ zs. read_ok (m ∷ zs)) ms e in
     let b = bind_ok (each (mono_in ns k) rs) (λ zs. read_ok (a.0 ∷ zs)) ms a.2 in
     let s = and_parts (leb r.coeff most_coefficient) (is_small rs) small in
-    subst (AreGood k) (ok_is (a.0 ∷ b.0) ms b.2) (rw (good_mono ns k r a.0 a.1 said.0 s.0, good_sum ns k rs b.0 b.1 said.1 s.1) refl)
+    subst (AreBounded k) (ok_is (a.0 ∷ b.0) ms b.2) (rw (good_mono ns k r a.0 a.1 said.0 s.0, good_sum ns k rs b.0 b.1 said.1 s.1) refl)
 
 some_by : (m n : ℕ) → (m == 0 && n == 0) ≡ false → 1 ≤ m + n
 some_by m n h = grind (arith, nat_tests)

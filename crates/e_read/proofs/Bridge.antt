@@ -5,10 +5,10 @@ use Rattle.e_text.specs.Tokens.{tokens_of}
 use Rattle.e_text.specs.Lines.{LineView}
 use Rattle.e_text.specs.declared.line.LineFault.{LineFault}
 use Rattle.e_line.specs.declared.fault.FaultKind.{FaultKind}
-use Rattle.e_book.specs.declared.draft.TheoremParser.{TheoremParser}
+use Rattle.e_book.specs.declared.parser.TheoremParser.{TheoremParser}
 use Rattle.e_line.specs.Reading.{◌>>=◌}
 use Rattle.e_names.specs.TitledStatements.{TitledStatement}
-use Rattle.e_book.specs.DraftViews.{entry_of_draft}
+use Rattle.e_book.specs.ParserViews.{entry_of_parser}
 use Rattle.e_book.specs.TheoremViews.{TheoremView}
 use Rattle.e_book.specs.Grammar.{is_skipped}
 use Rattle.e_book.specs.Book.{line_step, is_done, read_from}
@@ -30,12 +30,12 @@ abbrev pub with_certs : TheoremView → List StepCerts → TheoremView
 with_certs t kept = record t { script = (filled t.script kept).0 }
 
 -- the theorem as the lines without certificates are read
-pub record Plainly (known : List TitledStatement) (last : ℕ) (draft : Option TheoremParser) (t : TheoremView) (lines rest : List (Result LineView LineFault)) : Type 0 where
+pub record Plainly (known : List TitledStatement) (last : ℕ) (parser : Option TheoremParser) (t : TheoremView) (lines rest : List (Result LineView LineFault)) : Type 0 where
   pub front : List (Result LineView LineFault)
   pub all : lines ≡ front ++ rest
   pub entry : TheoremView
   pub kept : List StepCerts
-  pub read : read_from known last draft (filter is_of_theorem front ++ rest) ≡ Ok (Some (entry, rest))
+  pub read : read_from known last parser (filter is_of_theorem front ++ rest) ≡ Ok (Some (entry, rest))
   pub same : t ≡ with_certs entry kept
 
 -- a line of a certificate says nothing of the theorem, and any other line does
@@ -65,13 +65,13 @@ derived_is t u lines rest e = (ap (λ (a : Answer). entry_in t a) (inside _ _ e)
   inside : (a b : Answer) → let x : Result Answer ℕ = Ok a in x ≡ Ok b → a ≡ b
   inside a b e = cc
 
--- how it goes on behind a line that is taken
+-- how it goes on after a line that is taken
 pub goes_on : (t : Option TheoremView) (lines rest : List (Result LineView LineFault)) (more : Result Answer ℕ) (u : TheoremView) → or_on t lines more ≡ derives u rest
     → ((x : TheoremView) × (t ≡ Some x) × (derives x lines ≡ derives u rest)) ⊎ ((t ≡ None) × (more ≡ derives u rest))
 goes_on None lines rest more u e = inr (refl, e)
 goes_on (Some x) lines rest more u e = inl (x, refl, e)
 
-pub unfinished : (draft : Option TheoremParser) (kept : List StepCerts) (x : TheoremView) → is_finished draft ≡ false → finished draft kept ≡ Some x → ⊥
+pub unfinished : (parser : Option TheoremParser) (kept : List StepCerts) (x : TheoremView) → is_finished parser ≡ false → finished parser kept ≡ Some x → ⊥
 unfinished None kept x h e = absurd cc
 unfinished (Some d) kept x h e = by_test (is_done d) (derived d kept) h e
   where
@@ -79,7 +79,7 @@ unfinished (Some d) kept x h e = by_test (is_done d) (derived d kept) h e
     by_test true y h e = absurd cc
     by_test false y h e = absurd cc
 
-pub still : (draft : Option TheoremParser) (kept : List StepCerts) → finished draft kept ≡ None → is_finished draft ≡ false
+pub still : (parser : Option TheoremParser) (kept : List StepCerts) → finished parser kept ≡ None → is_finished parser ≡ false
 still None kept e = refl
 still (Some d) kept e = open_still (is_done d) (derived d kept) e
   where
@@ -95,30 +95,30 @@ closed_is d kept x e = by_test (is_done d) (derived d kept) e
     by_test false y h = absurd cc
 
 -- a line of a book that is read at the front
-line_read : (known : List TitledStatement) (last : ℕ) (draft : Option TheoremParser) (l : LineView) (d : TheoremParser) (after : List (Result LineView LineFault)) → is_skipped (tokens_of l.bytes) ≡ false → line_step known draft (tokens_of l.bytes) ≡ Ok d
-    → read_from known last draft (Ok l ∷ after) ≡ cond (is_done d) (Ok (Some (entry_of_draft d, after))) (read_from known last (Some d) after)
-line_read known last draft l d after s e = rw (s, e) refl
+line_read : (known : List TitledStatement) (last : ℕ) (parser : Option TheoremParser) (l : LineView) (d : TheoremParser) (after : List (Result LineView LineFault)) → is_skipped (tokens_of l.bytes) ≡ false → line_step known parser (tokens_of l.bytes) ≡ Ok d
+    → read_from known last parser (Ok l ∷ after) ≡ cond (is_done d) (Ok (Some (entry_of_parser d, after))) (read_from known last (Some d) after)
+line_read known last parser l d after s e = rw (s, e) refl
 
-pub plainly : (known : List TitledStatement) (last : ℕ) (r : BlockParser) (lines rest : List (Result LineView LineFault)) (t : TheoremView) → is_finished r.draft ≡ false → piece_from known last r lines ≡ derives t rest → Plainly known last r.draft t lines rest
+pub plainly : (known : List TitledStatement) (last : ℕ) (r : BlockParser) (lines rest : List (Result LineView LineFault)) (t : TheoremView) → is_finished r.parser ≡ false → piece_from known last r lines ≡ derives t rest → Plainly known last r.parser t lines rest
 unfolding piece_from
 plainly known last r [] rest t unended e = absurd cc
 plainly known last r (Err f ∷ lines) rest t unended e = absurd cc
 plainly known last r (Ok l ∷ lines) rest t unended e =
     let next : Result BlockParser ℕ = garbled_at l.number (taken known r l) in
-    let then : BlockParser → Result Answer ℕ = λ x. or_on (finished x.draft x.kept) lines (piece_from known last x lines) in
-    elim (either (is_end known r.draft l) (Ok (Last, lines)) (next >>= then) (derives t rest) e) [
+    let then : BlockParser → Result Answer ℕ = λ x. or_on (finished x.parser x.kept) lines (piece_from known last x lines) in
+    elim (either (is_end known r.parser l) (Ok (Last, lines)) (next >>= then) (derives t rest) e) [
       | inl p ↦ absurd (no_last lines rest t p.1)
       | inr p ↦
           let x = bind_ok next then (Derived t, rest) p.1 in
           let took = garbled_ok l.number (taken known r l) x.0 x.1 in
-          let goes = goes_on (finished x.0.draft x.0.kept) lines rest (piece_from known last x.0 lines) t x.2 in
+          let goes = goes_on (finished x.0.parser x.0.kept) lines rest (piece_from known last x.0 lines) t x.2 in
           elim (line_taken known r x.0 l took) [
             | inl c ↦
-                let same = c.2.draft in
-                let unended_next : is_finished x.0.draft ≡ false = ap is_finished same ∙ unended in
+                let same = c.2.parser in
+                let unended_next : is_finished x.0.parser ≡ false = ap is_finished same ∙ unended in
                 elim goes [
-                  | inl q ↦ absurd (unfinished x.0.draft x.0.kept q.0 unended_next q.1)
-                  | inr q ↦ without known last r.draft x.0.draft l lines rest t same c.1 (plainly known last x.0 lines rest t unended_next q.1)
+                  | inl q ↦ absurd (unfinished x.0.parser x.0.kept q.0 unended_next q.1)
+                  | inr q ↦ without known last r.parser x.0.parser l lines rest t same c.1 (plainly known last x.0 lines rest t unended_next q.1)
                 ]
             | inr s ↦ step_plainly known last r x.0 l lines rest t s.0 s.1 goes (λ h more. plainly known last x.0 lines rest t h more)
           ]
@@ -136,38 +136,38 @@ plainly known last r (Ok l ∷ lines) rest t unended e =
     }
 
     step_plainly : (known : List TitledStatement) (last : ℕ) (r next : BlockParser) (l : LineView) (lines rest : List (Result LineView LineFault)) (t : TheoremView) → begins_with_bar (tokens_of l.bytes) ≡ false → Stepped known r next l.bytes
-        → ((x : TheoremView) × (finished next.draft next.kept ≡ Some x) × (derives x lines ≡ derives t rest)) ⊎ ((finished next.draft next.kept ≡ None) × (piece_from known last next lines ≡ derives t rest))
-        → (is_finished next.draft ≡ false → piece_from known last next lines ≡ derives t rest → Plainly known last next.draft t lines rest)
-        → Plainly known last r.draft t (Ok l ∷ lines) rest
+        → ((x : TheoremView) × (finished next.parser next.kept ≡ Some x) × (derives x lines ≡ derives t rest)) ⊎ ((finished next.parser next.kept ≡ None) × (piece_from known last next lines ≡ derives t rest))
+        → (is_finished next.parser ≡ false → piece_from known last next lines ≡ derives t rest → Plainly known last next.parser t lines rest)
+        → Plainly known last r.parser t (Ok l ∷ lines) rest
     step_plainly known last r next l lines rest t bar s goes more =
-        let d = s.draft in
+        let d = s.parser in
         let form = form_read l.bytes s.form s.spelled in
         let said = not_skipped (tokens_of l.bytes) s.form form.0 in
-        let step = book_line known r.draft s.form d s.owed (tokens_of l.bytes) form.0 s.gone in
-        let draft_is : next.draft ≡ Some d = ap (λ (x : BlockParser). x.draft) s.next_is in
+        let step = book_line known r.parser s.form d s.owed (tokens_of l.bytes) form.0 s.gone in
+        let parser_is : next.parser ≡ Some d = ap (λ (x : BlockParser). x.parser) s.next_is in
         elim goes [
           | inl q ↦
-              let c = closed_is d next.kept q.0 (sym (ap (λ (o : Option TheoremParser). finished o next.kept) draft_is) ∙ q.1) in
+              let c = closed_is d next.kept q.0 (sym (ap (λ (o : Option TheoremParser). finished o next.kept) parser_is) ∙ q.1) in
               let both = derived_is q.0 t lines rest q.2 in
               record {
                 front = Ok l ∷ [];
                 all = ap (λ (ls : List (Result LineView LineFault)). Ok l ∷ ls) both.1;
-                entry = entry_of_draft d;
+                entry = entry_of_parser d;
                 kept = next.kept;
-                read = ap (λ (ls : List (Result LineView LineFault)). read_from known last r.draft (ls ++ rest)) (line_kept l [] bar) ∙ line_read known last r.draft l d rest said step ∙ rw c.0 refl;
+                read = ap (λ (ls : List (Result LineView LineFault)). read_from known last r.parser (ls ++ rest)) (line_kept l [] bar) ∙ line_read known last r.parser l d rest said step ∙ rw c.0 refl;
                 same = sym both.0 ∙ sym c.1;
               }
           | inr q ↦
-              let h = still next.draft next.kept q.0 in
+              let h = still next.parser next.kept q.0 in
               let p = more h q.1 in
-              let not_done : is_done d ≡ false = sym (ap is_finished draft_is) ∙ h in
+              let not_done : is_done d ≡ false = sym (ap is_finished parser_is) ∙ h in
               record {
                 front = Ok l ∷ p.front;
                 all = ap (λ (ls : List (Result LineView LineFault)). Ok l ∷ ls) p.all;
                 entry = p.entry;
                 kept = p.kept;
-                read = ap (λ (ls : List (Result LineView LineFault)). read_from known last r.draft (ls ++ rest)) (line_kept l p.front bar) ∙ line_read known last r.draft l d (filter is_of_theorem p.front ++ rest) said step
-                    ∙ rw not_done (sym (ap (λ (o : Option TheoremParser). read_from known last o (filter is_of_theorem p.front ++ rest)) draft_is) ∙ p.read);
+                read = ap (λ (ls : List (Result LineView LineFault)). read_from known last r.parser (ls ++ rest)) (line_kept l p.front bar) ∙ line_read known last r.parser l d (filter is_of_theorem p.front ++ rest) said step
+                    ∙ rw not_done (sym (ap (λ (o : Option TheoremParser). read_from known last o (filter is_of_theorem p.front ++ rest)) parser_is) ∙ p.read);
                 same = p.same;
               }
         ]

@@ -6,20 +6,20 @@ use Rattle.e_text.specs.Names.{is_name}
 use Rattle.e_deriv.specs.Script.{Script, Cite, Hence, Make, Apply, Claim, Superposed, Qed, Contradiction, Cases, erased}
 use Rattle.e_book.specs.HasSpelling.{is_plain}
 use Rattle.e_cert.specs.declared.kept.StepCerts.{StepCerts}
-use Rattle.e_read.specs.Filled.{behind_next, filled}
+use Rattle.e_read.specs.Filled.{after_next, filled}
 
 pub erased_filled : (s : Script) (ks : List StepCerts) → erased (filled s ks).0 ≡ erased s
 unfolding erased filled
 erased_filled (Cite by rest) ks = ap (λ (x : Script). Cite by x) (erased_filled rest ks)
-erased_filled (Hence lit cert rest) ks = ap (λ (x : Script). Hence lit None x) (erased_filled rest (behind_next ks))
-erased_filled (Make form names certs rest) ks = ap (λ (x : Script). Make form names [] x) (erased_filled rest (behind_next ks))
-erased_filled (Apply theorem args names certs rest) ks = ap (λ (x : Script). Apply theorem args names [] x) (erased_filled rest (behind_next ks))
+erased_filled (Hence lit cert rest) ks = ap (λ (x : Script). Hence lit None x) (erased_filled rest (after_next ks))
+erased_filled (Make form names certs rest) ks = ap (λ (x : Script). Make form names [] x) (erased_filled rest (after_next ks))
+erased_filled (Apply theorem args names certs rest) ks = ap (λ (x : Script). Apply theorem args names [] x) (erased_filled rest (after_next ks))
 erased_filled (Claim shown inner rest) ks =
     ap (λ (x : Script). Claim shown x (erased (filled rest (filled inner ks).1).0)) (erased_filled inner ks)
     ∙ ap (λ (x : Script). Claim shown (erased inner) x) (erased_filled rest (filled inner ks).1)
 erased_filled (Superposed form names shown certs inner rest) ks =
-    let i = filled inner (behind_next ks) in
-    ap (λ (x : Script). Superposed form names shown [] x (erased (filled rest i.1).0)) (erased_filled inner (behind_next ks))
+    let i = filled inner (after_next ks) in
+    ap (λ (x : Script). Superposed form names shown [] x (erased (filled rest i.1).0)) (erased_filled inner (after_next ks))
     ∙ ap (λ (x : Script). Superposed form names shown [] (erased inner) x) (erased_filled rest i.1)
 erased_filled (Qed objects certs) ks = refl
 erased_filled (Contradiction against) ks = refl

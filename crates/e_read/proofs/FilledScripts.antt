@@ -12,21 +12,21 @@ use Rattle.e_deriv.specs.Script.{Script, Cite, Hence, Make, Apply, Claim, Superp
 use Rattle.e_deriv.proofs.Scripts.{scripts, steps_script-append}
 use Rattle.e_cert.specs.declared.kept.StepCerts.{StepCerts}
 use Rattle.e_cert.specs.Owed.{first_cert}
-use Rattle.e_read.specs.Filled.{next_certs, next_against, behind_next, filled}
+use Rattle.e_read.specs.Filled.{next_certs, next_against, after_next, filled}
 
 pub filled-Cite : (by : By) (rest : Script) (ks : List StepCerts) → filled (Cite by rest) ks ≡ (Cite by (filled rest ks).0, (filled rest ks).1)
 unfolding filled
 filled-Cite by rest ks = refl
 
-pub filled-Hence : (lit : Lit) (cert : Option Cert) (rest : Script) (ks : List StepCerts) → filled (Hence lit cert rest) ks ≡ (Hence lit (first_cert (next_certs ks)) (filled rest (behind_next ks)).0, (filled rest (behind_next ks)).1)
+pub filled-Hence : (lit : Lit) (cert : Option Cert) (rest : Script) (ks : List StepCerts) → filled (Hence lit cert rest) ks ≡ (Hence lit (first_cert (next_certs ks)) (filled rest (after_next ks)).0, (filled rest (after_next ks)).1)
 unfolding filled
 filled-Hence lit cert rest ks = refl
 
-pub filled-Make : (form : Construction) (names : List (List ℕ)) (certs : List Cert) (rest : Script) (ks : List StepCerts) → filled (Make form names certs rest) ks ≡ (Make form names (next_certs ks) (filled rest (behind_next ks)).0, (filled rest (behind_next ks)).1)
+pub filled-Make : (form : Construction) (names : List (List ℕ)) (certs : List Cert) (rest : Script) (ks : List StepCerts) → filled (Make form names certs rest) ks ≡ (Make form names (next_certs ks) (filled rest (after_next ks)).0, (filled rest (after_next ks)).1)
 unfolding filled
 filled-Make form names certs rest ks = refl
 
-pub filled-Apply : (theorem : ℕ) (args : List (Option Obj)) (names : List (List ℕ)) (certs : List Cert) (rest : Script) (ks : List StepCerts) → filled (Apply theorem args names certs rest) ks ≡ (Apply theorem args names (next_certs ks) (filled rest (behind_next ks)).0, (filled rest (behind_next ks)).1)
+pub filled-Apply : (theorem : ℕ) (args : List (Option Obj)) (names : List (List ℕ)) (certs : List Cert) (rest : Script) (ks : List StepCerts) → filled (Apply theorem args names certs rest) ks ≡ (Apply theorem args names (next_certs ks) (filled rest (after_next ks)).0, (filled rest (after_next ks)).1)
 unfolding filled
 filled-Apply theorem args names certs rest ks = refl
 
@@ -34,15 +34,15 @@ pub filled-Claim : (shown : List Lit) (inner : Script) (rest : Script) (ks : Lis
 unfolding filled
 filled-Claim shown inner rest ks = refl
 
-pub filled-Superposed : (form : Superpose) (names : List (List ℕ)) (shown : List Lit) (certs : List Cert) (inner : Script) (rest : Script) (ks : List StepCerts) → filled (Superposed form names shown certs inner rest) ks ≡ (Superposed form names shown (next_certs ks) (filled inner (behind_next ks)).0 (filled rest (filled inner (behind_next ks)).1).0, (filled rest (filled inner (behind_next ks)).1).1)
+pub filled-Superposed : (form : Superpose) (names : List (List ℕ)) (shown : List Lit) (certs : List Cert) (inner : Script) (rest : Script) (ks : List StepCerts) → filled (Superposed form names shown certs inner rest) ks ≡ (Superposed form names shown (next_certs ks) (filled inner (after_next ks)).0 (filled rest (filled inner (after_next ks)).1).0, (filled rest (filled inner (after_next ks)).1).1)
 unfolding filled
 filled-Superposed form names shown certs inner rest ks = refl
 
-pub filled-Qed : (objects : List Obj) (certs : List Cert) (ks : List StepCerts) → filled (Qed objects certs) ks ≡ (Qed objects (next_certs ks), behind_next ks)
+pub filled-Qed : (objects : List Obj) (certs : List Cert) (ks : List StepCerts) → filled (Qed objects certs) ks ≡ (Qed objects (next_certs ks), after_next ks)
 unfolding filled
 filled-Qed objects certs ks = refl
 
-pub filled-Contradiction : (against : Option Against) (ks : List StepCerts) → filled (Contradiction against) ks ≡ (Contradiction (next_against ks), behind_next ks)
+pub filled-Contradiction : (against : Option Against) (ks : List StepCerts) → filled (Contradiction against) ks ≡ (Contradiction (next_against ks), after_next ks)
 unfolding filled
 filled-Contradiction against ks = refl
 

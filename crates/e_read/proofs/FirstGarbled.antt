@@ -62,21 +62,21 @@ not_read known last r l ls n p e h = no_answer p n (sym e ∙ h)
 -- what a line makes of a block: no form, the end of a theorem, or more, of which this is known
 by_line : (known : List TitledStatement) (last : ℕ) (r : BlockParser) (l : LineView) (ls : Rest) (n : ℕ) → ((next : BlockParser) → piece_from known last next ls ≡ wrong n → From known next ls n ⊎ TooSoon known next ls last n)
     → piece_from known last r (Ok l ∷ ls) ≡ wrong n → From known r (Ok l ∷ ls) n ⊎ TooSoon known r (Ok l ∷ ls) last n
-by_line known last r l ls n more e = by_end (is_end known r.draft l) refl
+by_line known last r l ls n more e = by_end (is_end known r.parser l) refl
   where
-    by_finish : (next : BlockParser) (t : Option TheoremView) → is_end known r.draft l ≡ false → garbled_at l.number (taken known r l) ≡ Ok next → finished next.draft next.kept ≡ t → From known r (Ok l ∷ ls) n ⊎ TooSoon known r (Ok l ∷ ls) last n
+    by_finish : (next : BlockParser) (t : Option TheoremView) → is_end known r.parser l ≡ false → garbled_at l.number (taken known r l) ≡ Ok next → finished next.parser next.kept ≡ t → From known r (Ok l ∷ ls) n ⊎ TooSoon known r (Ok l ∷ ls) last n
     by_finish next (Some t) unended read is = absurd (not_read known last r l ls n (Derived t, ls) (piece_ended known last r next l ls t unended read is) e)
     by_finish next None unended read is =
         let on : (end : ℕ) (other : Rest) → piece_from known end r (Ok l ∷ other) ≡ piece_from known end next other = λ end other. piece_next known end r next l other unended read is in
         longer known last r next l ls n on (more next (sym (on last ls) ∙ e))
 
-    by_read : (q : Result BlockParser ℕ) → is_end known r.draft l ≡ false → garbled_at l.number (taken known r l) ≡ q → From known r (Ok l ∷ ls) n ⊎ TooSoon known r (Ok l ∷ ls) last n
-    by_read (Ok next) unended read = by_finish next (finished next.draft next.kept) unended read refl
+    by_read : (q : Result BlockParser ℕ) → is_end known r.parser l ≡ false → garbled_at l.number (taken known r l) ≡ q → From known r (Ok l ∷ ls) n ⊎ TooSoon known r (Ok l ∷ ls) last n
+    by_read (Ok next) unended read = by_finish next (finished next.parser next.kept) unended read refl
     by_read (Err m) unended read =
         let is : m ≡ n = same_number m n (sym (piece_garbled known last r l ls m unended read) ∙ e) in
         inl (at_once known r (Ok l) ls n (λ end other. piece_garbled known end r l other m unended read ∙ ap wrong is))
 
-    by_end : (b : Bool) → is_end known r.draft l ≡ b → From known r (Ok l ∷ ls) n ⊎ TooSoon known r (Ok l ∷ ls) last n
+    by_end : (b : Bool) → is_end known r.parser l ≡ b → From known r (Ok l ∷ ls) n ⊎ TooSoon known r (Ok l ∷ ls) last n
     by_end true is = absurd (not_read known last r l ls n (Last, ls) (piece_last known last r l ls is) e)
     by_end false unended = by_read (garbled_at l.number (taken known r l)) unended refl
 

@@ -1,4 +1,4 @@
--- The objects behind qed have the sorts of the made ones.
+-- The objects after qed have the sorts of the made ones.
 use Rattle.std.proofs.Common.{◌≡◌, ℕ, Bool, true, false, List, [], ◌∷◌, map, Option, Some, None, Ok, refl, ap, ◌∙◌}
 use Rattle.std.specs.Prelude.{◌||◌}
 use Rattle.e_literal.specs.declared.literal.Lit.{Lit}
@@ -8,7 +8,7 @@ use Rattle.e_literal.proofs.Sorts.{sorts_of_objects}
 use Rattle.e_deriv.specs.declared.names.Names.{Names}
 use Rattle.e_book.specs.declared.blocks.OpenBlock.{OpenBlock}
 use Rattle.e_book.specs.declared.blocks.BlockKind.{BlockKind}
-use Rattle.e_book.specs.declared.blocks.BlockKind.TheVariants as opened
+use Rattle.e_book.specs.declared.blocks.BlockKind.TheVariants as kind
 use Rattle.e_book.specs.Blocks.{is_claim, has_claim, made_in}
 use Rattle.e_names.specs.Scope.{scope_of_names, qed_in}
 use Rattle.e_names.proofs.Building.{qed_fits}
@@ -22,20 +22,20 @@ claims None = false
 claims (Some shown) = true
 
 -- the open block has a goal of its own where it is in a claim or a superposition
-claims_is : (outers : List OpenBlock) → has_claim outers ≡ claims (claimed outers)
+claims_is : (blocks : List OpenBlock) → has_claim blocks ≡ claims (claimed blocks)
 claims_is [] = refl
-claims_is (o ∷ os) = inside o.opened (has_claim os) (claimed os) (claims_is os)
+claims_is (o ∷ os) = inside o.kind (has_claim os) (claimed os) (claims_is os)
   where
     inside : (what : BlockKind) (b : Bool) (around : Option (List Lit)) → b ≡ claims around → (is_claim what || b) ≡ claims (shown_inside what around)
-    inside (opened.Claim shown) b around e = refl
-    inside (opened.Superpose form names shown) b around e = refl
-    inside (opened.First lit) b around e = e
-    inside (opened.Second lit first) b around e = e
+    inside (kind.Claim shown) b around e = refl
+    inside (kind.Superpose form names shown) b around e = refl
+    inside (kind.First lit) b around e = e
+    inside (kind.Second lit first) b around e = e
 
 -- so nothing is made in a claim or a superposition
-pub none_made : (outers : List OpenBlock) (made : List Sort) (shown : List Lit) → claimed outers ≡ Some shown → made_in outers made ≡ []
-none_made outers made shown e = let h : has_claim outers ≡ true = claims_is outers ∙ ap claims e in rw h refl
+pub none_made : (blocks : List OpenBlock) (made : List Sort) (shown : List Lit) → claimed blocks ≡ Some shown → made_in blocks made ≡ []
+none_made blocks made shown e = let h : has_claim blocks ≡ true = claims_is blocks ∙ ap claims e in rw h refl
 
 -- and else what the theorem makes
-pub all_made : (outers : List OpenBlock) (made : List Sort) → claimed outers ≡ None → made_in outers made ≡ made
-all_made outers made e = let h : has_claim outers ≡ false = claims_is outers ∙ ap claims e in rw h refl
+pub all_made : (blocks : List OpenBlock) (made : List Sort) → claimed blocks ≡ None → made_in blocks made ≡ made
+all_made blocks made e = let h : has_claim blocks ≡ false = claims_is blocks ∙ ap claims e in rw h refl

@@ -10,10 +10,10 @@ use Rattle.e_construct.specs.Superposing as superposing
 use Rattle.e_line.specs.declared.fault.FaultKind.{FaultKind}
 use Rattle.e_line.specs.declared.raw_line.RawLine.{RawLine}
 use Rattle.e_line.specs.declared.raw_line.RawLine.TheVariants as rawlines
-use Rattle.e_book.specs.declared.draft.TheoremParser.{TheoremParser}
+use Rattle.e_book.specs.declared.parser.TheoremParser.{TheoremParser}
 use Rattle.e_line.specs.Reading.{◌>>=◌}
 use Rattle.e_names.specs.TitledStatements.{TitledStatement}
-use Rattle.e_book.specs.DraftViews.{entry_of_draft}
+use Rattle.e_book.specs.ParserViews.{entry_of_parser}
 use Rattle.e_book.specs.TheoremViews.{TheoremView}
 use Rattle.e_book.specs.Book.{is_done}
 use Rattle.e_book.specs.Steps.{begin, step}
@@ -31,7 +31,7 @@ use Rattle.e_read.specs.Needs.{one_each, needs_of_use, needs_at_qed, due_of}
 use Rattle.e_read.specs.Text.{owes_nothing, at_start, owed_by, gone_on, taken, Derived, Last, derived, garbled_at, finished, or_on, is_end, piece_from}
 use Rattle.e_read.proofs.Bridge.{Answer, derives, no_last, garbled_ok, derived_is, goes_on}
 use Rattle.e_read.proofs.TakenLines.{Stepped, line_taken, either}
-use Rattle.e_cert.proofs.GoodKept.{is_good_kept, AreGood}
+use Rattle.e_cert.proofs.GoodKept.{are_certs_of_version, AreOfVersion}
 use Rattle.e_read.proofs.GoodCerts.{filled_good}
 use Rattle.e_cert.proofs.GoodCertLines.{GoodDue, GoodOwed, strict_good, settled_good}
 use Rattle.e_clause.specs.declared.cert.Version.{Version}
@@ -69,7 +69,7 @@ module _ (v : Version) where
       let n = bind_ok (due_of known d f) (λ new. read_ok (owing new)) o e in
       subst (GoodOwed v) (ok_is (owing n.0) o n.2) (record { certs = due_good known d f n.0 n.1; rows_of_sums = refl })
 
-  gone_good : (known : List TitledStatement) (draft : Option TheoremParser) (f : RawLine) (d : TheoremParser) (o : Pending) → gone_on known draft f ≡ Ok (d, o) → GoodOwed v o
+  gone_good : (known : List TitledStatement) (parser : Option TheoremParser) (f : RawLine) (d : TheoremParser) (o : Pending) → gone_on known parser f ≡ Ok (d, o) → GoodOwed v o
   gone_good known None f d o e =
       let x = bind_ok (begin known f) (λ x. read_ok (x, owes_nothing)) (d, o) e in
       subst (GoodOwed v) (ap (λ (p : TheoremParser × Pending). p.1) (ok_is (x.0, owes_nothing) (d, o) x.2)) nothing_good
@@ -84,7 +84,7 @@ module _ (v : Version) where
   -- what was read of certificates is good
   record GoodReading (r : BlockParser) : Type 0 where
     version : r.version ≡ v
-    kept : AreGood v r.kept
+    kept : AreOfVersion v r.kept
     owed : GoodOwed v r.owed
 
   taken_good : (known : List TitledStatement) (r next : BlockParser) (l : LineView) → GoodReading r → taken known r l ≡ Ok next → GoodReading next
@@ -92,27 +92,27 @@ module _ (v : Version) where
       elim (line_taken known r next l e) [
         | inl c ↦ record {
           version = c.2.version ∙ h.version;
-          kept = subst (AreGood v) (sym c.2.kept) h.kept;
+          kept = subst (AreOfVersion v) (sym c.2.kept) h.kept;
           owed = strict_good v r.owed l.bytes c.0 c.2.cert_line next.owed h.owed (subst (λ (x : Version). cert_line_is_of x c.2.cert_line ≡ true) h.version c.2.of) c.2.spelled c.2.owed;
         }
-        | inr s ↦ behind s.1
+        | inr s ↦ after s.1
       ]
     where
-      behind : Stepped known r next l.bytes → GoodReading next
-      behind s =
-          let good : GoodReading (record { version = r.version; draft = Some s.draft; owed = s.owed; kept = r.kept ++ option_to_list s.read }) = record {
+      after : Stepped known r next l.bytes → GoodReading next
+      after s =
+          let good : GoodReading (record { version = r.version; parser = Some s.parser; owed = s.owed; kept = r.kept ++ option_to_list s.read }) = record {
             version = h.version;
-            kept = all_both (is_good_kept v) r.kept (option_to_list s.read) h.kept (settled_good v r.owed s.read h.owed s.settled_is);
-            owed = gone_good known r.draft s.form s.draft s.owed s.gone;
+            kept = all_both (are_certs_of_version v) r.kept (option_to_list s.read) h.kept (settled_good v r.owed s.read h.owed s.settled_is);
+            owed = gone_good known r.parser s.form s.parser s.owed s.gone;
           } in
           subst GoodReading (sym s.next_is) good
 
-  finished_good : (draft : Option TheoremParser) (kept : List StepCerts) (t : TheoremView) → AreGood v kept → finished draft kept ≡ Some t → has_certs_of v t.script ≡ true
+  finished_good : (parser : Option TheoremParser) (kept : List StepCerts) (t : TheoremView) → AreOfVersion v kept → finished parser kept ≡ Some t → has_certs_of v t.script ≡ true
   finished_good None kept t h e = absurd cc
   finished_good (Some d) kept t h e = by (is_done d) e
     where
       by : (b : Bool) → cond b (Some (derived d kept)) None ≡ Some t → has_certs_of v t.script ≡ true
-      by true k = subst (λ (x : TheoremView). has_certs_of v x.script ≡ true) (some_is (derived d kept) t k) (filled_good v (entry_of_draft d).script kept h).0
+      by true k = subst (λ (x : TheoremView). has_certs_of v x.script ≡ true) (some_is (derived d kept) t k) (filled_good v (entry_of_parser d).script kept h).0
       by false k = absurd cc
 
   certs_read : (known : List TitledStatement) (last : ℕ) (r : BlockParser) (lines rest : List (Result LineView LineFault)) (t : TheoremView) → GoodReading r → piece_from known last r lines ≡ derives t rest → has_certs_of v t.script ≡ true
@@ -121,14 +121,14 @@ module _ (v : Version) where
   certs_read known last r (Err f ∷ lines) rest t h e = absurd cc
   certs_read known last r (Ok l ∷ lines) rest t h e =
       let next : Result BlockParser ℕ = garbled_at l.number (taken known r l) in
-      let then : BlockParser → Result Answer ℕ = λ x. or_on (finished x.draft x.kept) lines (piece_from known last x lines) in
-      elim (either (is_end known r.draft l) (Ok (Last, lines)) (next >>= then) (derives t rest) e) [
+      let then : BlockParser → Result Answer ℕ = λ x. or_on (finished x.parser x.kept) lines (piece_from known last x lines) in
+      elim (either (is_end known r.parser l) (Ok (Last, lines)) (next >>= then) (derives t rest) e) [
         | inl p ↦ absurd (no_last lines rest t p.1)
         | inr p ↦
             let x = bind_ok next then (Derived t, rest) p.1 in
             let good = taken_good known r x.0 l h (garbled_ok l.number (taken known r l) x.0 x.1) in
-            elim (goes_on (finished x.0.draft x.0.kept) lines rest (piece_from known last x.0 lines) t x.2) [
-              | inl q ↦ finished_good x.0.draft x.0.kept t good.kept (q.1 ∙ ap (λ (y : TheoremView). Some y) (derived_is q.0 t lines rest q.2).0)
+            elim (goes_on (finished x.0.parser x.0.kept) lines rest (piece_from known last x.0 lines) t x.2) [
+              | inl q ↦ finished_good x.0.parser x.0.kept t good.kept (q.1 ∙ ap (λ (y : TheoremView). Some y) (derived_is q.0 t lines rest q.2).0)
               | inr q ↦ certs_read known last x.0 lines rest t good q.1
             ]
       ]

@@ -20,24 +20,24 @@ use Rattle.e_line.specs.declared.superposes.RawSuperpose.{RawSuperpose}
 use Rattle.e_line.specs.declared.applies.RawApply.{RawApply}
 use Rattle.e_book.specs.declared.blocks.OpenBlock.{OpenBlock}
 use Rattle.e_book.specs.declared.blocks.BlockKind.{BlockKind}
-use Rattle.e_book.specs.declared.blocks.BlockKind.TheVariants as opened
+use Rattle.e_book.specs.declared.blocks.BlockKind.TheVariants as kind
 use Rattle.e_line.specs.declared.raw_line.RawLine.{RawLine}
 use Rattle.e_line.specs.declared.raw_line.RawLine.TheVariants as rawlines
 use Rattle.e_book.specs.declared.steps.CloseLine.{CloseLine}
 use Rattle.e_book.specs.declared.steps.CloseLine.TheVariants as closes
-use Rattle.e_book.specs.declared.draft.Section.TheVariants.{Giving, Making, Proving, Done}
-use Rattle.e_book.specs.declared.draft.TheoremParser.{TheoremParser}
+use Rattle.e_book.specs.declared.parser.Section.TheVariants.{Giving, Making, Proving, Done}
+use Rattle.e_book.specs.declared.parser.TheoremParser.{TheoremParser}
 use Rattle.e_line.specs.Reading.{◌>>=◌, with_front}
 use Rattle.e_line.specs.Limits.{most_theorems, most_of, most_steps, most_depth, most_facts, most_blanks, what_of, within}
 use Rattle.e_names.specs.TitledStatements.{TitledStatement, is_known, theorem_of}
-use Rattle.e_book.specs.DraftViews.{script_of_close}
+use Rattle.e_book.specs.ParserViews.{script_of_close}
 use Rattle.e_book.specs.Blocks.{made_in}
 use Rattle.e_names.specs.Superposes.{superpose_in}
 use Rattle.e_names.specs.Applies.{count_blanks, apply_in}
 use Rattle.e_names.specs.Scope.{scope_of_names, fresh, lit_in, lits_in, by_in, let_in, qed_in}
 use Rattle.e_line.specs.LineLimits.{few_monos}
 use Rattle.e_book.specs.LineLimits.{few_objects}
-use Rattle.e_book.specs.Steps.{declared, terms_behind, terms_after, with_step, with_terms, built, used_by, applied, deeper, claimed, superposed, split, counted_from, resumed, closed_inside, closed, shut, supposes, shows, proof_begun, cited, inferred, concluded, makes, declares, stepped, step, begin, begun, allowed, count_names}
+use Rattle.e_book.specs.Steps.{declared, terms_after_raw, terms_after, with_step, with_terms, built, used_by, applied, deeper, claimed, superposed, split, counted_from, resumed, closed_inside, closed, shut, supposes, shows, proof_begun, cited, inferred, concluded, makes, declares, stepped, step, begin, begun, allowed, count_names}
 use Rattle.e_book.proofs.Answered.{passes, untaken}
 use Rattle.e_line.proofs.Bound.{bind_ok, ok_is, read_ok}
 
@@ -47,12 +47,12 @@ abbrev Same : Names → List Sort → Result TheoremParser FaultKind → Type 0
 Same names made (Ok e) = (e.names ≡ names) × (e.made ≡ made)
 Same names made (Err k) = Unit {0}
 
--- behind what says nothing of the draft
+-- after what says nothing of the parser
 from : {A : Type 0} (d : TheoremParser) (r : Result A FaultKind) (f : A → Result TheoremParser FaultKind) → ((a : A) → Same d.names d.made (f a)) → Same d.names d.made (r >>= f)
 from d (Ok x) f h = h x
 from d (Err k) f h = tt
 
--- behind what leaves them
+-- after what leaves them
 then : (d : TheoremParser) (r : Result TheoremParser FaultKind) (f : TheoremParser → Result TheoremParser FaultKind) → Same d.names d.made r → ((e : TheoremParser) → Same e.names e.made (f e)) → Same d.names d.made (r >>= f)
 then d (Ok e) f s h = subst (λ (ns : Names). Same ns d.made (f e)) s.0 (subst (λ (ms : List Sort). Same e.names ms (f e)) s.1 (h e))
 then d (Err k) f s h = tt
@@ -63,12 +63,12 @@ by_step d s n = from d (within (d.lines + 1) most_steps limits.Steps) _ (λ few.
 
 by_terms : (d : TheoremParser) (raws : List RawLit) → Same d.names d.made (with_terms d raws)
 unfolding with_terms
-by_terms d raws = from d (few_monos raws) _ (λ few. from d (terms_behind d.terms raws) _ (λ n. (refl, refl)))
+by_terms d raws = from d (few_monos raws) _ (λ few. from d (terms_after_raw d.terms raws) _ (λ n. (refl, refl)))
 
 by_block : (d : TheoremParser) (what : BlockKind) (n : ℕ) → Same d.names d.made (deeper d what n)
 unfolding deeper
 by_block d what n =
-    from d (within (d.lines + 1) most_steps limits.Steps) _ (λ few. from d (within (length d.outers + 2) most_depth limits.Depth) _ (λ shallow. from d (within (d.facts + n) most_facts limits.Facts) _ (λ none. (refl, refl))))
+    from d (within (d.lines + 1) most_steps limits.Steps) _ (λ few. from d (within (length d.blocks + 2) most_depth limits.Depth) _ (λ shallow. from d (within (d.facts + n) most_facts limits.Facts) _ (λ none. (refl, refl))))
 
 by_count : (d : TheoremParser) (facts terms : ℕ) (shown : List Lit) → Same d.names d.made (counted_from d facts terms shown)
 unfolding counted_from
@@ -79,19 +79,19 @@ unfolding resumed
 by_resume d o os shown s = then d (counted_from d o.facts o.terms shown) _ (by_count d o.facts o.terms shown) (λ e. (refl, refl))
 
 by_inside : (d : TheoremParser) (o : OpenBlock) (os : List OpenBlock) (inner : Script) (close : CloseLine → Result TheoremParser FaultKind) (what : BlockKind) → ((c : CloseLine) → Same d.names d.made (close c)) → Same d.names d.made (closed_inside d o os inner close what)
-by_inside d o os inner close (opened.Claim shown) h = by_resume d o os shown (Claimed shown inner)
-by_inside d o os inner close (opened.Superpose form names shown) h = by_resume d o os shown (Copied form names shown [] inner)
-by_inside d o os inner close (opened.First lit) h = (refl, refl)
-by_inside d o os inner close (opened.Second lit first) h = h (closes.Cases lit first inner)
+by_inside d o os inner close (kind.Claim shown) h = by_resume d o os shown (Claimed shown inner)
+by_inside d o os inner close (kind.Superpose form names shown) h = by_resume d o os shown (Copied form names shown [] inner)
+by_inside d o os inner close (kind.First lit) h = (refl, refl)
+by_inside d o os inner close (kind.Second lit first) h = h (closes.Cases lit first inner)
 
 by_close : (d : TheoremParser) (os : List OpenBlock) (steps : List PlainStep) (close : CloseLine) → Same d.names d.made (closed d os steps close)
 unfolding closed
 by_close d [] steps close = (refl, refl)
-by_close d (o ∷ os) steps close = by_inside d o os (all_before steps (script_of_close close)) (λ c. closed d os o.steps c) o.opened (λ c. by_close d os o.steps c)
+by_close d (o ∷ os) steps close = by_inside d o os (all_before steps (script_of_close close)) (λ c. closed d os o.steps c) o.kind (λ c. by_close d os o.steps c)
 
 by_shut : (d : TheoremParser) (close : CloseLine) → Same d.names d.made (shut d close)
 unfolding shut
-by_shut d close = from d (within (d.lines + 1) most_steps limits.Steps) _ (λ few. by_close (record d { lines = d.lines + 1 }) d.outers d.steps close)
+by_shut d close = from d (within (d.lines + 1) most_steps limits.Steps) _ (λ few. by_close (record d { lines = d.lines + 1 }) d.blocks d.steps close)
 
 by_use : (d : TheoremParser) (t : StatementView) (theorem : ℕ) (args : List (Option Obj)) (new : List (List ℕ)) → Same d.names d.made (used_by d t theorem args new)
 unfolding used_by
@@ -126,23 +126,23 @@ unfolding applied
 by_apply known d raw = from d (apply_in known d.in_scope raw) _ (λ a. by_use d (theorem_of known a.0) a.0 a.1 raw.new)
 
 by_qed : (d : TheoremParser) (ns : List (List ℕ)) → Same d.names d.made (concluded d ns)
-by_qed d ns = from d (qed_in d.in_scope (made_in d.outers d.made) ns) _ (λ objects. by_shut d (closes.Qed objects))
+by_qed d ns = from d (qed_in d.in_scope (made_in d.blocks d.made) ns) _ (λ objects. by_shut d (closes.Qed objects))
 
 by_claim : (d : TheoremParser) (raws : List RawLit) → Same d.names d.made (claimed d raws)
 unfolding claimed
-by_claim d raws = from d (lits_in d.in_scope raws) _ (λ ls. then d (deeper d (opened.Claim ls) 0) _ (by_block d (opened.Claim ls) 0) (λ e. from e (few_monos raws) _ (λ few. (refl, refl))))
+by_claim d raws = from d (lits_in d.in_scope raws) _ (λ ls. then d (deeper d (kind.Claim ls) 0) _ (by_block d (kind.Claim ls) 0) (λ e. from e (few_monos raws) _ (λ few. (refl, refl))))
 
 by_superpose : (d : TheoremParser) (raw : RawSuperpose) → Same d.names d.made (superposed d raw)
 unfolding superposed
 by_superpose d raw =
     from d (superpose_in d.in_scope raw) _ (λ p. from d (few_objects (named d.in_scope superposing.sorts_copied raw.new)) _
-    (λ objects. then d (deeper d (opened.Superpose p.0 raw.new p.1) (length (superposing.gives_of_superposition p.0 (scope_of_names d.in_scope)))) _
-    (by_block d (opened.Superpose p.0 raw.new p.1) (length (superposing.gives_of_superposition p.0 (scope_of_names d.in_scope))))
+    (λ objects. then d (deeper d (kind.Superpose p.0 raw.new p.1) (length (superposing.gives_of_superposition p.0 (scope_of_names d.in_scope)))) _
+    (by_block d (kind.Superpose p.0 raw.new p.1) (length (superposing.gives_of_superposition p.0 (scope_of_names d.in_scope))))
     (λ e. from e (few_monos raw.shown) _ (λ few. from e (terms_after e.terms (superposing.gives_of_superposition p.0 (scope_of_names d.in_scope))) _ (λ n. (refl, refl))))))
 
 by_split : (d : TheoremParser) (raw : RawLit) → Same d.names d.made (split d raw)
 unfolding split
-by_split d raw = from d (lit_in d.in_scope raw) _ (λ l. then d (deeper d (opened.First l) 1) _ (by_block d (opened.First l) 1) (λ e. by_terms e (raw ∷ [])))
+by_split d raw = from d (lit_in d.in_scope raw) _ (λ l. then d (deeper d (kind.First l) 1) _ (by_block d (kind.First l) 1) (λ e. by_terms e (raw ∷ [])))
 
 -- ---- no more objects are made than have names
 
@@ -200,12 +200,12 @@ few_stepped known d e (rawlines.Cases raw) few h = same_few d e (split d raw) (b
 few_stepped known d e rawlines.Else few h = same_few d e (read_ok (record d { place = Proving })) (refl, refl) few h
 few_stepped known d e rawlines.End few h = same_few d e (read_ok (record d { place = Done })) (refl, refl) few h
 
--- behind a line
-pub few_behind : (known : List TitledStatement) (d e : TheoremParser) (f : RawLine) → step known d f ≡ Ok e → length d.made ≤ count_names d.names → length e.made ≤ count_names e.names
+-- after a line
+pub few_after : (known : List TitledStatement) (d e : TheoremParser) (f : RawLine) → step known d f ≡ Ok e → length d.made ≤ count_names d.names → length e.made ≤ count_names e.names
 unfolding step
-few_behind known d e f h few = few_stepped known d e f few (passes (allowed d.place f) (stepped known d f) e h).1
+few_after known d e f h few = few_stepped known d e f few (passes (allowed d.place f) (stepped known d f) e h).1
 
--- behind the first line
+-- after the first line
 pub few_begun : (known : List TitledStatement) (e : TheoremParser) (f : RawLine) → begin known f ≡ Ok e → length e.made ≤ count_names e.names
 unfolding begin
 few_begun known e (rawlines.Theorem t) h =

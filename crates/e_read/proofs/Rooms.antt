@@ -9,11 +9,11 @@ use Rattle.e_clause.specs.declared.cert.Version.{Version}
 use Rattle.e_deriv.specs.Lines.{theorem_at}
 use Rattle.e_deriv.specs.Fitting.{is_small_statement}
 use Rattle.e_deriv.proofs.Smallness.{few_objects}
-use Rattle.e_book.specs.declared.draft.TheoremParser.{TheoremParser}
-use Rattle.e_read.specs.Text.{at_start, FitsDraft, FitsReading}
+use Rattle.e_book.specs.declared.parser.TheoremParser.{TheoremParser}
+use Rattle.e_read.specs.Text.{at_start, FitsParser, FitsReading}
 
 -- the objects that are declared and made have numbers
-pub made_fits : (d : TheoremParser) → FitsDraft d → let s = grown nothing d.declared in
+pub made_fits : (d : TheoremParser) → FitsParser d → let s = grown nothing d.declared in
     (s.points + length d.made < 2 ^ 16) × (s.lines + length d.made < 2 ^ 16) × (s.circles + length d.made < 2 ^ 16)
 made_fits d f =
     let t = total_grown nothing d.declared in
@@ -23,7 +23,7 @@ made_fits d f =
 
 -- no line has come yet
 pub start_fits : (v : Version) → FitsReading (at_start v)
-start_fits v = record { draft = tt; names = record { points = omega arith; lines = omega arith; circles = omega arith } }
+start_fits v = record { parser = tt; names = record { points = omega arith; lines = omega arith; circles = omega arith } }
 
 -- so has each of small statements
 pub few_at : (before : List StatementView) (k : ℕ) → list_all is_small_statement before ≡ true → length (theorem_at before k).declared + length (theorem_at before k).made ≤ 3000

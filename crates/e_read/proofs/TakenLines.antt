@@ -9,7 +9,7 @@ use Rattle.e_text.specs.Lines.{LineView}
 use Rattle.e_line.specs.declared.fault.FaultKind.{FaultKind}
 use Rattle.e_line.specs.declared.fault.FaultKind.TheVariants.{Malformed}
 use Rattle.e_line.specs.declared.raw_line.RawLine.{RawLine}
-use Rattle.e_book.specs.declared.draft.TheoremParser.{TheoremParser}
+use Rattle.e_book.specs.declared.parser.TheoremParser.{TheoremParser}
 use Rattle.e_line.specs.Reading.{◌>>=◌}
 use Rattle.e_line.specs.RawLines.{raw_line_of, raw_line_named}
 use Rattle.e_names.specs.TitledStatements.{TitledStatement}
@@ -46,7 +46,7 @@ pub record Certified (r next : BlockParser) (line : List ℕ) (words : List (Lis
   pub spelled : exact_cert_line line words ≡ Ok cert_line
   pub of : cert_line_is_of r.version cert_line ≡ true
   pub owed : after_cert_line r.owed cert_line ≡ Ok next.owed
-  pub draft : next.draft ≡ r.draft
+  pub parser : next.parser ≡ r.parser
   pub kept : next.kept ≡ r.kept
   pub version : next.version ≡ r.version
 
@@ -56,10 +56,10 @@ pub record Stepped (known : List TitledStatement) (r next : BlockParser) (line :
   pub spelled : exact_line line ≡ Ok form
   pub read : Option StepCerts
   pub settled_is : finish_certs r.owed ≡ Ok read
-  pub draft : TheoremParser
+  pub parser : TheoremParser
   pub owed : Pending
-  pub gone : gone_on known r.draft form ≡ Ok (draft, owed)
-  pub next_is : next ≡ record { version = r.version; draft = Some draft; owed = owed; kept = r.kept ++ option_to_list read }
+  pub gone : gone_on known r.parser form ≡ Ok (parser, owed)
+  pub next_is : next ≡ record { version = r.version; parser = Some parser; owed = owed; kept = r.kept ++ option_to_list read }
 
 certified_line : (r next : BlockParser) (line : List ℕ) (words : List (List ℕ)) → certified r line words ≡ Ok next → Certified r next line words
 unfolding with_cert_line certified
@@ -73,7 +73,7 @@ certified_line r next line words e =
       spelled = m.1;
       of = p.0;
       owed = o.1 ∙ ap (λ (x : BlockParser). Ok x.owed) is;
-      draft = sym (ap (λ (x : BlockParser). x.draft) is);
+      parser = sym (ap (λ (x : BlockParser). x.parser) is);
       kept = sym (ap (λ (x : BlockParser). x.kept) is);
       version = sym (ap (λ (x : BlockParser). x.version) is);
     }
@@ -81,21 +81,21 @@ certified_line r next line words e =
 stepped_line : (known : List TitledStatement) (r next : BlockParser) (line : List ℕ) → stepped known r line ≡ Ok next → Stepped known r next line
 unfolding with_form stepped
 stepped_line known r next line e =
-    let with_kept : Option StepCerts → BlockParser = λ k. record { version = r.version; draft = r.draft; owed = owes_nothing; kept = r.kept ++ option_to_list k } in
-    let end : BlockParser → TheoremParser × Pending → BlockParser = λ s x. record { version = s.version; draft = Some x.0; owed = x.1; kept = s.kept } in
-    let f = bind_ok (exact_line line) (λ f. finish_line r >>= λ s. gone_on known s.draft f >>= λ x. Ok (end s x)) next e in
-    let s = bind_ok (finish_line r) (λ s. gone_on known s.draft f.0 >>= λ x. Ok (end s x)) next f.2 in
+    let with_kept : Option StepCerts → BlockParser = λ k. record { version = r.version; parser = r.parser; owed = owes_nothing; kept = r.kept ++ option_to_list k } in
+    let end : BlockParser → TheoremParser × Pending → BlockParser = λ s x. record { version = s.version; parser = Some x.0; owed = x.1; kept = s.kept } in
+    let f = bind_ok (exact_line line) (λ f. finish_line r >>= λ s. gone_on known s.parser f >>= λ x. Ok (end s x)) next e in
+    let s = bind_ok (finish_line r) (λ s. gone_on known s.parser f.0 >>= λ x. Ok (end s x)) next f.2 in
     let k = bind_ok (finish_certs r.owed) (λ k. Ok (with_kept k)) s.0 s.1 in
     let kept_is : with_kept k.0 ≡ s.0 = ok_is (with_kept k.0) s.0 k.2 in
-    let x = bind_ok (gone_on known s.0.draft f.0) (λ x. Ok (end s.0 x)) next s.2 in
+    let x = bind_ok (gone_on known s.0.parser f.0) (λ x. Ok (end s.0 x)) next s.2 in
     record {
       form = f.0;
       spelled = f.1;
       read = k.0;
       settled_is = k.1;
-      draft = x.0.0;
+      parser = x.0.0;
       owed = x.0.1;
-      gone = ap (λ (q : BlockParser). gone_on known q.draft f.0) kept_is ∙ x.1;
+      gone = ap (λ (q : BlockParser). gone_on known q.parser f.0) kept_is ∙ x.1;
       next_is = sym (ap (λ (q : BlockParser). end q x.0) kept_is ∙ ok_is (end s.0 x.0) next x.2);
     }
 
@@ -142,7 +142,7 @@ not_skipped ((b ∷ bs) ∷ ws) f e =
     no_form h = absurd cc
 
 -- a line that goes on is one of a book
-pub book_line : (known : List TitledStatement) (draft : Option TheoremParser) (f : RawLine) (d : TheoremParser) (o : Pending) (words : List (List ℕ)) → raw_line_of words ≡ Ok f → gone_on known draft f ≡ Ok (d, o) → line_step known draft words ≡ Ok d
+pub book_line : (known : List TitledStatement) (parser : Option TheoremParser) (f : RawLine) (d : TheoremParser) (o : Pending) (words : List (List ℕ)) → raw_line_of words ≡ Ok f → gone_on known parser f ≡ Ok (d, o) → line_step known parser words ≡ Ok d
 unfolding line_step
 book_line known None f d o words h e =
     let x = bind_ok (begin known f) (λ x. Ok (x, owes_nothing)) (d, o) e in

@@ -26,9 +26,9 @@ abbrev pub next_against : List StepCerts → Option Against
 next_against [] = None
 next_against (k ∷ ks) = against_of k
 
-abbrev pub behind_next : List StepCerts → List StepCerts
-behind_next [] = []
-behind_next (k ∷ ks) = ks
+abbrev pub after_next : List StepCerts → List StepCerts
+after_next [] = []
+after_next (k ∷ ks) = ks
 
 -- the next is taken out
 abbrev pub NextIs : List StepCerts → Option StepCerts → List StepCerts → Type 0
@@ -39,17 +39,17 @@ NextIs old (Some k) new = old ≡ k ∷ new
 -- certificates that are left.
 unfoldable pub filled : Script → List StepCerts → Script × List StepCerts
 filled (Cite by rest) ks = let r = filled rest ks in (Cite by r.0, r.1)
-filled (Hence lit cert rest) ks = let r = filled rest (behind_next ks) in (Hence lit (first_cert (next_certs ks)) r.0, r.1)
-filled (Make form names certs rest) ks = let r = filled rest (behind_next ks) in (Make form names (next_certs ks) r.0, r.1)
-filled (Apply theorem args names certs rest) ks = let r = filled rest (behind_next ks) in (Apply theorem args names (next_certs ks) r.0, r.1)
+filled (Hence lit cert rest) ks = let r = filled rest (after_next ks) in (Hence lit (first_cert (next_certs ks)) r.0, r.1)
+filled (Make form names certs rest) ks = let r = filled rest (after_next ks) in (Make form names (next_certs ks) r.0, r.1)
+filled (Apply theorem args names certs rest) ks = let r = filled rest (after_next ks) in (Apply theorem args names (next_certs ks) r.0, r.1)
 filled (Claim shown inner rest) ks =
     let i = filled inner ks in
     let r = filled rest i.1 in (Claim shown i.0 r.0, r.1)
 filled (Superposed form names shown certs inner rest) ks =
-    let i = filled inner (behind_next ks) in
+    let i = filled inner (after_next ks) in
     let r = filled rest i.1 in (Superposed form names shown (next_certs ks) i.0 r.0, r.1)
-filled (Qed objects certs) ks = (Qed objects (next_certs ks), behind_next ks)
-filled (Contradiction against) ks = (Contradiction (next_against ks), behind_next ks)
+filled (Qed objects certs) ks = (Qed objects (next_certs ks), after_next ks)
+filled (Contradiction against) ks = (Contradiction (next_against ks), after_next ks)
 filled (Cases lit first second) ks =
     let f = filled first ks in
     let s = filled second f.1 in (Cases lit f.0 s.0, s.1)

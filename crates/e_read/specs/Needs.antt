@@ -11,14 +11,14 @@ use Rattle.e_deriv.specs.Goal.{Goal, goal_of, goal_of_statement, goal_with}
 use Rattle.e_line.specs.declared.fault.FaultKind.{FaultKind}
 use Rattle.e_book.specs.declared.blocks.OpenBlock.{OpenBlock}
 use Rattle.e_book.specs.declared.blocks.BlockKind.{BlockKind}
-use Rattle.e_book.specs.declared.blocks.BlockKind.TheVariants as opened
+use Rattle.e_book.specs.declared.blocks.BlockKind.TheVariants as kind
 use Rattle.e_line.specs.declared.applies.RawApply.{RawApply}
 use Rattle.e_line.specs.declared.raw_line.RawLine.{RawLine}
 use Rattle.e_line.specs.declared.raw_line.RawLine.TheVariants as rawlines
-use Rattle.e_book.specs.declared.draft.TheoremParser.{TheoremParser}
+use Rattle.e_book.specs.declared.parser.TheoremParser.{TheoremParser}
 use Rattle.e_line.specs.Reading.{◌>>=◌, each, or_malformed}
 use Rattle.e_names.specs.TitledStatements.{TitledStatement, theorem_of}
-use Rattle.e_book.specs.DraftViews.{statement_of_draft}
+use Rattle.e_book.specs.ParserViews.{statement_of_parser}
 use Rattle.e_book.specs.Blocks.{made_in}
 use Rattle.e_names.specs.Scope.{scope_of_names, lit_in, let_in, qed_in}
 use Rattle.e_names.specs.Superposes.{superpose_in}
@@ -28,15 +28,15 @@ use Rattle.e_cert.specs.declared.owed.Obligation.TheVariants as due
 
 -- what a block shows that a claim or a superposition began; a block of a split has the goal of the block that it closes
 abbrev pub shown_inside : BlockKind → Option (List Lit) → Option (List Lit)
-shown_inside (opened.Claim shown) around = Some shown
-shown_inside (opened.Superpose form names shown) around = Some shown
-shown_inside (opened.First lit) around = around
-shown_inside (opened.Second lit first) around = around
+shown_inside (kind.Claim shown) around = Some shown
+shown_inside (kind.Superpose form names shown) around = Some shown
+shown_inside (kind.First lit) around = around
+shown_inside (kind.Second lit first) around = around
 
 -- what the innermost claim or superposition of these blocks shows, if there is one
 abbrev pub claimed : List OpenBlock → Option (List Lit)
 claimed [] = None
-claimed (o ∷ os) = shown_inside o.opened (claimed os)
+claimed (o ∷ os) = shown_inside o.kind (claimed os)
 
 abbrev pub goal_or : Option (List Lit) → Goal → Goal
 goal_or None goal = goal
@@ -44,7 +44,7 @@ goal_or (Some shown) goal = goal_of shown
 
 -- the goal of the block that is open: that of the claim or superposition that it is in, and else that of the whole proof
 abbrev pub open_goal : TheoremParser → Goal
-open_goal d = goal_or (claimed d.outers) (goal_of_statement (stated (statement_of_draft d)))
+open_goal d = goal_or (claimed d.blocks) (goal_of_statement (stated (statement_of_parser d)))
 
 -- one certificate for each of these literals
 abbrev pub one_each : List Lit → Obligation
@@ -59,7 +59,7 @@ needs_of_use known d raw = apply_in known d.in_scope raw >>= λ a. needs_in (sco
 
 -- the literals of the goal, with the objects that are named for its made ones
 unfoldable pub needs_at_qed : TheoremParser → List (List ℕ) → Result (List Lit) FaultKind
-needs_at_qed d ns = qed_in d.in_scope (made_in d.outers d.made) ns >>= λ objects. Ok (goal_with (open_goal d) objects)
+needs_at_qed d ns = qed_in d.in_scope (made_in d.blocks d.made) ns >>= λ objects. Ok (goal_with (open_goal d) objects)
 
 -- what a line owes: one certificate for the literal of hence, for each literal that a construction, an application or a
 -- superposition needs, for each literal of the goal at qed, and one of a contradiction; no other line owes any

@@ -13,11 +13,11 @@ use Rattle.e_deriv.specs.Script.{erased}
 use Rattle.e_line.specs.declared.fault.FaultKind.{FaultKind}
 use Rattle.e_line.specs.declared.fault.FaultKind.TheVariants.{Malformed}
 use Rattle.e_line.specs.declared.raw_line.RawLine.{RawLine}
-use Rattle.e_book.specs.declared.draft.TheoremParser.{TheoremParser}
+use Rattle.e_book.specs.declared.parser.TheoremParser.{TheoremParser}
 use Rattle.e_book.specs.declared.theorem.Theorem.{Theorem}
 use Rattle.e_line.specs.Reading.{◌>>=◌}
 use Rattle.e_names.specs.TitledStatements.{TitledStatement}
-use Rattle.e_book.specs.DraftViews.{entry_of_draft}
+use Rattle.e_book.specs.ParserViews.{entry_of_parser}
 use Rattle.e_book.specs.TheoremViews.{TheoremView, entry_of}
 use Rattle.e_names.specs.Scope.{FewNames}
 use Rattle.e_book.specs.Steps.{begin, step, no_names, count_names, FitsScope}
@@ -49,7 +49,7 @@ owes_nothing = record { names = no_names; due = due.Nothing; sums = None }
 
 -- before the first line of a block, in a text of this version
 abbrev pub at_start : Version → BlockParser
-at_start v = record { version = v; draft = None; owed = owes_nothing; kept = [] }
+at_start v = record { version = v; parser = None; owed = owes_nothing; kept = [] }
 
 -- the certificates are owed that are left after a line of one
 unfoldable pub with_cert_line : BlockParser → CertLine → Result BlockParser FaultKind
@@ -71,11 +71,11 @@ gone_on known (Some d) f =
 
 -- nothing is owed any more, and what was read is kept
 abbrev pub finish_line : BlockParser → Result BlockParser FaultKind
-finish_line r = finish_certs r.owed >>= λ k. Ok (record { version = r.version; draft = r.draft; owed = owes_nothing; kept = r.kept ++ option_to_list k })
+finish_line r = finish_certs r.owed >>= λ k. Ok (record { version = r.version; parser = r.parser; owed = owes_nothing; kept = r.kept ++ option_to_list k })
 
 -- any other line comes where nothing is owed any more
 unfoldable pub with_form : List TitledStatement → BlockParser → RawLine → Result BlockParser FaultKind
-with_form known r f = finish_line r >>= λ s. gone_on known s.draft f >>= λ e. Ok (record { version = s.version; draft = Some e.0; owed = e.1; kept = s.kept })
+with_form known r f = finish_line r >>= λ s. gone_on known s.parser f >>= λ e. Ok (record { version = s.version; parser = Some e.0; owed = e.1; kept = s.kept })
 
 unfoldable pub stepped : List TitledStatement → BlockParser → List ℕ → Result BlockParser FaultKind
 stepped known r line = exact_line line >>= λ f. with_form known r f
@@ -116,7 +116,7 @@ is_last_line known l = if is_lf_end l.end then bytes_eq l.bytes (last_line_of (l
 
 -- a theorem with its certificates at their lines
 abbrev pub derived : TheoremParser → List StepCerts → TheoremView
-derived d kept = let t = entry_of_draft d in record t { script = (filled t.script kept).0 }
+derived d kept = let t = entry_of_parser d in record t { script = (filled t.script kept).0 }
 
 abbrev pub garbled_at : {A : Type 0} → ℕ → Result A FaultKind → Result A ℕ
 garbled_at line (Ok x) = Ok x
@@ -146,8 +146,8 @@ unfoldable pub piece_from : List TitledStatement → ℕ → BlockParser → Lis
 piece_from known last r [] = Err last
 piece_from known last r (Err f ∷ lines) = Err (fault_line f)
 piece_from known last r (Ok line ∷ lines) =
-    if is_end known r.draft line then Ok (Last, lines) else
-    (garbled_at line.number (taken known r line) >>= λ next. or_on (finished next.draft next.kept) lines (piece_from known last next lines))
+    if is_end known r.parser line then Ok (Last, lines) else
+    (garbled_at line.number (taken known r line) >>= λ next. or_on (finished next.parser next.kept) lines (piece_from known last next lines))
 
 -- what a line made of a block, unless memory ran out
 abbrev pub LineReads : Result (Unit {0}) TextFault → BlockParser → Result BlockParser ℕ → Type 0
@@ -164,8 +164,8 @@ LineIs (Err faults.NoMemory) old new = ⊥
 -- what comes next, where this line comes before any others and made this of the block, unless memory ran out
 abbrev pub ProgressIs : List TitledStatement → BlockParser → LineView → BlockParser → Result Progress TextFault → Type 0
 ProgressIs known old line new (Ok turns.Last) = (last : ℕ) (rest : List (Result LineView LineFault)) → piece_from known last old (Ok line ∷ rest) ≡ Ok (Last, rest)
-ProgressIs known old line new (Ok turns.Complete) = IsTrue (is_finished new.draft)
-    × ((t : TheoremView) → finished new.draft new.kept ≡ Some t → (last : ℕ) (rest : List (Result LineView LineFault)) → piece_from known last old (Ok line ∷ rest) ≡ Ok (Derived t, rest))
+ProgressIs known old line new (Ok turns.Complete) = IsTrue (is_finished new.parser)
+    × ((t : TheoremView) → finished new.parser new.kept ≡ Some t → (last : ℕ) (rest : List (Result LineView LineFault)) → piece_from known last old (Ok line ∷ rest) ≡ Ok (Derived t, rest))
 ProgressIs known old line new (Ok turns.Continue) =
     (last : ℕ) (rest : List (Result LineView LineFault)) → piece_from known last old (Ok line ∷ rest) ≡ piece_from known last new rest
 ProgressIs known old line new (Err (faults.Garbled n)) = (last : ℕ) (rest : List (Result LineView LineFault)) → piece_from known last old (Ok line ∷ rest) ≡ Err n
@@ -189,15 +189,15 @@ OfTheorem holds (read.Last n) = Unit {0}
 
 -- ---- what is known of a block while its lines come: its names and counts are within the limits
 
-pub record FitsDraft (d : TheoremParser) : Type 0 where
+pub record FitsParser (d : TheoremParser) : Type 0 where
   pub scope : FitsScope d
   -- no more objects are made than have names
   pub made : length d.made ≤ count_names d.names
 
 pub record FitsReading (r : BlockParser) : Type 0 where
-  pub draft : IfSome r.draft FitsDraft
+  pub parser : IfSome r.parser FitsParser
   pub names : FewNames r.owed.names
 
 pub record FitsBegun (d : TheoremParser) (o : Pending) : Type 0 where
-  pub draft : FitsDraft d
+  pub parser : FitsParser d
   pub names : FewNames o.names

@@ -2,7 +2,7 @@
 ghost use Rattle.std.specs.Prelude.{◌≡◌, IfOk, OnOk};
 ghost use Rattle.e_deriv.specs.Script.{script_of};
 ghost use Rattle.e_cert.specs.Owed.{first_cert};
-ghost use Rattle.e_read.specs.Filled.{behind_next, next_certs, next_against, Fills, FillsStep, FillsClose};
+ghost use Rattle.e_read.specs.Filled.{after_next, next_certs, next_against, Fills, FillsStep, FillsClose};
 
 use crate::kept::CertQueue;
 use e_cert::{Certs, StepCerts};
@@ -15,7 +15,7 @@ use std::mem;
 /// The certificates of the next line that has some.
 fn next_certs(alloc: Global, queue: &mut CertQueue) -> Certs
     ensures certs { result ≡ next_certs queue.old }
-    ensures rest { queue.new ≡ behind_next queue.old }
+    ensures rest { queue.new ≡ after_next queue.old }
 {
     match queue.pop() {
         Some(StepCerts::Certs(certs)) => certs,
@@ -30,7 +30,7 @@ fn next_certs(alloc: Global, queue: &mut CertQueue) -> Certs
 /// The certificate of a contradiction that comes next.
 fn next_against(queue: &mut CertQueue) -> Option<Against>
     ensures against { result ≡ next_against queue.old }
-    ensures rest { queue.new ≡ behind_next queue.old }
+    ensures rest { queue.new ≡ after_next queue.old }
 {
     match queue.pop() {
         Some(StepCerts::Against(against)) => Some(against),
@@ -45,7 +45,7 @@ fn next_against(queue: &mut CertQueue) -> Option<Against>
 /// The first certificate of the next line that has some.
 fn next_cert(alloc: Global, queue: &mut CertQueue) -> Option<Cert>
     ensures cert { result ≡ first_cert (next_certs queue.old) }
-    ensures rest { queue.new ≡ behind_next queue.old }
+    ensures rest { queue.new ≡ after_next queue.old }
 {
     next_certs(alloc, queue).into_first()
 }

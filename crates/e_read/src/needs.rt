@@ -8,14 +8,14 @@ ghost use Rattle.e_theorem.specs.Statements.{stated};
 ghost use Rattle.e_deriv.specs.Fitting.{is_small_statement};
 ghost use Rattle.e_deriv.specs.Goal;
 ghost use Rattle.e_deriv.specs.Goal.{goal_of_statement};
-ghost use Rattle.e_book.specs.DraftViews.{statement_of_draft};
+ghost use Rattle.e_book.specs.ParserViews.{statement_of_parser};
 ghost use Rattle.e_line.specs.Limits.{most_theorems};
 ghost use Rattle.e_names.specs.TitledStatements.{stated_by};
 ghost use Rattle.e_line.specs.Reading.{Gives, each, or_malformed};
 ghost use Rattle.e_book.specs.Blocks.{made_in};
 ghost use Rattle.e_book.specs.Steps.{FitsScope};
 ghost use Rattle.e_read.specs.Needs;
-ghost use Rattle.e_read.specs.Text.{FitsDraft};
+ghost use Rattle.e_read.specs.Text.{FitsParser};
 ghost use Rattle.e_read.specs.Needs.{open_goal, one_each, needs_in, due_of};
 
 use e_book::{BlockKind, OpenBlock, TheoremParser};
@@ -78,35 +78,35 @@ fn needs_in(
 fn needs_of_use(
     alloc: Global,
     known: &Theorems,
-    draft: &TheoremParser,
+    parser: &TheoremParser,
     raw: &RawApply,
 ) -> Result<Items<Lit>, LineError>
-    requires draft { FitsScope draft.now }
+    requires parser { FitsScope parser.now }
     requires few { length known.now ≤ most_theorems }
     requires known { IsTrue (list_all is_small_statement (stated_by known.now)) }
-    ensures { Gives (λ l. l) result (Needs.needs_of_use known.now draft.now raw.now) }
+    ensures { Gives (λ l. l) result (Needs.needs_of_use known.now parser.now raw.now) }
 {
-    let used = apply_in(alloc, known, &draft.in_scope, raw)?;
+    let used = apply_in(alloc, known, &parser.in_scope, raw)?;
     let statement = known.statement(used.theorem as usize);
     needs_in(
         alloc,
-        scope_of_names(&draft.in_scope),
+        scope_of_names(&parser.in_scope),
         statement,
         used.args.items(),
     )
 }
 
 /// What the innermost claim or superposition of these blocks shows, if there is one.
-fn claimed(outers: &[OpenBlock]) -> Option<&[Lit]>
-    ensures { option_map (λ l. l.now) result ≡ Needs.claimed (reverse outers.now) }
+fn claimed(blocks: &[OpenBlock]) -> Option<&[Lit]>
+    ensures { option_map (λ l. l.now) result ≡ Needs.claimed (reverse blocks.now) }
 {
-    let [outers @ .., outer] = outers else {
+    let [blocks @ .., outer] = blocks else {
         return None;
     };
-    match &outer.opened {
+    match &outer.kind {
         BlockKind::Claim { shown } => Some(shown.items()),
         BlockKind::Superpose { shown, .. } => Some(shown.items()),
-        BlockKind::First { .. } | BlockKind::Second { .. } => claimed(outers),
+        BlockKind::First { .. } | BlockKind::Second { .. } => claimed(blocks),
     }
 }
 
@@ -129,57 +129,57 @@ fn with_objects(
 #[tactic(auto, using(crate::proofs::Rooms::made_fits, e_literal::proofs::Growing::sorts_next))]
 fn whole_goal_with(
     alloc: Global,
-    draft: &TheoremParser,
+    parser: &TheoremParser,
     objects: &[Obj],
 ) -> Result<Items<Lit>, AllocError>
-    requires draft { FitsDraft draft.now }
-    requires sorts { map (λ o. o.sort) objects.now ≡ draft.now.made }
-    ensures { IfOk result (λ ls. ls ≡ Goal.goal_with (goal_of_statement (stated (statement_of_draft draft.now))) objects.now) }
+    requires parser { FitsParser parser.now }
+    requires sorts { map (λ o. o.sort) objects.now ≡ parser.now.made }
+    ensures { IfOk result (λ ls. ls ≡ Goal.goal_with (goal_of_statement (stated (statement_of_parser parser.now))) objects.now) }
 {
-    let declared = grown(NOTHING, draft.declared.items());
-    let made = next_objects(alloc, declared, draft.made.items())?;
-    with_objects(alloc, &made, draft.shown.items(), objects)
+    let declared = grown(NOTHING, parser.declared.items());
+    let made = next_objects(alloc, declared, parser.made.items())?;
+    with_objects(alloc, &made, parser.shown.items(), objects)
 }
 
 /// The literals of the goal of the open block with these objects for its made ones.
 #[tactic(auto, using(crate::proofs::GoalSorts::none_made, crate::proofs::GoalSorts::all_made))]
 fn goal_with(
     alloc: Global,
-    draft: &TheoremParser,
+    parser: &TheoremParser,
     objects: &[Obj],
 ) -> Result<Items<Lit>, AllocError>
-    requires draft { FitsDraft draft.now }
-    requires sorts { map (λ o. o.sort) objects.now ≡ made_in draft.now.outers draft.now.made }
-    ensures { IfOk result (λ ls. ls ≡ Goal.goal_with (open_goal draft.now) objects.now) }
+    requires parser { FitsParser parser.now }
+    requires sorts { map (λ o. o.sort) objects.now ≡ made_in parser.now.blocks parser.now.made }
+    ensures { IfOk result (λ ls. ls ≡ Goal.goal_with (open_goal parser.now) objects.now) }
 {
-    match claimed(draft.outers.items()) {
+    match claimed(parser.blocks.items()) {
         Some(shown) => with_objects(alloc, &[], shown, objects),
-        None => whole_goal_with(alloc, draft, objects),
+        None => whole_goal_with(alloc, parser, objects),
     }
 }
 
 /// The made objects of the goal of the open block.
-fn goal_made(draft: &TheoremParser) -> &[Sort]
-    ensures { result.now ≡ made_in draft.now.outers draft.now.made }
+fn goal_made(parser: &TheoremParser) -> &[Sort]
+    ensures { result.now ≡ made_in parser.now.blocks parser.now.made }
 {
-    if draft.outers.has_claim() {
+    if parser.blocks.has_claim() {
         return &[];
     }
-    draft.made.items()
+    parser.made.items()
 }
 
 /// What a close by `qed` owes.
 #[tactic(auto, unfolding(crate::specs::Needs::needs_at_qed))]
 fn needs_at_qed(
     alloc: Global,
-    draft: &TheoremParser,
+    parser: &TheoremParser,
     names: &[Name],
 ) -> Result<Items<Lit>, LineError>
-    requires { FitsDraft draft.now }
-    ensures { Gives (λ l. l) result (Needs.needs_at_qed draft.now names.now) }
+    requires { FitsParser parser.now }
+    ensures { Gives (λ l. l) result (Needs.needs_at_qed parser.now names.now) }
 {
-    let objects = qed_in(alloc, &draft.in_scope, goal_made(draft), names)?;
-    let needs = goal_with(alloc, draft, objects.items())?;
+    let objects = qed_in(alloc, &parser.in_scope, goal_made(parser), names)?;
+    let needs = goal_with(alloc, parser, objects.items())?;
     Ok(needs)
 }
 
@@ -188,37 +188,37 @@ fn needs_at_qed(
 pub(crate) fn due_of(
     alloc: Global,
     known: &Theorems,
-    draft: &TheoremParser,
+    parser: &TheoremParser,
     form: &RawLine,
 ) -> Result<Obligation, LineError>
-    requires draft { FitsDraft draft.now }
+    requires parser { FitsParser parser.now }
     requires few { length known.now ≤ most_theorems }
     requires known { IsTrue (list_all is_small_statement (stated_by known.now)) }
-    ensures { Gives (λ d. d) result (due_of known.now draft.now form.now) }
+    ensures { Gives (λ d. d) result (due_of known.now parser.now form.now) }
 {
     match form {
         RawLine::Hence(raw) => {
             let mut wanted = Items::empty(alloc);
-            let lit = lit_in(alloc, &draft.in_scope, raw)?;
+            let lit = lit_in(alloc, &parser.in_scope, raw)?;
             wanted.push(lit)?;
             Ok(one_each(alloc, wanted))
         }
         RawLine::Let(raw) => {
-            let form = let_in(alloc, &draft.in_scope, raw)?;
+            let form = let_in(alloc, &parser.in_scope, raw)?;
             let needs = form.needs(alloc)?;
             Ok(one_each(alloc, Items::new(needs)))
         }
         RawLine::Apply(raw) => {
-            let needs = needs_of_use(alloc, known, draft, raw)?;
+            let needs = needs_of_use(alloc, known, parser, raw)?;
             Ok(one_each(alloc, needs))
         }
         RawLine::Superpose(raw) => {
-            let placement = superpose_in(alloc, &draft.in_scope, raw)?;
+            let placement = superpose_in(alloc, &parser.in_scope, raw)?;
             let needs = placement.form.needs(alloc)?;
             Ok(one_each(alloc, Items::new(needs)))
         }
         RawLine::Qed(names) => {
-            let needs = needs_at_qed(alloc, draft, names.items())?;
+            let needs = needs_at_qed(alloc, parser, names.items())?;
             Ok(one_each(alloc, needs))
         }
         RawLine::Contradiction => Ok(Obligation::Contradiction { against: None }),

@@ -87,11 +87,11 @@ fn take_line(
     line: Line<'_>,
 ) -> Result<(), TextFault>
     requires reading { FitsReading reading.old }
-    requires few { OnSome reading.old.draft (length known.now ≤ most_theorems) }
+    requires few { OnSome reading.old.parser (length known.now ≤ most_theorems) }
     requires known { IsTrue (list_all is_small_statement (stated_by known.now)) }
     ensures value { LineReads result reading.new (garbled_at line.entry.number (taken known.now reading.old (view_of_line line.entry))) }
     ensures fits { OnOk result (FitsReading reading.new) }
-    ensures few { OnOk result (OnSome reading.new.draft (length known.now ≤ most_theorems)) }
+    ensures few { OnOk result (OnSome reading.new.parser (length known.now ≤ most_theorems)) }
 {
     match reading.take(alloc, known, line) {
         Ok(()) => Ok(()),
@@ -108,11 +108,11 @@ fn feed(
     line: Line<'_>,
 ) -> Result<Progress, TextFault>
     requires reading { FitsReading reading.old }
-    requires few { OnSome reading.old.draft (length known.now ≤ most_theorems) }
+    requires few { OnSome reading.old.parser (length known.now ≤ most_theorems) }
     requires known { IsTrue (list_all is_small_statement (stated_by known.now)) }
     ensures turn { ProgressIs known.now reading.old (view_of_line line.entry) reading.new result }
     ensures fits { OnOk result (FitsReading reading.new) }
-    ensures few { OnOk result (OnSome reading.new.draft (length known.now ≤ most_theorems)) }
+    ensures few { OnOk result (OnSome reading.new.parser (length known.now ≤ most_theorems)) }
 {
     if reading.is_end(alloc, known, line)? {
         return Ok(Progress::Last);

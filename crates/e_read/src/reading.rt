@@ -10,7 +10,7 @@ ghost use Rattle.e_book.specs.TheoremViews.{entry_of};
 ghost use Rattle.e_line.specs.Reading.{texts, Gives, Moves};
 ghost use Rattle.e_names.specs.Scope.{FewNames};
 ghost use Rattle.e_book.specs.Steps.{no_names};
-ghost use Rattle.e_read.specs.Text.{owes_nothing, at_start, with_cert_line, certified, owed_by, gone_on, finish_line, with_form, stepped, is_bar, worded, is_lf_end, spelled, taken, derived, is_finished, finished, is_end, is_last_line, last_line_of, FitsDraft, FitsReading, FitsBegun};
+ghost use Rattle.e_read.specs.Text.{owes_nothing, at_start, with_cert_line, certified, owed_by, gone_on, finish_line, with_form, stepped, is_bar, worded, is_lf_end, spelled, taken, derived, is_finished, finished, is_end, is_last_line, last_line_of, FitsParser, FitsReading, FitsBegun};
 
 use crate::filling::fill;
 use crate::kept::AllCerts;
@@ -34,7 +34,7 @@ pub struct BlockParser {
     /// The version of the text.
     pub version: Version,
     /// The theorem, once its first line has come.
-    pub draft: Option<TheoremParser>,
+    pub parser: Option<TheoremParser>,
     /// What the last line but those of certificates owes.
     pub owed: Pending,
     /// The certificates of the lines before it.
@@ -43,7 +43,7 @@ pub struct BlockParser {
 
 /// A theorem with its next line, and what that line owes.
 struct Begun {
-    draft: TheoremParser,
+    parser: TheoremParser,
     owed: Pending,
 }
 
@@ -66,25 +66,25 @@ fn owes_nothing(alloc: Global) -> Pending
 fn gone_on(
     alloc: Global,
     known: &Theorems,
-    draft: Option<TheoremParser>,
+    parser: Option<TheoremParser>,
     form: &RawLine,
 ) -> Result<Begun, LineError>
-    requires draft { IfSome draft FitsDraft }
-    requires few { OnSome draft (length known.now ≤ most_theorems) }
+    requires parser { IfSome parser FitsParser }
+    requires few { OnSome parser (length known.now ≤ most_theorems) }
     requires known { IsTrue (list_all is_small_statement (stated_by known.now)) }
-    ensures value { Gives (λ b. (b.draft, b.owed)) result (gone_on known.now draft form.now) }
-    ensures fits { IfOk result (λ b. FitsBegun b.draft b.owed) }
+    ensures value { Gives (λ b. (b.parser, b.owed)) result (gone_on known.now parser form.now) }
+    ensures fits { IfOk result (λ b. FitsBegun b.parser b.owed) }
     ensures few { OnOk result (length known.now ≤ most_theorems) }
 {
-    match draft {
+    match parser {
         None => {
-            let draft = TheoremParser::begin(alloc, known, form)?;
+            let parser = TheoremParser::begin(alloc, known, form)?;
             Ok(Begun {
-                draft,
+                parser,
                 owed: owes_nothing(alloc),
             })
         }
-        Some(draft) => next_line(alloc, known, draft, form),
+        Some(parser) => next_line(alloc, known, parser, form),
     }
 }
 
@@ -93,17 +93,17 @@ fn gone_on(
 fn owed_by(
     alloc: Global,
     known: &Theorems,
-    draft: &TheoremParser,
+    parser: &TheoremParser,
     form: &RawLine,
 ) -> Result<Pending, LineError>
-    requires draft { FitsDraft draft.now }
+    requires parser { FitsParser parser.now }
     requires few { length known.now ≤ most_theorems }
     requires known { IsTrue (list_all is_small_statement (stated_by known.now)) }
-    ensures value { Gives (λ o. o) result (owed_by known.now draft.now form.now) }
+    ensures value { Gives (λ o. o) result (owed_by known.now parser.now form.now) }
     ensures fits { IfOk result (λ o. FewNames o.names) }
 {
-    let names = draft.in_scope.copy(alloc)?;
-    match due_of(alloc, known, draft, form) {
+    let names = parser.in_scope.copy(alloc)?;
+    match due_of(alloc, known, parser, form) {
         Ok(due) => Ok(Pending {
             names,
             due,
@@ -117,33 +117,33 @@ fn owed_by(
 }
 
 /// A line goes on with a theorem.
-#[tactic(auto, using(crate::proofs::MadeNames::few_behind))]
+#[tactic(auto, using(crate::proofs::MadeNames::few_after))]
 fn next_line(
     alloc: Global,
     known: &Theorems,
-    draft: TheoremParser,
+    parser: TheoremParser,
     form: &RawLine,
 ) -> Result<Begun, LineError>
-    requires draft { FitsDraft draft }
+    requires parser { FitsParser parser }
     requires few { length known.now ≤ most_theorems }
     requires known { IsTrue (list_all is_small_statement (stated_by known.now)) }
-    ensures value { Gives (λ b. (b.draft, b.owed)) result (gone_on known.now (Some draft) form.now) }
-    ensures fits { IfOk result (λ b. FitsBegun b.draft b.owed) }
+    ensures value { Gives (λ b. (b.parser, b.owed)) result (gone_on known.now (Some parser) form.now) }
+    ensures fits { IfOk result (λ b. FitsBegun b.parser b.owed) }
     ensures few { OnOk result (length known.now ≤ most_theorems) }
 {
-    if !is_apart(&draft, form) {
-        mem::drop(draft);
+    if !is_apart(&parser, form) {
+        mem::drop(parser);
         return Err(LineError::Fault(FaultKind::Malformed));
     }
-    let owed = match owed_by(alloc, known, &draft, form) {
+    let owed = match owed_by(alloc, known, &parser, form) {
         Ok(owed) => owed,
         Err(trouble) => {
-            mem::drop(draft);
+            mem::drop(parser);
             return Err(trouble);
         }
     };
-    match draft.taking(alloc, known, form) {
-        Ok(draft) => Ok(Begun { draft, owed }),
+    match parser.taking(alloc, known, form) {
+        Ok(parser) => Ok(Begun { parser, owed }),
         Err(trouble) => {
             mem::drop(owed);
             Err(trouble)
@@ -159,7 +159,7 @@ impl BlockParser {
     {
         BlockParser {
             version,
-            draft: None,
+            parser: None,
             owed: owes_nothing(alloc),
             kept: AllCerts::new(alloc),
         }
@@ -175,7 +175,7 @@ impl BlockParser {
     ) -> Result<(), LineError>
         requires { FewNames self.old.owed.names }
         ensures value { Moves result self.new (certified self.old line.now (texts words.now)) }
-        ensures draft { OnOk result (self.new.draft ≡ self.old.draft) }
+        ensures parser { OnOk result (self.new.parser ≡ self.old.parser) }
         ensures names { OnOk result (self.new.owed.names ≡ self.old.owed.names) }
     {
         let cert_line = exact_cert_line(alloc, line, words)?;
@@ -193,7 +193,7 @@ impl BlockParser {
     fn take_cert_line(&mut self, alloc: Global, cert_line: &CertLine) -> Result<(), LineError>
         requires { FewNames self.old.owed.names }
         ensures value { Moves result self.new (with_cert_line self.old cert_line.now) }
-        ensures draft { OnOk result (self.new.draft ≡ self.old.draft) }
+        ensures parser { OnOk result (self.new.parser ≡ self.old.parser) }
         ensures names { OnOk result (self.new.owed.names ≡ self.old.owed.names) }
     {
         let owed = mem::replace(&mut self.owed, owes_nothing(alloc));
@@ -213,11 +213,11 @@ impl BlockParser {
     ) -> Result<(), LineError>
         requires words { texts words.now ≡ tokens_of line.now }
         requires reading { FitsReading self.old }
-        requires few { OnSome self.old.draft (length known.now ≤ most_theorems) }
+        requires few { OnSome self.old.parser (length known.now ≤ most_theorems) }
         requires known { IsTrue (list_all is_small_statement (stated_by known.now)) }
         ensures value { Moves result self.new (stepped known.now self.old line.now) }
         ensures fits { OnOk result (FitsReading self.new) }
-        ensures few { OnOk result (OnSome self.new.draft (length known.now ≤ most_theorems)) }
+        ensures few { OnOk result (OnSome self.new.parser (length known.now ≤ most_theorems)) }
     {
         let form = exact_line_of(alloc, line, words)?;
         let taken = self.take_form(alloc, known, &form);
@@ -234,16 +234,16 @@ impl BlockParser {
         form: &RawLine,
     ) -> Result<(), LineError>
         requires reading { FitsReading self.old }
-        requires few { OnSome self.old.draft (length known.now ≤ most_theorems) }
+        requires few { OnSome self.old.parser (length known.now ≤ most_theorems) }
         requires known { IsTrue (list_all is_small_statement (stated_by known.now)) }
         ensures value { Moves result self.new (with_form known.now self.old form.now) }
         ensures fits { OnOk result (FitsReading self.new) }
-        ensures few { OnOk result (OnSome self.new.draft (length known.now ≤ most_theorems)) }
+        ensures few { OnOk result (OnSome self.new.parser (length known.now ≤ most_theorems)) }
     {
         self.finish_line(alloc)?;
-        let draft = self.draft.take();
-        let Begun { draft, owed } = gone_on(alloc, known, draft, form)?;
-        mem::drop(mem::replace(&mut self.draft, Some(draft)));
+        let parser = self.parser.take();
+        let Begun { parser, owed } = gone_on(alloc, known, parser, form)?;
+        mem::drop(mem::replace(&mut self.parser, Some(parser)));
         mem::drop(mem::replace(&mut self.owed, owed));
         Ok(())
     }
@@ -252,7 +252,7 @@ impl BlockParser {
     fn finish_line(&mut self, alloc: Global) -> Result<(), LineError>
         requires { FewNames self.old.owed.names }
         ensures value { Moves result self.new (finish_line self.old) }
-        ensures draft { OnOk result (self.new.draft ≡ self.old.draft) }
+        ensures parser { OnOk result (self.new.parser ≡ self.old.parser) }
     {
         let owed = mem::replace(&mut self.owed, owes_nothing(alloc));
         let read = owed.finish_certs()?;
@@ -271,11 +271,11 @@ impl BlockParser {
     ) -> Result<(), LineError>
         requires words { texts words.now ≡ tokens_of line.now }
         requires reading { FitsReading self.old }
-        requires few { OnSome self.old.draft (length known.now ≤ most_theorems) }
+        requires few { OnSome self.old.parser (length known.now ≤ most_theorems) }
         requires known { IsTrue (list_all is_small_statement (stated_by known.now)) }
         ensures value { Moves result self.new (worded known.now self.old line.now (texts words.now)) }
         ensures fits { OnOk result (FitsReading self.new) }
-        ensures few { OnOk result (OnSome self.new.draft (length known.now ≤ most_theorems)) }
+        ensures few { OnOk result (OnSome self.new.parser (length known.now ≤ most_theorems)) }
     {
         match words {
             [] => Err(LineError::Fault(FaultKind::Malformed)),
@@ -292,11 +292,11 @@ impl BlockParser {
     #[tactic(auto, unfolding(crate::specs::Text::spelled))]
     fn take_bytes(&mut self, alloc: Global, known: &Theorems, line: &[u8]) -> Result<(), LineError>
         requires reading { FitsReading self.old }
-        requires few { OnSome self.old.draft (length known.now ≤ most_theorems) }
+        requires few { OnSome self.old.parser (length known.now ≤ most_theorems) }
         requires known { IsTrue (list_all is_small_statement (stated_by known.now)) }
         ensures value { Moves result self.new (spelled known.now self.old line.now) }
         ensures fits { OnOk result (FitsReading self.new) }
-        ensures few { OnOk result (OnSome self.new.draft (length known.now ≤ most_theorems)) }
+        ensures few { OnOk result (OnSome self.new.parser (length known.now ≤ most_theorems)) }
     {
         let words = collected(alloc, line)?;
         self.take_words(alloc, known, line, &words)
@@ -311,11 +311,11 @@ impl BlockParser {
         line: Line<'_>,
     ) -> Result<(), LineError>
         requires reading { FitsReading self.old }
-        requires few { OnSome self.old.draft (length known.now ≤ most_theorems) }
+        requires few { OnSome self.old.parser (length known.now ≤ most_theorems) }
         requires known { IsTrue (list_all is_small_statement (stated_by known.now)) }
         ensures value { Moves result self.new (taken known.now self.old (view_of_line line.entry)) }
         ensures fits { OnOk result (FitsReading self.new) }
-        ensures few { OnOk result (OnSome self.new.draft (length known.now ≤ most_theorems)) }
+        ensures few { OnOk result (OnSome self.new.parser (length known.now ≤ most_theorems)) }
     {
         match line.end {
             LineEnd::Lf => self.take_bytes(alloc, known, line.bytes),
@@ -330,9 +330,9 @@ impl BlockParser {
         known: &Theorems,
         line: Line<'_>,
     ) -> Result<bool, AllocError>
-        ensures { IfOk result (λ b. b ≡ is_end known.now self.now.draft (view_of_line line.entry)) }
+        ensures { IfOk result (λ b. b ≡ is_end known.now self.now.parser (view_of_line line.entry)) }
     {
-        match &self.draft {
+        match &self.parser {
             Some(_) => Ok(false),
             None => is_last_line(alloc, known, line),
         }
@@ -340,28 +340,28 @@ impl BlockParser {
 
     /// Whether the theorem has ended.
     pub(crate) fn is_finished(&self) -> bool
-        ensures { result ≡ is_finished self.now.draft }
+        ensures { result ≡ is_finished self.now.parser }
     {
-        match &self.draft {
+        match &self.parser {
             None => false,
-            Some(draft) => matches!(draft.place, Section::Done),
+            Some(parser) => matches!(parser.place, Section::Done),
         }
     }
 
     /// The theorem, once it has ended.
     pub(crate) fn into_theorem(self, alloc: Global) -> Result<Theorem, AllocError>
-        requires { IsTrue (is_finished self.draft) }
-        ensures { IfOk result (λ t. finished self.draft self.kept ≡ Some (entry_of t)) }
+        requires { IsTrue (is_finished self.parser) }
+        ensures { IfOk result (λ t. finished self.parser self.kept ≡ Some (entry_of t)) }
     {
         let BlockParser {
             version: _,
-            draft,
+            parser,
             owed,
             kept,
         } = self;
         mem::drop(owed);
-        match draft {
-            Some(draft) => derived(alloc, draft, kept),
+        match parser {
+            Some(parser) => derived(alloc, parser, kept),
             None => unreachable!(),
         }
     }
@@ -387,10 +387,10 @@ fn is_last_line(alloc: Global, known: &Theorems, line: Line<'_>) -> Result<bool,
 }
 
 /// A theorem with its certificates at their lines.
-fn derived(alloc: Global, draft: TheoremParser, kept: AllCerts) -> Result<Theorem, AllocError>
-    ensures { IfOk result (λ t. entry_of t ≡ derived draft kept) }
+fn derived(alloc: Global, parser: TheoremParser, kept: AllCerts) -> Result<Theorem, AllocError>
+    ensures { IfOk result (λ t. entry_of t ≡ derived parser kept) }
 {
-    let mut theorem = draft.into_theorem(alloc);
+    let mut theorem = parser.into_theorem(alloc);
     let mut queue = kept.into_queue();
     match fill(alloc, &theorem.block, &mut queue) {
         Ok(block) => {

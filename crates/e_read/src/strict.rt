@@ -7,7 +7,7 @@ use e_line::RawLine;
 use e_literal::{Sort, is_same_sort};
 
 /// Whether the last of these objects has this sort.
-#[tactic(auto, using(crate::proofs::Ends::ends_behind))]
+#[tactic(auto, using(crate::proofs::Ends::ends_after))]
 fn ends_with(sorts: &[Sort], sort: Sort) -> bool
     ensures { result ≡ ends_with sorts.now sort }
 {
@@ -19,12 +19,12 @@ fn ends_with(sorts: &[Sort], sort: Sort) -> bool
 }
 
 /// Whether the line is no neighbour of one that has objects of its sort too.
-pub(crate) fn is_apart(draft: &TheoremParser, form: &RawLine) -> bool
-    ensures { result ≡ is_apart draft.now form.now }
+pub(crate) fn is_apart(parser: &TheoremParser, form: &RawLine) -> bool
+    ensures { result ≡ is_apart parser.now form.now }
 {
     match form {
-        RawLine::Declare(sort, _) => !ends_with(draft.declared.items(), *sort),
-        RawLine::Made(sort, _) => !ends_with(draft.made.items(), *sort),
+        RawLine::Declare(sort, _) => !ends_with(parser.declared.items(), *sort),
+        RawLine::Made(sort, _) => !ends_with(parser.made.items(), *sort),
         _ => true,
     }
 }

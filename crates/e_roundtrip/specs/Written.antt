@@ -30,8 +30,8 @@ AllCanBeVerified v known (p ∷ ps) = CanBeVerified v known p.0 p.1 × AllCanBeV
 
 -- after the verdict on a derivation: bad at the line that is not certified, or what those after it are judged
 abbrev pub judged_after : List ℕ → Result ℕ ℕ → Judgement → Judgement
-judged_after title (Ok n) behind = behind
-judged_after title (Err step) behind = Bad title step
+judged_after title (Ok n) after = after
+judged_after title (Err step) after = Bad title step
 
 -- what they are judged, one after another, up to the first step that is not certified
 abbrev pub judgement_of : List TitledStatement → List (TheoremView × Script) → Judgement

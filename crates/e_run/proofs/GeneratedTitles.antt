@@ -17,7 +17,7 @@ use Rattle.e_text.specs.Names.{is_digit}
 use Rattle.e_text.specs.Numerals.{is_numeral}
 use Rattle.e_text.specs.Tokens.{is_blank, has_bytes, is_token, tokens_of}
 use Rattle.e_text.proofs.FirstLine.{then_lines, split_more, parts_of, seen-checked}
-use Rattle.e_text.proofs.WholeLines.{spot_behind}
+use Rattle.e_text.proofs.WholeLines.{next_spot}
 use Rattle.e_text.proofs.TokenWords.{tokens_of-spaced}
 use Rattle.e_text.proofs.NumeralWords.{is_numeral-decimal}
 use Rattle.e_generate.specs.Generated.{numbers, point, segment, between, points_to, points_line, given_line, added, show_sum, show_less, apply_line, earlier, turned, run, cites, hence_line, last, statement, proof, theorem_text, generated_text}
@@ -134,7 +134,7 @@ feeds_open [] e = tt
 feeds_open (b ∷ bs) e = let p = and_parts (not (is_lf b)) (list_all (λ x. not (is_lf x)) bs) e in (not-true (is_lf b) p.0, feeds_open bs p.1)
 
 -- the first line of bytes that have a line feed
-lines_front : (w : Bounds) (at : Spot) (part rest : List ℕ) → IsOpen part → lines_of w at (part ++ 10 ∷ rest) ≡ then_lines (closed w at part) (lines_of w (spot_behind at (length part)) rest)
+lines_front : (w : Bounds) (at : Spot) (part rest : List ℕ) → IsOpen part → lines_of w at (part ++ 10 ∷ rest) ≡ then_lines (closed w at part) (lines_of w (next_spot at (length part)) rest)
 lines_front w at part rest h =
     let more = parts_of rest in
     let split : slice_split is_lf (part ++ 10 ∷ rest) ≡ part ∷ slice_split is_lf rest = slice_split_at is_lf part 10 rest (All-from_recursion (λ b. is_lf b ≡ false) part (feeds_open part h)) refl in
@@ -150,7 +150,7 @@ closed_bytes w at part l e = ap (λ (x : LineView). x.bytes) (sym (seen-checked 
 
 adds_line : (part : List ℕ) (k : ℕ) → IsOpen part → one_if (has_title (tokens_of (ended part []).0)) ≡ k → Adds k (part ++ 10 ∷ [])
 adds_line part k h c = λ w at rest good.
-    let next = spot_behind at (length part) in
+    let next = next_spot at (length part) in
     let e = ap (λ (t : List ℕ). lines_of w at t) (append_assoc part (10 ∷ []) rest) ∙ lines_front w at part rest h in
     let split : HaveNoFault (then_lines (closed w at part) (lines_of w next rest)) = subst HaveNoFault e good in
     (next, good_rest (closed w at part) (lines_of w next rest) split, ap titles e ∙ titles_by (closed w at part) (lines_of w next rest) (ended part []).0 k (closed_bytes w at part) c split)

@@ -6,7 +6,7 @@ use Rattle.std.proofs.lemmas.List.{append-nil, nil_from_length}
 use Rattle.e_io.specs.Bytes.{Reads, Grew}
 use Rattle.e_text.specs.Lines.{Bounds, Spot, HaveNoFault, IsClosed, IsOpen, lines_of, spot_after}
 use Rattle.e_text.proofs.Fronts.{lines_of-front}
-use Rattle.e_text.proofs.ClosedTexts.{closed_both, closed_behind, then_good, good_both, fault_is_last, then_some}
+use Rattle.e_text.proofs.ClosedTexts.{closed_both, closed_after, then_good, good_both, fault_is_last, then_some}
 use Rattle.e_text.proofs.WholeLines.{lines_of-take}
 use Rattle.e_book.specs.declared.coming.Coming.{Coming}
 use Rattle.e_book.specs.Definitions.{BookItem}
@@ -143,7 +143,7 @@ read_open read piece ended rest empty old b u v new is test empty_is items line 
 -- the first part, which has bytes, is closed
 pub closed_part : (before items bytes ended : List ℕ) (empty : Bool) → items ≡ before ++ ended → ended ≡ bytes → empty ≡ eqb (length ended) 0 → empty ≡ false → IsClosed bytes → IsClosed items
 closed_part before items bytes ended empty is front test empty_is h =
-    subst IsClosed (sym is) (closed_behind before ended (some_of (length ended) (sym test ∙ empty_is)) (subst IsClosed (sym front) h))
+    subst IsClosed (sym is) (closed_after before ended (some_of (length ended) (sym test ∙ empty_is)) (subst IsClosed (sym front) h))
 
 -- the second part comes after the first
 pub read_both : (read piece ended rest : List ℕ) (old : Option (List ℕ)) (b : Book) (u v : Untaken) (new : Option (List ℕ)) → piece ≡ ended ++ rest

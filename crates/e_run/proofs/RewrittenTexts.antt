@@ -17,10 +17,10 @@ use Rattle.e_trim.specs.Trimmable.{IsTrimmable}
 use Rattle.e_verify.specs.Verdicts.{IsVerifiable}
 use Rattle.e_judgement.specs.declared.judgement.Judgement.{Judgement}
 use Rattle.e_judgement.specs.declared.judgement.Judgement.TheVariants as judgements
-use Rattle.e_judgement.specs.Judged.{Rest, with_theorem, ReadsNext, IsCertified, Passes, Closes, JudgedBehindHead, version_of, lines_of_text}
+use Rattle.e_judgement.specs.Judged.{Rest, with_theorem, ReadsNext, IsCertified, Passes, Closes, JudgedAfterHead, version_of, lines_of_text}
 use Rattle.e_judgement.specs.Steps.{IsNext, version_at, Begins as Starts}
 use Rattle.e_judgement.proofs.Passing.{passes_more}
-use Rattle.e_judgement.proofs.OneJudgement.{one_behind_head}
+use Rattle.e_judgement.proofs.OneJudgement.{one_after_head}
 use Rattle.e_roundtrip.proofs.Texts.VerifiedTexts.{verified_is_written}
 use Rattle.e_run.specs.declared.command.Job.{Job}
 use Rattle.e_run.specs.declared.command.Job.TheVariants.{Upgrade, Trim, Uses}
@@ -30,7 +30,7 @@ use Rattle.e_run.specs.LastLines.{no_memory_line}
 use Rattle.e_run.specs.Answers.{IsReadFault, IsWriteFault}
 use Rattle.e_run.specs.Proofs.{RewroteProofs}
 use Rattle.e_run.specs.VerifierAnswers.{IsFailure}
-use Rattle.e_run.specs.Rewrites.{head_of, block_of, blocks_of, line_of, verified_answer, answer_of, written_with, read_as, AreFirstBehindHead, AreFirst, EndsBehindHead, EndsAfter, RewriteAnswer, Rewrites, RewritesText, JudgesLinesFor, JudgesFor, AnswersRewrite}
+use Rattle.e_run.specs.Rewrites.{head_of, block_of, blocks_of, line_of, verified_answer, answer_of, written_with, read_as, AreFirstAfterHead, AreFirst, EndsAfterHead, EndsAfter, RewriteAnswer, Rewrites, RewritesText, JudgesLinesFor, JudgesFor, AnswersRewrite}
 use Rattle.e_run.specs.inner.BookResults.{Closes as ClosesWith}
 use Rattle.e_run.specs.declared.blocks.RunError.{RunError}
 use Rattle.e_run.specs.declared.blocks.RunError.TheVariants as errors
@@ -129,7 +129,7 @@ wrote_as job End End' Are Are' old new (Err errors.NoMemory) f g h = (h.0, g h.0
 wrote_as job End End' Are Are' old new (Err errors.WriteFault) f g h = (h.0, g h.0 h.1, h.2)
 wrote_as job End End' Are Are' old new (Err errors.ReadFault) f g h = h
 
--- behind a head line that the command takes, what was written of the theorems was written of the text
+-- after a head line that the command takes, what was written of the theorems was written of the text
 pub head_then : (job : Job) (text : List ℕ) (lines : Rest) (after : Ahead) (head : Option Version) (v : Version) (old new : Option (List ℕ)) (r : Result Judgement RunError)
     → lines ≡ lines_of_text text → Starts lines after head → read_as job head ≡ Some v → TheoremsWritten job v (last_of after) after.lines old new r → BlocksWritten job text old new r
 head_then job text lines after head v old new r is starts e k =
@@ -138,8 +138,8 @@ head_then job text lines after head v old new r is starts e k =
     let says : version_of t.0 ≡ head = sym (ap version_at t.1) ∙ sym starts.head in
     let here : read_as job (version_of t.0) ≡ Some v = ap (read_as job) says ∙ e in
     wrote_as job (ComeAll v (last_of after) after.lines) (EndsAfter job (lines_of_text text)) (ComeFirst v (last_of after) after.lines) (AreFirst job (lines_of_text text)) old new r
-    (λ ts j w. subst (λ (x : Rest). EndsAfter job x ts j) (sym at) (subst (λ (o : Option Version). EndsBehindHead o after.lines ts j) (sym here) (all_at t.2 ts j w)))
-    (λ ts w. subst (λ (x : Rest). AreFirst job x ts) (sym at) (subst (λ (o : Option Version). AreFirstBehindHead o after.lines ts) (sym here) (first_at t.2 ts w)))
+    (λ ts j w. subst (λ (x : Rest). EndsAfter job x ts j) (sym at) (subst (λ (o : Option Version). EndsAfterHead o after.lines ts j) (sym here) (all_at t.2 ts j w)))
+    (λ ts w. subst (λ (x : Rest). AreFirst job x ts) (sym at) (subst (λ (o : Option Version). AreFirstAfterHead o after.lines ts) (sym here) (first_at t.2 ts w)))
     k
   where
     all_at : after.line ≡ 2 → (ts : List TheoremView) (j : Judgement) → ComeAll v (last_of after) after.lines ts j → ComeAll v (2 + length after.lines) after.lines ts j
@@ -152,7 +152,7 @@ head_then job text lines after head v old new r is starts e k =
 headless : (job : Job) (lines : Rest) → read_as job (version_at lines) ≡ None → EndsAfter job lines [] (judgements.Garbled 1)
 headless job [] h = (refl, refl)
 headless job (Err f ∷ lines) h = (refl, refl)
-headless job (Ok l ∷ lines) h = subst (λ (o : Option Version). EndsBehindHead o lines [] (judgements.Garbled 1)) (sym h) (refl, refl)
+headless job (Ok l ∷ lines) h = subst (λ (o : Option Version). EndsAfterHead o lines [] (judgements.Garbled 1)) (sym h) (refl, refl)
 
 pub not_begun : (job : Job) (text : List ℕ) (lines : Rest) (after : Ahead) (head : Option Version) (old : Option (List ℕ))
     → lines ≡ lines_of_text text → Starts lines after head → read_as job head ≡ None → BlocksWritten job text old old (Ok (judgements.Garbled 1))
@@ -165,7 +165,7 @@ not_begun job text lines after head old is starts e =
 none_first : (job : Job) (text : List ℕ) → AreFirst job (lines_of_text text) []
 none_first job text = by (lines_of_text text)
   where
-    after : (o : Option Version) (lines : Rest) → AreFirstBehindHead o lines []
+    after : (o : Option Version) (lines : Rest) → AreFirstAfterHead o lines []
     after None lines = refl
     after (Some v) lines = ([], lines, (refl, refl))
 
@@ -178,7 +178,7 @@ none_first job text = by (lines_of_text text)
 first_of_all : (job : Job) (text : List ℕ) (ts : List TheoremView) (j : Judgement) → EndsAfter job (lines_of_text text) ts j → AreFirst job (lines_of_text text) ts
 first_of_all job text ts j h = by (lines_of_text text) h
   where
-    after : (o : Option Version) (lines : Rest) → EndsBehindHead o lines ts j → AreFirstBehindHead o lines ts
+    after : (o : Option Version) (lines : Rest) → EndsAfterHead o lines ts j → AreFirstAfterHead o lines ts
     after None lines k = k.0
     after (Some v) lines k = (k.0, k.1, k.2)
 
@@ -302,7 +302,7 @@ no_write_fault job (judgements.Garbled line) answer e h = subst IsWriteFault e h
 judged_for : (job : Job) (text : List ℕ) (ts : List TheoremView) (j : Judgement) → EndsAfter job (lines_of_text text) ts j → JudgesFor job text j
 judged_for job text ts j h = by (lines_of_text text) h
   where
-    after : (o : Option Version) (lines : Rest) → EndsBehindHead o lines ts j → JudgedBehindHead o lines j
+    after : (o : Option Version) (lines : Rest) → EndsAfterHead o lines ts j → JudgedAfterHead o lines j
     after None lines k = k.1
     after (Some v) lines k = record { theorems = ts; known = k.0; rest = k.1; passes = k.2; closes = k.3 }
 
@@ -318,7 +318,7 @@ one_for job text a b h k = by (lines_of_text text) h k
     by : (lines : Rest) → JudgesLinesFor job lines a → JudgesLinesFor job lines b → a ≡ b
     by [] h k = h ∙ sym k
     by (Err f ∷ lines) h k = h ∙ sym k
-    by (Ok l ∷ lines) h k = one_behind_head (read_as job (version_of l)) lines a b h k
+    by (Ok l ∷ lines) h k = one_after_head (read_as job (version_of l)) lines a b h k
 
 -- where the answer is that of a judgement that the text has for the command, it is that of its judgement
 same_end : (job : Job) (text : List ℕ) (ts : List TheoremView) (a j : Judgement) → EndsAfter job (lines_of_text text) ts a → JudgesFor job text j → answer_of job a ≡ answer_of job j

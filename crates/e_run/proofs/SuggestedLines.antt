@@ -35,7 +35,7 @@ text_both xs ys = flat_map-append (λ (line : List ℕ). line ++ 10 ∷ []) xs y
 
 -- ---- one theorem
 
--- whether it is asked is told by what it states
+-- what it states decides whether it is asked
 asked_by : (h : TitledStatement) (t : StatementView) → stated h.statement ≡ t → is_asked_for h ≡ nat_le (length t.declared) 6
 asked_by h t e = ap (λ (u : StatementView). nat_le (length u.declared) 6) e
 

@@ -372,7 +372,7 @@ whole_kind (InTheorem o n) i e = ended_theorem (ended o) i e
 whole_kind (InDefinition h n) i e = absurd cc
 whole_kind (Defined t) i e = let j : OfNotion t ≡ i = cc in ap is_theorem j
 
--- the count up to the end, and the lines behind it
+-- the count up to the end, and the lines after it
 pub record Counts (s : Option Coming) (lines : Rest) (i : BookItem) (rest : Rest) : Type 0 where
   pub count : titles lines ≡ begun s i + titles rest
   pub same : IsOf s i

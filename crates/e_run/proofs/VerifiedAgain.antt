@@ -11,7 +11,7 @@ use Rattle.e_book.specs.TheoremViews.{TheoremView}
 use Rattle.e_book.proofs.Fitting.{small_statement, one_more_stated}
 use Rattle.e_spell.specs.Spelling.{spelled}
 use Rattle.e_judgement.specs.declared.judgement.Judgement.TheVariants.{Verified, Bad, Garbled}
-use Rattle.e_judgement.specs.Judged.{Rest, with_theorem, ReadsNext, IsCertified, Passes, Closes, JudgedBehind, number_of, version_of, lines_of_text, JudgesText}
+use Rattle.e_judgement.specs.Judged.{Rest, with_theorem, ReadsNext, IsCertified, Passes, Closes, JudgedAfter, number_of, version_of, lines_of_text, JudgesText}
 use Rattle.e_roundtrip.specs.Written as texts
 use Rattle.e_roundtrip.specs.Written.{CanBeVerified, AllCanBeVerified}
 use Rattle.e_roundtrip.proofs.Texts.ReadIsSpelled.{read_is_formed_so}
@@ -19,7 +19,7 @@ use Rattle.e_roundtrip.proofs.Texts.WrittenIsVerified.{written_is_verified}
 use Rattle.e_run.specs.declared.command.Job.{Job}
 use Rattle.e_run.specs.declared.command.Job.TheVariants.{Upgrade, Trim, Uses}
 use Rattle.e_run.specs.Answers.{IsVerifiedText}
-use Rattle.e_run.specs.Rewrites.{block_of, blocks_of, head_of, verified_end, written_with, read_as, EndsAfter, EndsBehindHead}
+use Rattle.e_run.specs.Rewrites.{block_of, blocks_of, head_of, verified_end, written_with, read_as, EndsAfter, EndsAfterHead}
 use Rattle.e_run.specs.inner.Rewriting.{IsReadFor, IsOfSecond, AreOfSecond}
 
 -- ---- the version
@@ -98,13 +98,13 @@ never_bad n title step e = absurd cc
 same_count : (n k : ℕ) → Verified n ≡ Verified k → n ≡ k
 same_count n k e = cc
 
-count_behind : (n k : ℕ) (rest : Rest) → Verified n ≡ JudgedBehind k rest → n ≡ k
-count_behind n k [] e = same_count n k e
-count_behind n k (x ∷ xs) e = absurd (never_garbled n (number_of x) e)
+count_after : (n k : ℕ) (rest : Rest) → Verified n ≡ JudgedAfter k rest → n ≡ k
+count_after n k [] e = same_count n k e
+count_after n k (x ∷ xs) e = absurd (never_garbled n (number_of x) e)
 
 -- a text that is verified has as many theorems as are known at its end
 verified_count : (v : Version) (last n : ℕ) (known : List TitledStatement) (rest : Rest) → Closes v last known rest (Verified n) → n ≡ length known
-verified_count v last n known rest (inl e) = count_behind n (length known) e.0 e.2
+verified_count v last n known rest (inl e) = count_after n (length known) e.0 e.2
 verified_count v last n known rest (inr (inl e)) = absurd (never_garbled n e.0 e.2)
 verified_count v last n known rest (inr (inr e)) = absurd (never_bad n e.0.title e.2 e.5)
 
@@ -130,7 +130,7 @@ verified_again job w f can same head end text n ts h second = by (lines_of_text 
     counted : (k : ℕ) → length ts ≡ k → IsVerifiedText (length ts) (written_with job ts (verified_end job (length ts))) → IsVerifiedText k (written_with job ts (verified_end job k))
     counted k e x = subst (λ (m : ℕ). IsVerifiedText m (written_with job ts (verified_end job m))) e x
 
-    after : (o : Option Version) (lines : Rest) → ((v : Version) → o ≡ Some v → IsReadFor job v) → EndsBehindHead o lines ts (Verified n) → IsVerifiedText n (written_with job ts (verified_end job n))
+    after : (o : Option Version) (lines : Rest) → ((v : Version) → o ≡ Some v → IsReadFor job v) → EndsAfterHead o lines ts (Verified n) → IsVerifiedText n (written_with job ts (verified_end job n))
     after None lines taken k = absurd (never_garbled n 1 k.1)
     after (Some v) lines taken k =
         counted n (omega (arith, known_length v (2 + length lines) [] lines ts k.0 k.1 k.2, verified_count v (2 + length lines) n k.0 k.1 k.3))

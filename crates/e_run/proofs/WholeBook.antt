@@ -9,7 +9,7 @@ use Rattle.e_text.specs.declared.line.LineFault.{LineFault}
 use Rattle.e_text.specs.Tokens.{tokens_of}
 use Rattle.e_text.specs.Lines.{is_lf, Bounds, Spot, LineView, HaveNoFault, checked, closed, ended, lines_of}
 use Rattle.e_text.proofs.FirstLine.{then_lines}
-use Rattle.e_text.proofs.WholeLines.{lines_of-closed, lines_of-open, spot_behind}
+use Rattle.e_text.proofs.WholeLines.{lines_of-closed, lines_of-open, next_spot}
 use Rattle.e_line.specs.declared.fault.BookFault.{BookFault}
 use Rattle.e_names.specs.declared.known.Known.{Known}
 use Rattle.e_line.specs.Reading.{◌>>=◌}
@@ -60,7 +60,7 @@ pub by_skip : (P : Type 0) (b : Bool) (r q a : Answer) → cond b r q ≡ a → 
 by_skip P true r q a h skipped read = skipped refl h
 by_skip P false r q a h skipped read = read h
 
--- where something is read, the lines are good if those behind it are
+-- where something is read, the lines are good if those after it are
 good_before : (known : Known) (last : ℕ) (s : Option Coming) (lines : Rest) (i : BookItem) (rest : Rest) → item_from known last s lines ≡ found i rest → HaveNoFault rest → HaveNoFault lines
 good_before known last s [] i rest h good = absurd (at_end_found last s i rest h)
 good_before known last s (Err f ∷ lines) i rest h good = absurd cc
@@ -126,9 +126,9 @@ short_by_size (suc size) w at (b ∷ bs) le within good =
           let after = drop (n + 1) text in
           let split = subst HaveNoFault (lines_of-closed w at text lt) good in
           elim (cases_lt w.most (at.before + length part + 1)) [
-            | inl far ↦ absurd (not_passed w at (ended part []).0 (ended part []).1 (at.before + length part + 1) (lines_of w (spot_behind at (length part)) after) far split)
+            | inl far ↦ absurd (not_passed w at (ended part []).0 (ended part []).1 (at.before + length part + 1) (lines_of w (next_spot at (length part)) after) far split)
             | inr near ↦
-                let more = short_by_size size w (spot_behind at (length part)) after (omega (arith, length-drop (n + 1) text)) near (good_rest (closed w at part) (lines_of w (spot_behind at (length part)) after) split) in
+                let more = short_by_size size w (next_spot at (length part)) after (omega (arith, length-drop (n + 1) text)) near (good_rest (closed w at part) (lines_of w (next_spot at (length part)) after) split) in
                 omega (arith, more, length-drop (n + 1) text)
           ]
       | inr le' ↦

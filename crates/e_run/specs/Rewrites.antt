@@ -11,7 +11,7 @@ use Rattle.e_trim.specs.Trimmed.{trimmed}
 use Rattle.e_trim.specs.Applied.{applied_by}
 use Rattle.e_judgement.specs.declared.judgement.Judgement.{Judgement}
 use Rattle.e_judgement.specs.declared.judgement.Judgement.TheVariants as judgements
-use Rattle.e_judgement.specs.Judged.{Rest, with_theorem, Passes, Closes, version_of, JudgedBehindHead, lines_of_text}
+use Rattle.e_judgement.specs.Judged.{Rest, with_theorem, Passes, Closes, version_of, JudgedAfterHead, lines_of_text}
 use Rattle.e_run.specs.declared.command.Job.{Job}
 use Rattle.e_run.specs.declared.command.Job.TheVariants.{Upgrade, Trim, Uses}
 use Rattle.e_run.specs.declared.status.Status.{Status}
@@ -100,25 +100,25 @@ read_as Uses head = head
 abbrev pub Begins : Version → Rest → List TheoremView → List TitledStatement → Rest → Type 0
 Begins v lines ts known rest = Passes v (2 + length lines) [] lines ts known rest
 
-abbrev pub AreFirstBehindHead : Option Version → Rest → List TheoremView → Type 0
-AreFirstBehindHead None lines ts = ts ≡ []
-AreFirstBehindHead (Some v) lines ts = (known : List TitledStatement) × (rest : Rest) × Begins v lines ts known rest
+abbrev pub AreFirstAfterHead : Option Version → Rest → List TheoremView → Type 0
+AreFirstAfterHead None lines ts = ts ≡ []
+AreFirstAfterHead (Some v) lines ts = (known : List TitledStatement) × (rest : Rest) × Begins v lines ts known rest
 
 -- some theorems of a text, the first ones; without a head line that the command takes it has none
 abbrev pub AreFirst : Job → Rest → List TheoremView → Type 0
 AreFirst job [] ts = ts ≡ []
 AreFirst job (Err f ∷ lines) ts = ts ≡ []
-AreFirst job (Ok l ∷ lines) ts = AreFirstBehindHead (read_as job (version_of l)) lines ts
+AreFirst job (Ok l ∷ lines) ts = AreFirstAfterHead (read_as job (version_of l)) lines ts
 
-abbrev pub EndsBehindHead : Option Version → Rest → List TheoremView → Judgement → Type 0
-EndsBehindHead None lines ts j = (ts ≡ []) × (j ≡ judgements.Garbled 1)
-EndsBehindHead (Some v) lines ts j = (known : List TitledStatement) × (rest : Rest) × Begins v lines ts known rest × Closes v (2 + length lines) known rest j
+abbrev pub EndsAfterHead : Option Version → Rest → List TheoremView → Judgement → Type 0
+EndsAfterHead None lines ts j = (ts ≡ []) × (j ≡ judgements.Garbled 1)
+EndsAfterHead (Some v) lines ts j = (known : List TitledStatement) × (rest : Rest) × Begins v lines ts known rest × Closes v (2 + length lines) known rest j
 
 -- all theorems of a text before the place where it ends so; without a head line that the command takes it is garbled at line 1
 abbrev pub EndsAfter : Job → Rest → List TheoremView → Judgement → Type 0
 EndsAfter job [] ts j = (ts ≡ []) × (j ≡ judgements.Garbled 1)
 EndsAfter job (Err f ∷ lines) ts j = (ts ≡ []) × (j ≡ judgements.Garbled 1)
-EndsAfter job (Ok l ∷ lines) ts j = EndsBehindHead (read_as job (version_of l)) lines ts j
+EndsAfter job (Ok l ∷ lines) ts j = EndsAfterHead (read_as job (version_of l)) lines ts j
 
 -- ---- what is due
 
@@ -160,7 +160,7 @@ RewritesText job left old new answer = (text : List ℕ) × IsAllOf left text ×
 abbrev pub JudgesLinesFor : Job → Rest → Judgement → Type 0
 JudgesLinesFor job [] j = j ≡ judgements.Garbled 1
 JudgesLinesFor job (Err f ∷ lines) j = j ≡ judgements.Garbled 1
-JudgesLinesFor job (Ok l ∷ lines) j = JudgedBehindHead (read_as job (version_of l)) lines j
+JudgesLinesFor job (Ok l ∷ lines) j = JudgedAfterHead (read_as job (version_of l)) lines j
 
 -- and so has the text
 abbrev pub JudgesFor : Job → List ℕ → Judgement → Type 0

@@ -4,7 +4,7 @@ ghost use Rattle.std.specs.Prelude.{◌≡◌, ◌≤◌, ◌<◌, ◌^◌, ◌+
 ghost use Rattle.e_io.specs.Bytes.{Rose};
 ghost use Rattle.e_book.specs.Grammar.{last_line};
 ghost use Rattle.e_names.specs.Titled.{defines};
-ghost use Rattle.e_book.specs.Definitions.{OfTheorem, view_of, item_from, IsGoodItem};
+ghost use Rattle.e_book.specs.Definitions.{OfTheorem, view_of, item_from, HasWellFormedView};
 ghost use Rattle.e_book.specs.TheoremViews.{entry_of};
 ghost use Rattle.e_book.specs.HasSpelling.{HasSpelling};
 ghost use Rattle.e_run.specs.Outcome.{Rest, end_line_number};
@@ -91,7 +91,7 @@ impl Book {
     ) -> Result<Option<BookResult>, RunError>
         requires book { IsBook self.old }
         requires begins { self.old.reading.coming ≡ None }
-        requires good { IsGoodItem self.old.known item }
+        requires good { HasWellFormedView self.old.known item }
         ensures handles { (lines rest after : Rest) (before : Option (List ℕ)) → History lines before self.old.known rest (K.written sink.old) self.old.steps → item_from self.old.known (end_line_number lines) None rest ≡ Ok (Some (view_of item, after)) → Handles lines before after result self.new (K.written sink.new) }
         ensures book { IfOk result (λ e. IfNone e (IsBook self.new)) }
         ensures begins { IfOk result (λ e. IfNone e (self.new.reading.coming ≡ None)) }

@@ -6,7 +6,7 @@ ghost use Rattle.e_io.specs.Bytes.{Rose};
 ghost use Rattle.e_theorem.specs.Statements.{stated};
 ghost use Rattle.e_deriv.specs.Script.{script_of};
 ghost use Rattle.e_deriv.specs.Fitting.{IsFitting, is_small_statement};
-ghost use Rattle.e_book.specs.Definitions.{OfTheorem, view_of, IsGood, IsGoodItem, IsFittingItem};
+ghost use Rattle.e_book.specs.Definitions.{OfTheorem, view_of, IsWellFormedItem, HasWellFormedView, IsFittingItem};
 ghost use Rattle.e_book.specs.TheoremViews.{entry_of};
 ghost use Rattle.e_names.specs.TitledStatements.{stated_by};
 ghost use Rattle.e_names.specs.Taken.{nothing_known};
@@ -180,7 +180,7 @@ fn pass_theorem(
     step: u32,
 ) -> Result<Option<Answer>, AllocError>
     requires small { IsTrue (list_all is_small_statement (stated_by known.old.theorems)) }
-    requires good { IsGood known.old (OfTheorem (entry_of theorem)) }
+    requires good { IsWellFormedItem known.old (OfTheorem (entry_of theorem)) }
     requires fitting { IsFitting (stated_by known.old.theorems) (stated theorem.statement) (script_of theorem.block) }
     requires states { IsTrue (is_small_statement (stated theorem.statement)) }
     requires first { 1 ≤ step }
@@ -212,7 +212,7 @@ fn pass_item(
     step: u32,
 ) -> Result<Option<Answer>, AllocError>
     requires small { IsTrue (list_all is_small_statement (stated_by known.old.theorems)) }
-    requires good { IsGoodItem known.old item }
+    requires good { HasWellFormedView known.old item }
     requires fitting { IsFittingItem known.old item }
     requires first { 1 ≤ step }
     ensures { IfOk result (PassesNext known.old (view_of item) title step known.new) }

@@ -82,7 +82,7 @@ once_push ts t o h c l = elim (cases_eq c (length ts)) [
       ∙ place_push ts (get_or ts c Right) t (omega (arith, o c m, m)) ∙ o c m)
 ]
 
--- ---- further terms behind the first ones
+-- ---- further terms after the first ones
 
 pub continues_same : (ts : List Term) → Continues ts ts
 continues_same ts = record { longer = omega arith; places = λ t h. refl }

@@ -9,7 +9,7 @@ use borrow.Author.Differences.{abs_is}
 use Rattle.e_simplex.specs.declared.constraints.Constraint.{Constraint}
 use Rattle.e_simplex.specs.Entries.{AllSmall}
 use Rattle.e_simplex.specs.Constraints.{IsSolution, AllFormsWithin}
-use Rattle.e_simplex.specs.inner.Multiple.{AddedTo, IsGood}
+use Rattle.e_simplex.specs.inner.Multiple.{AddedTo, NoneIsZero}
 use Rattle.e_simplex.specs.inner.Tried.{AreValues}
 use Rattle.e_simplex.specs.inner.Points.{IsPoint}
 use Rattle.e_literal.proofs.Arith.{sums}
@@ -45,7 +45,7 @@ pub point_step : (w : ℕ) (constraints forms : List Constraint) (k : ℕ) (valu
     → k < length forms → k ≤ 4096 → 0 < t → t ≤ k + 1 → IsPoint w constraints forms k values form_values → get_or form_values k (pos 0) ≡ pos 0
     → IsSolution w constraints found → AllSmall found → AreValues (length forms) forms found second
     → ((j : ℕ) → j < length forms → unsigned_abs (get_or second j (pos 0)) < 2 ^ 64) → get_or second k (pos 0) ≢ pos 0
-    → IsGood form_values second k t → AddedTo w values found t values2 → AddedTo (length forms) form_values second t form_values2 → IsPoint w constraints forms (k + 1) values2 form_values2
+    → NoneIsZero form_values second k t → AddedTo w values found t values2 → AddedTo (length forms) form_values second t form_values2 → IsPoint w constraints forms (k + 1) values2 form_values2
 point_step w constraints forms k values form_values found second t values2 form_values2 wl wf here few z lt h none sol small sec bound some good av ah = record {
   solution = combined_solution w constraints values found values2 t wl h.solution sol av;
   bounded = λ c l.

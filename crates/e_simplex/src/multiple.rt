@@ -2,7 +2,7 @@
 
 ghost use Rattle.std.specs.Prelude.{◌≡◌, ◌≢◌, ℕ, ◌+◌, ◌^◌, ◌<◌, ◌≤◌, pos, length, get_or};
 ghost use Rattle.std.specs.Prelude.{unsigned_abs, MatchOption, IfOk};
-ghost use Rattle.e_simplex.specs.inner.Multiple.{IsBad, IsGood, added, AddedTo};
+ghost use Rattle.e_simplex.specs.inner.Multiple.{IsBad, NoneIsZero, added, AddedTo};
 
 use std::alloc::{AllocError, Global};
 
@@ -26,7 +26,7 @@ fn bad_place(first: &[i128], second: &[i128], k: usize, t: usize) -> Option<usiz
     requires small_first { (j : ℕ) → j < k → unsigned_abs (get_or first.now j (pos 0)) < 2 ^ 90 }
     requires small_second { (j : ℕ) → j < k → unsigned_abs (get_or second.now j (pos 0)) < 2 ^ 65 }
     ensures { MatchOption result
-        (IsGood first.now second.now k t) (IsBad first.now second.now k t) }
+        (NoneIsZero first.now second.now k t) (IsBad first.now second.now k t) }
 {
     for j in 0..k {
         if added_at(first, second, t, j) == 0 {
@@ -47,7 +47,7 @@ pub fn least_multiple(first: &[i128], second: &[i128], k: usize) -> usize
     requires none_before { (j : ℕ) → j < k → get_or first.now j (pos 0) ≢ pos 0 }
     ensures some { 0 < result }
     ensures few { result ≤ k + 1 }
-    ensures good { IsGood first.now second.now k result }
+    ensures good { NoneIsZero first.now second.now k result }
 {
     for t in 1..k + 2 {
         match bad_place(first, second, k, t) {

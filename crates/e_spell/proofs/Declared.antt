@@ -57,33 +57,33 @@ cut : (b : Bool) (w name rest : List ℕ) → ((if b then [] else 10 ∷ w) ++ 3
 cut true w name rest = refl
 cut false w name rest = refl
 
--- the group of an object, and what stands in it behind the object
+-- the group of an object, and what stands in it after the object
 record First (role : Role) (u : Sort) (name : List ℕ) (gs : List Group) : Type 0 where
   names : List (List ℕ)
   rest : List Group
   is : grouped_before u name gs ≡ group u (name ∷ names) ∷ rest
-  behind : rest_after role u gs ≡ spaced names ++ (10 ∷ groups_text role rest)
+  after : rest_after role u gs ≡ spaced names ++ (10 ∷ groups_text role rest)
 
 first_by : (b : Bool) (role : Role) (u : Sort) (name : List ℕ) (g : Group) (gs : List Group) → same_sort u g.sort ≡ b → First role u name (g ∷ gs)
 first_by true role u name g gs e = record {
   names = g.names;
   rest = gs;
   is = rw e (ap (λ (s : Sort). group s (name ∷ g.names) ∷ gs) (sym (same_sort_is u g.sort e)));
-  behind = rw e refl;
+  after = rw e refl;
 }
-first_by false role u name g gs e = record { names = []; rest = g ∷ gs; is = rw e refl; behind = rw e refl }
+first_by false role u name g gs e = record { names = []; rest = g ∷ gs; is = rw e refl; after = rw e refl }
 
 first : (role : Role) (u : Sort) (name : List ℕ) (gs : List Group) → First role u name gs
-first role u name [] = record { names = []; rest = []; is = refl; behind = refl }
+first role u name [] = record { names = []; rest = []; is = refl; after = refl }
 first role u name (g ∷ gs) = first_by (same_sort u g.sort) role u name g gs refl
 
--- an object behind another one
-behind : (role : Role) (t u : Sort) (name : List ℕ) (gs : List Group) → rest_after role t (grouped_before u name gs) ≡ (opening role (Some t) u ++ 32 ∷ name) ++ rest_after role u gs
-behind role t u name gs =
+-- an object after another one
+after : (role : Role) (t u : Sort) (name : List ℕ) (gs : List Group) → rest_after role t (grouped_before u name gs) ≡ (opening role (Some t) u ++ 32 ∷ name) ++ rest_after role u gs
+after role t u name gs =
     let f = first role u name gs in
     let line = groups_text role (group u (name ∷ f.names) ∷ f.rest) in
     let here = 32 ∷ (name ++ rest_after role u gs) in
-    let same : 32 ∷ ((name ++ spaced f.names) ++ (10 ∷ groups_text role f.rest)) ≡ here = ap (λ (x : List ℕ). 32 ∷ x) (append_assoc name (spaced f.names) (10 ∷ groups_text role f.rest) ∙ sym (ap (λ (x : List ℕ). name ++ x) f.behind)) in
+    let same : 32 ∷ ((name ++ spaced f.names) ++ (10 ∷ groups_text role f.rest)) ≡ here = ap (λ (x : List ℕ). 32 ∷ x) (append_assoc name (spaced f.names) (10 ∷ groups_text role f.rest) ∙ sym (ap (λ (x : List ℕ). name ++ x) f.after)) in
     let own : line ≡ (role_words role u ++ 32 ∷ name) ++ rest_after role u gs = sym (ap (groups_text role) f.is) ∙ before role u name gs in
     ap (rest_after role t) f.is ∙ either (same_sort t u) (32 ∷ ((name ++ spaced f.names) ++ (10 ∷ groups_text role f.rest))) here (10 ∷ line) same
     ∙ ap (λ (x : List ℕ). if same_sort t u then here else 10 ∷ x) own ∙ sym (cut (same_sort t u) (role_words role u) name (rest_after role u gs))
@@ -91,7 +91,7 @@ behind role t u name gs =
 rest_text : (role : Role) (ns : Names) (t : Sort) (os : List Obj) → objects_rest role ns (Some t) os ≡ rest_after role t (grouped ns os)
 rest_text role ns t [] = refl
 rest_text role ns t (o ∷ os) =
-    ap (λ (x : List ℕ). (opening role (Some t) o.sort ++ 32 ∷ name_of_object ns o) ++ x) (rest_text role ns o.sort os) ∙ sym (behind role t o.sort (name_of_object ns o) (grouped ns os))
+    ap (λ (x : List ℕ). (opening role (Some t) o.sort ++ 32 ∷ name_of_object ns o) ++ x) (rest_text role ns o.sort os) ∙ sym (after role t o.sort (name_of_object ns o) (grouped ns os))
 
 groups_of : (role : Role) (ns : Names) (os : List Obj) → objects_text role ns os ≡ groups_text role (grouped ns os)
 groups_of role ns [] = refl

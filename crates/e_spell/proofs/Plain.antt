@@ -55,7 +55,7 @@ lines_append : (fs gs : List RawLine) → map line_of (fs ++ gs) ≡ map line_of
 lines_append [] gs = refl
 lines_append (f ∷ fs) gs = ap (λ (x : List (List ℕ)). line_of f ∷ x) (lines_append fs gs)
 
--- lines behind certificates
+-- lines after certificates
 certified_stay : (ns : Names) (cs : List Cert) (lines : List (List ℕ)) → filter is_plain (certs_lines ns cs ++ lines) ≡ filter is_plain lines
 certified_stay ns cs lines = filter-append is_plain (certs_lines ns cs) lines ∙ ap (λ (x : List (List ℕ)). x ++ filter is_plain lines) (certs_go ns cs)
 

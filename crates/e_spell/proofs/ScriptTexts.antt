@@ -21,7 +21,7 @@ use Rattle.e_names.specs.Canonical.{hence_form, let_form, apply_form, claim_form
 use Rattle.e_book.specs.Canonical.{text_of}
 use Rattle.e_spell.specs.Certificates.{certs_lines}
 use Rattle.e_spell.specs.Spelling.{script_lines}
-use Rattle.e_spell.specs.inner.Parts.{form_text, certs_text, superposition_text, script_text, step_text, steps_text, names_behind, names_after, qed_text, contradicted_text, split_text}
+use Rattle.e_spell.specs.inner.Parts.{form_text, certs_text, superposition_text, script_text, step_text, steps_text, names_after_step, names_after, qed_text, contradicted_text, split_text}
 use Rattle.e_spell.proofs.CertTexts.{of_certs, of_contradiction}
 
 pub of_lines : (xs ys : List (List ℕ)) → text_of (xs ++ ys) ≡ text_of xs ++ text_of ys
@@ -38,7 +38,7 @@ of_certified ns cs rest = of_lines (certs_lines ns cs) rest ∙ ap (λ (t : List
 line_certified : (f : RawLine) (ns : Names) (cs : List Cert) (rest : List (List ℕ)) → text_of (line_of f ∷ (certs_lines ns cs ++ rest)) ≡ (form_text f ++ certs_text ns cs) ++ text_of rest
 line_certified f ns cs rest = ap (λ (t : List ℕ). form_text f ++ t) (of_certified ns cs rest) ∙ sym (append_assoc (form_text f) (certs_text ns cs) (text_of rest))
 
-before_text : (known : List TitledStatement) (ns : Names) (s : PlainStep) (rest : Script) → script_text known ns (before s rest) ≡ step_text known ns s ++ script_text known (names_behind known ns s) rest
+before_text : (known : List TitledStatement) (ns : Names) (s : PlainStep) (rest : Script) → script_text known ns (before s rest) ≡ step_text known ns s ++ script_text known (names_after_step known ns s) rest
 unfolding script_text script_lines superposition_text
 before_text known ns (Cited by) rest = refl
 before_text known ns (Inferred lit cert) rest = line_certified (hence_form ns lit) ns (option_to_list cert) (script_lines known ns rest)
@@ -61,10 +61,10 @@ pub of_steps : (known : List TitledStatement) (ns : Names) (ss : List Step) (res
     → script_text known ns (steps_script ss rest) ≡ steps_text known ns (map plain_step ss) ++ script_text known (names_after known ns (map plain_step ss)) rest
 of_steps known ns [] rest = refl
 of_steps known ns (s ∷ ss) rest =
-    let behind = names_behind known ns (plain_step s) in
+    let later = names_after_step known ns (plain_step s) in
     ap (script_text known ns) (step_script-plain s (steps_script ss rest)) ∙ before_text known ns (plain_step s) (steps_script ss rest)
-    ∙ ap (λ (t : List ℕ). step_text known ns (plain_step s) ++ t) (of_steps known behind ss rest)
-    ∙ sym (append_assoc (step_text known ns (plain_step s)) (steps_text known behind (map plain_step ss)) (script_text known (names_after known behind (map plain_step ss)) rest))
+    ∙ ap (λ (t : List ℕ). step_text known ns (plain_step s) ++ t) (of_steps known later ss rest)
+    ∙ sym (append_assoc (step_text known ns (plain_step s)) (steps_text known later (map plain_step ss)) (script_text known (names_after known later (map plain_step ss)) rest))
 
 pub ruleset plain = (common_steps, plain_steps)
 

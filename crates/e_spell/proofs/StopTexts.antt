@@ -34,6 +34,6 @@ too_wide_parts title step wanted width ns =
     ap (λ (x : List ℕ). x ++ (wanted_line ns wanted ++ width_line width)) (place_text (codes "too-wide") title step)
     ∙ ap (λ (x : List ℕ). (joined (place_words (codes "too-wide") title step) ++ 10 ∷ []) ++ (wanted_line ns wanted ++ x)) (sym (append-nil (width_line width)))
 
--- three parts, one written behind the other
+-- three parts, one written after the other
 pub written : {o o1 o2 o3 : List ℕ} (a b c : List ℕ) {whole : List ℕ} → o ≡ [] → o1 ≡ o ++ a → o2 ≡ o1 ++ b → o3 ≡ o2 ++ c → a ++ (b ++ c) ≡ whole → o3 ≡ whole
 written {o} {o1} {o2} {o3} a b c {whole} e e1 e2 e3 h = e3 ∙ rw (e2, e1, e) (append_assoc a b c) ∙ h

@@ -5,7 +5,7 @@ ghost use Rattle.e_deriv.specs.Naming.{first_names, named};
 ghost use Rattle.e_deriv.specs.PlainStep.{plain_step};
 ghost use Rattle.e_names.specs.TitledStatements.{theorem_of};
 ghost use Rattle.e_spell.specs.inner.Counts.{scope_of_counts};
-ghost use Rattle.e_spell.specs.inner.Parts.{names_behind};
+ghost use Rattle.e_spell.specs.inner.Parts.{names_after_step};
 
 use crate::declarations::Counts;
 use e_construct::Superpose;
@@ -84,7 +84,7 @@ fn name_shown(
 /// gone after it.
 #[tactic(auto, using(crate::proofs::ScriptTexts::plain))]
 pub(crate) fn name_new(known: &Theorems, names: &mut Names, step: &Step) -> Result<(), AllocError>
-    ensures { OnOk result (names.new ≡ names_behind known.now names.old (plain_step step.now)) }
+    ensures { OnOk result (names.new ≡ names_after_step known.now names.old (plain_step step.now)) }
 {
     match step {
         Step::Cite(_) | Step::Hence { .. } | Step::Claim { .. } | Step::Superposed { .. } => Ok(()),

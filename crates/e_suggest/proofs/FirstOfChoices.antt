@@ -5,7 +5,7 @@ use Rattle.std.specs.List.{list_all}
 use Rattle.std.proofs.lemmas.Bool.{ltb-true, lt-ltb, le-ltb, or_cases, cases_lt}
 use Rattle.e_literal.specs.declared.object.Obj.{Obj}
 use Rattle.e_literal.proofs.Booleans.{and_left, and_right}
-use Rattle.e_theorem.specs.Choice.{is_below, IsGood}
+use Rattle.e_theorem.specs.Choice.{is_below, IsAllowedChoice}
 use Rattle.e_licence.specs.ChoicesInOrder.{is_ascending, is_above}
 use Rattle.e_suggest.specs.Laws.{FirstOfChoices}
 use Rattle.e_suggest.specs.Suggestions.{blanks}
@@ -172,7 +172,7 @@ front_of_all P (suc most) (d ∷ ds) (c ∷ cs) more a f =
 
 pub first_of_choices : FirstOfChoices
 first_of_choices t scope facts all most choices more a f =
-    front_of_all (IsGood t scope facts (blanks t)) most all choices more
+    front_of_all (IsAllowedChoice t scope facts (blanks t)) most all choices more
     (record { good = a.good; ascending = a.ascending; all = a.all })
     (record {
       good = f.good;

@@ -4,7 +4,7 @@ use Rattle.e_literal.specs.declared.object.Obj.{Obj}
 use Rattle.e_literal.specs.declared.object.Scope.{Scope}
 use Rattle.e_literal.specs.declared.literal.Lit.{Lit}
 use Rattle.e_literal.specs.Use.{StatementView}
-use Rattle.e_theorem.specs.Choice.{IsGood}
+use Rattle.e_theorem.specs.Choice.{IsAllowedChoice}
 use Rattle.e_licence.specs.Contexts.{Basis}
 use Rattle.e_licence.specs.ChoicesInOrder.{is_ascending, AreFirst, AnyChoiceIsTooWide}
 use Rattle.e_suggest.specs.declared.suggestions.Suggested.{Suggested}
@@ -16,9 +16,9 @@ blanks t = map (λ s. None) t.declared
 
 -- the list of all choices of arguments at which each given literal is allowed, each below the next
 pub record AreChoices (t : StatementView) (scope : Scope) (facts : List Lit) (list : List (List Obj)) : Type 0 where
-  pub good : (args : List Obj) → Contains list args → IsGood t scope facts (blanks t) args
+  pub good : (args : List Obj) → Contains list args → IsAllowedChoice t scope facts (blanks t) args
   pub ascending : IsTrue (is_ascending list)
-  pub all : (args : List Obj) → IsGood t scope facts (blanks t) args → Contains list args
+  pub all : (args : List Obj) → IsAllowedChoice t scope facts (blanks t) args → Contains list args
 
 -- the first of them, and whether there are more; a law ties this to the list
 abbrev pub AreFirstChoices : StatementView → Scope → List Lit → ℕ → List (List Obj) → Bool → Type 0

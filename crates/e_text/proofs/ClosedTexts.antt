@@ -1,4 +1,4 @@
--- Texts whose last line has its end, and the lines behind them.
+-- Texts whose last line has its end, and the lines after them.
 use Rattle.std.proofs.Common.{◌≡◌, ℕ, suc, ◌+◌, ◌-◌, ◌<◌, Bool, true, false, not, cond, eqb, List, [], ◌∷◌, ◌++◌, length, take, drop, get_or, Result, Ok, Err, refl, sym, ap, subst, ◌∙◌, arith, length-append, length-drop, length-take-le, get_or-append-add}
 use Rattle.std.specs.List.{slice_split}
 use Rattle.std.proofs.lemmas.Bool.{eqb-true, and_from}
@@ -17,14 +17,14 @@ Rest = List (Result LineView LineFault)
 -- ---- ends of lines
 
 -- a text with an end of a line last
-pub closed_behind : (xs ys : List ℕ) → 0 < length ys → IsClosed ys → IsClosed (xs ++ ys)
-closed_behind xs ys some h =
+pub closed_after : (xs ys : List ℕ) → 0 < length ys → IsClosed ys → IsClosed (xs ++ ys)
+closed_after xs ys some h =
     let i : length (xs ++ ys) - 1 ≡ length xs + (length ys - 1) = omega (arith, length-append xs ys) in
     ap (λ (k : ℕ). get_or (xs ++ ys) k 10) i ∙ get_or-append-add xs ys (length ys - 1) 10 ∙ h
 
 pub closed_both : (xs ys : List ℕ) → IsClosed xs → IsClosed ys → IsClosed (xs ++ ys)
 closed_both xs [] h k = subst IsClosed (sym (append-nil xs)) h
-closed_both xs (y ∷ ys) h k = closed_behind xs (y ∷ ys) (omega arith) k
+closed_both xs (y ∷ ys) h k = closed_after xs (y ∷ ys) (omega arith) k
 
 -- the last line feed closes what stands up to it
 pub closed_at : (bytes : List ℕ) (last : ℕ) → last < length bytes → Passes (is_byte 10) bytes last → IsClosed (take (last + 1) bytes)
@@ -38,9 +38,9 @@ open_from : (bytes : List ℕ) → ((k : ℕ) → k < length bytes → is_lf (ge
 open_from [] h = refl
 open_from (b ∷ bs) h = and_from _ _ (ap not (h 0 (omega arith))) (open_from bs (λ k lt. h (suc k) (omega (arith, lt))))
 
--- behind the last line feed there is none
-pub open_behind : (bytes : List ℕ) (last : ℕ) → Nowhere (Passes (is_byte 10) bytes) (last + 1) (length bytes) → IsOpen (drop (last + 1) bytes)
-open_behind bytes last h =
+-- after the last line feed there is none
+pub open_after : (bytes : List ℕ) (last : ℕ) → Nowhere (Passes (is_byte 10) bytes) (last + 1) (length bytes) → IsOpen (drop (last + 1) bytes)
+open_after bytes last h =
     open_from (drop (last + 1) bytes)
     (λ k lt. ap is_lf (get_or-drop (last + 1) bytes k 0) ∙ false_unless_true _ (h (last + 1 + k) (omega arith) (omega (arith, length-drop (last + 1) bytes, lt))))
 
@@ -53,7 +53,7 @@ open_both xs ys h k = list_all-append (λ b. not (is_lf b)) xs ys ∙ and_from _
 
 -- ---- more lines
 
--- more lines behind good ones
+-- more lines after good ones
 pub then_good : (xs ys : Rest) → HaveNoFault xs → then_more xs ys ≡ xs ++ ys
 then_good [] ys h = refl
 then_good (Ok l ∷ xs) ys h = ap (λ (ls : Rest). Ok l ∷ ls) (then_good xs ys h)
@@ -64,7 +64,7 @@ good_both [] ys h k = k
 good_both (Ok l ∷ xs) ys h k = good_both xs ys h k
 good_both (Err f ∷ xs) ys h k = absurd h
 
--- no line stands behind one with a fault
+-- no line stands after one with a fault
 abbrev pub EndsAtFault : Rest → Type 0
 EndsAtFault [] = Unit {0}
 EndsAtFault (Ok l ∷ lines) = EndsAtFault lines
@@ -90,7 +90,7 @@ last_of_parts w at (part ∷ next ∷ parts) =
 pub fault_is_last : (w : Bounds) (at : Spot) (text : List ℕ) → EndsAtFault (lines_of w at text)
 fault_is_last w at text = last_of_parts w at (slice_split is_lf text)
 
--- so whatever comes behind them, they are the first
+-- so whatever comes after them, they are the first
 pub then_some : (xs ys : Rest) → EndsAtFault xs → (more : Rest) × (then_more xs ys ≡ xs ++ more)
 then_some [] ys h = (ys, refl)
 then_some (Ok l ∷ xs) ys h = let r = then_some xs ys h in (r.0, ap (λ (ls : Rest). Ok l ∷ ls) r.1)

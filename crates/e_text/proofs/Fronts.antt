@@ -7,7 +7,7 @@ use Rattle.std.proofs.lemmas.List.Sums.{position_or_len_is, fails_before_first, 
 use Rattle.e_text.specs.declared.line.LineFault.{LineFault}
 use Rattle.e_text.specs.Lines.{is_lf, Bounds, Spot, LineView, closed, lines_of, IsClosed, then_more, spot_after}
 use Rattle.e_text.proofs.FirstLine.{then_lines}
-use Rattle.e_text.proofs.WholeLines.{spot_behind, lines_of-closed}
+use Rattle.e_text.proofs.WholeLines.{next_spot, lines_of-closed}
 
 abbrev Rest : Type 0
 Rest = List (Result LineView LineFault)
@@ -77,16 +77,16 @@ front_by_size (suc size) w at (b ∷ bs) more le h =
     let part : take (position_or_len is_lf (front ++ more)) (front ++ more) ≡ take n front = ap (λ m. take m (front ++ more)) same ∙ take_in_front n front more (omega arith) in
     let after : drop (position_or_len is_lf (front ++ more) + 1) (front ++ more) ≡ drop (n + 1) front ++ more = ap (λ m. drop (m + 1) (front ++ more)) same ∙ drop_in_front (n + 1) front more (omega arith) in
     let len : length (take n front) ≡ n = length-take-le n front (omega arith) in
-    let next = spot_behind at (length (take n front)) in
+    let next = next_spot at (length (take n front)) in
     let left = length-drop (n + 1) front in
     let ih = front_by_size size w next (drop (n + 1) front) more (omega (arith, left)) (drop_closed front (n + 1) (omega arith) h) in
     lines_of-closed w at (front ++ more) (omega (arith, same, length-append front more))
-    ∙ ap (λ (p : List ℕ). then_lines (closed w at p) (lines_of w (spot_behind at (length p)) (drop (position_or_len is_lf (front ++ more) + 1) (front ++ more)))) part
+    ∙ ap (λ (p : List ℕ). then_lines (closed w at p) (lines_of w (next_spot at (length p)) (drop (position_or_len is_lf (front ++ more) + 1) (front ++ more)))) part
     ∙ ap (λ (t : List ℕ). then_lines (closed w at (take n front)) (lines_of w next t)) after
     ∙ ap (λ (ls : Rest). then_lines (closed w at (take n front)) ls) ih
     ∙ by_line (closed w at (take n front)) w at next front (drop (n + 1) front) more refl (omega (arith, left)) (lines_of-closed w at front lt)
 
--- the lines of a text whose front is closed: those of the front, and those behind it
+-- the lines of a text whose front is closed: those of the front, and those after it
 pub lines_of-front : (w : Bounds) (at : Spot) (front more : List ℕ) → IsClosed front
     → lines_of w at (front ++ more) ≡ then_more (lines_of w at front) (lines_of w (spot_after w at front) more)
 lines_of-front w at front more h = front_by_size (length front) w at front more (omega arith) h

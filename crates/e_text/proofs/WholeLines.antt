@@ -20,13 +20,13 @@ before_lf text i lt = not-true (is_lf (get_or text i 0)) (prefix_len_passes (λ 
 pub at_lf : (text : List ℕ) → position_or_len is_lf text < length text → is_lf (get_or text (position_or_len is_lf text) 0) ≡ true
 at_lf text lt = not-false (is_lf (get_or text (position_or_len is_lf text) 0)) (prefix_len_stops (λ x. not (is_lf x)) text 0 lt)
 
--- where the line that begins behind a part of so many bytes stands
-abbrev pub spot_behind : Spot → ℕ → Spot
-spot_behind at n = record { line = at.line + 1; before = at.before + n + 1 }
+-- where the line that begins after a part of so many bytes stands
+abbrev pub next_spot : Spot → ℕ → Spot
+next_spot at n = record { line = at.line + 1; before = at.before + n + 1 }
 
--- a line that has a line feed, and the lines behind it
+-- a line that has a line feed, and the lines after it
 pub lines_of-closed : (w : Bounds) (at : Spot) (text : List ℕ) → position_or_len is_lf text < length text
-    → lines_of w at text ≡ then_lines (closed w at (take (position_or_len is_lf text) text)) (lines_of w (spot_behind at (length (take (position_or_len is_lf text) text))) (drop (position_or_len is_lf text + 1) text))
+    → lines_of w at text ≡ then_lines (closed w at (take (position_or_len is_lf text) text)) (lines_of w (next_spot at (length (take (position_or_len is_lf text) text))) (drop (position_or_len is_lf text + 1) text))
 lines_of-closed w at text lt =
     let part = take (position_or_len is_lf text) text in
     let more = parts_of (drop (position_or_len is_lf text + 1) text) in
@@ -55,9 +55,9 @@ count_by_size (suc size) w at (b ∷ bs) le =
       | inl lt ↦
           let after = drop (n + 1) text in
           let part = take n text in
-          let rest = count_by_size size w (spot_behind at (length part)) after (omega (arith, length-drop (n + 1) text)) in
+          let rest = count_by_size size w (next_spot at (length part)) after (omega (arith, length-drop (n + 1) text)) in
           let e = lines_of-closed w at text lt in
-          omega (arith, ap length e, length-then_lines (closed w at part) (lines_of w (spot_behind at (length part)) after), rest, length-drop (n + 1) text)
+          omega (arith, ap length e, length-then_lines (closed w at part) (lines_of w (next_spot at (length part)) after), rest, length-drop (n + 1) text)
       | inr le' ↦ omega (arith, ap length (lines_of-open w at text (omega arith) le'))
     ]
 
@@ -87,8 +87,8 @@ place_within text k le lt =
     let len : length (take k text) ≡ k = length-take-le k text le in
     position_or_len_is is_lf (take k text) n 0 (omega arith) (λ i li. ap is_lf (get_or-take k text i 0 (omega arith)) ∙ before_lf text i li) (λ _. ap is_lf (get_or-take k text n 0 lt) ∙ at_lf text (omega arith))
 
-place_behind : (text : List ℕ) (k : ℕ) → k ≤ length text → k ≤ position_or_len is_lf text → position_or_len is_lf (take k text) ≡ k
-place_behind text k le far =
+place_after : (text : List ℕ) (k : ℕ) → k ≤ length text → k ≤ position_or_len is_lf text → position_or_len is_lf (take k text) ≡ k
+place_after text k le far =
     let len : length (take k text) ≡ k = length-take-le k text le in
     position_or_len_is is_lf (take k text) k 0 (omega arith) (λ i li. ap is_lf (get_or-take k text i 0 li) ∙ before_lf text i (omega arith)) (λ lt. absurd (omega arith))
 
@@ -110,24 +110,24 @@ cut_by_size (suc size) w at text le within =
                 let same : position_or_len is_lf (take k text) ≡ n = place_within text k (omega arith) (omega arith) in
                 let part : take (position_or_len is_lf (take k text)) (take k text) ≡ take n text = ap (λ m. take m (take k text)) same ∙ take-front n k text (omega arith) in
                 let width : length (take n text) ≡ n = length-take-le n text (omega arith) in
-                let next = spot_behind at (length (take n text)) in
+                let next = next_spot at (length (take n text)) in
                 let left : n + 1 + (w.most + 1 - next.before) ≡ k = omega arith in
                 let after : drop (position_or_len is_lf (take k text) + 1) (take k text) ≡ take (w.most + 1 - next.before) (drop (n + 1) text) = ap (λ m. drop (m + 1) (take k text)) same ∙ ap (λ m. drop (n + 1) (take m text)) (sym left) ∙ drop-take (n + 1) (w.most + 1 - next.before) text in
                 let rest = cut_by_size size w next (drop (n + 1) text) (omega (arith, length-drop (n + 1) text)) (omega arith) in
-                lines_of-closed w at (take k text) (omega arith) ∙ ap (λ (p : List ℕ). then_lines (closed w at p) (lines_of w (spot_behind at (length p)) (drop (position_or_len is_lf (take k text) + 1) (take k text)))) part ∙ ap (λ (t : List ℕ). then_lines (closed w at (take n text)) (lines_of w next t)) after ∙ ap (λ ls. then_lines (closed w at (take n text)) ls) rest ∙ sym (lines_of-closed w at text (omega arith))
+                lines_of-closed w at (take k text) (omega arith) ∙ ap (λ (p : List ℕ). then_lines (closed w at p) (lines_of w (next_spot at (length p)) (drop (position_or_len is_lf (take k text) + 1) (take k text)))) part ∙ ap (λ (t : List ℕ). then_lines (closed w at (take n text)) (lines_of w next t)) after ∙ ap (λ ls. then_lines (closed w at (take n text)) ls) rest ∙ sym (lines_of-closed w at text (omega arith))
             | inr far ↦
                 let whole = passed w at text (omega arith) (omega arith) (omega arith) in
                 elim (cases_lt n k) [
                   | inl within_cut ↦
                       let same : position_or_len is_lf (take k text) ≡ n = place_within text k (omega arith) within_cut in
                       passed w at (take k text) (omega arith) (omega arith) (omega arith) ∙ sym whole
-                  | inr behind_cut ↦
-                      let none : position_or_len is_lf (take k text) ≡ k = place_behind text k (omega arith) behind_cut in
+                  | inr after_cut ↦
+                      let none : position_or_len is_lf (take k text) ≡ k = place_after text k (omega arith) after_cut in
                       passed w at (take k text) (omega arith) (omega arith) (omega arith) ∙ sym whole
                 ]
           ]
     ]
 
--- the lines of a text that is cut one byte behind the last that counts are those of the whole text
+-- the lines of a text that is cut one byte after the last that counts are those of the whole text
 pub lines_of-take : (w : Bounds) (at : Spot) (text : List ℕ) → at.before ≤ w.most → lines_of w at (take (w.most + 1 - at.before) text) ≡ lines_of w at text
 lines_of-take w at text within = cut_by_size (length text) w at text (omega arith) within

@@ -11,7 +11,7 @@ use Rattle.e_text.specs.declared.line.LineEnd.TheVariants.{Lf, TextEnd}
 use Rattle.e_text.specs.declared.line.LineFault.{LineFault}
 use Rattle.e_text.specs.Lines.{is_lf, is_allowed, ends_in_cr, Bounds, Spot, LineView, checked, closed, ended, lines_of, lines_of_parts, end_bytes, HaveNoFault, AreShort, text_of_lines, lf_text, numbered}
 use Rattle.e_text.proofs.FirstLine.{then_lines, split_more, parts_of, seen-checked}
-use Rattle.e_text.proofs.WholeLines.{at_lf, spot_behind, lines_of-closed, lines_of-open}
+use Rattle.e_text.proofs.WholeLines.{at_lf, next_spot, lines_of-closed, lines_of-open}
 
 -- ---- put together
 
@@ -54,12 +54,12 @@ whole_by_size (suc size) w at (b ∷ bs) le good =
       | inl lt ↦
           let part = take n text in
           let after = drop (n + 1) text in
-          let rest = lines_of w (spot_behind at (length part)) after in
+          let rest = lines_of w (next_spot at (length part)) after in
           let e = lines_of-closed w at text lt in
           let good' : HaveNoFault (then_lines (closed w at part) rest) = subst HaveNoFault e good in
           let feed : get_or text n 0 ≡ 10 = eqb-true _ 10 (at_lf text lt) in
           let cut : part ++ 10 ∷ after ≡ text = ap (λ (x : ℕ). part ++ x ∷ after) (sym feed) ∙ sym (split_at_first is_lf text 0 lt) in
-          ap text_of_lines e ∙ put_closed (closed w at part) rest part after (closed_bytes w at part) (λ g. whole_by_size size w (spot_behind at (length part)) after (omega (arith, length-drop (n + 1) text)) g) good' ∙ cut
+          ap text_of_lines e ∙ put_closed (closed w at part) rest part after (closed_bytes w at part) (λ g. whole_by_size size w (next_spot at (length part)) after (omega (arith, length-drop (n + 1) text)) g) good' ∙ cut
       | inr le' ↦
           let e = lines_of-open w at text (omega arith) le' in
           let good' : HaveNoFault (checked w at text TextEnd (at.before + length text) ∷ []) = subst HaveNoFault e good in
@@ -92,9 +92,9 @@ no_cr (b ∷ bs) e =
     let last : is_allowed (get_or (b ∷ bs) (length (b ∷ bs) - 1) 0) ≡ true = ap (λ i. is_allowed (get_or (b ∷ bs) i 0)) at ∙ last_allowed b bs p.0 p.1 in
     by_mark (ends_in_cr (b ∷ bs)) (get_or (b ∷ bs) (length (b ∷ bs) - 1) 0) 13 refl last refl
 
--- a line of allowed bytes with a line feed behind it
+-- a line of allowed bytes with a line feed after it
 pub lines_of-line : (w : Bounds) (at : Spot) (bytes rest : List ℕ) → list_all is_allowed bytes ≡ true → length bytes ≤ w.longest → at.before + length bytes + 1 ≤ w.most
-    → lines_of w at (bytes ++ 10 ∷ rest) ≡ Ok (record { number = at.line; bytes = bytes; end = Lf }) ∷ lines_of w (spot_behind at (length bytes)) rest
+    → lines_of w at (bytes ++ 10 ∷ rest) ≡ Ok (record { number = at.line; bytes = bytes; end = Lf }) ∷ lines_of w (next_spot at (length bytes)) rest
 lines_of-line w at bytes rest good short within =
     let more = parts_of rest in
     let split : slice_split is_lf (bytes ++ 10 ∷ rest) ≡ bytes ∷ slice_split is_lf rest = slice_split_at is_lf bytes 10 rest (All-from_recursion (λ b. is_lf b ≡ false) bytes (no_feeds bytes good)) refl in
@@ -108,4 +108,4 @@ pub lines_of-lf_text : (w : Bounds) (at : Spot) (lines : List (List ℕ)) → Ar
 lines_of-lf_text w at [] h within = refl
 lines_of-lf_text w at (bytes ∷ lines) h within =
     let len = length-append bytes (10 ∷ lf_text lines) in
-    lines_of-line w at bytes (lf_text lines) h.0.0 h.0.1 (omega arith) ∙ ap (λ ls. Ok (record { number = at.line; bytes = bytes; end = Lf }) ∷ ls) (lines_of-lf_text w (spot_behind at (length bytes)) lines h.1 (omega arith))
+    lines_of-line w at bytes (lf_text lines) h.0.0 h.0.1 (omega arith) ∙ ap (λ ls. Ok (record { number = at.line; bytes = bytes; end = Lf }) ∷ ls) (lines_of-lf_text w (next_spot at (length bytes)) lines h.1 (omega arith))

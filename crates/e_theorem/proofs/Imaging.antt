@@ -139,20 +139,20 @@ new_there s b (sort ∷ sorts) o d is less =
         ∙ later d (omega (arith, is, counted_here b sort o.sort same))
         ∙ ap (λ n. Some (obj o.sort n)) (omega (arith, counted_here s sort o.sort same))
 
--- ---- one list of pairs behind another
+-- ---- one list of pairs after another
 
 pub only_first : (x y : List Entry) (o : Obj) → image_in y o ≡ None → image_in (x ++ y) o ≡ image_in x o
 only_first [] y o h = h
 only_first (e ∷ x) y o h = ap (λ r. cond (same_obj e.source o) (Some e.target) r) (only_first x y o h)
 
-pub paired_behind : (s b : Scope) (sorts : List Sort) (args more : List Obj) (behind : List Obj) → are_of_sorts s sorts args ≡ true
-    → paired (next_objects b sorts ++ more) (args ++ behind) ≡ paired (next_objects b sorts) args ++ paired more behind
-paired_behind s b [] [] more behind fit = refl
-paired_behind s b [] (a ∷ args) more behind fit = absurd (true≢false (sym fit))
-paired_behind s b (sort ∷ sorts) [] more behind fit = absurd (true≢false (sym fit))
-paired_behind s b (sort ∷ sorts) (a ∷ args) more behind fit =
+pub paired_after : (s b : Scope) (sorts : List Sort) (args more : List Obj) (after : List Obj) → are_of_sorts s sorts args ≡ true
+    → paired (next_objects b sorts ++ more) (args ++ after) ≡ paired (next_objects b sorts) args ++ paired more after
+paired_after s b [] [] more after fit = refl
+paired_after s b [] (a ∷ args) more after fit = absurd (true≢false (sym fit))
+paired_after s b (sort ∷ sorts) [] more after fit = absurd (true≢false (sym fit))
+paired_after s b (sort ∷ sorts) (a ∷ args) more after fit =
     ap (λ es. record { source = obj sort (count_of b sort); target = a } ∷ es)
-    (paired_behind s (with_one b sort) sorts args more behind (and_right (is_in_scope s a) _ (and_right (same_sort sort a.sort) _ fit)))
+    (paired_after s (with_one b sort) sorts args more after (and_right (is_in_scope s a) _ (and_right (same_sort sort a.sort) _ fit)))
 
 -- ---- the images of a statement's objects
 
@@ -170,7 +170,7 @@ made_image t s o =
 
 pub imaged : (t : StatementView) (args : List Obj) (s : Scope) (o : Obj) → are_arguments t s args ≡ true → image_in (paired (sources t) (targets t args s)) o ≡ image t args s o
 imaged t args s o fit =
-    ap (λ es. image_in es o) (paired_behind s nothing t.declared args (next_objects (scope_of t) t.made) (next_objects s t.made) fit) ∙
+    ap (λ es. image_in es o) (paired_after s nothing t.declared args (next_objects (scope_of t) t.made) (next_objects s t.made) fit) ∙
     elim (cases_lt o.num (count_of (scope_of t) o.sort)) [
       | inl less ↦
           only_first (paired (next_objects nothing t.declared) args) _ o (none_before (scope_of t) t.made (next_objects s t.made) o less)

@@ -17,7 +17,7 @@ use Rattle.e_literal.proofs.WithImages.{is_moved_in, renamed_scope, renamed_well
 use Rattle.e_literal.proofs.Sorts.{same_sort_is}
 use Rattle.e_literal.proofs.Booleans.{and_left, and_right}
 use Rattle.e_clause.specs.Judged.{is_well_formed_in, are_well_formed_in}
-use Rattle.e_theorem.proofs.Imaging.{counted, counts_grow, made_image, counted_here, counted_other, this_one, none_before, imaged, only_first, paired_behind}
+use Rattle.e_theorem.proofs.Imaging.{counted, counts_grow, made_image, counted_here, counted_other, this_one, none_before, imaged, only_first, paired_after}
 use Rattle.e_theorem.proofs.Renaming.{same_renamed}
 
 -- ---- the argument for a declared object is in scope
@@ -64,7 +64,7 @@ nothing_below s Circle n = omega arith
 declared_image : (t : StatementView) (args : List Obj) (s : Scope) (o : Obj) → are_arguments t s args ≡ true → is_in_scope (scope_of t) o ≡ true → image t args s o ≡ declared_images t args o
 declared_image t args s o fit declared =
     sym (imaged t args s o fit)
-    ∙ ap (λ es. image_in es o) (paired_behind s nothing t.declared args (next_objects (scope_of t) t.made) (next_objects s t.made) fit)
+    ∙ ap (λ es. image_in es o) (paired_after s nothing t.declared args (next_objects (scope_of t) t.made) (next_objects s t.made) fit)
     ∙ only_first (paired (next_objects nothing t.declared) args) _ o (none_before (scope_of t) t.made (next_objects s t.made) o (ltb-true o.num (count_of (scope_of t) o.sort) declared))
 
 -- a given literal

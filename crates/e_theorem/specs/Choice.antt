@@ -19,7 +19,7 @@ abbrev pub is_choice : StatementView → Scope → List (Option Obj) → List Ob
 is_choice t s pattern args = fills pattern args && are_arguments t s args
 
 -- a good choice: each given literal, renamed, is allowed
-pub record IsGood (t : StatementView) (scope : Scope) (facts : List Lit) (pattern : List (Option Obj)) (args : List Obj) : Type 0 where
+pub record IsAllowedChoice (t : StatementView) (scope : Scope) (facts : List Lit) (pattern : List (Option Obj)) (args : List Obj) : Type 0 where
   pub is_choice : IsTrue (is_choice t scope pattern args)
   pub allowed : AllAllowed scope facts (needs_of_use t args scope)
 
@@ -30,9 +30,9 @@ is_below _ _ = false
 
 -- the least good choice
 pub record IsLeast (t : StatementView) (scope : Scope) (facts : List Lit) (pattern : List (Option Obj)) (args : List Obj) : Type 0 where
-  pub good : IsGood t scope facts pattern args
-  pub least : (other : List Obj) → IsGood t scope facts pattern other → IsFalse (is_below other args)
+  pub good : IsAllowedChoice t scope facts pattern args
+  pub least : (other : List Obj) → IsAllowedChoice t scope facts pattern other → IsFalse (is_below other args)
 
 -- no choice is good
-abbrev pub NoneIsGood : StatementView → Scope → List Lit → List (Option Obj) → Type 0
-NoneIsGood t scope facts pattern = (args : List Obj) → ¬ IsGood t scope facts pattern args
+abbrev pub NoneIsAllowed : StatementView → Scope → List Lit → List (Option Obj) → Type 0
+NoneIsAllowed t scope facts pattern = (args : List Obj) → ¬ IsAllowedChoice t scope facts pattern args

@@ -13,8 +13,8 @@ refused_grows (Ok x) old new more is = tt
 refused_grows (Err e) old new more is = (more, is)
 
 -- the same where a number was put after before
-pub grown_behind : {T E : Type 0} (r : Result T E) (old before pushed new rest : List ℕ) (v : ℕ) → before ≡ old → pushed ≡ before ++ v ∷ [] → new ≡ pushed ++ rest → OnErr r ((more : List ℕ) × (new ≡ old ++ more))
-grown_behind r old before pushed new rest v same put grew =
+pub grown_after : {T E : Type 0} (r : Result T E) (old before pushed new rest : List ℕ) (v : ℕ) → before ≡ old → pushed ≡ before ++ v ∷ [] → new ≡ pushed ++ rest → OnErr r ((more : List ℕ) × (new ≡ old ++ more))
+grown_after r old before pushed new rest v same put grew =
     refused_grows r old new (v ∷ rest)
     (grew ∙ ap (λ (xs : List ℕ). xs ++ rest) (put ∙ ap (λ (xs : List ℕ). xs ++ v ∷ []) same) ∙ append_assoc old (v ∷ []) rest)
 

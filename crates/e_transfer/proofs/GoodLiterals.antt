@@ -195,12 +195,12 @@ of_needs q alike p [] all = refl
 of_needs q alike p (l ∷ ls) all =
     with_one q l (filter p ls) (p l) (alike l ∙ and_left (q l) (list_all q ls) all) (of_needs q alike p ls (and_right (q l) (list_all q ls) all))
 
-pub record AreGoodNeeds (scope : Scope) (lits : List Lit) (goal : Lit) : Type 0 where
+pub record AreWellFormedNeeds (scope : Scope) (lits : List Lit) (goal : Lit) : Type 0 where
   pub well : list_all is_well_formed (needs_beside lits goal) ≡ true
   pub over : list_all (all_in_scope scope) (needs_beside lits goal) ≡ true
 
 good_needs_of : (rule : ℕ) (r : Row) (scope : Scope) (args : List Obj) (lits : List Lit) (goal : Lit) → slice_get table rule ≡ Some r → is_transfer rule ≡ true
-    → Inst rule args ≡ Some lits → list_all (is_in_scope scope) args ≡ true → AreGoodNeeds scope lits goal
+    → Inst rule args ≡ Some lits → list_all (is_in_scope scope) args ≡ true → AreWellFormedNeeds scope lits goal
 good_needs_of rule r scope args lits goal at transfer instance over =
     let is = of_instance rule args r lits at instance in
     let ok = transfer_ok rule r transfer at in
@@ -218,7 +218,7 @@ some_row rule args lits none instance = none-some lits (sym (ap (option_and_then
 
 -- what an instance of a transfer clause over a scope needs is in scope and well formed
 pub good_needs : (rule : ℕ) (scope : Scope) (args : List Obj) (lits : List Lit) (goal : Lit) → is_transfer rule ≡ true → Inst rule args ≡ Some lits
-    → list_all (is_in_scope scope) args ≡ true → AreGoodNeeds scope lits goal
+    → list_all (is_in_scope scope) args ≡ true → AreWellFormedNeeds scope lits goal
 good_needs rule scope args lits goal transfer instance over = elim (option_split (slice_get table rule)) [
   | inl none ↦ absurd (some_row rule args lits none instance)
   | inr (r, at) ↦ good_needs_of rule r scope args lits goal at transfer instance over

@@ -35,7 +35,7 @@ use Rattle.e_transfer.specs.declared.query.Strength.{Strength}
 use Rattle.e_transfer.specs.declared.query.Strength.TheVariants as strength
 use Rattle.e_transfer.specs.declared.walk.Verdict.{Verdict}
 use Rattle.e_transfer.specs.declared.walk.Verdict.TheVariants as verdict
-use Rattle.e_transfer.specs.GivenGoals.{PartIs, PartsAre, needs_beside, Suffices, is_at, GivesGoal, IsFittingLiteral, IsWideNeed, IsGoodPart, AreGoodParts, all_diagrams_hold, IsGoodTransfer, IsWideTransfer}
+use Rattle.e_transfer.specs.GivenGoals.{PartIs, PartsAre, needs_beside, Suffices, is_at, GivesGoal, IsFittingLiteral, IsWideNeed, IsCertifyingPart, AreCertifyingParts, all_diagrams_hold, IsCertifyingTransfer, IsWideTransfer}
 
 -- ---- the literal at a place
 
@@ -161,7 +161,7 @@ wide_transfer scope facts lits goal rule w args transfer over instance one hold 
 
 -- ---- good parts
 
-parts_good : (scope : Scope) (facts ls : List Lit) (ps : List Part) → AreGoodParts scope facts (map negation ls) ps
+parts_good : (scope : Scope) (facts ls : List Lit) (ps : List Part) → AreCertifyingParts scope facts (map negation ls) ps
     → (parts_certify facts ls ps ≡ true) × (list_all (part_in scope) ps ≡ true) × (list_all (is_part_of version.One) ps ≡ true)
 parts_good scope facts [] [] good = (refl, refl, refl)
 parts_good scope facts [] (p ∷ ps) good = absurd good
@@ -175,7 +175,7 @@ parts_good scope facts (l ∷ ls) (p ∷ ps) good =
     )
 
 pub good_cert : (scope : Scope) (facts lits : List Lit) (goal : Lit) (cert : TransferCert) → is_transfer cert.rule ≡ true → list_all (is_in_scope scope) cert.args ≡ true
-    → Inst cert.rule cert.args ≡ Some lits → has lits goal ≡ true → AreGoodParts scope facts (needs_beside lits goal) cert.parts → IsGoodTransfer scope facts goal cert
+    → Inst cert.rule cert.args ≡ Some lits → has lits goal ≡ true → AreCertifyingParts scope facts (needs_beside lits goal) cert.parts → IsCertifyingTransfer scope facts goal cert
 good_cert scope facts lits goal cert transfer over instance one good =
     let parts = parts_good scope facts (others lits goal) cert.parts good in
     record {
@@ -260,10 +260,10 @@ at_item m scope facts ls i d v u is same claim =
     subst (λ (l : Lit). PartIs m scope facts l u) is (subst (λ (x : Verdict Part). PartIs m scope facts d x) same claim)
 
 pub part_added : (m : Strength) (scope : Scope) (facts ls : List Lit) (ps new : List Part) (i : ℕ) (d : Lit) (v : Verdict Part) (p : Part) → i < length ls → d ≡ get_or ls i d
-    → v ≡ verdict.Yes p → PartIs m scope facts d v → new ≡ ps ++ p ∷ [] → AreGoodParts scope facts (take i ls) ps → AreGoodParts scope facts (take (i + 1) ls) new
+    → v ≡ verdict.Yes p → PartIs m scope facts d v → new ≡ ps ++ p ∷ [] → AreCertifyingParts scope facts (take i ls) ps → AreCertifyingParts scope facts (take (i + 1) ls) new
 part_added m scope facts ls ps new i d v p less is same claim pushed all =
-    subst (λ (qs : List Part). AreGoodParts scope facts (take (i + 1) ls) qs) (sym pushed)
-    (one_more_part (IsGoodPart scope facts) ls ps i d p less all (at_item m scope facts ls i d v (verdict.Yes p) is same claim))
+    subst (λ (qs : List Part). AreCertifyingParts scope facts (take (i + 1) ls) qs) (sym pushed)
+    (one_more_part (IsCertifyingPart scope facts) ls ps i d p less all (at_item m scope facts ls i d v (verdict.Yes p) is same claim))
 
 pub part_refused : (m : Strength) (scope : Scope) (facts ls : List Lit) (i : ℕ) (d : Lit) (v : Verdict Part) → i < length ls → d ≡ get_or ls i d → v ≡ verdict.No
     → PartIs m scope facts d v → All (Suffices m facts) ls → ⊥
@@ -280,7 +280,7 @@ parts_at m scope facts ls ms v u is same claim =
     subst (λ (l : List Lit). PartsAre m scope facts l u) is (subst (λ (x : Verdict (List Part)). PartsAre m scope facts ms x) same claim)
 
 pub parts_kept : (m : Strength) (scope : Scope) (facts ls ms : List Lit) (v : Verdict (List Part)) (ps : List Part) → ms ≡ ls → v ≡ verdict.Yes ps → PartsAre m scope facts ms v
-    → AreGoodParts scope facts ls ps
+    → AreCertifyingParts scope facts ls ps
 parts_kept m scope facts ls ms v ps is same claim = parts_at m scope facts ls ms v (verdict.Yes ps) is same claim
 
 pub parts_stopped : (m : Strength) (scope : Scope) (facts ls ms : List Lit) (v : Verdict (List Part)) (w : ℕ) → ms ≡ ls → v ≡ verdict.TooWide w → PartsAre m scope facts ms v

@@ -81,13 +81,13 @@ pub record IsWideNeed (facts ls : List Lit) (w : ℕ) : Type 0 where
   pub too_wide : IsTooWideSystem facts (Some need) w
 
 -- the part certifies the literal, names objects in scope, and literals that are well formed
-pub record IsGoodPart (scope : Scope) (facts : List Lit) (l : Lit) (p : Part) : Type 0 where
+pub record IsCertifyingPart (scope : Scope) (facts : List Lit) (l : Lit) (p : Part) : Type 0 where
   pub certifies : IsTrue (part_certifies facts l p)
   pub over : IsTrue (part_in scope p)
   pub written : IsTrue (is_part_of version.One p)
 
 abbrev pub PartIs : Strength → Scope → List Lit → Lit → Verdict Part → Type 0
-PartIs m scope facts l (verdict.Yes p) = IsGoodPart scope facts l p
+PartIs m scope facts l (verdict.Yes p) = IsCertifyingPart scope facts l p
 PartIs m scope facts l verdict.No = Suffices m facts l → ⊥
 PartIs m scope facts l (verdict.TooWide w) = (m ≡ strength.Sums) × IsTrue (is_metric l) × IsTooWideSystem facts (Some l) w
 
@@ -98,11 +98,11 @@ passed_over strength.Sums w = verdict.TooWide w
 passed_over strength.NarrowSums w = verdict.No
 
 -- as many parts as literals, each good for its literal
-abbrev pub AreGoodParts : Scope → List Lit → List Lit → List Part → Type 0
-AreGoodParts scope facts ls ps = AllZip (IsGoodPart scope facts) ls ps
+abbrev pub AreCertifyingParts : Scope → List Lit → List Lit → List Part → Type 0
+AreCertifyingParts scope facts ls ps = AllZip (IsCertifyingPart scope facts) ls ps
 
 abbrev pub PartsAre : Strength → Scope → List Lit → List Lit → Verdict (List Part) → Type 0
-PartsAre m scope facts ls (verdict.Yes ps) = AreGoodParts scope facts ls ps
+PartsAre m scope facts ls (verdict.Yes ps) = AreCertifyingParts scope facts ls ps
 PartsAre m scope facts ls verdict.No = All (Suffices m facts) ls → ⊥
 PartsAre m scope facts ls (verdict.TooWide w) = (m ≡ strength.Sums) × IsWideNeed facts ls w
 
@@ -113,7 +113,7 @@ all_diagrams_hold facts ls = list_all (λ l. is_metric l || has facts l) ls
 -- ---- whether instances give the goal
 
 -- the certificate is good for the goal, and its parts name literals that are well formed
-pub record IsGoodTransfer (scope : Scope) (facts : List Lit) (goal : Lit) (cert : TransferCert) : Type 0 where
+pub record IsCertifyingTransfer (scope : Scope) (facts : List Lit) (goal : Lit) (cert : TransferCert) : Type 0 where
   pub over : IsTrue (transfer_in scope cert)
   pub certifies : IsTrue (transfer_certifies facts goal cert)
   pub written : IsTrue (list_all (is_part_of version.One) cert.parts)
@@ -126,7 +126,7 @@ pub record IsWideTransfer (scope : Scope) (facts : List Lit) (goal : Lit) (w : �
 
 -- one instance
 abbrev pub InstanceIs : Strength → Scope → List Lit → Lit → ℕ → List Obj → Verdict TransferCert → Type 0
-InstanceIs m scope facts goal rule args (verdict.Yes cert) = IsGoodTransfer scope facts goal cert
+InstanceIs m scope facts goal rule args (verdict.Yes cert) = IsCertifyingTransfer scope facts goal cert
 InstanceIs m scope facts goal rule args verdict.No = (place : ℕ) → GivesGoal m scope facts goal rule place args → ⊥
 InstanceIs m scope facts goal rule args (verdict.TooWide w) = (m ≡ strength.Sums) × IsWideTransfer scope facts goal w
 
@@ -156,7 +156,7 @@ NoneGives m scope facts goal = (rule : ℕ) → IsTrue (is_transfer rule) → No
 
 -- one that gives the goal; or none of those that are searched for, as `None` says; or one that is too wide
 abbrev pub RuleSearchIs : Strength → Scope → List Lit → Lit → Type 0 → Verdict TransferCert → Type 0
-RuleSearchIs m scope facts goal None (verdict.Yes cert) = IsGoodTransfer scope facts goal cert
+RuleSearchIs m scope facts goal None (verdict.Yes cert) = IsCertifyingTransfer scope facts goal cert
 RuleSearchIs m scope facts goal None verdict.No = None
 RuleSearchIs m scope facts goal None (verdict.TooWide w) = (m ≡ strength.Sums) × IsWideTransfer scope facts goal w
 

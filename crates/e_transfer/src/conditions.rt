@@ -10,7 +10,7 @@ use e_literal::{Lit, Scope, in_scope};
 use e_metric::{are_few_facts, is_well_formed};
 
 /// Whether the literal is in scope and well formed.
-pub fn is_good(scope: Scope, lit: &Lit) -> bool
+pub fn is_well_formed_in(scope: Scope, lit: &Lit) -> bool
     ensures { result ≡ Judged.is_well_formed_in scope lit.now }
 {
     in_scope(lit, scope) && is_well_formed(lit)
@@ -18,7 +18,7 @@ pub fn is_good(scope: Scope, lit: &Lit) -> bool
 
 /// Whether the facts are in scope and well formed, and their terms are few.
 #[tactic(auto, using(crate::proofs::GoodFacts::good_parts))]
-pub fn are_good_facts(scope: Scope, facts: &Facts) -> bool
+pub fn are_limited_facts(scope: Scope, facts: &Facts) -> bool
     ensures { result ≡ Judged.are_limited_facts scope facts.now }
 {
     are_in_scope(scope, facts) && are_few_facts(facts)

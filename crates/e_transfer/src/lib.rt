@@ -24,7 +24,7 @@ mod rule_search;
 mod unify;
 mod walk;
 
-pub use conditions::{are_good_facts, is_good};
+pub use conditions::{are_limited_facts, is_well_formed_in};
 pub use finding::{Found, find, find_by_facts, find_prepared};
 pub use prepared::{Prepared, prepare};
 pub use walk::{Span, Task, Verdict, search};

@@ -1,4 +1,4 @@
--- The use of an earlier theorem behind the kept steps alone.
+-- The use of an earlier theorem after the kept steps alone.
 use Rattle.std.proofs.Common.{◌≡◌, ℕ, zero, suc, List, [], ◌∷◌, ◌++◌, map, length, refl, sym, ap, ◌∙◌, subst, arith, Bool, true, false, ◌&&◌, cond, ltb, true≢false, inl, inr, Option, Some, None}
 use Rattle.std.specs.List.{list_all, list_any}
 use Rattle.std.proofs.lemmas.Bool.{and_parts, and_from, or_parts, ltb-true}

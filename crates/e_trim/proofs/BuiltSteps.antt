@@ -1,4 +1,4 @@
--- What is built of a step with something behind it, by the flags on the pile.
+-- What is built of a step with something after it, by the flags on the pile.
 use Rattle.std.proofs.Common.{◌≡◌, ℕ, zero, suc, ◌+◌, ◌<◌, ◌≤◌, ◌^◌, List, [], ◌∷◌, ◌++◌, length, refl, sym, ap, ◌∙◌, subst, arith, Bool, true, false, cond, Box, Global, length-append}
 use Rattle.std.specs.List.{list_all}
 use Rattle.std.proofs.lemmas.Bool.{and_parts}
@@ -71,7 +71,7 @@ none_taken pile left kept e under inner false h =
 
 -- ---- a step
 
--- the flags behind a step and its own lie over the others
+-- the flags after a step and its own lie over the others
 over_step : (before : List StatementView) (step : Step) (rest : Script) (x : StepState) (goal : Goal) (pile under : List Bool) → pile ≡ under ++ flags_of before (step_script step rest) x.scope x.facts goal
     → pile
     ≡ (under ++ flags_of before rest (passed before (step_script step rest) x).scope (passed before (step_script step rest) x).facts goal)
@@ -86,7 +86,7 @@ over_step before step rest x goal pile under e =
 abbrev wide : List StatementView → Step → Script → Scope → Scope
 wide before step rest s = grown s (makes_at before (step_script step rest))
 
--- a dropped step leaves what is built behind it
+-- a dropped step leaves what is built after it
 pub built_dropped : (before : List StatementView) (kept : List Obj) (step : Step) (rest : Script) (s : Scope) (pile popped left : List Bool) (flagged : Bool) (done now : List Step) (close : Close)
     → TakesFlag pile popped flagged → flagged ≡ false → IsBuilt before kept rest (wide before step rest s) popped left done now close
     → IsBuilt before kept (step_script step rest) s pile left done now close
@@ -123,7 +123,7 @@ built_kept before kept step rest s pile popped over left flagged done now new cl
     ∙ ap (λ b. cond b (kept_step before kept here s facts more) (trimmed_from before kept rest after.scope after.facts goal)) stays in
     (r.0 ∙ steps_script-append done (new ∷ []) more ∙ ap (steps_script done) (w.0 ∙ sym left_is), r.1)
 
--- behind the last step stands the close
+-- after the last step stands the close
 pub built_close : (before : List StatementView) (kept : List Obj) (d : Script) (s : Scope) (pile left : List Bool) (done : List Step) (close : Close)
     → CloseIsBuilt before kept d s pile left close → IsBuilt before kept d s pile left done done close
 built_close before kept d s pile left done close built facts goal under e = let r = built facts goal under e in (ap (steps_script done) r.0, r.1)

@@ -1,4 +1,4 @@
--- A certificate certifies behind the kept steps alone what it certified.
+-- A certificate certifies after the kept steps alone what it certified.
 use Rattle.std.proofs.Common.{◌≡◌, List, [], ◌∷◌, map, refl, sym, ap, ◌∙◌, subst, Bool, true, false, ◌&&◌, not, true≢false, inl, inr, ℤ, Option, Some, None}
 use Rattle.std.specs.Option.{option_map_or}
 use Rattle.std.specs.List.{list_all}

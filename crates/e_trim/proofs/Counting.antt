@@ -81,7 +81,7 @@ same_number kept sort m n i j = elim (cases_order m n) [
 abbrev pub OfSort : List Obj → Sort → ℕ → Type 0
 OfSort kept sort n = In (obj sort n) kept
 
--- the order stays, and kept points are told apart
+-- the order stays, and kept points stay distinct
 pub keeps : (kept : List Obj) → Keeps (number kept Point) (OfSort kept Point)
 keeps kept = record { grows = number_grows kept Point; same = λ m n i j. same_number kept Point m n i j }
 

@@ -24,16 +24,16 @@ pub on_ok : {A E : Type 0} {P : Type 0} (r : Result A E) → P → OnOk r P
 on_ok (Ok a) h = h
 on_ok (Err e) h = tt
 
--- those behind the first
-abbrev pub behind : List Step → List Step
-behind steps = take (length steps - 1) (drop 1 steps)
+-- those after the first
+abbrev pub later_steps : List Step → List Step
+later_steps steps = take (length steps - 1) (drop 1 steps)
 
-pub first_of : (steps : List Step) (head : Step) → 0 < length steps → head ≡ get_or steps 0 head → head ∷ behind steps ≡ steps
+pub first_of : (steps : List Step) (head : Step) → 0 < length steps → head ≡ get_or steps 0 head → head ∷ later_steps steps ≡ steps
 first_of [] head h is = absurd (omega (arith, h))
-first_of (x ∷ xs) head h is = ap (λ y. y ∷ behind (x ∷ xs)) is ∙ ap (λ ys. x ∷ ys) (take_rest (x ∷ xs) 1)
+first_of (x ∷ xs) head h is = ap (λ y. y ∷ later_steps (x ∷ xs)) is ∙ ap (λ ys. x ∷ ys) (take_rest (x ∷ xs) 1)
 
--- the script is that of the first step, with the others behind it
-pub whole_is : (steps : List Step) (head : Step) (close : Script) → 0 < length steps → head ≡ get_or steps 0 head → steps_script steps close ≡ step_script head (steps_script (behind steps) close)
+-- the script is that of the first step, with the others after it
+pub whole_is : (steps : List Step) (head : Step) (close : Script) → 0 < length steps → head ≡ get_or steps 0 head → steps_script steps close ≡ step_script head (steps_script (later_steps steps) close)
 whole_is steps head close h is = ap (λ xs. steps_script xs close) (sym (first_of steps head h is))
 
 -- ---- what is built
@@ -45,11 +45,11 @@ pub record Begun (before : List StatementView) (steps : List Step) (head : Step)
   pub statements : list_all is_small_statement before ≡ true
   pub scopes : AreSmall before (steps_script steps close) s
 
-begun_scopes : (before : List StatementView) (steps : List Step) (head : Step) (sorts : List Sort) (s : Scope) (close : Script) → Begun before steps head sorts s close → AreSmall before (step_script head (steps_script (behind steps) close)) s
+begun_scopes : (before : List StatementView) (steps : List Step) (head : Step) (sorts : List Sort) (s : Scope) (close : Script) → Begun before steps head sorts s close → AreSmall before (step_script head (steps_script (later_steps steps) close)) s
 begun_scopes before steps head sorts s close b = subst (λ d. AreSmall before d s) (whole_is steps head close b.some b.first) b.scopes
 
 pub begun_small : (before : List StatementView) (steps : List Step) (head : Step) (sorts : List Sort) (s : Scope) (close : Script) → Begun before steps head sorts s close → is_small s ≡ true
-begun_small before steps head sorts s close b = small_here before head (steps_script (behind steps) close) s (begun_scopes before steps head sorts s close b)
+begun_small before steps head sorts s close b = small_here before head (steps_script (later_steps steps) close) s (begun_scopes before steps head sorts s close b)
 
 pub begun_few : (before : List StatementView) (steps : List Step) (head : Step) (sorts : List Sort) (s : Scope) (close : Script) → Begun before steps head sorts s close → length sorts < 2 ^ 15
 begun_few before steps head sorts s close b =
@@ -60,12 +60,12 @@ pub begun_room : (before : List StatementView) (steps : List Step) (head : Step)
 begun_room before steps head sorts s close b = room s (length sorts) (begun_small before steps head sorts s close b) (begun_few before steps head sorts s close b)
 
 pub begun_step : (before : List StatementView) (steps : List Step) (head : Step) (sorts : List Sort) (s : Scope) (close : Script) → Begun before steps head sorts s close → IsSmallStep before head s
-begun_step before steps head sorts s close b = record { rest = steps_script (behind steps) close; small = begun_scopes before steps head sorts s close b }
+begun_step before steps head sorts s close b = record { rest = steps_script (later_steps steps) close; small = begun_scopes before steps head sorts s close b }
 
--- the scopes behind the first step
-pub begun_rest : (before : List StatementView) (steps : List Step) (head : Step) (sorts : List Sort) (s after : Scope) (close : Script) → Begun before steps head sorts s close → after ≡ grown s sorts → AreSmall before (steps_script (behind steps) close) after
+-- the scopes after the first step
+pub begun_rest : (before : List StatementView) (steps : List Step) (head : Step) (sorts : List Sort) (s after : Scope) (close : Script) → Begun before steps head sorts s close → after ≡ grown s sorts → AreSmall before (steps_script (later_steps steps) close) after
 begun_rest before steps head sorts s after close b e =
-    let rest = steps_script (behind steps) close in
+    let rest = steps_script (later_steps steps) close in
     subst (AreSmall before rest) (ap (grown s) (sym (b.makes rest)) ∙ sym e) (small_rest before head rest s (begun_scopes before steps head sorts s close b))
 
 pub wide_few : (s after : Scope) (sorts : List Sort) (kept : List Obj) → after ≡ grown s sorts → FewKept s kept → FewKept after kept
@@ -75,19 +75,19 @@ pub more_few : (s after : Scope) (sorts : List Sort) (kept more : List Obj) → 
 more_few s after sorts kept more e f k = subst (FewKept after) (sym f) (subst (λ x. FewKept x (kept ++ next_objects s sorts)) (sym e) (few_more s sorts kept k))
 
 pub dropped_whole : (before : List StatementView) (kept : List Obj) (steps : List Step) (head : Step) (sorts : List Sort) (s after : Scope) (close : Script) (pile popped left : List Bool) (flagged : Bool) (done now : List Step) (new : Close)
-    → Begun before steps head sorts s close → after ≡ grown s sorts → TakesFlag pile popped flagged → flagged ≡ false → IsBuilt before kept (steps_script (behind steps) close) after popped left done now new
+    → Begun before steps head sorts s close → after ≡ grown s sorts → TakesFlag pile popped flagged → flagged ≡ false → IsBuilt before kept (steps_script (later_steps steps) close) after popped left done now new
     → IsBuilt before kept (steps_script steps close) s pile left done now new
 dropped_whole before kept steps head sorts s after close pile popped left flagged done now new b e takes off built =
-    let rest = steps_script (behind steps) close in
+    let rest = steps_script (later_steps steps) close in
     let at = subst (λ x. IsBuilt before kept rest x popped left done now new) (e ∙ ap (grown s) (b.makes rest)) built in
     subst (λ d. IsBuilt before kept d s pile left done now new) (sym (whole_is steps head close b.some b.first)) (built_dropped before kept head rest s pile popped left flagged done now new takes off at)
 
 pub kept_whole : (before : List StatementView) (kept more : List Obj) (steps : List Step) (head : Step) (sorts : List Sort) (s after : Scope) (close : Script) (pile popped over left : List Bool) (flagged : Bool) (done put now : List Step) (step : Step) (new : Close)
     → Begun before steps head sorts s close → after ≡ grown s sorts → more ≡ kept ++ next_objects s sorts → put ≡ done ++ step ∷ [] → TakesFlag pile popped flagged → flagged ≡ true → StepIsBuilt before kept head s popped over step
-    → IsBuilt before more (steps_script (behind steps) close) after over left put now new
+    → IsBuilt before more (steps_script (later_steps steps) close) after over left put now new
     → IsBuilt before kept (steps_script steps close) s pile left done now new
 kept_whole before kept more steps head sorts s after close pile popped over left flagged done put now step new b e f g takes on own built =
-    let rest = steps_script (behind steps) close in
+    let rest = steps_script (later_steps steps) close in
     let same = b.makes rest in
     let at = subst (λ x. IsBuilt before more rest x over left put now new) (e ∙ ap (grown s) same) built in
     let kept_at = subst (λ ks. IsBuilt before ks rest (grown s (makes_at before (step_script head rest))) over left put now new) (f ∙ ap (λ xs. kept ++ next_objects s xs) same) at in

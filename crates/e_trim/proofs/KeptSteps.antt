@@ -142,7 +142,7 @@ cases_built before kept close lit new first second one other s pile over left is
 
 -- ---- blocks in boxes
 
--- the block that is built of the one behind a box, in a box of its own
+-- the block that is built of the one after a box, in a box of its own
 pub boxed : (before : List StatementView) (kept : List Obj) (inner : Block) (was box : Box Block Global) (block : Block) (s t : Scope) (pile left : List Bool) → inner ≡ was.value → box.value ≡ block → t ≡ s → BlockIsBuilt before kept (script_of inner) t pile left block
     → BlockIsBuilt before kept (script_of was.value) s pile left box.value
 boxed before kept inner was box block s t pile left e f g built =

@@ -1,4 +1,4 @@
--- A kept line is certified behind the kept steps alone.
+-- A kept line is certified after the kept steps alone.
 use Rattle.std.proofs.Common.{◌≡◌, ◌≤◌, List, [], ◌∷◌, ◌++◌, map, refl, sym, ap, ◌∙◌, subst, arith, Bool, true, false, ◌&&◌, not, true≢false, inl, inr, ◌⊎◌, Option, Some, None}
 use Rattle.std.specs.Prelude.{is_some}
 use Rattle.std.specs.Option.{option_map_or}

@@ -1,4 +1,4 @@
--- The goal of a block, and its close, behind the kept steps alone.
+-- The goal of a block, and its close, after the kept steps alone.
 use Rattle.std.proofs.Common.{◌≡◌, ℕ, ◌+◌, ◌<◌, ◌≤◌, List, [], ◌∷◌, ◌++◌, map, refl, sym, ap, ◌∙◌, subst, arith, true, ◌&&◌, ltb, true≢false, inl, inr, ◌⊎◌, Option, Some, None}
 use Rattle.std.specs.Prelude.{is_some}
 use Rattle.std.specs.Option.{option_map, option_map_or}
@@ -66,7 +66,7 @@ own_number b (x ∷ xs) sort n h k = elim (cases_Bool (same_sort x sort)) [
   ]
 ]
 
--- also where more objects are kept behind them
+-- also where more objects are kept after them
 pub declared_number : (t : StatementView) (more : List Obj) (o : Obj) → ((k : Obj) → In k more → count_of (scope_of t) k.sort ≤ k.num) → o.num < count_of (scope_of t) o.sort → number (declared_of t ++ more) o.sort o.num ≡ o.num
 declared_number t more o above h =
     let stays = number_stays (declared_of t) more o.sort o.num (λ k i e. (let a = above k i in let c = ap (λ s. count_of (scope_of t) s) e in omega (arith, a, c, h))) in

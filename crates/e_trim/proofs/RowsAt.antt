@@ -1,4 +1,4 @@
--- The rows of a certificate over the kept objects, behind the kept steps alone.
+-- The rows of a certificate over the kept objects, after the kept steps alone.
 use Rattle.std.proofs.Common.{◌≡◌, ℕ, List, [], ◌∷◌, ◌++◌, map, filter, refl, sym, ap, ◌∙◌, subst, Bool, true, false, not, cond, ℤ, Option, Some}
 use Rattle.std.proofs.lemmas.List.{map-append}
 use Rattle.e_literal.specs.declared.object.Obj.{Obj}

@@ -1,4 +1,4 @@
--- What of the facts is there behind the kept steps alone.
+-- What of the facts is there after the kept steps alone.
 use Rattle.std.proofs.Common.{◌≡◌, List, [], ◌∷◌, ◌++◌, map, filter, refl, sym, ap, ◌∙◌, subst, arith, Bool, true, false, ◌&&◌, not, cond, true≢false, inl, inr, ◌⊎◌}
 use Rattle.std.proofs.lemmas.Bool.{or_parts, false_from_ne_true, cases_Bool}
 use Rattle.std.specs.List.{list_any}

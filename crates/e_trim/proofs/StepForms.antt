@@ -1,4 +1,4 @@
--- The lines of a step with something behind it, what is wanted from it on, its flags, and what is left of it.
+-- The lines of a step with something after it, what is wanted from it on, its flags, and what is left of it.
 use Rattle.std.proofs.Common.{◌≡◌, ℕ, ◌≤◌, List, [], ◌++◌, length, refl, sym, ap, ◌∙◌, subst, Bool, true, ◌&&◌, cond, Box, Global}
 use Rattle.std.specs.Option.{option_map}
 use Rattle.std.specs.List.{list_all}
@@ -65,7 +65,7 @@ step_lines p before (SuperposedStep form names shown certs p0 n0 row0 close0) re
     both_lists p (p (line_at (Superposed form names shown certs inner rest) x.scope x.facts goal)) (lines before inner inner (grown x.scope superposing.sorts_copied) (joined_all x.facts (superposing.gives_of_superposition form x.scope)) (goal_of shown))
     (lines before rest rest x.scope (joined_all x.facts shown) goal)
 
--- all of a step's lines are so: its own, those of its block, and those behind it
+-- all of a step's lines are so: its own, those of its block, and those after it
 pub all_parts : (p : Line → Bool) (before : List StatementView) (step : Step) (rest : Script) (x : StepState) (goal : Goal) → lines_test p before (step_script step rest) x goal ≡ true
     → (p (line_at (step_script step rest) x.scope x.facts goal) ≡ true) × (inner_test p before (step_script step rest) x.scope x.facts ≡ true) × (lines_test p before rest (passed before (step_script step rest) x) goal ≡ true)
 all_parts p before step rest x goal h =
@@ -167,7 +167,7 @@ flags_step before (SuperposedStep form names shown certs p0 n0 row0 close0) rest
 
 -- ---- what is left of it
 
--- the kept step with what is left behind it, or that alone
+-- the kept step with what is left after it, or that alone
 abbrev pub left_of : List StatementView → List Obj → Script → Script → StepState → Goal → Script
 left_of before kept here rest x goal =
     let after = passed before here x in

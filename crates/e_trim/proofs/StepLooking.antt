@@ -14,7 +14,7 @@ use Rattle.e_trim.specs.inner.StepState.{IsReady, IsReadyStep, StepFits, StepAdd
 use Rattle.e_trim.specs.declared.step_state.StepState.{StepState}
 use Rattle.e_trim.specs.declared.step_state.Outer.{Outer}
 use Rattle.e_trim.proofs.StepForms.{ready_rest, ready_fits, ready_small, wants_step, flags_step, passed_keeps, keeps_on, keeps_enough, left_back}
-use Rattle.e_trim.proofs.FirstSteps.{behind, whole_is}
+use Rattle.e_trim.proofs.FirstSteps.{later_steps, whole_is}
 
 -- the steps are ready, and this is the first of them
 pub record Looking (before : List StatementView) (steps : List Step) (head : Step) (x : StepState) (goal : Goal) (close : Script) : Type 0 where
@@ -22,26 +22,26 @@ pub record Looking (before : List StatementView) (steps : List Step) (head : Ste
   pub first : head ≡ get_or steps 0 head
   pub ready : IsReady before (steps_script steps close) x.scope x.facts goal
 
--- behind the first step
+-- after the first step
 abbrev pub IsPast : List StatementView → Step → StepState → StepState → Type 0
 IsPast before head x after = (rest : Script) → after ≡ passed before (step_script head rest) x
 
-at_first : (before : List StatementView) (steps : List Step) (head : Step) (x : StepState) (goal : Goal) (close : Script) → Looking before steps head x goal close → IsReady before (step_script head (steps_script (behind steps) close)) x.scope x.facts goal
+at_first : (before : List StatementView) (steps : List Step) (head : Step) (x : StepState) (goal : Goal) (close : Script) → Looking before steps head x goal close → IsReady before (step_script head (steps_script (later_steps steps) close)) x.scope x.facts goal
 at_first before steps head x goal close l = subst (λ d. IsReady before d x.scope x.facts goal) (whole_is steps head close l.some l.first) l.ready
 
 pub look_fits : (before : List StatementView) (steps : List Step) (head : Step) (x : StepState) (goal : Goal) (close : Script) → Looking before steps head x goal close → StepFits before head x.scope
-look_fits before steps head x goal close l = ready_fits before head (steps_script (behind steps) close) x goal (at_first before steps head x goal close l)
+look_fits before steps head x goal close l = ready_fits before head (steps_script (later_steps steps) close) x goal (at_first before steps head x goal close l)
 
 pub look_small : (before : List StatementView) (steps : List Step) (head : Step) (x : StepState) (goal : Goal) (close : Script) → Looking before steps head x goal close → is_small x.scope ≡ true
-look_small before steps head x goal close l = ready_small before head (steps_script (behind steps) close) x goal (at_first before steps head x goal close l)
+look_small before steps head x goal close l = ready_small before head (steps_script (later_steps steps) close) x goal (at_first before steps head x goal close l)
 
 pub look_step_ready : (before : List StatementView) (steps : List Step) (head : Step) (x : StepState) (goal : Goal) (close : Script) → Looking before steps head x goal close → IsReadyStep before head x
-look_step_ready before steps head x goal close l = record { rest = steps_script (behind steps) close; goal = goal; ready = at_first before steps head x goal close l }
+look_step_ready before steps head x goal close l = record { rest = steps_script (later_steps steps) close; goal = goal; ready = at_first before steps head x goal close l }
 
 pub look_rest : (before : List StatementView) (steps : List Step) (head : Step) (x after : StepState) (goal : Goal) (close : Script) → Looking before steps head x goal close → IsPast before head x after
-    → IsReady before (steps_script (behind steps) close) after.scope after.facts goal
+    → IsReady before (steps_script (later_steps steps) close) after.scope after.facts goal
 look_rest before steps head x after goal close l e =
-    let rest = steps_script (behind steps) close in
+    let rest = steps_script (later_steps steps) close in
     subst (λ (y : StepState). IsReady before rest y.scope y.facts goal) (sym (e rest)) (ready_rest before head rest x goal (at_first before steps head x goal close l))
 
 -- ---- back before the step
@@ -92,9 +92,9 @@ flag_own before step x w kept old mid new k on h e rest =
     e ∙ ap (λ xs. xs ++ true ∷ []) (h rest) ∙ append_assoc old own (true ∷ []) ∙ ap (λ t. old ++ flag t own) (sym (sym (k rest) ∙ on))
 
 pub wanted_whole : (before : List StatementView) (steps : List Step) (head : Step) (x after left : StepState) (goal : Goal) (close : Script) (w new : Wants) → Looking before steps head x goal close → IsPast before head x after → left ≡ x
-    → w ≡ wants before (steps_script (behind steps) close) after.scope after.facts goal → StepAdds before head left w new → new ≡ wants before (steps_script steps close) x.scope x.facts goal
+    → w ≡ wants before (steps_script (later_steps steps) close) after.scope after.facts goal → StepAdds before head left w new → new ≡ wants before (steps_script steps close) x.scope x.facts goal
 wanted_whole before steps head x after left goal close w new l e b f h =
-    let rest = steps_script (behind steps) close in
+    let rest = steps_script (later_steps steps) close in
     let here = step_script head rest in
     let own = f ∙ ap (λ (y : StepState). wants before rest y.scope y.facts goal) (e rest) in
     h rest goal ∙ ap (λ (y : StepState). with_step before here y.scope y.facts goal (inside_of before here y.scope y.facts) w) b
@@ -102,10 +102,10 @@ wanted_whole before steps head x after left goal close w new l e b f h =
     ∙ sym (ap (λ d. wants before d x.scope x.facts goal) (whole_is steps head close l.some l.first) ∙ wants_step before head rest x goal)
 
 pub flags_whole : (before : List StatementView) (steps : List Step) (head : Step) (x after left : StepState) (goal : Goal) (close : Script) (w : Wants) (under over now : List Bool) → Looking before steps head x goal close → IsPast before head x after → left ≡ x
-    → w ≡ wants before (steps_script (behind steps) close) after.scope after.facts goal → over ≡ under ++ flags_of before (steps_script (behind steps) close) after.scope after.facts goal → FlagsAdded before head left w over now
+    → w ≡ wants before (steps_script (later_steps steps) close) after.scope after.facts goal → over ≡ under ++ flags_of before (steps_script (later_steps steps) close) after.scope after.facts goal → FlagsAdded before head left w over now
     → now ≡ under ++ flags_of before (steps_script steps close) x.scope x.facts goal
 flags_whole before steps head x after left goal close w under over now l e b f g h =
-    let rest = steps_script (behind steps) close in
+    let rest = steps_script (later_steps steps) close in
     let here = step_script head rest in
     let past = passed before here x in
     let own = f ∙ ap (λ (y : StepState). wants before rest y.scope y.facts goal) (e rest) in

@@ -1,4 +1,4 @@
--- The sizes of a step, of what stands behind it, and of the blocks inside.
+-- The sizes of a step, of what stands after it, and of the blocks inside.
 use Rattle.std.proofs.Common.{◌≡◌, ℕ, ◌+◌, ◌<◌, ◌≤◌, List, [], sym, ap, ◌∙◌, arith, Box, Global}
 use Rattle.e_literal.specs.declared.literal.Lit.{Lit}
 use Rattle.e_construct.specs.declared.superpose.Superpose.{Superpose}
@@ -24,7 +24,7 @@ one_line (Qed objects certs) = omega arith
 one_line (Contradiction against) = omega arith
 one_line (Cases lit first second) = omega arith
 
--- what stands behind a step is shorter, and the step alone is not longer
+-- what stands after a step is shorter, and the step alone is not longer
 pub size_step : (step : Step) (rest : Script) → size (step_script step rest) + 1 ≡ size (step_script step (Qed [] [])) + size rest
 unfolding size step_script
 size_step (CiteStep by) rest = omega arith

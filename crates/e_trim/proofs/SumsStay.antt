@@ -1,4 +1,4 @@
--- Sums refute behind the kept steps alone what they refuted.
+-- Sums refute after the kept steps alone what they refuted.
 use Rattle.std.proofs.Common.{◌≡◌, List, [], ◌∷◌, map, length, refl, sym, ap, ◌∙◌, subst, Bool, true, false, ◌&&◌, cond, true≢false, inl, ℤ, Option, Some, None}
 use Rattle.std.specs.Prelude.{pos, negsuc, option_and_then}
 use Rattle.std.specs.Option.{option_map, option_map_or}

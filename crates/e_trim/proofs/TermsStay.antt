@@ -1,4 +1,4 @@
--- Terms of a step are terms of it behind the kept steps alone, and ends of segments are apart there as they were.
+-- Terms of a step are terms of it after the kept steps alone, and ends of segments are apart there as they were.
 use Rattle.std.proofs.Common.{◌≡◌, ℕ, List, [], ◌∷◌, ◌++◌, map, refl, sym, ap, ◌∙◌, Bool, true, false, ◌||◌, cond, true≢false, inl, inr, Option, Some, None}
 use Rattle.std.specs.Option.{option_map}
 use Rattle.std.specs.List.{list_any}

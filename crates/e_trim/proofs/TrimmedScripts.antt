@@ -1,4 +1,4 @@
--- A kept step, and what is left behind it, are certified; and what is left behind a dropped one.
+-- A kept step, and what is left after it, are certified; and what is left after a dropped one.
 use Rattle.std.proofs.Common.{◌≡◌, ℕ, List, [], ◌∷◌, ◌++◌, map, length, refl, sym, ap, ◌∙◌, subst, arith, Bool, true, false, ◌&&◌, cond, true≢false, inl, inr, Option, Some, None}
 use Rattle.std.specs.Prelude.{IsTrue}
 use Rattle.std.specs.Option.{option_map, option_map_or}

@@ -1,4 +1,4 @@
-//! Fingerprints of literals: numbers by which most literals that are not the same are told apart at
+//! Fingerprints of literals: numbers by which most literals that are not the same differ at
 //! once.
 
 ghost use Rattle.std.specs.Prelude.{◌≡◌, ◌*◌, ◌<◌, ◌≤◌, ◌^◌};

@@ -11,7 +11,7 @@ ghost use Rattle.e_clause.specs.declared.cert.RowName.TheVariants.{Least};
 ghost use Rattle.e_verify.specs.inner.Small.{is_small_row, is_short};
 ghost use Rattle.e_verify.specs.inner.Views.{row_view, comparison_view, says_view, row_scope_view};
 ghost use Rattle.e_clause.specs.Written.{is_writable_name};
-ghost use Rattle.e_verify.specs.inner.RowScopes.{is_good_row_scope};
+ghost use Rattle.e_verify.specs.inner.RowScopes.{is_well_formed_row_scope};
 
 use crate::facts::{Facts, stands_in};
 use e_clause::RowName;
@@ -79,7 +79,7 @@ impl<'a> Row<'a> {
 
 /// The row with this name, or none where the name may not be used here.
 pub fn row_named<'a>(row_scope: &RowScope<'a>, name: &'a RowName) -> Option<Row<'a>>
-    requires row_scope { IsTrue (is_good_row_scope row_scope.now) }
+    requires row_scope { IsTrue (is_well_formed_row_scope row_scope.now) }
     requires name { IsTrue (is_writable_name name.now) }
     ensures row { option_map row_view result
         ≡ Sum.row_named (row_scope_view row_scope.now) name.now }

@@ -6,7 +6,7 @@ ghost use Rattle.e_literal.specs.Absurd;
 ghost use Rattle.e_clause.specs.Sum;
 ghost use Rattle.e_verify.specs.inner.Views.{says_view, row_scope_view};
 ghost use Rattle.e_clause.specs.Written.{is_writable_sum};
-ghost use Rattle.e_verify.specs.inner.RowScopes.{is_good_row_scope};
+ghost use Rattle.e_verify.specs.inner.RowScopes.{is_well_formed_row_scope};
 
 use crate::adding::add_row;
 use crate::rows::{RowScope, Says, row_named};
@@ -21,11 +21,11 @@ pub fn refutes(
     row_scope: &RowScope,
     sum: &[(i128, RowName)],
 ) -> Result<bool, AllocError>
-    requires row_scope { IsTrue (is_good_row_scope row_scope.now) }
+    requires row_scope { IsTrue (is_well_formed_row_scope row_scope.now) }
     requires sum { IsTrue (is_writable_sum sum.now) }
     ensures { IfOk result (λ b. b ≡ Sum.refutes (row_scope_view row_scope.now) sum.now) }
 {
-    if !is_good_size(sum) {
+    if !has_limited_size(sum) {
         return Ok(false);
     }
     let mut totals = Totals::new(alloc);
@@ -34,7 +34,7 @@ pub fn refutes(
         let Some(row) = row_named(row_scope, name) else {
             return Ok(false);
         };
-        if !is_good_sign(row.says(), *multiplier) {
+        if !allows_sign(row.says(), *multiplier) {
             return Ok(false);
         }
         let is_strict = is_strict(row.says(), *multiplier);
@@ -45,26 +45,26 @@ pub fn refutes(
     Ok(strict && are_zero)
 }
 
-fn is_good_size(sum: &[(i128, RowName)]) -> bool
+fn has_limited_size(sum: &[(i128, RowName)]) -> bool
     ensures { result ≡ Sum.is_limited_sum sum.now }
 {
-    1 <= sum.len() && sum.len() <= 4096 && have_good_multipliers(sum)
+    1 <= sum.len() && sum.len() <= 4096 && have_bounded_multipliers(sum)
 }
 
-fn have_good_multipliers(sum: &[(i128, RowName)]) -> bool
+fn have_bounded_multipliers(sum: &[(i128, RowName)]) -> bool
     ensures { result ≡ list_all (λ x. Sum.is_nonzero_bounded x.0) sum.now }
 {
-    sum.iter().all(|(m, _)| is_good_multiplier(*m))
+    sum.iter().all(|(m, _)| is_bounded_multiplier(*m))
 }
 
 /// Whether it is not 0, and of size at most 2^80.
-fn is_good_multiplier(n: i128) -> bool
+fn is_bounded_multiplier(n: i128) -> bool
     ensures { result ≡ Sum.is_nonzero_bounded n }
 {
     n != 0 && n.unsigned_abs() <= 0x1_0000_0000_0000_0000_0000
 }
 
-fn is_good_sign(says: Says, multiplier: i128) -> bool
+fn allows_sign(says: Says, multiplier: i128) -> bool
     ensures { result ≡ Absurd.allows_multiplier (says_view says) multiplier }
 {
     match says {

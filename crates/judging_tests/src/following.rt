@@ -7,27 +7,27 @@ use e_clause::RowName;
 use e_facts::Facts;
 use e_fraction::{Row, RowKind};
 use e_literal::{Kind, copy};
-use e_metric::{Metric, MetricFacts, absurd, are_few_facts, follows, is_good_goal, system};
+use e_metric::{Metric, MetricFacts, absurd, are_few_facts, follows, is_metric_goal, system};
 use std::alloc::{AllocError, Global};
 use std::mem;
 use std::process::Abort;
 use std::test::Fail;
 
-fn word(told: &Metric) -> &'static str {
-    match told {
+fn word(answered: &Metric) -> &'static str {
+    match answered {
         Metric::Yes(_) => "yes",
         Metric::No(_) => "no",
         Metric::TooWide(_) => "too wide",
     }
 }
 
-fn said(told: Metric) -> &'static str {
-    let word = word(&told);
-    mem::drop(told);
+fn said(answered: Metric) -> &'static str {
+    let word = word(&answered);
+    mem::drop(answered);
     word
 }
 
-fn told(
+fn answered(
     rt: &impl Abort,
     alloc: Global,
     facts: &Facts,
@@ -38,14 +38,14 @@ fn told(
         return Ok(said(absurd(alloc, facts)?));
     }
     let goal = lit(alloc, goal)?;
-    assert!(rt; is_good_goal(&goal));
-    let told = follows(alloc, facts, &goal);
+    assert!(rt; is_metric_goal(&goal));
+    let answered = follows(alloc, facts, &goal);
     mem::drop(goal);
-    Ok(said(told?))
+    Ok(said(answered?))
 }
 
-// The same as `told`, from what the facts tell already.
-fn told_by(
+// The same as `answered`, from what is known of the facts already.
+fn answered_by(
     rt: &impl Abort,
     alloc: Global,
     known: &mut MetricFacts,
@@ -60,14 +60,14 @@ fn told_by(
         return Ok(said(known.absurd_in_turn(alloc, facts)?));
     }
     let goal = lit(alloc, goal)?;
-    assert!(rt; is_good_goal(&goal));
-    let told = known.follows_in_turn(alloc, facts, &goal);
+    assert!(rt; is_metric_goal(&goal));
+    let answered = known.follows_in_turn(alloc, facts, &goal);
     mem::drop(goal);
-    Ok(said(told?))
+    Ok(said(answered?))
 }
 
-// The same as `told`, from all facts at once.
-fn told_by_known(
+// The same as `answered`, from all facts at once.
+fn answered_by_known(
     rt: &impl Abort,
     alloc: Global,
     facts: &Facts,
@@ -75,14 +75,14 @@ fn told_by_known(
 ) -> Result<&'static str, AllocError> {
     assert!(rt; are_few_facts(facts));
     let mut known = MetricFacts::of(alloc, facts)?;
-    let told = told_by(rt, alloc, &mut known, facts, goal);
+    let answered = answered_by(rt, alloc, &mut known, facts, goal);
     mem::drop(known);
-    told
+    answered
 }
 
-// The same as `told`, where these facts come after the others, and the question is asked before
+// The same as `answered`, where these facts come after the others, and the question is asked before
 // each too.
-fn told_behind(
+fn answered_after(
     rt: &impl Abort,
     alloc: Global,
     known: &mut MetricFacts,
@@ -93,14 +93,14 @@ fn told_behind(
     requires { AreFronts some.old known.old }
 {
     for i in 0..facts.len() {
-        told_by(rt, alloc, known, some, goal)?;
+        answered_by(rt, alloc, known, some, goal)?;
         some.add(copy(alloc, facts.get(i))?)?;
     }
-    told_by(rt, alloc, known, some, goal)
+    answered_by(rt, alloc, known, some, goal)
 }
 
-// The same as `told`, where the question is asked before each fact too.
-fn told_in_turn(
+// The same as `answered`, where the question is asked before each fact too.
+fn answered_in_turn(
     rt: &impl Abort,
     alloc: Global,
     facts: &Facts,
@@ -108,10 +108,10 @@ fn told_in_turn(
 ) -> Result<&'static str, AllocError> {
     let mut some = Facts::new(alloc);
     let mut known = MetricFacts::new();
-    let told = told_behind(rt, alloc, &mut known, &mut some, facts, goal);
+    let answered = answered_after(rt, alloc, &mut known, &mut some, facts, goal);
     mem::drop(known);
     mem::drop(some);
-    told
+    answered
 }
 
 // Facts, a goal or none, and whether it follows, or whether the facts contradict each other.
@@ -146,14 +146,14 @@ fn what_follows(rt: HostRuntime) -> Result<(), Fail> {
         let facts = facts_of(rt.alloc(), parts.next().unwrap_or(""))?;
         let goal = parts.next().unwrap_or("");
         let wanted = parts.next().unwrap_or("");
-        assert_eq!(rt; told(&rt, rt.alloc(), &facts, goal)?, wanted, "{line}");
+        assert_eq!(rt; answered(&rt, rt.alloc(), &facts, goal)?, wanted, "{line}");
         assert_eq!(rt;
-            told_by_known(&rt, rt.alloc(), &facts, goal)?,
+            answered_by_known(&rt, rt.alloc(), &facts, goal)?,
             wanted,
             "known: {line}"
         );
         assert_eq!(rt;
-            told_in_turn(&rt, rt.alloc(), &facts, goal)?,
+            answered_in_turn(&rt, rt.alloc(), &facts, goal)?,
             wanted,
             "fact by fact: {line}"
         );
@@ -181,7 +181,7 @@ fn are_of_segments(rows: &[(RowName, Row)]) -> bool {
 fn rows_of(rt: &impl Abort, alloc: Global, which: Kind) -> Result<Vec<(RowName, Row)>, AllocError> {
     let facts = facts_of(alloc, "!b=a ab+cd<ef+cd cd<ef abc=r")?;
     let goal = lit(alloc, "ef<ab")?;
-    assert!(rt; are_few_facts(&facts) && is_good_goal(&goal));
+    assert!(rt; are_few_facts(&facts) && is_metric_goal(&goal));
     system(alloc, which, &facts, Some(&goal))
 }
 

@@ -8,8 +8,8 @@ use crate::literals::{facts_of, lit};
 use e_clause::{Against, Cert, Part};
 use e_facts::{Added, Facts};
 use e_licence::{
-    Context, Filled, Licensed, Refuted, against, are_good_facts, is_good, is_statement, licence,
-    match_blanks,
+    Context, Filled, Licensed, Refuted, against, are_limited_facts, is_statement,
+    is_well_formed_in, licence, match_blanks,
 };
 use e_literal::{Atom, Items, Lit, Obj, Scope, Sort};
 use e_theorem::{Statement, is_pattern};
@@ -44,7 +44,7 @@ fn context(
     text: &str,
 ) -> Result<Context, AllocError> {
     let facts = facts_of(alloc, text)?;
-    assert!(rt; are_good_facts(scope, &facts));
+    assert!(rt; are_limited_facts(scope, &facts));
     begun(alloc, scope, facts)
 }
 
@@ -67,7 +67,7 @@ fn asked(
     wanted: &str,
 ) -> Result<&'static str, AllocError> {
     let wanted = lit(alloc, wanted)?;
-    assert!(rt; is_good(context.scope(), &wanted));
+    assert!(rt; is_well_formed_in(context.scope(), &wanted));
     let licensed = licence(alloc, context, &wanted);
     mem::drop(wanted);
     let licensed = licensed?;

@@ -5,7 +5,7 @@ use e_clause::{Rule, instance};
 use e_facts::Facts;
 use e_literal::{Lit, Obj, Scope, Sort, copy, negate};
 use e_metric::are_few_facts;
-use e_transfer::{Found, are_good_facts, find, is_good};
+use e_transfer::{Found, are_limited_facts, find, is_well_formed_in};
 use std::alloc::{AllocError, Global};
 use std::mem;
 use std::process::Abort;
@@ -31,9 +31,9 @@ fn found(
     facts: &Facts,
     goal: &Lit,
 ) -> Result<&'static str, AllocError> {
-    assert!(rt; are_good_facts(SCOPE, facts));
+    assert!(rt; are_limited_facts(SCOPE, facts));
     assert!(rt; are_few_facts(facts));
-    assert!(rt; is_good(SCOPE, goal));
+    assert!(rt; is_well_formed_in(SCOPE, goal));
     assert!(rt; !facts.has(goal));
     let found = find(alloc, SCOPE, facts, goal)?;
     let word = word(&found);
@@ -128,8 +128,8 @@ fn found_twice(
     let before = found(rt, alloc, facts, goal)?;
     facts.add(lit(alloc, "^abc=^abd")?)?;
     facts.add(lit(alloc, "^abd=0")?)?;
-    let behind = found(rt, alloc, facts, goal)?;
-    Ok((before, behind))
+    let after = found(rt, alloc, facts, goal)?;
+    Ok((before, after))
 }
 
 fn found_beside_wide(
@@ -148,8 +148,8 @@ fn what_is_too_wide_does_not_hide_what_is_found(rt: HostRuntime) -> Result<(), F
     let goal = lit(rt.alloc(), "cL")?;
     let found = found_beside_wide(&rt, rt.alloc(), &goal);
     mem::drop(goal);
-    let (before, behind) = found?;
+    let (before, after) = found?;
     assert_eq!(rt; before, "too wide");
-    assert_eq!(rt; behind, "yes");
+    assert_eq!(rt; after, "yes");
     Ok(())
 }

@@ -28,7 +28,7 @@ const READ: usize = 1 << 12;
 const WRITTEN: usize = 16;
 
 /// How many bytes of an answer are printed in full.
-const TOLD: usize = 6_000;
+const PRINTED: usize = 6_000;
 
 /// The part of a row between its marks.
 fn part<'a>(row: &'a str, number: usize) -> &'a str {
@@ -95,7 +95,7 @@ fn unfolded(alloc: Global, text: &str) -> Result<Vec<u8>, AllocError> {
 fn folded(alloc: Global, written: &[u8], exit: u8) -> Result<String, AllocError> {
     let lines = str::from_utf8(written).unwrap_or("");
     let mut text = String::new(alloc);
-    if lines.len() > TOLD {
+    if lines.len() > PRINTED {
         text.push_str(".. ")?;
         text.push_str(lines.lines().last().unwrap_or(""))?;
         text.push_str("/")?;

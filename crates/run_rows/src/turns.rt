@@ -130,7 +130,7 @@ fn broken_off(
         return Ok(None);
     }
     let silent = ran_nowhere(alloc, asked, reads)?;
-    let front = before_fault(&answered.written).unwrap_or("no fault is told");
+    let front = before_fault(&answered.written).unwrap_or("no fault is reported");
     Ok(Some(Broken {
         front: is_front(front, usual),
         alike: are_alike(&answered, &silent),

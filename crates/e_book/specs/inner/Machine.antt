@@ -17,9 +17,9 @@ use Rattle.e_line.specs.declared.items.BookLine.{BookLine}
 use Rattle.e_line.specs.declared.items.BookLine.TheVariants.{Plain, Define, Listed}
 use Rattle.e_book.specs.declared.item.Item.{Item}
 use Rattle.e_names.specs.declared.known.Known.{Known}
-use Rattle.e_book.specs.declared.draft.Section.{Section}
-use Rattle.e_book.specs.declared.draft.Section.TheVariants.{Showing, Proving, Done}
-use Rattle.e_book.specs.declared.draft.TheoremParser.{TheoremParser}
+use Rattle.e_book.specs.declared.parser.Section.{Section}
+use Rattle.e_book.specs.declared.parser.Section.TheVariants.{Showing, Proving, Done}
+use Rattle.e_book.specs.declared.parser.TheoremParser.{TheoremParser}
 use Rattle.e_book.specs.declared.coming.Coming.{Coming}
 use Rattle.e_line.specs.Reading.{◌>>=◌}
 use Rattle.e_line.specs.Faults.{line_fault}
@@ -32,7 +32,7 @@ use Rattle.e_names.specs.Canonical.{raw_of}
 use Rattle.e_book.specs.Steps.{allowed, declares, shows, begun, begin, FitsScope}
 use Rattle.e_book.specs.Steps as steps
 use Rattle.e_book.specs.Book.{is_last}
-use Rattle.e_book.specs.DraftViews.{entry_of_draft}
+use Rattle.e_book.specs.ParserViews.{entry_of_parser}
 use Rattle.e_line.specs.Items.{line_of, listing_form, is_show}
 use Rattle.e_names.specs.Meanings.{items_in}
 use Rattle.e_book.specs.Grammar.{Rest, is_skipped, put_at, BookFails}
@@ -65,7 +65,7 @@ written notions d line is =
 -- ---- the first line
 
 abbrev pub coming : Bool → TheoremParser → Coming
-coming defines d = record { defines = defines; draft = d; expanded = 0 }
+coming defines d = record { defines = defines; parser = d; expanded = 0 }
 
 unfoldable pub begins_theorem : Known → RawLine → Result Coming FaultKind
 begins_theorem known f = if has_notion_title known.notions f then Err NameTaken else (begin known.theorems f >>= λ d. Ok (coming false d))
@@ -91,18 +91,18 @@ defines_on d (rawlines.Show raws) = right_count (allowed d.place (rawlines.Show 
 defines_on d rawlines.End = right_count (is_showing d.place) >>= λ right. Ok (record d { place = Done })
 defines_on d f = Err Malformed
 
-abbrev pub with_draft : Coming → TheoremParser → Coming
-with_draft c d = record c { draft = d }
+abbrev pub with_parser : Coming → TheoremParser → Coming
+with_parser c d = record c { parser = d }
 
 unfoldable pub goes_on : Known → Coming → RawLine → Result Coming FaultKind
 goes_on known c f =
-    if c.defines then (defines_on c.draft f >>= λ d. Ok (with_draft c d)) else (steps.step known.theorems c.draft f >>= λ d. Ok (with_draft c d))
+    if c.defines then (defines_on c.parser f >>= λ d. Ok (with_parser c d)) else (steps.step known.theorems c.parser f >>= λ d. Ok (with_parser c d))
 
 -- it is taken as it is written out, and then the limit of what items stand for
 unfoldable pub lists : Known → Coming → Listing → List RawItem → Result Coming FaultKind
 lists known c line is = do
   right ← right_count (not c.defines || is_show line)
-  w ← written known.notions c.draft line is
+  w ← written known.notions c.parser line is
   e ← goes_on known c w.0
   few ← within (e.expanded + w.1) most_expanded limits.Expanded
   Ok (record e { expanded = e.expanded + w.1 })
@@ -113,7 +113,7 @@ step known c (Define t) = Err Malformed
 step known c (Listed line is) = lists known c line is
 
 pub record FitsComing (known : Known) (c : Coming) : Type 0 where
-  pub draft : FitsScope c.draft
+  pub parser : FitsScope c.parser
   pub expanded : c.expanded ≤ most_expanded
   pub few : c.defines ≡ false → length known.theorems ≤ most_theorems
 
@@ -124,14 +124,14 @@ line_step known None words = line_of words >>= λ l. begins known l
 line_step known (Some c) words = line_of words >>= λ l. step known c l
 
 abbrev pub is_done : Coming → Bool
-is_done c = is_last c.draft.place
+is_done c = is_last c.parser.place
 
-abbrev pub notion_of_draft : TheoremParser → Titled
-notion_of_draft d = titled d.title (record { declared = d.declared; means = d.shown })
+abbrev pub notion_of_parser : TheoremParser → Titled
+notion_of_parser d = titled d.title (record { declared = d.declared; means = d.shown })
 
 -- what the lines make
 abbrev pub item_of : Coming → BookItem
-item_of c = if c.defines then OfNotion (notion_of_draft c.draft) else OfTheorem (entry_of_draft c.draft)
+item_of c = if c.defines then OfNotion (notion_of_parser c.parser) else OfTheorem (entry_of_parser c.parser)
 
 abbrev pub at_end : ℕ → Option Coming → Answer
 at_end last None = Ok None

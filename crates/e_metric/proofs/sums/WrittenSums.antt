@@ -24,8 +24,8 @@ use Rattle.e_metric.proofs.sums.RowNames.{each_of, each_name, sums_have}
 use Rattle.e_metric.specs.RowOrder.{AreReordered}
 use Rattle.e_metric.proofs.rows.RowOrder.{each_reordered}
 
-abbrev IsGood : NamedRow → Type 0
-IsGood n = is_name_of version.One n.name ≡ true
+abbrev IsNameOfOne : NamedRow → Type 0
+IsNameOfOne n = is_name_of version.One n.name ≡ true
 
 each_known : (ls : List Lit) → list_all is_well_formed ls ≡ true → EachLit (λ l. is_well_formed l ≡ true) ls
 each_known [] h = tt
@@ -35,25 +35,25 @@ each_any : (ls : List Lit) → EachLit (λ l. Unit {0}) ls
 each_any [] = tt
 each_any (l ∷ ls) = (tt, each_any ls)
 
-term_good : (facts : List Lit) (t : Term) → Each IsGood (rows_of_term facts t)
+term_good : (facts : List Lit) (t : Term) → Each IsNameOfOne (rows_of_term facts t)
 term_good facts (Seg a b) = by (are_apart facts a b)
   where
-    by : (c : Bool) → Each IsGood (cond c (named (Pos (Seg a b)) (pos_row (Seg a b)) ∷ []) [])
+    by : (c : Bool) → Each IsNameOfOne (cond c (named (Pos (Seg a b)) (pos_row (Seg a b)) ∷ []) [])
     by true = (refl, tt)
     by false = tt
 term_good facts (Ang a b c) = (refl, tt)
 term_good facts (Area a b c) = tt
 term_good facts Right = tt
 
-kind_good : (which : Kind) → Each IsGood (rows_of_kind which)
+kind_good : (which : Kind) → Each IsNameOfOne (rows_of_kind which)
 kind_good Segment = tt
 kind_good Angle = (refl, tt)
 kind_good AreaKind = tt
 
-system_good : (which : Kind) (facts : List Lit) (wanted : Option Lit) → list_all is_well_formed facts ≡ true → Each IsGood (system which facts wanted)
-system_good which facts wanted good = each_system IsGood which facts wanted
-    (each_literal IsGood (λ l. is_well_formed l ≡ true) which Fact facts (each_known facts good) (λ l r h of e. h))
-    (each_literal IsGood (λ l. Unit {0}) which (λ l. Goal) (against_goal wanted) (each_any (against_goal wanted)) (λ l r h of e. refl))
+system_good : (which : Kind) (facts : List Lit) (wanted : Option Lit) → list_all is_well_formed facts ≡ true → Each IsNameOfOne (system which facts wanted)
+system_good which facts wanted good = each_system IsNameOfOne which facts wanted
+    (each_literal IsNameOfOne (λ l. is_well_formed l ≡ true) which Fact facts (each_known facts good) (λ l r h of e. h))
+    (each_literal IsNameOfOne (λ l. Unit {0}) which (λ l. Goal) (against_goal wanted) (each_any (against_goal wanted)) (λ l r h of e. refl))
     (λ t a. term_good facts t)
     (kind_good which)
 
@@ -71,5 +71,5 @@ pub written_well : (which : Kind) (facts : List Lit) (wanted : Option Lit) (ns :
 written_well which facts wanted ns order names gs ts a e good =
     one_of (certificate_sums names gs ts a)
     ∙ sums_have (is_name_of version.One) names gs ts a (record { goal = refl; above = refl; below = refl })
-    (ap (list_all (is_name_of version.One)) e ∙ each_name (is_name_of version.One) ns (each_reordered ns (system which facts wanted) order IsGood (system_good which facts wanted good)))
+    (ap (list_all (is_name_of version.One)) e ∙ each_name (is_name_of version.One) ns (each_reordered ns (system which facts wanted) order IsNameOfOne (system_good which facts wanted good)))
     (no_literal ts)

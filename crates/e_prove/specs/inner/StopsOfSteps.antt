@@ -4,7 +4,7 @@ use Rattle.e_literal.specs.declared.object.Obj.{Obj}
 use Rattle.e_literal.specs.declared.literal.Lit.{Lit}
 use Rattle.e_literal.specs.Use.{StatementView, needs_of_use}
 use Rattle.e_clause.specs.Wide.{IsTooWideLit}
-use Rattle.e_theorem.specs.Choice.{NoneIsGood}
+use Rattle.e_theorem.specs.Choice.{NoneIsAllowed}
 use Rattle.e_theorem.specs.WideChoice.{SomeChoiceIsTooWide}
 use Rattle.e_licence.specs.Contexts.{Basis}
 use Rattle.e_licence.specs.declared.contradiction.Refuted.{Refuted}
@@ -40,7 +40,7 @@ StepStopsAmong x ls NoMemory = Unit {0}
 
 -- no choice for the blanks is good, or one that is not above the least good one is too wide; out of memory is free
 abbrev pub StepStopsFilling : StatementView → Basis → List (Option Obj) → StepStop → Type 0
-StepStopsFilling t x pattern (Lacks Match values) = NoneIsGood t x.scope x.facts pattern × (values ≡ None)
+StepStopsFilling t x pattern (Lacks Match values) = NoneIsAllowed t x.scope x.facts pattern × (values ≡ None)
 StepStopsFilling t x pattern (TooWide Match width) = SomeChoiceIsTooWide t x.scope x.facts pattern width
 StepStopsFilling t x pattern (Lacks (Literal l) values) = ⊥
 StepStopsFilling t x pattern (Lacks Contradiction values) = ⊥

@@ -1,4 +1,4 @@
--- Each line of a theorem adds itself to what was said, and what it owes is said behind it.
+-- Each line of a theorem adds itself to what was said, and what it owes is said after it.
 use Rattle.std.proofs.Common.{◌≡◌, ℕ, pos, true, false, eqb, List, [], ◌∷◌, ◌++◌, length, map, Option, Some, None, Ok, refl, sym, ap, subst, ◌∙◌, arith, append_assoc}
 use Rattle.std.specs.Option.{option_to_list}
 use Rattle.std.proofs.lemmas.List.{append-nil}
@@ -14,9 +14,9 @@ use Rattle.e_line.specs.declared.applies.RawApply.{RawApply}
 use Rattle.e_line.specs.declared.superposes.RawSuperpose.{RawSuperpose}
 use Rattle.e_line.specs.declared.raw_line.RawLine.{RawLine}
 use Rattle.e_line.specs.declared.raw_line.RawLine.TheVariants as rawlines
-use Rattle.e_book.specs.declared.draft.Section.{Section}
-use Rattle.e_book.specs.declared.draft.Section.TheVariants.{Declaring, Giving, Making, Showing, Proving, Splitting, Closed, Done}
-use Rattle.e_book.specs.declared.draft.TheoremParser.{TheoremParser}
+use Rattle.e_book.specs.declared.parser.Section.{Section}
+use Rattle.e_book.specs.declared.parser.Section.TheVariants.{Declaring, Giving, Making, Showing, Proving, Splitting, Closed, Done}
+use Rattle.e_book.specs.declared.parser.TheoremParser.{TheoremParser}
 use Rattle.e_names.specs.TitledStatements.{TitledStatement}
 use Rattle.e_book.specs.TheoremViews.{TheoremView}
 use Rattle.e_clause.specs.declared.cert.Sums.TheVariants.{One}
@@ -47,29 +47,29 @@ use Rattle.e_roundtrip.proofs.OneLine.FormsRead.{Read}
 use Rattle.e_roundtrip.proofs.Certificates.OwedSpelled.{owed_text, kept_text, due_at_first, FitsDue}
 use Rattle.e_roundtrip.proofs.Blocks.BlocksSaid.{BodySaid, head_of}
 use Rattle.e_roundtrip.proofs.Blocks.ProofSaid.{Takes, takes_by, takes_hence, takes_let, takes_apply, takes_claim, takes_superpose, takes_cases, takes_else, takes_qed, takes_contradiction}
-use Rattle.e_roundtrip.proofs.Heads.HeadTaken.{InProof, DraftSaid, Puts, puts_declared, puts_made, puts_given, puts_shown, puts_proof}
+use Rattle.e_roundtrip.proofs.Heads.HeadTaken.{InProof, ParserSaid, Puts, puts_declared, puts_made, puts_given, puts_shown, puts_proof}
 
 -- ---- what a line leaves
 
 -- whatever is kept for it that has the form of what it owes, it and that are said; and the last line owes nothing
 pub record Leaves (known : List TitledStatement) (d e : TheoremParser) (f : RawLine) (owes : Obligation) (ks : List StepCerts) (ls : List (List ℕ)) : Type 0 where
-  pub said : (k : Option StepCerts) → KeptIsFormed (scope_of_names d.in_scope) (due_at_first owes) k → DraftSaid known e.place e (ks ++ option_to_list k) ((ls ++ line_of f ∷ []) ++ kept_text d.in_scope k)
+  pub said : (k : Option StepCerts) → KeptIsFormed (scope_of_names d.in_scope) (due_at_first owes) k → ParserSaid known e.place e (ks ++ option_to_list k) ((ls ++ line_of f ∷ []) ++ kept_text d.in_scope k)
   pub last : is_last e.place ≡ true → owes ≡ due.Nothing
 
 -- a line that owes nothing
 pub nothing_left : (known : List TitledStatement) (d e : TheoremParser) (f : RawLine) (ks : List StepCerts) (ls : List (List ℕ)) → Puts known e f ks ls → Leaves known d e f due.Nothing ks ls
 nothing_left known d e f ks ls h = record { said = λ k a. by_kept k a; last = λ l. refl } where
-  by_kept : (k : Option StepCerts) → KeptIsFormed (scope_of_names d.in_scope) due.Nothing k → DraftSaid known e.place e (ks ++ option_to_list k) ((ls ++ line_of f ∷ []) ++ kept_text d.in_scope k)
+  by_kept : (k : Option StepCerts) → KeptIsFormed (scope_of_names d.in_scope) due.Nothing k → ParserSaid known e.place e (ks ++ option_to_list k) ((ls ++ line_of f ∷ []) ++ kept_text d.in_scope k)
   by_kept None a =
-      subst (λ (l : List (List ℕ)). DraftSaid known e.place e (ks ++ []) l) (sym (append-nil (ls ++ line_of f ∷ [])))
-      (subst (λ (k : List StepCerts). DraftSaid known e.place e k (ls ++ line_of f ∷ [])) (sym (append-nil ks)) h)
+      subst (λ (l : List (List ℕ)). ParserSaid known e.place e (ks ++ []) l) (sym (append-nil (ls ++ line_of f ∷ [])))
+      (subst (λ (k : List StepCerts). ParserSaid known e.place e k (ls ++ line_of f ∷ [])) (sym (append-nil ks)) h)
   by_kept (Some k) a = absurd a
 
 -- the line of a head owes nothing
 pub head_left : (known : List TitledStatement) (d e : TheoremParser) (f : RawLine) (owes : Obligation) (ks : List StepCerts) (ls : List (List ℕ)) → read_ok due.Nothing ≡ Ok owes → Puts known e f ks ls → Leaves known d e f owes ks ls
 head_left known d e f owes ks ls o h = subst (λ (x : Obligation). Leaves known d e f x ks ls) (ok_is due.Nothing owes o) (nothing_left known d e f ks ls h)
 
-in_proof : (known : List TitledStatement) (p : Section) (e : TheoremParser) (ks : List StepCerts) (ls said : List (List ℕ)) → ls ≡ map line_of (head_forms (head_of e)) ++ said → BodySaid known p e ks said → DraftSaid known p e ks ls
+in_proof : (known : List TitledStatement) (p : Section) (e : TheoremParser) (ks : List StepCerts) (ls said : List (List ℕ)) → ls ≡ map line_of (head_forms (head_of e)) ++ said → BodySaid known p e ks said → ParserSaid known p e ks ls
 in_proof known Declaring e ks ls said h b = absurd b
 in_proof known Giving e ks ls said h b = absurd b
 in_proof known Making e ks ls said h b = absurd b
@@ -79,8 +79,8 @@ in_proof known Splitting e ks ls said h b = record { said = said; lines = h; bod
 in_proof known Closed e ks ls said h b = record { said = said; lines = h; body = b }
 in_proof known Done e ks ls said h b = record { said = said; lines = h; body = b }
 
-behind_head : (head said line more : List (List ℕ)) → ((head ++ said) ++ line) ++ more ≡ head ++ ((said ++ line) ++ more)
-behind_head head said line more = ap (λ (l : List (List ℕ)). l ++ more) (append_assoc head said line) ∙ append_assoc head (said ++ line) more
+after_head : (head said line more : List (List ℕ)) → ((head ++ said) ++ line) ++ more ≡ head ++ ((said ++ line) ++ more)
+after_head head said line more = ap (λ (l : List (List ℕ)). l ++ more) (append_assoc head said line) ∙ append_assoc head (said ++ line) more
 
 -- something can be kept for whatever is owed
 abbrev by_facts : List Lit → List Cert
@@ -105,7 +105,7 @@ proof_left known d e f owes p ks ls i t =
           let head = map line_of (head_forms (head_of d)) in
           let text = kept_text d.in_scope k in
           in_proof known e.place e (ks ++ option_to_list k) ((ls ++ line_of f ∷ []) ++ text) ((i.said ++ line_of f ∷ []) ++ text)
-          (ap (λ (l : List (List ℕ)). (l ++ line_of f ∷ []) ++ text) i.lines ∙ behind_head head i.said (line_of f ∷ []) text
+          (ap (λ (l : List (List ℕ)). (l ++ line_of f ∷ []) ++ text) i.lines ∙ after_head head i.said (line_of f ∷ []) text
           ∙ ap (λ (x : TheoremView). map line_of (head_forms x) ++ ((i.said ++ line_of f ∷ []) ++ text)) (sym g.head)) g.body;
       last = λ l. absurd (no_last (sym (t one.0 one.1).unfinished ∙ l));
     }
@@ -118,47 +118,47 @@ proof_left known d e f owes p ks ls i t =
 abbrev Inside : List TitledStatement → Section → TheoremParser → List StepCerts → List (List ℕ) → Type 0
 Inside known p d ks ls = (p ≡ Proving) × InProof known Proving d ks ls
 
-at_by : (known : List TitledStatement) (p : Section) (d : TheoremParser) (ks : List StepCerts) (ls : List (List ℕ)) (r : List ℕ) (ns : List (List ℕ)) (l : RawLit) → allowed p (rawlines.By r ns l) ≡ true → DraftSaid known p d ks ls → Inside known p d ks ls
+at_by : (known : List TitledStatement) (p : Section) (d : TheoremParser) (ks : List StepCerts) (ls : List (List ℕ)) (r : List ℕ) (ns : List (List ℕ)) (l : RawLit) → allowed p (rawlines.By r ns l) ≡ true → ParserSaid known p d ks ls → Inside known p d ks ls
 at_by known Proving d ks ls r ns l a h = (refl, h)
 at_by known p d ks ls r ns l a h = absurd cc
 
-at_hence : (known : List TitledStatement) (p : Section) (d : TheoremParser) (ks : List StepCerts) (ls : List (List ℕ)) (l : RawLit) → allowed p (rawlines.Hence l) ≡ true → DraftSaid known p d ks ls → Inside known p d ks ls
+at_hence : (known : List TitledStatement) (p : Section) (d : TheoremParser) (ks : List StepCerts) (ls : List (List ℕ)) (l : RawLit) → allowed p (rawlines.Hence l) ≡ true → ParserSaid known p d ks ls → Inside known p d ks ls
 at_hence known Proving d ks ls l a h = (refl, h)
 at_hence known p d ks ls l a h = absurd cc
 
-at_let : (known : List TitledStatement) (p : Section) (d : TheoremParser) (ks : List StepCerts) (ls : List (List ℕ)) (l : RawLet) → allowed p (rawlines.Let l) ≡ true → DraftSaid known p d ks ls → Inside known p d ks ls
+at_let : (known : List TitledStatement) (p : Section) (d : TheoremParser) (ks : List StepCerts) (ls : List (List ℕ)) (l : RawLet) → allowed p (rawlines.Let l) ≡ true → ParserSaid known p d ks ls → Inside known p d ks ls
 at_let known Proving d ks ls l a h = (refl, h)
 at_let known p d ks ls l a h = absurd cc
 
-at_apply : (known : List TitledStatement) (p : Section) (d : TheoremParser) (ks : List StepCerts) (ls : List (List ℕ)) (raw : RawApply) → allowed p (rawlines.Apply raw) ≡ true → DraftSaid known p d ks ls → Inside known p d ks ls
+at_apply : (known : List TitledStatement) (p : Section) (d : TheoremParser) (ks : List StepCerts) (ls : List (List ℕ)) (raw : RawApply) → allowed p (rawlines.Apply raw) ≡ true → ParserSaid known p d ks ls → Inside known p d ks ls
 at_apply known Proving d ks ls raw a h = (refl, h)
 at_apply known p d ks ls raw a h = absurd cc
 
-at_claim : (known : List TitledStatement) (p : Section) (d : TheoremParser) (ks : List StepCerts) (ls : List (List ℕ)) (raws : List RawLit) → allowed p (rawlines.Claim raws) ≡ true → DraftSaid known p d ks ls → Inside known p d ks ls
+at_claim : (known : List TitledStatement) (p : Section) (d : TheoremParser) (ks : List StepCerts) (ls : List (List ℕ)) (raws : List RawLit) → allowed p (rawlines.Claim raws) ≡ true → ParserSaid known p d ks ls → Inside known p d ks ls
 at_claim known Proving d ks ls raws a h = (refl, h)
 at_claim known p d ks ls raws a h = absurd cc
 
-at_superpose : (known : List TitledStatement) (p : Section) (d : TheoremParser) (ks : List StepCerts) (ls : List (List ℕ)) (raw : RawSuperpose) → allowed p (rawlines.Superpose raw) ≡ true → DraftSaid known p d ks ls → Inside known p d ks ls
+at_superpose : (known : List TitledStatement) (p : Section) (d : TheoremParser) (ks : List StepCerts) (ls : List (List ℕ)) (raw : RawSuperpose) → allowed p (rawlines.Superpose raw) ≡ true → ParserSaid known p d ks ls → Inside known p d ks ls
 at_superpose known Proving d ks ls raw a h = (refl, h)
 at_superpose known p d ks ls raw a h = absurd cc
 
-at_cases : (known : List TitledStatement) (p : Section) (d : TheoremParser) (ks : List StepCerts) (ls : List (List ℕ)) (l : RawLit) → allowed p (rawlines.Cases l) ≡ true → DraftSaid known p d ks ls → Inside known p d ks ls
+at_cases : (known : List TitledStatement) (p : Section) (d : TheoremParser) (ks : List StepCerts) (ls : List (List ℕ)) (l : RawLit) → allowed p (rawlines.Cases l) ≡ true → ParserSaid known p d ks ls → Inside known p d ks ls
 at_cases known Proving d ks ls l a h = (refl, h)
 at_cases known p d ks ls l a h = absurd cc
 
-at_qed : (known : List TitledStatement) (p : Section) (d : TheoremParser) (ks : List StepCerts) (ls : List (List ℕ)) (ns : List (List ℕ)) → allowed p (rawlines.Qed ns) ≡ true → DraftSaid known p d ks ls → Inside known p d ks ls
+at_qed : (known : List TitledStatement) (p : Section) (d : TheoremParser) (ks : List StepCerts) (ls : List (List ℕ)) (ns : List (List ℕ)) → allowed p (rawlines.Qed ns) ≡ true → ParserSaid known p d ks ls → Inside known p d ks ls
 at_qed known Proving d ks ls ns a h = (refl, h)
 at_qed known p d ks ls ns a h = absurd cc
 
-at_contradiction : (known : List TitledStatement) (p : Section) (d : TheoremParser) (ks : List StepCerts) (ls : List (List ℕ)) → allowed p rawlines.Contradiction ≡ true → DraftSaid known p d ks ls → Inside known p d ks ls
+at_contradiction : (known : List TitledStatement) (p : Section) (d : TheoremParser) (ks : List StepCerts) (ls : List (List ℕ)) → allowed p rawlines.Contradiction ≡ true → ParserSaid known p d ks ls → Inside known p d ks ls
 at_contradiction known Proving d ks ls a h = (refl, h)
 at_contradiction known p d ks ls a h = absurd cc
 
-at_else : (known : List TitledStatement) (p : Section) (d : TheoremParser) (ks : List StepCerts) (ls : List (List ℕ)) → allowed p rawlines.Else ≡ true → DraftSaid known p d ks ls → InProof known Splitting d ks ls
+at_else : (known : List TitledStatement) (p : Section) (d : TheoremParser) (ks : List StepCerts) (ls : List (List ℕ)) → allowed p rawlines.Else ≡ true → ParserSaid known p d ks ls → InProof known Splitting d ks ls
 at_else known Splitting d ks ls a h = h
 at_else known p d ks ls a h = absurd cc
 
-at_end : (known : List TitledStatement) (p : Section) (d : TheoremParser) (ks : List StepCerts) (ls : List (List ℕ)) → allowed p rawlines.End ≡ true → DraftSaid known p d ks ls → InProof known Closed d ks ls
+at_end : (known : List TitledStatement) (p : Section) (d : TheoremParser) (ks : List StepCerts) (ls : List (List ℕ)) → allowed p rawlines.End ≡ true → ParserSaid known p d ks ls → InProof known Closed d ks ls
 at_end known Closed d ks ls a h = h
 at_end known p d ks ls a h = absurd cc
 
@@ -178,7 +178,7 @@ puts_end known d e ks ls i h =
       body = (i.said, i.body, refl);
     })
 
-pub line_left : (known : List TitledStatement) (d e : TheoremParser) (f : RawLine) (owes : Obligation) (ks : List StepCerts) (ls : List (List ℕ)) → DraftSaid known d.place d ks ls → Read f → is_strict f ≡ true → is_apart d f ≡ true
+pub line_left : (known : List TitledStatement) (d e : TheoremParser) (f : RawLine) (owes : Obligation) (ks : List StepCerts) (ls : List (List ℕ)) → ParserSaid known d.place d ks ls → Read f → is_strict f ≡ true → is_apart d f ≡ true
     → due_of known d f ≡ Ok owes → allowed d.place f ≡ true → stepped known d f ≡ Ok e → Leaves known d e f owes ks ls
 unfolding due_of
 line_left known d e (rawlines.Theorem t) owes ks ls g r s n o a h = absurd (no_title known d e t h)
@@ -224,7 +224,7 @@ line_left known d e rawlines.Else owes ks ls g r s n o a h =
 line_left known d e rawlines.End owes ks ls g r s n o a h = head_left known d e rawlines.End owes ks ls o (puts_end known d e ks ls (at_end known d.place d ks ls a g) h)
 
 -- a line at its place
-pub step_left : (known : List TitledStatement) (d e : TheoremParser) (f : RawLine) (owes : Obligation) (ks : List StepCerts) (ls : List (List ℕ)) → DraftSaid known d.place d ks ls → Read f → is_strict f ≡ true → is_apart d f ≡ true
+pub step_left : (known : List TitledStatement) (d e : TheoremParser) (f : RawLine) (owes : Obligation) (ks : List StepCerts) (ls : List (List ℕ)) → ParserSaid known d.place d ks ls → Read f → is_strict f ≡ true → is_apart d f ≡ true
     → due_of known d f ≡ Ok owes → step known d f ≡ Ok e → Leaves known d e f owes ks ls
 unfolding step
 step_left known d e f owes ks ls g r s n o h = let p = passes (allowed d.place f) (stepped known d f) e h in line_left known d e f owes ks ls g r s n o p.0 p.1

@@ -13,7 +13,7 @@ use Rattle.e_construct.specs.Lines.{Piece, pieces}
 use Rattle.e_line.specs.declared.lets.RawLet.{RawLet}
 use Rattle.e_line.specs.declared.raw_line.RawLine.{RawLine}
 use Rattle.e_line.specs.declared.raw_line.RawLine.TheVariants as rawlines
-use Rattle.e_book.specs.declared.draft.TheoremParser.{TheoremParser}
+use Rattle.e_book.specs.declared.parser.TheoremParser.{TheoremParser}
 use Rattle.e_names.specs.TitledStatements.{TitledStatement}
 use Rattle.e_book.specs.Steps.{step}
 use Rattle.e_book.specs.Book.{is_done}
@@ -30,7 +30,7 @@ use Rattle.e_cert.specs.declared.kept.StepCerts.{StepCerts}
 use Rattle.e_read.specs.declared.reading.BlockParser.{BlockParser}
 use Rattle.e_clause.specs.declared.cert.Version.{Version}
 use Rattle.e_cert.specs.CertLines.{cert_line_text, cert_line_is_of}
-use Rattle.e_cert.proofs.GoodKept.{is_good_kept, AreGood}
+use Rattle.e_cert.proofs.GoodKept.{are_certs_of_version, AreOfVersion}
 use Rattle.e_line.specs.Strict.{is_strict, exact_line_of, exact_line}
 use Rattle.e_read.specs.Strict.{is_apart}
 use Rattle.e_cert.specs.Owed.{after_cert_line, finish_certs}
@@ -111,10 +111,10 @@ no_bar known r line rawlines.End = refl
 -- a line is taken, and the theorem goes on
 pub record OneLine (known : List TitledStatement) (r : BlockParser) (line : List ℕ) (next : BlockParser) : Type 0 where
   pub before : TheoremParser
-  pub here : r.draft ≡ Some before
+  pub here : r.parser ≡ Some before
   pub leads : worded known r line (tokens_of line) ≡ Ok next
   pub after : TheoremParser
-  pub there : next.draft ≡ Some after
+  pub there : next.parser ≡ Some after
   pub going : is_done after ≡ false
 
 abbrev pub AllTaken : List TitledStatement → BlockParser → List (List ℕ) → BlockParser → Type 0
@@ -125,9 +125,9 @@ pub taken_append : (known : List TitledStatement) (r next last : BlockParser) (x
 taken_append known r next last [] ys a b = subst (λ (x : BlockParser). AllTaken known x ys last) (sym a) b
 taken_append known r next last (x ∷ xs) ys a b = (a.0, a.1, taken_append known a.0 next last xs ys a.2 b)
 
--- the draft that has come, and what is kept of its lines once nothing more is owed
+-- the parser that has come, and what is kept of its lines once nothing more is owed
 pub record Stands (r : BlockParser) (d : TheoremParser) (ks : List StepCerts) : Type 0 where
-  pub draft : r.draft ≡ Some d
+  pub parser : r.parser ≡ Some d
   pub read : Option StepCerts
   pub settles : finish_certs r.owed ≡ Ok read
   pub kept : r.kept ++ option_to_list read ≡ ks
@@ -138,18 +138,18 @@ pub record Reached (known : List TitledStatement) (r : BlockParser) (lines : Lis
   pub taken : AllTaken known r lines last
   pub stands : Stands last e ks
 
--- the lines lead from one draft to another, and so much more is kept, where that is of the version of the text
+-- the lines lead from one parser to another, and so much more is kept, where that is of the version of the text
 abbrev pub Along : List TitledStatement → TheoremParser → List (List ℕ) → TheoremParser → List StepCerts → Type 0
-Along known d lines e more = (r : BlockParser) (ks : List StepCerts) → AreGood r.version more → Stands r d ks → Reached known r lines e (ks ++ more)
+Along known d lines e more = (r : BlockParser) (ks : List StepCerts) → AreOfVersion r.version more → Stands r d ks → Reached known r lines e (ks ++ more)
 
 abbrev AreOf : Version → List StepCerts → Bool
-AreOf v ks = list_all (is_good_kept v) ks
+AreOf v ks = list_all (are_certs_of_version v) ks
 
 pub along_append : (known : List TitledStatement) (d e f : TheoremParser) (xs ys : List (List ℕ)) (js ls : List StepCerts) → Along known d xs e js → Along known e ys f ls → Along known d (xs ++ ys) f (js ++ ls)
 along_append known d e f xs ys js ls p q = λ r ks of s.
-    let both = and_parts (AreOf r.version js) (AreOf r.version ls) (sym (list_all-append (is_good_kept r.version) js ls) ∙ of) in
+    let both = and_parts (AreOf r.version js) (AreOf r.version ls) (sym (list_all-append (are_certs_of_version r.version) js ls) ∙ of) in
     let a = p r ks both.0 s in
-    let b = q a.last (ks ++ js) (subst (λ (v : Version). AreGood v ls) (sym a.version) both.1) a.stands in
+    let b = q a.last (ks ++ js) (subst (λ (v : Version). AreOfVersion v ls) (sym a.version) both.1) a.stands in
     record {
       last = b.last;
       version = b.version ∙ a.version;
@@ -170,7 +170,7 @@ words_lead known r words o l m =
     let of : cert_line_is_of r.version m.cert_line ≡ true = sym (ap (cert_line_is_of r.version) same) ∙ l.3 in
     subst (λ (ws : List (List ℕ)). worded known r (joined ws) (tokens_of (joined ws)) ≡ Ok (record r { owed = o })) (sym m.spelled) (cert_line_leads known r m.cert_line o m.named of m.leads)
 
-cert_lines_taken : (known : List TitledStatement) (r : BlockParser) (d : TheoremParser) (lines : List (List (List ℕ))) (last : Pending) → r.draft ≡ Some d → is_done d ≡ false → LinesOf r.version lines → Fed r.owed lines last → AllTaken known r (map joined lines) (record r { owed = last })
+cert_lines_taken : (known : List TitledStatement) (r : BlockParser) (d : TheoremParser) (lines : List (List (List ℕ))) (last : Pending) → r.parser ≡ Some d → is_done d ≡ false → LinesOf r.version lines → Fed r.owed lines last → AllTaken known r (map joined lines) (record r { owed = last })
 cert_lines_taken known r d [] last here going of fed = ap (λ (o : Pending). record r { owed = o }) fed
 cert_lines_taken known r d (words ∷ lines) last here going of fed = (
   record r { owed = fed.0 },
@@ -181,23 +181,23 @@ cert_lines_taken known r d (words ∷ lines) last here going of fed = (
 -- ---- a line of the script with its certificates
 
 pub form_leads : (known : List TitledStatement) (r : BlockParser) (d e : TheoremParser) (ks : List StepCerts) (f : RawLine) (owed : Obligation) → Stands r d ks → GoodForm f → is_strict (as_read f) ≡ true → is_apart d (as_read f) ≡ true → due_of known d (as_read f) ≡ Ok owed
-    → step known d (as_read f) ≡ Ok e → worded known r (line_of f) (tokens_of (line_of f)) ≡ Ok (record { version = r.version; draft = Some e; owed = owing d.in_scope owed None; kept = ks })
+    → step known d (as_read f) ≡ Ok e → worded known r (line_of f) (tokens_of (line_of f)) ≡ Ok (record { version = r.version; parser = Some e; owed = owing d.in_scope owed None; kept = ks })
 unfolding with_form owed_by stepped
 form_leads known r d e ks f owed s good strict apart due steps =
     ap (worded known r (line_of f)) (words_again f good) ∙ no_bar known r (line_of f) f
-    ∙ rw (strict_form_again f good strict, s.settles, s.draft, apart, due, steps) (ap (λ (x : List StepCerts). Ok (record { version = r.version; draft = Some e; owed = owing d.in_scope owed None; kept = x })) s.kept)
+    ∙ rw (strict_form_again f good strict, s.settles, s.parser, apart, due, steps) (ap (λ (x : List StepCerts). Ok (record { version = r.version; parser = Some e; owed = owing d.in_scope owed None; kept = x })) s.kept)
 
 pub step_along : (known : List TitledStatement) (d e : TheoremParser) (f : RawLine) (owed : Obligation) (lines : List (List (List ℕ))) (k : Option StepCerts) → GoodForm f → is_strict (as_read f) ≡ true → is_apart d (as_read f) ≡ true → due_of known d (as_read f) ≡ Ok owed
     → step known d (as_read f) ≡ Ok e → is_done e ≡ false → Keeps d.in_scope owed lines k → Along known d (line_of f ∷ map joined lines) e (option_to_list k)
 step_along known d e f owed lines k good strict apart due steps going keeps = λ r ks of s.
-    let begun : BlockParser = record { version = r.version; draft = Some e; owed = owing d.in_scope owed None; kept = ks } in
+    let begun : BlockParser = record { version = r.version; parser = Some e; owed = owing d.in_scope owed None; kept = ks } in
     record {
       last = record begun { owed = keeps.last };
       version = refl;
       taken = (
         begun,
-        record { before = d; here = s.draft; leads = form_leads known r d e ks f owed s good strict apart due steps; after = e; there = refl; going = going },
+        record { before = d; here = s.parser; leads = form_leads known r d e ks f owed s good strict apart due steps; after = e; there = refl; going = going },
         cert_lines_taken known begun e lines keeps.last refl going (keeps.of r.version of) keeps.fed,
       );
-      stands = record { draft = refl; read = k; settles = keeps.settles; kept = refl };
+      stands = record { parser = refl; read = k; settles = keeps.settles; kept = refl };
     }

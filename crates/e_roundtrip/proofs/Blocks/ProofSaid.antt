@@ -32,15 +32,15 @@ use Rattle.e_line.specs.declared.raw_line.RawLine.{RawLine}
 use Rattle.e_line.specs.declared.raw_line.RawLine.TheVariants as rawlines
 use Rattle.e_book.specs.declared.blocks.OpenBlock.{OpenBlock}
 use Rattle.e_book.specs.declared.blocks.BlockKind.{BlockKind}
-use Rattle.e_book.specs.declared.blocks.BlockKind.TheVariants as opened
+use Rattle.e_book.specs.declared.blocks.BlockKind.TheVariants as kind
 use Rattle.e_book.specs.declared.steps.CloseLine.TheVariants as closes
-use Rattle.e_book.specs.declared.draft.Section.{Section}
-use Rattle.e_book.specs.declared.draft.Section.TheVariants.{Proving, Splitting}
-use Rattle.e_book.specs.declared.draft.TheoremParser.{TheoremParser}
+use Rattle.e_book.specs.declared.parser.Section.{Section}
+use Rattle.e_book.specs.declared.parser.Section.TheVariants.{Proving, Splitting}
+use Rattle.e_book.specs.declared.parser.TheoremParser.{TheoremParser}
 use Rattle.e_line.specs.Reading.{◌>>=◌}
 use Rattle.e_line.specs.Limits.{within, most_steps, most_depth, most_facts, most_blanks}
 use Rattle.e_names.specs.TitledStatements.{TitledStatement, stated_by, theorem_of}
-use Rattle.e_book.specs.DraftViews.{statement_of_draft, script_of_close}
+use Rattle.e_book.specs.ParserViews.{statement_of_parser, script_of_close}
 use Rattle.e_book.specs.Blocks.{is_claim, has_claim, made_in}
 use Rattle.e_names.specs.Scope.{scope_of_names, lit_in, lits_in, by_in, let_in, qed_in}
 use Rattle.e_names.specs.Superposes.{superpose_in}
@@ -48,7 +48,7 @@ use Rattle.e_names.specs.Applies.{count_blanks, apply_in}
 use Rattle.e_book.specs.Book.{is_last}
 use Rattle.e_line.specs.LineLimits.{few_monos}
 use Rattle.e_book.specs.LineLimits.{few_objects}
-use Rattle.e_book.specs.Steps.{with_step, terms_behind, terms_after, with_terms, built, used_by, applied, outer_of, interrupted, deeper, claimed, superposed, split, shut, stepped}
+use Rattle.e_book.specs.Steps.{with_step, terms_after_raw, terms_after, with_terms, built, used_by, applied, outer_of, interrupted, deeper, claimed, superposed, split, shut, stepped}
 use Rattle.e_line.specs.Canonical.{line_of}
 use Rattle.e_names.specs.Canonical.{by_form, hence_form, let_form, apply_form, claim_form, superpose_form, cases_form, qed_form, contradiction_form}
 use Rattle.e_line.proofs.Bound.{bind_ok, ok_is, read_ok}
@@ -77,7 +77,7 @@ use Rattle.e_roundtrip.proofs.Blocks.BlocksSaid.{Start, goal_inside, Opening, Bl
 
 -- ---- what a line leaves
 
--- whatever is kept for a line of the proof that has the form of what it owes, its lines and that are said behind those before it
+-- whatever is kept for a line of the proof that has the form of what it owes, its lines and that are said after those before it
 abbrev pub Takes : List TitledStatement → TheoremParser → TheoremParser → RawLine → Obligation → List StepCerts → List (List ℕ) → Type 0
 Takes known d e f owes ks ls = (k : Option StepCerts) → KeptIsFormed (scope_of_names d.in_scope) (due_at_first owes) k → Goes known d e (ks ++ option_to_list k) ((ls ++ line_of f ∷ []) ++ kept_text d.in_scope k)
 
@@ -107,7 +107,7 @@ owing_against known d e f ks ls g (Some (kept.Against x)) a =
     (sym (append_assoc ls (line_of f ∷ []) (contradiction_lines d.in_scope (Some x)))) (g x a)
 
 -- the proof goes on at its place
-goes_on : (known : List TitledStatement) (d x : TheoremParser) (ks : List StepCerts) (ls : List (List ℕ)) → head_of x ≡ head_of d → x.place ≡ Proving → BlocksSaid known (start_of x) x.outers x.steps ks x.in_scope ls → Goes known d x ks ls
+goes_on : (known : List TitledStatement) (d x : TheoremParser) (ks : List StepCerts) (ls : List (List ℕ)) → head_of x ≡ head_of d → x.place ≡ Proving → BlocksSaid known (start_of x) x.blocks x.steps ks x.in_scope ls → Goes known d x ks ls
 goes_on known d x ks ls h p b = record { head = h; body = subst (λ (q : Section). BodySaid known q x ks ls) (sym p) b; unfinished = ap is_last p }
 
 -- ---- counts say nothing
@@ -115,7 +115,7 @@ goes_on known d x ks ls h p b = record { head = h; body = subst (λ (q : Section
 abbrev with_one_step : TheoremParser → PlainStep → ℕ → TheoremParser
 with_one_step x s given = record x { lines = x.lines + 1; steps = x.steps ++ s ∷ []; facts = x.facts + given }
 
-step_goes : (known : List TitledStatement) (d x e : TheoremParser) (s : PlainStep) (n : ℕ) (ks : List StepCerts) (ls : List (List ℕ)) → head_of x ≡ head_of d → x.place ≡ Proving → BlocksSaid known (start_of x) x.outers (x.steps ++ s ∷ []) ks x.in_scope ls
+step_goes : (known : List TitledStatement) (d x e : TheoremParser) (s : PlainStep) (n : ℕ) (ks : List StepCerts) (ls : List (List ℕ)) → head_of x ≡ head_of d → x.place ≡ Proving → BlocksSaid known (start_of x) x.blocks (x.steps ++ s ∷ []) ks x.in_scope ls
     → with_step x s n ≡ Ok e → Goes known d e ks ls
 unfolding with_step
 step_goes known d x e s n ks ls h p b w =
@@ -132,8 +132,8 @@ counts_go known d x e n ks ls g is = subst (λ (y : TheoremParser). Goes known d
 terms_go : (known : List TitledStatement) (d x e : TheoremParser) (raws : List RawLit) (ks : List StepCerts) (ls : List (List ℕ)) → Goes known d x ks ls → with_terms x raws ≡ Ok e → Goes known d e ks ls
 unfolding with_terms
 terms_go known d x e raws ks ls g w =
-    let few = bind_ok (few_monos raws) (λ few. terms_behind x.terms raws >>= λ n. read_ok (with_count x n)) e w in
-    let n = bind_ok (terms_behind x.terms raws) (λ n. read_ok (with_count x n)) e few.2 in
+    let few = bind_ok (few_monos raws) (λ few. terms_after_raw x.terms raws >>= λ n. read_ok (with_count x n)) e w in
+    let n = bind_ok (terms_after_raw x.terms raws) (λ n. read_ok (with_count x n)) e few.2 in
     counts_go known d x e n.0 ks ls g (ok_is (with_count x n.0) e n.2)
 
 -- ---- steps
@@ -145,7 +145,7 @@ takes_by known d e r ns l owes ks ls p b s o h =
     let by = bind_ok (by_in d.in_scope r ns l) (λ b. with_step d (Cited b) 1) e h in
     let line = ap (λ (f : RawLine). line_of f ∷ []) (by_spelled d.in_scope r ns l by.0 s by.1) in
     let said = steps_as known d.in_scope (Cited by.0 ∷ []) [] [] d.in_scope (line_of (by_form d.in_scope by.0) ∷ []) (line_of (rawlines.By r ns l) ∷ []) refl line (cited_said known d.in_scope by.0 (by_fits d.in_scope r ns l by.0 by.1)) in
-    let blocks = blocks_more known (start_of d) d.outers d.steps (Cited by.0 ∷ []) ks [] d.in_scope d.in_scope ls (line_of (rawlines.By r ns l) ∷ []) b said in
+    let blocks = blocks_more known (start_of d) d.blocks d.steps (Cited by.0 ∷ []) ks [] d.in_scope d.in_scope ls (line_of (rawlines.By r ns l) ∷ []) b said in
     let goes = step_goes known d d e (Cited by.0) 1 (ks ++ []) (ls ++ line_of (rawlines.By r ns l) ∷ []) refl p blocks by.2 in
     subst (λ (x : Obligation). Takes known d e (rawlines.By r ns l) x ks ls) (ok_is due.Nothing owes o)
     (owing_nothing known d e (rawlines.By r ns l) ks ls (goes_as known d e (ks ++ []) ks (ls ++ line_of (rawlines.By r ns l) ∷ []) (ls ++ line_of (rawlines.By r ns l) ∷ []) (append-nil ks) refl goes))
@@ -164,7 +164,7 @@ takes_hence known d e r owes ks ls p b dir s o h =
     let formed = subst (λ (y : Lit). certs_formed (scope_of_names ns) (y ∷ []) cs ≡ true) (ok_is w.0 l.0 (sym w.1 ∙ l.1)) c in
     let said = steps_as known ns (Inferred l.0 None ∷ []) (kept.Certs cs ∷ []) (kept.Certs cs ∷ []) ns (line_of (hence_form ns l.0) ∷ certs_lines ns cs) (line_of (rawlines.Hence r) ∷ certs_lines ns cs) refl
     (ap (λ (f : RawLine). line_of f ∷ certs_lines ns cs) line) (inferred_said known ns l.0 cs (lit_in_scope ns r l.0 l.1) formed) in
-    let blocks = blocks_more known (start_of d) d.outers d.steps (Inferred l.0 None ∷ []) ks (kept.Certs cs ∷ []) ns ns ls (line_of (rawlines.Hence r) ∷ certs_lines ns cs) b said in
+    let blocks = blocks_more known (start_of d) d.blocks d.steps (Inferred l.0 None ∷ []) ks (kept.Certs cs ∷ []) ns ns ls (line_of (rawlines.Hence r) ∷ certs_lines ns cs) b said in
     terms_go known d x.0 e (r ∷ []) (ks ++ kept.Certs cs ∷ []) (ls ++ line_of (rawlines.Hence r) ∷ certs_lines ns cs)
     (step_goes known d d x.0 (Inferred l.0 None) 1 (ks ++ kept.Certs cs ∷ []) (ls ++ line_of (rawlines.Hence r) ∷ certs_lines ns cs) refl p blocks x.1) x.2))
 
@@ -186,7 +186,7 @@ built_goes known d e l read cs ks ls r c p b s h =
     let lines = line_of (rawlines.Let l) ∷ certs_lines ns cs in
     let said = steps_as known ns (Made form.0 l.new [] ∷ []) (kept.Certs cs ∷ []) (kept.Certs cs ∷ []) (after form.0) (line_of (let_form ns form.0 l.new) ∷ certs_lines ns cs) lines refl
     (ap (λ (x : List ℕ). x ∷ certs_lines ns cs) (let_spelled ns l form.0 s form.1)) (made_said known ns form.0 l.new cs formed) in
-    let blocks = blocks_more known (start_of d) d.outers d.steps (Made form.0 l.new [] ∷ []) ks (kept.Certs cs ∷ []) ns (after form.0) ls lines b said in
+    let blocks = blocks_more known (start_of d) d.blocks d.steps (Made form.0 l.new [] ∷ []) ks (kept.Certs cs ∷ []) ns (after form.0) ls lines b said in
     step_goes known d (at_names d (after form.0)) e (Made form.0 l.new []) (length (gives_of_construction form.0 (scope_of_names ns))) (ks ++ kept.Certs cs ∷ []) (ls ++ lines) refl p blocks few.2
 
 pub takes_let : (known : List TitledStatement) (d e : TheoremParser) (l : RawLet) (owes : Obligation) (ks : List StepCerts) (ls : List (List ℕ)) → d.place ≡ Proving → BodySaid known Proving d ks ls → OneLine l
@@ -198,7 +198,7 @@ takes_let known d e l owes ks ls p b s o h =
     (owing_certs known d e (rawlines.Let l) (needs_of_construction w.0) ks ls (λ cs c. built_goes known d e l w.0 cs ks ls w.1 c p b s h))
 
 used_goes : (known : List TitledStatement) (d e : TheoremParser) (t : StatementView) (theorem : ℕ) (args : List (Option Obj)) (new : List (List ℕ)) (js : List StepCerts) (ls : List (List ℕ)) → d.place ≡ Proving
-    → BlocksSaid known (start_of d) d.outers (d.steps ++ Applied theorem args new [] ∷ []) js (named d.in_scope t.made new) ls → used_by d t theorem args new ≡ Ok e → Goes known d e js ls
+    → BlocksSaid known (start_of d) d.blocks (d.steps ++ Applied theorem args new [] ∷ []) js (named d.in_scope t.made new) ls → used_by d t theorem args new ≡ Ok e → Goes known d e js ls
 unfolding used_by
 used_goes known d e t theorem args new js ls p b h =
     let after = named d.in_scope t.made new in
@@ -234,7 +234,7 @@ applied_goes known d e raw wanted cs ks ls u c p b h =
     let said = steps_as known ns (Applied a.0.0 a.0.1 raw.new [] ∷ []) (kept.Certs cs ∷ []) (kept.Certs cs ∷ []) after (line_of (apply_form known ns a.0.0 a.0.1 raw.new) ∷ certs_lines ns cs) lines refl
     (ap (λ (f : RawLine). line_of f ∷ certs_lines ns cs) (apply_spelled known ns raw a.0 a.1)) (applied_said known ns a.0.0 a.0.1 raw.new cs formed) in
     used_goes known d e (theorem_of known a.0.0) a.0.0 a.0.1 raw.new (ks ++ kept.Certs cs ∷ []) (ls ++ lines) p
-    (blocks_more known (start_of d) d.outers d.steps (Applied a.0.0 a.0.1 raw.new [] ∷ []) ks (kept.Certs cs ∷ []) ns after ls lines b said) a.2
+    (blocks_more known (start_of d) d.blocks d.steps (Applied a.0.0 a.0.1 raw.new [] ∷ []) ks (kept.Certs cs ∷ []) ns after ls lines b said) a.2
 
 pub takes_apply : (known : List TitledStatement) (d e : TheoremParser) (raw : RawApply) (owes : Obligation) (ks : List StepCerts) (ls : List (List ℕ)) → d.place ≡ Proving → BodySaid known Proving d ks ls
     → due_of known d (rawlines.Apply raw) ≡ Ok owes → stepped known d (rawlines.Apply raw) ≡ Ok e → Takes known d e (rawlines.Apply raw) owes ks ls
@@ -249,8 +249,8 @@ takes_apply known d e raw owes ks ls p b o h =
 deeper_is : (d e : TheoremParser) (op : BlockKind) (n : ℕ) → deeper d op n ≡ Ok e → interrupted d op n ≡ e
 unfolding deeper
 deeper_is d e op n h =
-    let few = bind_ok (within (d.lines + 1) most_steps limits.Steps) (λ few. within (length d.outers + 2) most_depth limits.Depth >>= λ shallow. within (d.facts + n) most_facts limits.Facts >>= λ none. read_ok (interrupted d op n)) e h in
-    let shallow = bind_ok (within (length d.outers + 2) most_depth limits.Depth) (λ shallow. within (d.facts + n) most_facts limits.Facts >>= λ none. read_ok (interrupted d op n)) e few.2 in
+    let few = bind_ok (within (d.lines + 1) most_steps limits.Steps) (λ few. within (length d.blocks + 2) most_depth limits.Depth >>= λ shallow. within (d.facts + n) most_facts limits.Facts >>= λ none. read_ok (interrupted d op n)) e h in
+    let shallow = bind_ok (within (length d.blocks + 2) most_depth limits.Depth) (λ shallow. within (d.facts + n) most_facts limits.Facts >>= λ none. read_ok (interrupted d op n)) e few.2 in
     let none = bind_ok (within (d.facts + n) most_facts limits.Facts) (λ none. read_ok (interrupted d op n)) e shallow.2 in
     ok_is (interrupted d op n) e none.2
 
@@ -258,22 +258,22 @@ deeper_is d e op n h =
 abbrev inner_at : TheoremParser → BlockKind → ℕ → Names → ℕ → TheoremParser
 inner_at d op n ns terms = record (interrupted d op n) { in_scope = ns; terms = terms }
 
-inner_goes : (known : List TitledStatement) (d : TheoremParser) (op : BlockKind) (n : ℕ) (start : Names) (terms : ℕ) (ks js : List StepCerts) (ls ms : List (List ℕ)) → d.place ≡ Proving → BodySaid known Proving d ks ls → Opening known (goal_inside (start_of d) d.outers) d.in_scope op js start ms
+inner_goes : (known : List TitledStatement) (d : TheoremParser) (op : BlockKind) (n : ℕ) (start : Names) (terms : ℕ) (ks js : List StepCerts) (ls ms : List (List ℕ)) → d.place ≡ Proving → BodySaid known Proving d ks ls → Opening known (goal_inside (start_of d) d.blocks) d.in_scope op js start ms
     → Goes known d (inner_at d op n start terms) (ks ++ js) (ls ++ ms)
 inner_goes known d op n start terms ks js ls ms p b o =
-    goes_on known d (inner_at d op n start terms) (ks ++ js) (ls ++ ms) refl p (blocks_open known (start_of d) d.outers (outer_of d op) ks js start ls ms b o)
+    goes_on known d (inner_at d op n start terms) (ks ++ js) (ls ++ ms) refl p (blocks_open known (start_of d) d.blocks (outer_of d op) ks js start ls ms b o)
 
 claimed_goes : (known : List TitledStatement) (d e : TheoremParser) (raws : List RawLit) (ks : List StepCerts) (ls : List (List ℕ)) → d.place ≡ Proving → BodySaid known Proving d ks ls → are_direct raws ≡ true → AllSigned raws → claimed d raws ≡ Ok e
     → Goes known d e ks (ls ++ line_of (rawlines.Claim raws) ∷ [])
 unfolding claimed
 claimed_goes known d e raws ks ls p b dir s h =
-    let shown = bind_ok (lits_in d.in_scope raws) (λ shown. deeper d (opened.Claim shown) 0 >>= λ x. few_monos raws >>= λ few. read_ok x) e h in
-    let x = bind_ok (deeper d (opened.Claim shown.0) 0) (λ x. few_monos raws >>= λ few. read_ok x) e shown.2 in
+    let shown = bind_ok (lits_in d.in_scope raws) (λ shown. deeper d (kind.Claim shown) 0 >>= λ x. few_monos raws >>= λ few. read_ok x) e h in
+    let x = bind_ok (deeper d (kind.Claim shown.0) 0) (λ x. few_monos raws >>= λ few. read_ok x) e shown.2 in
     let few = bind_ok (few_monos raws) (λ few. read_ok x.0) e x.2 in
     let line = ap (λ (f : RawLine). line_of f ∷ []) (claim_spelled d.in_scope raws shown.0 dir s shown.1) in
-    let goes = inner_goes known d (opened.Claim shown.0) 0 d.in_scope d.terms ks [] ls (line_of (claim_form d.in_scope shown.0) ∷ []) p b (refl, refl, refl, lits_within d.in_scope raws shown.0 shown.1) in
-    subst (λ (y : TheoremParser). Goes known d y ks (ls ++ line_of (rawlines.Claim raws) ∷ [])) (deeper_is d x.0 (opened.Claim shown.0) 0 x.1 ∙ ok_is x.0 e few.2)
-    (goes_as known d (interrupted d (opened.Claim shown.0) 0) (ks ++ []) ks (ls ++ line_of (claim_form d.in_scope shown.0) ∷ []) (ls ++ line_of (rawlines.Claim raws) ∷ []) (append-nil ks) (ap (λ (l : List (List ℕ)). ls ++ l) line) goes)
+    let goes = inner_goes known d (kind.Claim shown.0) 0 d.in_scope d.terms ks [] ls (line_of (claim_form d.in_scope shown.0) ∷ []) p b (refl, refl, refl, lits_within d.in_scope raws shown.0 shown.1) in
+    subst (λ (y : TheoremParser). Goes known d y ks (ls ++ line_of (rawlines.Claim raws) ∷ [])) (deeper_is d x.0 (kind.Claim shown.0) 0 x.1 ∙ ok_is x.0 e few.2)
+    (goes_as known d (interrupted d (kind.Claim shown.0) 0) (ks ++ []) ks (ls ++ line_of (claim_form d.in_scope shown.0) ∷ []) (ls ++ line_of (rawlines.Claim raws) ∷ []) (append-nil ks) (ap (λ (l : List (List ℕ)). ls ++ l) line) goes)
 
 pub takes_claim : (known : List TitledStatement) (d e : TheoremParser) (raws : List RawLit) (owes : Obligation) (ks : List StepCerts) (ls : List (List ℕ)) → d.place ≡ Proving → BodySaid known Proving d ks ls → are_direct raws ≡ true → AllSigned raws
     → due_of known d (rawlines.Claim raws) ≡ Ok owes → stepped known d (rawlines.Claim raws) ≡ Ok e → Takes known d e (rawlines.Claim raws) owes ks ls
@@ -290,7 +290,7 @@ superposed_goes known d e raw read cs ks ls r c two p b dir s h =
     let after = named ns superposing.sorts_copied raw.new in
     let given : Superpose → List Lit = λ form. superposing.gives_of_superposition form (scope_of_names ns) in
     let at_end : TheoremParser → ℕ → TheoremParser = λ x n. record x { in_scope = after; terms = n } in
-    let rest : Superpose × List Lit → Result TheoremParser FaultKind = λ q. few_objects after >>= λ objects. deeper d (opened.Superpose q.0 raw.new q.1) (length (given q.0)) >>= λ x. few_monos raw.shown >>= λ few. terms_after x.terms (given q.0) >>= λ n. read_ok (at_end x n) in
+    let rest : Superpose × List Lit → Result TheoremParser FaultKind = λ q. few_objects after >>= λ objects. deeper d (kind.Superpose q.0 raw.new q.1) (length (given q.0)) >>= λ x. few_monos raw.shown >>= λ few. terms_after x.terms (given q.0) >>= λ n. read_ok (at_end x n) in
     let q = bind_ok (superpose_in ns raw) rest e h in
     let good = superpose_fits ns raw q.0 q.1 in
     let formed : CopyFormed ns q.0.0 raw.new q.0.1 cs = record {
@@ -299,7 +299,7 @@ superposed_goes known d e raw read cs ks ls r c two p b dir s h =
       count = two;
       certs = subst (λ (x : Superpose × List Lit). certs_formed (scope_of_names ns) (superposing.needs_of_superposition x.0) cs ≡ true) (ok_is read q.0 (sym r ∙ q.1)) c;
     } in
-    let op = opened.Superpose q.0.0 raw.new q.0.1 in
+    let op = kind.Superpose q.0.0 raw.new q.0.1 in
     let o = bind_ok (few_objects after) (λ objects. deeper d op (length (given q.0.0)) >>= λ x. few_monos raw.shown >>= λ few. terms_after x.terms (given q.0.0) >>= λ n. read_ok (at_end x n)) e q.2 in
     let x = bind_ok (deeper d op (length (given q.0.0))) (λ x. few_monos raw.shown >>= λ few. terms_after x.terms (given q.0.0) >>= λ n. read_ok (at_end x n)) e o.2 in
     let few = bind_ok (few_monos raw.shown) (λ few. terms_after x.0.terms (given q.0.0) >>= λ n. read_ok (at_end x.0 n)) e x.2 in
@@ -323,13 +323,13 @@ split_goes : (known : List TitledStatement) (d e : TheoremParser) (r : RawLit) (
     → Goes known d e ks (ls ++ line_of (rawlines.Cases r) ∷ [])
 unfolding split
 split_goes known d e r ks ls p b dir s h =
-    let l = bind_ok (lit_in d.in_scope r) (λ l. deeper d (opened.First l) 1 >>= λ x. with_terms x (r ∷ [])) e h in
-    let x = bind_ok (deeper d (opened.First l.0) 1) (λ x. with_terms x (r ∷ [])) e l.2 in
+    let l = bind_ok (lit_in d.in_scope r) (λ l. deeper d (kind.First l) 1 >>= λ x. with_terms x (r ∷ [])) e h in
+    let x = bind_ok (deeper d (kind.First l.0) 1) (λ x. with_terms x (r ∷ [])) e l.2 in
     let line = ap (λ (f : RawLine). line_of f ∷ []) (cases_spelled d.in_scope r l.0 dir s l.1) in
-    let goes = inner_goes known d (opened.First l.0) 1 d.in_scope d.terms ks [] ls (line_of (cases_form d.in_scope l.0) ∷ []) p b (refl, refl, refl, lit_in_scope d.in_scope r l.0 l.1) in
+    let goes = inner_goes known d (kind.First l.0) 1 d.in_scope d.terms ks [] ls (line_of (cases_form d.in_scope l.0) ∷ []) p b (refl, refl, refl, lit_in_scope d.in_scope r l.0 l.1) in
     terms_go known d x.0 e (r ∷ []) ks (ls ++ line_of (rawlines.Cases r) ∷ [])
-    (subst (λ (y : TheoremParser). Goes known d y ks (ls ++ line_of (rawlines.Cases r) ∷ [])) (deeper_is d x.0 (opened.First l.0) 1 x.1)
-    (goes_as known d (interrupted d (opened.First l.0) 1) (ks ++ []) ks (ls ++ line_of (cases_form d.in_scope l.0) ∷ []) (ls ++ line_of (rawlines.Cases r) ∷ []) (append-nil ks) (ap (λ (l : List (List ℕ)). ls ++ l) line) goes)) x.2
+    (subst (λ (y : TheoremParser). Goes known d y ks (ls ++ line_of (rawlines.Cases r) ∷ [])) (deeper_is d x.0 (kind.First l.0) 1 x.1)
+    (goes_as known d (interrupted d (kind.First l.0) 1) (ks ++ []) ks (ls ++ line_of (cases_form d.in_scope l.0) ∷ []) (ls ++ line_of (rawlines.Cases r) ∷ []) (append-nil ks) (ap (λ (l : List (List ℕ)). ls ++ l) line) goes)) x.2
 
 pub takes_cases : (known : List TitledStatement) (d e : TheoremParser) (r : RawLit) (owes : Obligation) (ks : List StepCerts) (ls : List (List ℕ)) → d.place ≡ Proving → BodySaid known Proving d ks ls → is_direct r ≡ true → Signed r
     → due_of known d (rawlines.Cases r) ≡ Ok owes → stepped known d (rawlines.Cases r) ≡ Ok e → Takes known d e (rawlines.Cases r) owes ks ls
@@ -353,28 +353,28 @@ abbrev sorts_of : List Obj → List Sort
 sorts_of os = map (λ (o : Obj). o.sort) os
 
 sorts_by : (op : BlockKind) (around : Option (List Lit)) (goal : Goal) (made : List Sort) (b : Bool) → sorts_of (goal_or around goal).made ≡ cond b [] made → sorts_of (goal_or (shown_inside op around) goal).made ≡ cond (is_claim op || b) [] made
-sorts_by (opened.Claim shown) around goal made b e = refl
-sorts_by (opened.Superpose form names shown) around goal made b e = refl
-sorts_by (opened.First lit) around goal made b e = e
-sorts_by (opened.Second lit first) around goal made b e = e
+sorts_by (kind.Claim shown) around goal made b e = refl
+sorts_by (kind.Superpose form names shown) around goal made b e = refl
+sorts_by (kind.First lit) around goal made b e = e
+sorts_by (kind.Second lit first) around goal made b e = e
 
 -- the made objects of the goal of the block inside these have the sorts that a qed is read for
 goal_sorts : (first : Start) (os : List OpenBlock) (made : List Sort) → sorts_of first.goal.made ≡ made → sorts_of (goal_inside first os).made ≡ made_in os made
 goal_sorts first [] made e = e
-goal_sorts first (o ∷ os) made e = sorts_by o.opened (shown_around os) first.goal made (has_claim os) (goal_sorts first os made e)
+goal_sorts first (o ∷ os) made e = sorts_by o.kind (shown_around os) first.goal made (has_claim os) (goal_sorts first os made e)
 
 pub takes_qed : (known : List TitledStatement) (d e : TheoremParser) (ns : List (List ℕ)) (owes : Obligation) (ks : List StepCerts) (ls : List (List ℕ)) → d.place ≡ Proving → BodySaid known Proving d ks ls
     → due_of known d (rawlines.Qed ns) ≡ Ok owes → stepped known d (rawlines.Qed ns) ≡ Ok e → Takes known d e (rawlines.Qed ns) owes ks ls
 unfolding stepped due_of needs_at_qed
 takes_qed known d e ns owes ks ls p b o h =
-    let sorts = made_in d.outers d.made in
+    let sorts = made_in d.blocks d.made in
     let os = bind_ok (qed_in d.in_scope sorts ns) (λ os. shut d (closes.Qed os)) e h in
     let w = bind_ok (needs_at_qed d ns) (λ ls. read_ok (one_each ls)) owes o in
     let goal = open_goal d in
     let s = scope_of_names d.in_scope in
     let x = bind_ok (qed_in d.in_scope sorts ns) (λ objects. read_ok (goal_with goal objects)) w.0 w.1 in
     let owed : w.0 ≡ goal_with goal os.0 = sym (ok_is (goal_with goal x.0) w.0 x.2) ∙ ap (goal_with goal) (ok_is x.0 os.0 (sym x.1 ∙ os.1)) in
-    let fit = subst (λ (l : List Sort). are_of_sorts s l os.0 ≡ true) (sym (goal_sorts (start_of d) d.outers d.made (sorts_next (scope_of (stated (statement_of_draft d))) d.made))) (qed_fits d.in_scope sorts ns os.0 os.1) in
+    let fit = subst (λ (l : List Sort). are_of_sorts s l os.0 ≡ true) (sym (goal_sorts (start_of d) d.blocks d.made (sorts_next (scope_of (stated (statement_of_parser d))) d.made))) (qed_fits d.in_scope sorts ns os.0 os.1) in
     let line = qed_spelled d.in_scope sorts ns os.0 os.1 in
     subst (λ (y : Obligation). Takes known d e (rawlines.Qed ns) y ks ls) (ok_is (one_each w.0) owes w.2)
     (owing_certs known d e (rawlines.Qed ns) w.0 ks ls (λ cs c.

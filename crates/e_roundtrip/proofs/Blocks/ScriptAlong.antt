@@ -26,9 +26,9 @@ use Rattle.e_deriv.specs.Goal.{Goal, goal_of, goal_with}
 use Rattle.e_deriv.specs.Lines.{line, lines}
 use Rattle.e_deriv.specs.Parts.{written as written_args}
 use Rattle.e_deriv.specs.Steps.{is_citation}
-use Rattle.e_book.specs.declared.blocks.BlockKind.TheVariants as opened
+use Rattle.e_book.specs.declared.blocks.BlockKind.TheVariants as kind
 use Rattle.e_book.specs.declared.steps.CloseLine.TheVariants as closes
-use Rattle.e_book.specs.declared.draft.TheoremParser.{TheoremParser}
+use Rattle.e_book.specs.declared.parser.TheoremParser.{TheoremParser}
 use Rattle.e_line.specs.Limits.{most_facts, most_terms, monomials}
 use Rattle.e_book.specs.Blocks.{made_in}
 use Rattle.e_names.specs.TitledStatements.{TitledStatement, stated_by, theorem_of}
@@ -48,7 +48,7 @@ use Rattle.e_names.proofs.Superposed.{superpose_named}
 use Rattle.e_names.proofs.Applied.{apply_named}
 use Rattle.e_book.proofs.FittingScripts.{line_fits}
 use Rattle.e_book.proofs.ScriptParts.{steps_of, close_of, same_script, at_least, deep_at_least}
-use Rattle.e_book.proofs.LinesRead.{Inside, proving, splitting, behind, deep, copied, resume, second, applied_behind, step_cite, step_hence, step_let, step_apply, step_claim, step_superpose, step_cases, step_else, step_qed, step_contradiction, claim_closed, superpose_closed, first_closed, second_closed}
+use Rattle.e_book.proofs.LinesRead.{Inside, proving, splitting, after_step, deep, copied, resume, second, applied_after, step_cite, step_hence, step_let, step_apply, step_claim, step_superpose, step_cases, step_else, step_qed, step_contradiction, claim_closed, superpose_closed, first_closed, second_closed}
 use Rattle.e_cert.specs.declared.owed.Obligation.TheVariants as due
 use Rattle.e_cert.specs.declared.kept.StepCerts.TheVariants as kept
 use Rattle.e_read.specs.Needs.{one_each, due_of}
@@ -66,7 +66,7 @@ use Rattle.e_roundtrip.proofs.Formed.Standing.{Stood, first_of, both_of, one_for
 
 -- ---- citations
 
-pub cite_next : (known : List TitledStatement) (d : TheoremParser) (i : Inside) (b : By) (rest : Script) (given : List Lit) (goal : Goal) → Stood known d i (Cite b rest) given goal → Stood known d (behind i (Cited b) 1) rest (joined given b.lit) goal
+pub cite_next : (known : List TitledStatement) (d : TheoremParser) (i : Inside) (b : By) (rest : Script) (given : List Lit) (goal : Goal) → Stood known d i (Cite b rest) given goal → Stood known d (after_step i (Cited b) 1) rest (joined given b.lit) goal
 unfolding erased lines
 cite_next known d i b rest given goal s =
     let before = stated_by known in
@@ -77,7 +77,7 @@ cite_next known d i b rest given goal s =
       formed = (first_of (is_formed before) (line (Cite b rest) (Cite b rest) sc given goal) (lines before rest rest sc (joined given b.lit) goal) s.formed).1;
     }
 
-cite_along : (known : List TitledStatement) (d : TheoremParser) (i : Inside) (b : By) (rest : Script) (given : List Lit) (goal : Goal) → Stood known d i (Cite b rest) given goal → Spelled known d (behind i (Cited b) 1) rest → Spelled known d i (Cite b rest)
+cite_along : (known : List TitledStatement) (d : TheoremParser) (i : Inside) (b : By) (rest : Script) (given : List Lit) (goal : Goal) → Stood known d i (Cite b rest) given goal → Spelled known d (after_step i (Cited b) 1) rest → Spelled known d i (Cite b rest)
 unfolding erased script_lines kepts lines size has_good_literals few_facts due_of
 cite_along known d i b rest given goal s t =
     let r = s.ready in
@@ -89,7 +89,7 @@ cite_along known d i b rest given goal s t =
       last = t.last;
       lines = omega (arith, t.lines);
       along = λ e h done.
-          then_along known (proving d i) (proving d (behind i (Cited b) 1)) e (by_form i.in_scope b) due.Nothing [] None (script_lines known i.in_scope rest) (kepts rest) (record {
+          then_along known (proving d i) (proving d (after_step i (Cited b) 1)) e (by_form i.in_scope b) due.Nothing [] None (script_lines known i.in_scope rest) (kepts rest) (record {
             good = by_good i.in_scope b r.order fit good;
             strict = refl;
             apart = refl;
@@ -191,7 +191,7 @@ make_along known d i form names certs rest given goal s t =
 
 pub apply_next : (known : List TitledStatement) (d : TheoremParser) (i : Inside) (theorem : ℕ) (args : List (Option Obj)) (names : List (List ℕ)) (certs : List Cert) (rest : Script) (given : List Lit) (goal : Goal)
     → Stood known d i (Apply theorem args names certs rest) given goal
-    → Stood known d (applied_behind i (theorem_of known theorem) theorem args names) rest (joined_all given (gives_of_use (theorem_of known theorem) (written_args args) (scope_of_names i.in_scope))) goal
+    → Stood known d (applied_after i (theorem_of known theorem) theorem args names) rest (joined_all given (gives_of_use (theorem_of known theorem) (written_args args) (scope_of_names i.in_scope))) goal
 unfolding erased lines NewNamesFit
 apply_next known d i theorem args names certs rest given goal s =
     let before = stated_by known in
@@ -207,7 +207,7 @@ apply_next known d i theorem args names certs rest given goal s =
     }
 
 apply_along : (known : List TitledStatement) (d : TheoremParser) (i : Inside) (theorem : ℕ) (args : List (Option Obj)) (names : List (List ℕ)) (certs : List Cert) (rest : Script) (given : List Lit) (goal : Goal)
-    → Stood known d i (Apply theorem args names certs rest) given goal → Spelled known d (applied_behind i (theorem_of known theorem) theorem args names) rest → Spelled known d i (Apply theorem args names certs rest)
+    → Stood known d i (Apply theorem args names certs rest) given goal → Spelled known d (applied_after i (theorem_of known theorem) theorem args names) rest → Spelled known d i (Apply theorem args names certs rest)
 unfolding erased script_lines kepts lines size
 apply_along known d i theorem args names certs rest given goal s u =
     let before = stated_by known in
@@ -215,7 +215,7 @@ apply_along known d i theorem args names certs rest given goal s u =
     let sc = scope_of_names i.in_scope in
     let t = theorem_of known theorem in
     let p = apply_parts known d i theorem args names (erased rest) given goal r in
-    let after = applied_behind i t theorem args names in
+    let after = applied_after i t theorem args names in
     let here = line (Apply theorem args names certs rest) (Apply theorem args names certs rest) sc given goal in
     let one = one_formed before here (first_of (is_formed before) here (lines before rest rest (grown sc t.made) (joined_all given (gives_of_use t (written_args args) sc)) goal) s.formed).0 in
     let choice = (and_parts _ (is_choice t sc args (written_args args)) one.fitting).1 in
@@ -250,7 +250,7 @@ claim_formed known d i shown inner rest given goal s =
     both_of (is_formed before) inside after (first_of (is_formed before) (line (Claim shown inner rest) (Claim shown inner rest) sc given goal) (inside ++ after) s.formed).1
 
 pub claim_inside : (known : List TitledStatement) (d : TheoremParser) (i : Inside) (shown : List Lit) (inner rest : Script) (given : List Lit) (goal : Goal) → Stood known d i (Claim shown inner rest) given goal
-    → Stood known d (deep i (opened.Claim shown) 0) inner given (goal_of shown)
+    → Stood known d (deep i (kind.Claim shown) 0) inner given (goal_of shown)
 unfolding erased
 claim_inside known d i shown inner rest given goal s = record {
   ready = claim_inner known d i shown (erased inner) (erased rest) given goal s.ready;
@@ -268,12 +268,12 @@ claim_next known d i n shown inner rest given goal count s = record {
 }
 
 claim_along : (known : List TitledStatement) (d : TheoremParser) (i : Inside) (shown : List Lit) (inner rest : Script) (given : List Lit) (goal : Goal) → Stood known d i (Claim shown inner rest) given goal
-    → (t : Spelled known d (deep i (opened.Claim shown) 0) inner) → Spelled known d (resume i t.last.lines (Claimed shown (erased inner)) shown) rest → Spelled known d i (Claim shown inner rest)
+    → (t : Spelled known d (deep i (kind.Claim shown) 0) inner) → Spelled known d (resume i t.last.lines (Claimed shown (erased inner)) shown) rest → Spelled known d i (Claim shown inner rest)
 unfolding erased script_lines kepts size depth due_of
 claim_along known d i shown inner rest given goal s t u =
     let r = s.ready in
     let p = claim_parts known d i shown (erased inner) (erased rest) given goal r in
-    let begins = deep i (opened.Claim shown) 0 in
+    let begins = deep i (kind.Claim shown) 0 in
     let after = resume i t.last.lines (Claimed shown (erased inner)) shown in
     let few : i.facts + 0 ≤ most_facts = omega (arith, p.facts) in
     record {
@@ -406,7 +406,7 @@ cases_along known d i l one two given goal s t u =
       lines = omega (arith, t.lines, u.lines);
       along = λ e h done.
           let last = second_closed d i u.last l (erased one) (steps_of (erased two)) (close_of (erased two)) (erased two) (same_script (erased two) p.plain_second) ∙ no_more d u.last i (closes.Cases l (erased one) (erased two)) e h in
-          let behind_else = then_along known (splitting d between) (proving d between) e else_form due.Nothing [] None (script_lines known ns two) (kepts two) (record {
+          let after_else = then_along known (splitting d between) (proving d between) e else_form due.Nothing [] None (script_lines known ns two) (kepts two) (record {
             good = tt;
             strict = refl;
             apart = refl;
@@ -424,7 +424,7 @@ cases_along known d i l one two given goal s t u =
             going = refl;
             keeps = nothing_kept ns;
           }) (along_append known (proving d (opens i l)) (splitting d between) e (script_lines known ns one) (line_of else_form ∷ script_lines known ns two) (kepts one) (kepts two)
-          (t.along (splitting d between) (first_closed d i t.last l (steps_of (erased one)) (close_of (erased one)) (erased one) (same_script (erased one) p.plain_first)) refl) behind_else);
+          (t.along (splitting d between) (first_closed d i t.last l (steps_of (erased one)) (close_of (erased one)) (erased one) (same_script (erased one) p.plain_first)) refl) after_else);
     }
 
 -- ---- other lines that close a block
@@ -438,14 +438,14 @@ qed_along known d i os certs given goal s =
     let sc = scope_of_names ns in
     let here = line (Qed os certs) (Qed os certs) sc given goal in
     let one = one_formed before here (first_of (is_formed before) here [] s.formed).0 in
-    let h : are_of_sorts sc (made_in i.outers d.made) os ≡ true = subst (λ (l : List Sort). are_of_sorts sc l os ≡ true) r.goal_sorts one.fitting in
+    let h : are_of_sorts sc (made_in i.blocks d.made) os ≡ true = subst (λ (l : List Sort). are_of_sorts sc l os ≡ true) r.goal_sorts one.fitting in
     let wanted = goal_with goal os in
     record {
       last = one_line i;
       lines = refl;
       along = λ e c done.
           goes_along known (proving d i) e (qed_form ns os) (one_each wanted) (flat_map (cert_lines ns) certs) (Some (kept.Certs certs)) (record {
-            good = objects_named ns os r.order (of_sorts_in_scope sc (made_in i.outers d.made) os h);
+            good = objects_named ns os r.order (of_sorts_in_scope sc (made_in i.blocks d.made) os h);
             strict = refl;
             apart = refl;
             owes = qed_due known (proving d i) goal os r.order h s.goal_is;
@@ -500,7 +500,7 @@ no_contradiction known d i given goal s =
 
 pub script_spelled : (known : List TitledStatement) (d : TheoremParser) (i : Inside) (script : Script) (given : List Lit) (goal : Goal) → Stood known d i script given goal → Spelled known d i script
 script_spelled known d i (Cite b rest) given goal s =
-    cite_along known d i b rest given goal s (script_spelled known d (behind i (Cited b) 1) rest (joined given b.lit) goal (cite_next known d i b rest given goal s))
+    cite_along known d i b rest given goal s (script_spelled known d (after_step i (Cited b) 1) rest (joined given b.lit) goal (cite_next known d i b rest given goal s))
 script_spelled known d i (Hence l None rest) given goal s = absurd (no_hence known d i l rest given goal s)
 script_spelled known d i (Hence l (Some c) rest) given goal s =
     hence_along known d i l c rest given goal s (script_spelled known d (inferred i l) rest (joined given l) goal (hence_next known d i l c rest given goal s))
@@ -510,9 +510,9 @@ script_spelled known d i (Make form names certs rest) given goal s =
 script_spelled known d i (Apply theorem args names certs rest) given goal s =
     let t = theorem_of known theorem in
     apply_along known d i theorem args names certs rest given goal s
-    (script_spelled known d (applied_behind i t theorem args names) rest (joined_all given (gives_of_use t (written_args args) (scope_of_names i.in_scope))) goal (apply_next known d i theorem args names certs rest given goal s))
+    (script_spelled known d (applied_after i t theorem args names) rest (joined_all given (gives_of_use t (written_args args) (scope_of_names i.in_scope))) goal (apply_next known d i theorem args names certs rest given goal s))
 script_spelled known d i (Claim shown inner rest) given goal s =
-    let t = script_spelled known d (deep i (opened.Claim shown) 0) inner given (goal_of shown) (claim_inside known d i shown inner rest given goal s) in
+    let t = script_spelled known d (deep i (kind.Claim shown) 0) inner given (goal_of shown) (claim_inside known d i shown inner rest given goal s) in
     let u = script_spelled known d (resume i t.last.lines (Claimed shown (erased inner)) shown) rest (joined_all given shown) goal (claim_next known d i t.last.lines shown inner rest given goal t.lines s) in
     claim_along known d i shown inner rest given goal s t u
 script_spelled known d i (Superposed form names shown certs inner rest) given goal s =

@@ -32,8 +32,8 @@ use Rattle.e_roundtrip.proofs.Formed.FormedLines.{FormedHere, MadeFormed, UseFor
 
 -- ---- steps and scripts
 
--- With these certificates at them the steps are spelled by these lines, whatever comes behind them, and the names are those in scope
--- then; and where what comes behind them has its form, all has.
+-- With these certificates at them the steps are spelled by these lines, whatever comes after them, and the names are those in scope
+-- then; and where what comes after them has its form, all has.
 pub record StepsSaid (known : List TitledStatement) (ns : Names) (steps : List PlainStep) (ks : List StepCerts) (after : Names) (lines : List (List ℕ)) : Type 0 where
   pub spelled : (rest : Script) (more : List StepCerts) → script_lines known ns (filled (all_before steps rest) (ks ++ more)).0 ≡ lines ++ script_lines known after (filled rest more).0
   pub left : (rest : Script) (more : List StepCerts) → (filled (all_before steps rest) (ks ++ more)).1 ≡ (filled rest more).1
@@ -75,7 +75,7 @@ steps_more known ns mid after xs ys ks js ls ms a b =
           (subst (λ (k : List StepCerts). FormedHere known ns goal (filled (all_before xs (all_before ys rest)) k).0) (sym (append_assoc ks js more)) (a.formed goal (all_before ys rest) (js ++ more) (b.formed goal rest more h)));
     }
 
--- steps, and a close behind them
+-- steps, and a close after them
 pub steps_closed : (known : List TitledStatement) (ns mid : Names) (goal : Goal) (xs : List PlainStep) (close : Script) (ks js : List StepCerts) (ls ms : List (List ℕ)) → StepsSaid known ns xs ks mid ls → ScriptSaid known mid goal close js ms
     → ScriptSaid known ns goal (all_before xs close) (ks ++ js) (ls ++ ms)
 steps_closed known ns mid goal xs close ks js ls ms a b =
@@ -117,7 +117,7 @@ pub applied_said : (known : List TitledStatement) (ns : Names) (theorem : ℕ) (
 unfolding filled script_lines
 applied_said known ns theorem args names cs u = record { spelled = λ rest more. refl; left = λ rest more. refl; formed = λ goal rest more h. applied_formed known ns goal theorem args names cs (filled rest more).0 u h }
 
--- two blocks, one behind the other
+-- two blocks, one after the other
 two_blocks : (known : List TitledStatement) (ns : Names) (rest : Script) (a b : List (List ℕ)) (js ks : List StepCerts) → a ≡ b → js ≡ ks → a ++ script_lines known ns (filled rest js).0 ≡ b ++ script_lines known ns (filled rest ks).0
 two_blocks known ns rest a b js ks p q = ap (λ (l : List (List ℕ)). l ++ script_lines known ns (filled rest js).0) p ∙ ap (λ (k : List StepCerts). b ++ script_lines known ns (filled rest k).0) q
 
@@ -164,15 +164,15 @@ pub cases_said : (known : List TitledStatement) (ns : Names) (goal : Goal) (lit 
     → ScriptSaid known ns goal first js ls → ScriptSaid known ns goal second ks ms → ScriptSaid known ns goal (Cases lit first second) (js ++ ks) (line_of (cases_form ns lit) ∷ (ls ++ line_of else_form ∷ ms))
 unfolding filled script_lines
 cases_said known ns goal lit first second js ks ls ms w a b =
-    let behind : (more : List StepCerts) → (filled first ((js ++ ks) ++ more)).1 ≡ ks ++ more = λ more. ap (λ (k : List StepCerts). (filled first k).1) (append_assoc js ks more) ∙ a.left (ks ++ more) in
+    let later : (more : List StepCerts) → (filled first ((js ++ ks) ++ more)).1 ≡ ks ++ more = λ more. ap (λ (k : List StepCerts). (filled first k).1) (append_assoc js ks more) ∙ a.left (ks ++ more) in
     record {
       spelled = λ more.
           ap (λ (l : List (List ℕ)). line_of (cases_form ns lit) ∷ (l ++ line_of else_form ∷ script_lines known ns (filled second (filled first ((js ++ ks) ++ more)).1).0))
           (ap (λ (k : List StepCerts). script_lines known ns (filled first k).0) (append_assoc js ks more) ∙ a.spelled (ks ++ more))
-          ∙ ap (λ (l : List (List ℕ)). line_of (cases_form ns lit) ∷ (ls ++ line_of else_form ∷ l)) (ap (λ (k : List StepCerts). script_lines known ns (filled second k).0) (behind more) ∙ b.spelled more);
-      left = λ more. ap (λ (k : List StepCerts). (filled second k).1) (behind more) ∙ b.left more;
+          ∙ ap (λ (l : List (List ℕ)). line_of (cases_form ns lit) ∷ (ls ++ line_of else_form ∷ l)) (ap (λ (k : List StepCerts). script_lines known ns (filled second k).0) (later more) ∙ b.spelled more);
+      left = λ more. ap (λ (k : List StepCerts). (filled second k).1) (later more) ∙ b.left more;
       formed = λ more.
           cases_formed known ns goal lit (filled first ((js ++ ks) ++ more)).0 (filled second (filled first ((js ++ ks) ++ more)).1).0 w
           (subst (λ (k : List StepCerts). FormedHere known ns goal (filled first k).0) (sym (append_assoc js ks more)) (a.formed (ks ++ more)))
-          (subst (λ (k : List StepCerts). FormedHere known ns goal (filled second k).0) (sym (behind more)) (b.formed more));
+          (subst (λ (k : List StepCerts). FormedHere known ns goal (filled second k).0) (sym (later more)) (b.formed more));
     }

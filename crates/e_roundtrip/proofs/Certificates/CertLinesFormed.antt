@@ -1,4 +1,4 @@
--- What is owed behind a line of a certificate has its form, and so has what is kept behind the last one.
+-- What is owed after a line of a certificate has its form, and so has what is kept after the last one.
 use Rattle.std.proofs.Common.{◌≡◌, ℕ, zero, suc, ℤ, pos, negsuc, ◌≤◌, ◌<◌, ◌^◌, ◌+◌, Bool, true, false, cond, not, ltb, leb, eqb, ◌&&◌, List, [], ◌∷◌, ◌++◌, length, Option, Some, None, is_some, Result, Ok, Err, refl, sym, ap, subst, ◌∙◌, arith}
 use Rattle.std.specs.Prelude.{◌==◌, neg_ℤ, codes, slice_get}
 use Rattle.std.specs.Ordering.{int_eq}
@@ -48,7 +48,7 @@ use Rattle.e_cert.specs.declared.kept.StepCerts.{StepCerts}
 use Rattle.e_cert.specs.declared.kept.StepCerts.TheVariants as kept
 use Rattle.e_cert.specs.CertLines.{sized, size_of, multiplier_of, row_of, may_differ, bare, differs_of, transfer_of, row_cert_line_of, cert_line_named, cert_line_of, cert_line_text, place_of as place_in, fact_cert_line_of}
 use Rattle.e_cert.specs.Strict.{is_strict_cert_line, exact_cert_line}
-use Rattle.e_cert.specs.Owed.{has_more, certificate, row_in, row_put, sum_begun, differs_put, sums_ended, transfer_put, part_put, metric_put, takes_metric, clash_put, transfer_rule, count_others, transfer_at, transfer_in, transfer_begun, ended, sums_behind, due_behind, after_cert_line, kept_of, finish_certs}
+use Rattle.e_cert.specs.Owed.{has_more, certificate, row_in, row_put, sum_begun, differs_put, sums_ended, transfer_put, part_put, metric_put, takes_metric, clash_put, transfer_rule, count_others, transfer_at, transfer_in, transfer_begun, ended, sums_after, due_after, after_cert_line, kept_of, finish_certs}
 use Rattle.e_cert.proofs.GoodCertLines.{CertLineSaid, strict_said}
 use Rattle.e_roundtrip.specs.Formed.{against_formed}
 use Rattle.e_roundtrip.proofs.Certificates.CertLinesRead.{CertLineSigned, cert_line_signed}
@@ -239,45 +239,45 @@ clash_put_formed s d l new k e = absurd cc
 after_cert_line_formed : (o : Pending) (m : CertLine) (new : Pending) → OwedFormed o → CertLineSaid m → CertLineSigned m → Numbers m → after_cert_line o m ≡ Ok new → OwedFormed new
 unfolding after_cert_line
 after_cert_line_formed o certlines.Fact new h said signed numbers same =
-    let e = bind_ok (ended o o.sums) (λ e. part_put e.due parts.Fact >>= λ d. read_ok (due_behind e d)) new same in
+    let e = bind_ok (ended o o.sums) (λ e. part_put e.due parts.Fact >>= λ d. read_ok (due_after e d)) new same in
     let g = ended_formed o o.sums e.0 h h.rows_of_sums e.1 in
-    let d = bind_ok (part_put e.0.due parts.Fact) (λ d. read_ok (due_behind e.0 d)) new e.2 in
-    to_owed (due_behind e.0 d.0) new (record { certs = part_put_formed (scope_of_names e.0.names) e.0.due parts.Fact d.0 g.certs refl d.1; rows_of_sums = g.rows_of_sums }) d.2
+    let d = bind_ok (part_put e.0.due parts.Fact) (λ d. read_ok (due_after e.0 d)) new e.2 in
+    to_owed (due_after e.0 d.0) new (record { certs = part_put_formed (scope_of_names e.0.names) e.0.due parts.Fact d.0 g.certs refl d.1; rows_of_sums = g.rows_of_sums }) d.2
 after_cert_line_formed o (certlines.FactAt k) new h said signed numbers same =
-    let e = bind_ok (ended o o.sums) (λ e. part_put e.due (parts.FactAt k) >>= λ d. read_ok (due_behind e d)) new same in
+    let e = bind_ok (ended o o.sums) (λ e. part_put e.due (parts.FactAt k) >>= λ d. read_ok (due_after e d)) new same in
     let g = ended_formed o o.sums e.0 h h.rows_of_sums e.1 in
-    let d = bind_ok (part_put e.0.due (parts.FactAt k)) (λ d. read_ok (due_behind e.0 d)) new e.2 in
-    to_owed (due_behind e.0 d.0) new (record { certs = part_put_formed (scope_of_names e.0.names) e.0.due (parts.FactAt k) d.0 g.certs said d.1; rows_of_sums = g.rows_of_sums }) d.2
+    let d = bind_ok (part_put e.0.due (parts.FactAt k)) (λ d. read_ok (due_after e.0 d)) new e.2 in
+    to_owed (due_after e.0 d.0) new (record { certs = part_put_formed (scope_of_names e.0.names) e.0.due (parts.FactAt k) d.0 g.certs said d.1; rows_of_sums = g.rows_of_sums }) d.2
 after_cert_line_formed o certlines.Metric new h said signed numbers same =
-    let e = bind_ok (ended o o.sums) (λ e. cond (takes_metric e.due) (read_ok (sums_behind e sums.Begun)) (Err Malformed)) new same in
+    let e = bind_ok (ended o o.sums) (λ e. cond (takes_metric e.due) (read_ok (sums_after e sums.Begun)) (Err Malformed)) new same in
     let g = ended_formed o o.sums e.0 h h.rows_of_sums e.1 in
-    let p = passed (takes_metric e.0.due) (read_ok (sums_behind e.0 sums.Begun)) new e.2 in
-    to_owed (sums_behind e.0 sums.Begun) new (record { certs = g.certs; rows_of_sums = tt }) p.1
+    let p = passed (takes_metric e.0.due) (read_ok (sums_after e.0 sums.Begun)) new e.2 in
+    to_owed (sums_after e.0 sums.Begun) new (record { certs = g.certs; rows_of_sums = tt }) p.1
 after_cert_line_formed o (certlines.Transfer title raws) new h said signed numbers same =
-    let e = bind_ok (ended o o.sums) (λ e. transfer_begun e.names e.due title raws >>= λ d. read_ok (due_behind e d)) new same in
+    let e = bind_ok (ended o o.sums) (λ e. transfer_begun e.names e.due title raws >>= λ d. read_ok (due_after e d)) new same in
     let g = ended_formed o o.sums e.0 h h.rows_of_sums e.1 in
-    let d = bind_ok (transfer_begun e.0.names e.0.due title raws) (λ d. read_ok (due_behind e.0 d)) new e.2 in
-    to_owed (due_behind e.0 d.0) new (record { certs = transfer_begun_formed e.0.names e.0.due title raws d.0 g.certs d.1; rows_of_sums = g.rows_of_sums }) d.2
+    let d = bind_ok (transfer_begun e.0.names e.0.due title raws) (λ d. read_ok (due_after e.0 d)) new e.2 in
+    to_owed (due_after e.0 d.0) new (record { certs = transfer_begun_formed e.0.names e.0.due title raws d.0 g.certs d.1; rows_of_sums = g.rows_of_sums }) d.2
 after_cert_line_formed o (certlines.Clash raw) new h said signed numbers same =
-    let e = bind_ok (ended o o.sums) (λ e. lit_in e.names raw >>= λ l. clash_put e.due l >>= λ d. read_ok (due_behind e d)) new same in
+    let e = bind_ok (ended o o.sums) (λ e. lit_in e.names raw >>= λ l. clash_put e.due l >>= λ d. read_ok (due_after e d)) new same in
     let g = ended_formed o o.sums e.0 h h.rows_of_sums e.1 in
-    let l = bind_ok (lit_in e.0.names raw) (λ l. clash_put e.0.due l >>= λ d. read_ok (due_behind e.0 d)) new e.2 in
-    let d = bind_ok (clash_put e.0.due l.0) (λ d. read_ok (due_behind e.0 d)) new l.2 in
+    let l = bind_ok (lit_in e.0.names raw) (λ l. clash_put e.0.due l >>= λ d. read_ok (due_after e.0 d)) new e.2 in
+    let d = bind_ok (clash_put e.0.due l.0) (λ d. read_ok (due_after e.0 d)) new l.2 in
     let s = scope_of_names e.0.names in
     let formed : against_formed s (against.Clash l.0) ≡ true =
     and_from (all_in_scope s l.0) (not (is_metric l.0)) (lit_in_scope e.0.names raw l.0 l.1) (not_metric l.0.atom (lit_plain e.0.names raw l.0 signed l.1)) in
-    to_owed (due_behind e.0 d.0) new (record { certs = clash_put_formed s e.0.due l.0 d.0 formed d.1; rows_of_sums = g.rows_of_sums }) d.2
+    to_owed (due_after e.0 d.0) new (record { certs = clash_put_formed s e.0.due l.0 d.0 formed d.1; rows_of_sums = g.rows_of_sums }) d.2
 after_cert_line_formed o certlines.Sum new h said signed numbers same =
-    let s = bind_ok (sum_begun o.sums) (λ s. read_ok (sums_behind o s)) new same in
-    to_owed (sums_behind o s.0) new (record { certs = h.certs; rows_of_sums = sum_begun_formed (scope_of_names o.names) o.sums s.0 h.rows_of_sums s.1 }) s.2
+    let s = bind_ok (sum_begun o.sums) (λ s. read_ok (sums_after o s)) new same in
+    to_owed (sums_after o s.0) new (record { certs = h.certs; rows_of_sums = sum_begun_formed (scope_of_names o.names) o.sums s.0 h.rows_of_sums s.1 }) s.2
 after_cert_line_formed o (certlines.Differs raw) new h said signed numbers same =
-    let r = bind_ok (row_in o.names raw) (λ r. differs_put o.sums r >>= λ s. read_ok (sums_behind o s)) new same in
-    let s = bind_ok (differs_put o.sums r.0) (λ s. read_ok (sums_behind o s)) new r.2 in
-    to_owed (sums_behind o s.0) new (record { certs = h.certs; rows_of_sums = differs_put_formed (scope_of_names o.names) o.sums r.0 s.0 (difference_put o.names raw r.0 numbers said r.1) s.1 }) s.2
+    let r = bind_ok (row_in o.names raw) (λ r. differs_put o.sums r >>= λ s. read_ok (sums_after o s)) new same in
+    let s = bind_ok (differs_put o.sums r.0) (λ s. read_ok (sums_after o s)) new r.2 in
+    to_owed (sums_after o s.0) new (record { certs = h.certs; rows_of_sums = differs_put_formed (scope_of_names o.names) o.sums r.0 s.0 (difference_put o.names raw r.0 numbers said r.1) s.1 }) s.2
 after_cert_line_formed o (certlines.Row m raw) new h said signed numbers same =
-    let r = bind_ok (row_in o.names raw) (λ r. row_put o.sums m r >>= λ s. read_ok (sums_behind o s)) new same in
-    let s = bind_ok (row_put o.sums m r.0) (λ s. read_ok (sums_behind o s)) new r.2 in
-    to_owed (sums_behind o s.0) new (record { certs = h.certs; rows_of_sums = row_put_formed (scope_of_names o.names) o.sums m r.0 s.0 h.rows_of_sums (row_formed o.names m raw r.0 numbers said r.1) s.1 }) s.2
+    let r = bind_ok (row_in o.names raw) (λ r. row_put o.sums m r >>= λ s. read_ok (sums_after o s)) new same in
+    let s = bind_ok (row_put o.sums m r.0) (λ s. read_ok (sums_after o s)) new r.2 in
+    to_owed (sums_after o s.0) new (record { certs = h.certs; rows_of_sums = row_put_formed (scope_of_names o.names) o.sums m r.0 s.0 h.rows_of_sums (row_formed o.names m raw r.0 numbers said r.1) s.1 }) s.2
 
 -- a line of a certificate by its bytes
 pub strict_formed : (o : Pending) (line : List ℕ) (ws : List (List ℕ)) (m : CertLine) (new : Pending) → OwedFormed o → exact_cert_line line ws ≡ Ok m → after_cert_line o m ≡ Ok new → OwedFormed new

@@ -19,7 +19,7 @@ use Rattle.e_names.specs.Scope.{scope_of_names}
 use Rattle.e_names.specs.Fits.{is_diagram_lit}
 use Rattle.e_names.specs.Canonical.{raw_of, name_of_object, rule_name}
 use Rattle.e_names.proofs.Lookups.{InOrder, objects_named}
-use Rattle.e_names.proofs.LitLookups.{lit_number_again, lit_named, diagram_is_good, diagram_is_raw}
+use Rattle.e_names.proofs.LitLookups.{lit_number_again, lit_named, diagram_is_well_formed, diagram_is_raw}
 use Rattle.e_cert.specs.declared.cert_line.CertLine.TheVariants as certlines
 use Rattle.e_cert.specs.declared.owed.Obligation.{Obligation}
 use Rattle.e_cert.specs.declared.owed.Obligation.TheVariants as due
@@ -32,15 +32,15 @@ use Rattle.e_spell.specs.Certificates.{part_lines, cert_lines, against_lines}
 use Rattle.e_roundtrip.proofs.Certificates.Feeding.{Fed, owing, Ends, Puts, puts_append, GoodSums, metric_fed, GoodPart, part_fed}
 use Rattle.e_clause.specs.declared.cert.Version.{Version}
 use Rattle.e_clause.specs.Versions.{is_cert_of, is_against_of}
-use Rattle.e_cert.proofs.GoodKept.{AreGood}
+use Rattle.e_cert.proofs.GoodKept.{AreOfVersion}
 use Rattle.e_roundtrip.proofs.Certificates.VersionLines.{LinesOf, lines_append, metric_of, part_of, parts_of}
 use Rattle.e_roundtrip.proofs.Certificates.TransfersAgain.{GoodTransfer, part_way, rule_titled, transfer_again}
 
 -- ---- transfers
 
--- what is due behind these parts of a transfer that has so many in all
-abbrev behind : List Lit → List Cert → ℕ → List Obj → ℕ → List Part → Obligation
-behind wanted certs rule args n done =
+-- what is due after these parts of a transfer that has so many in all
+abbrev after : List Lit → List Cert → ℕ → List Obj → ℕ → List Part → Obligation
+after wanted certs rule args n done =
     let t = part_way rule args done n in
     cond (eqb (length done) n) (due.Literals wanted (certs ++ certificate t ∷ []) None) (due.Literals wanted certs (Some t))
 
@@ -48,7 +48,7 @@ chosen : (b : Bool) (x y : Obligation) → let ok : Obligation → Result Obliga
 chosen true x y = refl
 chosen false x y = refl
 
-put_is : (wanted : List Lit) (certs : List Cert) (rule : ℕ) (args : List Obj) (n : ℕ) (done : List Part) → transfer_put wanted certs (part_way rule args done n) ≡ Ok (behind wanted certs rule args n done)
+put_is : (wanted : List Lit) (certs : List Cert) (rule : ℕ) (args : List Obj) (n : ℕ) (done : List Part) → transfer_put wanted certs (part_way rule args done n) ≡ Ok (after wanted certs rule args n done)
 put_is wanted certs rule args n done =
     let t = part_way rule args done n in
     chosen (eqb (length done) n) (due.Literals wanted (certs ++ certificate t ∷ []) None) (due.Literals wanted certs (Some t))
@@ -57,21 +57,21 @@ put_is wanted certs rule args n done =
 abbrev whole : ℕ → List Obj → List Part → Cert
 whole rule args done = Transfer (record { rule = rule; args = args; parts = done })
 
-parts_fed : (ns : Names) (o : Pending) (wanted : List Lit) (certs : List Cert) (rule : ℕ) (args : List Obj) (n : ℕ) (done more : List Part) → InOrder ns → Ends ns o (behind wanted certs rule args n done)
+parts_fed : (ns : Names) (o : Pending) (wanted : List Lit) (certs : List Cert) (rule : ℕ) (args : List Obj) (n : ℕ) (done more : List Part) → InOrder ns → Ends ns o (after wanted certs rule args n done)
     → AllByRecursion (GoodPart ns) more → length done + length more ≡ n → Puts ns o (flat_map (part_lines ns) more) (due.Literals wanted (certs ++ whole rule args (done ++ more) ∷ []) None)
 parts_fed ns o wanted certs rule args n done [] order ends g count =
     let all : eqb (length done) n ≡ true = eq-eqb _ _ (omega (arith, count)) in
-    let is : behind wanted certs rule args n done ≡ due.Literals wanted (certs ++ whole rule args (done ++ []) ∷ []) None =
+    let is : after wanted certs rule args n done ≡ due.Literals wanted (certs ++ whole rule args (done ++ []) ∷ []) None =
     rw all (ap (λ (ps : List Part). due.Literals wanted (certs ++ whole rule args ps ∷ []) None) (sym (append-nil done))) in
     record { last = o; fed = refl; ends = ends ∙ ap (λ (d : Obligation). Ok (owing ns d None)) is }
 parts_fed ns o wanted certs rule args n done (p ∷ more) order ends g count =
     let next = done ++ p ∷ [] in
     let part : eqb (length done) n ≡ false = ne_eqb _ _ (λ e. absurd (omega (arith, e, count))) in
     let begun : Obligation = due.Literals wanted certs (Some (part_way rule args done n)) in
-    let is : behind wanted certs rule args n done ≡ begun = rw part refl in
-    let one = part_fed ns o begun (behind wanted certs rule args n next) p order (ends ∙ ap (λ (d : Obligation). Ok (owing ns d None)) is) g.0 (put_is wanted certs rule args n next) in
+    let is : after wanted certs rule args n done ≡ begun = rw part refl in
+    let one = part_fed ns o begun (after wanted certs rule args n next) p order (ends ∙ ap (λ (d : Obligation). Ok (owing ns d None)) is) g.0 (put_is wanted certs rule args n next) in
     let rest = parts_fed ns one.last wanted certs rule args n next more order one.ends g.1 (omega (arith, count, length-append done (p ∷ []))) in
-    let all = puts_append ns o (part_lines ns p) (flat_map (part_lines ns) more) (behind wanted certs rule args n next) (due.Literals wanted (certs ++ whole rule args (next ++ more) ∷ []) None) one rest in
+    let all = puts_append ns o (part_lines ns p) (flat_map (part_lines ns) more) (after wanted certs rule args n next) (due.Literals wanted (certs ++ whole rule args (next ++ more) ∷ []) None) one rest in
     subst (λ (ps : List Part). Puts ns o (flat_map (part_lines ns) (p ∷ more)) (due.Literals wanted (certs ++ whole rule args ps ∷ []) None)) (append_assoc done (p ∷ []) more) all
 
 -- ---- certificates
@@ -90,7 +90,7 @@ cert_fed ns o wanted done l (Plain p) order ends at more g =
     part_fed ns o (due.Literals wanted done None) (due.Literals wanted (done ++ Plain p ∷ []) None) p order ends g put
 cert_fed ns o wanted done l (Transfer t) order ends at more g =
     let n = length t.parts in
-    let begun = owing ns (behind wanted done t.rule t.args n []) None in
+    let begun = owing ns (after wanted done t.rule t.args n []) None in
     let rest = parts_fed ns begun wanted done t.rule t.args n [] t.parts order refl g.parts (omega arith) in
     record {
       last = rest.last;
@@ -164,14 +164,14 @@ certs_of v ns (l ∷ ls) (c ∷ cs) o g h =
     let p = and_parts (is_cert_of v c) (list_all (is_cert_of v) cs) h in
     lines_append v (cert_lines ns c) (flat_map (cert_lines ns) cs) (cert_of v ns l c o g.0 p.0) (certs_of v ns ls cs o g.1 p.1)
 
--- ---- what is kept behind them
+-- ---- what is kept after them
 
 -- the lines are taken, and then this is kept; where that is of a version, the lines have a form in it
 pub record Keeps (ns : Names) (d : Obligation) (lines : List (List (List ℕ))) (k : Option StepCerts) : Type 0 where
   pub last : Pending
   pub fed : Fed (owing ns d None) lines last
   pub settles : finish_certs last ≡ Ok k
-  pub of : (v : Version) → AreGood v (option_to_list k) → LinesOf v lines
+  pub of : (v : Version) → AreOfVersion v (option_to_list k) → LinesOf v lines
 
 pub certs_kept : (ns : Names) (wanted : List Lit) (cs : List Cert) → InOrder ns → GoodCerts ns wanted cs → Keeps ns (one_each wanted) (flat_map (cert_lines ns) cs) (Some (kept.Certs cs))
 unfolding finish_certs
@@ -192,7 +192,7 @@ GoodAgainst ns (against.Metric m) = GoodSums ns m.sums
 pub against_kept : (ns : Names) (a : Against) → InOrder ns → GoodAgainst ns a → Keeps ns (due.Contradiction None) (against_lines ns a) (Some (kept.Against a))
 unfolding after_cert_line finish_certs
 against_kept ns (against.Clash l) order g =
-    let good = diagram_is_good l g.1 in
+    let good = diagram_is_well_formed l g.1 in
     record {
       last = owing ns (due.Contradiction (Some (against.Clash l))) None;
       fed = (

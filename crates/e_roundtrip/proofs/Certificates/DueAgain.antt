@@ -16,7 +16,7 @@ use Rattle.e_construct.specs.Superposing as superposing
 use Rattle.e_deriv.specs.declared.names.Names.{Names}
 use Rattle.e_deriv.specs.Goal.{Goal, goal_with}
 use Rattle.e_deriv.specs.Parts.{written, has_no_blank}
-use Rattle.e_book.specs.declared.draft.TheoremParser.{TheoremParser}
+use Rattle.e_book.specs.declared.parser.TheoremParser.{TheoremParser}
 use Rattle.e_line.specs.Reading.{each, or_malformed}
 use Rattle.e_names.specs.TitledStatements.{TitledStatement, theorem_of}
 use Rattle.e_book.specs.Blocks.{made_in}
@@ -74,11 +74,11 @@ pub superpose_due : (known : List TitledStatement) (d : TheoremParser) (form : S
 unfolding due_of
 superpose_due known d form names shown g = rw (superpose_number_again d.in_scope form names shown g) refl
 
-pub qed_due : (known : List TitledStatement) (d : TheoremParser) (goal : Goal) (os : List Obj) → InOrder d.in_scope → are_of_sorts (scope_of_names d.in_scope) (made_in d.outers d.made) os ≡ true → open_goal d ≡ goal
+pub qed_due : (known : List TitledStatement) (d : TheoremParser) (goal : Goal) (os : List Obj) → InOrder d.in_scope → are_of_sorts (scope_of_names d.in_scope) (made_in d.blocks d.made) os ≡ true → open_goal d ≡ goal
     → due_of known d (qed_form d.in_scope os) ≡ Ok (one_each (goal_with goal os))
 unfolding due_of needs_at_qed qed_in
 qed_due known d goal os o h is =
     let ns = d.in_scope in
-    let sorts = made_in d.outers d.made in
+    let sorts = made_in d.blocks d.made in
     let count : eqb (length (map (name_of_object ns) os)) (length sorts) ≡ true = eq-eqb _ _ (length-map os (name_of_object ns) ∙ of_sorts_length (scope_of_names ns) sorts os h) in
     rw (count, objects_read ns sorts os o h) (ap (λ (g : Goal). Ok (one_each (goal_with g os))) is)

@@ -1,4 +1,4 @@
--- Lines of certificates that are taken one after another, and what is owed behind them.
+-- Lines of certificates that are taken one after another, and what is owed after them.
 use Rattle.std.proofs.Common.{◌≡◌, ◌^◌, ℕ, ◌+◌, ◌≤◌, ◌<◌, ℤ, Bool, true, false, cond, ltb, List, [], ◌∷◌, ◌++◌, length, map, Option, Some, None, Ok, Err, refl, sym, ap, subst, arith, append_assoc, length-append}
 use Rattle.std.specs.Prelude.{codes}
 use Rattle.std.specs.Fmt.{signed_decimal}
@@ -34,7 +34,7 @@ use Rattle.e_roundtrip.proofs.Certificates.RowsAgain.{raw_row, row_spelled, Good
 abbrev pub bar_words : CertLine → List (List ℕ)
 bar_words m = codes "|" ∷ cert_line_words m
 
--- the words are a line of a certificate, behind which this is owed
+-- the words are a line of a certificate, after which this is owed
 pub record OneCertLine (o : Pending) (words : List (List ℕ)) (next : Pending) : Type 0 where
   pub cert_line : CertLine
   pub spelled : words ≡ bar_words cert_line

@@ -48,7 +48,7 @@ use Rattle.e_cert.specs.declared.kept.StepCerts.{StepCerts}
 use Rattle.e_cert.specs.declared.kept.StepCerts.TheVariants as kept
 use Rattle.e_cert.specs.CertLines.{cert_line_words, cert_line_text}
 use Rattle.e_cert.specs.CertLines as reading
-use Rattle.e_cert.specs.Owed.{most_rows, fact_in, row_in, with_row, row_put, sum_begun, differs_put, sums_ended, has_more, certificate, transfer_put, part_put, metric_put, takes_metric, clash_put, transfer_rule, count_others, transfer_at, transfer_in, transfer_begun, ended, sums_behind, due_behind, after_cert_line, kept_of, finish_certs}
+use Rattle.e_cert.specs.Owed.{most_rows, fact_in, row_in, with_row, row_put, sum_begun, differs_put, sums_ended, has_more, certificate, transfer_put, part_put, metric_put, takes_metric, clash_put, transfer_rule, count_others, transfer_at, transfer_in, transfer_begun, ended, sums_after, due_after, after_cert_line, kept_of, finish_certs}
 use Rattle.e_spell.specs.Certificates.{row_words, row_line, sum_lines, metric_lines, part_lines, transfer_lines, cert_lines, certs_lines, against_lines, contradiction_lines}
 use Rattle.e_roundtrip.proofs.OneLine.NamesSpelled.{keeps_all}
 use Rattle.e_roundtrip.proofs.OneLine.LitsSpelled.{term_named, lit_named}
@@ -209,7 +209,7 @@ certs_more ns cs c = flat_map-append (cert_lines ns) cs (c ∷ []) ∙ ap (λ (l
 one_longer : (cs : List Cert) (c : Cert) (wanted : List Lit) → length cs < length wanted → length (cs ++ c ∷ []) ≤ length wanted
 one_longer cs c wanted lt = omega (arith, lt, length-append cs (c ∷ []))
 
--- a transfer with its parts so far stands behind the certificates
+-- a transfer with its parts so far stands after the certificates
 abbrev TransferStands : Names → List Lit → List Cert → OpenTransfer → Obligation → Type 0
 TransferStands ns wanted cs t x = (due_lines ns x ≡ all_lines ns cs ++ begun_lines ns t) × (due_at_first x ≡ due.Literals wanted [] None) × FitsDue x
 
@@ -298,7 +298,7 @@ transfer_begun_spelled ns (due.Literals wanted cs (Some t)) new title raws f e =
 transfer_begun_spelled ns due.Nothing new title raws f e = absurd cc
 transfer_begun_spelled ns (due.Contradiction a) new title raws f e = absurd cc
 
--- ---- what is owed behind a line
+-- ---- what is owed after a line
 
 -- what is owed where no sums are open
 record Ended (o e : Pending) : Type 0 where
@@ -332,17 +332,17 @@ pub record Marked (o new : Pending) (m : CertLine) : Type 0 where
 one_more : (o new : Pending) (m : CertLine) → new.names ≡ o.names → due_at_first new.due ≡ due_at_first o.due → FitsDue new.due → owed_lines new ≡ owed_lines o ++ (codes "|" ∷ cert_line_words m) ∷ [] → Marked o new m
 one_more o new m n f g e = record { names = n; lines = ap (map joined) e ∙ map-append joined (owed_lines o) ((codes "|" ∷ cert_line_words m) ∷ []); first = f; fits = g }
 
--- behind the end of the sums what is due grows
-due_after_cert_line : (o e : Pending) (d : Obligation) (m : CertLine) → Ended o e → Grows e.names e.due d ((codes "|" ∷ cert_line_words m) ∷ []) → Marked o (due_behind e d) m
+-- after the end of the sums what is due grows
+due_after_cert_line : (o e : Pending) (d : Obligation) (m : CertLine) → Ended o e → Grows e.names e.due d ((codes "|" ∷ cert_line_words m) ∷ []) → Marked o (due_after e d) m
 due_after_cert_line o e d m h g =
-    one_more o (due_behind e d) m h.names (g.first ∙ h.first) g.fits
+    one_more o (due_after e d) m h.names (g.first ∙ h.first) g.fits
     (ap (λ (s : Option OpenSums). due_lines e.names d ++ open_lines e.names s) h.sums ∙ append-nil (due_lines e.names d) ∙ g.lines
     ∙ ap (λ (l : Lines). l ++ (codes "|" ∷ cert_line_words m) ∷ []) (ap (λ (ns : Names). due_lines ns e.due) h.names ∙ h.lines))
 
 -- or sums go on
-sums_after_cert_line : (o : Pending) (s : OpenSums) (m : CertLine) → FitsDue o.due → open_lines o.names (Some s) ≡ open_lines o.names o.sums ++ (codes "|" ∷ cert_line_words m) ∷ [] → Marked o (sums_behind o s) m
+sums_after_cert_line : (o : Pending) (s : OpenSums) (m : CertLine) → FitsDue o.due → open_lines o.names (Some s) ≡ open_lines o.names o.sums ++ (codes "|" ∷ cert_line_words m) ∷ [] → Marked o (sums_after o s) m
 sums_after_cert_line o s m f e =
-    one_more o (sums_behind o s) m refl refl f
+    one_more o (sums_after o s) m refl refl f
     (ap (λ (l : Lines). due_lines o.names o.due ++ l) e ∙ sym (append_assoc (due_lines o.names o.due) (open_lines o.names o.sums) ((codes "|" ∷ cert_line_words m) ∷ [])))
 
 abbrev line_of_row : ℤ → List (List ℕ) → List (List ℕ)
@@ -351,50 +351,50 @@ line_of_row m words = codes "|" ∷ signed_decimal m ∷ words
 pub after_cert_line_spelled : (o new : Pending) (m : CertLine) → FitsDue o.due → CanonicalCertLine m → after_cert_line o m ≡ Ok new → Marked o new m
 unfolding after_cert_line
 after_cert_line_spelled o new certlines.Fact f c h =
-    let e = bind_ok (ended o o.sums) (λ e. part_put e.due parts.Fact >>= λ d. read_ok (due_behind e d)) new h in
-    let d = bind_ok (part_put e.0.due parts.Fact) (λ d. read_ok (due_behind e.0 d)) new e.2 in
+    let e = bind_ok (ended o o.sums) (λ e. part_put e.due parts.Fact >>= λ d. read_ok (due_after e d)) new h in
+    let d = bind_ok (part_put e.0.due parts.Fact) (λ d. read_ok (due_after e.0 d)) new e.2 in
     let end = ended_spelled o.names o.due o.sums e.0 f e.1 in
-    subst (λ (x : Pending). Marked o x certlines.Fact) (ok_is (due_behind e.0 d.0) new d.2) (due_after_cert_line o e.0 d.0 certlines.Fact end (part_put_spelled e.0.names e.0.due d.0 parts.Fact end.fits d.1))
+    subst (λ (x : Pending). Marked o x certlines.Fact) (ok_is (due_after e.0 d.0) new d.2) (due_after_cert_line o e.0 d.0 certlines.Fact end (part_put_spelled e.0.names e.0.due d.0 parts.Fact end.fits d.1))
 after_cert_line_spelled o new (certlines.FactAt k) f c h =
-    let e = bind_ok (ended o o.sums) (λ e. part_put e.due (parts.FactAt k) >>= λ d. read_ok (due_behind e d)) new h in
-    let d = bind_ok (part_put e.0.due (parts.FactAt k)) (λ d. read_ok (due_behind e.0 d)) new e.2 in
+    let e = bind_ok (ended o o.sums) (λ e. part_put e.due (parts.FactAt k) >>= λ d. read_ok (due_after e d)) new h in
+    let d = bind_ok (part_put e.0.due (parts.FactAt k)) (λ d. read_ok (due_after e.0 d)) new e.2 in
     let end = ended_spelled o.names o.due o.sums e.0 f e.1 in
-    subst (λ (x : Pending). Marked o x (certlines.FactAt k)) (ok_is (due_behind e.0 d.0) new d.2) (due_after_cert_line o e.0 d.0 (certlines.FactAt k) end (part_put_spelled e.0.names e.0.due d.0 (parts.FactAt k) end.fits d.1))
+    subst (λ (x : Pending). Marked o x (certlines.FactAt k)) (ok_is (due_after e.0 d.0) new d.2) (due_after_cert_line o e.0 d.0 (certlines.FactAt k) end (part_put_spelled e.0.names e.0.due d.0 (parts.FactAt k) end.fits d.1))
 after_cert_line_spelled o new certlines.Metric f c h =
-    let e = bind_ok (ended o o.sums) (λ e. cond (takes_metric e.due) (read_ok (sums_behind e sums.Begun)) (Err Malformed)) new h in
-    let t = passed (takes_metric e.0.due) (read_ok (sums_behind e.0 sums.Begun)) new e.2 in
+    let e = bind_ok (ended o o.sums) (λ e. cond (takes_metric e.due) (read_ok (sums_after e sums.Begun)) (Err Malformed)) new h in
+    let t = passed (takes_metric e.0.due) (read_ok (sums_after e.0 sums.Begun)) new e.2 in
     let end = ended_spelled o.names o.due o.sums e.0 f e.1 in
-    subst (λ (x : Pending). Marked o x certlines.Metric) (ok_is (sums_behind e.0 sums.Begun) new t.1)
-    (one_more o (sums_behind e.0 sums.Begun) certlines.Metric end.names end.first end.fits
+    subst (λ (x : Pending). Marked o x certlines.Metric) (ok_is (sums_after e.0 sums.Begun) new t.1)
+    (one_more o (sums_after e.0 sums.Begun) certlines.Metric end.names end.first end.fits
     (ap (λ (l : Lines). l ++ metric_head ∷ []) (ap (λ (ns : Names). due_lines ns e.0.due) end.names ∙ end.lines)))
 after_cert_line_spelled o new (certlines.Transfer title raws) f c h =
-    let e = bind_ok (ended o o.sums) (λ e. transfer_begun e.names e.due title raws >>= λ d. read_ok (due_behind e d)) new h in
-    let d = bind_ok (transfer_begun e.0.names e.0.due title raws) (λ d. read_ok (due_behind e.0 d)) new e.2 in
+    let e = bind_ok (ended o o.sums) (λ e. transfer_begun e.names e.due title raws >>= λ d. read_ok (due_after e d)) new h in
+    let d = bind_ok (transfer_begun e.0.names e.0.due title raws) (λ d. read_ok (due_after e.0 d)) new e.2 in
     let end = ended_spelled o.names o.due o.sums e.0 f e.1 in
-    subst (λ (x : Pending). Marked o x (certlines.Transfer title raws)) (ok_is (due_behind e.0 d.0) new d.2)
+    subst (λ (x : Pending). Marked o x (certlines.Transfer title raws)) (ok_is (due_after e.0 d.0) new d.2)
     (due_after_cert_line o e.0 d.0 (certlines.Transfer title raws) end (transfer_begun_spelled e.0.names e.0.due d.0 title raws end.fits d.1))
 after_cert_line_spelled o new (certlines.Clash raw) f c h =
-    let e = bind_ok (ended o o.sums) (λ e. lit_in e.names raw >>= λ l. clash_put e.due l >>= λ d. read_ok (due_behind e d)) new h in
-    let l = bind_ok (lit_in e.0.names raw) (λ l. clash_put e.0.due l >>= λ d. read_ok (due_behind e.0 d)) new e.2 in
-    let d = bind_ok (clash_put e.0.due l.0) (λ d. read_ok (due_behind e.0 d)) new l.2 in
+    let e = bind_ok (ended o o.sums) (λ e. lit_in e.names raw >>= λ l. clash_put e.due l >>= λ d. read_ok (due_after e d)) new h in
+    let l = bind_ok (lit_in e.0.names raw) (λ l. clash_put e.0.due l >>= λ d. read_ok (due_after e.0 d)) new e.2 in
+    let d = bind_ok (clash_put e.0.due l.0) (λ d. read_ok (due_after e.0 d)) new l.2 in
     let end = ended_spelled o.names o.due o.sums e.0 f e.1 in
     let named = lit_named e.0.names e.0.names raw l.0 (keeps_all e.0.names) c l.1 in
-    subst (λ (x : Pending). Marked o x (certlines.Clash raw)) (ok_is (due_behind e.0 d.0) new d.2)
+    subst (λ (x : Pending). Marked o x (certlines.Clash raw)) (ok_is (due_after e.0 d.0) new d.2)
     (due_after_cert_line o e.0 d.0 (certlines.Clash raw) end
     (subst (λ (x : RawLit). Grows e.0.names e.0.due d.0 ((codes "|" ∷ codes "clash" ∷ lit_words x) ∷ [])) named (clash_put_spelled e.0.names e.0.due d.0 l.0 d.1)))
 after_cert_line_spelled o new certlines.Sum f c h =
-    let s = bind_ok (sum_begun o.sums) (λ s. read_ok (sums_behind o s)) new h in
-    subst (λ (x : Pending). Marked o x certlines.Sum) (ok_is (sums_behind o s.0) new s.2) (sums_after_cert_line o s.0 certlines.Sum f (sum_begun_spelled o.names o.sums s.0 s.1))
+    let s = bind_ok (sum_begun o.sums) (λ s. read_ok (sums_after o s)) new h in
+    subst (λ (x : Pending). Marked o x certlines.Sum) (ok_is (sums_after o s.0) new s.2) (sums_after_cert_line o s.0 certlines.Sum f (sum_begun_spelled o.names o.sums s.0 s.1))
 after_cert_line_spelled o new (certlines.Differs raw) f c h =
-    let r = bind_ok (row_in o.names raw) (λ r. differs_put o.sums r >>= λ s. read_ok (sums_behind o s)) new h in
-    let s = bind_ok (differs_put o.sums r.0) (λ s. read_ok (sums_behind o s)) new r.2 in
-    subst (λ (x : Pending). Marked o x (certlines.Differs raw)) (ok_is (sums_behind o s.0) new s.2)
+    let r = bind_ok (row_in o.names raw) (λ r. differs_put o.sums r >>= λ s. read_ok (sums_after o s)) new h in
+    let s = bind_ok (differs_put o.sums r.0) (λ s. read_ok (sums_after o s)) new r.2 in
+    subst (λ (x : Pending). Marked o x (certlines.Differs raw)) (ok_is (sums_after o s.0) new s.2)
     (sums_after_cert_line o s.0 (certlines.Differs raw) f
     (differs_put_spelled o.names o.sums r.0 s.0 s.1 ∙ ap (λ (w : List (List ℕ)). open_lines o.names o.sums ++ (codes "|" ∷ codes "differs" ∷ w) ∷ []) (row_spelled o.names raw r.0 c r.1)))
 after_cert_line_spelled o new (certlines.Row m raw) f c h =
-    let r = bind_ok (row_in o.names raw) (λ r. row_put o.sums m r >>= λ s. read_ok (sums_behind o s)) new h in
-    let s = bind_ok (row_put o.sums m r.0) (λ s. read_ok (sums_behind o s)) new r.2 in
-    subst (λ (x : Pending). Marked o x (certlines.Row m raw)) (ok_is (sums_behind o s.0) new s.2)
+    let r = bind_ok (row_in o.names raw) (λ r. row_put o.sums m r >>= λ s. read_ok (sums_after o s)) new h in
+    let s = bind_ok (row_put o.sums m r.0) (λ s. read_ok (sums_after o s)) new r.2 in
+    subst (λ (x : Pending). Marked o x (certlines.Row m raw)) (ok_is (sums_after o s.0) new s.2)
     (sums_after_cert_line o s.0 (certlines.Row m raw) f
     (row_put_spelled o.names o.sums m r.0 s.0 s.1 ∙ ap (λ (w : List (List ℕ)). open_lines o.names o.sums ++ line_of_row m w ∷ []) (row_spelled o.names raw r.0 c r.1)))
 
@@ -403,12 +403,12 @@ after_cert_line_spelled o new (certlines.Row m raw) f c h =
 kept_spelled : (ns : Names) (d : Obligation) (k : Option StepCerts) → kept_of d ≡ Ok k → map joined (due_lines ns d) ≡ kept_text ns k
 kept_spelled ns due.Nothing k h = subst (λ (x : Option StepCerts). [] ≡ kept_text ns x) (ok_is None k h) refl
 kept_spelled ns (due.Literals wanted cs None) k h =
-    let t = opened (has_more wanted cs) (read_ok (Some (kept.Certs cs))) k h in
+    let t = kind (has_more wanted cs) (read_ok (Some (kept.Certs cs))) k h in
     subst (λ (x : Option StepCerts). map joined (all_lines ns cs) ≡ kept_text ns x) (ok_is (Some (kept.Certs cs)) k t) refl
   where
-    opened : (b : Bool) (x : Result (Option StepCerts) FaultKind) (y : Option StepCerts) → cond b (Err Malformed) x ≡ Ok y → x ≡ Ok y
-    opened true x y e = absurd cc
-    opened false x y e = e
+    kind : (b : Bool) (x : Result (Option StepCerts) FaultKind) (y : Option StepCerts) → cond b (Err Malformed) x ≡ Ok y → x ≡ Ok y
+    kind true x y e = absurd cc
+    kind false x y e = e
 kept_spelled ns (due.Literals wanted cs (Some t)) k h = absurd cc
 kept_spelled ns (due.Contradiction None) k h = absurd cc
 kept_spelled ns (due.Contradiction (Some a)) k h = subst (λ (x : Option StepCerts). map joined (against_lines ns a) ≡ kept_text ns x) (ok_is (Some (kept.Against a)) k h) refl

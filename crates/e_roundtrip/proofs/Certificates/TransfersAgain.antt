@@ -54,7 +54,7 @@ rule_titled rule args lits h = let r = of_row rule args lits h in ap is_title (r
 
 -- ---- arguments
 
--- what holds of all holds of the first of them, and of those behind
+-- what holds of all holds of the first of them, and of those after
 all_cut : {A : Type 0} (p : A → Bool) (n : ℕ) (xs : List A) → list_all p xs ≡ true → (list_all p (take n xs) ≡ true) × (list_all p (drop n xs) ≡ true)
 all_cut p zero xs h = (refl, h)
 all_cut p (suc n) [] h = (refl, refl)
@@ -73,22 +73,22 @@ unfolding args_in
 arguments_read ns r args o h w =
     let name = name_of_object ns in
     let within = is_in_scope (scope_of_names ns) in
-    let behind = drop r.points args in
+    let after = drop r.points args in
     let a = and_parts (eqb (length args) (r.points + r.lines + r.circles)) _ h in
     let b = and_parts (all_of Point (take r.points args)) _ a.1 in
-    let c = and_parts (all_of Line (take r.lines behind)) _ b.1 in
+    let c = and_parts (all_of Line (take r.lines after)) _ b.1 in
     let first = all_cut within r.points args w in
-    let second = all_cut within r.lines behind first.1 in
-    let behind-is = drop_map name r.points args in
-    let last : drop r.lines behind ≡ drop (r.points + r.lines) args = drop-drop r.lines r.points args in
+    let second = all_cut within r.lines after first.1 in
+    let after-is = drop_map name r.points args in
+    let last : drop r.lines after ≡ drop (r.points + r.lines) args = drop-drop r.lines r.points args in
     let ps : objects_as ns Point (take r.points (map name args)) ≡ Ok (take r.points args) = ap (objects_as ns Point) (take-map name r.points args) ∙ objects_again ns Point (take r.points args) o first.0 b.0 in
-    let ls : objects_as ns Line (take r.lines (drop r.points (map name args))) ≡ Ok (take r.lines behind) =
-    ap (λ (l : List (List ℕ)). objects_as ns Line (take r.lines l)) behind-is ∙ ap (objects_as ns Line) (take-map name r.lines behind) ∙ objects_again ns Line (take r.lines behind) o second.0 c.0 in
-    let cs : objects_as ns Circle (drop r.lines (drop r.points (map name args))) ≡ Ok (drop r.lines behind) =
-    ap (λ (l : List (List ℕ)). objects_as ns Circle (drop r.lines l)) behind-is ∙ ap (objects_as ns Circle) (drop_map name r.lines behind)
-    ∙ objects_again ns Circle (drop r.lines behind) o second.1 (ap (all_of Circle) last ∙ c.1) in
-    let whole : take r.points args ++ take r.lines behind ++ drop r.lines behind ≡ args =
-    append_assoc (take r.points args) (take r.lines behind) (drop r.lines behind) ∙ ap (λ (l : List Obj). take r.points args ++ l) (take-append-drop r.lines behind) ∙ take-append-drop r.points args in
+    let ls : objects_as ns Line (take r.lines (drop r.points (map name args))) ≡ Ok (take r.lines after) =
+    ap (λ (l : List (List ℕ)). objects_as ns Line (take r.lines l)) after-is ∙ ap (objects_as ns Line) (take-map name r.lines after) ∙ objects_again ns Line (take r.lines after) o second.0 c.0 in
+    let cs : objects_as ns Circle (drop r.lines (drop r.points (map name args))) ≡ Ok (drop r.lines after) =
+    ap (λ (l : List (List ℕ)). objects_as ns Circle (drop r.lines l)) after-is ∙ ap (objects_as ns Circle) (drop_map name r.lines after)
+    ∙ objects_again ns Circle (drop r.lines after) o second.1 (ap (all_of Circle) last ∙ c.1) in
+    let whole : take r.points args ++ take r.lines after ++ drop r.lines after ≡ args =
+    append_assoc (take r.points args) (take r.lines after) (drop r.lines after) ∙ ap (λ (l : List Obj). take r.points args ++ l) (take-append-drop r.lines after) ∙ take-append-drop r.points args in
     record {
       count = ap (λ n. eqb n (r.points + r.lines + r.circles)) (length-map args name) ∙ a.0;
       read = rw (ps, ls, cs) (ap (λ (l : List Obj). Ok l) whole);

@@ -39,15 +39,15 @@ lines_append v (x ∷ xs) ys h k = (h.0, lines_append v xs ys h.1 k)
 
 -- ---- one line of certificates has these words
 
-behind_bar : List (List ℕ) → List (List ℕ)
-behind_bar [] = []
-behind_bar (w ∷ ws) = ws
+after_bar : List (List ℕ) → List (List ℕ)
+after_bar [] = []
+after_bar (w ∷ ws) = ws
 
 pub same_cert_line : (a b : CertLine) → CertLineNamed a → CertLineNamed b → bar_words a ≡ bar_words b → a ≡ b
-unfolding behind_bar
+unfolding after_bar
 same_cert_line a b h k e =
     let read : CertLine → Result CertLine FaultKind = λ m. Ok m in
-    let words : cert_line_words a ≡ cert_line_words b = ap behind_bar e in
+    let words : cert_line_words a ≡ cert_line_words b = ap after_bar e in
     let is : read a ≡ read b = sym (cert_line_again a h) ∙ ap cert_line_of words ∙ cert_line_again b k in
     ok_is a b is
 

@@ -146,7 +146,7 @@ line_is before x one g b =
     and_from (fits before x) (certs_formed x.scope (needs before x) (certs_of x.here) && formed_beside x.here x.scope) one.fitting
     (and_from (certs_formed x.scope (needs before x) (certs_of x.here)) (formed_beside x.here x.scope) (certs_are x.scope x.facts (needs before x) (certs_of x.here) one.certs g) b)
 
--- the first line, and those behind it
+-- the first line, and those after it
 pub then_lines : (before : List StatementView) (x : Line) (xs : List Line) → is_formed before x ≡ true → list_all (is_formed before) xs ≡ true → list_all (is_formed before) (x ∷ xs) ≡ true
 then_lines before x xs h k = and_from (is_formed before x) (list_all (is_formed before) xs) h k
 

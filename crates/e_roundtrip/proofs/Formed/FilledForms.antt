@@ -75,9 +75,9 @@ forms_of_certified before (Apply theorem args names certs rest) f s facts others
 forms_of_certified before (Claim shown inner rest) f s facts others goal h =
     let x = line (Claim shown inner rest) (Claim shown inner rest) s facts goal in
     let inside = lines before inner inner s facts (goal_of shown) in
-    let behind = lines before rest rest s (joined_all facts shown) goal in
-    let p = first_of (is_certified before) x (inside ++ behind) h in
-    let q = both_of (is_certified before) inside behind p.1 in
+    let later = lines before rest rest s (joined_all facts shown) goal in
+    let p = first_of (is_certified before) x (inside ++ later) h in
+    let q = both_of (is_certified before) inside later p.1 in
     and_from _ _ (one_certified before x p.0).fitting
     (all_both (line_fits before) (lines before (erased inner) (inner_of f) s others (goal_of shown)) (lines before (erased rest) (rest_of f) s (joined_all others shown) goal)
     (forms_of_certified before inner (inner_of f) s facts others (goal_of shown) q.0)
@@ -87,9 +87,9 @@ forms_of_certified before (Superposed form names shown certs inner rest) f s fac
     let within = grown s superposing.sorts_copied in
     let g = superposing.gives_of_superposition form s in
     let inside = lines before inner inner within (joined_all facts g) (goal_of shown) in
-    let behind = lines before rest rest s (joined_all facts shown) goal in
-    let p = first_of (is_certified before) x (inside ++ behind) h in
-    let q = both_of (is_certified before) inside behind p.1 in
+    let later = lines before rest rest s (joined_all facts shown) goal in
+    let p = first_of (is_certified before) x (inside ++ later) h in
+    let q = both_of (is_certified before) inside later p.1 in
     and_from _ _ (one_certified before x p.0).fitting
     (all_both (line_fits before) (lines before (erased inner) (inner_of f) within (joined_all others g) (goal_of shown)) (lines before (erased rest) (rest_of f) s (joined_all others shown) goal)
     (forms_of_certified before inner (inner_of f) within (joined_all facts g) (joined_all others g) (goal_of shown) q.0)

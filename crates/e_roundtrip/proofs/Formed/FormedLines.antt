@@ -90,8 +90,8 @@ made_formed known ns goal form names cs x m h facts =
     let s = scope_of_names ns in
     let more = joined_all facts (gives_of_construction form s) in
     let l = line (Make form names cs x) (Make form names cs x) s facts goal in
-    let behind = subst (λ (z : Scope). list_all (is_formed before) (lines before x x z more goal) ≡ true) (sym (named_scope ns (sorts_made form) names m.count)) (h more) in
-    then_lines before l (lines before x x (grown s (sorts_made form)) more goal) (one_formed before l m.fits m.certs refl) behind
+    let after = subst (λ (z : Scope). list_all (is_formed before) (lines before x x z more goal) ≡ true) (sym (named_scope ns (sorts_made form) names m.count)) (h more) in
+    then_lines before l (lines before x x (grown s (sorts_made form)) more goal) (one_formed before l m.fits m.certs refl) after
 
 -- a use of an earlier theorem, with its certificates: it fits without blanks, and has one new name for each made object
 pub record UseFormed (known : List TitledStatement) (ns : Names) (theorem : ℕ) (args : List (Option Obj)) (names : List (List ℕ)) (cs : List Cert) : Type 0 where
@@ -109,8 +109,8 @@ applied_formed known ns goal theorem args names cs x u h facts =
     let t = theorem_of known theorem in
     let more = joined_all facts (gives_of_use t (written args) s) in
     let l = line (Apply theorem args names cs x) (Apply theorem args names cs x) s facts goal in
-    let behind = subst (λ (z : Scope). list_all (is_formed before) (lines before x x z more goal) ≡ true) (sym (named_scope ns t.made names u.count)) (h more) in
-    then_lines before l (lines before x x (grown s t.made) more goal) (one_formed before l u.fits u.certs u.full) behind
+    let after = subst (λ (z : Scope). list_all (is_formed before) (lines before x x z more goal) ≡ true) (sym (named_scope ns t.made names u.count)) (h more) in
+    then_lines before l (lines before x x (grown s t.made) more goal) (one_formed before l u.fits u.certs u.full) after
 
 pub claimed_formed : (known : List TitledStatement) (ns : Names) (goal : Goal) (shown : List Lit) (inner x : Script) → are_over (scope_of_names ns) shown ≡ true → FormedHere known ns (goal_of shown) inner → FormedHere known ns goal x
     → FormedHere known ns goal (Claim shown inner x)
@@ -120,8 +120,8 @@ claimed_formed known ns goal shown inner x w i h facts =
     let s = scope_of_names ns in
     let l = line (Claim shown inner x) (Claim shown inner x) s facts goal in
     let inside = lines before inner inner s facts (goal_of shown) in
-    let behind = lines before x x s (joined_all facts shown) goal in
-    then_lines before l (inside ++ behind) (one_formed before l w refl refl) (all_both (is_formed before) inside behind (i facts) (h (joined_all facts shown)))
+    let after = lines before x x s (joined_all facts shown) goal in
+    then_lines before l (inside ++ after) (one_formed before l w refl refl) (all_both (is_formed before) inside after (i facts) (h (joined_all facts shown)))
 
 -- a superposition, with its certificates: it fits, what it shows is over the objects before it, and each copied point has a new name
 pub record CopyFormed (ns : Names) (form : Superpose) (names : List (List ℕ)) (shown : List Lit) (cs : List Cert) : Type 0 where
@@ -139,10 +139,10 @@ copied_formed known ns goal form names shown cs inner x c i h facts =
     let given = joined_all facts (superposing.gives_of_superposition form s) in
     let l = line (Superposed form names shown cs inner x) (Superposed form names shown cs inner x) s facts goal in
     let inside = lines before inner inner (grown s superposing.sorts_copied) given (goal_of shown) in
-    let behind = lines before x x s (joined_all facts shown) goal in
+    let after = lines before x x s (joined_all facts shown) goal in
     let within = subst (λ (z : Scope). list_all (is_formed before) (lines before inner inner z given (goal_of shown)) ≡ true) (sym (named_scope ns superposing.sorts_copied names c.count)) (i given) in
-    then_lines before l (inside ++ behind) (one_formed before l (and_from (superposing.fits_superposition form s) (are_over s shown) c.fits c.over) c.certs refl)
-    (all_both (is_formed before) inside behind within (h (joined_all facts shown)))
+    then_lines before l (inside ++ after) (one_formed before l (and_from (superposing.fits_superposition form s) (are_over s shown) c.fits c.over) c.certs refl)
+    (all_both (is_formed before) inside after within (h (joined_all facts shown)))
 
 -- ---- closes
 

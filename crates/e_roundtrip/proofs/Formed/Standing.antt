@@ -1,4 +1,4 @@
--- Where a script with its certificates stands, and what leads behind its lines.
+-- Where a script with its certificates stands, and what leads after its lines.
 use Rattle.std.proofs.Common.{◌≡◌, ℕ, ◌+◌, Bool, true, false, ◌&&◌, List, ◌∷◌, ◌++◌, map, Option, Ok, sym, ◌∙◌}
 use Rattle.std.specs.Option.{option_to_list}
 use Rattle.std.specs.List.{list_all}
@@ -14,7 +14,7 @@ use Rattle.e_deriv.specs.Lines.{Line, lines}
 use Rattle.e_deriv.specs.Steps.{fits, needs}
 use Rattle.e_deriv.specs.Certified.{certs_of, certified_beside, is_certified}
 use Rattle.e_line.specs.declared.raw_line.RawLine.{RawLine}
-use Rattle.e_book.specs.declared.draft.TheoremParser.{TheoremParser}
+use Rattle.e_book.specs.declared.parser.TheoremParser.{TheoremParser}
 use Rattle.e_names.specs.TitledStatements.{TitledStatement, stated_by}
 use Rattle.e_names.specs.Scope.{scope_of_names}
 use Rattle.e_book.specs.Steps.{closed, step}
@@ -79,12 +79,12 @@ one_formed before x h =
 pub record Spelled (known : List TitledStatement) (d : TheoremParser) (i : Inside) (script : Script) : Type 0 where
   pub last : Inside
   pub lines : last.lines ≡ i.lines + size (erased script)
-  pub along : (e : TheoremParser) → closed (proving d last) i.outers (i.steps ++ steps_of (erased script)) (close_of (erased script)) ≡ Ok e → is_done e ≡ false
+  pub along : (e : TheoremParser) → closed (proving d last) i.blocks (i.steps ++ steps_of (erased script)) (close_of (erased script)) ≡ Ok e → is_done e ≡ false
       → Along known (proving d i) (script_lines known i.in_scope script) e (kepts script)
 
 -- ---- one line
 
--- a line of the script that is taken where this draft has come, with its certificates
+-- a line of the script that is taken where this parser has come, with its certificates
 pub record Goes (known : List TitledStatement) (d e : TheoremParser) (f : RawLine) (owed : Obligation) (certs : List (List (List ℕ))) (k : Option StepCerts) : Type 0 where
   pub good : GoodForm f
   pub strict : is_strict (as_read f) ≡ true
@@ -97,7 +97,7 @@ pub record Goes (known : List TitledStatement) (d e : TheoremParser) (f : RawLin
 pub goes_along : (known : List TitledStatement) (d e : TheoremParser) (f : RawLine) (owed : Obligation) (certs : List (List (List ℕ))) (k : Option StepCerts) → Goes known d e f owed certs k → Along known d (line_of f ∷ map joined certs) e (option_to_list k)
 goes_along known d e f owed certs k g = step_along known d e f owed certs k g.good g.strict g.apart g.owes g.steps g.going g.keeps
 
--- and more lines behind it
+-- and more lines after it
 pub then_along : (known : List TitledStatement) (d e last : TheoremParser) (f : RawLine) (owed : Obligation) (certs : List (List (List ℕ))) (k : Option StepCerts) (more : List (List ℕ)) (ks : List StepCerts) → Goes known d e f owed certs k → Along known e more last ks
     → Along known d (line_of f ∷ (map joined certs ++ more)) last (option_to_list k ++ ks)
 then_along known d e last f owed certs k more ks g rest = along_append known d e last (line_of f ∷ map joined certs) more (option_to_list k) ks (goes_along known d e f owed certs k g) rest

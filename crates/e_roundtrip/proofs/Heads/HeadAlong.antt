@@ -11,15 +11,15 @@ use Rattle.e_line.specs.declared.fault.FaultKind.{FaultKind}
 use Rattle.e_line.specs.declared.literal.RawLit.{RawLit}
 use Rattle.e_line.specs.declared.raw_line.RawLine.{RawLine}
 use Rattle.e_line.specs.declared.raw_line.RawLine.TheVariants as rawlines
-use Rattle.e_book.specs.declared.draft.TheoremParser.{TheoremParser}
-use Rattle.e_book.specs.declared.draft.Section.TheVariants.{Giving, Making, Showing}
+use Rattle.e_book.specs.declared.parser.TheoremParser.{TheoremParser}
+use Rattle.e_book.specs.declared.parser.Section.TheVariants.{Giving, Making, Showing}
 use Rattle.e_line.specs.declared.fault.What.TheVariants as limits
 use Rattle.e_line.specs.Reading.{◌>>=◌, with_front}
 use Rattle.e_line.specs.Limits.{within, most_facts}
 use Rattle.e_names.specs.TitledStatements.{TitledStatement}
 use Rattle.e_names.specs.Scope.{lits_in}
 use Rattle.e_line.specs.LineLimits.{few_monos}
-use Rattle.e_book.specs.Steps.{terms_behind, with_terms, allowed, declared, declares, supposes, makes, shows, proof_begun, stepped, step}
+use Rattle.e_book.specs.Steps.{terms_after_raw, with_terms, allowed, declared, declares, supposes, makes, shows, proof_begun, stepped, step}
 use Rattle.e_book.specs.Book.{is_done}
 use Rattle.e_line.specs.Canonical.{line_of}
 use Rattle.e_names.specs.Canonical.{name_of_object, given_form, show_form}
@@ -40,7 +40,7 @@ use Rattle.e_roundtrip.proofs.Formed.Standing.{then_along}
 
 -- ---- the forms of a statement
 
--- lines of a statement, behind objects of these sorts that are declared and made: no line of objects goes on with the sort of the
+-- lines of a statement, after objects of these sorts that are declared and made: no line of objects goes on with the sort of the
 -- line before
 abbrev pub Heads : (declared made : List Sort) → List RawLine → Type 0
 Heads ds ms [] = Unit {0}
@@ -82,8 +82,8 @@ terms_sorts : (d e : TheoremParser) (raws : List RawLit) → with_terms d raws �
 unfolding with_terms
 terms_sorts d e raws h =
     let with_count : ℕ → TheoremParser = λ n. record d { terms = n } in
-    let a = bind_ok (few_monos raws) (λ few. terms_behind d.terms raws >>= λ n. Ok (with_count n)) e h in
-    let b = bind_ok (terms_behind d.terms raws) (λ n. Ok (with_count n)) e a.2 in
+    let a = bind_ok (few_monos raws) (λ few. terms_after_raw d.terms raws >>= λ n. Ok (with_count n)) e h in
+    let b = bind_ok (terms_after_raw d.terms raws) (λ n. Ok (with_count n)) e a.2 in
     same_sorts (with_count b.0) e d.declared d.made b.2 refl refl
 
 given_sorts : (known : List TitledStatement) (d e : TheoremParser) (raws : List RawLit) → step known d (rawlines.Given raws) ≡ Ok e → Sorts e d.declared d.made
@@ -117,8 +117,8 @@ plain_along : (known : List TitledStatement) (d e last : TheoremParser) (f : Raw
 plain_along known d e last f fs good strict apart owes steps going rest =
     then_along known d e last f due.Nothing [] None (map line_of fs) [] (record { good = good; strict = strict; apart = apart; owes = owes; steps = steps; going = going; keeps = nothing_kept d.in_scope }) rest
 
-pub draft_is : (x y : TheoremParser) → (let some : TheoremParser → Option TheoremParser = λ d. Some d in some x ≡ some y) → x ≡ y
-draft_is x y e = cc
+pub parser_is : (x y : TheoremParser) → (let some : TheoremParser → Option TheoremParser = λ d. Some d in some x ≡ some y) → x ≡ y
+parser_is x y e = cc
 
 none_along : (known : List TitledStatement) (d : TheoremParser) → Along known d [] d []
 none_along known d = λ r ks of s. record { last = r; version = refl; taken = refl; stands = subst (λ (x : List StepCerts). Stands r d x) (sym (append-nil ks)) s }
@@ -128,7 +128,7 @@ moved ds es ms ns fs a b h = subst (λ (x : List Sort). Heads x ms fs) (sym a) (
 
 pub head_along : (known : List TitledStatement) (d last : TheoremParser) (fs : List RawLine) → Runs known (Some d) fs (Some last) → Heads d.declared d.made fs → Along known d (map line_of fs) last []
 unfolding due_of
-head_along known d last [] r h = subst (λ (e : TheoremParser). Along known d [] e []) (draft_is d last r) (none_along known d)
+head_along known d last [] r h = subst (λ (e : TheoremParser). Along known d [] e []) (parser_is d last r) (none_along known d)
 head_along known d last (rawlines.Declare sort ns ∷ fs) r h =
     let s = declare_sorts known d r.0 sort ns r.2 in
     plain_along known d r.0 last (rawlines.Declare sort ns) fs r.1 refl (rw h.0 refl) refl r.2 r.3 (head_along known r.0 last fs r.4 (moved r.0.declared (d.declared ++ replicate (length ns) sort) r.0.made d.made fs s.declared s.made h.1))
@@ -153,14 +153,14 @@ HasName [] = ⊥
 HasName (n ∷ ns) = Unit {0}
 
 -- the next group is of another sort
-abbrev Behind : Sort → List Group → Type 0
-Behind sort [] = Unit {0}
-Behind sort (g ∷ gs) = same_sort sort g.sort ≡ false
+abbrev ComesAfter : Sort → List Group → Type 0
+ComesAfter sort [] = Unit {0}
+ComesAfter sort (g ∷ gs) = same_sort sort g.sort ≡ false
 
 -- each group has a name, and two that are neighbours have different sorts
 abbrev Differ : List Group → Type 0
 Differ [] = Unit {0}
-Differ (g ∷ gs) = HasName g.names × Behind g.sort gs × Differ gs
+Differ (g ∷ gs) = HasName g.names × ComesAfter g.sort gs × Differ gs
 
 differ_by : (b : Bool) (sort : Sort) (name : List ℕ) (g : Group) (gs : List Group) → same_sort sort g.sort ≡ b → Differ (g ∷ gs) → Differ (cond b (group g.sort (name ∷ g.names) ∷ gs) (group sort (name ∷ []) ∷ g ∷ gs))
 differ_by true sort name g gs e h = (tt, h.1, h.2)
@@ -176,10 +176,10 @@ groups_differ ns (o ∷ os) = differ_before o.sort (name_of_object ns o) (groupe
 
 -- ---- the last sort
 
-last_behind : (xs : List Sort) (y : Sort) (ys : List Sort) (sort : Sort) → ends_with (xs ++ y ∷ ys) sort ≡ ends_with (y ∷ ys) sort
-last_behind [] y ys sort = refl
-last_behind (x ∷ []) y ys sort = refl
-last_behind (x ∷ z ∷ xs) y ys sort = last_behind (z ∷ xs) y ys sort
+last_after : (xs : List Sort) (y : Sort) (ys : List Sort) (sort : Sort) → ends_with (xs ++ y ∷ ys) sort ≡ ends_with (y ∷ ys) sort
+last_after [] y ys sort = refl
+last_after (x ∷ []) y ys sort = refl
+last_after (x ∷ z ∷ xs) y ys sort = last_after (z ∷ xs) y ys sort
 
 last_of_many : (n : ℕ) (s sort : Sort) → ends_with (s ∷ replicate n s) sort ≡ same_sort s sort
 last_of_many zero s sort = refl
@@ -187,24 +187,24 @@ last_of_many (suc n) s sort = last_of_many n s sort
 
 last_is : (xs : List Sort) (names : List (List ℕ)) (s sort : Sort) → HasName names → ends_with (xs ++ replicate (length names) s) sort ≡ same_sort s sort
 last_is xs [] s sort h = absurd h
-last_is xs (n ∷ names) s sort h = last_behind xs s (replicate (length names) s) sort ∙ last_of_many (length names) s sort
+last_is xs (n ∷ names) s sort h = last_after xs s (replicate (length names) s) sort ∙ last_of_many (length names) s sort
 
 -- no group goes on with the last sort
 abbrev Fresh : List Sort → List Group → Type 0
 Fresh ss [] = Unit {0}
 Fresh ss (g ∷ gs) = ends_with ss g.sort ≡ false
 
-fresh_behind : (ss : List Sort) (names : List (List ℕ)) (sort : Sort) (gs : List Group) → HasName names → Behind sort gs → Fresh (ss ++ replicate (length names) sort) gs
-fresh_behind ss names sort [] n b = tt
-fresh_behind ss names sort (g ∷ gs) n b = last_is ss names sort g.sort n ∙ b
+fresh_after : (ss : List Sort) (names : List (List ℕ)) (sort : Sort) (gs : List Group) → HasName names → ComesAfter sort gs → Fresh (ss ++ replicate (length names) sort) gs
+fresh_after ss names sort [] n b = tt
+fresh_after ss names sort (g ∷ gs) n b = last_is ss names sort g.sort n ∙ b
 
 declared_heads : (ds ms : List Sort) (gs : List Group) (more : List RawLine) → Fresh ds gs → Differ gs → ((es : List Sort) → Heads es ms more) → Heads ds ms (map declare_form gs ++ more)
 declared_heads ds ms [] more f h rest = rest ds
-declared_heads ds ms (g ∷ gs) more f h rest = (f, declared_heads (ds ++ replicate (length g.names) g.sort) ms gs more (fresh_behind ds g.names g.sort gs h.0 h.1) h.2 rest)
+declared_heads ds ms (g ∷ gs) more f h rest = (f, declared_heads (ds ++ replicate (length g.names) g.sort) ms gs more (fresh_after ds g.names g.sort gs h.0 h.1) h.2 rest)
 
 made_heads : (ds ms : List Sort) (gs : List Group) (more : List RawLine) → Fresh ms gs → Differ gs → ((es : List Sort) → Heads ds es more) → Heads ds ms (map made_form gs ++ more)
 made_heads ds ms [] more f h rest = rest ms
-made_heads ds ms (g ∷ gs) more f h rest = (f, made_heads ds (ms ++ replicate (length g.names) g.sort) gs more (fresh_behind ms g.names g.sort gs h.0 h.1) h.2 rest)
+made_heads ds ms (g ∷ gs) more f h rest = (f, made_heads ds (ms ++ replicate (length g.names) g.sort) gs more (fresh_after ms g.names g.sort gs h.0 h.1) h.2 rest)
 
 -- ---- the whole
 
@@ -227,7 +227,7 @@ shown_part ds ns t =
     subst (λ (fs : List RawLine). Heads ds [] fs) (sym (append_assoc (map made_form gs) shown (rawlines.Proof ∷ [])))
     (made_heads ds [] gs (shown ++ rawlines.Proof ∷ []) (first_fresh gs) (groups_differ ns (made_objects t)) (λ ms. shown_heads ds ms ns t.shown (rawlines.Proof ∷ []) tt))
 
--- all lines of a statement behind its title
+-- all lines of a statement after its title
 pub statement_heads : (ns : Names) (t : Statement) → Heads [] [] (given_forms ns t ++ (shown_forms ns t ++ rawlines.Proof ∷ []))
 statement_heads ns t =
     let gs = grouped ns (declared_objects t) in

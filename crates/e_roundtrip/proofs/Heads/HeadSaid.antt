@@ -59,7 +59,7 @@ at_made t x a b =
 at_shown : (t x : RawLine) (a b c : List RawLine) → t ∷ (a ++ (b ++ (c ++ x ∷ []))) ≡ (t ∷ (a ++ (b ++ c))) ++ x ∷ []
 at_shown t x a b c = ap (λ (l : List RawLine). t ∷ l) (ap (λ (l : List RawLine). a ++ l) (sym (append_assoc b c (x ∷ []))) ∙ sym (append_assoc a (b ++ c) (x ∷ [])))
 
--- where nothing stands behind the declared objects
+-- where nothing stands after the declared objects
 bare_head : (ns : Names) (title : List ℕ) (declared : List Sort) (given : List Lit) (made : List Sort) (shown : List Lit) → given ≡ [] → made ≡ [] → shown ≡ []
     → head_parts ns title declared given made shown ≡ head_parts ns title declared [] [] []
 bare_head ns title declared given made shown g m s = rw (g, m, s) refl

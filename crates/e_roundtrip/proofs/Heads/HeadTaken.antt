@@ -13,19 +13,19 @@ use Rattle.e_line.specs.declared.literal.RawLit.{RawLit}
 use Rattle.e_line.specs.declared.raw_line.RawLine.{RawLine}
 use Rattle.e_line.specs.declared.raw_line.RawLine.TheVariants as rawlines
 use Rattle.e_book.specs.declared.blocks.OpenBlock.{OpenBlock}
-use Rattle.e_book.specs.declared.draft.Section.{Section}
-use Rattle.e_book.specs.declared.draft.Section.TheVariants.{Declaring, Giving, Making, Showing, Proving, Splitting, Closed, Done}
-use Rattle.e_book.specs.declared.draft.TheoremParser.{TheoremParser}
+use Rattle.e_book.specs.declared.parser.Section.{Section}
+use Rattle.e_book.specs.declared.parser.Section.TheVariants.{Declaring, Giving, Making, Showing, Proving, Splitting, Closed, Done}
+use Rattle.e_book.specs.declared.parser.TheoremParser.{TheoremParser}
 use Rattle.e_line.specs.Reading.{◌>>=◌, with_front}
 use Rattle.e_line.specs.Limits.{most_of, what_of, within, most_facts, most_theorems}
 use Rattle.e_names.specs.TitledStatements.{TitledStatement, is_known}
 use Rattle.e_names.specs.Scope.{fresh, lit_in, lits_in}
 use Rattle.e_line.specs.LineLimits.{few_monos}
-use Rattle.e_book.specs.Steps.{allowed, declared, terms_behind, with_terms, stepped, begun, begin}
+use Rattle.e_book.specs.Steps.{allowed, declared, terms_after_raw, with_terms, stepped, begun, begin}
 use Rattle.e_line.specs.Canonical.{line_of}
 use Rattle.e_names.specs.Canonical.{given_form, show_form}
 use Rattle.e_book.specs.Canonical.{head_forms, given_forms, shown_forms}
-use Rattle.e_book.specs.DraftViews.{statement_of_draft}
+use Rattle.e_book.specs.ParserViews.{statement_of_parser}
 use Rattle.e_book.proofs.Answered.{untaken}
 use Rattle.e_line.proofs.Bound.{bind_ok, ok_is, read_ok}
 use Rattle.e_cert.specs.declared.kept.StepCerts.{StepCerts}
@@ -55,58 +55,58 @@ pub record InHead (p : Section) (d : TheoremParser) (ks : List StepCerts) (ls : 
   pub lines : ls ≡ map line_of said
   pub kept : ks ≡ []
   pub steps : d.steps ≡ []
-  pub outers : d.outers ≡ []
+  pub blocks : d.blocks ≡ []
   pub empty : Empties p d.given d.made d.shown
 
--- a head, and a proof behind it
+-- a head, and a proof after it
 pub record InProof (known : List TitledStatement) (p : Section) (d : TheoremParser) (ks : List StepCerts) (ls : List (List ℕ)) : Type 0 where
   pub said : List (List ℕ)
   pub lines : ls ≡ map line_of (head_forms (head_of d)) ++ said
   pub body : BodySaid known p d ks said
 
--- these certificates are kept for the lines so far, and with them these lines spell what the draft holds
-abbrev pub DraftSaid : List TitledStatement → Section → TheoremParser → List StepCerts → List (List ℕ) → Type 0
-DraftSaid known Declaring d ks ls = InHead Declaring d ks ls
-DraftSaid known Giving d ks ls = InHead Giving d ks ls
-DraftSaid known Making d ks ls = InHead Making d ks ls
-DraftSaid known Showing d ks ls = InHead Showing d ks ls
-DraftSaid known Proving d ks ls = InProof known Proving d ks ls
-DraftSaid known Splitting d ks ls = InProof known Splitting d ks ls
-DraftSaid known Closed d ks ls = InProof known Closed d ks ls
-DraftSaid known Done d ks ls = InProof known Done d ks ls
+-- these certificates are kept for the lines so far, and with them these lines spell what the parser holds
+abbrev pub ParserSaid : List TitledStatement → Section → TheoremParser → List StepCerts → List (List ℕ) → Type 0
+ParserSaid known Declaring d ks ls = InHead Declaring d ks ls
+ParserSaid known Giving d ks ls = InHead Giving d ks ls
+ParserSaid known Making d ks ls = InHead Making d ks ls
+ParserSaid known Showing d ks ls = InHead Showing d ks ls
+ParserSaid known Proving d ks ls = InProof known Proving d ks ls
+ParserSaid known Splitting d ks ls = InProof known Splitting d ks ls
+ParserSaid known Closed d ks ls = InProof known Closed d ks ls
+ParserSaid known Done d ks ls = InProof known Done d ks ls
 
 -- a line that owes nothing is said
 abbrev pub Puts : List TitledStatement → TheoremParser → RawLine → List StepCerts → List (List ℕ) → Type 0
-Puts known e f ks ls = DraftSaid known e.place e ks (ls ++ line_of f ∷ [])
+Puts known e f ks ls = ParserSaid known e.place e ks (ls ++ line_of f ∷ [])
 
 one_line : (said : List RawLine) (f : RawLine) (ls : List (List ℕ)) → ls ≡ map line_of said → ls ++ line_of f ∷ [] ≡ map line_of (said ++ f ∷ [])
 one_line said f ls e = ap (λ (l : List (List ℕ)). l ++ line_of f ∷ []) e ∙ sym (map-append line_of said (f ∷ []))
 
 -- ---- where the lines of a head may come
 
-at_declared : (known : List TitledStatement) (p : Section) (d : TheoremParser) (ks : List StepCerts) (ls : List (List ℕ)) (sort : Sort) (ns : List (List ℕ)) → allowed p (rawlines.Declare sort ns) ≡ true → DraftSaid known p d ks ls → (p ≡ Declaring) × InHead Declaring d ks ls
+at_declared : (known : List TitledStatement) (p : Section) (d : TheoremParser) (ks : List StepCerts) (ls : List (List ℕ)) (sort : Sort) (ns : List (List ℕ)) → allowed p (rawlines.Declare sort ns) ≡ true → ParserSaid known p d ks ls → (p ≡ Declaring) × InHead Declaring d ks ls
 at_declared known Declaring d ks ls sort ns a h = (refl, h)
 at_declared known p d ks ls sort ns a h = absurd cc
 
-at_given : (known : List TitledStatement) (p : Section) (d : TheoremParser) (ks : List StepCerts) (ls : List (List ℕ)) (raws : List RawLit) → allowed p (rawlines.Given raws) ≡ true → DraftSaid known p d ks ls → InHead Giving d ks ls
-at_given known Declaring d ks ls raws a h = record { said = h.said; head = h.head; lines = h.lines; kept = h.kept; steps = h.steps; outers = h.outers; empty = (h.empty.1, h.empty.2) }
+at_given : (known : List TitledStatement) (p : Section) (d : TheoremParser) (ks : List StepCerts) (ls : List (List ℕ)) (raws : List RawLit) → allowed p (rawlines.Given raws) ≡ true → ParserSaid known p d ks ls → InHead Giving d ks ls
+at_given known Declaring d ks ls raws a h = record { said = h.said; head = h.head; lines = h.lines; kept = h.kept; steps = h.steps; blocks = h.blocks; empty = (h.empty.1, h.empty.2) }
 at_given known Giving d ks ls raws a h = h
 at_given known p d ks ls raws a h = absurd cc
 
-at_made : (known : List TitledStatement) (p : Section) (d : TheoremParser) (ks : List StepCerts) (ls : List (List ℕ)) (sort : Sort) (ns : List (List ℕ)) → allowed p (rawlines.Made sort ns) ≡ true → DraftSaid known p d ks ls → InHead Making d ks ls
-at_made known Declaring d ks ls sort ns a h = record { said = h.said; head = h.head; lines = h.lines; kept = h.kept; steps = h.steps; outers = h.outers; empty = h.empty.2 }
-at_made known Giving d ks ls sort ns a h = record { said = h.said; head = h.head; lines = h.lines; kept = h.kept; steps = h.steps; outers = h.outers; empty = h.empty.1 }
+at_made : (known : List TitledStatement) (p : Section) (d : TheoremParser) (ks : List StepCerts) (ls : List (List ℕ)) (sort : Sort) (ns : List (List ℕ)) → allowed p (rawlines.Made sort ns) ≡ true → ParserSaid known p d ks ls → InHead Making d ks ls
+at_made known Declaring d ks ls sort ns a h = record { said = h.said; head = h.head; lines = h.lines; kept = h.kept; steps = h.steps; blocks = h.blocks; empty = h.empty.2 }
+at_made known Giving d ks ls sort ns a h = record { said = h.said; head = h.head; lines = h.lines; kept = h.kept; steps = h.steps; blocks = h.blocks; empty = h.empty.1 }
 at_made known Making d ks ls sort ns a h = h
 at_made known p d ks ls sort ns a h = absurd cc
 
-at_shown : (known : List TitledStatement) (p : Section) (d : TheoremParser) (ks : List StepCerts) (ls : List (List ℕ)) (raws : List RawLit) → allowed p (rawlines.Show raws) ≡ true → DraftSaid known p d ks ls → InHead Showing d ks ls
-at_shown known Declaring d ks ls raws a h = record { said = h.said; head = h.head; lines = h.lines; kept = h.kept; steps = h.steps; outers = h.outers; empty = tt }
-at_shown known Giving d ks ls raws a h = record { said = h.said; head = h.head; lines = h.lines; kept = h.kept; steps = h.steps; outers = h.outers; empty = tt }
-at_shown known Making d ks ls raws a h = record { said = h.said; head = h.head; lines = h.lines; kept = h.kept; steps = h.steps; outers = h.outers; empty = tt }
+at_shown : (known : List TitledStatement) (p : Section) (d : TheoremParser) (ks : List StepCerts) (ls : List (List ℕ)) (raws : List RawLit) → allowed p (rawlines.Show raws) ≡ true → ParserSaid known p d ks ls → InHead Showing d ks ls
+at_shown known Declaring d ks ls raws a h = record { said = h.said; head = h.head; lines = h.lines; kept = h.kept; steps = h.steps; blocks = h.blocks; empty = tt }
+at_shown known Giving d ks ls raws a h = record { said = h.said; head = h.head; lines = h.lines; kept = h.kept; steps = h.steps; blocks = h.blocks; empty = tt }
+at_shown known Making d ks ls raws a h = record { said = h.said; head = h.head; lines = h.lines; kept = h.kept; steps = h.steps; blocks = h.blocks; empty = tt }
 at_shown known Showing d ks ls raws a h = h
 at_shown known p d ks ls raws a h = absurd cc
 
-at_proof : (known : List TitledStatement) (p : Section) (d : TheoremParser) (ks : List StepCerts) (ls : List (List ℕ)) → allowed p rawlines.Proof ≡ true → DraftSaid known p d ks ls → InHead Showing d ks ls
+at_proof : (known : List TitledStatement) (p : Section) (d : TheoremParser) (ks : List StepCerts) (ls : List (List ℕ)) → allowed p rawlines.Proof ≡ true → ParserSaid known p d ks ls → InHead Showing d ks ls
 at_proof known Showing d ks ls a h = h
 at_proof known p d ks ls a h = absurd cc
 
@@ -122,7 +122,7 @@ names_are ns sort new now e =
 abbrev declaring : TheoremParser → Names → Sort → List (List ℕ) → TheoremParser
 declaring d ns sort new = record d { names = ns; declared = d.declared ++ replicate (length new) sort }
 
-pub puts_declared : (known : List TitledStatement) (d e : TheoremParser) (sort : Sort) (new : List (List ℕ)) (ks : List StepCerts) (ls : List (List ℕ)) → allowed d.place (rawlines.Declare sort new) ≡ true → DraftSaid known d.place d ks ls → 0 < length new
+pub puts_declared : (known : List TitledStatement) (d e : TheoremParser) (sort : Sort) (new : List (List ℕ)) (ks : List StepCerts) (ls : List (List ℕ)) → allowed d.place (rawlines.Declare sort new) ≡ true → ParserSaid known d.place d ks ls → 0 < length new
     → not (ends_with d.declared sort) ≡ true → stepped known d (rawlines.Declare sort new) ≡ Ok e → Puts known e (rawlines.Declare sort new) ks ls
 unfolding stepped
 puts_declared known d e sort new ks ls a g lt apart h =
@@ -137,15 +137,15 @@ puts_declared known d e sort new ks ls a g lt apart h =
       lines = one_line i.said (rawlines.Declare sort new) ls i.lines;
       kept = i.kept;
       steps = i.steps;
-      outers = i.outers;
+      blocks = i.blocks;
       empty = i.empty;
     } in
-    subst (λ (y : TheoremParser). Puts known y (rawlines.Declare sort new) ks ls) is (subst (λ (p : Section). DraftSaid known p x ks (ls ++ line_of (rawlines.Declare sort new) ∷ [])) (sym at.0) head)
+    subst (λ (y : TheoremParser). Puts known y (rawlines.Declare sort new) ks ls) is (subst (λ (p : Section). ParserSaid known p x ks (ls ++ line_of (rawlines.Declare sort new) ∷ [])) (sym at.0) head)
 
 abbrev making : TheoremParser → Names → Sort → List (List ℕ) → TheoremParser
 making d ns sort new = record d { names = ns; made = d.made ++ replicate (length new) sort; place = Making }
 
-pub puts_made : (known : List TitledStatement) (d e : TheoremParser) (sort : Sort) (new : List (List ℕ)) (ks : List StepCerts) (ls : List (List ℕ)) → allowed d.place (rawlines.Made sort new) ≡ true → DraftSaid known d.place d ks ls → 0 < length new
+pub puts_made : (known : List TitledStatement) (d e : TheoremParser) (sort : Sort) (new : List (List ℕ)) (ks : List StepCerts) (ls : List (List ℕ)) → allowed d.place (rawlines.Made sort new) ≡ true → ParserSaid known d.place d ks ls → 0 < length new
     → not (ends_with d.made sort) ≡ true → stepped known d (rawlines.Made sort new) ≡ Ok e → Puts known e (rawlines.Made sort new) ks ls
 unfolding stepped
 puts_made known d e sort new ks ls a g lt apart h =
@@ -159,7 +159,7 @@ puts_made known d e sort new ks ls a g lt apart h =
       lines = one_line i.said (rawlines.Made sort new) ls i.lines;
       kept = i.kept;
       steps = i.steps;
-      outers = i.outers;
+      blocks = i.blocks;
       empty = i.empty;
     } in
     subst (λ (y : TheoremParser). Puts known y (rawlines.Made sort new) ks ls) is head
@@ -200,11 +200,11 @@ with_count x n = record x { terms = n }
 terms_are : (x e : TheoremParser) (raws : List RawLit) → with_terms x raws ≡ Ok e → (n : ℕ) × (with_count x n ≡ e)
 unfolding with_terms
 terms_are x e raws w =
-    let few = bind_ok (few_monos raws) (λ few. terms_behind x.terms raws >>= λ n. read_ok (with_count x n)) e w in
-    let n = bind_ok (terms_behind x.terms raws) (λ n. read_ok (with_count x n)) e few.2 in
+    let few = bind_ok (few_monos raws) (λ few. terms_after_raw x.terms raws >>= λ n. read_ok (with_count x n)) e w in
+    let n = bind_ok (terms_after_raw x.terms raws) (λ n. read_ok (with_count x n)) e few.2 in
     (n.0, ok_is (with_count x n.0) e n.2)
 
-pub puts_given : (known : List TitledStatement) (d e : TheoremParser) (raws : List RawLit) (ks : List StepCerts) (ls : List (List ℕ)) → allowed d.place (rawlines.Given raws) ≡ true → DraftSaid known d.place d ks ls → (eqb (length raws) 1) ≡ true
+pub puts_given : (known : List TitledStatement) (d e : TheoremParser) (raws : List RawLit) (ks : List StepCerts) (ls : List (List ℕ)) → allowed d.place (rawlines.Given raws) ≡ true → ParserSaid known d.place d ks ls → (eqb (length raws) 1) ≡ true
     → are_direct raws ≡ true → AllSigned raws → stepped known d (rawlines.Given raws) ≡ Ok e → Puts known e (rawlines.Given raws) ks ls
 unfolding stepped
 puts_given known d e raws ks ls a g one dir s h =
@@ -221,7 +221,7 @@ puts_given known d e raws ks ls a g one dir s h =
       lines = one_line i.said (rawlines.Given raws) ls i.lines;
       kept = i.kept;
       steps = i.steps;
-      outers = i.outers;
+      blocks = i.blocks;
       empty = i.empty;
     } in
     subst (λ (y : TheoremParser). Puts known y (rawlines.Given raws) ks ls) is head
@@ -229,7 +229,7 @@ puts_given known d e raws ks ls a g one dir s h =
 abbrev showing : TheoremParser → List Lit → TheoremParser
 showing d ls = record d { shown = ls; place = Showing }
 
-pub puts_shown : (known : List TitledStatement) (d e : TheoremParser) (raws : List RawLit) (ks : List StepCerts) (ls : List (List ℕ)) → allowed d.place (rawlines.Show raws) ≡ true → DraftSaid known d.place d ks ls → (eqb (length raws) 1) ≡ true
+pub puts_shown : (known : List TitledStatement) (d e : TheoremParser) (raws : List RawLit) (ks : List StepCerts) (ls : List (List ℕ)) → allowed d.place (rawlines.Show raws) ≡ true → ParserSaid known d.place d ks ls → (eqb (length raws) 1) ≡ true
     → are_direct raws ≡ true → AllSigned raws → stepped known d (rawlines.Show raws) ≡ Ok e → Puts known e (rawlines.Show raws) ks ls
 unfolding stepped
 puts_shown known d e raws ks ls a g one dir s h =
@@ -245,7 +245,7 @@ puts_shown known d e raws ks ls a g one dir s h =
       lines = one_line i.said (rawlines.Show raws) ls i.lines;
       kept = i.kept;
       steps = i.steps;
-      outers = i.outers;
+      blocks = i.blocks;
       empty = tt;
     } in
     subst (λ (y : TheoremParser). Puts known y (rawlines.Show raws) ks ls) is head
@@ -260,20 +260,20 @@ none_said known first os ss ks o s k =
 abbrev proving : TheoremParser → TheoremParser
 proving d = record d { in_scope = (start_of d).names; place = Proving }
 
-pub puts_proof : (known : List TitledStatement) (d e : TheoremParser) (ks : List StepCerts) (ls : List (List ℕ)) → allowed d.place rawlines.Proof ≡ true → DraftSaid known d.place d ks ls → stepped known d rawlines.Proof ≡ Ok e → Puts known e rawlines.Proof ks ls
+pub puts_proof : (known : List TitledStatement) (d e : TheoremParser) (ks : List StepCerts) (ls : List (List ℕ)) → allowed d.place rawlines.Proof ≡ true → ParserSaid known d.place d ks ls → stepped known d rawlines.Proof ≡ Ok e → Puts known e rawlines.Proof ks ls
 unfolding stepped
 puts_proof known d e ks ls a g h =
     let i = at_proof known d.place d ks ls a g in
     let title = rawlines.Theorem d.title in
-    let given = given_forms d.names (statement_of_draft d) in
-    let shown = shown_forms d.names (statement_of_draft d) in
+    let given = given_forms d.names (statement_of_parser d) in
+    let shown = shown_forms d.names (statement_of_parser d) in
     let whole : head_forms (head_of d) ≡ i.said ++ rawlines.Proof ∷ [] =
     ap (λ (l : List RawLine). title ∷ l) (sym (append_assoc given shown (rawlines.Proof ∷ []))) ∙ ap (λ (l : List RawLine). l ++ rawlines.Proof ∷ []) (i.head.forms d.names (keeps_all d.names)) in
     subst (λ (y : TheoremParser). Puts known y rawlines.Proof ks ls) (ok_is (proving d) e h)
     (record {
       said = [];
       lines = one_line i.said rawlines.Proof ls i.lines ∙ ap (map line_of) (sym whole) ∙ sym (append-nil (map line_of (head_forms (head_of d))));
-      body = none_said known (start_of d) d.outers d.steps ks i.outers i.steps i.kept;
+      body = none_said known (start_of d) d.blocks d.steps ks i.blocks i.steps i.kept;
     })
 
 -- ---- the first line
@@ -290,7 +290,7 @@ puts_begun known e (rawlines.Theorem t) h =
       lines = refl;
       kept = refl;
       steps = refl;
-      outers = refl;
+      blocks = refl;
       empty = (refl, refl, refl);
     })
 puts_begun known e f h = absurd cc

@@ -40,7 +40,7 @@ one_more : (known : List TitledStatement) (t : TheoremView) → AllFew known →
 one_more [] t k few = (few, tt)
 one_more (h ∷ known) t k few = (k.0, one_more known t k.1 few)
 
--- the lines of blocks, one behind the other
+-- the lines of blocks, one after the other
 abbrev pub lines_of_blocks : List TitledStatement → List (TheoremView × Script) → List (List ℕ)
 lines_of_blocks known [] = []
 lines_of_blocks known (p ∷ ps) = spelled_lines known p.0 p.1 ++ lines_of_blocks (with_theorem known p.0) ps

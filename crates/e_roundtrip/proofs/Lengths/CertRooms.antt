@@ -23,7 +23,7 @@ use Rattle.e_deriv.specs.declared.names.Names.{Names}
 use Rattle.e_clause.specs.Written.{is_writable_name}
 use Rattle.e_names.specs.Canonical.{rule_name, name_of_object}
 use Rattle.e_names.proofs.Lookups.{InOrder}
-use Rattle.e_names.proofs.LitLookups.{diagram_is_good}
+use Rattle.e_names.proofs.LitLookups.{diagram_is_well_formed}
 use Rattle.e_spell.specs.Certificates.{row_words, row_line, sum_lines, sums_lines, part_lines, cert_lines, certs_lines, against_lines, contradiction_lines}
 use Rattle.e_roundtrip.proofs.Certificates.Feeding.{GoodRow, GoodSum, GoodSums, GoodPart}
 use Rattle.e_roundtrip.proofs.Certificates.CertsPut.{GoodCert, GoodCerts, GoodAgainst}
@@ -72,7 +72,7 @@ short_multiplier (negsuc n) h =
 abbrev pub AllRoom : List (List (List ℕ)) → Type 0
 AllRoom lines = AllByRecursion (Room 3000) lines
 
--- lines behind lines
+-- lines after lines
 all_append : (xs ys : List (List (List ℕ))) → AllRoom xs → AllRoom ys → AllRoom (xs ++ ys)
 all_append [] ys h k = k
 all_append (x ∷ xs) ys h k = (h.0, all_append xs ys h.1 k)
@@ -82,19 +82,19 @@ pub all_joined : (lines : List (List (List ℕ))) → AllRoom lines → AreShort
 all_joined [] h = tt
 all_joined (l ∷ lines) h = (room_line 3000 l (omega arith) h.0, all_joined lines h.1)
 
--- a line of words behind the sign
-behind_bar : (n : ℕ) (ws : List (List ℕ)) → n ≤ 2900 → Room n ws → Room 3000 (codes "|" ∷ ws)
-behind_bar n ws le r = room_more (1 + 1 + n) 3000 _ (omega (arith, le)) (room_word 1 n (codes "|") ws refl r)
+-- a line of words after the sign
+after_bar : (n : ℕ) (ws : List (List ℕ)) → n ≤ 2900 → Room n ws → Room 3000 (codes "|" ∷ ws)
+after_bar n ws le r = room_more (1 + 1 + n) 3000 _ (omega (arith, le)) (room_word 1 n (codes "|") ws refl r)
 
--- a line of one word behind the sign
+-- a line of one word after the sign
 bar_word : (w : List ℕ) → is_short 16 w ≡ true → Room 3000 (codes "|" ∷ w ∷ [])
-bar_word w h = behind_bar 17 (w ∷ []) (omega arith) (room_word 16 0 w [] h room_none)
+bar_word w h = after_bar 17 (w ∷ []) (omega arith) (room_word 16 0 w [] h room_none)
 
 -- one line for each row
 all_rows : (ns : Names) (xs : List (ℤ × RowName)) → InOrder ns → AllByRecursion (GoodRow ns) xs → AllRoom (map (row_line ns) xs)
 all_rows ns [] o g = tt
 all_rows ns (x ∷ xs) o g =
-    (behind_bar 2209 _ (omega arith) (room_word 26 2182 (signed_decimal x.0) (row_words ns x.1) (short_multiplier x.0 g.0.size) (room_row ns x.1 o g.0.name.good)), all_rows ns xs o g.1)
+    (after_bar 2209 _ (omega arith) (room_word 26 2182 (signed_decimal x.0) (row_words ns x.1) (short_multiplier x.0 g.0.size) (room_row ns x.1 o g.0.name.good)), all_rows ns xs o g.1)
 
 -- a sum
 all_sum : (ns : Names) (xs : List (ℤ × RowName)) → InOrder ns → GoodSum ns xs → AllRoom (sum_lines ns xs)
@@ -104,14 +104,14 @@ all_sum ns xs o g = (bar_word (codes "sum") refl, all_rows ns xs o g.each)
 all_sums : (ns : Names) (s : Sums) → InOrder ns → GoodSums ns s → AllRoom (sums_lines ns s)
 all_sums ns (One xs) o g = all_sum ns xs o g
 all_sums ns (Two differs above below) o g = (
-  behind_bar 2190 _ (omega arith) (room_word 7 2182 (codes "differs") (row_words ns differs) refl (room_row ns differs o g.name.good)),
+  after_bar 2190 _ (omega arith) (room_word 7 2182 (codes "differs") (row_words ns differs) refl (room_row ns differs o g.name.good)),
   all_append (sum_lines ns above) (sum_lines ns below) (all_sum ns above o g.first) (all_sum ns below o g.second),
 )
 
 -- the certificate of a part
 all_part : (ns : Names) (p : Part) → InOrder ns → GoodPart ns p → AllRoom (part_lines ns p)
 all_part ns parts.Fact o g = (bar_word (codes "fact") refl, tt)
-all_part ns (parts.FactAt k) o g = (behind_bar 16 _ (omega arith) (room_place k g), tt)
+all_part ns (parts.FactAt k) o g = (after_bar 16 _ (omega arith) (room_place k g), tt)
 all_part ns (parts.Metric m) o g = (bar_word (codes "metric") refl, all_sums ns m.sums o g)
 
 -- all parts
@@ -124,7 +124,7 @@ all_cert : (ns : Names) (l : Lit) (c : Cert) → InOrder ns → GoodCert ns l c 
 all_cert ns l (Plain p) o g = all_part ns p o g
 all_cert ns l (Transfer t) o g =
     let n = 17 * length t.args in (
-      behind_bar (8 + 1 + (24 + 1 + n)) _ (omega (arith, few_arguments t.rule t.args g.lits g.instance))
+      after_bar (8 + 1 + (24 + 1 + n)) _ (omega (arith, few_arguments t.rule t.args g.lits g.instance))
           (room_word 8 (24 + 1 + n) (codes "transfer") _ refl (room_word 24 n (rule_name t.rule) (map (name_of_object ns) t.args) (short_rule t.rule) (room_objects ns t.args o))),
       all_parts ns t.parts o g.parts,
     )
@@ -142,7 +142,7 @@ short_certs ns ls cs o g = all_joined (flat_map (cert_lines ns) cs) (all_certs n
 
 -- the certificate of a contradiction
 all_against : (ns : Names) (a : Against) → InOrder ns → GoodAgainst ns a → AllRoom (against_lines ns a)
-all_against ns (against.Clash l) o g = (behind_bar 2183 _ (omega arith) (room_word 5 2177 (codes "clash") _ refl (room_one ns l o (diagram_is_good l g.1))), tt)
+all_against ns (against.Clash l) o g = (after_bar 2183 _ (omega arith) (room_word 5 2177 (codes "clash") _ refl (room_one ns l o (diagram_is_well_formed l g.1))), tt)
 all_against ns (against.Metric m) o g = (bar_word (codes "metric") refl, all_sums ns m.sums o g)
 
 -- as lines of bytes

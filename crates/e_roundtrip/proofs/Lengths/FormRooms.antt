@@ -34,7 +34,7 @@ use Rattle.e_roundtrip.proofs.Lengths.RuleRooms.{short_rule}
 
 -- ---- lines of one literal
 
--- a literal behind a word
+-- a literal after a word
 word_lit : (word : List ℕ) (ns : Names) (l : Lit) → is_short 16 word ≡ true → InOrder ns → is_well_formed l ≡ true → Room 2194 (word ∷ lit_words (raw_of ns l))
 word_lit word ns l h o g = room_word 16 2177 word (lit_words (raw_of ns l)) h (room_one ns l o g)
 
@@ -169,7 +169,7 @@ avoided_give form s =
     let last = gives_of_avoided (made_by_row r s) form.avoid in
     omega (arith, length-append first last, one_each s r.made form.avoid (leb-true 1 (length r.made) (makes form.shape)))
 
--- the avoided objects behind their word
+-- the avoided objects after their word
 room_avoided : (ns : List (List ℕ)) → AllWords ns → Room (6 + 17 * length ns) (avoid_words ns)
 room_avoided [] h = room_more 0 6 [] (omega arith) room_none
 room_avoided (n ∷ ns) h = room_word 5 (17 * length (n ∷ ns)) (codes "avoid") (n ∷ ns) refl (room_words (n ∷ ns) h)
@@ -195,7 +195,7 @@ words_of_arguments ns [] o = tt
 words_of_arguments ns (None ∷ args) o = (refl, words_of_arguments ns args o)
 words_of_arguments ns (Some x ∷ args) o = (short_object ns x o, words_of_arguments ns args o)
 
--- the names of made objects behind their word
+-- the names of made objects after their word
 room_made : (ns : List (List ℕ)) → AllWords ns → Room (3 + 17 * length ns) (made_words ns)
 room_made [] h = room_more 0 3 [] (omega arith) room_none
 room_made (n ∷ ns) h = room_word 2 (17 * length (n ∷ ns)) (codes "as") (n ∷ ns) refl (room_words (n ∷ ns) h)

@@ -107,7 +107,7 @@ lit_line word ns l e o g = room_word 16 2177 word _ e (room_append 2177 0 (lit_w
 abbrev AreShortForms : List RawLine → Type 0
 AreShortForms fs = AreShort 262144 (map line_of fs)
 
--- forms behind forms
+-- forms after forms
 forms_append : (fs gs : List RawLine) → AreShortForms fs → AreShortForms gs → AreShortForms (fs ++ gs)
 forms_append [] gs h k = k
 forms_append (f ∷ fs) gs h k = (h.0, forms_append fs gs h.1 k)

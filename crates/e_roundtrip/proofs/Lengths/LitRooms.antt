@@ -22,7 +22,7 @@ use Rattle.e_line.specs.Canonical.{term_words, coefficient_words, mono_words, mo
 use Rattle.e_names.specs.Canonical.{name_at, name_of_object, raw_term, raw_mono, raw_sum, raw_atom, raw_signed, raw_of}
 use Rattle.e_line.specs.HasSpelling.{AreNames}
 use Rattle.e_names.proofs.Lookups.{InOrder}
-use Rattle.e_names.proofs.GoodSums.{is_good_mono, AreGood, good_sums}
+use Rattle.e_names.proofs.GoodSums.{is_bounded_mono, AreBounded, good_sums}
 use Rattle.e_names.proofs.ShortLits.{count_first}
 use Rattle.e_roundtrip.proofs.Lengths.Rooms.{is_short, short_name, short_number, Room, room_none, room_more, room_word, room_append}
 
@@ -84,33 +84,33 @@ coefficient_by false n h =
     let le = leb-true n 1000000 (and_parts (leb 1 n) (leb n 1000000) h).1 in
     room_word 7 0 (decimal n) [] (short_number 7 n (omega arith) (omega (arith, le)) (omega (arith, le))) room_none
 
-good_coefficient : (k : Magnitude) (m : Mono) → is_good_mono k m ≡ true → is_bounded_coefficient m.coeff ≡ true
+good_coefficient : (k : Magnitude) (m : Mono) → is_bounded_mono k m ≡ true → is_bounded_coefficient m.coeff ≡ true
 good_coefficient k m g = (and_parts (same_kind (kind_of_term m.term) k) (is_bounded_coefficient m.coeff) g).1
 
 -- a monomial
-room_mono : (ns : Names) (k : Magnitude) (m : Mono) → InOrder ns → is_good_mono k m ≡ true → Room 64 (mono_words (raw_mono ns m))
+room_mono : (ns : Names) (k : Magnitude) (m : Mono) → InOrder ns → is_bounded_mono k m ≡ true → Room 64 (mono_words (raw_mono ns m))
 room_mono ns k m h g = room_append 8 56 (coefficient_words m.coeff) (term_words (raw_term ns m.term)) (coefficient_by (eqb m.coeff 1) m.coeff (good_coefficient k m g)) (room_term ns m.term h)
 
--- monomials, each behind a plus
-room_monos : (ns : Names) (k : Magnitude) (ms : List Mono) → InOrder ns → AreGood k ms → Room (66 * length ms) (more_monos (raw_sum ns ms))
+-- monomials, each after a plus
+room_monos : (ns : Names) (k : Magnitude) (ms : List Mono) → InOrder ns → AreBounded k ms → Room (66 * length ms) (more_monos (raw_sum ns ms))
 room_monos ns k [] h g = room_none
 room_monos ns k (m ∷ ms) h g =
-    let p = and_parts (is_good_mono k m) (list_all (is_good_mono k) ms) g in
+    let p = and_parts (is_bounded_mono k m) (list_all (is_bounded_mono k) ms) g in
     let n = 66 * length ms in
     room_more (1 + 1 + (64 + n)) (66 * length (m ∷ ms)) (more_monos (raw_sum ns (m ∷ ms))) (omega arith)
     (room_word 1 (64 + n) (codes "+") _ refl (room_append 64 n (mono_words (raw_mono ns m)) (more_monos (raw_sum ns ms)) (room_mono ns k m h p.0) (room_monos ns k ms h p.1)))
 
 -- a sum
-room_sum : (ns : Names) (k : Magnitude) (ms : List Mono) → InOrder ns → AreGood k ms → Room (2 + 66 * length ms) (sum_words (raw_sum ns ms))
+room_sum : (ns : Names) (k : Magnitude) (ms : List Mono) → InOrder ns → AreBounded k ms → Room (2 + 66 * length ms) (sum_words (raw_sum ns ms))
 room_sum ns k [] h g = room_word 1 0 (codes "0") [] refl room_none
 room_sum ns k (m ∷ ms) h g =
-    let p = and_parts (is_good_mono k m) (list_all (is_good_mono k) ms) g in
+    let p = and_parts (is_bounded_mono k m) (list_all (is_bounded_mono k) ms) g in
     let n = 66 * length ms in
     room_more (64 + n) (2 + 66 * length (m ∷ ms)) (sum_words (raw_sum ns (m ∷ ms))) (omega arith)
     (room_append 64 n (mono_words (raw_mono ns m)) (more_monos (raw_sum ns ms)) (room_mono ns k m h p.0) (room_monos ns k ms h p.1))
 
 -- two sums with a sign between them
-room_sums : (ns : Names) (k : Magnitude) (x y : List Mono) (sign : List ℕ) → InOrder ns → is_short 2 sign ≡ true → AreGood k x → AreGood k y → Room (7 + 66 * (length x + length y)) (sums_words (raw_sum ns x) sign (raw_sum ns y))
+room_sums : (ns : Names) (k : Magnitude) (x y : List Mono) (sign : List ℕ) → InOrder ns → is_short 2 sign ≡ true → AreBounded k x → AreBounded k y → Room (7 + 66 * (length x + length y)) (sums_words (raw_sum ns x) sign (raw_sum ns y))
 room_sums ns k x y sign h s g f =
     let n = 66 * length y in
     room_more (2 + 66 * length x + (2 + 1 + (2 + n))) (7 + 66 * (length x + length y)) _ (omega arith)
@@ -122,12 +122,12 @@ room_sums ns k x y sign h s g f =
 short_sign : (v sign w : List ℕ) → is_short 16 v ≡ true → is_short 2 sign ≡ true → is_short 16 w ≡ true → Room 61 (v ∷ sign ∷ w ∷ [])
 short_sign v sign w f g h = room_more 37 61 _ (omega arith) (room_word 16 20 v (sign ∷ w ∷ []) f (room_word 2 17 sign (w ∷ []) g (one w h)))
 
--- two or three names behind a word
-behind_two : (word v w : List ℕ) → is_short 9 word ≡ true → is_short 16 v ≡ true → is_short 16 w ≡ true → Room 61 (word ∷ v ∷ w ∷ [])
-behind_two word v w f g h = room_more 44 61 _ (omega arith) (room_word 9 34 word (v ∷ w ∷ []) f (two v w g h))
+-- two or three names after a word
+after_two : (word v w : List ℕ) → is_short 9 word ≡ true → is_short 16 v ≡ true → is_short 16 w ≡ true → Room 61 (word ∷ v ∷ w ∷ [])
+after_two word v w f g h = room_more 44 61 _ (omega arith) (room_word 9 34 word (v ∷ w ∷ []) f (two v w g h))
 
-behind_three : (word u v w : List ℕ) → is_short 9 word ≡ true → is_short 16 u ≡ true → is_short 16 v ≡ true → is_short 16 w ≡ true → Room 61 (word ∷ u ∷ v ∷ w ∷ [])
-behind_three word u v w e f g h = room_word 9 51 word (u ∷ v ∷ w ∷ []) e (three u v w f g h)
+after_three : (word u v w : List ℕ) → is_short 9 word ≡ true → is_short 16 u ≡ true → is_short 16 v ≡ true → is_short 16 w ≡ true → Room 61 (word ∷ u ∷ v ∷ w ∷ [])
+after_three word u v w e f g h = room_word 9 51 word (u ∷ v ∷ w ∷ []) e (three u v w f g h)
 
 -- a comparison of sums, with at most so many bytes beside its monomials
 compared : (ns : Names) (x y : List Mono) (sign : List ℕ) → InOrder ns → is_short 2 sign ≡ true → is_well_formed_atom (atoms.MagEq x y) ≡ true → Room (61 + 66 * length (x ++ y)) (sums_words (raw_sum ns x) sign (raw_sum ns y))
@@ -143,24 +143,24 @@ turned ns x y sign h s good =
 
 -- an atom
 room_atom : (ns : Names) (a : Atom) → InOrder ns → is_well_formed_atom a ≡ true → Room (61 + 66 * monomials a) (atom_words (raw_atom ns a))
-room_atom ns (atoms.On a l) h g = behind_two (codes "on") _ _ refl (short_at ns.points a h.point_names) (short_at ns.lines l h.line_names)
-room_atom ns (atoms.OnC a c) h g = behind_two (codes "on") _ _ refl (short_at ns.points a h.point_names) (short_at ns.circles c h.circle_names)
-room_atom ns (atoms.Inside a c) h g = behind_two (codes "inside") _ _ refl (short_at ns.points a h.point_names) (short_at ns.circles c h.circle_names)
-room_atom ns (atoms.Center a c) h g = behind_two (codes "center") _ _ refl (short_at ns.points a h.point_names) (short_at ns.circles c h.circle_names)
+room_atom ns (atoms.On a l) h g = after_two (codes "on") _ _ refl (short_at ns.points a h.point_names) (short_at ns.lines l h.line_names)
+room_atom ns (atoms.OnC a c) h g = after_two (codes "on") _ _ refl (short_at ns.points a h.point_names) (short_at ns.circles c h.circle_names)
+room_atom ns (atoms.Inside a c) h g = after_two (codes "inside") _ _ refl (short_at ns.points a h.point_names) (short_at ns.circles c h.circle_names)
+room_atom ns (atoms.Center a c) h g = after_two (codes "center") _ _ refl (short_at ns.points a h.point_names) (short_at ns.circles c h.circle_names)
 room_atom ns (atoms.Between a b c) h g =
-    behind_three (codes "between") _ _ _ refl (short_at ns.points a h.point_names) (short_at ns.points b h.point_names) (short_at ns.points c h.point_names)
+    after_three (codes "between") _ _ _ refl (short_at ns.points a h.point_names) (short_at ns.points b h.point_names) (short_at ns.points c h.point_names)
 room_atom ns (atoms.Same a b l) h g =
-    behind_three (codes "same-side") _ _ _ refl (short_at ns.points a h.point_names) (short_at ns.points b h.point_names) (short_at ns.lines l h.line_names)
-room_atom ns (atoms.MeetLL l m) h g = behind_two (codes "meets") _ _ refl (short_at ns.lines l h.line_names) (short_at ns.lines m h.line_names)
-room_atom ns (atoms.MeetLC l c) h g = behind_two (codes "meets") _ _ refl (short_at ns.lines l h.line_names) (short_at ns.circles c h.circle_names)
-room_atom ns (atoms.MeetCC c d) h g = behind_two (codes "meets") _ _ refl (short_at ns.circles c h.circle_names) (short_at ns.circles d h.circle_names)
+    after_three (codes "same-side") _ _ _ refl (short_at ns.points a h.point_names) (short_at ns.points b h.point_names) (short_at ns.lines l h.line_names)
+room_atom ns (atoms.MeetLL l m) h g = after_two (codes "meets") _ _ refl (short_at ns.lines l h.line_names) (short_at ns.lines m h.line_names)
+room_atom ns (atoms.MeetLC l c) h g = after_two (codes "meets") _ _ refl (short_at ns.lines l h.line_names) (short_at ns.circles c h.circle_names)
+room_atom ns (atoms.MeetCC c d) h g = after_two (codes "meets") _ _ refl (short_at ns.circles c h.circle_names) (short_at ns.circles d h.circle_names)
 room_atom ns (atoms.EqP a b) h g = short_sign _ (codes "=") _ (short_at ns.points a h.point_names) refl (short_at ns.points b h.point_names)
 room_atom ns (atoms.EqL l m) h g = short_sign _ (codes "=") _ (short_at ns.lines l h.line_names) refl (short_at ns.lines m h.line_names)
 room_atom ns (atoms.EqC c d) h g = short_sign _ (codes "=") _ (short_at ns.circles c h.circle_names) refl (short_at ns.circles d h.circle_names)
 room_atom ns (atoms.MagEq x y) h g = compared ns x y (codes "=") h refl g
 room_atom ns (atoms.MagLt x y) h g = compared ns x y (codes "<") h refl g
 
--- behind the word not, or without it
+-- after the word not, or without it
 with_not : (n : ℕ) (ws : List (List ℕ)) → Room (61 + 66 * n) ws → Room (65 + 66 * n) (codes "not" ∷ ws)
 with_not n ws r = room_more (3 + 1 + (61 + 66 * n)) (65 + 66 * n) _ (omega arith) (room_word 3 (61 + 66 * n) (codes "not") ws refl r)
 
@@ -201,7 +201,7 @@ room_one ns l h g = room_more (65 + 66 * monomials l.atom) 2177 _ (omega (arith,
 
 -- ---- lists of literals
 
--- literals, each behind a semicolon
+-- literals, each after a semicolon
 more_room : (ns : Names) (ls : List Lit) → InOrder ns → list_all is_well_formed ls ≡ true → Room (67 * length ls + 66 * count_monomials ls) (more_words (map (raw_of ns) ls))
 more_room ns [] h g = room_none
 more_room ns (l ∷ ls) h g =

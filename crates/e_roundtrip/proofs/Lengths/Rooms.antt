@@ -46,7 +46,7 @@ room_word k n w ws h r =
       few = omega (arith, r.few, leb-true (length w) k p.1, length-append w (spaced ws));
     }
 
--- the room of words behind words
+-- the room of words after words
 pub room_append : (m n : ℕ) (xs ys : List (List ℕ)) → Room m xs → Room n ys → Room (m + n) (xs ++ ys)
 room_append m n xs ys r s =
     let e = spaced_append xs ys in
@@ -64,7 +64,7 @@ pub room_line : (n : ℕ) (ws : List (List ℕ)) → n ≤ 262144 → Room n ws 
 room_line n [] le r = (refl, omega arith)
 room_line n (w ∷ ws) le r = (r.allowed, omega (arith, le, r.few))
 
--- lines behind one another
+-- lines after one another
 pub short_append : (xs ys : List (List ℕ)) → AreShort 262144 xs → AreShort 262144 ys → AreShort 262144 (xs ++ ys)
 short_append [] ys h k = k
 short_append (x ∷ xs) ys h k = (h.0, short_append xs ys h.1 k)

@@ -31,8 +31,8 @@ use Rattle.e_deriv.specs.Lines.{line, lines}
 use Rattle.e_deriv.specs.Naming.{named}
 use Rattle.e_deriv.specs.Parts.{written as written_args}
 use Rattle.e_roundtrip.specs.Formed.{is_formed}
-use Rattle.e_book.specs.declared.blocks.BlockKind.TheVariants as opened
-use Rattle.e_book.specs.declared.draft.TheoremParser.{TheoremParser}
+use Rattle.e_book.specs.declared.blocks.BlockKind.TheVariants as kind
+use Rattle.e_book.specs.declared.parser.TheoremParser.{TheoremParser}
 use Rattle.e_line.specs.Limits.{most_facts}
 use Rattle.e_names.specs.TitledStatements.{TitledStatement, stated_by, theorem_of, title_at}
 use Rattle.e_names.specs.Scope.{scope_of_names}
@@ -42,9 +42,9 @@ use Rattle.e_line.specs.Canonical.{line_of}
 use Rattle.e_names.specs.Canonical.{else_form}
 use Rattle.e_names.specs.HasSpelling.{is_named_by_title}
 use Rattle.e_book.specs.HasSpelling.{is_plain, names_theorems}
-use Rattle.e_names.proofs.LitLookups.{diagram_is_good}
+use Rattle.e_names.proofs.LitLookups.{diagram_is_well_formed}
 use Rattle.e_names.proofs.Built.{of_sorts_length}
-use Rattle.e_book.proofs.LinesRead.{Inside, behind, deep, copied, resume, second, applied_behind}
+use Rattle.e_book.proofs.LinesRead.{Inside, after_step, deep, copied, resume, second, applied_after}
 use Rattle.e_spell.specs.Certificates.{certs_lines}
 use Rattle.e_spell.specs.Spelling.{script_lines}
 use Rattle.e_roundtrip.proofs.Certificates.CertsGood.{good_certs, good_against}
@@ -101,7 +101,7 @@ cite_short known d i b rest given goal s more =
     let q = and_parts (list_all (is_in_scope sc) b.args) (all_in_scope sc b.lit && is_some (Inst b.rule b.args)) p.1 in
     let r = and_parts (all_in_scope sc b.lit) (is_some (Inst b.rule b.args)) q.1 in
     let good = (and_parts (is_diagram_lit b.lit) (has_good_literals (erased rest)) s.ready.good).0 in
-    (short_by i.in_scope b s.ready.order (diagram_is_good b.lit good) (few_cited b.rule b.args r.1), more)
+    (short_by i.in_scope b s.ready.order (diagram_is_well_formed b.lit good) (few_cited b.rule b.args r.1), more)
 
 -- an inference with its certificate
 hence_short : (known : List TitledStatement) (d : TheoremParser) (i : Inside) (l : Lit) (c : Cert) (rest : Script) (given : List Lit) (goal : Goal) → Stood known d i (Hence l (Some c) rest) given goal → AreShortLines known i rest → AreShortLines known i (Hence l (Some c) rest)
@@ -135,7 +135,7 @@ make_short known d i form names certs rest given goal s more =
 
 -- the use of an earlier theorem
 apply_short : (known : List TitledStatement) (d : TheoremParser) (i : Inside) (theorem : ℕ) (args : List (Option Obj)) (names : List (List ℕ)) (certs : List Cert) (rest : Script) (given : List Lit) (goal : Goal) → AllFew known
-    → Stood known d i (Apply theorem args names certs rest) given goal → AreShortLines known (applied_behind i (theorem_of known theorem) theorem args names) rest → AreShortLines known i (Apply theorem args names certs rest)
+    → Stood known d i (Apply theorem args names certs rest) given goal → AreShortLines known (applied_after i (theorem_of known theorem) theorem args names) rest → AreShortLines known i (Apply theorem args names certs rest)
 unfolding erased script_lines lines NewNamesFit names_theorems
 apply_short known d i theorem args names certs rest given goal k s more =
     let before = stated_by known in
@@ -221,7 +221,7 @@ cases_short known d i l one two given goal s first second =
 -- each line of a script that stands there, and of its certificates
 pub short_script : (known : List TitledStatement) (d : TheoremParser) (i : Inside) (script : Script) (given : List Lit) (goal : Goal) → AllFew known → length goal.made ≤ 80 → Stood known d i script given goal → AreShortLines known i script
 short_script known d i (Cite b rest) given goal k m s =
-    cite_short known d i b rest given goal s (short_script known d (behind i (Cited b) 1) rest (joined given b.lit) goal k m (cite_next known d i b rest given goal s))
+    cite_short known d i b rest given goal s (short_script known d (after_step i (Cited b) 1) rest (joined given b.lit) goal k m (cite_next known d i b rest given goal s))
 short_script known d i (Hence l None rest) given goal k m s = absurd (no_hence known d i l rest given goal s)
 short_script known d i (Hence l (Some c) rest) given goal k m s =
     hence_short known d i l c rest given goal s (short_script known d (inferred i l) rest (joined given l) goal k m (hence_next known d i l c rest given goal s))
@@ -231,11 +231,11 @@ short_script known d i (Make form names certs rest) given goal k m s =
 short_script known d i (Apply theorem args names certs rest) given goal k m s =
     let t = theorem_of known theorem in
     apply_short known d i theorem args names certs rest given goal k s
-    (short_script known d (applied_behind i t theorem args names) rest (joined_all given (gives_of_use t (written_args args) (scope_of_names i.in_scope))) goal k m (apply_next known d i theorem args names certs rest given goal s))
+    (short_script known d (applied_after i t theorem args names) rest (joined_all given (gives_of_use t (written_args args) (scope_of_names i.in_scope))) goal k m (apply_next known d i theorem args names certs rest given goal s))
 short_script known d i (Claim shown inner rest) given goal k m s =
     let n = i.lines + 1 + size (erased inner) in
     claim_short known d i shown inner rest given goal s
-    (short_script known d (deep i (opened.Claim shown) 0) inner given (goal_of shown) k (omega arith) (claim_inside known d i shown inner rest given goal s))
+    (short_script known d (deep i (kind.Claim shown) 0) inner given (goal_of shown) k (omega arith) (claim_inside known d i shown inner rest given goal s))
     (short_script known d (resume i n (Claimed shown (erased inner)) shown) rest (joined_all given shown) goal k m (claim_next known d i n shown inner rest given goal refl s))
 short_script known d i (Superposed form names shown certs inner rest) given goal k m s =
     let n = i.lines + 1 + size (erased inner) in

@@ -35,7 +35,7 @@ use Rattle.e_names.specs.Canonical.{name_of_object, placed_names, by_form, hence
 use Rattle.e_line.specs.Canonical.{line_pieces, line_of}
 use Rattle.e_names.proofs.Citations.{counted}
 use Rattle.e_line.proofs.Bound.{bind_ok, ok_is, read_ok}
-use Rattle.e_names.proofs.Building.{placed_behind}
+use Rattle.e_names.proofs.Building.{placed_after}
 use Rattle.e_names.proofs.Uses.{found_title}
 use Rattle.e_line.specs.Strict.{is_direct, are_direct}
 use Rattle.e_roundtrip.proofs.OneLine.NamesSpelled.{keeps_all, used_named, number_named, object_named}
@@ -82,7 +82,7 @@ by_spelled ns rule names r b d e =
 
 -- ---- constructions
 
--- the arguments stand behind those that were found
+-- the arguments stand after those that were found
 arguments_named : (ns : Names) (shapes : List Shape) (found : List Obj) (names : List (List ℕ)) (os : List Obj) → arguments_in ns shapes found names ≡ Ok os → map (name_of_object ns) os ≡ map (name_of_object ns) found ++ names
 arguments_named ns shapes found [] os e = ap (map (name_of_object ns)) (sym (ok_is found os e)) ∙ sym (append-none (map (name_of_object ns) found))
   where
@@ -170,7 +170,7 @@ eight a b c d e f g h i j k l m n o p x1 x2 x3 x4 x5 x6 x7 x8 = cc
 placed_named : (ns : Names) (args : List (List ℕ)) (form : Superpose) → placed_in ns args ≡ Ok form → placed_names ns form ≡ args
 unfolding placed_in
 placed_named ns (a ∷ b ∷ c ∷ k ∷ d ∷ g ∷ h ∷ l ∷ []) form e =
-    let p = placed_behind ns a b c k d g h l form e in
+    let p = placed_after ns a b c k d g h l form e in
     let keeps = keeps_all ns in
     ap (placed_names ns) (sym p.form_is)
     ∙ eight _ _ _ _ _ _ _ _ a b c k d g h l (number_named ns ns Point a p.na keeps p.a_is) (number_named ns ns Point b p.nb keeps p.b_is) (number_named ns ns Point c p.nc keeps p.c_is) (number_named ns ns Line k p.nk keeps p.k_is)

@@ -66,7 +66,7 @@ first_group : (u : Sort) (name : List ℕ) (gs : List Group) → First u name gs
 first_group u name [] = record { first = group u (name ∷ []); rest = []; is = refl }
 first_group u name (g ∷ gs) = first_by (same_sort u g.sort) u name g gs refl
 
--- groups behind a first one stay where an object comes before them
+-- groups after a first one stay where an object comes before them
 before_more : (u : Sort) (name : List ℕ) (g : Group) (gs hs : List Group) → grouped_before u name ((g ∷ gs) ++ hs) ≡ grouped_before u name (g ∷ gs) ++ hs
 before_more u name g gs hs = by_test (same_sort u g.sort)
   where
@@ -77,7 +77,7 @@ before_more u name g gs hs = by_test (same_sort u g.sort)
 other_first : (u : Sort) (name : List ℕ) (g : Group) → same_sort u g.sort ≡ false → grouped_before u name (g ∷ []) ≡ group u (name ∷ []) ∷ g ∷ []
 other_first u name g h = rw h refl
 
--- a group of another sort than the last object stands behind the groups before it
+-- a group of another sort than the last object stands after the groups before it
 apart : (ns : Names) (s : Scope) (sorts : List Sort) (os : List Obj) (g : Group) → ends_with sorts g.sort ≡ false → grouped ns os ≡ g ∷ [] → grouped ns (next_objects s sorts ++ os) ≡ grouped ns (next_objects s sorts) ++ g ∷ []
 apart ns s [] os g h e = e
 apart ns s (x ∷ []) os g h e =
@@ -139,7 +139,7 @@ keeps_before ns more Point new k = record { points = holds_before ns.points new 
 keeps_before ns more Line new k = record { points = k.points; lines = holds_before ns.lines new more.lines k.lines; circles = k.circles }
 keeps_before ns more Circle new k = record { points = k.points; lines = k.lines; circles = holds_before ns.circles new more.circles k.circles }
 
--- and the new ones stand behind them
+-- and the new ones stand after them
 pub keeps_new : (ns more : Names) (sort : Sort) (new : List (List ℕ)) → Keeps (with_names ns sort (names_of_sort ns sort ++ new)) more → Holds (names_of_sort ns sort ++ new) (names_of_sort more sort)
 keeps_new ns more Point new k = k.points
 keeps_new ns more Line new k = k.lines

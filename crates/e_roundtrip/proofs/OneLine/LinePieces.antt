@@ -76,16 +76,16 @@ pieces_same (p ∷ ps) (q ∷ qs) h = let b = and_parts (same p q) (all_same ps 
 
 -- ---- the table
 
-abbrev told_apart : Shape → Shape → Bool
-told_apart s t = not (similar (pieces s) (pieces t)) || all_same (pieces s) (pieces t)
+abbrev distinguished : Shape → Shape → Bool
+distinguished s t = not (similar (pieces s) (pieces t)) || all_same (pieces s) (pieces t)
 
 abbrev from_all : List Shape → Shape → Bool
-from_all ts s = list_all (λ t. told_apart s t) ts
+from_all ts s = list_all (λ t. distinguished s t) ts
 
 -- lines that have words in common have the same pieces
-all_told_apart : list_all (from_all all_shapes) all_shapes ≡ true
+all_distinguished : list_all (from_all all_shapes) all_shapes ≡ true
 unfolding pieces
-all_told_apart = refl
+all_distinguished = refl
 
 -- what holds of all holds of those that pass a test
 of_these : (p f : Shape → Bool) (xs : List Shape) → list_all p xs ≡ true → list_all p (filter f xs) ≡ true
@@ -124,14 +124,14 @@ have_pieces : (words : List (List ℕ)) (s : Shape) (ss : List Shape) → are_wo
 have_pieces words s [] h hs d = tt
 have_pieces words s (t ∷ ss) h hs d =
     let b = and_parts (are_words_of (pieces t) words) (have_words words ss) hs in
-    let c = and_parts (told_apart s t) (from_all ss s) d in
+    let c = and_parts (distinguished s t) (from_all ss s) d in
     let near = shared (pieces s) (pieces t) words (own_words_of s) (own_words_of t) h b.0 in
-    let one : all_same (pieces s) (pieces t) ≡ true = told (similar (pieces s) (pieces t)) (all_same (pieces s) (pieces t)) near c.0 in
+    let one : all_same (pieces s) (pieces t) ≡ true = implied (similar (pieces s) (pieces t)) (all_same (pieces s) (pieces t)) near c.0 in
     (sym (pieces_same (pieces s) (pieces t) one), have_pieces words s ss h b.1 c.1)
   where
-    told : (a b : Bool) → a ≡ true → (not a || b) ≡ true → b ≡ true
-    told true b e h = h
-    told false b e h = absurd cc
+    implied : (a b : Bool) → a ≡ true → (not a || b) ≡ true → b ≡ true
+    implied true b e h = h
+    implied false b e h = absurd cc
 
 abbrev paired : List Shape → Bool
 paired ss = list_all (from_all ss) ss
@@ -141,7 +141,7 @@ pairs_of_these : (f : Shape → Bool) (xs ys : List Shape) → list_all (from_al
 pairs_of_these f xs [] h = refl
 pairs_of_these f xs (y ∷ ys) h =
     let b = and_parts (from_all xs y) (list_all (from_all xs) ys) h in
-    rw (of_these (λ t. told_apart y t) f xs b.0, pairs_of_these f xs ys b.1) refl
+    rw (of_these (λ t. distinguished y t) f xs b.0, pairs_of_these f xs ys b.1) refl
 
 shapes_alike : (words : List (List ℕ)) (ss : List Shape) → have_words words ss ≡ true → paired ss ≡ true → AllHave (line_pieces ss) ss
 shapes_alike words [] h d = tt
@@ -154,7 +154,7 @@ unfolding shapes_of
 shapes_of_line avoiding words =
     let f = is_line_of avoiding words in
     shapes_alike words (filter f all_shapes) (lines_have_words avoiding words (filter f all_shapes) (pass f all_shapes))
-    (of_these (from_all (filter f all_shapes)) f all_shapes (pairs_of_these f all_shapes all_shapes all_told_apart))
+    (of_these (from_all (filter f all_shapes)) f all_shapes (pairs_of_these f all_shapes all_shapes all_distinguished))
 
 -- ---- the line of a construction
 

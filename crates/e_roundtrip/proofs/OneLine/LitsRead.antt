@@ -73,7 +73,7 @@ at_most_signed false neg a n = subst (λ (b : Bool). (b && is_at_most a) ≡ fal
 abbrev pair : {A B : Type 0} → A → B → A × B
 pair a b = (a, b)
 
--- two sides behind the sign that a word is
+-- two sides after the sign that a word is
 sides_signed : (negated : Bool) (left rest : List (List ℕ)) (l : RawLit) → (sign_first rest >>= λ s. negation_of negated s.0 >>= λ neg. sides_of s.0 left s.1 >>= λ a. read_ok (signed neg a)) ≡ Ok l → Signed l
 unfolding sides_of
 sides_signed negated left [] l e = absurd cc

@@ -22,7 +22,7 @@ use Rattle.e_roundtrip.specs.Written.{AllCanBeSpelled, AllCanBeVerified, judged_
 use Rattle.e_roundtrip.proofs.Lengths.BlockRooms.{lines_of_blocks}
 use Rattle.e_clause.specs.declared.cert.Version.{Version}
 
--- ---- lines behind one another
+-- ---- lines after one another
 
 -- the lines of a list show its front, and what is left has numbers of its own
 abbrev Shown : ℕ → List (List ℕ) → List (List ℕ) → Type 0
@@ -88,7 +88,7 @@ module _ (v : Version) where
     closes = inr (inr (entry_with p, after, step, reads, e, refl));
   }
 
-  -- the lines of the blocks, and the last line, which says how many are known behind them
+  -- the lines of the blocks, and the last line, which says how many are known after them
   judged_from : (last : ℕ) (known : List TitledStatement) (k n : ℕ) (ps : List (TheoremView × Script)) → AllCanBeSpelled v known ps → length known + length ps ≡ n
       → JudgedFrom last known (numbered k (lines_of_blocks known ps ++ last_line_of n ∷ [])) (judgement_of known ps)
   judged_from last known k n [] h e =
@@ -103,12 +103,12 @@ module _ (v : Version) where
   judged_from last known k n (p ∷ ps) h e =
       let own = spelled_lines known p.0 p.1 in
       let next = with_theorem known p.0 in
-      let behind = lines_of_blocks next ps ++ last_line_of n ∷ [] in
-      let front = shown_front k own behind in
-      let reads = spelled_is_read v known last p.0 p.1 (numbered k (own ++ behind)) (numbered front.0 behind) h.0 front.1 in
+      let later = lines_of_blocks next ps ++ last_line_of n ∷ [] in
+      let front = shown_front k own later in
+      let reads = spelled_is_read v known last p.0 p.1 (numbered k (own ++ later)) (numbered front.0 later) h.0 front.1 in
       let more = judged_from last next front.0 n ps h.1 (omega (arith, e, length-append known (headed p.0.title p.0.statement ∷ []))) in
       subst (λ (ls : List (List ℕ)). JudgedFrom last known (numbered k ls) (judgement_of known (p ∷ ps))) (sym (append_assoc own (lines_of_blocks next ps) (last_line_of n ∷ [])))
-      (after_verdict last known p (numbered k (own ++ behind)) (numbered front.0 behind) (judgement_of next ps) reads more (verdict (stated_by known) (stated p.0.statement) p.1) refl)
+      (after_verdict last known p (numbered k (own ++ later)) (numbered front.0 later) (judgement_of next ps) reads more (verdict (stated_by known) (stated p.0.statement) p.1) refl)
 
   -- ---- the whole
 

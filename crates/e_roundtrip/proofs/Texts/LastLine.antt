@@ -6,7 +6,7 @@ use Rattle.e_text.specs.Lines.{LineView}
 use Rattle.e_text.specs.declared.line.LineEnd.{LineEnd}
 use Rattle.e_text.specs.declared.line.LineEnd.TheVariants as ends
 use Rattle.e_clause.specs.declared.cert.Version.{Version}
-use Rattle.e_book.specs.declared.draft.TheoremParser.{TheoremParser}
+use Rattle.e_book.specs.declared.parser.TheoremParser.{TheoremParser}
 use Rattle.e_line.specs.declared.fault.FaultKind.{FaultKind}
 use Rattle.e_line.specs.declared.fault.FaultKind.TheVariants.{Malformed}
 use Rattle.e_line.specs.Reading.{◌>>=◌}
@@ -19,7 +19,7 @@ use Rattle.e_cert.specs.declared.cert_line.CertLine.TheVariants as certlines
 use Rattle.e_cert.specs.declared.owed.Obligation.TheVariants as due
 use Rattle.e_cert.specs.declared.owed.Pending.{Pending}
 use Rattle.e_read.specs.declared.reading.BlockParser.{BlockParser}
-use Rattle.e_cert.specs.Owed.{row_in, row_put, differs_put, clash_put, sums_behind, due_behind, after_cert_line}
+use Rattle.e_cert.specs.Owed.{row_in, row_put, differs_put, clash_put, sums_after, due_after, after_cert_line}
 use Rattle.e_read.specs.Text.{Last, owes_nothing, at_start, is_lf_end, taken, garbled_at, finished, or_on, is_last_line, last_line_of, is_end, piece_from}
 use Rattle.e_read.proofs.Bridge.{Answer, no_last, garbled_ok}
 use Rattle.e_read.proofs.TakenLines.{line_taken, either}
@@ -30,7 +30,7 @@ use Rattle.e_judgement.specs.Judged.{Rest}
 abbrev pub ended : Rest → Result Answer ℕ
 ended rest = Ok (Last, rest)
 
--- behind a line that ends a theorem it would not
+-- after a line that ends a theorem it would not
 goes_on_last : (t : Option TheoremView) (lines rest : Rest) (more : Result Answer ℕ) → or_on t lines more ≡ ended rest → more ≡ ended rest
 goes_on_last None lines rest more e = e
 goes_on_last (Some x) lines rest more e = absurd (no_last rest lines x (sym e))
@@ -41,22 +41,22 @@ no_end known None d l b e = absurd cc
 no_end known (Some x) d l b e = absurd cc
 
 -- so reading does not end there with the last line
-never_last : (known : List TitledStatement) (last : ℕ) (r : BlockParser) (d : TheoremParser) (lines rest : Rest) → r.draft ≡ Some d → piece_from known last r lines ≡ ended rest → ⊥
+never_last : (known : List TitledStatement) (last : ℕ) (r : BlockParser) (d : TheoremParser) (lines rest : Rest) → r.parser ≡ Some d → piece_from known last r lines ≡ ended rest → ⊥
 unfolding piece_from
 never_last known last r d [] rest b e = absurd cc
 never_last known last r d (Err f ∷ lines) rest b e = absurd cc
 never_last known last r d (Ok l ∷ lines) rest b e =
     let next : Result BlockParser ℕ = garbled_at l.number (taken known r l) in
-    let then : BlockParser → Result Answer ℕ = λ x. or_on (finished x.draft x.kept) lines (piece_from known last x lines) in
-    elim (either (is_end known r.draft l) (ended lines) (next >>= then) (ended rest) e) [
-      | inl p ↦ no_end known r.draft d l b p.0
+    let then : BlockParser → Result Answer ℕ = λ x. or_on (finished x.parser x.kept) lines (piece_from known last x lines) in
+    elim (either (is_end known r.parser l) (ended lines) (next >>= then) (ended rest) e) [
+      | inl p ↦ no_end known r.parser d l b p.0
       | inr p ↦
           let x = bind_ok next then (Last, rest) p.1 in
           let took = garbled_ok l.number (taken known r l) x.0 x.1 in
-          let more = goes_on_last (finished x.0.draft x.0.kept) lines rest (piece_from known last x.0 lines) x.2 in
+          let more = goes_on_last (finished x.0.parser x.0.kept) lines rest (piece_from known last x.0 lines) x.2 in
           elim (line_taken known r x.0 l took) [
-            | inl c ↦ never_last known last x.0 d lines rest (c.2.draft ∙ b) more
-            | inr s ↦ never_last known last x.0 s.1.draft lines rest (ap (λ (y : BlockParser). y.draft) s.1.next_is) more
+            | inl c ↦ never_last known last x.0 d lines rest (c.2.parser ∙ b) more
+            | inr s ↦ never_last known last x.0 s.1.parser lines rest (ap (λ (y : BlockParser). y.parser) s.1.next_is) more
           ]
     ]
 
@@ -70,10 +70,10 @@ no_cert_line certlines.Fact o e = refused o e
 no_cert_line certlines.Metric o e = refused o e
 no_cert_line (certlines.FactAt k) o e = refused o e
 no_cert_line (certlines.Transfer title raws) o e = refused o e
-no_cert_line (certlines.Clash raw) o e = refused o (bind_ok (lit_in owes_nothing.names raw) (λ l. clash_put due.Nothing l >>= λ d. Ok (due_behind owes_nothing d)) o e).2
+no_cert_line (certlines.Clash raw) o e = refused o (bind_ok (lit_in owes_nothing.names raw) (λ l. clash_put due.Nothing l >>= λ d. Ok (due_after owes_nothing d)) o e).2
 no_cert_line certlines.Sum o e = refused o e
-no_cert_line (certlines.Differs raw) o e = refused o (bind_ok (row_in owes_nothing.names raw) (λ r. differs_put None r >>= λ s. Ok (sums_behind owes_nothing s)) o e).2
-no_cert_line (certlines.Row m raw) o e = refused o (bind_ok (row_in owes_nothing.names raw) (λ r. row_put None m r >>= λ s. Ok (sums_behind owes_nothing s)) o e).2
+no_cert_line (certlines.Differs raw) o e = refused o (bind_ok (row_in owes_nothing.names raw) (λ r. differs_put None r >>= λ s. Ok (sums_after owes_nothing s)) o e).2
+no_cert_line (certlines.Row m raw) o e = refused o (bind_ok (row_in owes_nothing.names raw) (λ r. row_put None m r >>= λ s. Ok (sums_after owes_nothing s)) o e).2
 
 -- what a last line says
 said : (end : LineEnd) (a b : List ℕ) → cond (is_lf_end end) (bytes_eq a b) false ≡ true → (a ≡ b) × (end ≡ ends.Lf)
@@ -93,15 +93,15 @@ last_shown v known last [] rest e = absurd cc
 last_shown v known last (Err f ∷ lines) rest e = absurd cc
 last_shown v known last (Ok l ∷ lines) rest e =
     let next : Result BlockParser ℕ = garbled_at l.number (taken known (at_start v) l) in
-    let then : BlockParser → Result Answer ℕ = λ x. or_on (finished x.draft x.kept) lines (piece_from known last x lines) in
+    let then : BlockParser → Result Answer ℕ = λ x. or_on (finished x.parser x.kept) lines (piece_from known last x lines) in
     elim (either (is_last_line known l) (ended lines) (next >>= then) (ended rest) e) [
       | inl p ↦ let q = said l.end l.bytes (last_line_of (length known)) p.0 in (q.0, q.1, at_end lines rest p.1)
       | inr p ↦
           let x = bind_ok next then (Last, rest) p.1 in
           let took = garbled_ok l.number (taken known (at_start v) l) x.0 x.1 in
-          let more = goes_on_last (finished x.0.draft x.0.kept) lines rest (piece_from known last x.0 lines) x.2 in
+          let more = goes_on_last (finished x.0.parser x.0.kept) lines rest (piece_from known last x.0 lines) x.2 in
           elim (line_taken known (at_start v) x.0 l took) [
             | inl c ↦ absurd (no_cert_line c.2.cert_line x.0.owed c.2.owed)
-            | inr s ↦ absurd (never_last known last x.0 s.1.draft lines rest (ap (λ (y : BlockParser). y.draft) s.1.next_is) more)
+            | inr s ↦ absurd (never_last known last x.0 s.1.parser lines rest (ap (λ (y : BlockParser). y.parser) s.1.next_is) more)
           ]
     ]

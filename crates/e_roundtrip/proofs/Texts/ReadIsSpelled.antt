@@ -18,13 +18,13 @@ use Rattle.e_deriv.specs.declared.names.Names.{Names}
 use Rattle.e_deriv.specs.Goal.{goal_of_statement, facts_of_statement}
 use Rattle.e_deriv.specs.Lines.{lines as lines_from}
 use Rattle.e_line.specs.declared.raw_line.RawLine.{RawLine}
-use Rattle.e_book.specs.declared.draft.Section.{Section}
-use Rattle.e_book.specs.declared.draft.Section.TheVariants.{Done}
-use Rattle.e_book.specs.declared.draft.TheoremParser.{TheoremParser}
+use Rattle.e_book.specs.declared.parser.Section.{Section}
+use Rattle.e_book.specs.declared.parser.Section.TheVariants.{Done}
+use Rattle.e_book.specs.declared.parser.TheoremParser.{TheoremParser}
 use Rattle.e_line.specs.Reading.{◌>>=◌}
 use Rattle.e_names.specs.Scope.{scope_of_names}
 use Rattle.e_names.specs.TitledStatements.{TitledStatement, stated_by}
-use Rattle.e_book.specs.DraftViews.{entry_of_draft}
+use Rattle.e_book.specs.ParserViews.{entry_of_parser}
 use Rattle.e_book.specs.TheoremViews.{TheoremView}
 use Rattle.e_book.specs.Book.{is_last, is_done}
 use Rattle.e_book.specs.Steps.{begin, step}
@@ -59,23 +59,23 @@ use Rattle.e_roundtrip.proofs.Certificates.CertLinesFormed.{OwedFormed, strict_f
 use Rattle.e_roundtrip.proofs.OneLine.FormsRead.{Read, form_facts}
 use Rattle.e_roundtrip.proofs.Certificates.CertLinesRead.{strict_cert_line_read}
 use Rattle.e_roundtrip.proofs.Certificates.OwedSpelled.{owed_text, kept_text, due_at_first, FitsDue, after_cert_line_spelled, settled_spelled}
-use Rattle.e_roundtrip.proofs.Heads.HeadTaken.{InProof, DraftSaid, puts_begun}
+use Rattle.e_roundtrip.proofs.Heads.HeadTaken.{InProof, ParserSaid, puts_begun}
 use Rattle.e_roundtrip.proofs.Blocks.LinesSaid.{Leaves, step_left, due_at_start}
 
 -- ---- what was said so far
 
 abbrev StateSaid : List TitledStatement → Option TheoremParser → List StepCerts → List (List ℕ) → Type 0
 StateSaid known None ks ls = (ks ≡ []) × (ls ≡ [])
-StateSaid known (Some d) ks ls = DraftSaid known d.place d ks ls
+StateSaid known (Some d) ks ls = ParserSaid known d.place d ks ls
 
--- These lines were taken: those behind which something was owed, and those of what is owed so far. Whatever is kept for that and has
+-- These lines were taken: those after which something was owed, and those of what is owed so far. Whatever is kept for that and has
 -- its form, all together is said.
-record SaidSoFar (known : List TitledStatement) (draft : Option TheoremParser) (o : Pending) (ks : List StepCerts) (done : List (List ℕ)) : Type 0 where
+record SaidSoFar (known : List TitledStatement) (parser : Option TheoremParser) (o : Pending) (ks : List StepCerts) (done : List (List ℕ)) : Type 0 where
   before : List (List ℕ)
   all : done ≡ before ++ owed_text o
   fits : FitsDue o.due
   formed : OwedFormed o
-  said : (k : Option StepCerts) → KeptIsFormed (scope_of_names o.names) (due_at_first o.due) k → StateSaid known draft (ks ++ option_to_list k) (before ++ kept_text o.names k)
+  said : (k : Option StepCerts) → KeptIsFormed (scope_of_names o.names) (due_at_first o.due) k → StateSaid known parser (ks ++ option_to_list k) (before ++ kept_text o.names k)
 
 -- before the first line
 start_said : (known : List TitledStatement) → SaidSoFar known None owes_nothing [] []
@@ -86,27 +86,27 @@ start_said known = record { before = []; all = refl; fits = tt; formed = record 
 
 -- ---- a line of a certificate
 
-same_names : (known : List TitledStatement) (draft : Option TheoremParser) (ks : List StepCerts) (before : List (List ℕ)) (o new : Pending) → new.names ≡ o.names → due_at_first new.due ≡ due_at_first o.due
-    → ((k : Option StepCerts) → KeptIsFormed (scope_of_names o.names) (due_at_first o.due) k → StateSaid known draft (ks ++ option_to_list k) (before ++ kept_text o.names k))
-    → (k : Option StepCerts) → KeptIsFormed (scope_of_names new.names) (due_at_first new.due) k → StateSaid known draft (ks ++ option_to_list k) (before ++ kept_text new.names k)
-same_names known draft ks before o new n f said k a =
-    subst (λ (ns : Names). StateSaid known draft (ks ++ option_to_list k) (before ++ kept_text ns k)) (sym n)
+same_names : (known : List TitledStatement) (parser : Option TheoremParser) (ks : List StepCerts) (before : List (List ℕ)) (o new : Pending) → new.names ≡ o.names → due_at_first new.due ≡ due_at_first o.due
+    → ((k : Option StepCerts) → KeptIsFormed (scope_of_names o.names) (due_at_first o.due) k → StateSaid known parser (ks ++ option_to_list k) (before ++ kept_text o.names k))
+    → (k : Option StepCerts) → KeptIsFormed (scope_of_names new.names) (due_at_first new.due) k → StateSaid known parser (ks ++ option_to_list k) (before ++ kept_text new.names k)
+same_names known parser ks before o new n f said k a =
+    subst (λ (ns : Names). StateSaid known parser (ks ++ option_to_list k) (before ++ kept_text ns k)) (sym n)
     (said k (subst (λ (ns : Names). KeptIsFormed (scope_of_names ns) (due_at_first o.due) k) n (subst (λ (d : Obligation). KeptIsFormed (scope_of_names new.names) d k) f a)))
 
-certified_said : (known : List TitledStatement) (r next : BlockParser) (line : List ℕ) (words : List (List ℕ)) (done : List (List ℕ)) → SaidSoFar known r.draft r.owed r.kept done → Certified r next line words
-    → SaidSoFar known next.draft next.owed next.kept (done ++ line ∷ [])
+certified_said : (known : List TitledStatement) (r next : BlockParser) (line : List ℕ) (words : List (List ℕ)) (done : List (List ℕ)) → SaidSoFar known r.parser r.owed r.kept done → Certified r next line words
+    → SaidSoFar known next.parser next.owed next.kept (done ++ line ∷ [])
 certified_said known r next line words done s c =
     let m = strict_cert_line_read line words c.cert_line c.spelled in
     let o = after_cert_line_spelled r.owed next.owed c.cert_line s.fits m.1 c.owed in
-    let here : SaidSoFar known r.draft next.owed r.kept (done ++ line ∷ []) = record {
+    let here : SaidSoFar known r.parser next.owed r.kept (done ++ line ∷ []) = record {
       before = s.before;
       all = ap (λ (l : List ℕ). done ++ l ∷ []) m.0 ∙ ap (λ (l : List (List ℕ)). l ++ cert_line_text c.cert_line ∷ []) s.all ∙ append_assoc s.before (owed_text r.owed) (cert_line_text c.cert_line ∷ []) ∙ ap (λ (l : List (List ℕ)). s.before ++ l) (sym o.lines);
       fits = o.fits;
       formed = strict_formed r.owed line words c.cert_line next.owed s.formed c.spelled c.owed;
-      said = same_names known r.draft r.kept s.before r.owed next.owed o.names o.first s.said;
+      said = same_names known r.parser r.kept s.before r.owed next.owed o.names o.first s.said;
     } in
-    subst (λ (d : Option TheoremParser). SaidSoFar known d next.owed next.kept (done ++ line ∷ [])) (sym c.draft)
-    (subst (λ (ks : List StepCerts). SaidSoFar known r.draft next.owed ks (done ++ line ∷ [])) (sym c.kept) here)
+    subst (λ (d : Option TheoremParser). SaidSoFar known d next.owed next.kept (done ++ line ∷ [])) (sym c.parser)
+    (subst (λ (ks : List StepCerts). SaidSoFar known r.parser next.owed ks (done ++ line ∷ [])) (sym c.kept) here)
 
 -- ---- any other line
 
@@ -116,13 +116,13 @@ with_owed d o = (d, o)
 abbrev owed : Names → Obligation → Pending
 owed ns d = record { names = ns; due = d; sums = None }
 
--- a line that was taken, and nothing is owed behind the last line
+-- a line that was taken, and nothing is owed after the last line
 record StepSaid (known : List TitledStatement) (d : TheoremParser) (o : Pending) (ks : List StepCerts) (done : List (List ℕ)) : Type 0 where
   so_far : SaidSoFar known (Some d) o ks done
   names : Names
   last : is_done d ≡ true → o ≡ owed names due.Nothing
 
--- behind a line nothing of what it owes has come
+-- after a line nothing of what it owes has come
 step_said : (known : List TitledStatement) (d e : TheoremParser) (f : RawLine) (owes : Obligation) (ks : List StepCerts) (done : List (List ℕ)) → Leaves known d e f owes ks done → owed_text (owed d.in_scope owes) ≡ [] → FitsDue owes → DueFormed (scope_of_names d.in_scope) owes
     → StepSaid known e (owed d.in_scope owes) ks (done ++ line_of f ∷ [])
 step_said known d e f owes ks done l none fits formed =
@@ -149,7 +149,7 @@ first_said known e f ks done k n b =
       last = λ h. refl;
     }))
   where
-    by_kept : (j : Option StepCerts) → KeptIsFormed (scope_of_names owes_nothing.names) due.Nothing j → DraftSaid known e.place e ([] ++ option_to_list j) ((line_of f ∷ []) ++ kept_text owes_nothing.names j)
+    by_kept : (j : Option StepCerts) → KeptIsFormed (scope_of_names owes_nothing.names) due.Nothing j → ParserSaid known e.place e ([] ++ option_to_list j) ((line_of f ∷ []) ++ kept_text owes_nothing.names j)
     by_kept None a = puts_begun known e f b
     by_kept (Some j) a = absurd a
 
@@ -160,7 +160,7 @@ owed_is known d f o e =
     let n = bind_ok (due_of known d f) (λ new. read_ok (owed d.in_scope new)) o e in
     (n.0, n.1, ok_is (owed d.in_scope n.0) o n.2)
 
-gone_said : (known : List TitledStatement) (draft : Option TheoremParser) (e : TheoremParser) (f : RawLine) (o : Pending) (ks : List StepCerts) (done : List (List ℕ)) → StateSaid known draft ks done → Read f → is_strict f ≡ true → gone_on known draft f ≡ Ok (e, o)
+gone_said : (known : List TitledStatement) (parser : Option TheoremParser) (e : TheoremParser) (f : RawLine) (o : Pending) (ks : List StepCerts) (done : List (List ℕ)) → StateSaid known parser ks done → Read f → is_strict f ≡ true → gone_on known parser f ≡ Ok (e, o)
     → StepSaid known e o ks (done ++ line_of f ∷ [])
 gone_said known None e f o ks done s r st g =
     let b = bind_ok (begin known f) (λ x. read_ok (with_owed x owes_nothing)) (e, o) g in
@@ -175,7 +175,7 @@ gone_said known (Some d) e f o ks done s r st g =
     subst (λ (q : TheoremParser × Pending). StepSaid known q.0 q.1 ks (done ++ line_of f ∷ [])) (ap (λ (v : Pending). with_owed x.0 v) n.2 ∙ ok_is (with_owed x.0 w.0) (e, o) x.2)
     (step_said known d x.0 f n.0 ks done (step_left known d x.0 f n.0 ks done s r st p.0 n.1 x.1) at.none at.fits at.formed)
 
-stepped_said : (known : List TitledStatement) (r next : BlockParser) (line : List ℕ) (done : List (List ℕ)) → SaidSoFar known r.draft r.owed r.kept done → (s : Stepped known r next line) → StepSaid known s.draft s.owed (r.kept ++ option_to_list s.read) (done ++ line ∷ [])
+stepped_said : (known : List TitledStatement) (r next : BlockParser) (line : List ℕ) (done : List (List ℕ)) → SaidSoFar known r.parser r.owed r.kept done → (s : Stepped known r next line) → StepSaid known s.parser s.owed (r.kept ++ option_to_list s.read) (done ++ line ∷ [])
 stepped_said known r next line done so s =
     let f = form_read line s.form s.spelled in
     let b = and_parts (is_strict s.form) (bytes_eq line (line_of s.form)) f.1 in
@@ -184,16 +184,16 @@ stepped_said known r next line done so s =
     let state = so.said s.read (settled_formed r.owed s.read so.formed s.settled_is) in
     let all : so.before ++ kept_text r.owed.names s.read ≡ done = ap (λ (l : List (List ℕ)). so.before ++ l) (sym text) ∙ sym so.all in
     let ks = r.kept ++ option_to_list s.read in
-    let here = subst (λ (l : List (List ℕ)). StateSaid known r.draft ks l) all state in
-    subst (λ (l : List ℕ). StepSaid known s.draft s.owed ks (done ++ l ∷ [])) (sym is) (gone_said known r.draft s.draft s.form s.owed ks done here (form_facts (tokens_of line) s.form f.0) b.0 s.gone)
+    let here = subst (λ (l : List (List ℕ)). StateSaid known r.parser ks l) all state in
+    subst (λ (l : List ℕ). StepSaid known s.parser s.owed ks (done ++ l ∷ [])) (sym is) (gone_said known r.parser s.parser s.form s.owed ks done here (form_facts (tokens_of line) s.form f.0) b.0 s.gone)
 
 -- ---- the last line
 
-at_done : (known : List TitledStatement) (p : Section) (d : TheoremParser) (ks : List StepCerts) (ls : List (List ℕ)) → is_last p ≡ true → DraftSaid known p d ks ls → InProof known Done d ks ls
+at_done : (known : List TitledStatement) (p : Section) (d : TheoremParser) (ks : List StepCerts) (ls : List (List ℕ)) → is_last p ≡ true → ParserSaid known p d ks ls → InProof known Done d ks ls
 at_done known Done d ks ls l h = h
 at_done known p d ks ls l h = absurd cc
 
--- behind the last line the lines are those of the theorem
+-- after the last line the lines are those of the theorem
 all_said : (known : List TitledStatement) (d : TheoremParser) (o : Pending) (ks : List StepCerts) (done : List (List ℕ)) → StepSaid known d o ks done → is_done d ≡ true → done ≡ spelled_lines known (derived d ks) (derived d ks).script
 all_said known d o ks done s l =
     let so = subst (λ (x : Pending). SaidSoFar known (Some d) x ks done) (s.last l) s.so_far in
@@ -201,8 +201,8 @@ all_said known d o ks done s l =
     let t = derived d ks in
     let head = map line_of (head_forms t) in
     let end = line_of end_form ∷ [] in
-    let script : script_lines known (names_of_proof t) (filled (entry_of_draft d).script ks).0 ≡ i.body.0 =
-    ap (λ (x : List StepCerts). script_lines known (names_of_proof t) (filled (entry_of_draft d).script x).0) (sym (append-nil ks) ∙ sym (append-nil (ks ++ []))) ∙ i.body.1.spelled [] in
+    let script : script_lines known (names_of_proof t) (filled (entry_of_parser d).script ks).0 ≡ i.body.0 =
+    ap (λ (x : List StepCerts). script_lines known (names_of_proof t) (filled (entry_of_parser d).script x).0) (sym (append-nil ks) ∙ sym (append-nil (ks ++ []))) ∙ i.body.1.spelled [] in
     so.all ∙ i.lines ∙ ap (λ (l : List (List ℕ)). head ++ l) i.body.2 ∙ ap (λ (l : List (List ℕ)). head ++ (l ++ end)) (sym script)
 
 -- the derivation has the form that its lines owe, where the names of its proof are in scope
@@ -214,7 +214,7 @@ all_formed known d o ks done s l =
     let so = subst (λ (x : Pending). SaidSoFar known (Some d) x ks done) (s.last l) s.so_far in
     let i = at_done known d.place d (ks ++ []) (so.before ++ []) l (so.said None tt) in
     let t = derived d ks in
-    subst (λ (x : List StepCerts). FormedHere known (names_of_proof t) (goal_of_statement (stated t.statement)) (filled (entry_of_draft d).script x).0) (append-nil (ks ++ []) ∙ append-nil ks) (i.body.1.formed [])
+    subst (λ (x : List StepCerts). FormedHere known (names_of_proof t) (goal_of_statement (stated t.statement)) (filled (entry_of_parser d).script x).0) (append-nil (ks ++ []) ∙ append-nil ks) (i.body.1.formed [])
 
 -- ---- all lines
 
@@ -239,62 +239,62 @@ one_more : (known : List TitledStatement) (done : List (List ℕ)) (t : TheoremV
 one_more known done t l lines rest end r =
     record { texts = l.bytes ∷ r.texts; shows = (refl, end, r.shows); all = sym (append_assoc done (l.bytes ∷ []) r.texts) ∙ r.all; formed = r.formed }
 
--- how reading goes on behind a line
+-- how reading goes on after a line
 abbrev After : List TitledStatement → ℕ → BlockParser → List (Result LineView LineFault) → List (Result LineView LineFault) → TheoremView → Type 0
 After known last next lines rest t =
-    ((x : TheoremView) × (finished next.draft next.kept ≡ Some x) × (derives x lines ≡ derives t rest)) ⊎ ((finished next.draft next.kept ≡ None) × (piece_from known last next lines ≡ derives t rest))
+    ((x : TheoremView) × (finished next.parser next.kept ≡ Some x) × (derives x lines ≡ derives t rest)) ⊎ ((finished next.parser next.kept ≡ None) × (piece_from known last next lines ≡ derives t rest))
 
--- behind a line of a certificate
-certificate_rest : (known : List TitledStatement) (last : ℕ) (r next : BlockParser) (lines rest : List (Result LineView LineFault)) (t : TheoremView) (done : List (List ℕ)) → is_finished r.draft ≡ false → next.draft ≡ r.draft → After known last next lines rest t
-    → (is_finished next.draft ≡ false → piece_from known last next lines ≡ derives t rest → Rest known done t lines rest) → Rest known done t lines rest
+-- after a line of a certificate
+certificate_rest : (known : List TitledStatement) (last : ℕ) (r next : BlockParser) (lines rest : List (Result LineView LineFault)) (t : TheoremView) (done : List (List ℕ)) → is_finished r.parser ≡ false → next.parser ≡ r.parser → After known last next lines rest t
+    → (is_finished next.parser ≡ false → piece_from known last next lines ≡ derives t rest → Rest known done t lines rest) → Rest known done t lines rest
 certificate_rest known last r next lines rest t done unended same goes more =
-    let unended_still : is_finished next.draft ≡ false = ap is_finished same ∙ unended in
+    let unended_still : is_finished next.parser ≡ false = ap is_finished same ∙ unended in
     elim goes [
-      | inl q ↦ absurd (unfinished next.draft next.kept q.0 unended_still q.1)
+      | inl q ↦ absurd (unfinished next.parser next.kept q.0 unended_still q.1)
       | inr q ↦ more unended_still q.1
     ]
 
--- behind any other line
-step_rest : (known : List TitledStatement) (last : ℕ) (next : BlockParser) (d : TheoremParser) (o : Pending) (lines rest : List (Result LineView LineFault)) (t : TheoremView) (done : List (List ℕ)) → next.draft ≡ Some d → StepSaid known d o next.kept done → After known last next lines rest t
-    → (is_finished next.draft ≡ false → piece_from known last next lines ≡ derives t rest → Rest known done t lines rest) → Rest known done t lines rest
-step_rest known last next d o lines rest t done draft_is s goes more =
+-- after any other line
+step_rest : (known : List TitledStatement) (last : ℕ) (next : BlockParser) (d : TheoremParser) (o : Pending) (lines rest : List (Result LineView LineFault)) (t : TheoremView) (done : List (List ℕ)) → next.parser ≡ Some d → StepSaid known d o next.kept done → After known last next lines rest t
+    → (is_finished next.parser ≡ false → piece_from known last next lines ≡ derives t rest → Rest known done t lines rest) → Rest known done t lines rest
+step_rest known last next d o lines rest t done parser_is s goes more =
     elim goes [
       | inl q ↦
-          let c = closed_is d next.kept q.0 (sym (ap (λ (x : Option TheoremParser). finished x next.kept) draft_is) ∙ q.1) in
+          let c = closed_is d next.kept q.0 (sym (ap (λ (x : Option TheoremParser). finished x next.kept) parser_is) ∙ q.1) in
           let p = derived_is q.0 t lines rest q.2 in
           let is : derived d next.kept ≡ t = c.1 ∙ p.0 in
           record { texts = []; shows = p.1; all = append-nil done ∙ all_said known d o next.kept done s c.0 ∙ ap (λ (x : TheoremView). spelled_lines known x x.script) is; formed = subst (EntryFormed known) is (all_formed known d o next.kept done s c.0) }
-      | inr q ↦ more (still next.draft next.kept q.0) q.1
+      | inr q ↦ more (still next.parser next.kept q.0) q.1
     ]
 
-whole : (known : List TitledStatement) (last : ℕ) (r : BlockParser) (lines rest : List (Result LineView LineFault)) (t : TheoremView) (done : List (List ℕ)) → SaidSoFar known r.draft r.owed r.kept done → is_finished r.draft ≡ false
+whole : (known : List TitledStatement) (last : ℕ) (r : BlockParser) (lines rest : List (Result LineView LineFault)) (t : TheoremView) (done : List (List ℕ)) → SaidSoFar known r.parser r.owed r.kept done → is_finished r.parser ≡ false
     → piece_from known last r lines ≡ derives t rest → Rest known done t lines rest
 unfolding piece_from
 whole known last r [] rest t done s unended e = absurd cc
 whole known last r (Err f ∷ lines) rest t done s unended e = absurd cc
 whole known last r (Ok l ∷ lines) rest t done s unended e =
     let next : Result BlockParser ℕ = garbled_at l.number (taken known r l) in
-    let then : BlockParser → Result Answer ℕ = λ x. or_on (finished x.draft x.kept) lines (piece_from known last x lines) in
-    elim (either (is_end known r.draft l) (Ok (Last, lines)) (next >>= then) (derives t rest) e) [
+    let then : BlockParser → Result Answer ℕ = λ x. or_on (finished x.parser x.kept) lines (piece_from known last x lines) in
+    elim (either (is_end known r.parser l) (Ok (Last, lines)) (next >>= then) (derives t rest) e) [
       | inl p ↦ absurd (no_last lines rest t p.1)
       | inr p ↦
           let x = bind_ok next then (Derived t, rest) p.1 in
           let took = garbled_ok l.number (taken known r l) x.0 x.1 in
-          let goes = goes_on (finished x.0.draft x.0.kept) lines rest (piece_from known last x.0 lines) t x.2 in
+          let goes = goes_on (finished x.0.parser x.0.kept) lines rest (piece_from known last x.0 lines) t x.2 in
           let now = done ++ l.bytes ∷ [] in
           one_more known done t l lines rest (ends_with_lf known r x.0 l took)
           (elim (line_taken known r x.0 l took) [
             | inl c ↦
                 let so = certified_said known r x.0 l.bytes c.0 done s c.2 in
-                certificate_rest known last r x.0 lines rest t now unended c.2.draft goes (λ n h. whole known last x.0 lines rest t now so n h)
+                certificate_rest known last r x.0 lines rest t now unended c.2.parser goes (λ n h. whole known last x.0 lines rest t now so n h)
             | inr c ↦
                 let st = stepped_said known r x.0 l.bytes done s c.1 in
                 let kept_is : r.kept ++ option_to_list c.1.read ≡ x.0.kept = sym (ap (λ (y : BlockParser). y.kept) c.1.next_is) in
                 let owed_is : c.1.owed ≡ x.0.owed = sym (ap (λ (y : BlockParser). y.owed) c.1.next_is) in
-                let draft_is : x.0.draft ≡ Some c.1.draft = ap (λ (y : BlockParser). y.draft) c.1.next_is in
-                let here = subst (λ (ks : List StepCerts). StepSaid known c.1.draft c.1.owed ks now) kept_is st in
-                let so = subst (λ (y : Option TheoremParser). SaidSoFar known y x.0.owed x.0.kept now) (sym draft_is) (subst (λ (y : Pending). SaidSoFar known (Some c.1.draft) y x.0.kept now) owed_is here.so_far) in
-                step_rest known last x.0 c.1.draft c.1.owed lines rest t now draft_is here goes (λ n h. whole known last x.0 lines rest t now so n h)
+                let parser_is : x.0.parser ≡ Some c.1.parser = ap (λ (y : BlockParser). y.parser) c.1.next_is in
+                let here = subst (λ (ks : List StepCerts). StepSaid known c.1.parser c.1.owed ks now) kept_is st in
+                let so = subst (λ (y : Option TheoremParser). SaidSoFar known y x.0.owed x.0.kept now) (sym parser_is) (subst (λ (y : Pending). SaidSoFar known (Some c.1.parser) y x.0.kept now) owed_is here.so_far) in
+                step_rest known last x.0 c.1.parser c.1.owed lines rest t now parser_is here goes (λ n h. whole known last x.0 lines rest t now so n h)
           ])
     ]
 

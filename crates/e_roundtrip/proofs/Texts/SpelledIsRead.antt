@@ -16,8 +16,8 @@ use Rattle.e_deriv.specs.Script.{Script, erased, Cite, Hence, Make, Apply, Claim
 use Rattle.e_deriv.specs.Goal.{Goal, goal_of_statement, facts_of_statement}
 use Rattle.e_deriv.specs.Lines.{lines}
 use Rattle.e_line.specs.declared.raw_line.RawLine.TheVariants as rawlines
-use Rattle.e_book.specs.declared.draft.Section.TheVariants.{Closed, Done}
-use Rattle.e_book.specs.declared.draft.TheoremParser.{TheoremParser}
+use Rattle.e_book.specs.declared.parser.Section.TheVariants.{Closed, Done}
+use Rattle.e_book.specs.declared.parser.TheoremParser.{TheoremParser}
 use Rattle.e_names.specs.TitledStatements.{TitledStatement, stated_by}
 use Rattle.e_names.specs.Scope.{scope_of_names}
 use Rattle.e_book.specs.Steps.{begin, begun, closed, stepped, step}
@@ -59,11 +59,11 @@ use Rattle.e_clause.specs.declared.cert.Cert.{Cert}
 use Rattle.e_clause.specs.declared.cert.Against.{Against}
 use Rattle.e_clause.specs.Versions.{is_cert_of, is_against_of}
 use Rattle.e_deriv.specs.Versions.{has_certs_of}
-use Rattle.e_cert.proofs.GoodKept.{is_good_kept, AreGood}
+use Rattle.e_cert.proofs.GoodKept.{are_certs_of_version, AreOfVersion}
 use Rattle.e_roundtrip.proofs.Blocks.LinesTaken.{strict_form_again, no_bar, AllTaken, Stands, Along, along_append, form_leads}
 use Rattle.e_roundtrip.proofs.Formed.Standing.{Stood}
 use Rattle.e_roundtrip.proofs.Blocks.ScriptAlong.{script_spelled}
-use Rattle.e_roundtrip.proofs.Heads.HeadAlong.{draft_is, head_along, statement_heads}
+use Rattle.e_roundtrip.proofs.Heads.HeadAlong.{parser_is, head_along, statement_heads}
 
 -- ---- the proof
 
@@ -99,11 +99,11 @@ stood v known t d c o =
       formed = subst (λ (z : Scope). list_all (is_formed before) (lines before d d z facts goal) ≡ true) scope c.formed;
     }
 
--- the draft behind the last close line
-abbrev shut_draft : TheoremView → Script → Inside → TheoremParser
-shut_draft t d last = record (proving (started t) last) { steps = steps_of (erased d); outers = []; close = close_of (erased d); place = Closed }
+-- the parser after the last close line
+abbrev shut_parser : TheoremView → Script → Inside → TheoremParser
+shut_parser t d last = record (proving (started t) last) { steps = steps_of (erased d); blocks = []; close = close_of (erased d); place = Closed }
 
-closed_last : (t : TheoremView) (d : Script) (last : Inside) → closed (proving (started t) last) [] (steps_of (erased d)) (close_of (erased d)) ≡ Ok (shut_draft t d last)
+closed_last : (t : TheoremView) (d : Script) (last : Inside) → closed (proving (started t) last) [] (steps_of (erased d)) (close_of (erased d)) ≡ Ok (shut_parser t d last)
 unfolding closed
 closed_last t d last = refl
 
@@ -113,13 +113,13 @@ middle known t d = map line_of (stating_forms t) ++ script_lines known (names_of
 
 record Middle (known : List TitledStatement) (t : TheoremView) (d : Script) : Type 0 where
   last : Inside
-  along : Along known (begun t.title) (middle known t d) (shut_draft t d last) (kepts d)
+  along : Along known (begun t.title) (middle known t d) (shut_parser t d last) (kepts d)
 
 middle_along : (v : Version) (known : List TitledStatement) (t : TheoremView) (d : Script) → CanBeSpelled v known t d → InOrder t.names → Middle known t d
 middle_along v known t d c o =
     let proof = script_spelled known (started t) (begins t) d (facts_of_statement (stated t.statement)) (goal_of_statement (stated t.statement)) (stood v known t d c o) in
     let p = proving (started t) (begins t) in
-    let e = shut_draft t d proof.last in
+    let e = shut_parser t d proof.last in
     let statement = head_along known (begun t.title) p (stating_forms t) (run_statement known (plain_entry t d) c.plain o) (statement_heads t.names t.statement) in
     record {
       last = proof.last;
@@ -132,26 +132,26 @@ kept_if_any : (v : Version) (c : Option Cert) → option_map_or (is_cert_of v) c
 kept_if_any v None h = refl
 kept_if_any v (Some c) h = and_from (is_cert_of v c) true h refl
 
-kept_against_of : (v : Version) (a : Option Against) → option_map_or (is_against_of v) a true ≡ true → is_good_kept v (kept_against a) ≡ true
+kept_against_of : (v : Version) (a : Option Against) → option_map_or (is_against_of v) a true ≡ true → are_certs_of_version v (kept_against a) ≡ true
 kept_against_of v None h = refl
 kept_against_of v (Some a) h = h
 
-kepts_of : (v : Version) (d : Script) → has_certs_of v d ≡ true → AreGood v (kepts d)
+kepts_of : (v : Version) (d : Script) → has_certs_of v d ≡ true → AreOfVersion v (kepts d)
 unfolding has_certs_of kepts
 kepts_of v (Cite by rest) h = kepts_of v rest h
 kepts_of v (Hence lit cert rest) h = let p = and_parts (option_map_or (is_cert_of v) cert true) (has_certs_of v rest) h in and_from _ _ (kept_if_any v cert p.0) (kepts_of v rest p.1)
 kepts_of v (Make form names certs rest) h = let p = and_parts (list_all (is_cert_of v) certs) (has_certs_of v rest) h in and_from _ _ p.0 (kepts_of v rest p.1)
 kepts_of v (Apply theorem args names certs rest) h = let p = and_parts (list_all (is_cert_of v) certs) (has_certs_of v rest) h in and_from _ _ p.0 (kepts_of v rest p.1)
 kepts_of v (Claim shown inner rest) h =
-    let p = and_parts (has_certs_of v inner) (has_certs_of v rest) h in all_both (is_good_kept v) (kepts inner) (kepts rest) (kepts_of v inner p.0) (kepts_of v rest p.1)
+    let p = and_parts (has_certs_of v inner) (has_certs_of v rest) h in all_both (are_certs_of_version v) (kepts inner) (kepts rest) (kepts_of v inner p.0) (kepts_of v rest p.1)
 kepts_of v (Superposed form names shown certs inner rest) h =
     let p = and_parts (list_all (is_cert_of v) certs) (has_certs_of v inner && has_certs_of v rest) h in
     let q = and_parts (has_certs_of v inner) (has_certs_of v rest) p.1 in
-    and_from _ _ p.0 (all_both (is_good_kept v) (kepts inner) (kepts rest) (kepts_of v inner q.0) (kepts_of v rest q.1))
+    and_from _ _ p.0 (all_both (are_certs_of_version v) (kepts inner) (kepts rest) (kepts_of v inner q.0) (kepts_of v rest q.1))
 kepts_of v (Qed objects certs) h = and_from _ _ h refl
 kepts_of v (Contradiction against) h = and_from _ _ (kept_against_of v against h) refl
 kepts_of v (Cases lit first second) h =
-    let p = and_parts (has_certs_of v first) (has_certs_of v second) h in all_both (is_good_kept v) (kepts first) (kepts second) (kepts_of v first p.0) (kepts_of v second p.1)
+    let p = and_parts (has_certs_of v first) (has_certs_of v second) h in all_both (are_certs_of_version v) (kepts first) (kepts second) (kepts_of v first p.0) (kepts_of v second p.1)
 
 -- ---- lines that are read
 
@@ -166,11 +166,11 @@ taken_is known r next l text b e leads =
     let w : worded known r l.bytes (tokens_of l.bytes) ≡ Ok next = ap (λ (x : List ℕ). worded known r x (tokens_of x)) b ∙ leads in
     rw (e, w) refl
 
-unfinished : (draft : Option TheoremParser) (d : TheoremParser) (kept : List StepCerts) → draft ≡ Some d → is_done d ≡ false → finished draft kept ≡ None
-unfinished draft d kept e going = ap (λ (x : Option TheoremParser). finished x kept) e ∙ rw going refl
+unfinished : (parser : Option TheoremParser) (d : TheoremParser) (kept : List StepCerts) → parser ≡ Some d → is_done d ≡ false → finished parser kept ≡ None
+unfinished parser d kept e going = ap (λ (x : Option TheoremParser). finished x kept) e ∙ rw going refl
 
-one_read : (known : List TitledStatement) (number : ℕ) (r next : BlockParser) (l : LineView) (after : List (Result LineView LineFault)) (text : List ℕ) → is_end known r.draft l ≡ false → l.bytes ≡ text → l.end ≡ Lf → worded known r text (tokens_of text) ≡ Ok next
-    → finished next.draft next.kept ≡ None → piece_from known number r (Ok l ∷ after) ≡ piece_from known number next after
+one_read : (known : List TitledStatement) (number : ℕ) (r next : BlockParser) (l : LineView) (after : List (Result LineView LineFault)) (text : List ℕ) → is_end known r.parser l ≡ false → l.bytes ≡ text → l.end ≡ Lf → worded known r text (tokens_of text) ≡ Ok next
+    → finished next.parser next.kept ≡ None → piece_from known number r (Ok l ∷ after) ≡ piece_from known number next after
 unfolding piece_from
 one_read known number r next l after text here b e leads more = rw (here, taken_is known r next l text b e leads, more) refl
 
@@ -180,29 +180,29 @@ all_read known number r next (text ∷ texts) more [] rest a sh = absurd sh
 all_read known number r next (text ∷ texts) more (Err f ∷ all) rest a sh = absurd sh
 all_read known number r next (text ∷ texts) more (Ok l ∷ all) rest a sh =
     let one = a.1 in
-    let here : is_end known r.draft l ≡ false = ap (λ (x : Option TheoremParser). is_end known x l) one.here in
+    let here : is_end known r.parser l ≡ false = ap (λ (x : Option TheoremParser). is_end known x l) one.here in
     let left = all_read known number a.0 next texts more all rest a.2 sh.2 in
     record {
       ahead = left.ahead;
       shown = left.shown;
-      same = one_read known number r a.0 l all text here sh.0 sh.1 one.leads (unfinished a.0.draft one.after a.0.kept one.there one.going) ∙ left.same;
+      same = one_read known number r a.0 l all text here sh.0 sh.1 one.leads (unfinished a.0.parser one.after a.0.kept one.there one.going) ∙ left.same;
     }
 
 -- ---- the first line
 
 abbrev titled : Version → TheoremView → BlockParser
-titled v t = record { version = v; draft = Some (begun t.title); owed = owes_nothing; kept = [] }
+titled v t = record { version = v; parser = Some (begun t.title); owed = owes_nothing; kept = [] }
 
 title_stands : (v : Version) (t : TheoremView) → Stands (titled v t) (begun t.title) []
 unfolding finish_certs
-title_stands v t = record { draft = refl; read = None; settles = refl; kept = refl }
+title_stands v t = record { parser = refl; read = None; settles = refl; kept = refl }
 
 title_leads : (v : Version) (known : List TitledStatement) (t : TheoremView) (d : Script) → HasSpelling known (plain_entry t d) → worded known (at_start v) (line_of (rawlines.Theorem t.title)) (tokens_of (line_of (rawlines.Theorem t.title))) ≡ Ok (titled v t)
 unfolding finish_certs with_form line_stepped
 title_leads v known t d h =
     let f = rawlines.Theorem t.title in
     let r = run_title known t.title h.title h.fits.new h.few_theorems in
-    let begins : begin known f ≡ Ok (begun t.title) = r.2 ∙ ap (λ (x : TheoremParser). Ok x) (draft_is r.0 (begun t.title) r.4) in
+    let begins : begin known f ≡ Ok (begun t.title) = r.2 ∙ ap (λ (x : TheoremParser). Ok x) (parser_is r.0 (begun t.title) r.4) in
     ap (worded known (at_start v) (line_of f)) (words_again f h.title) ∙ no_bar known (at_start v) (line_of f) f ∙ rw (strict_form_again f h.title refl, begins) refl
 
 -- a first line of a theorem is no last line of a text
@@ -215,35 +215,35 @@ not_last known l title b = by_end l.end
 
 -- ---- the last line
 
-step_end : (known : List TitledStatement) (t : TheoremView) (d : Script) (last : Inside) → step known (shut_draft t d last) rawlines.End ≡ Ok (record (shut_draft t d last) { place = Done })
+step_end : (known : List TitledStatement) (t : TheoremView) (d : Script) (last : Inside) → step known (shut_parser t d last) rawlines.End ≡ Ok (record (shut_parser t d last) { place = Done })
 unfolding step stepped
 step_end known t d last = refl
 
 -- the certificates at their lines
-script_whole : (t : TheoremView) (d : Script) (known : List TitledStatement) → HasSpelling known (plain_entry t d) → (last : Inside) → derived (record (shut_draft t d last) { place = Done }) (kepts d) ≡ record t { script = d }
+script_whole : (t : TheoremView) (d : Script) (known : List TitledStatement) → HasSpelling known (plain_entry t d) → (last : Inside) → derived (record (shut_parser t d last) { place = Done }) (kepts d) ≡ record t { script = d }
 script_whole t d known h last =
     let same = same_script (erased d) h.script in
     let back : filled (erased d) (kepts d) ≡ (d, []) = ap (filled (erased d)) (sym (append-nil (kepts d))) ∙ filled_back d [] in
     ap (λ (x : Script). record t { script = (filled x (kepts d)).0 }) same ∙ ap (λ (x : Script × List StepCerts). record t { script = x.0 }) back
 
-end_leads : (known : List TitledStatement) (t : TheoremView) (d : Script) (last : Inside) (r : BlockParser) → Stands r (shut_draft t d last) (kepts d)
-    → (next : BlockParser) × (worded known r (line_of rawlines.End) (tokens_of (line_of rawlines.End)) ≡ Ok next) × (next.draft ≡ Some (record (shut_draft t d last) { place = Done })) × (next.kept ≡ kepts d)
+end_leads : (known : List TitledStatement) (t : TheoremView) (d : Script) (last : Inside) (r : BlockParser) → Stands r (shut_parser t d last) (kepts d)
+    → (next : BlockParser) × (worded known r (line_of rawlines.End) (tokens_of (line_of rawlines.End)) ≡ Ok next) × (next.parser ≡ Some (record (shut_parser t d last) { place = Done })) × (next.kept ≡ kepts d)
 unfolding due_of
 end_leads known t d last r s =
-    let e = shut_draft t d last in
+    let e = shut_parser t d last in
     let leads = form_leads known r e (record e { place = Done }) (kepts d) rawlines.End due.Nothing s tt refl refl refl (step_end known t d last) in
     (_, leads, refl, refl)
 
-end_read : (known : List TitledStatement) (number : ℕ) (t : TheoremView) (d : Script) (last : Inside) (r : BlockParser) (all rest : List (Result LineView LineFault)) → HasSpelling known (plain_entry t d) → Stands r (shut_draft t d last) (kepts d)
+end_read : (known : List TitledStatement) (number : ℕ) (t : TheoremView) (d : Script) (last : Inside) (r : BlockParser) (all rest : List (Result LineView LineFault)) → HasSpelling known (plain_entry t d) → Stands r (shut_parser t d last) (kepts d)
     → ShowsEnded all (line_of rawlines.End ∷ []) rest → piece_from known number r all ≡ Ok (Derived (record t { script = d }), rest)
 unfolding piece_from
 end_read known number t d last r [] rest h s sh = absurd sh
 end_read known number t d last r (Err f ∷ all) rest h s sh = absurd sh
 end_read known number t d last r (Ok l ∷ all) rest h s sh =
     let e = end_leads known t d last r s in
-    let here : is_end known r.draft l ≡ false = ap (λ (x : Option TheoremParser). is_end known x l) s.draft in
-    let done : finished e.0.draft e.0.kept ≡ Some (record t { script = d }) =
-    ap (λ (x : Option TheoremParser). finished x e.0.kept) e.2 ∙ ap (λ (ks : List StepCerts). finished (Some (record (shut_draft t d last) { place = Done })) ks) e.3 ∙ ap (λ (x : TheoremView). Some x) (script_whole t d known h last) in
+    let here : is_end known r.parser l ≡ false = ap (λ (x : Option TheoremParser). is_end known x l) s.parser in
+    let done : finished e.0.parser e.0.kept ≡ Some (record t { script = d }) =
+    ap (λ (x : Option TheoremParser). finished x e.0.kept) e.2 ∙ ap (λ (ks : List StepCerts). finished (Some (record (shut_parser t d last) { place = Done })) ks) e.3 ∙ ap (λ (x : TheoremView). Some x) (script_whole t d known h last) in
     rw (here, taken_is known r e.0 l (line_of rawlines.End) sh.0 sh.1 e.1, done) (ap (λ (ls : List (Result LineView LineFault)). Ok (Derived (record t { script = d }), ls)) sh.2)
 
 -- ---- the law

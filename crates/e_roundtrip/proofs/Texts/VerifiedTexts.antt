@@ -21,7 +21,7 @@ use Rattle.e_roundtrip.specs.Spelled.{ShowsEnded}
 use Rattle.e_roundtrip.proofs.Texts.ReadIsSpelled.{read_is_spelled_so}
 use Rattle.e_roundtrip.proofs.Texts.ShownText.{read_text_is_spelled}
 use Rattle.e_judgement.specs.declared.judgement.Judgement.TheVariants.{Verified, Bad, Garbled}
-use Rattle.e_judgement.specs.Judged.{Rest, with_theorem, Passes, number_of, JudgedBehind, Closes, IsJudged, head_of, is_head, version_of, JudgedBehindHead, JudgesLines, lines_of_text}
+use Rattle.e_judgement.specs.Judged.{Rest, with_theorem, Passes, number_of, JudgedAfter, Closes, IsJudged, head_of, is_head, version_of, JudgedAfterHead, JudgesLines, lines_of_text}
 use Rattle.e_roundtrip.specs.Written.{AllProved, SpellsProofs, blocks_of, head_line, accepted_line}
 use Rattle.e_roundtrip.specs.Laws.{VerifiedIsWritten}
 use Rattle.e_roundtrip.proofs.Texts.WrittenIsVerified.{last_is_line}
@@ -38,16 +38,16 @@ not_bad n k title e = absurd cc
 same_number : (n m : ℕ) → Verified n ≡ Verified m → n ≡ m
 same_number n m e = cc
 
--- a text is verified where nothing stands behind its last line
-behind : (m n : ℕ) (rest : Rest) → Verified n ≡ JudgedBehind m rest → (m ≡ n) × (rest ≡ [])
-behind m n [] e = (sym (same_number n m e), refl)
-behind m n (x ∷ xs) e = absurd (not_garbled n (number_of x) e)
+-- a text is verified where nothing stands after its last line
+after : (m n : ℕ) (rest : Rest) → Verified n ≡ JudgedAfter m rest → (m ≡ n) × (rest ≡ [])
+after m n [] e = (sym (same_number n m e), refl)
+after m n (x ∷ xs) e = absurd (not_garbled n (number_of x) e)
 
 module _ (v : Version) where
   -- and its last line says how many theorems are known
   closed_so : (last : ℕ) (known : List TitledStatement) (lines : Rest) (n : ℕ) → Closes v last known lines (Verified n) → (length known ≡ n) × ShowsEnded lines (last_line_of (length known) ∷ []) []
   closed_so last known lines n (inl c) =
-      let b = behind (length known) n c.0 c.2 in
+      let b = after (length known) n c.0 c.2 in
       (b.0, subst (λ (r : Rest). ShowsEnded lines (last_line_of (length known) ∷ []) r) b.1 (last_shown v known last lines c.0 c.1))
   closed_so last known lines n (inr (inl c)) = absurd (not_garbled n c.0 c.2)
   closed_so last known lines n (inr (inr c)) = absurd (not_bad n c.2 c.0.title c.5)
@@ -62,7 +62,7 @@ module _ (v : Version) where
   length-pairs [] = refl
   length-pairs (t ∷ ts) = ap suc (length-pairs ts)
 
-  -- one more is known behind each
+  -- one more is known after each
   known_grows : (last : ℕ) (known : List TitledStatement) (lines : Rest) (ts : List TheoremView) (now : List TitledStatement) (rest : Rest) → Passes v last known lines ts now rest → length now ≡ length known + length ts
   known_grows last known lines [] now rest p = omega (arith, ap length p.0)
   known_grows last known lines (t ∷ ts) now rest p =
@@ -156,7 +156,7 @@ said l v e = by (is_head One l) (is_head Two l) refl refl e
     by false true h k f = subst (λ (x : Version). is_head x l ≡ true) (inside Two v f) k
     by false false h k f = absurd (none (sym f))
 
-by_version : (text : List ℕ) (n : ℕ) (l : LineView) (lines : Rest) → lines_of_text text ≡ Ok l ∷ lines → (o : Option Version) → version_of l ≡ o → JudgedBehindHead o lines (Verified n) → SpellsProofs n text
+by_version : (text : List ℕ) (n : ℕ) (l : LineView) (lines : Rest) → lines_of_text text ≡ Ok l ∷ lines → (o : Option Version) → version_of l ≡ o → JudgedAfterHead o lines (Verified n) → SpellsProofs n text
 by_version text n l lines e None is h = absurd (not_garbled n 1 h)
 by_version text n l lines e (Some v) is h = whole v text n l lines e (said l v is) h
 

@@ -15,7 +15,7 @@ use Rattle.e_book.specs.Canonical.{text_of}
 use Rattle.e_read.specs.Text.{last_line_of}
 use Rattle.e_spell.specs.Spelling.{spelled_lines}
 use Rattle.e_judgement.specs.declared.judgement.Judgement.TheVariants.{Verified}
-use Rattle.e_judgement.specs.Judged.{with_theorem, head_of, version_of, JudgedBehindHead, JudgesLines, JudgesText}
+use Rattle.e_judgement.specs.Judged.{with_theorem, head_of, version_of, JudgedAfterHead, JudgesLines, JudgesText}
 use Rattle.e_roundtrip.specs.Written.{AllCanBeSpelled, judgement_of, blocks_of, head_line, written, accepted_line}
 use Rattle.e_roundtrip.specs.Laws.{WrittenIsJudged, WrittenIsVerified}
 use Rattle.e_roundtrip.proofs.Lengths.Rooms.{IsShortLine, short_number, short_append, room_none, room_word, room_line}
@@ -29,7 +29,7 @@ text_of_is : (lines : List (List ℕ)) → text_of lines ≡ lf_text lines
 text_of_is [] = refl
 text_of_is (line ∷ lines) = append_assoc line (10 ∷ []) (text_of lines) ∙ ap (λ (t : List ℕ). line ++ 10 ∷ t) (text_of_is lines)
 
--- lines behind lines
+-- lines after lines
 lf_text_append : (xs ys : List (List ℕ)) → lf_text (xs ++ ys) ≡ lf_text xs ++ lf_text ys
 lf_text_append [] ys = refl
 lf_text_append (x ∷ xs) ys = ap (λ (t : List ℕ). x ++ 10 ∷ t) (lf_text_append xs ys) ∙ sym (append_assoc x (10 ∷ lf_text xs) (lf_text ys))
@@ -72,7 +72,7 @@ module _ (v : Version) where
 
   -- the lines are judged so
   judged_lines : (ps : List (TheoremView × Script)) → AllCanBeSpelled v [] ps → JudgesLines (numbered 1 (all_lines ps)) (judgement_of [] ps)
-  judged_lines ps h = subst (λ (o : Option Version). JudgedBehindHead o (numbered 2 (lines_of_blocks [] ps ++ last_line_of (length ps) ∷ [])) (judgement_of [] ps)) (sym (says v)) (judged v _ 2 ps h)
+  judged_lines ps h = subst (λ (o : Option Version). JudgedAfterHead o (numbered 2 (lines_of_blocks [] ps ++ last_line_of (length ps) ∷ [])) (judgement_of [] ps)) (sym (says v)) (judged v _ 2 ps h)
 
   -- a text has few theorems
   few_theorems : (known : List TitledStatement) (ps : List (TheoremView × Script)) → AllCanBeSpelled v known ps → length known ≤ most_theorems → length known + length ps ≤ most_theorems

@@ -133,9 +133,9 @@ literals_left before (Superposed form names shown certs inner rest) kept s facts
     let p = and_parts (list_all is_well_formed shown) (has_good_literals inner && has_good_literals rest) h in
     let q = and_parts (has_good_literals inner) (has_good_literals rest) p.1 in
     let r = literals_left before rest kept s (joined_all facts shown) goal q.1 in
-    let opened = joined_all facts (superposing.gives_of_superposition form s) in
+    let kind = joined_all facts (superposing.gives_of_superposition form s) in
     either (λ x. has_good_literals (erased x)) (is_kept before (Superposed form names shown certs inner rest) s facts (wants before rest s (joined_all facts shown) goal)) _ _
-    (and_from _ _ (well_stay kept shown ∙ p.0) (and_from _ _ (literals_left before inner (kept ++ next_objects s superposing.sorts_copied) (grown s superposing.sorts_copied) opened (goal_of shown) q.0) r)) r
+    (and_from _ _ (well_stay kept shown ∙ p.0) (and_from _ _ (literals_left before inner (kept ++ next_objects s superposing.sorts_copied) (grown s superposing.sorts_copied) kind (goal_of shown) q.0) r)) r
 literals_left before (Qed objects certs) kept s facts goal h = refl
 literals_left before (Contradiction against) kept s facts goal h = refl
 literals_left before (Cases lit first second) kept s facts goal h =
@@ -190,7 +190,7 @@ facts_left before (Claim shown inner rest) kept s facts goal m n y z le h =
     (and_from _ _ (still_few few many most_facts (omega (arith, le, e)) q.0) (facts_left before rest kept s (joined_all facts shown) goal few many y z (omega (arith, le, e)) q.1)))
     (facts_left before rest kept s (joined_all facts shown) goal m many y z (omega (arith, le)) q.1)
 facts_left before (Superposed form names shown certs inner rest) kept s facts goal m n y z le h =
-    let opened = joined_all facts (superposing.gives_of_superposition form s) in
+    let kind = joined_all facts (superposing.gives_of_superposition form s) in
     let given = n + length (superposing.gives_of_superposition form z) in
     let less = m + length (superposing.gives_of_superposition (superpose_at kept form) y) in
     let same : length (superposing.gives_of_superposition (superpose_at kept form) y) ≡ length (superposing.gives_of_superposition form z) = refl in
@@ -203,7 +203,7 @@ facts_left before (Superposed form names shown certs inner rest) kept s facts go
     either (λ x. few_facts before m y (erased x)) (is_kept before (Superposed form names shown certs inner rest) s facts (wants before rest s (joined_all facts shown) goal)) _ _
     (and_from _ _ (still_few less given most_facts (omega (arith, le, same)) o.0)
     (and_from _ _
-    (facts_left before inner (kept ++ next_objects s superposing.sorts_copied) (grown s superposing.sorts_copied) opened (goal_of shown) less given (grown y superposing.sorts_copied) (grown z superposing.sorts_copied) (omega (arith, le, same)) p.0)
+    (facts_left before inner (kept ++ next_objects s superposing.sorts_copied) (grown s superposing.sorts_copied) kind (goal_of shown) less given (grown y superposing.sorts_copied) (grown z superposing.sorts_copied) (omega (arith, le, same)) p.0)
     (and_from _ _ (still_few few many most_facts (omega (arith, le, e)) q.0) (facts_left before rest kept s (joined_all facts shown) goal few many y z (omega (arith, le, e)) q.1))))
     (facts_left before rest kept s (joined_all facts shown) goal m many y z (omega (arith, le)) q.1)
 facts_left before (Qed objects certs) kept s facts goal m n y z le h = refl
@@ -259,7 +259,7 @@ terms_left before (Claim shown inner rest) kept s facts goal m n y z le h =
     (and_from _ _ (still_few few many most_terms (omega (arith, le, e)) q.0) (terms_left before rest kept s (joined_all facts shown) goal few many y z (omega (arith, le, e)) q.1)))
     (terms_left before rest kept s (joined_all facts shown) goal m many y z (omega (arith, le)) q.1)
 terms_left before (Superposed form names shown certs inner rest) kept s facts goal m n y z le h =
-    let opened = joined_all facts (superposing.gives_of_superposition form s) in
+    let kind = joined_all facts (superposing.gives_of_superposition form s) in
     let given = n + count_monomials (superposing.gives_of_superposition form z) in
     let less = m + count_monomials (superposing.gives_of_superposition (superpose_at kept form) y) in
     let same : count_monomials (superposing.gives_of_superposition (superpose_at kept form) y) ≡ count_monomials (superposing.gives_of_superposition form z) = refl in
@@ -272,7 +272,7 @@ terms_left before (Superposed form names shown certs inner rest) kept s facts go
     either (λ x. few_terms before m y (erased x)) (is_kept before (Superposed form names shown certs inner rest) s facts (wants before rest s (joined_all facts shown) goal)) _ _
     (and_from _ _ (still_few less given most_terms (omega (arith, le, same)) o.0)
     (and_from _ _
-    (terms_left before inner (kept ++ next_objects s superposing.sorts_copied) (grown s superposing.sorts_copied) opened (goal_of shown) less given (grown y superposing.sorts_copied) (grown z superposing.sorts_copied) (omega (arith, le, same)) p.0)
+    (terms_left before inner (kept ++ next_objects s superposing.sorts_copied) (grown s superposing.sorts_copied) kind (goal_of shown) less given (grown y superposing.sorts_copied) (grown z superposing.sorts_copied) (omega (arith, le, same)) p.0)
     (and_from _ _ (still_few few many most_terms (omega (arith, le, e)) q.0) (terms_left before rest kept s (joined_all facts shown) goal few many y z (omega (arith, le, e)) q.1))))
     (terms_left before rest kept s (joined_all facts shown) goal m many y z (omega (arith, le)) q.1)
 terms_left before (Qed objects certs) kept s facts goal m n y z le h = refl
@@ -317,9 +317,9 @@ blanks_left before (Claim shown inner rest) kept s facts goal h =
 blanks_left before (Superposed form names shown certs inner rest) kept s facts goal h =
     let q = and_parts (few_blanks (erased inner)) (few_blanks (erased rest)) h in
     let r = blanks_left before rest kept s (joined_all facts shown) goal q.1 in
-    let opened = joined_all facts (superposing.gives_of_superposition form s) in
+    let kind = joined_all facts (superposing.gives_of_superposition form s) in
     either (λ x. few_blanks (erased x)) (is_kept before (Superposed form names shown certs inner rest) s facts (wants before rest s (joined_all facts shown) goal)) _ _
-    (and_from _ _ (blanks_left before inner (kept ++ next_objects s superposing.sorts_copied) (grown s superposing.sorts_copied) opened (goal_of shown) q.0) r) r
+    (and_from _ _ (blanks_left before inner (kept ++ next_objects s superposing.sorts_copied) (grown s superposing.sorts_copied) kind (goal_of shown) q.0) r) r
 blanks_left before (Qed objects certs) kept s facts goal h = refl
 blanks_left before (Contradiction against) kept s facts goal h = refl
 blanks_left before (Cases lit first second) kept s facts goal h =
@@ -399,9 +399,9 @@ version_left v before (Superposed form names shown certs inner rest) kept s fact
     let p = and_parts (list_all (is_cert_of v) certs) (has_certs_of v inner && has_certs_of v rest) h in
     let q = and_parts (has_certs_of v inner) (has_certs_of v rest) p.1 in
     let r = version_left v before rest kept s (joined_all facts shown) goal q.1 in
-    let opened = joined_all facts (superposing.gives_of_superposition form s) in
+    let kind = joined_all facts (superposing.gives_of_superposition form s) in
     either (has_certs_of v) (is_kept before (Superposed form names shown certs inner rest) s facts (wants before rest s (joined_all facts shown) goal)) _ _
-    (and_from _ _ (certs_stay v kept certs ∙ p.0) (and_from _ _ (version_left v before inner (kept ++ next_objects s superposing.sorts_copied) (grown s superposing.sorts_copied) opened (goal_of shown) q.0) r)) r
+    (and_from _ _ (certs_stay v kept certs ∙ p.0) (and_from _ _ (version_left v before inner (kept ++ next_objects s superposing.sorts_copied) (grown s superposing.sorts_copied) kind (goal_of shown) q.0) r)) r
 version_left v before (Qed objects certs) kept s facts goal h = certs_stay v kept certs ∙ h
 version_left v before (Contradiction against) kept s facts goal h = against_stays v kept against ∙ h
 version_left v before (Cases lit first second) kept s facts goal h =

@@ -150,13 +150,13 @@ names_left before (Claim shown inner rest) kept s facts goal less ns f h =
     either (λ x. NewNamesFit before less (erased x)) (is_kept before (Claim shown inner rest) s facts (wants before rest s (joined_all facts shown) goal)) _ _ (names_left before inner kept s facts (goal_of shown) less ns f h.0, r) r
 names_left before (Superposed form names shown certs inner rest) kept s facts goal less ns f h =
     let r = names_left before rest kept s (joined_all facts shown) goal less ns f h.4 in
-    let opened = joined_all facts (superposing.gives_of_superposition form s) in
+    let kind = joined_all facts (superposing.gives_of_superposition form s) in
     let both = both_named less ns superposing.sorts_copied names f in
     either (λ x. NewNamesFit before less (erased x)) (is_kept before (Superposed form names shown certs inner rest) s facts (wants before rest s (joined_all facts shown) goal)) _ _ (
       still_fresh less ns [] names f h.0,
       h.1,
       still_few (named less superposing.sorts_copied names) (named ns superposing.sorts_copied names) both h.2,
-      names_left before inner (kept ++ next_objects s superposing.sorts_copied) (grown s superposing.sorts_copied) opened (goal_of shown) (named less superposing.sorts_copied names) (named ns superposing.sorts_copied names) both h.3,
+      names_left before inner (kept ++ next_objects s superposing.sorts_copied) (grown s superposing.sorts_copied) kind (goal_of shown) (named less superposing.sorts_copied names) (named ns superposing.sorts_copied names) both h.3,
       r,
     )
     r

@@ -126,9 +126,9 @@ plain_left before (Superposed form names shown certs inner rest) kept s facts go
     let p = and_parts (nat_lt 0 (length shown)) (is_plain (erased inner) && is_plain (erased rest)) o.1 in
     let q = and_parts (is_plain (erased inner)) (is_plain (erased rest)) p.1 in
     let r = plain_left before rest kept s (joined_all facts shown) goal q.1 in
-    let opened = joined_all facts (superposing.gives_of_superposition form s) in
+    let kind = joined_all facts (superposing.gives_of_superposition form s) in
     either (λ x. is_plain (erased x)) (is_kept before (Superposed form names shown certs inner rest) s facts (wants before rest s (joined_all facts shown) goal)) _ _
-    (and_from (list_all is_name names) _ o.0 (and_from _ _ (some_left kept shown p.0) (and_from _ _ (plain_left before inner (kept ++ next_objects s superposing.sorts_copied) (grown s superposing.sorts_copied) opened (goal_of shown) q.0) r))) r
+    (and_from (list_all is_name names) _ o.0 (and_from _ _ (some_left kept shown p.0) (and_from _ _ (plain_left before inner (kept ++ next_objects s superposing.sorts_copied) (grown s superposing.sorts_copied) kind (goal_of shown) q.0) r))) r
 plain_left before (Qed objects certs) kept s facts goal h = refl
 plain_left before (Contradiction against) kept s facts goal h = refl
 plain_left before (Cases lit first second) kept s facts goal h =

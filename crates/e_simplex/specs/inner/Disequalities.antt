@@ -2,7 +2,7 @@
 use Rattle.std.specs.Prelude.{◌≡◌, ◌≢◌, ◌⊎◌, ℕ, ◌+◌, ◌^◌, ◌<◌, ◌≤◌, ◌++◌, ◌∷◌, [], ℤ, pos, List, length, get_or, unsigned_abs}
 use Rattle.e_fraction.specs.Det.{IsWide}
 use Rattle.e_simplex.specs.Constraints.{rows_of, form_value, IsSolution, IsAbsurd, AllSmallConstraints, AllFormsWithin}
-use Rattle.e_simplex.specs.inner.Multiple.{IsGood, AddedTo}
+use Rattle.e_simplex.specs.inner.Multiple.{NoneIsZero, AddedTo}
 use Rattle.e_simplex.specs.Solved.{IsFit}
 use Rattle.e_simplex.specs.inner.Tried.{negative_constraint, AreValues, AreBelowBut}
 use Rattle.e_simplex.specs.inner.Points.{IsPoint}
@@ -35,7 +35,7 @@ pub record IsMoved (forms : List Constraint) (k : ℕ) (values form_values found
   pub below : AreBelowBut second k
   pub some : 0 < t
   pub few : t ≤ k + 1
-  pub good : IsGood form_values second k t
+  pub good : NoneIsZero form_values second k t
   pub values_are : AddedTo (length values) values found t m.values.items
   pub form_values_are : AddedTo (length form_values) form_values second t m.form_values.items
 

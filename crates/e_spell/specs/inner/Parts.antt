@@ -128,22 +128,22 @@ step_text known ns (Copied form names shown certs inner) =
     superposition_text ns form names shown ++ (certs_text ns certs ++ script_text known (named ns superposing.sorts_copied names) inner)
 
 -- the names in scope after a step: those of an inner block are gone
-abbrev pub names_behind : List TitledStatement → Names → PlainStep → Names
-names_behind known ns (Cited by) = ns
-names_behind known ns (Inferred lit cert) = ns
-names_behind known ns (MadeStep form names certs) = named ns (sorts_made form) names
-names_behind known ns (Applied theorem args names certs) = named ns (theorem_of known theorem).made names
-names_behind known ns (Claimed shown inner) = ns
-names_behind known ns (Copied form names shown certs inner) = ns
+abbrev pub names_after_step : List TitledStatement → Names → PlainStep → Names
+names_after_step known ns (Cited by) = ns
+names_after_step known ns (Inferred lit cert) = ns
+names_after_step known ns (MadeStep form names certs) = named ns (sorts_made form) names
+names_after_step known ns (Applied theorem args names certs) = named ns (theorem_of known theorem).made names
+names_after_step known ns (Claimed shown inner) = ns
+names_after_step known ns (Copied form names shown certs inner) = ns
 
 -- and after several
 abbrev pub names_after : List TitledStatement → Names → List PlainStep → Names
 names_after known ns [] = ns
-names_after known ns (s ∷ steps) = names_after known (names_behind known ns s) steps
+names_after known ns (s ∷ steps) = names_after known (names_after_step known ns s) steps
 
 abbrev pub steps_text : List TitledStatement → Names → List PlainStep → List ℕ
 steps_text known ns [] = []
-steps_text known ns (s ∷ steps) = step_text known ns s ++ steps_text known (names_behind known ns s) steps
+steps_text known ns (s ∷ steps) = step_text known ns s ++ steps_text known (names_after_step known ns s) steps
 
 abbrev pub qed_text : Names → List Obj → List Cert → List ℕ
 qed_text ns objects cs = form_text (qed_form ns objects) ++ certs_text ns cs

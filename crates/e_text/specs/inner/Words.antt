@@ -1,4 +1,4 @@
--- What every reserved word has, so that most names are told from all of them at one byte.
+-- What every reserved word has, so that one byte shows of most names that they are none of them.
 use Rattle.std.specs.Prelude.{ℕ, Bool, false, ◌&&◌, nat_le, List, ◌∷◌}
 
 -- the second byte is a small letter

@@ -9,7 +9,7 @@ use Rattle.e_clause.specs.Table.{table}
 use Rattle.e_transfer.specs.declared.plan.Plan.{Plan}
 use Rattle.e_transfer.specs.declared.query.Strength.{Strength}
 use Rattle.e_transfer.specs.inner.PartsOfChoices.{chosen_arguments, ready_at_of}
-use Rattle.e_transfer.specs.GivenGoals.{GivesGoal, IsGoodTransfer}
+use Rattle.e_transfer.specs.GivenGoals.{GivesGoal, IsCertifyingTransfer}
 
 -- the plan is one for the rule's clause, and the instance at the choice's arguments gives the goal at the place
 pub record Wanted (m : Strength) (scope : Scope) (facts : List Lit) (goal : Lit) (rule place : ℕ) (plan : Plan) (c : List ℕ) : Type 0 where
@@ -26,4 +26,4 @@ NoneFrom m scope facts goal rule place plan part = (rest : List ℕ) → Wanted 
 -- what is handed out: nothing for a part, and for a whole choice a certificate
 abbrev pub Shown : Scope → List Lit → Lit → ℕ → List ℕ → Option TransferCert → Type 0
 Shown scope facts goal total part None = length part < total
-Shown scope facts goal total part (Some cert) = IsGoodTransfer scope facts goal cert
+Shown scope facts goal total part (Some cert) = IsCertifyingTransfer scope facts goal cert

@@ -1,4 +1,4 @@
--- Terms whose points have numbers below 2^16 are told apart by their keys.
+-- Terms whose points have numbers below 2^16 differ where their keys differ.
 use Rattle.std.proofs.Common.{◌≡◌, ℕ, zero, suc, ◌+◌, ◌*◌, ◌<◌, refl, sym, ap, ◌∙◌, arith, Bool, true, ◌&&◌, ltb-true, lt-ltb}
 use Rattle.std.specs.Prelude.{nat_lt}
 use Rattle.std.specs.Ordering.{is_eq, nat_cmp}

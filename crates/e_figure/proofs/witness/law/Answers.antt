@@ -1,4 +1,4 @@
--- Behind the loop no literal of the instance would be true.
+-- After the loop no literal of the instance would be true.
 use Rattle.std.proofs.Common.{◌≡◌, ◌≤◌, true, true≢false, take, take_all, length, ap, sym, ◌∙◌, Some, arith}
 use Rattle.std.specs.List.{list_any}
 use Rattle.e_clause.specs.Instance.{Inst}

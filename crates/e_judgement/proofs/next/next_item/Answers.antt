@@ -1,7 +1,7 @@
 use Rattle.std.proofs.Common.{inl, inr, ap, ◌∙◌, refl, arith}
 use Rattle.e_book.specs.Grammar.{last_line}
 use Rattle.e_book.specs.TheoremViews.{entry_of}
-use Rattle.e_judgement.specs.Judged.{JudgedBehind}
+use Rattle.e_judgement.specs.Judged.{JudgedAfter}
 use Rattle.e_judgement.proofs.Verifiable.{verifiable}
 use Rattle.e_judgement.proofs.next.next_item.Goals as goal
 
@@ -16,7 +16,7 @@ check-requires c =
 pub returns-in-Ok-Last-clause-next : goal.returns-in-Ok-Last-clause-next
 returns-in-Ok-Last-clause-next c =
     let r = rw c.in-Ok-Last.field-0-is at c.in-Ok-Last.ensures.read in
-    inl (c.read.new.lines.lines, r.1, c.after_last_line.ensures ∙ ap (λ k. JudgedBehind k c.read.new.lines.lines) r.0)
+    inl (c.read.new.lines.lines, r.1, c.after_last_line.ensures ∙ ap (λ k. JudgedAfter k c.read.new.lines.lines) r.0)
 
 pub returns-in-Err-Garbled-clause-next : goal.returns-in-Err-Garbled-clause-next
 returns-in-Err-Garbled-clause-next c = rw c.in-Err-Garbled.field-0-is (inr (inl (c.in-Err-Garbled.line, rw c.in-Err-Garbled.field-0-is at c.in-Err-Garbled.ensures.read, refl)))

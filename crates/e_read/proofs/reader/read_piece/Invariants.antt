@@ -11,7 +11,7 @@ invariant-loop-line l = record {
   last : last_line l.lines ≡ last_line l.initial.lines;
   fewer : length l.lines.lines ≤ length l.initial.lines.lines;
   fits : FitsReading l.reading;
-  few : OnSome l.reading.draft (length l.known ≤ most_theorems);
+  few : OnSome l.reading.parser (length l.known ≤ most_theorems);
 }
 
 abbrev pub decreases-loop-line : goal.decreases-loop-line

@@ -24,7 +24,7 @@ pub returns-in_default-write_all-clause-broke : goal.returns-in_default-write_al
 returns-in_default-write_all-clause-broke g c =
     subst (λ (b : List ℕ). GrewByFront (g.K.Sink.written c.args.sink.now) (g.K.Sink.written c.write_all.new.sink) b) (c.deref.ensures.value ∙ c.in-Ok.ensures.block) c.in_default-write_all.ensures.prefix
 
--- memory gave out behind it
+-- memory gave out after it
 pub returns-in_default-keep-clause-broke : goal.returns-in_default-keep-clause-broke
 returns-in_default-keep-clause-broke g c =
     inr (subst (λ (b : List ℕ). Grew (g.K.Sink.written c.args.sink.now) (g.K.Sink.written c.write_all.new.sink) b) (c.deref.ensures.value ∙ c.in-Ok.ensures.block) c.in-Ok-write_all.ensures.ok)

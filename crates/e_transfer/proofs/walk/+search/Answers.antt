@@ -1,6 +1,6 @@
 use Rattle.std.proofs.Common.{[], rules, refl, sym, ◌∙◌}
 use Rattle.std.proofs.lemmas.List.{append-nil}
-use Rattle.e_transfer.proofs.Choices.{verdict_no, verdict_wide, all_refused, found_one, stop_one, verdict_yes, refused_grows, grown_behind}
+use Rattle.e_transfer.proofs.Choices.{verdict_no, verdict_wide, all_refused, found_one, stop_one, verdict_yes, refused_grows, grown_after}
 use Rattle.e_transfer.proofs.walk.+search.Goals as goal
 
 pub returns-in-No-clause-outcome : goal.returns-in-No-clause-outcome
@@ -37,5 +37,5 @@ returns-in_err-push-in-len1-up-clause-err g t c =
 
 pub returns-in_err-search-in-len1-up-clause-err : goal.returns-in_err-search-in-len1-up-clause-err
 returns-in_err-search-in-len1-up-clause-err g t c =
-    grown_behind c.from_residual-in_err-search-in-len1-up.result c.args.chosen.now.items c.loop-value.chosen.items c.push.new.self.items c.search.new.chosen.items
+    grown_after c.from_residual-in_err-search-in-len1-up.result c.args.chosen.now.items c.loop-value.chosen.items c.push.new.self.items c.search.new.chosen.items
     c.in_err-search-in-len1-up.ensures.err.0 c.loop-value.value c.loop-value.invariant.0 c.in_ok-push-in-len1-up.ensures.items c.in_err-search-in-len1-up.ensures.err.1

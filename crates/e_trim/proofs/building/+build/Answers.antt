@@ -8,7 +8,7 @@ use Rattle.e_trim.specs.Trimmed.{obj_at, lit_at, cert_at, args_at}
 use Rattle.e_trim.specs.inner.Building.{IsBuilt, AreSmall, IsSmallStep}
 use Rattle.e_trim.proofs.BuiltSteps.{few_numbers, small_first, small_step, small_claim, small_superposed, small_cases}
 use Rattle.e_trim.proofs.KeptSteps.{cite_built, hence_built, make_built, apply_built, claim_built, superposed_built, qed_built, contradiction_built, cases_built, boxed, copies_room}
-use Rattle.e_trim.proofs.FirstSteps.{ok_map, behind, whole_is, begun_small, begun_few, begun_room, begun_step, begun_rest, wide_few, more_few, dropped_whole, kept_whole}
+use Rattle.e_trim.proofs.FirstSteps.{ok_map, later_steps, whole_is, begun_small, begun_few, begun_room, begun_step, begun_rest, wide_few, more_few, dropped_whole, kept_whole}
 use Rattle.e_trim.proofs.StepSizes.{rest_falls, step_falls, claim_falls, superposed_falls, first_falls, second_falls}
 use Rattle.e_trim.proofs.building.+build.Goals as goal
 
@@ -29,7 +29,7 @@ build-grown-after-requires-clause-circles t c =
 
 pub build-build-requires : goal.build-build-requires
 build-build-requires t c = (
-  omega (arith, c.decreases, rest_falls c.step-item.result (steps_script (behind c.args.steps.now) (close_script c.args.close.now)) (steps_script c.args.steps.now (close_script c.args.close.now)) (whole_is c.args.steps.now c.step-item.result (close_script c.args.close.now) c.in-len1-up.len_at_least c.step-item.is)),
+  omega (arith, c.decreases, rest_falls c.step-item.result (steps_script (later_steps c.args.steps.now) (close_script c.args.close.now)) (steps_script c.args.steps.now (close_script c.args.close.now)) (whole_is c.args.steps.now c.step-item.result (close_script c.args.close.now) c.in-len1-up.len_at_least c.step-item.is)),
   (
     begun_rest (all_stated c.args.before.now) c.args.steps.now c.step-item.result c.makes-sorts.result.now c.args.scope c.grown-after.result (close_script c.args.close.now) (record { some = c.in-len1-up.len_at_least; first = c.step-item.is; makes = c.makes-sorts.ensures; statements = c.requires.statements; scopes = c.requires.scopes }) c.grown-after.ensures,
     (c.requires.statements, wide_few c.args.scope c.grown-after.result c.makes-sorts.result.now c.args.kept.now c.grown-after.ensures c.requires.few),
@@ -43,12 +43,12 @@ build-returns-then-not-take_flag t c =
     let left = c.build.new.flags.items in
     let done = c.args.out.now.items in
     let now = c.build.new.out.items in
-    ok_map (λ (new : Close). IsBuilt (all_stated c.args.before.now) c.args.kept.now (steps_script (behind c.args.steps.now) (close_script c.args.close.now)) c.grown-after.result popped left done now new) (λ (new : Close). IsBuilt (all_stated c.args.before.now) c.args.kept.now (steps_script c.args.steps.now (close_script c.args.close.now)) c.args.scope pile left done now new) c.build.result
+    ok_map (λ (new : Close). IsBuilt (all_stated c.args.before.now) c.args.kept.now (steps_script (later_steps c.args.steps.now) (close_script c.args.close.now)) c.grown-after.result popped left done now new) (λ (new : Close). IsBuilt (all_stated c.args.before.now) c.args.kept.now (steps_script c.args.steps.now (close_script c.args.close.now)) c.args.scope pile left done now new) c.build.result
     (λ new h. dropped_whole (all_stated c.args.before.now) c.args.kept.now c.args.steps.now c.step-item.result c.makes-sorts.result.now c.args.scope c.grown-after.result (close_script c.args.close.now) pile popped left c.take_flag.result done now new (record { some = c.in-len1-up.len_at_least; first = c.step-item.is; makes = c.makes-sorts.ensures; statements = c.requires.statements; scopes = c.requires.scopes }) c.grown-after.ensures c.take_flag.ensures c.if-not-take_flag.true h) c.build.ensures
 
 pub build-build_step-requires : goal.build-build_step-requires
 build-build_step-requires t c = (
-  omega (arith, c.decreases, step_falls c.step-item.result (steps_script (behind c.args.steps.now) (close_script c.args.close.now)) (steps_script c.args.steps.now (close_script c.args.close.now)) (whole_is c.args.steps.now c.step-item.result (close_script c.args.close.now) c.in-len1-up.len_at_least c.step-item.is)),
+  omega (arith, c.decreases, step_falls c.step-item.result (steps_script (later_steps c.args.steps.now) (close_script c.args.close.now)) (steps_script c.args.steps.now (close_script c.args.close.now)) (whole_is c.args.steps.now c.step-item.result (close_script c.args.close.now) c.in-len1-up.len_at_least c.step-item.is)),
   (begun_step (all_stated c.args.before.now) c.args.steps.now c.step-item.result c.makes-sorts.result.now c.args.scope (close_script c.args.close.now) (record { some = c.in-len1-up.len_at_least; first = c.step-item.is; makes = c.makes-sorts.ensures; statements = c.requires.statements; scopes = c.requires.scopes }), (c.requires.statements, c.requires.few)),
 )
 
@@ -60,7 +60,7 @@ build-with_next-requires-clause-few t c = begun_few (all_stated c.args.before.no
 
 pub build-build-requires-in-len1-up : goal.build-build-requires-in-len1-up
 build-build-requires-in-len1-up t c = (
-  omega (arith, c.decreases, rest_falls c.step-item.result (steps_script (behind c.args.steps.now) (close_script c.args.close.now)) (steps_script c.args.steps.now (close_script c.args.close.now)) (whole_is c.args.steps.now c.step-item.result (close_script c.args.close.now) c.in-len1-up.len_at_least c.step-item.is)),
+  omega (arith, c.decreases, rest_falls c.step-item.result (steps_script (later_steps c.args.steps.now) (close_script c.args.close.now)) (steps_script c.args.steps.now (close_script c.args.close.now)) (whole_is c.args.steps.now c.step-item.result (close_script c.args.close.now) c.in-len1-up.len_at_least c.step-item.is)),
   (
     begun_rest (all_stated c.args.before.now) c.args.steps.now c.step-item.result c.makes-sorts.result.now c.args.scope c.grown-after.result (close_script c.args.close.now) (record { some = c.in-len1-up.len_at_least; first = c.step-item.is; makes = c.makes-sorts.ensures; statements = c.requires.statements; scopes = c.requires.scopes }) c.grown-after.ensures,
     (
@@ -79,7 +79,7 @@ build-returns-in_ok-more-in-len1-up t c =
     let done = c.args.out.now.items in
     let put = c.push.new.self.items in
     let now = c.build-in-len1-up.new.out.items in
-    ok_map (λ (new : Close). IsBuilt (all_stated c.args.before.now) c.deref.result.now (steps_script (behind c.args.steps.now) (close_script c.args.close.now)) c.grown-after.result over left put now new) (λ (new : Close). IsBuilt (all_stated c.args.before.now) c.args.kept.now (steps_script c.args.steps.now (close_script c.args.close.now)) c.args.scope pile left done now new) c.build-in-len1-up.result
+    ok_map (λ (new : Close). IsBuilt (all_stated c.args.before.now) c.deref.result.now (steps_script (later_steps c.args.steps.now) (close_script c.args.close.now)) c.grown-after.result over left put now new) (λ (new : Close). IsBuilt (all_stated c.args.before.now) c.args.kept.now (steps_script c.args.steps.now (close_script c.args.close.now)) c.args.scope pile left done now new) c.build-in-len1-up.result
     (λ new h. kept_whole (all_stated c.args.before.now) c.args.kept.now c.deref.result.now c.args.steps.now c.step-item.result c.makes-sorts.result.now c.args.scope c.grown-after.result (close_script c.args.close.now) pile popped over left c.take_flag.result done put now c.in_ok-new-in-len1-up.new new (record { some = c.in-len1-up.len_at_least; first = c.step-item.is; makes = c.makes-sorts.ensures; statements = c.requires.statements; scopes = c.requires.scopes }) c.grown-after.ensures
     (c.deref.ensures.value ∙ c.in_ok-more-in-len1-up.ensures) c.in_ok-push-in-len1-up.ensures.items c.take_flag.ensures c.if-not-take_flag.false c.in_ok-new-in-len1-up.ensures h) c.build-in-len1-up.ensures
 

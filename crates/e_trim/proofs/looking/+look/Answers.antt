@@ -16,7 +16,7 @@ use Rattle.e_trim.specs.Looked.{Wants}
 use Rattle.e_trim.specs.Trimmed.{outside, wants}
 use Rattle.e_trim.specs.inner.StepState.{goal_said, IsReady, IsReadyStep}
 use Rattle.e_trim.specs.inner.Flags.{flags_of}
-use Rattle.e_trim.proofs.FirstSteps.{ok_map, on_ok, behind, whole_is}
+use Rattle.e_trim.proofs.FirstSteps.{ok_map, on_ok, later_steps, whole_is}
 use Rattle.e_trim.proofs.StepSizes.{rest_falls, step_falls, claim_falls, superposed_falls, first_falls, second_falls}
 use Rattle.e_trim.proofs.StepLooking.{look_fits, look_small, look_step_ready, look_rest, look_enough, look_back_is, later_keeps, wanted_whole, flags_whole}
 use Rattle.e_trim.proofs.BlockLooking.{block_enough, block_back, block_ready, block_wants, plain_wants, plain_flags, claim_inside, superposed_inside, inside_wants, inside_flags, close_wanted, close_flags, cases_wanted, cases_flags, close_fits, two_more, few_copies, plain_of, no_blocks}
@@ -32,7 +32,7 @@ look-pass-requires-clause-fits t c = look_fits (all_stated c.args.before.now) c.
 
 pub look-look-requires : goal.look-look-requires
 look-look-requires t c = (
-  omega (arith, c.decreases, rest_falls c.step-item.result (steps_script (behind c.args.steps.now) (close_script c.args.close.now)) (steps_script c.args.steps.now (close_script c.args.close.now)) (whole_is c.args.steps.now c.step-item.result (close_script c.args.close.now) c.in-len1-up.len_at_least c.step-item.is)),
+  omega (arith, c.decreases, rest_falls c.step-item.result (steps_script (later_steps c.args.steps.now) (close_script c.args.close.now)) (steps_script c.args.steps.now (close_script c.args.close.now)) (whole_is c.args.steps.now c.step-item.result (close_script c.args.close.now) c.in-len1-up.len_at_least c.step-item.is)),
   (look_rest (all_stated c.args.before.now) c.args.steps.now c.step-item.result c.args.state.now c.pass.new.state (goal_said c.args.goal.now) (close_script c.args.close.now) (record { some = c.in-len1-up.len_at_least; first = c.step-item.is; ready = c.requires.ready }) c.in_ok-pass-in-len1-up.ensures, c.requires.statements),
 )
 
@@ -41,7 +41,7 @@ look-release-requires t c = look_enough (all_stated c.args.before.now) c.step-it
 
 pub look-look_back-requires : goal.look-look_back-requires
 look-look_back-requires t c = (
-  omega (arith, c.decreases, step_falls c.step-item.result (steps_script (behind c.args.steps.now) (close_script c.args.close.now)) (steps_script c.args.steps.now (close_script c.args.close.now)) (whole_is c.args.steps.now c.step-item.result (close_script c.args.close.now) c.in-len1-up.len_at_least c.step-item.is)),
+  omega (arith, c.decreases, step_falls c.step-item.result (steps_script (later_steps c.args.steps.now) (close_script c.args.close.now)) (steps_script c.args.steps.now (close_script c.args.close.now)) (whole_is c.args.steps.now c.step-item.result (close_script c.args.close.now) c.in-len1-up.len_at_least c.step-item.is)),
   (subst (IsReadyStep (all_stated c.args.before.now) c.step-item.result) (sym (look_back_is (all_stated c.args.before.now) c.step-item.result c.args.state.now c.pass.new.state c.look.new.state c.release.new.self c.hold-outer.result c.in_ok-pass-in-len1-up.ensures c.in_ok-wanted-in-len1-up.ensures.kept c.hold-outer.ensures c.release.ensures)) (look_step_ready (all_stated c.args.before.now) c.args.steps.now c.step-item.result c.args.state.now (goal_said c.args.goal.now) (close_script c.args.close.now) (record { some = c.in-len1-up.len_at_least; first = c.step-item.is; ready = c.requires.ready })), c.requires.statements),
 )
 

@@ -13,34 +13,34 @@ returns-in_default c =
     sym (not_named p c.args.sum.now c.loop-multiplier.multiplier-index c.loop-multiplier-item.result c.loop-multiplier-test.true c.loop-multiplier-item.is
     (sym c.row_named.ensures.row ∙ ap (option_map row_view) c.in_default.is))
 
-pub returns-then-not-is_good_sign : goal.returns-then-not-is_good_sign
-returns-then-not-is_good_sign c =
+pub returns-then-not-allows_sign : goal.returns-then-not-allows_sign
+returns-then-not-allows_sign c =
     let p = row_scope_view c.args.row_scope.now in
     let m : SFits w128 c.loop-multiplier-item.result.0 = search rules in
-    let sign = simp to_z-of_z at c.is_good_sign.ensures in
+    let sign = simp to_z-of_z at c.allows_sign.ensures in
     sym (bad_sign p c.args.sum.now c.loop-multiplier.multiplier-index c.loop-multiplier-item.result (row_view c.in-Some.row) c.loop-multiplier-test.true c.loop-multiplier-item.is
     (sym c.row_named.ensures.row ∙ ap (option_map row_view) c.in-Some.is)
-    (ap (λ s. allows_multiplier s c.loop-multiplier-item.result.0) (sym c.says.ensures) ∙ sym sign ∙ c.if-not-is_good_sign.true))
+    (ap (λ s. allows_multiplier s c.loop-multiplier-item.result.0) (sym c.says.ensures) ∙ sym sign ∙ c.if-not-allows_sign.true))
 
 pub loop-multiplier-preserved : goal.loop-multiplier-preserved
 loop-multiplier-preserved c =
     let p = row_scope_view c.args.row_scope.now in
     let x = c.loop-multiplier-item.result in
     let m : SFits w128 c.loop-multiplier-item.result.0 = search rules in
-    let sign = simp to_z-of_z at c.is_good_sign.ensures in
+    let sign = simp to_z-of_z at c.allows_sign.ensures in
     let strict = simp to_z-of_z at c.is_strict-is_strict.ensures in
     let more = simp to_z-of_z at c.in_ok-add_row.ensures in
     let new : c.if-strict.strict ≡ (c.loop-multiplier.strict || c.is_strict-is_strict.result)
     = elim c.if-strict.branch [ then-strict w ↦ w.strict-is ∙ w.if-strict.true ∙ ap (λ b. b || c.is_strict-is_strict.result) (sym w.if-strict.true) | else-strict w ↦ w.strict-is ∙ ap (λ b. b || c.is_strict-is_strict.result) (sym w.if-strict.false) ] in
     one_added p c.args.sum.now c.loop-multiplier.multiplier-index x c.loop-multiplier.totals c.add_row.new.totals c.loop-multiplier.strict c.is_strict-is_strict.result c.if-strict.strict c.in-Some.row
     c.loop-multiplier-test.true c.loop-multiplier-item.is c.loop-multiplier.invariant (sym c.row_named.ensures.row ∙ ap (option_map row_view) c.in-Some.is) more
-    (ap (λ s. allows_multiplier s x.0) (sym c.says.ensures) ∙ sym sign ∙ c.if-not-is_good_sign.false) (strict ∙ ap (λ s. is_strict s x.0) c.says-in-loop-multiplier.ensures) new c.in-Some.ensures.small
-    (good_multiplier c.args.sum.now c.loop-multiplier.multiplier-index x (sym c.is_good_size.ensures ∙ c.if-not-is_good_size.false) c.loop-multiplier-test.true c.loop-multiplier-item.is)
+    (ap (λ s. allows_multiplier s x.0) (sym c.says.ensures) ∙ sym sign ∙ c.if-not-allows_sign.false) (strict ∙ ap (λ s. is_strict s x.0) c.says-in-loop-multiplier.ensures) new c.in-Some.ensures.small
+    (good_multiplier c.args.sum.now c.loop-multiplier.multiplier-index x (sym c.has_limited_size.ensures ∙ c.if-not-has_limited_size.false) c.loop-multiplier-test.true c.loop-multiplier-item.is)
 
 pub returns : goal.returns
 returns c =
     let p = row_scope_view c.args.row_scope.now in
     let e : c.if-strict-2.result ≡ (c.loop-multiplier.strict && c.are_zero-are_zero.result)
     = elim c.if-strict-2.branch [ then-strict-2 w ↦ w.result-is ∙ ap (λ b. b && c.are_zero-are_zero.result) (sym w.if-strict-2.true) | else-strict-2 w ↦ w.result-is ∙ w.if-strict-2.false ∙ ap (λ b. b && c.are_zero-are_zero.result) (sym w.if-strict-2.false) ] in
-    e ∙ whole p c.args.sum.now _ c.loop-multiplier.multiplier-index c.loop-multiplier.totals c.loop-multiplier.strict c.are_zero-are_zero.result (sym c.is_good_size.ensures ∙ c.if-not-is_good_size.false) (all_taken c.args.sum.now c.loop-multiplier.multiplier-index c.loop-multiplier-test.false)
+    e ∙ whole p c.args.sum.now _ c.loop-multiplier.multiplier-index c.loop-multiplier.totals c.loop-multiplier.strict c.are_zero-are_zero.result (sym c.has_limited_size.ensures ∙ c.if-not-has_limited_size.false) (all_taken c.args.sum.now c.loop-multiplier.multiplier-index c.loop-multiplier-test.false)
     c.loop-multiplier.invariant c.are_zero-are_zero.ensures

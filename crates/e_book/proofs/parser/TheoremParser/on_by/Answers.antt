@@ -1,6 +1,6 @@
 use Rattle.e_deriv.specs.PlainStep.{plain_step}
 use Rattle.e_book.specs.Steps.{stepped}
-use Rattle.e_book.proofs.draft.TheoremParser.on_by.Goals as goal
+use Rattle.e_book.proofs.parser.TheoremParser.on_by.Goals as goal
 
 pub returns-clause-value : goal.returns-clause-value
 unfolding stepped plain_step

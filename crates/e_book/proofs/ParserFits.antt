@@ -1,4 +1,4 @@
--- What is known of a draft while its lines come.
+-- What is known of a parser while its lines come.
 use Rattle.std.proofs.Common.{◌≡◌, ℕ, ◌≤◌, true, false, List, [], length}
 use Rattle.std.specs.List.{list_all}
 use Rattle.e_literal.specs.declared.object.Sort.{Sort}
@@ -12,14 +12,14 @@ use Rattle.e_deriv.specs.Script.{Script, size}
 use Rattle.e_deriv.specs.PlainStep.{PlainStep, all_before}
 use Rattle.e_deriv.specs.Naming.{declared_names}
 use Rattle.e_book.specs.declared.blocks.OpenBlock.{OpenBlock}
-use Rattle.e_book.specs.declared.draft.Section.{Section}
-use Rattle.e_book.specs.declared.draft.Section.TheVariants.{Declaring, Giving, Making, Showing, Proving, Splitting, Closed, Done}
-use Rattle.e_book.specs.declared.draft.TheoremParser.{TheoremParser}
+use Rattle.e_book.specs.declared.parser.Section.{Section}
+use Rattle.e_book.specs.declared.parser.Section.TheVariants.{Declaring, Giving, Making, Showing, Proving, Splitting, Closed, Done}
+use Rattle.e_book.specs.declared.parser.TheoremParser.{TheoremParser}
 use Rattle.e_line.specs.Limits.{most_steps, most_facts, most_terms, count_monomials}
 use Rattle.e_names.specs.TitledStatements.{TitledStatement, is_known, stated_by}
 use Rattle.e_names.specs.Scope.{scope_of_names}
 use Rattle.e_book.specs.LineLimits.{FewNamed}
-use Rattle.e_book.specs.DraftViews.{script_of_close, statement_of_draft}
+use Rattle.e_book.specs.ParserViews.{script_of_close, statement_of_parser}
 use Rattle.e_names.specs.Fits.{NamesDiffer}
 use Rattle.e_book.proofs.FittingScripts.{Spot, spot, ScriptFits}
 use Rattle.e_book.proofs.OpenBlocks.{Open}
@@ -42,22 +42,22 @@ HeadOf known d = Head known d.title d.names d.declared d.given d.made d.shown
 
 -- where the first line of the proof stands
 abbrev pub start : List TitledStatement → TheoremParser → Spot
-start known d = spot (stated_by known) (declared_names (stated (statement_of_draft d)) d.names) (length d.given) (count_monomials d.given)
+start known d = spot (stated_by known) (declared_names (stated (statement_of_parser d)) d.names) (length d.given) (count_monomials d.given)
 
 -- no line of the proof has come
 pub record NoProof (gs : List Lit) (ss : List PlainStep) (os : List OpenBlock) (n k m : ℕ) : Type 0 where
   pub steps : ss ≡ []
-  pub outers : os ≡ []
+  pub blocks : os ≡ []
   pub lines : n ≡ 0
   pub facts : k ≡ length gs
   pub terms : m ≡ count_monomials gs
 
 abbrev pub NoProofOf : TheoremParser → Type 0
-NoProofOf d = NoProof d.given d.steps d.outers d.lines d.facts d.terms
+NoProofOf d = NoProof d.given d.steps d.blocks d.lines d.facts d.terms
 
 -- lines of the proof may come
 abbrev pub OpenOf : List TitledStatement → TheoremParser → Type 0
-OpenOf known d = Open (start known d) d.made d.outers d.steps (spot (stated_by known) d.in_scope d.facts d.terms) d.lines
+OpenOf known d = Open (start known d) d.made d.blocks d.steps (spot (stated_by known) d.in_scope d.facts d.terms) d.lines
 
 -- the proof is closed
 pub record Shut (at : Spot) (made : List Sort) (script : Script) : Type 0 where

@@ -1,9 +1,9 @@
 use Rattle.std.proofs.Common.{refl, []}
 use Rattle.std.proofs.lemmas.Result.{err_from_is_err_and}
 use Rattle.e_deriv.specs.PlainStep.{Claimed, Copied}
-use Rattle.e_book.specs.declared.blocks.BlockKind.TheVariants as opened
+use Rattle.e_book.specs.declared.blocks.BlockKind.TheVariants as kind
 use Rattle.e_book.proofs.Interrupted.{resumed_fails}
-use Rattle.e_book.proofs.draft.TheoremParser.close_inside.Goals as goal
+use Rattle.e_book.proofs.parser.TheoremParser.close_inside.Goals as goal
 
 pub returns-in_err-end_claim-in-Claim-clause-value :
     goal.returns-in_err-end_claim-in-Claim-clause-value
@@ -13,7 +13,7 @@ returns-in_err-end_claim-in-Claim-clause-value c =
     let shown = c.in-Claim.shown in
     let made = c.in-Ok.ensures in
     let bad = c.in_err-end_claim-in-Claim.ensures in
-    rw (p.1, p.2) (resumed_fails c.args.self.now c.take_block.new.self c.end_claim.new.self c.args.outer c.args.close shown (Claimed shown block) block (opened.Claim shown)
+    rw (p.1, p.2) (resumed_fails c.args.self.now c.take_block.new.self c.end_claim.new.self c.args.outer c.args.close shown (Claimed shown block) block (kind.Claim shown)
     c.in_err-end_claim-in-Claim.field-0.0 c.in-Claim.is made.taken made.closed (λ again. refl) bad.value)
 
 pub returns-in_err-end_superposition-in-Superpose-clause-value :
@@ -26,5 +26,5 @@ returns-in_err-end_superposition-in-Superpose-clause-value c =
     let shown = c.in-Superpose.shown in
     let made = c.in-Ok.ensures in
     let bad = (c.in_err-end_superposition-in-Superpose).ensures in
-    rw (p.1, p.2) (resumed_fails c.args.self.now c.take_block.new.self c.end_superposition.new.self c.args.outer c.args.close shown (Copied form names shown [] block) block (opened.Superpose form names shown)
+    rw (p.1, p.2) (resumed_fails c.args.self.now c.take_block.new.self c.end_superposition.new.self c.args.outer c.args.close shown (Copied form names shown [] block) block (kind.Superpose form names shown)
     (c.in_err-end_superposition-in-Superpose).field-0.0 c.in-Superpose.is made.taken made.closed (λ again. refl) bad.value)

@@ -5,7 +5,7 @@ use Rattle.e_drawing.specs.declared.raw.RawLine.{RawLine}
 use Rattle.e_drawing.specs.declared.raw.RawLine.TheVariants as raw
 
 -- a line has a direction, and a circle an inside
-abbrev pub IsGoodLine : RawLine → Type 0
-IsGoodLine (raw.Line name l) = IsTrue (has_direction l)
-IsGoodLine (raw.Circle name c) = IsTrue (has_inside c)
-IsGoodLine _ = Unit {0}
+abbrev pub IsNondegenerate : RawLine → Type 0
+IsNondegenerate (raw.Line name l) = IsTrue (has_direction l)
+IsNondegenerate (raw.Circle name c) = IsTrue (has_inside c)
+IsNondegenerate _ = Unit {0}

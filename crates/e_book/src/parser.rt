@@ -63,7 +63,7 @@ pub struct TheoremParser {
     /// How many monomials they have.
     pub terms: usize,
     /// The blocks around the one that is open.
-    pub outers: BlockStack,
+    pub blocks: BlockStack,
     /// How the proof's block is closed; before that a `qed` without objects.
     pub close: CloseLine,
     pub place: Section,
@@ -163,7 +163,7 @@ impl TheoremParser {
     ghost use Rattle.e_line.specs.Limits.{most_theorems};
     ghost use Rattle.e_book.specs.LineLimits.{few_objects};
     ghost use Rattle.e_book.specs.Steps.{FitsScope, begin, begun, step, stepped, declares, supposes, makes, shows, proof_begun, cited, inferred, with_step, with_terms, built, used_by, applied};
-    ghost use Rattle.e_book.specs.DraftViews.{entry_of_draft};
+    ghost use Rattle.e_book.specs.ParserViews.{entry_of_parser};
     ghost use Rattle.e_book.specs.TheoremViews.{entry_of};
     ghost use Rattle.e_book.specs.inner.Machine.{names_there};
 
@@ -207,7 +207,7 @@ impl TheoremParser {
             lines: 0,
             facts: 0,
             terms: 0,
-            outers: BlockStack::new(alloc),
+            blocks: BlockStack::new(alloc),
             close: CloseLine::Qed(Items::empty(alloc)),
             place: Section::Declaring,
         }
@@ -223,14 +223,14 @@ impl TheoremParser {
         }
     }
 
-    /// The draft with the next line.
+    /// The parser with the next line.
     pub fn taking(
         mut self,
         alloc: Global,
         known: &Theorems,
         form: &RawLine,
     ) -> Result<TheoremParser, LineError>
-        requires draft { FitsScope self }
+        requires parser { FitsScope self }
         requires known { length known.now ≤ most_theorems }
         ensures value { Gives (λ d. d) result (step known.now self form.now) }
         ensures fits { IfOk result FitsScope }
@@ -252,7 +252,7 @@ impl TheoremParser {
         known: &Theorems,
         form: &RawLine,
     ) -> Result<(), LineError>
-        requires draft { FitsScope self.old }
+        requires parser { FitsScope self.old }
         requires known { length known.now ≤ most_theorems }
         ensures value { Moves result self.new (step known.now self.old form.now) }
         ensures fits { OnOk result (FitsScope self.new) }
@@ -265,7 +265,7 @@ impl TheoremParser {
 
     #[tactic(auto, unfolding(crate::specs::Steps::stepped))]
     fn stepped(&mut self, alloc: Global, known: &Theorems, form: &RawLine) -> Result<(), LineError>
-        requires draft { FitsScope self.old }
+        requires parser { FitsScope self.old }
         requires known { length known.now ≤ most_theorems }
         ensures value { Moves result self.new (stepped known.now self.old form.now) }
         ensures fits { OnOk result (FitsScope self.new) }
@@ -436,7 +436,7 @@ impl TheoremParser {
     /// The use of an earlier theorem: its title and the names, and then the limits.
     #[tactic(auto, unfolding(crate::specs::Steps::applied))]
     fn on_apply(&mut self, alloc: Global, known: &Theorems, raw: &RawApply) -> Result<(), LineError>
-        requires draft { FitsScope self.old }
+        requires parser { FitsScope self.old }
         requires known { length known.now ≤ most_theorems }
         ensures value { Moves result self.new (applied known.now self.old raw.now) }
         ensures fits { OnOk result (FitsScope self.new) }
@@ -510,7 +510,7 @@ impl TheoremParser {
 
     /// The theorem that the lines make.
     pub fn into_theorem(self, alloc: Global) -> Theorem
-        ensures { entry_of result ≡ entry_of_draft self }
+        ensures { entry_of result ≡ entry_of_parser self }
     {
         let TheoremParser {
             title,
@@ -522,11 +522,11 @@ impl TheoremParser {
             steps,
             close,
             in_scope,
-            outers,
+            blocks,
             ..
         } = self;
         mem::drop(in_scope);
-        mem::drop(outers);
+        mem::drop(blocks);
         Theorem {
             title,
             names,
