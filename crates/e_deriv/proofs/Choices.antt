@@ -12,7 +12,7 @@ use Rattle.e_literal.specs.Rename.{same_obj}
 use Rattle.e_literal.specs.Use.{StatementView}
 use Rattle.e_literal.proofs.Sorts.{same_sort_is, same_obj_is, same_obj_self}
 use Rattle.e_literal.proofs.Booleans.{or_not_left, or_not_right, and_left, and_right}
-use Rattle.e_theorem.specs.Choice.{fills, is_choice, is_below, IsAllowedChoice, IsLeast}
+use Rattle.e_theorem.specs.Choice.{fills, is_choice, is_below, IsAllowedChoice, IsLeastChoice}
 use Rattle.e_deriv.specs.Parts.{written, has_no_blank, filled_in}
 
 abbrev the_object : Sort → ℕ → Obj
@@ -78,14 +78,14 @@ arguments_equal s (x ∷ sorts) (a ∷ as') (b ∷ bs) h k p q =
     let qb = and_true (eqb b.num a.num) (is_below bs as') (eq-eqb b.num a.num (sym n)) (or_not_right (ltb b.num a.num) (eqb b.num a.num && is_below bs as') q) in
     ap (λ y. y ∷ as') (objects_equal a b (sym sa ∙ sb) n) ∙ ap (λ ys. b ∷ ys) (arguments_equal s sorts as' bs ra rb pb qb)
 
-pub least_is_one : (t : StatementView) (s : Scope) (facts : List Lit) (pattern : List (Option Obj)) (a b : List Obj) → IsLeast t s facts pattern a → IsLeast t s facts pattern b → a ≡ b
+pub least_is_one : (t : StatementView) (s : Scope) (facts : List Lit) (pattern : List (Option Obj)) (a b : List Obj) → IsLeastChoice t s facts pattern a → IsLeastChoice t s facts pattern b → a ≡ b
 least_is_one t s facts pattern a b p q =
     arguments_equal s t.declared a b
     (and_right (fills pattern a) (are_of_sorts s t.declared a) p.good.is_choice) (and_right (fills pattern b) (are_of_sorts s t.declared b) q.good.is_choice)
     (q.least a p.good) (p.least b q.good)
 
 -- a good choice for a pattern without blanks is the least
-pub least_of_good : (t : StatementView) (s : Scope) (facts : List Lit) (pattern : List (Option Obj)) (args : List Obj) → has_no_blank pattern ≡ true → IsAllowedChoice t s facts pattern args → IsLeast t s facts pattern args
+pub least_of_good : (t : StatementView) (s : Scope) (facts : List Lit) (pattern : List (Option Obj)) (args : List Obj) → has_no_blank pattern ≡ true → IsAllowedChoice t s facts pattern args → IsLeastChoice t s facts pattern args
 least_of_good t s facts pattern args n g =
     record { good = g; least = λ other o. ap (λ x. is_below x args) (same other o) ∙ not_below_self args }
   where

@@ -6,7 +6,7 @@ use Rattle.e_literal.specs.declared.literal.Lit.{Lit}
 use Rattle.e_literal.specs.Use.{StatementView}
 use Rattle.e_clause.specs.Allowed.{Allowed, AllAllowed}
 use Rattle.e_clause.specs.Consequence.{Contradictory}
-use Rattle.e_theorem.specs.Choice.{IsLeast, NoneIsAllowed}
+use Rattle.e_theorem.specs.Choice.{IsLeastChoice, NoneIsAllowed}
 use Rattle.e_deriv.specs.declared.stop.Wanted.{Wanted}
 use Rattle.e_deriv.specs.declared.stop.Wanted.TheVariants.{Literal, Match, Contradiction as AContradiction}
 use Rattle.e_deriv.specs.Script.{Script, Cite, Hence, Make, Apply, Superposed, Qed, Contradiction}
@@ -18,7 +18,7 @@ use Rattle.e_deriv.specs.Steps.{fits, needs, needs_as_written, is_cited}
 -- choice for its blanks; at a contradiction the facts contradict each other
 abbrev pub LicensedBeside : List StatementView → Script → Scope → List Lit → List Obj → Type 0
 LicensedBeside before (Cite by rest) s facts args = IsTrue (is_cited facts by)
-LicensedBeside before (Apply theorem pattern names certs rest) s facts args = IsLeast (theorem_at before theorem) s facts pattern args
+LicensedBeside before (Apply theorem pattern names certs rest) s facts args = IsLeastChoice (theorem_at before theorem) s facts pattern args
 LicensedBeside before (Contradiction against) s facts args = Contradictory facts
 LicensedBeside before _ s facts args = Unit {0}
 

@@ -14,7 +14,7 @@ use Rattle.e_line.specs.Reading.{◌>>=◌, Fails}
 use Rattle.e_book.specs.Grammar.{is_skipped, put_at, BookFails}
 use Rattle.e_line.proofs.Bound.{bind_ok}
 use Rattle.e_drawing.specs.declared.plan.Plan.{Plan}
-use Rattle.e_drawing.specs.Texts.{words_step, at_end, plan_from, PlanIs, TakesLine}
+use Rattle.e_drawing.specs.Texts.{words_step, at_end, plan_from, PlanIs, TakesPlanLine}
 
 abbrev Rest : Type 0
 Rest = List (Result LineView LineFault)
@@ -53,24 +53,24 @@ fails_on {A} (faults.Unended line) q then h = ap (λ (r : Result A BookFault). r
 
 -- ---- one line
 
-pub takes_skipped : (old : Plan) (l : LineView) → is_skipped (tokens_of l.bytes) ≡ true → TakesLine old l (Ok tt) old
+pub takes_skipped : (old : Plan) (l : LineView) → is_skipped (tokens_of l.bytes) ≡ true → TakesPlanLine old l (Ok tt) old
 takes_skipped old l h = λ last more. ap (λ b. cond b (plan_from last old more) (put_at l.number (words_step old (tokens_of l.bytes)) >>= (λ q. plan_from last q more))) h
 
 worded : (old : Plan) (l : LineView) (last : ℕ) (more : Rest) → is_skipped (tokens_of l.bytes) ≡ false
     → plan_from last old (Ok l ∷ more) ≡ (put_at l.number (words_step old (tokens_of l.bytes)) >>= (λ q. plan_from last q more))
 worded old l last more h = ap (λ b. cond b (plan_from last old more) (put_at l.number (words_step old (tokens_of l.bytes)) >>= (λ q. plan_from last q more))) h
 
-pub takes_words : (old new : Plan) (l : LineView) → is_skipped (tokens_of l.bytes) ≡ false → words_step old (tokens_of l.bytes) ≡ Ok new → TakesLine old l (Ok tt) new
+pub takes_words : (old new : Plan) (l : LineView) → is_skipped (tokens_of l.bytes) ≡ false → words_step old (tokens_of l.bytes) ≡ Ok new → TakesPlanLine old l (Ok tt) new
 takes_words old new l h e = λ last more. worded old l last more h ∙ ap (λ (r : Result Plan FaultKind). put_at l.number r >>= (λ q. plan_from last q more)) e
 
 pub takes_trouble : (old new : Plan) (l : LineView) (t : LineError) → is_skipped (tokens_of l.bytes) ≡ false → Fails t (words_step old (tokens_of l.bytes))
-    → TakesLine old l (Err (trouble_at l.number t)) new
+    → TakesPlanLine old l (Err (trouble_at l.number t)) new
 takes_trouble old new l t h e = λ last more.
     subst (BookFails (trouble_at l.number t)) (sym (worded old l last more h))
     (fails_on (trouble_at l.number t) (put_at l.number (words_step old (tokens_of l.bytes))) (λ q. plan_from last q more) (fails_at l.number t (words_step old (tokens_of l.bytes)) e))
 
-pub takes_nothing : (old new : Plan) (l : LineView) (r : Result (Unit {0}) BookFault) → r ≡ Err faults.NoMemory → TakesLine old l r new
-takes_nothing old new l r e = subst (λ (x : Result (Unit {0}) BookFault). TakesLine old l x new) (sym e) (λ last more. tt)
+pub takes_nothing : (old new : Plan) (l : LineView) (r : Result (Unit {0}) BookFault) → r ≡ Err faults.NoMemory → TakesPlanLine old l r new
+takes_nothing old new l r e = subst (λ (x : Result (Unit {0}) BookFault). TakesPlanLine old l x new) (sym e) (λ last more. tt)
 
 -- ---- all lines
 
@@ -78,7 +78,7 @@ takes_nothing old new l r e = subst (λ (x : Result (Unit {0}) BookFault). Takes
 abbrev pub Alike : ℕ → Plan → Rest → Plan → Rest → Type 0
 Alike last old lines new left = plan_from last new left ≡ plan_from last old lines
 
-pub alike_more : (last : ℕ) (old now new : Plan) (lines left after : Rest) (l : LineView) → left ≡ Ok l ∷ after → Alike last old lines now left → TakesLine now l (Ok tt) new
+pub alike_more : (last : ℕ) (old now new : Plan) (lines left after : Rest) (l : LineView) → left ≡ Ok l ∷ after → Alike last old lines now left → TakesPlanLine now l (Ok tt) new
     → Alike last old lines new after
 alike_more last old now new lines left after l e h t = sym (t last after) ∙ (ap (plan_from last now) (sym e) ∙ h)
 
@@ -87,7 +87,7 @@ pub fails_in_line : (last : ℕ) (old now : Plan) (lines left after : Rest) (f :
 fails_in_line last old now lines left after f e h = book_fails (line_fault f) (plan_from last old lines) (sym h ∙ ap (plan_from last now) e)
 
 pub fails_at_line : (last : ℕ) (old now new : Plan) (lines left after : Rest) (l : LineView) (f : BookFault) → left ≡ Ok l ∷ after → Alike last old lines now left
-    → TakesLine now l (Err f) new → BookFails f (plan_from last old lines)
+    → TakesPlanLine now l (Err f) new → BookFails f (plan_from last old lines)
 fails_at_line last old now new lines left after l f e h t = subst (BookFails f) (ap (plan_from last now) (sym e) ∙ h) (t last after)
 
 pub all_taken : (last line : ℕ) (old now : Plan) (lines left : Rest) (r : Result (Unit {0}) BookFault) → left ≡ [] → line ≡ last → Alike last old lines now left

@@ -44,6 +44,6 @@ PlanIs (Ok u) new read = read ≡ Ok new
 PlanIs (Err f) new read = BookFails f read
 
 -- what a line makes of a plan: to read on through the line is to read on from there, or it is the first with a fault
-abbrev pub TakesLine : Plan → LineView → Result (Unit {0}) BookFault → Plan → Type 0
-TakesLine old l (Ok u) new = (last : ℕ) (more : List (Result LineView LineFault)) → plan_from last old (Ok l ∷ more) ≡ plan_from last new more
-TakesLine old l (Err f) new = (last : ℕ) (more : List (Result LineView LineFault)) → BookFails f (plan_from last old (Ok l ∷ more))
+abbrev pub TakesPlanLine : Plan → LineView → Result (Unit {0}) BookFault → Plan → Type 0
+TakesPlanLine old l (Ok u) new = (last : ℕ) (more : List (Result LineView LineFault)) → plan_from last old (Ok l ∷ more) ≡ plan_from last new more
+TakesPlanLine old l (Err f) new = (last : ℕ) (more : List (Result LineView LineFault)) → BookFails f (plan_from last old (Ok l ∷ more))

@@ -5,7 +5,7 @@ ghost use Rattle.e_text.specs.Tokens.{tokens_of};
 ghost use Rattle.e_book.specs.Grammar.{last_line};
 ghost use Rattle.e_line.specs.Reading.{texts, Moves};
 ghost use Rattle.e_drawing.specs.Plans.{FitsPlan};
-ghost use Rattle.e_drawing.specs.Texts.{at_end, words_step, plan_from, PlanIs, TakesLine};
+ghost use Rattle.e_drawing.specs.Texts.{at_end, words_step, plan_from, PlanIs, TakesPlanLine};
 
 use crate::plan::Plan;
 use crate::raw::line_of;
@@ -38,7 +38,7 @@ fn take_tokens(
     requires words { texts words.now ≡ tokens_of line.now.bytes.now }
     requires number { line.now.number < 2 ^ 32 }
     requires fits { FitsPlan plan.old }
-    ensures takes { TakesLine plan.old (view_of_line line.now) result plan.new }
+    ensures takes { TakesPlanLine plan.old (view_of_line line.now) result plan.new }
     ensures fits { OnOk result (FitsPlan plan.new) }
 {
     if is_skipped(words) {
@@ -54,7 +54,7 @@ fn take_tokens(
 fn take_line(alloc: Global, plan: &mut Plan, line: &Line) -> Result<(), BookFault>
     requires number { line.now.number < 2 ^ 32 }
     requires fits { FitsPlan plan.old }
-    ensures takes { TakesLine plan.old (view_of_line line.now) result plan.new }
+    ensures takes { TakesPlanLine plan.old (view_of_line line.now) result plan.new }
     ensures fits { OnOk result (FitsPlan plan.new) }
 {
     let words = collected(alloc, line.bytes)?;

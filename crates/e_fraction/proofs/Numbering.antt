@@ -10,7 +10,7 @@ use Rattle.e_literal.specs.Same.{term_eq}
 use Rattle.e_literal.specs.Rows.{Row}
 use Rattle.e_literal.specs.Minor.{Column, Constants, Of, SignedRow, entry, IsWide as IsWideRows}
 use Rattle.e_literal.specs.Width.{is_among}
-use Rattle.e_fraction.specs.Det.{det, IsPart, EachBelow, IsWide}
+use Rattle.e_fraction.specs.Det.{det, IsPart, EachBelow, HasWideMinor}
 use Rattle.e_fraction.proofs.Named.{numbered, det_named}
 use Rattle.e_fraction.proofs.WidthOfRows.{part_trans}
 use Rattle.e_fraction.proofs.Expand.{expand_below}
@@ -103,7 +103,7 @@ as_many ts n (s ∷ ss) [] h = absurd h
 
 -- where rows over numbered columns have the entries of some rows over terms, and are wide, the rows over terms are wide
 pub wide_named : (ts : List Term) (n : ℕ) (chosen : List SignedRow) (lines : List (ℕ → ℤ)) (rows : List Row)
-    → SameEntries ts n chosen lines → IsPart (map (λ s. s.row) chosen) rows → IsWide lines n (2 ^ 63) → IsWideRows rows
+    → SameEntries ts n chosen lines → IsPart (map (λ s. s.row) chosen) rows → HasWideMinor lines n (2 ^ 63) → IsWideRows rows
 wide_named ts n chosen lines rows same part h =
     (let c = choose ts n chosen lines h.chosen same h.are_rows in
     record {

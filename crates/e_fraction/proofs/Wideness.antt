@@ -13,7 +13,7 @@ use Rattle.e_literal.specs.Same.{term_eq}
 use Rattle.e_literal.specs.Rows.{Row, Says, Zero, AtLeast, More, Not, coefficient, terms_of_rows}
 use Rattle.e_literal.specs.Minor.{determinant, constant, Column, Constants, Of, SignedRow, entry, IsWide as IsWideRows}
 use Rattle.e_literal.specs.Width.{has_constant, is_among, new_terms, weight, product, constants, full_width, width}
-use Rattle.e_fraction.specs.Det.{IsPart, EachBelow, IsWide}
+use Rattle.e_fraction.specs.Det.{IsPart, EachBelow, HasWideMinor}
 use Rattle.e_fraction.proofs.Named.{numbered, det_named}
 use Rattle.e_fraction.proofs.WidthOfRows.{column_sum, whole, width_of, wide_width, part_all}
 use Rattle.e_literal.proofs.Terms.{among_left, among_right, among_first, among_new}
@@ -155,7 +155,7 @@ in_all rows cs t h = elim (among_new [] (terms_of_rows rows ++ terms_of_columns 
   | inr k ↦ k
 ]
 
-numbered_wide : (rows : List Row) (h : IsWideRows rows) → IsWide (numbered (column (all_terms rows h.columns)) (map entry h.chosen)) (suc (length (all_terms rows h.columns))) (2 ^ 63)
+numbered_wide : (rows : List Row) (h : IsWideRows rows) → HasWideMinor (numbered (column (all_terms rows h.columns)) (map entry h.chosen)) (suc (length (all_terms rows h.columns))) (2 ^ 63)
 numbered_wide rows h =
     (let ts = all_terms rows h.columns in
     let known : AllNamed (all_terms rows h.columns) h.columns = all_named (all_terms rows h.columns) h.columns (in_all rows h.columns) in

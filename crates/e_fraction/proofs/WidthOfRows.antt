@@ -7,7 +7,7 @@ use Rattle.std.proofs.lemmas.Nat.{mul-le}
 use Rattle.std.proofs.Math.Nat.{mul-le-mul_left}
 use lib.IntN.{ℤ, pos, ◌-ℤ◌, ◌*ℤ◌}
 use borrow.Author.Differences.{abs_is}
-use Rattle.e_fraction.specs.Det.{det, expand, IsPart, EachBelow, IsWide}
+use Rattle.e_fraction.specs.Det.{det, expand, IsPart, EachBelow, HasWideMinor}
 use Rattle.e_literal.proofs.Arith.{sums}
 use Rattle.e_fraction.proofs.Expand.{expand-none, expand-same, expand-scale, expand-sub}
 use Rattle.e_fraction.proofs.Columns.{Alternates-det, det_dup}
@@ -253,7 +253,7 @@ covered_all : (f : ℕ → ℕ) (cs : List ℕ) → Covered f (λ c. max 1 (f c)
 covered_all f [] = tt
 covered_all f (c ∷ cs) = (omega arith, covered_all f cs)
 
-pub wide_width : (rows : List (ℕ → ℤ)) (n size : ℕ) → 0 < size → IsWide rows n size → size ≤ width_of rows n
+pub wide_width : (rows : List (ℕ → ℤ)) (n size : ℕ) → 0 < size → HasWideMinor rows n size → size ≤ width_of rows n
 wide_width rows n size z h = elim (apart h.columns) [
   | inl a ↦ omega (
     arith,

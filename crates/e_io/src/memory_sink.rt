@@ -1,6 +1,6 @@
 //! Sinks in memory.
 ghost use Rattle.std.specs.Prelude.{◌≡◌, ◌≤◌, ◌<◌, ◌↔◌, Some, None, [], length, IsTrue, IsErr, IfOk, OnErr};
-ghost use Rattle.e_io.specs.Bytes.{Takes, Rose};
+ghost use Rattle.e_io.specs.Bytes.{TakesBytes, Rose};
 ghost use Rattle.e_io.specs.MemSink.{Store, fails, taken, after_write};
 
 use crate::sink::Sink;
@@ -70,7 +70,7 @@ impl Sink for MemSink {
     fn write(&mut self, from: &[u8]) -> Result<usize, Failed>
         requires { 0 < length from.now }
         ensures count { IfOk result (λ n. (0 < n) × (n ≤ length from.now)) }
-        ensures bytes { Takes (Some self.old.written) (Some self.new.written) result from.now }
+        ensures bytes { TakesBytes (Some self.old.written) (Some self.new.written) result from.now }
         ensures rises { self.old.faults ≤ self.new.faults }
         ensures cause { OnErr result (Rose self.old.faults self.new.faults) }
 

@@ -1,6 +1,6 @@
 //! Sources in memory.
 ghost use Rattle.std.specs.Prelude.{◌≡◌, ◌≤◌, ◌<◌, ◌↔◌, Some, length, drop, min, vec_len, IsTrue, IsErr, IfOk, OnErr};
-ghost use Rattle.e_io.specs.Bytes.{Reads, Rose};
+ghost use Rattle.e_io.specs.Bytes.{ReadsBytes, Rose};
 ghost use Rattle.e_io.specs.MemSource.{Supply, fails, given, after_read, buffer_after};
 
 use crate::source::{Failed, Source};
@@ -55,7 +55,7 @@ impl Source for MemSource {
     fn read(&mut self, to: &mut [u8]) -> Result<usize, Failed>
         requires { 0 < length to.old }
         ensures count { IfOk result (λ n. n ≤ length to.old) }
-        ensures bytes { Reads (Some self.old.left) (Some self.new.left) result to.new }
+        ensures bytes { ReadsBytes (Some self.old.left) (Some self.new.left) result to.new }
         ensures rises { self.old.faults ≤ self.new.faults }
         ensures cause { OnErr result (Rose self.old.faults self.new.faults) }
 
@@ -112,7 +112,7 @@ impl Source for SureSource {
     fn read(&mut self, to: &mut [u8]) -> Result<usize, Failed>
         requires { 0 < length to.old }
         ensures count { IfOk result (λ n. n ≤ length to.old) }
-        ensures bytes { Reads (Some self.old) (Some self.new) result to.new }
+        ensures bytes { ReadsBytes (Some self.old) (Some self.new) result to.new }
         ensures given { result ≡ Ok (min (length to.old) (length self.old)) }
     {
         let n = to.len().min(self.bytes.len() - self.at);

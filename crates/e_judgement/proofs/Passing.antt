@@ -13,7 +13,7 @@ use Rattle.e_book.proofs.Fitting.{one_more_stated}
 use Rattle.e_read.specs.Text.{at_start, piece_from}
 use Rattle.e_judgement.specs.declared.judgement.Judgement.{Judgement}
 use Rattle.e_judgement.specs.declared.judgement.Judgement.TheVariants.{Garbled}
-use Rattle.e_judgement.specs.Steps.{Begins, version_at}
+use Rattle.e_judgement.specs.Steps.{IsHeadFound, version_at}
 use Rattle.e_judgement.specs.Judged.{Rest, with_theorem, ReadsNext, IsCertified, Passes, Closes, IsJudged, version_of, JudgedAfterHead, JudgesLines, lines_of_text, JudgesText}
 
 module _ (v : Version) where
@@ -64,11 +64,11 @@ text_judged : (text : List ℕ) (lines : Rest) (j : Judgement) → lines ≡ lin
 text_judged text lines j e h = subst (λ (x : Rest). JudgesLines x j) e h
 
 -- the first line says the version
-pub begins_so : (lines : Rest) (l : LineView) (after : Ahead) (found : Option Version) → lines ≡ Ok l ∷ after.lines → after.line ≡ 2 → found ≡ version_of l → Begins lines after found
+pub begins_so : (lines : Rest) (l : LineView) (after : Ahead) (found : Option Version) → lines ≡ Ok l ∷ after.lines → after.line ≡ 2 → found ≡ version_of l → IsHeadFound lines after found
 begins_so lines l after found e n h = record { head = h ∙ sym (ap version_at e); taken = λ v t. (l, e, n) }
 
 -- or there is none
-pub begins_not : (lines : Rest) (after : Ahead) → version_at lines ≡ None → Begins lines after None
+pub begins_not : (lines : Rest) (after : Ahead) → version_at lines ≡ None → IsHeadFound lines after None
 begins_not lines after h = record { head = sym h; taken = λ v t. absurd (none_is v t) } where
   none_is : (v : Version) → let x : Option Version = None in x ≡ Some v → ⊥
   none_is v t = absurd cc
@@ -79,11 +79,11 @@ headless [] h = refl
 headless (Err f ∷ lines) h = refl
 headless (Ok l ∷ lines) h = subst (λ (o : Option Version). JudgedAfterHead o lines (Garbled 1)) (sym h) refl
 
-pub not_begun : (text : List ℕ) (lines : Rest) (after : Ahead) (found : Option Version) → lines ≡ lines_of_text text → Begins lines after found → found ≡ None → JudgesText text (Garbled 1)
+pub not_begun : (text : List ℕ) (lines : Rest) (after : Ahead) (found : Option Version) → lines ≡ lines_of_text text → IsHeadFound lines after found → found ≡ None → JudgesText text (Garbled 1)
 not_begun text lines after found is h e = text_judged text lines (Garbled 1) is (headless lines (sym h.head ∙ e))
 
 -- where the text begins with its head line, the theorems decide, where memory lasts
-pub begins_then : {E : Type 0} (text : List ℕ) (lines : Rest) (after : Ahead) (found : Option Version) (v : Version) (r : Result Judgement E) → lines ≡ lines_of_text text → Begins lines after found → found ≡ Some v
+pub begins_then : {E : Type 0} (text : List ℕ) (lines : Rest) (after : Ahead) (found : Option Version) (v : Version) (r : Result Judgement E) → lines ≡ lines_of_text text → IsHeadFound lines after found → found ≡ Some v
     → IfOk r (λ j. IsJudged v (last_line after) after.lines j) → IfOk r (λ j. JudgesText text j)
 begins_then text lines after found v (Ok j) is h e k =
     let t = h.taken v e in

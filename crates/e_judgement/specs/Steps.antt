@@ -16,7 +16,7 @@ use Rattle.e_judgement.specs.declared.next.NextItem.TheVariants.{Theorem, End}
 use Rattle.e_judgement.specs.Judged.{Rest, ReadsNext, IsCertified, Closes, version_of}
 
 -- the theorem comes next and is certified, by certificates of the version; without them it has a spelling in a book
-pub record IsNext (v : Version) (known : List TitledStatement) (last : ℕ) (lines : Rest) (t : TheoremView) (after : Rest) : Type 0 where
+pub record IsNextCertified (v : Version) (known : List TitledStatement) (last : ℕ) (lines : Rest) (t : TheoremView) (after : Rest) : Type 0 where
   pub read : ReadsNext v last known lines t after
   pub certified : IsCertified known t
   pub verifiable : IsVerifiable (stated_by known) (stated t.statement) t.script
@@ -25,9 +25,9 @@ pub record IsNext (v : Version) (known : List TitledStatement) (last : ℕ) (lin
   pub states : IsTrue (is_small_statement (stated t.statement))
 
 -- with this known, this is next
-abbrev pub NextIs : Version → List TitledStatement → ℕ → Rest → Rest → NextItem → Type 0
-NextIs v known last lines after (Theorem t) = IsNext v known last lines (entry_of t) after
-NextIs v known last lines after (End j) = Closes v last known lines j
+abbrev pub NextCertified : Version → List TitledStatement → ℕ → Rest → Rest → NextItem → Type 0
+NextCertified v known last lines after (Theorem t) = IsNextCertified v known last lines (entry_of t) after
+NextCertified v known last lines after (End j) = Closes v last known lines j
 
 -- after a theorem fewer lines come, and they are those of the same text
 abbrev pub GoesOn : NextItem → Ahead → Ahead → Type 0
@@ -41,6 +41,6 @@ version_at (Err f ∷ lines) = None
 version_at (Ok l ∷ lines) = version_of l
 
 -- it was found so; where it is one, its line is taken, and line 2 is next
-pub record Begins (lines : Rest) (after : Ahead) (found : Option Version) : Type 0 where
+pub record IsHeadFound (lines : Rest) (after : Ahead) (found : Option Version) : Type 0 where
   pub head : found ≡ version_at lines
   pub taken : (v : Version) → found ≡ Some v → (l : LineView) × (lines ≡ Ok l ∷ after.lines) × (after.line ≡ 2)

@@ -4,7 +4,7 @@ ghost use Rattle.e_text.specs.Lines.{view_of_line};
 ghost use Rattle.e_book.specs.Grammar.{last_line};
 ghost use Rattle.e_names.specs.TitledStatements.{headed, is_known};
 ghost use Rattle.e_judgement.specs.Judged.{head_of, is_head, version_of, JudgesText, IsJudged};
-ghost use Rattle.e_judgement.specs.Steps.{Begins};
+ghost use Rattle.e_judgement.specs.Steps.{IsHeadFound};
 
 use crate::judgement::Judgement;
 use crate::next::{NextItem, next_item};
@@ -67,7 +67,7 @@ pub fn keep(known: &mut Theorems, theorem: Theorem) -> Result<(), AllocError>
 /// The version of the text, by its head line, which is taken.
 pub fn begins(lines: &mut Lines) -> Option<Version>
     requires { lines.old.line ≡ 1 }
-    ensures { Begins lines.old.lines lines.new result }
+    ensures { IsHeadFound lines.old.lines lines.new result }
 {
     match lines.next() {
         Some(Ok(line)) => version_of(&line),

@@ -11,7 +11,7 @@ ghost use Rattle.e_line.specs.Limits.{most_theorems};
 ghost use Rattle.e_verify.specs.Checking.{RejectIs};
 ghost use Rattle.e_verify.specs.Verdicts.{IsVerifiable};
 ghost use Rattle.e_judgement.specs.Judged.{JudgedAfter};
-ghost use Rattle.e_judgement.specs.Steps.{NextIs, GoesOn};
+ghost use Rattle.e_judgement.specs.Steps.{NextCertified, GoesOn};
 
 use crate::judgement::Judgement;
 use e_book::Theorem;
@@ -69,7 +69,7 @@ pub fn next_item(
 ) -> Result<NextItem, AllocError>
     requires few { length known.now ≤ most_theorems }
     requires known { IsTrue (list_all is_small_statement (stated_by known.now)) }
-    ensures next { IfOk result (λ n. NextIs version known.now (last_line lines.old) lines.old.lines lines.new.lines n) }
+    ensures next { IfOk result (λ n. NextCertified version known.now (last_line lines.old) lines.old.lines lines.new.lines n) }
     ensures on { IfOk result (λ n. GoesOn n lines.old lines.new) }
 {
     let theorem = match read(alloc, lines, known, version) {

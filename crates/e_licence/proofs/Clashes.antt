@@ -17,7 +17,7 @@ use Rattle.e_clause.specs.MetricCertificate.{sums_in, metric_contradicts}
 use Rattle.e_clause.specs.Wide.{IsTooWideContradiction}
 use Rattle.e_metric.proofs.terms.FirstTerms.{take_one}
 use Rattle.e_metric.proofs.rows.SystemRows.{all_at}
-use Rattle.e_metric.specs.MetricAnswers.{IsCertified, IsTooWideSystem}
+use Rattle.e_metric.specs.MetricAnswers.{IsMetricCertificate, IsTooWideSystem}
 use Rattle.e_licence.specs.Contexts.{Basis}
 use Rattle.e_licence.specs.inner.Clashes.{IsClashing}
 use Rattle.e_licence.specs.Licences.{IsCertifiedAgainst}
@@ -63,7 +63,7 @@ by_clash b l g h = record {
   written = refl;
 }
 
-pub by_sums : (b : Basis) (m : MetricCert) → are_limited_facts b.scope b.facts ≡ true → IsCertified b.facts None m → IsCertifiedAgainst b (MetricAgainst m)
+pub by_sums : (b : Basis) (m : MetricCert) → are_limited_facts b.scope b.facts ≡ true → IsMetricCertificate b.facts None m → IsCertifiedAgainst b (MetricAgainst m)
 by_sums b m g h = record {
   certifies = and_from (sums_in b.scope m.sums) (metric_contradicts b.facts m) (h.scoped b.scope (in_scope b.scope b.facts g) refl) h.refutes;
   written = h.written;

@@ -11,7 +11,7 @@ use Rattle.e_literal.proofs.Booleans.{and_left, and_right}
 use Rattle.e_clause.specs.Allowed.{AllAllowed}
 use Rattle.e_clause.specs.Judged.{are_well_formed_in}
 use Rattle.e_clause.specs.Wide.{IsTooWideLit}
-use Rattle.e_theorem.specs.Choice.{fills, is_choice, is_below, IsAllowedChoice, IsLeast, NoneIsAllowed}
+use Rattle.e_theorem.specs.Choice.{fills, is_choice, is_below, IsAllowedChoice, IsLeastChoice, NoneIsAllowed}
 use Rattle.e_theorem.specs.Pattern.{is_pattern}
 use Rattle.e_theorem.specs.WideChoice.{SomeChoiceIsTooWide}
 use Rattle.e_theorem.proofs.Uses.{needs_declared, declared_good}
@@ -104,7 +104,7 @@ kept_allowed b t pattern c args states is fit kept =
     (ap (λ os. are_well_formed_in b.scope (map (at (paired (objects t) os)) t.given)) is ∙ declared_good t args b.scope states fit)))
 
 least_at : (b : Basis) (t : StatementView) (pattern : List (Option Obj)) (c : List ℕ) → IsAsked b t pattern → has_empty (spans b t pattern) ≡ false → FitsSpans (spans b t pattern) c
-    → EachKept (Kept b t pattern) [] c → NoneBelow (Wanted b t pattern) [] (spans b t pattern) c → IsLeast t b.scope b.facts pattern (filled_arguments nothing (objects t) pattern c)
+    → EachKept (Kept b t pattern) [] c → NoneBelow (Wanted b t pattern) [] (spans b t pattern) c → IsLeastChoice t b.scope b.facts pattern (filled_arguments nothing (objects t) pattern c)
 least_at b t pattern c asked some fits kept none =
     let starts = fits_starts (spans b t pattern) c fits in
     record {
@@ -117,9 +117,9 @@ least_at b t pattern c asked some fits kept none =
     }
 
 pub least : (b : Basis) (t : StatementView) (pattern : List (Option Obj)) (c : List ℕ) → IsAsked b t pattern → has_empty (spans b t pattern) ≡ false → FitsSpans (spans b t pattern) c
-    → EachKept (Kept b t pattern) [] c → NoneBelow (Wanted b t pattern) [] (spans b t pattern) c → IsLeast t b.scope b.facts pattern (filled_arguments b.scope (objects t) pattern c)
+    → EachKept (Kept b t pattern) [] c → NoneBelow (Wanted b t pattern) [] (spans b t pattern) c → IsLeastChoice t b.scope b.facts pattern (filled_arguments b.scope (objects t) pattern c)
 least b t pattern c asked some fits kept none =
-    subst (λ (os : List Obj). IsLeast t b.scope b.facts pattern os) (whole b.scope nothing b.scope nothing t.declared pattern c fits) (least_at b t pattern c asked some fits kept none)
+    subst (λ (os : List Obj). IsLeastChoice t b.scope b.facts pattern os) (whole b.scope nothing b.scope nothing t.declared pattern c fits) (least_at b t pattern c asked some fits kept none)
 
 -- ---- a choice that is too wide
 
@@ -166,12 +166,12 @@ none_empty b t pattern os ns before search some = sym (ap has_empty (search.span
 
 pub found : (b : Basis) (t : StatementView) (pattern : List (Option Obj)) (os : List Obj) (ns : List Span) (before after : List ℕ) (args : List Obj) (o : Verdict (Unit {0})) (p : Unit {0})
     → IsAsked b t pattern → IsSearch b t pattern os ns before → has_empty ns ≡ false → o ≡ verdict.Yes p → args ≡ filled_arguments b.scope os pattern after
-    → SearchAnswer b t pattern os ns before after o → IsLeast t b.scope b.facts pattern args
+    → SearchAnswer b t pattern os ns before after o → IsLeastChoice t b.scope b.facts pattern args
 found b t pattern os ns before after args o p asked search some is at_end claims = end (claim b t pattern os ns before after o (verdict.Yes p) search is claims)
   where
-    end : SearchAnswer b t pattern (objects t) (spans b t pattern) [] after (verdict.Yes p) → IsLeast t b.scope b.facts pattern args
+    end : SearchAnswer b t pattern (objects t) (spans b t pattern) [] after (verdict.Yes p) → IsLeastChoice t b.scope b.facts pattern args
     end (c, fits, kept, ends, shown, less) =
-        subst (λ (x : List Obj). IsLeast t b.scope b.facts pattern x)
+        subst (λ (x : List Obj). IsLeastChoice t b.scope b.facts pattern x)
         (ap (filled_arguments b.scope (objects t) pattern) (sym ends) ∙ sym (at_end ∙ ap (λ x. filled_arguments b.scope x pattern after) search.objects))
         (least b t pattern c asked (none_empty b t pattern os ns before search some) fits kept less)
 

@@ -12,7 +12,7 @@ use Rattle.e_metric.specs.declared.metric_facts.MetricFacts.{MetricFacts}
 use Rattle.e_metric.specs.Fronts.{AreFronts}
 use Rattle.e_licence.specs.declared.held.Held.{Held}
 use Rattle.e_licence.specs.Contexts.{State, Basis, state_of, IsReleased}
-use Rattle.e_licence.specs.HeldStates.{held_in, IsHeldState, AreHeld, IsContext}
+use Rattle.e_licence.specs.HeldStates.{held_in, IsHeldState, AreHeld, IsHeldContext}
 use Rattle.e_licence.proofs.Fronts.{metric_facts_more, metric_facts_of_more}
 
 -- what contracts see of a context
@@ -89,7 +89,7 @@ metric_facts_or_outside own held (Ok metric_facts) right = λ facts high k h. ri
 
 -- ---- a new context
 
-pub begins : (s : Scope) (facts : List Lit) (held : List Held) → held ≡ [] → are_limited_facts s facts ≡ true → IsContext s facts held None
+pub begins : (s : Scope) (facts : List Lit) (held : List Held) → held ≡ [] → are_limited_facts s facts ≡ true → IsHeldContext s facts held None
 begins s facts held e g = rw e (record { good = g; states = omega arith; metric_facts = tt })
 
 -- ---- facts come
@@ -98,10 +98,10 @@ front_stays : (facts more : List Lit) → take (length facts) facts ≡ take (le
 front_stays facts more = sym (take-append-le (length facts) facts more (omega arith))
 
 -- facts that are the old ones, and more
-more_facts : (s : Scope) (facts new more : List Lit) (held : List Held) (metric_facts : Option MetricFacts) → new ≡ facts ++ more → are_limited_facts s new ≡ true → IsContext s facts held metric_facts → IsContext s new held metric_facts
+more_facts : (s : Scope) (facts new more : List Lit) (held : List Held) (metric_facts : Option MetricFacts) → new ≡ facts ++ more → are_limited_facts s new ≡ true → IsHeldContext s facts held metric_facts → IsHeldContext s new held metric_facts
 more_facts s facts new more held metric_facts e g h =
     let many = length-append facts more in
-    subst (λ fs. IsContext s fs held metric_facts) (sym e)
+    subst (λ fs. IsHeldContext s fs held metric_facts) (sym e)
     (record {
       good = subst (λ fs. are_limited_facts s fs ≡ true) e g;
       states =
@@ -109,7 +109,7 @@ more_facts s facts new more held metric_facts e g h =
       metric_facts = metric_facts_more facts more metric_facts h.metric_facts;
     })
 
-more_states : (s : Scope) (facts new more : List Lit) (held : List Held) (metric_facts : Option MetricFacts) → new ≡ facts ++ more → IsContext s facts held metric_facts → map (held_in new) held ≡ map (held_in facts) held
+more_states : (s : Scope) (facts new more : List Lit) (held : List Held) (metric_facts : Option MetricFacts) → new ≡ facts ++ more → IsHeldContext s facts held metric_facts → map (held_in new) held ≡ map (held_in facts) held
 more_states s facts new more held metric_facts e h =
     ap (λ fs. map (held_in fs) held) e ∙ states_stay 0 (length facts) facts (facts ++ more) held (front_stays facts more) h.states
 
@@ -122,14 +122,14 @@ joins facts l = by (has facts l)
     by false = (l ∷ [], refl)
 
 pub after_add : {E : Type 0} (r : Result Added E) (s : Scope) (facts new : List Lit) (l : Lit) (held : List Held) (metric_facts : Option MetricFacts) → OnOk r (new ≡ joined facts l) → OnErr r (new ≡ facts) →
-    are_limited_facts s (joined facts l) ≡ true → IsContext s facts held metric_facts → IsContext s new held metric_facts
+    are_limited_facts s (joined facts l) ≡ true → IsHeldContext s facts held metric_facts → IsHeldContext s new held metric_facts
 after_add (Ok a) s facts new l held metric_facts ok err g h =
     let j = joins facts l in
     more_facts s facts new j.0 held metric_facts (ok ∙ j.1) (subst (λ fs. are_limited_facts s fs ≡ true) (sym ok) g) h
-after_add (Err e) s facts new l held metric_facts ok err g h = subst (λ fs. IsContext s fs held metric_facts) (sym err) h
+after_add (Err e) s facts new l held metric_facts ok err g h = subst (λ fs. IsHeldContext s fs held metric_facts) (sym err) h
 
 pub add_joins : {E : Type 0} (r : Result Added E) (s : Scope) (facts new : List Lit) (l : Lit) (held : List Held) (metric_facts : Option MetricFacts) (b : Basis) → basis_of s facts held ≡ b → OnOk r (new ≡ joined facts l) →
-    IsContext s facts held metric_facts → OnOk r (basis_of s new held ≡ record b { facts = joined b.facts l })
+    IsHeldContext s facts held metric_facts → OnOk r (basis_of s new held ≡ record b { facts = joined b.facts l })
 add_joins (Ok a) s facts new l held metric_facts b is ok h =
     let j = joins facts l in
     let states = more_states s facts new j.0 held metric_facts (ok ∙ j.1) h in
@@ -148,7 +148,7 @@ add_is r s facts new l held b is h = subst (λ fs. IfOk r (AddedIs fs l new)) (a
 -- ---- a state is held
 
 pub after_hold : (s : Scope) (facts : List Lit) (held new : List Held) (metric_facts : Option MetricFacts) (x : Held) → x.scope ≡ s → x.facts ≡ length facts → x.solved ≡ metric_facts → new ≡ held ++ x ∷ [] →
-    IsContext s facts held metric_facts → IsContext s facts new None
+    IsHeldContext s facts held metric_facts → IsHeldContext s facts new None
 after_hold s facts held new metric_facts x in_scope many solved e h =
     let all : take x.facts facts ≡ facts = take_all x.facts facts (omega (arith, many)) in
     let good : are_limited_facts x.scope (take x.facts facts) ≡ true =
@@ -179,7 +179,7 @@ hold_is s facts held new x b is in_scope many e =
 -- ---- the last held state is released
 
 pub after_release : (s : Scope) (facts new : List Lit) (held rest : List Held) (metric_facts : Option MetricFacts) (x : Held) → held ≡ rest ++ x ∷ [] → new ≡ take x.facts facts →
-    IsContext s facts held metric_facts → IsContext x.scope new rest x.solved
+    IsHeldContext s facts held metric_facts → IsHeldContext x.scope new rest x.solved
 after_release s facts new held rest metric_facts x split e h =
     let p = popped 0 (length facts) facts rest x (subst (AreHeld 0 (length facts) facts) split h.states) in
     let many = length-take x.facts facts in
@@ -193,11 +193,11 @@ after_release s facts new held rest metric_facts x split e h =
     })
 
 -- its checkpoint is a place among the facts
-pub checkpoint_within : (s : Scope) (facts : List Lit) (held rest : List Held) (metric_facts : Option MetricFacts) (x : Held) → held ≡ rest ++ x ∷ [] → IsContext s facts held metric_facts → x.facts ≤ length facts
+pub checkpoint_within : (s : Scope) (facts : List Lit) (held rest : List Held) (metric_facts : Option MetricFacts) (x : Held) → held ≡ rest ++ x ∷ [] → IsHeldContext s facts held metric_facts → x.facts ≤ length facts
 checkpoint_within s facts held rest metric_facts x split h = (popped 0 (length facts) facts rest x (subst (AreHeld 0 (length facts) facts) split h.states)).few
 
 pub release_is : (s : Scope) (facts new : List Lit) (held rest : List Held) (metric_facts : Option MetricFacts) (x : Held) (b : Basis) → basis_of s facts held ≡ b → held ≡ rest ++ x ∷ [] → new ≡ take x.facts facts →
-    IsContext s facts held metric_facts → IsReleased b (basis_of x.scope new rest)
+    IsHeldContext s facts held metric_facts → IsReleased b (basis_of x.scope new rest)
 release_is s facts new held rest metric_facts x b is split e h before last ends =
     let p = popped 0 (length facts) facts rest x (subst (AreHeld 0 (length facts) facts) split h.states) in
     let same : take x.facts facts ≡ take x.facts (take x.facts facts) = sym (take-take x.facts x.facts facts (omega arith)) in
@@ -215,7 +215,7 @@ release_is s facts new held rest metric_facts x b is split e h before last ends 
 -- ---- facts are asked
 
 -- what is right of what was solved is right of the facts
-pub metric_facts_now : {E : Type 0} (s : Scope) (facts : List Lit) (held : List Held) (metric_facts : Option MetricFacts) (b : Basis) (r : Result MetricFacts E) → basis_of s facts held ≡ b → IsContext s facts held metric_facts →
+pub metric_facts_now : {E : Type 0} (s : Scope) (facts : List Lit) (held : List Held) (metric_facts : Option MetricFacts) (b : Basis) (r : Result MetricFacts E) → basis_of s facts held ≡ b → IsHeldContext s facts held metric_facts →
     IfOk r (λ copy. (fs : List Lit) → IfSome metric_facts (AreFronts fs) → AreFronts fs copy) → IfOk r (AreFronts b.facts)
 metric_facts_now s facts held metric_facts b (Err e) is h right = tt
 metric_facts_now s facts held metric_facts b (Ok copy) is h right = subst (λ (c : Basis). AreFronts c.facts copy) is (right facts h.metric_facts)

@@ -19,7 +19,7 @@ use Rattle.e_clause.specs.Transfer.{Stands, NegationsStand, TransferConsequence}
 use Rattle.e_clause.specs.TransferCertificate.{transfer_certifies, transfer_in}
 use Rattle.e_clause.specs.Wide.{TransferFromFacts, IsPlain, IsTooWideLit}
 use Rattle.e_clause.proofs.Following.{metric_fact}
-use Rattle.e_metric.specs.MetricAnswers.{IsCertified, IsTooWideSystem}
+use Rattle.e_metric.specs.MetricAnswers.{IsMetricCertificate, IsTooWideSystem}
 use Rattle.e_transfer.specs.declared.finding.Found.{Found}
 use Rattle.e_transfer.specs.declared.finding.Found.TheVariants.{Yes, No, TooWide}
 use Rattle.e_transfer.specs.FoundTransfers.{IsFound, IsTooWideTransfer}
@@ -30,7 +30,7 @@ use Rattle.e_licence.proofs.GoodLiterals.{in_scope}
 -- ---- the literal follows
 
 pub by_sums : (b : Basis) (l : Lit) (m : MetricCert) → are_limited_facts b.scope b.facts ≡ true → is_well_formed_in b.scope l ≡ true → has b.facts l ≡ false → is_metric l ≡ true
-    → IsCertified b.facts (Some l) m → IsCertifiedBy b l (Plain (Metric m))
+    → IsMetricCertificate b.facts (Some l) m → IsCertifiedBy b l (Plain (Metric m))
 by_sums b l m g k n e h = record {
   certifies = and_from (sums_in b.scope m.sums) (metric_certifies b.facts l m)
       (h.scoped b.scope (in_scope b.scope b.facts g) (and_left (all_in_scope b.scope l) (is_well_formed l) k))

@@ -16,7 +16,7 @@ use Rattle.e_clause.specs.Judged.{is_well_formed_in, are_well_formed_in, are_few
 use Rattle.e_metric.specs.declared.metric_facts.MetricFacts.{MetricFacts}
 use Rattle.e_licence.specs.declared.held.Held.{Held}
 use Rattle.e_licence.specs.Contexts.{IsWithin}
-use Rattle.e_licence.specs.HeldStates.{IsContext}
+use Rattle.e_licence.specs.HeldStates.{IsHeldContext}
 
 every : {X : Type 0} (p q : X → Bool) → ((x : X) → p x ≡ true → q x ≡ true) → (xs : List X) → list_all p xs ≡ true → list_all q xs ≡ true
 every p q f [] h = refl
@@ -45,5 +45,5 @@ facts_stay s t facts h e =
     (every (is_well_formed_in s) (is_well_formed_in t) (lit_stays s t h) facts (and_left (are_well_formed_in s facts) (are_few facts) e))
     (and_right (are_well_formed_in s facts) (are_few facts) e)
 
-pub after_widen : (s t : Scope) (facts : List Lit) (held : List Held) (metric_facts : Option MetricFacts) → IsWithin s t → IsContext s facts held metric_facts → IsContext t facts held metric_facts
+pub after_widen : (s t : Scope) (facts : List Lit) (held : List Held) (metric_facts : Option MetricFacts) → IsWithin s t → IsHeldContext s facts held metric_facts → IsHeldContext t facts held metric_facts
 after_widen s t facts held metric_facts w h = record { good = facts_stay s t facts w h.good; states = h.states; metric_facts = h.metric_facts }

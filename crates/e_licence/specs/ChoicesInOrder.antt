@@ -21,7 +21,7 @@ abbrev pub is_above : List (List Obj) → List Obj → Bool
 is_above choices args = list_all (λ c. is_below c args) choices
 
 -- a good choice that is above all these
-pub record IsNext (t : StatementView) (scope : Scope) (facts : List Lit) (pattern : List (Option Obj)) (choices : List (List Obj)) : Type 0 where
+pub record IsNextChoice (t : StatementView) (scope : Scope) (facts : List Lit) (pattern : List (Option Obj)) (choices : List (List Obj)) : Type 0 where
   pub args : List Obj
   pub good : IsAllowedChoice t scope facts pattern args
   pub above : IsTrue (is_above choices args)
@@ -33,7 +33,7 @@ pub record AreFirst (t : StatementView) (scope : Scope) (facts : List Lit) (patt
   pub ascending : IsTrue (is_ascending choices)
   pub few : length choices ≤ most
   pub none_missing : (other : List Obj) → IsAllowedChoice t scope facts pattern other → Contains choices other ⊎ (IsTrue more × IsTrue (is_above choices other))
-  pub next : IsTrue more → (length choices ≡ most) × IsNext t scope facts pattern choices
+  pub next : IsTrue more → (length choices ≡ most) × IsNextChoice t scope facts pattern choices
 
 -- under a choice a given literal is wide, and w is the width of one of its wide systems
 pub record AnyChoiceIsTooWide (t : StatementView) (scope : Scope) (facts : List Lit) (pattern : List (Option Obj)) (w : ℕ) : Type 0 where

@@ -23,7 +23,7 @@ AreHeld low high facts [] = low ≤ high
 AreHeld low high facts (h ∷ hs) = (low ≤ h.facts) × IsHeldState facts h × AreHeld h.facts high facts hs
 
 -- the facts are good, so is what is held of them, and what is solved is that of the first of them
-pub record IsContext (scope : Scope) (facts : List Lit) (held : List Held) (solved : Option MetricFacts) : Type 0 where
+pub record IsHeldContext (scope : Scope) (facts : List Lit) (held : List Held) (solved : Option MetricFacts) : Type 0 where
   pub good : IsTrue (are_limited_facts scope facts)
   pub states : AreHeld 0 (length facts) facts held
   pub metric_facts : IfSome solved (AreFronts facts)

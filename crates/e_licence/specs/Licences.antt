@@ -58,7 +58,7 @@ pub record IsConsistentBy (facts : List Lit) (values : List (Term × ℕ)) : Typ
   pub shown : ListsCounterexample facts None values
 
 -- a certificate; or the facts do not contradict each other; or the contradiction is wide, with the width of a system
-abbrev pub IsRefuted : Basis → Refuted → Type 0
-IsRefuted b (refuted.Yes against) = IsCertifiedAgainst b against
-IsRefuted b (refuted.No values) = IsConsistentBy b.facts values
-IsRefuted b (refuted.TooWide w) = IsTooWideContradiction b.facts w
+abbrev pub IsAnswerAgainst : Basis → Refuted → Type 0
+IsAnswerAgainst b (refuted.Yes against) = IsCertifiedAgainst b against
+IsAnswerAgainst b (refuted.No values) = IsConsistentBy b.facts values
+IsAnswerAgainst b (refuted.TooWide w) = IsTooWideContradiction b.facts w

@@ -6,7 +6,7 @@ ghost use Rattle.e_clause.specs.Judged.{are_limited_facts, is_well_formed_in};
 ghost use Rattle.e_facts.specs.Adding.{AddedIs};
 ghost use Rattle.e_metric.specs.Fronts.{AreFronts};
 ghost use Rattle.e_licence.specs.Contexts.{IsReleased, IsWithin, state_of};
-ghost use Rattle.e_licence.specs.Licences.{IsLicence, IsRefuted};
+ghost use Rattle.e_licence.specs.Licences.{IsLicence, IsAnswerAgainst};
 
 use crate::contradiction::{Refuted, by_arithmetic, clash};
 use crate::held::Held;
@@ -40,12 +40,12 @@ impl Model for Context {
 
     ghost Value = { Basis };
 
-    ghost use Rattle.e_licence.specs.HeldStates.{held_in, IsContext};
+    ghost use Rattle.e_licence.specs.HeldStates.{held_in, IsHeldContext};
 
     ghost view = { λ c. record
         { scope = c.scope; facts = c.facts; held = map (held_in c.facts) c.held.items } };
 
-    ghost invariant = { λ c. IsContext c.scope c.facts c.held.items c.solved };
+    ghost invariant = { λ c. IsHeldContext c.scope c.facts c.held.items c.solved };
 }
 
 impl Context {
@@ -211,7 +211,7 @@ impl Context {
     ///
     /// [`against`]: crate::contradiction::against
     pub fn against(&mut self, alloc: Global) -> Result<Refuted, AllocError>
-        ensures refuted { IfOk result (IsRefuted self.old) }
+        ensures refuted { IfOk result (IsAnswerAgainst self.old) }
         ensures same { self.new ≡ self.old }
     {
         self.good();

@@ -5,7 +5,7 @@ ghost use Rattle.e_literal.specs.Literal.{negation};
 ghost use Rattle.e_literal.specs.Facts.{has, is_metric};
 ghost use Rattle.e_clause.specs.Clash;
 ghost use Rattle.e_metric.specs.Fronts.{AreFronts};
-ghost use Rattle.e_licence.specs.Licences.{IsRefuted};
+ghost use Rattle.e_licence.specs.Licences.{IsAnswerAgainst};
 ghost use Rattle.e_licence.specs.inner.Clashes.{IsClashOf};
 
 use crate::context::Context;
@@ -34,7 +34,7 @@ pub enum Refuted {
 /// It begins where the context has solved its facts, and lets go what it solves;
 /// [`Context::against`] keeps that for the next question.
 pub fn against(alloc: Global, context: &Context) -> Result<Refuted, AllocError>
-    ensures { IfOk result (IsRefuted context.now) }
+    ensures { IfOk result (IsAnswerAgainst context.now) }
 {
     context.good();
     if let Some(lit) = clash(alloc, context.facts())? {
@@ -55,7 +55,7 @@ pub(crate) fn by_arithmetic(
 ) -> Result<Refuted, AllocError>
     requires no_clash { IsFalse (Clash.clash context.now.facts) }
     requires metric_facts { AreFronts context.now.facts metric_facts.old }
-    ensures refuted { IfOk result (IsRefuted context.now) }
+    ensures refuted { IfOk result (IsAnswerAgainst context.now) }
     ensures metric_facts { AreFronts context.now.facts metric_facts.new }
 {
     context.good();

@@ -25,7 +25,7 @@ wanted_in s (Some l) = all_in_scope s l
 wanted_in s None = true
 
 -- the sums refute; they name no object but those of the facts and of the wanted literal, and no literal that is not well formed
-pub record IsCertified (facts : List Lit) (wanted : Option Lit) (m : MetricCert) : Type 0 where
+pub record IsMetricCertificate (facts : List Lit) (wanted : Option Lit) (m : MetricCert) : Type 0 where
   pub refutes : IsTrue (sums_refute facts wanted m.sums)
   pub scoped : (s : Scope) → IsTrue (list_all (all_in_scope s) facts) → IsTrue (wanted_in s wanted) → IsTrue (sums_in s m.sums)
   pub written : IsTrue (are_sums_of version.One m.sums)
@@ -43,7 +43,7 @@ pub record IsTooWideSystem (facts : List Lit) (wanted : Option Lit) (w : ℕ) : 
 
 -- a certificate, or values that show that the literal does not follow, or a system is too wide
 abbrev pub IsMetricAnswer : List Lit → Option Lit → Metric → Type 0
-IsMetricAnswer facts wanted (Yes m) = IsCertified facts wanted m
+IsMetricAnswer facts wanted (Yes m) = IsMetricCertificate facts wanted m
 IsMetricAnswer facts wanted (No values) = ListsCounterexample facts wanted values
 IsMetricAnswer facts wanted (TooWide w) = IsTooWideSystem facts wanted w
 
@@ -51,7 +51,7 @@ IsMetricAnswer facts wanted (TooWide w) = IsTooWideSystem facts wanted w
 
 -- the same of the system of one kind, whose values satisfy its rows
 abbrev pub IsKindAnswer : Kind → List Lit → Option Lit → Metric → Type 0
-IsKindAnswer which facts wanted (Yes m) = IsCertified facts wanted m
+IsKindAnswer which facts wanted (Yes m) = IsMetricCertificate facts wanted m
 IsKindAnswer which facts wanted (No values) = Satisfy (assigned values) (rows_of_system which facts wanted)
 IsKindAnswer which facts wanted (TooWide w) = HasWidth (rows_of_system which facts wanted) w
 

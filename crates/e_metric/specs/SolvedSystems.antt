@@ -10,7 +10,7 @@ use Rattle.e_fraction.specs.declared.row.Row.{Row as GivenRow}
 use Rattle.e_metric.specs.AgreeingRows.{AreRows, AllLimited}
 use Rattle.e_metric.specs.ListedTerms.{distinct_terms}
 use Rattle.e_metric.specs.RowOrder.{AreReordered}
-use Rattle.e_metric.specs.MetricAnswers.{IsCertified, IsKindAnswer}
+use Rattle.e_metric.specs.MetricAnswers.{IsMetricCertificate, IsKindAnswer}
 use Rattle.e_metric.specs.declared.consequence.Metric.{Metric}
 use Rattle.e_metric.specs.declared.solved_system.SolvedSystem.{SolvedSystem}
 use Rattle.e_metric.specs.declared.kind_system.KindSystem.{KindSystem}
@@ -43,7 +43,7 @@ pub record AreTogether (which : Kind) (facts : List Lit) (wanted : Option Lit) (
 -- the system of the facts of one kind: their rows have a solution; or they contradict each other; or their system is wide
 abbrev pub IsKindSystem : Kind → List Lit → KindSystem → Type 0
 IsKindSystem which facts (Solved g) = IsSolvedSystem which facts g
-IsKindSystem which facts (Absurd m) = IsCertified facts None m
+IsKindSystem which facts (Absurd m) = IsMetricCertificate facts None m
 IsKindSystem which facts (TooWide w) = HasWidth (rows_of_system which facts None) w
 
 -- the second system is that of each list of facts of which the first is
@@ -52,7 +52,7 @@ AnswersAs kind_system other = (which : Kind) (facts : List Lit) → IsKindSystem
 
 -- a certificate, if any, that each list of facts of which this is the system contradicts itself
 abbrev pub IsContradictionOf : KindSystem → Option MetricCert → Type 0
-IsContradictionOf kind_system o = (which : Kind) (facts : List Lit) → IsKindSystem which facts kind_system → IfSome o (IsCertified facts None)
+IsContradictionOf kind_system o = (which : Kind) (facts : List Lit) → IsKindSystem which facts kind_system → IfSome o (IsMetricCertificate facts None)
 
 -- the answer on each wanted literal of another kind, or of the facts alone, by the system of the facts of this kind
 abbrev pub IsAnswerAlone : KindSystem → Metric → Type 0

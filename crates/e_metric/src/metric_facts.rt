@@ -10,9 +10,9 @@ ghost use Rattle.e_clause.specs.Assignment.{terms_of_lits};
 ghost use Rattle.e_clause.specs.Laws.{is_well_formed_metric};
 ghost use Rattle.e_clause.specs.Metric.{MetricConsequence, Unsatisfiable};
 ghost use Rattle.e_clause.specs.System.{of_kind, against_goal};
-ghost use Rattle.e_metric.specs.Fronts.{IsFront, IsFrontAs, AreFronts};
+ghost use Rattle.e_metric.specs.Fronts.{IsFrontSystem, IsFrontAs, AreFronts};
 ghost use Rattle.e_metric.specs.SolvedSystems.{IsKindSystem};
-ghost use Rattle.e_metric.specs.MetricAnswers.{IsCertified, IsMetricAnswer, IsKindAnswer, IfYes, IfNo};
+ghost use Rattle.e_metric.specs.MetricAnswers.{IsMetricCertificate, IsMetricAnswer, IsKindAnswer, IfYes, IfNo};
 
 use crate::by_kind::{ByKind, other_kinds};
 use crate::consequence::{Metric, answer_of_kind, joined_answer};
@@ -57,7 +57,7 @@ impl Slot {
         which: Kind,
         facts: &Facts,
     ) -> Result<Option<KindSystem>, AllocError>
-        requires front { IsFront which facts.now self.now }
+        requires front { IsFrontSystem which facts.now self.now }
         requires facts { IsTrue (list_all is_well_formed facts.now) }
         requires few { length (terms_of_lits facts.now) ≤ 1100 }
         ensures { IfOk
@@ -76,10 +76,10 @@ impl Slot {
     // Brings what is solved up to all facts. No clause says that it does, since what is there is
     // right in any case.
     fn bring(&mut self, alloc: Global, which: Kind, facts: &Facts) -> Result<(), AllocError>
-        requires front { IsFront which facts.now self.old }
+        requires front { IsFrontSystem which facts.now self.old }
         requires facts { IsTrue (list_all is_well_formed facts.now) }
         requires few { length (terms_of_lits facts.now) ≤ 1100 }
-        ensures { IsFront which facts.now self.new }
+        ensures { IsFrontSystem which facts.now self.new }
     {
         if self.is_whole(facts) {
             return Ok(());
@@ -106,7 +106,7 @@ impl Slot {
         facts: &Facts,
         goal: &Lit,
     ) -> Result<Metric, AllocError>
-        requires front { IsFront which facts.now self.now }
+        requires front { IsFrontSystem which facts.now self.now }
         requires facts { IsTrue (list_all is_well_formed facts.now) }
         requires few { length (terms_of_lits facts.now) ≤ 1100 }
         requires goal { IsTrue (is_well_formed_metric (Some goal.now)) }
@@ -128,7 +128,7 @@ impl Slot {
         facts: &Facts,
         wanted: Option<&Lit>,
     ) -> Result<Metric, AllocError>
-        requires front { IsFront which facts.now self.now }
+        requires front { IsFrontSystem which facts.now self.now }
         requires facts { IsTrue (list_all is_well_formed facts.now) }
         requires few { length (terms_of_lits facts.now) ≤ 1100 }
         requires wanted { IsTrue (is_well_formed_metric (option_copied wanted)) }
@@ -150,8 +150,8 @@ impl Slot {
         which: Kind,
         facts: &Facts,
     ) -> Result<Option<MetricCert>, AllocError>
-        requires { IsFront which facts.now self.now }
-        ensures { IfOk result (λ o. IfSome o (IsCertified facts.now None)) }
+        requires { IsFrontSystem which facts.now self.now }
+        ensures { IfOk result (λ o. IfSome o (IsMetricCertificate facts.now None)) }
     {
         // The kind is for the contract alone: each slot has the facts of one.
         let _ = which;
@@ -192,7 +192,7 @@ impl Slot {
     // Forgets what is solved of more than the first facts.
     fn back_to(&mut self, count: usize)
         ensures { (which : Kind) (facts : List Lit) → count ≤ length facts
-            → IsFront which facts self.old → IsFront which (take count facts) self.new }
+            → IsFrontSystem which facts self.old → IsFrontSystem which (take count facts) self.new }
     {
         if self.is_within(count) {
             return;
@@ -530,7 +530,7 @@ impl MetricFacts {
         requires facts { IsTrue (list_all is_well_formed facts.now) }
         requires few { length (terms_of_lits facts.now) ≤ 1100 }
         requires goal { IsTrue (is_well_formed_metric (Some goal.now)) }
-        ensures cert { IfOk result (λ o. IfSome o (IsCertified facts.now (Some goal.now))) }
+        ensures cert { IfOk result (λ o. IfSome o (IsMetricCertificate facts.now (Some goal.now))) }
         ensures fronts { AreFronts facts.now self.new }
     {
         let which = kind(goal).unwrap_or(Kind::Segment);
@@ -590,7 +590,7 @@ impl MetricFacts {
         requires fronts { AreFronts facts.now self.old }
         requires facts { IsTrue (list_all is_well_formed facts.now) }
         requires few { length (terms_of_lits facts.now) ≤ 1100 }
-        ensures cert { IfOk result (λ o. IfSome o (IsCertified facts.now None)) }
+        ensures cert { IfOk result (λ o. IfSome o (IsMetricCertificate facts.now None)) }
         ensures fronts { AreFronts facts.now self.new }
     {
         self.bring(alloc, which, facts)?;
@@ -607,7 +607,7 @@ impl MetricFacts {
         requires fronts { AreFronts facts.now self.old }
         requires facts { IsTrue (list_all is_well_formed facts.now) }
         requires few { length (terms_of_lits facts.now) ≤ 1100 }
-        ensures cert { IfOk result (λ o. IfSome o (IsCertified facts.now None)) }
+        ensures cert { IfOk result (λ o. IfSome o (IsMetricCertificate facts.now None)) }
         ensures fronts { AreFronts facts.now self.new }
     {
         if let Some(cert) = self.contradiction_of(alloc, Kind::Segment, facts)? {

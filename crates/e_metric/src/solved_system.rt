@@ -13,7 +13,7 @@ ghost use Rattle.e_simplex.specs.Answer.{AreValuesOf, IsRefuted};
 ghost use Rattle.e_metric.specs.inner.FurtherRows.{values_extended};
 ghost use Rattle.e_metric.specs.SolvedSystems.{AreTogether, IsSolvedSystem};
 ghost use Rattle.e_metric.specs.ListedTerms;
-ghost use Rattle.e_metric.specs.MetricAnswers.{IsCertified, IsKindAnswer};
+ghost use Rattle.e_metric.specs.MetricAnswers.{IsMetricCertificate, IsKindAnswer};
 
 use crate::certificates::copied;
 use crate::consequence::{Metric, certificate_of, split};
@@ -166,7 +166,7 @@ impl SolvedSystem {
         requires together { AreTogether which facts.now (option_copied wanted) self.now names.now
             rows.now }
         requires refuted { IsRefuted (all_seen (self.now.settled ++ rows.now)) absurdity.now }
-        ensures { IfOk result (IsCertified facts.now (option_copied wanted.entry)) }
+        ensures { IfOk result (IsMetricCertificate facts.now (option_copied wanted.entry)) }
     {
         let names = self.names_with(alloc, names)?;
         let rows = self.rows_with(alloc, rows)?;

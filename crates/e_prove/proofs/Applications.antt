@@ -18,7 +18,7 @@ use Rattle.e_clause.specs.declared.cert.Cert.{Cert}
 use Rattle.e_clause.specs.Certify.{certify_all}
 use Rattle.e_clause.specs.Judged.{are_well_formed_in}
 use Rattle.e_clause.proofs.Sound.{all_allowed_of_certified}
-use Rattle.e_theorem.specs.Choice.{fills, is_choice, IsLeast}
+use Rattle.e_theorem.specs.Choice.{fills, is_choice, IsLeastChoice}
 use Rattle.e_theorem.specs.Pattern.{is_pattern, are_entries}
 use Rattle.e_deriv.specs.declared.block.Step.TheVariants.{Apply as ApplyStep}
 use Rattle.e_deriv.specs.declared.stop.Wanted.TheVariants.{Literal, Match, Contradiction}
@@ -101,7 +101,7 @@ use_written t pattern x u args n h is same c good g =
 
 -- the entries are the least good choice, none of them a blank; the certificates name literals that are well formed
 record Filled (t : StatementView) (pattern entries : List (Option Obj)) (x : Basis) (certs : List Cert) : Type 0 where
-  least : IsLeast t x.scope x.facts pattern (written entries)
+  least : IsLeastChoice t x.scope x.facts pattern (written entries)
   certified : certify_all x.scope x.facts (needs_of_use t (written entries) x.scope) certs ≡ true
   good_certs : list_all (is_cert_of version.One) certs ≡ true
   no_blank : has_no_blank entries ≡ true
@@ -140,7 +140,7 @@ filled_of_use : (t : StatementView) (pattern : List (Option Obj)) (x : Basis) (u
 filled_of_use t pattern x u h =
     let same : written (filled_in u.args) ≡ u.args = written_again u.args in
     record {
-      least = subst (IsLeast t x.scope x.facts pattern) (sym same) h.least;
+      least = subst (IsLeastChoice t x.scope x.facts pattern) (sym same) h.least;
       certified = subst (λ os. certify_all x.scope x.facts (needs_of_use t os x.scope) u.certs.items ≡ true) (sym same) h.certified;
       good_certs = h.written;
       no_blank = no_blank_again u.args;
@@ -215,7 +215,7 @@ stops_without t x pattern args h n is k =
     subst (λ b. MatchBool b (StepStopsAmong x (needs_of_use t (written pattern) x.scope) h) (StepStopsFilling t x pattern h)) (sym n) (subst (λ os. StepStopsAmong x (needs_of_use t os x.scope) h) is k)
 
 -- at the least good choice no given literal is refused, and one that is too wide is a match that is
-match_stops : (t : StatementView) (x : Basis) (pattern : List (Option Obj)) (args : List Obj) (h : StepStop) → IsLeast t x.scope x.facts pattern args → StepStopsAmong x (needs_of_use t args x.scope) h → StepStopsFilling t x pattern (match_stop h)
+match_stops : (t : StatementView) (x : Basis) (pattern : List (Option Obj)) (args : List Obj) (h : StepStop) → IsLeastChoice t x.scope x.facts pattern args → StepStopsAmong x (needs_of_use t args x.scope) h → StepStopsFilling t x pattern (match_stop h)
 match_stops t x pattern args (step_stop.Lacks (Literal l) values) least k = absurd (none_not_allowed x.scope x.facts (needs_of_use t args x.scope) l least.good.allowed k.0)
 match_stops t x pattern args (step_stop.Lacks Match values) least k = absurd k
 match_stops t x pattern args (step_stop.Lacks Contradiction values) least k = absurd k
@@ -225,7 +225,7 @@ match_stops t x pattern args (step_stop.TooWide Match width) least k = absurd k
 match_stops t x pattern args (step_stop.TooWide Contradiction width) least k = absurd k
 match_stops t x pattern args step_stop.NoMemory least k = tt
 
-pub match_stops_so : (t : StatementView) (x : Basis) (pattern : List (Option Obj)) (args : List Obj) (h k : StepStop) → IsLeast t x.scope x.facts pattern args → StepStopsAmong x (needs_of_use t args x.scope) h → k ≡ match_stop h → StepStopsFilling t x pattern k
+pub match_stops_so : (t : StatementView) (x : Basis) (pattern : List (Option Obj)) (args : List Obj) (h k : StepStop) → IsLeastChoice t x.scope x.facts pattern args → StepStopsAmong x (needs_of_use t args x.scope) h → k ≡ match_stop h → StepStopsFilling t x pattern k
 match_stops_so t x pattern args h k least stops_at is = subst (StepStopsFilling t x pattern) (sym is) (match_stops t x pattern args h least stops_at)
 
 -- ---- what the code says

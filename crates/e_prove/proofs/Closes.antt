@@ -18,7 +18,7 @@ use Rattle.e_clause.specs.declared.cert.Version.TheVariants as version
 use Rattle.e_clause.specs.Versions.{is_cert_of}
 use Rattle.e_licence.specs.declared.contradiction.Refuted.{Refuted}
 use Rattle.e_licence.specs.declared.contradiction.Refuted.TheVariants as refuted
-use Rattle.e_licence.specs.Licences.{IsCertifiedAgainst, IsConsistentBy, IsRefuted}
+use Rattle.e_licence.specs.Licences.{IsCertifiedAgainst, IsConsistentBy, IsAnswerAgainst}
 use Rattle.e_deriv.specs.declared.block.Close.TheVariants.{Qed as QedClose, Contradiction as ContradictionClose}
 use Rattle.e_deriv.specs.declared.stop.Wanted.TheVariants.{Literal, Match, Contradiction as AContradiction}
 use Rattle.e_deriv.specs.Script.{Qed, close_script, erased}
@@ -108,13 +108,13 @@ unfolding close_script
 contradiction_wide before written x goal width h filled = h
 
 -- what the answer on a contradiction makes of the close is right
-pub closed_so : (x : Basis) (a : Refuted) → IsRefuted x a →
+pub closed_so : (x : Basis) (a : Refuted) → IsAnswerAgainst x a →
     IfOk (contradiction_by a) (λ d. (before : List StatementView) (goal : Goal) (written : Option Against) → IsLicensedClose before (ContradictionClose written) x goal d)
 closed_so x (refuted.Yes against) h = λ before goal written. closed_by_against before written against x goal h
 closed_so x (refuted.No values) h = tt
 closed_so x (refuted.TooWide width) h = tt
 
-pub stopped_so : (x : Basis) (a : Refuted) → IsRefuted x a →
+pub stopped_so : (x : Basis) (a : Refuted) → IsAnswerAgainst x a →
     IfErr (contradiction_by a) (λ h. (before : List StatementView) (goal : Goal) (written : Option Against) → IsStopOfClose before (ContradictionClose written) x goal h)
 stopped_so x (refuted.Yes against) h = tt
 stopped_so x (refuted.No values) h = λ before goal written. contradiction_lacks before written x goal values h

@@ -20,7 +20,7 @@ use Rattle.e_deriv.specs.Fitting.{IsFitting}
 use Rattle.e_prove.specs.inner.StepStates.{start_of}
 use Rattle.e_prove.specs.declared.step_state.StepState.{StepState}
 use Rattle.e_prove.specs.inner.PassedSteps.{IsReadyFor, IsDerivedFrom, ReachesStep, StopsWithin}
-use Rattle.e_prove.specs.Places.{IsPlace}
+use Rattle.e_prove.specs.Places.{IsStepPlace}
 use Rattle.e_prove.specs.Stops.{StopIs, HasNames}
 use Rattle.e_prove.proofs.ReadySteps.{first_facts}
 
@@ -99,7 +99,7 @@ stop_is before t names script x goal s is same k =
 -- ---- the place
 
 place_at : (before : List StatementView) (t : StatementView) (names : Names) (script : Script) (n : ℕ) (y : StepState) → ReachesStep before script (start_of t names) (goal_of_statement t) 1 n y →
-    IsPlace before t names script n (record { context = y.context; names = y.names })
+    IsStepPlace before t names script n (record { context = y.context; names = y.names })
 place_at before t names script n y k =
     let r = k.reached in
     record {
@@ -111,7 +111,7 @@ place_at before t names script n y k =
     }
 
 pub place_is : (before : List StatementView) (t : StatementView) (names : Names) (script : Script) (n : ℕ) (x y : StepState) (goal : Goal) → x ≡ start_of t names → goal ≡ goal_of_statement t → ReachesStep before script x goal 1 n y →
-    IsPlace before t names script n (record { context = y.context; names = y.names })
+    IsStepPlace before t names script n (record { context = y.context; names = y.names })
 place_is before t names script n x y goal is same k =
     place_at before t names script n y (subst (λ z. ReachesStep before script z (goal_of_statement t) 1 n y) is (subst (λ g. ReachesStep before script x g 1 n y) same k))
 

@@ -3,7 +3,7 @@ ghost use Rattle.std.specs.Prelude.{◌≤◌, IfOk, IfErr};
 ghost use Rattle.e_theorem.specs.Statements.{stated, all_stated};
 ghost use Rattle.e_deriv.specs.Script.{script_of, size};
 ghost use Rattle.e_deriv.specs.Fitting.{IsFitting};
-ghost use Rattle.e_prove.specs.Places.{IsPlace};
+ghost use Rattle.e_prove.specs.Places.{IsStepPlace};
 ghost use Rattle.e_prove.specs.Stops.{StopIs, HasNames, IsStopBefore};
 
 use crate::close::Goal;
@@ -40,7 +40,7 @@ pub fn context_at(
         (script_of theorem.now.block) }
     requires first { 1 ≤ step }
     requires last { step ≤ size (script_of theorem.now.block) }
-    ensures place { IfOk result (IsPlace (all_stated before.now) (stated theorem.now.statement)
+    ensures place { IfOk result (IsStepPlace (all_stated before.now) (stated theorem.now.statement)
         theorem.now.names (script_of theorem.now.block) step) }
     ensures stop { IfErr result (StopIs (all_stated before.now) (stated theorem.now.statement)
         (script_of theorem.now.block)) }

@@ -31,9 +31,9 @@ after_next [] = []
 after_next (k ∷ ks) = ks
 
 -- the next is taken out
-abbrev pub NextIs : List StepCerts → Option StepCerts → List StepCerts → Type 0
-NextIs old None new = (old ≡ []) × (new ≡ [])
-NextIs old (Some k) new = old ≡ k ∷ new
+abbrev pub NextCerts : List StepCerts → Option StepCerts → List StepCerts → Type 0
+NextCerts old None new = (old ≡ []) × (new ≡ [])
+NextCerts old (Some k) new = old ≡ k ∷ new
 
 -- The script with these certificates, in the order of its lines: at each line that can have some, those that come next. And the
 -- certificates that are left.

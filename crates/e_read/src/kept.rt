@@ -1,7 +1,7 @@
 //! What was read below the lines of a block.
 ghost use Rattle.std.specs.Prelude.{◌≡◌, ◌++◌, [], OnOk};
 ghost use Rattle.std.specs.Option.{option_to_list};
-ghost use Rattle.e_read.specs.Filled.{NextIs};
+ghost use Rattle.e_read.specs.Filled.{NextCerts};
 
 use e_cert::StepCerts;
 use std::alloc::{AllocError, Global};
@@ -73,7 +73,7 @@ impl Model for CertQueue {
 impl CertQueue {
     /// Takes the next out.
     pub(crate) fn pop(&mut self) -> Option<StepCerts>
-        ensures { NextIs self.old result self.new }
+        ensures { NextCerts self.old result self.new }
     {
         self.rest.next()
     }

@@ -22,7 +22,7 @@ use Rattle.e_book.specs.TheoremViews.{TheoremView}
 use Rattle.e_run.specs.Outcome.{Rest, BookOutcome, IsOutcomeOf, Begins, StopsAt, RefusedAt, HasWide, lines_of_book}
 use Rattle.e_run.specs.Outcome as outcome
 use Rattle.e_run.specs.Answers.{Outputs, Checks, ChecksBook, OutcomeAfter, Refuses, Widens, IsAnswer, Answers, UsageAnswer, AnswersUsage, theorems_of}
-use Rattle.e_run.specs.inner.BookResults.{Closes}
+use Rattle.e_run.specs.inner.BookResults.{ClosesWith}
 use Rattle.e_run.specs.LastLines.{usage_line}
 use Rattle.e_run.proofs.Wrote.{closed_wrote}
 use Rattle.e_run.proofs.OneOutcome.{outcome_is_one}
@@ -144,5 +144,5 @@ answers left old new answer c text end is_answer h =
     answered text end old new answer h (subst (λ (t : List ℕ). Checks (lines_of_book t) old new answer) all.1 all.2)
 
 -- the usage line was written, or a front of it
-pub answers_usage : (old new : Option (List ℕ)) (answer : Status) → Closes old new usage_line status.Usage answer → AnswersUsage old new answer
+pub answers_usage : (old new : Option (List ℕ)) (answer : Status) → ClosesWith old new usage_line status.Usage answer → AnswersUsage old new answer
 answers_usage old new answer c = closed_wrote UsageAnswer old new usage_line status.Usage answer refl c

@@ -16,18 +16,18 @@ use Rattle.e_run.specs.declared.status.Status.{Status}
 use Rattle.e_run.specs.declared.status.Status.TheVariants as status
 use Rattle.e_run.specs.Answers.{IsDrawn}
 use Rattle.e_run.specs.Input.{IsTextOf}
-use Rattle.e_run.specs.inner.BookResults.{Closes}
+use Rattle.e_run.specs.inner.BookResults.{ClosesWith}
 use Rattle.e_run.specs.VerifierAnswers.{IsFailure}
-use Rattle.e_run.specs.DrawerAnswers.{FigureAnswer, Draws, DrawsText, lacks_memory, figure_answer, AnswersFigure}
+use Rattle.e_run.specs.DrawerAnswers.{FigureAnswer, DrawsAndWrites, DrawsText, lacks_memory, figure_answer, AnswersFigure}
 use Rattle.e_run.proofs.Wrote.{closed_wrote}
 use Rattle.e_run.proofs.WholeBook.{short_by_size}
 
 -- what is written last is all that is written
-pub drawn_closed : (text : List ℕ) (old new : Option (List ℕ)) (last : List ℕ) (answer result : Status) → FigureAnswer text answer last → Closes old new last answer result → Draws text old new result
+pub drawn_closed : (text : List ℕ) (old new : Option (List ℕ)) (last : List ℕ) (answer result : Status) → FigureAnswer text answer last → ClosesWith old new last answer result → DrawsAndWrites text old new result
 drawn_closed text old new last answer result t c = closed_wrote (FigureAnswer text) old new last answer result t c
 
 -- some text is the source's
-pub any_figure : (left old new : Option (List ℕ)) (answer : Status) → ((text : List ℕ) → Draws text old new answer) → DrawsText left old new answer
+pub any_figure : (left old new : Option (List ℕ)) (answer : Status) → ((text : List ℕ) → DrawsAndWrites text old new answer) → DrawsText left old new answer
 any_figure None old new answer h = ([], tt, h [])
 any_figure (Some text) old new answer h = (text, refl, h text)
 
@@ -47,13 +47,13 @@ due_alike read text status.ReadFault out e t = t
 due_alike read text status.NoMemory out e t = t
 due_alike read text answer out e t = absurd t
 
-draws_alike : (read text : List ℕ) (old new : Option (List ℕ)) (answer : Status) → drawn_of read ≡ drawn_of text → Draws read old new answer → Draws text old new answer
+draws_alike : (read text : List ℕ) (old new : Option (List ℕ)) (answer : Status) → drawn_of read ≡ drawn_of text → DrawsAndWrites read old new answer → DrawsAndWrites text old new answer
 draws_alike read text old new answer e (inl w) = inl (record { out = w.out; due = due_alike read text answer w.out e w.due; grew = w.grew })
 draws_alike read text old new answer e (inr w) =
     inr (w.0, record { answer = w.1.answer; out = w.1.out; due = due_alike read text w.1.answer w.1.out e w.1.due; grew = w.1.grew })
 
 -- what was read answers as the whole does
-pub read_figure : (left : Option (List ℕ)) (read : List ℕ) (old new : Option (List ℕ)) (answer : Status) → IsTextOf 4194305 left read → Draws read old new answer → DrawsText left old new answer
+pub read_figure : (left : Option (List ℕ)) (read : List ℕ) (old new : Option (List ℕ)) (answer : Status) → IsTextOf 4194305 left read → DrawsAndWrites read old new answer → DrawsText left old new answer
 read_figure None read old new answer e h = (read, tt, h)
 read_figure (Some text) read old new answer e h = (text, refl, draws_alike read text old new answer (ap drawn_of e ∙ drawn_front text) h)
 
@@ -69,7 +69,7 @@ short_figure text d e =
 no_fault_drawn : (n : ℕ) → status.Drawn n ≡ status.WriteFault → ⊥
 no_fault_drawn n e = cc
 
-pub drawn_is_short : (text : List ℕ) (old new : Option (List ℕ)) (answer : Status) → Draws text old new answer → IsDrawn answer → length text ≤ 4194304
+pub drawn_is_short : (text : List ℕ) (old new : Option (List ℕ)) (answer : Status) → DrawsAndWrites text old new answer → IsDrawn answer → length text ≤ 4194304
 drawn_is_short text old new (status.Drawn n) (inl w) d = short_figure text (n, w.out) w.due
 drawn_is_short text old new (status.Drawn n) (inr w) d = absurd (no_fault_drawn n w.0)
 drawn_is_short text old new answer w d = absurd d
@@ -94,7 +94,7 @@ due_answered text status.ReadFault out t = inr tt
 due_answered text status.NoMemory out t = inr tt
 due_answered text answer out t = absurd t
 
-answered_as : (text : List ℕ) (old new : Option (List ℕ)) (answer : Status) → Draws text old new answer → (answer ≡ figure_answer (drawn_of text)) ⊎ IsFailure answer
+answered_as : (text : List ℕ) (old new : Option (List ℕ)) (answer : Status) → DrawsAndWrites text old new answer → (answer ≡ figure_answer (drawn_of text)) ⊎ IsFailure answer
 answered_as text old new answer (inl w) = due_answered text answer w.out w.due
 answered_as text old new answer (inr w) = inr (subst IsFailure (sym w.0) tt)
 
@@ -102,4 +102,4 @@ answered_as text old new answer (inr w) = inr (subst IsFailure (sym w.0) tt)
 pub answers_figure : (left old new : Option (List ℕ)) (answer : Status) → DrawsText left old new answer → AnswersFigure left answer
 answers_figure left old new answer c text is_text =
     let all = subst (λ (l : Option (List ℕ)). DrawsText l old new answer) is_text c in
-    answered_as text old new answer (subst (λ (t : List ℕ). Draws t old new answer) all.1 all.2)
+    answered_as text old new answer (subst (λ (t : List ℕ). DrawsAndWrites t old new answer) all.1 all.2)

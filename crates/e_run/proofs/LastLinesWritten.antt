@@ -15,7 +15,7 @@ use Rattle.e_run.specs.Outcome.{Rest, lines_of_book}
 use Rattle.e_run.specs.Outcome as outcome
 use Rattle.e_run.specs.LastLines.{head_line, no_memory_line, read_fault_line}
 use Rattle.e_run.specs.Answers.{Derived, blocks_of, written_with, OutputUpTo, OutcomeAfter, Refuses, Widens, Outputs, Checks, ChecksBook, IsAccepted}
-use Rattle.e_run.specs.inner.BookResults.{BlocksUpTo, BreaksOff, BreaksInside, BookResultIs, IsAll, HasLastLines, Closes, last_lines, answer_of}
+use Rattle.e_run.specs.inner.BookResults.{BlocksUpTo, BreaksOff, BreaksInside, BookResultIs, IsAll, HasLastLines, ClosesWith, last_lines, answer_of}
 use Rattle.e_run.proofs.VerifiedText.{verified_text}
 
 -- the head line, the blocks and the last lines, one after another
@@ -37,7 +37,7 @@ grew_front old s0 s1 s2 ds last h b l =
 
 -- the answer is right, by what its bytes are
 pub closed : (lines : Rest) (old s0 s1 s2 : Option (List ℕ)) (ds : List Derived) (last : List ℕ) (answer result : Status)
-    → Outputs lines answer (written_with ds last) → Grew old s0 head_line → Grew s0 s1 (blocks_of [] ds) → Closes s1 s2 last answer result → Checks lines old s2 result
+    → Outputs lines answer (written_with ds last) → Grew old s0 head_line → Grew s0 s1 (blocks_of [] ds) → ClosesWith s1 s2 last answer result → Checks lines old s2 result
 closed lines old s0 s1 s2 ds last answer result outputs h b (inl c) =
     subst (Checks lines old s2) (sym c.0) (inl (record { out = written_with ds last; due = outputs; grew = grew_all old s0 s1 s2 ds last h b c.1 }))
 closed lines old s0 s1 s2 ds last answer result outputs h b (inr c) =
@@ -50,7 +50,7 @@ ended lines s0 s1 Holds last e =
 
 -- the lines ended so, and the last lines of that answer come
 pub closed_result : (lines : Rest) (old s0 s1 s2 : Option (List ℕ)) (book_result : BookResult) (result : Status)
-    → Grew old s0 head_line → BookResultIs lines s0 s1 book_result → Closes s1 s2 (last_lines book_result) (answer_of book_result) result → Checks lines old s2 result
+    → Grew old s0 head_line → BookResultIs lines s0 s1 book_result → ClosesWith s1 s2 (last_lines book_result) (answer_of book_result) result → Checks lines old s2 result
 closed_result lines old s0 s1 s2 (All n s) result h e c =
     closed lines old s0 s1 s2 e.0.derived (last_lines (All n s)) (answer_of (All n s)) result
     (ended lines s0 s1 (OutcomeAfter lines (outcome.Accepted n)) (last_lines (All n s)) e.0, verified_text lines n e.0.derived e.0.known e.0.rest e.0.sound e.0.begins e.0.holds) h e.0.grew c
@@ -69,7 +69,7 @@ closed_result lines old s0 s1 s2 (Faulty f) result h e c =
 
 -- memory gave out after some blocks
 pub closed_error : (lines : Rest) (old s0 s1 s2 : Option (List ℕ)) (result : Status)
-    → Grew old s0 head_line → BreaksOff lines s0 s1 → Closes s1 s2 no_memory_line status.NoMemory result → Checks lines old s2 result
+    → Grew old s0 head_line → BreaksOff lines s0 s1 → ClosesWith s1 s2 no_memory_line status.NoMemory result → Checks lines old s2 result
 closed_error lines old s0 s1 s2 result h e c =
     closed lines old s0 s1 s2 e.derived no_memory_line status.NoMemory result
     (record { derived = e.derived; sound = e.sound; front = e.front; bytes = refl }) h e.grew c
@@ -112,10 +112,10 @@ closed_inside lines old s0 s1 h e =
 
 -- the same, by what the calls gave
 pub closed_result_as : (lines : Rest) (old s0 s1 s2 : Option (List ℕ)) (book_result : BookResult) (last : List ℕ) (answer result : Status)
-    → last ≡ last_lines book_result → answer ≡ answer_of book_result → Grew old s0 head_line → BookResultIs lines s0 s1 book_result → Closes s1 s2 last answer result → Checks lines old s2 result
+    → last ≡ last_lines book_result → answer ≡ answer_of book_result → Grew old s0 head_line → BookResultIs lines s0 s1 book_result → ClosesWith s1 s2 last answer result → Checks lines old s2 result
 closed_result_as lines old s0 s1 s2 book_result last answer result e f h k c =
     closed_result lines old s0 s1 s2 book_result result h k
-    (subst (λ (l : List ℕ). Closes s1 s2 l (answer_of book_result) result) e (subst (λ (a : Status). Closes s1 s2 last a result) f c))
+    (subst (λ (l : List ℕ). ClosesWith s1 s2 l (answer_of book_result) result) e (subst (λ (a : Status). ClosesWith s1 s2 last a result) f c))
 
 -- a front of the head line was written
 pub closed_head : (lines : Rest) (old new : Option (List ℕ)) → GrewByFront old new head_line → Checks lines old new status.WriteFault
@@ -138,7 +138,7 @@ closed_head lines old new w =
 
 -- the source gave out after some blocks
 pub closed_cut : (lines : Rest) (old s0 s1 s2 : Option (List ℕ)) (result : Status)
-    → Grew old s0 head_line → BreaksOff lines s0 s1 → Closes s1 s2 read_fault_line status.ReadFault result → Checks lines old s2 result
+    → Grew old s0 head_line → BreaksOff lines s0 s1 → ClosesWith s1 s2 read_fault_line status.ReadFault result → Checks lines old s2 result
 closed_cut lines old s0 s1 s2 result h e c =
     closed lines old s0 s1 s2 e.derived read_fault_line status.ReadFault result
     (record { derived = e.derived; sound = e.sound; front = e.front; bytes = refl }) h e.grew c
@@ -164,11 +164,11 @@ accepted_is_all (Stopped title (stops.TooWide step wanted width names)) answer r
 accepted_is_all (Stopped title stops.NoMemory) answer result e f a = absurd (subst IsAccepted (f ∙ e) a)
 accepted_is_all (Faulty f') answer result e f a = absurd (subst IsAccepted (f ∙ e) a)
 
-pub accepted_all : (book_result : BookResult) (old new : Option (List ℕ)) (last : List ℕ) (answer result : Status) → answer ≡ answer_of book_result → Closes old new last answer result → IsAccepted result → IsAll book_result
+pub accepted_all : (book_result : BookResult) (old new : Option (List ℕ)) (last : List ℕ) (answer result : Status) → answer ≡ answer_of book_result → ClosesWith old new last answer result → IsAccepted result → IsAll book_result
 accepted_all book_result old new last answer result e (inl c) a = accepted_is_all book_result answer result e c.0 a
 accepted_all book_result old new last answer result e (inr c) a = absurd (subst IsAccepted c.0 a)
 
 -- nor where the answer is another
-pub other_accepted : (old new : Option (List ℕ)) (last : List ℕ) (answer result : Status) → Closes old new last answer result → (IsAccepted answer → ⊥) → IsAccepted result → ⊥
+pub other_accepted : (old new : Option (List ℕ)) (last : List ℕ) (answer result : Status) → ClosesWith old new last answer result → (IsAccepted answer → ⊥) → IsAccepted result → ⊥
 other_accepted old new last answer result (inl c) other a = other (subst IsAccepted c.0 a)
 other_accepted old new last answer result (inr c) other a = subst IsAccepted c.0 a

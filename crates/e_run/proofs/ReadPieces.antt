@@ -3,7 +3,7 @@ use Rattle.std.proofs.Common.{◌≡◌, ℕ, zero, suc, ◌+◌, ◌<◌, ◌�
 use Rattle.std.specs.Prelude.{IfOk}
 use Rattle.std.proofs.lemmas.Bool.{eqb-true}
 use Rattle.std.proofs.lemmas.List.{append-nil, nil_from_length}
-use Rattle.e_io.specs.Bytes.{Reads, Grew}
+use Rattle.e_io.specs.Bytes.{ReadsBytes, Grew}
 use Rattle.e_text.specs.Lines.{Bounds, Spot, HaveNoFault, IsClosed, IsOpen, lines_of, spot_after}
 use Rattle.e_text.proofs.Fronts.{lines_of-front}
 use Rattle.e_text.proofs.ClosedTexts.{closed_both, closed_after, then_good, good_both, fault_is_last, then_some}
@@ -22,7 +22,7 @@ use Rattle.e_run.specs.Input.{IsTextOf}
 use Rattle.e_run.specs.LastLines.{head_line, read_fault_line}
 use Rattle.e_run.specs.Outcome.{Rest, end_line_number, lines_of_book}
 use Rattle.e_run.specs.Answers.{IsReadFault, written_with}
-use Rattle.e_run.specs.inner.BookResults.{BreaksOff, BlocksAre, SourceResultIs, IsAll, Closes}
+use Rattle.e_run.specs.inner.BookResults.{BreaksOff, BlocksAre, SourceResultIs, IsAll, ClosesWith}
 use Rattle.e_run.specs.inner.Progress.{History, IsBook, Reaches, IsReadUpTo, PieceTakes, first_book}
 use Rattle.e_run.specs.Taken.{TookFew, AllTaken, OfWholeLines, HandledAll}
 use Rattle.e_run.specs.inner.Handled.{AllBlocks, HandledBlocks, TextResultIs}
@@ -178,7 +178,7 @@ pub record ReadState (left0 left old : Option (List ℕ)) (b : Book) (u : Untake
   pub is_read : IsReadUpTo read old b u new
 
 -- one more piece was read and taken
-pub read_state_more : (E : Type 0) (left0 left next old : Option (List ℕ)) (b c : Book) (u v : Untaken) (new newer : Option (List ℕ)) (to piece : List ℕ) (n : ℕ) (s : ReadState left0 left old b u new) → piece ≡ take n to → Reads {E = E} left next (Ok n) to
+pub read_state_more : (E : Type 0) (left0 left next old : Option (List ℕ)) (b c : Book) (u v : Untaken) (new newer : Option (List ℕ)) (to piece : List ℕ) (n : ℕ) (s : ReadState left0 left old b u new) → piece ≡ take n to → ReadsBytes {E = E} left next (Ok n) to
     → IsReadUpTo (s.read ++ piece) old c v newer → ReadState left0 next old c v newer
 read_state_more E left0 left next old b c u v new newer to piece n s is r h =
     record { read = s.read ++ piece; so_far = subst (λ (xs : List ℕ). TakenSoFar left0 next (s.read ++ xs)) (sym is) (taken_more E left0 left next s.read to n s.so_far r); is_read = h }
@@ -207,13 +207,13 @@ pub no_read : (lines : Rest) (old new : Option (List ℕ)) (r : Result BookResul
 no_read lines old new r h e = subst (BlocksAre lines old new) e h
 
 -- the blocks end or break off in a piece
-pub ends_in_piece : (E : Type 0) (left0 left next old : Option (List ℕ)) (b : Book) (u : Untaken) (new newer : Option (List ℕ)) (to piece : List ℕ) (n : ℕ) (s : ReadState left0 left old b u new) (r : Result BookResult RunError) → piece ≡ take n to → Reads {E = E} left next (Ok n) to
+pub ends_in_piece : (E : Type 0) (left0 left next old : Option (List ℕ)) (b : Book) (u : Untaken) (new newer : Option (List ℕ)) (to piece : List ℕ) (n : ℕ) (s : ReadState left0 left old b u new) (r : Result BookResult RunError) → piece ≡ take n to → ReadsBytes {E = E} left next (Ok n) to
     → ((more : List ℕ) → BlocksAre (lines_of_book ((s.read ++ piece) ++ more)) old newer r) → TextResultIs left0 old newer r
 ends_in_piece E left0 left next old b u new newer to piece n s r is reads h =
     all_of left0 next (s.read ++ piece) (λ text. SourceResultIs (lines_of_book text) old newer r) (subst (λ (xs : List ℕ). TakenSoFar left0 next (s.read ++ xs)) (sym is) (taken_more E left0 left next s.read to n s.so_far reads))
     (λ more. book_ends (lines_of_book ((s.read ++ piece) ++ more)) old newer r (h more))
 
-pub took_in_piece : (E : Type 0) (left0 left next old : Option (List ℕ)) (b : Book) (u : Untaken) (new : Option (List ℕ)) (to piece : List ℕ) (n : ℕ) (s : ReadState left0 left old b u new) → piece ≡ take n to → Reads {E = E} left next (Ok n) to
+pub took_in_piece : (E : Type 0) (left0 left next old : Option (List ℕ)) (b : Book) (u : Untaken) (new : Option (List ℕ)) (to piece : List ℕ) (n : ℕ) (s : ReadState left0 left old b u new) → piece ≡ take n to → ReadsBytes {E = E} left next (Ok n) to
     → u.before + length u.bytes.items + length piece ≤ 4194305 → TookFew left0 next
 took_in_piece E left0 left next old b u new to piece n s is reads few =
     taken_of left0 next (s.read ++ piece) (λ taken. length taken ≤ 4194305) (subst (λ (xs : List ℕ). TakenSoFar left0 next (s.read ++ xs)) (sym is) (taken_more E left0 left next s.read to n s.so_far reads))
@@ -229,7 +229,7 @@ if_all P (Ok book_result) p = λ a. p
 if_all P (Err error) p = tt
 
 -- the last line comes where the answer is the read fault
-pub last_grew : (old new : Option (List ℕ)) (last : List ℕ) (result : Status) → Closes old new last status.ReadFault result → result ≡ status.ReadFault → Grew old new last
+pub last_grew : (old new : Option (List ℕ)) (last : List ℕ) (result : Status) → ClosesWith old new last status.ReadFault result → result ≡ status.ReadFault → Grew old new last
 last_grew old new last result (inl c) e = c.1
 last_grew old new last result (inr c) e = absurd (let f : status.WriteFault ≡ status.ReadFault = sym c.0 ∙ e in cc)
 

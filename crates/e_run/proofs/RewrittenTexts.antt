@@ -18,7 +18,7 @@ use Rattle.e_verify.specs.Verdicts.{IsVerifiable}
 use Rattle.e_judgement.specs.declared.judgement.Judgement.{Judgement}
 use Rattle.e_judgement.specs.declared.judgement.Judgement.TheVariants as judgements
 use Rattle.e_judgement.specs.Judged.{Rest, with_theorem, ReadsNext, IsCertified, Passes, Closes, JudgedAfterHead, version_of, lines_of_text}
-use Rattle.e_judgement.specs.Steps.{IsNext, version_at, Begins as Starts}
+use Rattle.e_judgement.specs.Steps.{IsNextCertified, version_at, IsHeadFound as Starts}
 use Rattle.e_judgement.proofs.Passing.{passes_more}
 use Rattle.e_judgement.proofs.OneJudgement.{one_after_head}
 use Rattle.e_roundtrip.proofs.Texts.VerifiedTexts.{verified_is_written}
@@ -30,8 +30,8 @@ use Rattle.e_run.specs.LastLines.{no_memory_line}
 use Rattle.e_run.specs.Answers.{IsReadFault, IsWriteFault}
 use Rattle.e_run.specs.Proofs.{RewroteProofs}
 use Rattle.e_run.specs.VerifierAnswers.{IsFailure}
-use Rattle.e_run.specs.Rewrites.{head_of, block_of, blocks_of, line_of, verified_answer, answer_of, written_with, read_as, AreFirstAfterHead, AreFirst, EndsAfterHead, EndsAfter, RewriteAnswer, Rewrites, RewritesText, JudgesLinesFor, JudgesFor, AnswersRewrite}
-use Rattle.e_run.specs.inner.BookResults.{Closes as ClosesWith}
+use Rattle.e_run.specs.Rewrites.{head_of, block_of, blocks_of, line_of, verified_answer, answer_of, written_with, read_as, AreFirstAfterHead, AreFirstTheorems, EndsAfterHead, EndsAfter, RewriteAnswer, Rewrites, RewritesText, JudgesLinesFor, JudgesFor, AnswersRewrite}
+use Rattle.e_run.specs.inner.BookResults.{ClosesWith}
 use Rattle.e_run.specs.declared.blocks.RunError.{RunError}
 use Rattle.e_run.specs.declared.blocks.RunError.TheVariants as errors
 use Rattle.e_run.specs.inner.Rewriting.{HasVersionFor, IsReadFor, IsVerified, IsOfSecond, AreOfSecond, Broke, WroteOf, WroteFrontOf, WroteTheorems, ComeFirst, ComeAll, TheoremsWritten, BlocksWritten, Progress, IsReported}
@@ -47,7 +47,7 @@ version_for Trim v d first h = subst (λ (x : Version). has_certs_of x d ≡ tru
 version_for Uses v d first h = tt
 
 -- what comes next of a text that the command reads can be written again
-pub is_verified : (job : Job) (v : Version) (known : List TitledStatement) (last : ℕ) (lines : Rest) (t : TheoremView) (after : Rest) → IsReadFor job v → IsNext v known last lines t after → IsVerified job known t
+pub is_verified : (job : Job) (v : Version) (known : List TitledStatement) (last : ℕ) (lines : Rest) (t : TheoremView) (after : Rest) → IsReadFor job v → IsNextCertified v known last lines t after → IsVerified job known t
 is_verified job v known last lines t after first n = record { verifiable = n.verifiable; certified = n.certified; version = version_for job v t.script first n.version; new = n.spelled.fits.new }
 
 -- and trimmed, where it is of the first version
@@ -137,9 +137,9 @@ head_then job text lines after head v old new r is starts e k =
     let at : lines_of_text text ≡ Ok t.0 ∷ after.lines = sym is ∙ t.1 in
     let says : version_of t.0 ≡ head = sym (ap version_at t.1) ∙ sym starts.head in
     let here : read_as job (version_of t.0) ≡ Some v = ap (read_as job) says ∙ e in
-    wrote_as job (ComeAll v (last_of after) after.lines) (EndsAfter job (lines_of_text text)) (ComeFirst v (last_of after) after.lines) (AreFirst job (lines_of_text text)) old new r
+    wrote_as job (ComeAll v (last_of after) after.lines) (EndsAfter job (lines_of_text text)) (ComeFirst v (last_of after) after.lines) (AreFirstTheorems job (lines_of_text text)) old new r
     (λ ts j w. subst (λ (x : Rest). EndsAfter job x ts j) (sym at) (subst (λ (o : Option Version). EndsAfterHead o after.lines ts j) (sym here) (all_at t.2 ts j w)))
-    (λ ts w. subst (λ (x : Rest). AreFirst job x ts) (sym at) (subst (λ (o : Option Version). AreFirstAfterHead o after.lines ts) (sym here) (first_at t.2 ts w)))
+    (λ ts w. subst (λ (x : Rest). AreFirstTheorems job x ts) (sym at) (subst (λ (o : Option Version). AreFirstAfterHead o after.lines ts) (sym here) (first_at t.2 ts w)))
     k
   where
     all_at : after.line ≡ 2 → (ts : List TheoremView) (j : Judgement) → ComeAll v (last_of after) after.lines ts j → ComeAll v (2 + length after.lines) after.lines ts j
@@ -162,27 +162,27 @@ not_begun job text lines after head old is starts e =
 -- ---- some first theorems of a text
 
 -- no theorem comes before any text
-none_first : (job : Job) (text : List ℕ) → AreFirst job (lines_of_text text) []
+none_first : (job : Job) (text : List ℕ) → AreFirstTheorems job (lines_of_text text) []
 none_first job text = by (lines_of_text text)
   where
     after : (o : Option Version) (lines : Rest) → AreFirstAfterHead o lines []
     after None lines = refl
     after (Some v) lines = ([], lines, (refl, refl))
 
-    by : (lines : Rest) → AreFirst job lines []
+    by : (lines : Rest) → AreFirstTheorems job lines []
     by [] = refl
     by (Err f ∷ lines) = refl
     by (Ok l ∷ lines) = after (read_as job (version_of l)) lines
 
 -- those before its end are
-first_of_all : (job : Job) (text : List ℕ) (ts : List TheoremView) (j : Judgement) → EndsAfter job (lines_of_text text) ts j → AreFirst job (lines_of_text text) ts
+first_of_all : (job : Job) (text : List ℕ) (ts : List TheoremView) (j : Judgement) → EndsAfter job (lines_of_text text) ts j → AreFirstTheorems job (lines_of_text text) ts
 first_of_all job text ts j h = by (lines_of_text text) h
   where
     after : (o : Option Version) (lines : Rest) → EndsAfterHead o lines ts j → AreFirstAfterHead o lines ts
     after None lines k = k.0
     after (Some v) lines k = (k.0, k.1, k.2)
 
-    by : (lines : Rest) → EndsAfter job lines ts j → AreFirst job lines ts
+    by : (lines : Rest) → EndsAfter job lines ts j → AreFirstTheorems job lines ts
     by [] k = k.0
     by (Err f ∷ lines) k = k.0
     by (Ok l ∷ lines) k = after (read_as job (version_of l)) lines k
@@ -213,7 +213,7 @@ closed job text old s0 s1 s2 ts last answer result due h b (inr c) =
     inr (c.0, record { answer = answer; out = written_with job ts last; due = due; grew = grew_front job old s0 s1 s2 ts last h b c.1 })
 
 -- a front of what is due of the theorems was written
-pub closed_inside : (job : Job) (text : List ℕ) (old s0 s1 : Option (List ℕ)) → Grew old s0 (head_of job) → WroteFrontOf job (AreFirst job (lines_of_text text)) s0 s1 → Rewrites job text old s1 status.WriteFault
+pub closed_inside : (job : Job) (text : List ℕ) (old s0 s1 : Option (List ℕ)) → Grew old s0 (head_of job) → WroteFrontOf job (AreFirstTheorems job (lines_of_text text)) s0 s1 → Rewrites job text old s1 status.WriteFault
 closed_inside job text old s0 s1 h e =
     let ts = e.0 in
     let blocks = blocks_of job [] ts in
@@ -255,7 +255,7 @@ pub closed_first : (job : Job) (text : List ℕ) (old s0 s1 : Option (List ℕ))
     → Rewrites job text old s1 result
 closed_first job text old s0 s1 last answer result due h c = closed job text old s0 s0 s1 [] last answer result due h (grown-nothing s0) c
 
-pub closed_memory : (job : Job) (text : List ℕ) (old s0 s1 s2 : Option (List ℕ)) (result : Status) → Grew old s0 (head_of job) → WroteOf job (AreFirst job (lines_of_text text)) s0 s1 → ClosesWith s1 s2 no_memory_line status.NoMemory result
+pub closed_memory : (job : Job) (text : List ℕ) (old s0 s1 s2 : Option (List ℕ)) (result : Status) → Grew old s0 (head_of job) → WroteOf job (AreFirstTheorems job (lines_of_text text)) s0 s1 → ClosesWith s1 s2 no_memory_line status.NoMemory result
     → Rewrites job text old s2 result
 closed_memory job text old s0 s1 s2 result h e c = closed job text old s0 s1 s2 e.0 no_memory_line status.NoMemory result (record { theorems = e.0; first = e.1; bytes = refl }) h e.2 c
 

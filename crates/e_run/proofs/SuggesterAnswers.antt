@@ -34,7 +34,7 @@ use Rattle.e_book.proofs.Fitting.{one_more_stated}
 use Rattle.e_names.proofs.NotionsBeside.{one_more_notion}
 use Rattle.e_prove.proofs.StopsInLists.{at_less}
 use Rattle.e_suggest.specs.Suggestions.{SomeArgsAreTooWide}
-use Rattle.e_prove.specs.Places.{IsPlace}
+use Rattle.e_prove.specs.Places.{IsStepPlace}
 use Rattle.e_prove.specs.Stops.{StopIs, HasNames, IsStopBefore}
 use Rattle.e_prove.specs.declared.place.Place.{Place}
 use Rattle.e_spell.specs.Spelling.{stop_text, too_wide_text, IsStop}
@@ -47,10 +47,10 @@ use Rattle.e_run.specs.Input.{IsTextOf}
 use Rattle.e_run.specs.LastLines.{fault_line, no_step_line, suggested_line}
 use Rattle.e_run.specs.Outcome as outcome
 use Rattle.e_run.specs.Outcome.{BookOutcome, Rest, NextIs, Takes, AreDefined, IsLicensed, StopsAt, RefusedAt, with_theorem, and_theorem, and_notion, end_line_number, lines_of_book}
-use Rattle.e_run.specs.SuggesterAnswers.{Lists, UpTo, NextUpTo, IsEarlier, IsAsked, IsShort, WayOutcome, AtStep, NoStep, Unlicensed, Faulty, IsWayOf, Suggests, Widens, SuggestAnswer, SuggestsBook, HasWideOnWay, IsWayAnswer, AnswersSuggest}
+use Rattle.e_run.specs.SuggesterAnswers.{Lists, UpToTheorem, NextUpTo, IsEarlier, IsAsked, HasTooFewSteps, WayOutcome, AtStep, NoStep, Unlicensed, Faulty, IsWayOf, Suggests, Widens, SuggestAnswer, SuggestsBook, HasWideOnWay, IsWayAnswer, AnswersSuggest}
 use Rattle.e_run.specs.Wrote.{Wrote}
-use Rattle.e_run.specs.inner.BookResults.{Closes, stop_answer}
-use Rattle.e_run.specs.inner.Suggesting.{AnswersAt, IsBookAnswer, IsNext, AnswersNext, PassesNext, IsStopAnswer, IsOnWay, SomeIsTooWide, is_out_of_memory}
+use Rattle.e_run.specs.inner.BookResults.{ClosesWith, stop_answer}
+use Rattle.e_run.specs.inner.Suggesting.{AnswersAt, IsBookAnswer, IsNextTitled, AnswersNext, PassesNext, IsStopAnswer, IsOnWay, SomeIsTooWide, is_out_of_memory}
 use Rattle.e_run.proofs.Completeness.{wide_line, stop_of_refusal}
 use Rattle.e_run.proofs.History.{takes_more, takes_notion, defined_same}
 use Rattle.e_run.proofs.OneOutcome.{found, none_left, found_not_none, found_not_faulty, none_not_faulty, same_faulty, one_stop_at, stop_of_same, same_first, takes_at, same_rest, NoNotion, theorem_here, spot_of}
@@ -134,15 +134,15 @@ way_notion lines title known rest after n w read means =
     }
 
 pub next_of : (lines : Rest) (title : List ℕ) (known : Known) (rest after : Rest) (t : TheoremView) → IsOnWay lines title known rest → item_from known (end_line_number lines) None rest ≡ found (OfTheorem t) after
-    → IsNext lines title known.theorems t
+    → IsNextTitled lines title known.theorems t
 next_of lines title known rest after t w read = record { known = known; rest = rest; after = after; same = refl; way = w; read = read }
 
 -- ---- what is due
 
-up_to : (lines : Rest) (title : List ℕ) (known : Known) (rest : Rest) (Holds : Known → Rest → Type 0) → IsOnWay lines title known rest → Holds known rest → UpTo lines title Holds
+up_to : (lines : Rest) (title : List ℕ) (known : Known) (rest : Rest) (Holds : Known → Rest → Type 0) → IsOnWay lines title known rest → Holds known rest → UpToTheorem lines title Holds
 up_to lines title known rest Holds w h = record { theorems = w.theorems; known = known; rest = rest; begins = w.begins; untitled = w.untitled; holds = h }
 
-next_up_to : (lines : Rest) (title : List ℕ) (before : List TitledStatement) (t : TheoremView) (Holds : List TitledStatement → TheoremView → Type 0) → IsNext lines title before t → Holds before t → NextUpTo lines title Holds
+next_up_to : (lines : Rest) (title : List ℕ) (before : List TitledStatement) (t : TheoremView) (Holds : List TitledStatement → TheoremView → Type 0) → IsNextTitled lines title before t → Holds before t → NextUpTo lines title Holds
 next_up_to lines title before t Holds n h =
     record {
       theorems = n.way.theorems;
@@ -164,14 +164,14 @@ pub none_titled : (lines : Rest) (title : List ℕ) (step : ℕ) (known : Known)
     → answer ≡ status.NoStep → out ≡ no_step_line → IsBookAnswer lines title step answer out
 none_titled lines title step known rest answer out w read e f =
     answer_is lines title step answer status.NoStep out no_step_line e f (λ h. h)
-    (up_to lines title known rest (λ k r. (item_from k (end_line_number lines) None r ≡ Ok None) ⊎ NextIs (end_line_number lines) k r (IsShort title step)) w (inl read), refl)
+    (up_to lines title known rest (λ k r. (item_from k (end_line_number lines) None r ≡ Ok None) ⊎ NextIs (end_line_number lines) k r (HasTooFewSteps title step)) w (inl read), refl)
 
 -- the theorem has fewer steps
-pub too_short : (lines : Rest) (title : List ℕ) (step : ℕ) (before : List TitledStatement) (t : TheoremView) (answer : Status) (out : List ℕ) → IsNext lines title before t → t.title ≡ title → size t.script < step
+pub too_short : (lines : Rest) (title : List ℕ) (step : ℕ) (before : List TitledStatement) (t : TheoremView) (answer : Status) (out : List ℕ) → IsNextTitled lines title before t → t.title ≡ title → size t.script < step
     → answer ≡ status.NoStep → out ≡ no_step_line → IsBookAnswer lines title step answer out
 too_short lines title step before t answer out n titled short e f =
     answer_is lines title step answer status.NoStep out no_step_line e f (λ h. h) (
-      up_to lines title n.known n.rest (λ k r. (item_from k (end_line_number lines) None r ≡ Ok None) ⊎ NextIs (end_line_number lines) k r (IsShort title step)) n.way
+      up_to lines title n.known n.rest (λ k r. (item_from k (end_line_number lines) None r ≡ Ok None) ⊎ NextIs (end_line_number lines) k r (HasTooFewSteps title step)) n.way
           (inr (t, n.after, n.read, record { titled = titled; short = short })),
       refl,
     )
@@ -210,7 +210,7 @@ stops_own title step t (stops.Unlicensed n wanted values names) has less = earli
 stops_own title step t (stops.TooWide n wanted width names) has less = earlier_own title step t n has less
 stops_own title step t stops.NoMemory has less = tt
 
-pub is_stopped : (lines : Rest) (title : List ℕ) (step : ℕ) (known : List TitledStatement) (t : TheoremView) (stop : Stop) (answer : Status) (out : List ℕ) → IsNext lines title known t → StopsEarlier title step t stop
+pub is_stopped : (lines : Rest) (title : List ℕ) (step : ℕ) (known : List TitledStatement) (t : TheoremView) (stop : Stop) (answer : Status) (out : List ℕ) → IsNextTitled lines title known t → StopsEarlier title step t stop
     → StopIs (stated_by known) (stated t.statement) t.script stop → HasNames (stated_by known) (stated t.statement) t.names t.script stop → IsStopAnswer t.title stop answer out → IsBookAnswer lines title step answer out
 is_stopped lines title step known t (stops.Unlicensed n wanted values names) answer out next earlier refused named a =
     answer_is lines title step answer (status.Unlicensed t.title n wanted values) out (stop_text t.title (stops.Unlicensed n wanted values names)) a.is_answer a.bytes (λ h. h) (
@@ -228,8 +228,8 @@ is_stopped lines title step known t stops.NoMemory answer out next earlier wide 
 
 -- ---- the place
 
-answers_at : (lines : Rest) (title : List ℕ) (step : ℕ) (known : List TitledStatement) (t : TheoremView) (p : Place) (answer : Status) (out : List ℕ) → IsNext lines title known t → t.title ≡ title
-    → IsPlace (stated_by known) (stated t.statement) t.names t.script step p → AnswersAt p.names p.context.scope p.context.facts known title step answer out → IsBookAnswer lines title step answer out
+answers_at : (lines : Rest) (title : List ℕ) (step : ℕ) (known : List TitledStatement) (t : TheoremView) (p : Place) (answer : Status) (out : List ℕ) → IsNextTitled lines title known t → t.title ≡ title
+    → IsStepPlace (stated_by known) (stated t.statement) t.names t.script step p → AnswersAt p.names p.context.scope p.context.facts known title step answer out → IsBookAnswer lines title step answer out
 answers_at lines title step known t p (status.Suggested n more) out next titled place (ls, count, listed, bytes) =
     record {
       due = next_up_to lines title known t (Suggests title step n more out) next
@@ -271,7 +271,7 @@ answers_at lines title step known t p (status.TooWide q n wanted width) out next
     }
 answers_at lines title step known t p answer out next titled place a = absurd a
 
-pub is_answered : (known : List TitledStatement) (t : TheoremView) (title : List ℕ) (step : ℕ) (p : Place) (answer : Status) (out : List ℕ) → t.title ≡ title → IsPlace (stated_by known) (stated t.statement) t.names t.script step p
+pub is_answered : (known : List TitledStatement) (t : TheoremView) (title : List ℕ) (step : ℕ) (p : Place) (answer : Status) (out : List ℕ) → t.title ≡ title → IsStepPlace (stated_by known) (stated t.statement) t.names t.script step p
     → AnswersAt p.names p.context.scope p.context.facts known title step answer out → AnswersNext known t title step answer out
 is_answered known t title step p answer out titled place a lines next = answers_at lines title step known t p answer out next titled place a
 
@@ -288,11 +288,11 @@ not_before before t script n m w x stop d less =
 -- the way ends here, with this known
 abbrev WayAt : ℕ → Known → Rest → List ℕ → ℕ → WayOutcome → Type 0
 WayAt last known rest title step AtStep = NextIs last known rest (λ t. (x : Line) × IsAsked title step known.theorems t x)
-WayAt last known rest title step NoStep = (item_from known last None rest ≡ Ok None) ⊎ NextIs last known rest (IsShort title step)
+WayAt last known rest title step NoStep = (item_from known last None rest ≡ Ok None) ⊎ NextIs last known rest (HasTooFewSteps title step)
 WayAt last known rest title step (Unlicensed p n wanted names) = NextIs last known rest (λ t. StopsAt known.theorems t p n wanted names × IsEarlier title step t n)
 WayAt last known rest title step (Faulty f) = item_from known last None rest ≡ Err f
 
-way_at : (lines : Rest) (title : List ℕ) (step : ℕ) (way : WayOutcome) (h : IsWayOf lines title step way) → UpTo lines title (λ known rest. WayAt (end_line_number lines) known rest title step way)
+way_at : (lines : Rest) (title : List ℕ) (step : ℕ) (way : WayOutcome) (h : IsWayOf lines title step way) → UpToTheorem lines title (λ known rest. WayAt (end_line_number lines) known rest title step way)
 way_at lines title step AtStep h = h
 way_at lines title step NoStep h = h
 way_at lines title step (Unlicensed p n wanted names) h = h
@@ -502,7 +502,7 @@ pub any_book : (title : List ℕ) (step : ℕ) (left old new : Option (List ℕ)
 any_book title step None old new answer h = ([], tt, h [])
 any_book title step (Some text) old new answer h = (text, refl, h text)
 
-pub suggested_closed : (lines : Rest) (title : List ℕ) (step : ℕ) (old new : Option (List ℕ)) (last : List ℕ) (answer result : Status) → SuggestAnswer lines title step answer last → Closes old new last answer result
+pub suggested_closed : (lines : Rest) (title : List ℕ) (step : ℕ) (old new : Option (List ℕ)) (last : List ℕ) (answer result : Status) → SuggestAnswer lines title step answer last → ClosesWith old new last answer result
     → Wrote (SuggestAnswer lines title step) old new result
 suggested_closed lines title step old new last answer result d c = closed_wrote (SuggestAnswer lines title step) old new last answer result d c
 
@@ -527,7 +527,7 @@ stopped_next (Err e) known t step stop has less refused named h = tt
 stopped_next (Ok a) known t step stop has less refused named h =
     λ lines next. is_stopped lines t.title step known t stop a.status a.line.items next (stops_own t.title step t stop has less) refused named h
 
-pub answered_next : {E : Type 0} (r : Result Answer E) (known : List TitledStatement) (t : TheoremView) (step : ℕ) (p : Place) → IsPlace (stated_by known) (stated t.statement) t.names t.script step p
+pub answered_next : {E : Type 0} (r : Result Answer E) (known : List TitledStatement) (t : TheoremView) (step : ℕ) (p : Place) → IsStepPlace (stated_by known) (stated t.statement) t.names t.script step p
     → AnswersIf r (AnswersAt p.names p.context.scope p.context.facts known t.title step) → AnswersIf r (AnswersNext known t t.title step)
 answered_next (Err e) known t step p place h = tt
 answered_next (Ok a) known t step p place h = is_answered known t t.title step p a.status a.line.items refl place h

@@ -16,8 +16,8 @@ use Rattle.e_run.specs.LastLines.{head_line, accepted_line, tried_line}
 use Rattle.e_run.specs.Outcome.{Rest, BookOutcome, IsOutcome, IsOutcomeOf, lines_of_book}
 use Rattle.e_run.specs.Outcome as outcome
 use Rattle.e_run.specs.Answers.{IsAnswer, theorems_of, written_with}
-use Rattle.e_run.specs.inner.BookResults.{Closes, BlocksUpTo, BookResultIs, answer_of, last_lines}
-use Rattle.e_run.specs.Trials.{IsStopped, IsTried, TrialAnswer, TriesLines, Tries, HasCount, IsTrialAnswer, AnswersTrial}
+use Rattle.e_run.specs.inner.BookResults.{ClosesWith, BlocksUpTo, BookResultIs, answer_of, last_lines}
+use Rattle.e_run.specs.Trials.{IsStopped, IsTrial, TrialAnswer, TriesLines, Tries, HasCount, IsTrialAnswer, AnswersTrial}
 use Rattle.e_run.proofs.Completeness.{answered_so, stops_so, widens_so, is_answer_wide, write_fault_answers, no_memory_answers}
 use Rattle.e_run.proofs.Wrote.{closed_wrote}
 use Rattle.e_run.proofs.LastLinesWritten.{grew_all}
@@ -29,8 +29,8 @@ use Rattle.e_run.proofs.GeneratedTitles.{generated_titles}
 
 -- ---- the line of an answer
 
-pub closed_answered : (lines : Rest) (old new : Option (List ℕ)) (last line : List ℕ) (answer result : Status) → TrialAnswer lines answer line → last ≡ line → Closes old new last answer result → TriesLines lines old new result
-closed_answered lines old new last line answer result t e c = closed_wrote (TrialAnswer lines) old new line answer result t (subst (λ (l : List ℕ). Closes old new l answer result) e c)
+pub closed_answered : (lines : Rest) (old new : Option (List ℕ)) (last line : List ℕ) (answer result : Status) → TrialAnswer lines answer line → last ≡ line → ClosesWith old new last answer result → TriesLines lines old new result
+closed_answered lines old new last line answer result t e c = closed_wrote (TrialAnswer lines) old new line answer result t (subst (λ (l : List ℕ). ClosesWith old new l answer result) e c)
 
 -- ---- the answer to an accepted book
 
@@ -40,7 +40,7 @@ inside a b e = cc
 -- the head line, the blocks and the line of an accepted book were written: then what was written is that of an accepted book, and is verified
 -- verified
 pub accepted_tried : (lines : Rest) (b c d : Option (List ℕ)) (n s : ℕ) (out last : List ℕ) → Grew (Some []) b head_line → BookResultIs lines b c (All n s) → Grew c d last → last ≡ accepted_line n → d ≡ Some out
-    → IsTried lines n s
+    → IsTrial lines n s
 accepted_tried lines b c d n s out last h e g is whole =
     let all : Grew (Some []) d (written_with e.0.derived (accepted_line n)) =
     grew_all (Some []) b c d e.0.derived (accepted_line n) h e.0.grew (subst (Grew c d) is g) in
@@ -63,7 +63,7 @@ accepted_verified lines b c d n s out last h e g is whole =
     let bytes : out ≡ written_with e.0.derived (accepted_line n) = inside _ _ (sym whole ∙ all) in
     subst (λ (x : List ℕ). JudgesText x (judgements.Verified n)) (sym bytes) (verified_text lines n e.0.derived e.0.known e.0.rest e.0.sound e.0.begins e.0.holds)
 
-pub tried_answered : (lines : Rest) (n s : ℕ) (answer : Status) (line : List ℕ) → IsTried lines n s → answer ≡ status.Tried n s → line ≡ tried_line n s → TrialAnswer lines answer line
+pub tried_answered : (lines : Rest) (n s : ℕ) (answer : Status) (line : List ℕ) → IsTrial lines n s → answer ≡ status.Tried n s → line ≡ tried_line n s → TrialAnswer lines answer line
 tried_answered lines n s answer line h a l = subst (λ (x : Status). TrialAnswer lines x line) (sym a) (h, l)
 
 -- ---- the answer to any other book
@@ -112,7 +112,7 @@ IsOtherAnswer status.WriteFault = Unit {0}
 IsOtherAnswer _ = ⊥
 
 -- where a book was tried, its outcome is that it is accepted
-tried_answers : (text : List ℕ) (n s : ℕ) (end : BookOutcome) → IsTried (lines_of_book text) n s → IsOutcomeOf text end → IsTrialAnswer (lines_of_book text) end (status.Tried n s)
+tried_answers : (text : List ℕ) (n s : ℕ) (end : BookOutcome) → IsTrial (lines_of_book text) n s → IsOutcomeOf text end → IsTrialAnswer (lines_of_book text) end (status.Tried n s)
 tried_answers text n s end h k =
     let e = h.accepted.ended in
     let is : outcome.Accepted n ≡ end =
@@ -167,7 +167,7 @@ answers_trial n old new answer (inr w) end k =
 -- ---- how many theorems were tried
 
 -- an accepted book that was generated has as many theorems as it was asked for
-count_is : (n m s : ℕ) → n ≤ 500 → IsTried (lines_of_book (generated_text n)) m s → m ≡ n
+count_is : (n m s : ℕ) → n ≤ 500 → IsTrial (lines_of_book (generated_text n)) m s → m ≡ n
 count_is n m s few h =
     let e = h.accepted.ended in
     let lines = lines_of_book (generated_text n) in

@@ -2,9 +2,9 @@
 use Rattle.std.proofs.Common.{inl, inr, ℕ, List, Option, sym, subst}
 use Rattle.e_run.specs.declared.status.Status.{Status}
 use Rattle.e_run.specs.Wrote.{Wrote}
-use Rattle.e_run.specs.inner.BookResults.{Closes}
+use Rattle.e_run.specs.inner.BookResults.{ClosesWith}
 
 -- the last lines of an answer are all that is due with it
-pub closed_wrote : (Due : Status → List ℕ → Type 0) (old new : Option (List ℕ)) (last : List ℕ) (answer result : Status) → Due answer last → Closes old new last answer result → Wrote Due old new result
+pub closed_wrote : (Due : Status → List ℕ → Type 0) (old new : Option (List ℕ)) (last : List ℕ) (answer result : Status) → Due answer last → ClosesWith old new last answer result → Wrote Due old new result
 closed_wrote Due old new last answer result d (inl c) = subst (λ (a : Status). Wrote Due old new a) (sym c.0) (inl (record { out = last; due = d; grew = c.1 }))
 closed_wrote Due old new last answer result d (inr c) = inr (c.0, record { answer = answer; out = last; due = d; grew = c.1 })

@@ -20,12 +20,12 @@ FigureAnswer text status.NoMemory out = out ≡ no_memory_line
 FigureAnswer text _ out = ⊥
 
 -- a figure text is answered so, and this was written
-abbrev pub Draws : List ℕ → Option (List ℕ) → Option (List ℕ) → Status → Type 0
-Draws text old new answer = Wrote (FigureAnswer text) old new answer
+abbrev pub DrawsAndWrites : List ℕ → Option (List ℕ) → Option (List ℕ) → Status → Type 0
+DrawsAndWrites text old new answer = Wrote (FigureAnswer text) old new answer
 
 -- the figure text that a source exposes is answered so, and this was written
 abbrev pub DrawsText : Option (List ℕ) → Option (List ℕ) → Option (List ℕ) → Status → Type 0
-DrawsText left old new answer = (text : List ℕ) × IsAllOf left text × Draws text old new answer
+DrawsText left old new answer = (text : List ℕ) × IsAllOf left text × DrawsAndWrites text old new answer
 
 -- the fault is out of memory, which says nothing of the text
 abbrev pub lacks_memory : BookFault → Bool

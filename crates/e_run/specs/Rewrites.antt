@@ -97,22 +97,22 @@ read_as Uses head = head
 
 -- these theorems come first in lines after the head of this version, each certified by those before it; then this is known, and these
 -- lines are left
-abbrev pub Begins : Version → Rest → List TheoremView → List TitledStatement → Rest → Type 0
-Begins v lines ts known rest = Passes v (2 + length lines) [] lines ts known rest
+abbrev pub BeginsCertified : Version → Rest → List TheoremView → List TitledStatement → Rest → Type 0
+BeginsCertified v lines ts known rest = Passes v (2 + length lines) [] lines ts known rest
 
 abbrev pub AreFirstAfterHead : Option Version → Rest → List TheoremView → Type 0
 AreFirstAfterHead None lines ts = ts ≡ []
-AreFirstAfterHead (Some v) lines ts = (known : List TitledStatement) × (rest : Rest) × Begins v lines ts known rest
+AreFirstAfterHead (Some v) lines ts = (known : List TitledStatement) × (rest : Rest) × BeginsCertified v lines ts known rest
 
 -- some theorems of a text, the first ones; without a head line that the command takes it has none
-abbrev pub AreFirst : Job → Rest → List TheoremView → Type 0
-AreFirst job [] ts = ts ≡ []
-AreFirst job (Err f ∷ lines) ts = ts ≡ []
-AreFirst job (Ok l ∷ lines) ts = AreFirstAfterHead (read_as job (version_of l)) lines ts
+abbrev pub AreFirstTheorems : Job → Rest → List TheoremView → Type 0
+AreFirstTheorems job [] ts = ts ≡ []
+AreFirstTheorems job (Err f ∷ lines) ts = ts ≡ []
+AreFirstTheorems job (Ok l ∷ lines) ts = AreFirstAfterHead (read_as job (version_of l)) lines ts
 
 abbrev pub EndsAfterHead : Option Version → Rest → List TheoremView → Judgement → Type 0
 EndsAfterHead None lines ts j = (ts ≡ []) × (j ≡ judgements.Garbled 1)
-EndsAfterHead (Some v) lines ts j = (known : List TitledStatement) × (rest : Rest) × Begins v lines ts known rest × Closes v (2 + length lines) known rest j
+EndsAfterHead (Some v) lines ts j = (known : List TitledStatement) × (rest : Rest) × BeginsCertified v lines ts known rest × Closes v (2 + length lines) known rest j
 
 -- all theorems of a text before the place where it ends so; without a head line that the command takes it is garbled at line 1
 abbrev pub EndsAfter : Job → Rest → List TheoremView → Judgement → Type 0
@@ -131,7 +131,7 @@ pub record RewroteUpTo (job : Job) (text : List ℕ) (j : Judgement) (out : List
 -- some of the first theorems of the text, what is written of them, and the last line
 pub record RewroteSome (job : Job) (text : List ℕ) (last out : List ℕ) : Type 0 where
   pub theorems : List TheoremView
-  pub first : AreFirst job (lines_of_text text) theorems
+  pub first : AreFirstTheorems job (lines_of_text text) theorems
   pub bytes : out ≡ written_with job theorems last
 
 -- What is due with each answer. A text that is upgraded, trimmed or listed, each by its command, is verified; what is written of one that

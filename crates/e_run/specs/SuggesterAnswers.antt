@@ -34,7 +34,7 @@ use Rattle.e_run.specs.Answers.{IsAllOf}
 
 -- the first theorems of the lines are licensed, with definitions between them and after them, and no theorem has the title; then this is
 -- known, and this holds of what is left
-pub record UpTo (lines : Rest) (title : List ℕ) (Holds : Known → Rest → Type 0) : Type 0 where
+pub record UpToTheorem (lines : Rest) (title : List ℕ) (Holds : Known → Rest → Type 0) : Type 0 where
   pub theorems : List TheoremView
   pub known : Known
   pub rest : Rest
@@ -44,7 +44,7 @@ pub record UpTo (lines : Rest) (title : List ℕ) (Holds : Known → Rest → Ty
 
 -- and this holds of the next theorem, with the theorems that are known before it
 abbrev pub NextUpTo : Rest → List ℕ → (List TitledStatement → TheoremView → Type 0) → Type 0
-NextUpTo lines title Holds = UpTo lines title (λ known rest. NextIs (end_line_number lines) known rest (Holds known.theorems))
+NextUpTo lines title Holds = UpToTheorem lines title (λ known rest. NextIs (end_line_number lines) known rest (Holds known.theorems))
 
 -- step n of the theorem comes before the step that is asked for: the theorem has another title; or it has that step, and n is less
 abbrev pub IsEarlier : List ℕ → ℕ → TheoremView → ℕ → Type 0
@@ -56,7 +56,7 @@ pub record IsAsked (title : List ℕ) (step : ℕ) (known : List TitledStatement
   pub context : IsContext (stated_by known) (stated t.statement) t.script step x
 
 -- the theorem has the title, and fewer steps
-pub record IsShort (title : List ℕ) (step : ℕ) (t : TheoremView) : Type 0 where
+pub record HasTooFewSteps (title : List ℕ) (step : ℕ) (t : TheoremView) : Type 0 where
   pub titled : t.title ≡ title
   pub short : size t.script < step
 
@@ -76,9 +76,9 @@ pub data WayOutcome : Type 0 where
 abbrev pub IsWayOf : Rest → List ℕ → ℕ → WayOutcome → Type 0
 IsWayOf lines title step AtStep = NextUpTo lines title (λ known t. (x : Line) × IsAsked title step known t x)
 IsWayOf lines title step NoStep =
-    UpTo lines title (λ known rest. (item_from known (end_line_number lines) None rest ≡ Ok None) ⊎ NextIs (end_line_number lines) known rest (IsShort title step))
+    UpToTheorem lines title (λ known rest. (item_from known (end_line_number lines) None rest ≡ Ok None) ⊎ NextIs (end_line_number lines) known rest (HasTooFewSteps title step))
 IsWayOf lines title step (Unlicensed p n wanted names) = NextUpTo lines title (λ known t. StopsAt known t p n wanted names × IsEarlier title step t n)
-IsWayOf lines title step (Faulty fault) = UpTo lines title (λ known rest. item_from known (end_line_number lines) None rest ≡ Err fault)
+IsWayOf lines title step (Faulty fault) = UpToTheorem lines title (λ known rest. item_from known (end_line_number lines) None rest ≡ Err fault)
 
 -- ---- what may be applied
 

@@ -28,14 +28,14 @@ pub record IsStopped (lines : Rest) (Holds : Known → Rest → Type 0) : Type 0
   pub holds : Holds known rest
 
 -- it is accepted so, and what is written then is verified
-pub record IsTried (lines : Rest) (theorems steps : ℕ) : Type 0 where
+pub record IsTrial (lines : Rest) (theorems steps : ℕ) : Type 0 where
   pub out : List ℕ
   pub accepted : IsAccepted lines theorems steps out
   pub verified : JudgesText out (judgements.Verified theorems)
 
 -- the line that is due with an answer to a book of these lines
 abbrev pub TrialAnswer : Rest → Status → List ℕ → Type 0
-TrialAnswer lines (status.Tried n s) last = IsTried lines n s × (last ≡ tried_line n s)
+TrialAnswer lines (status.Tried n s) last = IsTrial lines n s × (last ≡ tried_line n s)
 TrialAnswer lines (status.Unlicensed title step wanted values) last =
     (names : Names) × IsStopped lines (Refuses lines title step wanted values names) × (last ≡ unlicensed_text title step wanted values names)
 TrialAnswer lines (status.TooWide title step wanted width) last =

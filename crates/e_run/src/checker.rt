@@ -5,7 +5,7 @@ ghost use Rattle.e_run.specs.Answers.{Checks, ChecksBook, IsWriteFault, IsReadFa
 ghost use Rattle.e_run.specs.Input.{IsAtEnd};
 ghost use Rattle.e_run.specs.LastLines.{head_line};
 ghost use Rattle.e_run.specs.Outcome.{Rest};
-ghost use Rattle.e_run.specs.inner.BookResults.{Closes, BookResultIs, IsAll, HasLastLines, last_lines, answer_of};
+ghost use Rattle.e_run.specs.inner.BookResults.{ClosesWith, BookResultIs, IsAll, HasLastLines, last_lines, answer_of};
 ghost use Rattle.e_run.specs.Taken.{TookFew, HandledAll};
 
 use crate::blocks::{BookResult, RunError};
@@ -22,7 +22,7 @@ use std::mem;
 /// Writes the last lines of an answer, and gives the answer.
 pub fn close<K: Sink>(sink: &mut K, last: &[u8], answer: Status) -> Status
     requires { IsWriteFault answer → ⊥ }
-    ensures closes { Closes (K.written sink.old) (K.written sink.new) last.now answer result }
+    ensures closes { ClosesWith (K.written sink.old) (K.written sink.new) last.now answer result }
     ensures rises { K.faults sink.old ≤ K.faults sink.new }
     ensures cause { IsWriteFault result → Rose (K.faults sink.old) (K.faults sink.new) }
     ensures no_read { IsReadFault result → IsReadFault answer }

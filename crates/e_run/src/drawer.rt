@@ -3,7 +3,7 @@ ghost use Rattle.std.specs.Prelude.{◌≡◌, ◌≤◌, ◌<◌, ◌^◌, leng
 ghost use Rattle.e_io.specs.Bytes.{Rose};
 ghost use Rattle.e_drawing.specs.Answers.{drawn_of};
 ghost use Rattle.e_run.specs.Answers.{IsDrawn, IsReadFault, IsWriteFault};
-ghost use Rattle.e_run.specs.DrawerAnswers.{lacks_memory, Draws, DrawsText};
+ghost use Rattle.e_run.specs.DrawerAnswers.{lacks_memory, DrawsAndWrites, DrawsText};
 ghost use Rattle.e_run.specs.Input.{IsAtEnd};
 
 use crate::checker::close;
@@ -25,7 +25,7 @@ pub fn lacks_memory(fault: BookFault) -> bool
 /// Writes the line of a fault, and gives its answer.
 fn tell_fault<K: Sink>(alloc: Global, text: &[u8], at: BookFault, sink: &mut K) -> Status
     requires { drawn_of text.now ≡ Err at }
-    ensures draws { Draws text.now (K.written sink.old) (K.written sink.new) result }
+    ensures draws { DrawsAndWrites text.now (K.written sink.old) (K.written sink.new) result }
     ensures rises { K.faults sink.old ≤ K.faults sink.new }
     ensures cause { IsWriteFault result → Rose (K.faults sink.old) (K.faults sink.new) }
     ensures no_read { IsReadFault result → ⊥ }
@@ -39,7 +39,7 @@ fn tell_fault<K: Sink>(alloc: Global, text: &[u8], at: BookFault, sink: &mut K) 
 /// Answers a figure text.
 fn tell<K: Sink>(alloc: Global, text: &[u8], sink: &mut K) -> Status
     requires { length text.now < 2 ^ 31 }
-    ensures draws { Draws text.now (K.written sink.old) (K.written sink.new) result }
+    ensures draws { DrawsAndWrites text.now (K.written sink.old) (K.written sink.new) result }
     ensures rises { K.faults sink.old ≤ K.faults sink.new }
     ensures cause { IsWriteFault result → Rose (K.faults sink.old) (K.faults sink.new) }
     ensures no_read { IsReadFault result → ⊥ }

@@ -46,7 +46,7 @@ impl Store {
 
 impl Sink for Store {
     ghost use Rattle.std.specs.Prelude.{◌≡◌, ◌≤◌, ◌<◌, Some, length, IfOk, OnErr};
-    ghost use Rattle.e_io.specs.Bytes.{Takes, Rose};
+    ghost use Rattle.e_io.specs.Bytes.{TakesBytes, Rose};
 
     ghost written = { λ s. Some s.0 };
 
@@ -55,7 +55,7 @@ impl Sink for Store {
     fn write(&mut self, from: &[u8]) -> Result<usize, Failed>
         requires { 0 < length from.now }
         ensures count { IfOk result (λ n. (0 < n) × (n ≤ length from.now)) }
-        ensures bytes { Takes (Some self.old.0) (Some self.new.0) result from.now }
+        ensures bytes { TakesBytes (Some self.old.0) (Some self.new.0) result from.now }
         ensures rises { self.old.1 ≤ self.new.1 }
         ensures cause { OnErr result (Rose self.old.1 self.new.1) }
     {

@@ -12,7 +12,7 @@ use Rattle.e_fraction.specs.Tableau.{unit}
 use Rattle.e_simplex.specs.Entries.{AllSmall}
 use Rattle.e_simplex.specs.Constraints.{form_at, form_value, FormWithin, IsSmallConstraint, AllSmallConstraints, AllFormsWithin, IsSolution, ConstraintHolds}
 use Rattle.e_simplex.specs.Solved.{IsSolved, IsFit, columns_of, constraints_of, AreBelow, WideFurther}
-use Rattle.e_simplex.specs.inner.Tried.{negated, negative_constraint, IsFound}
+use Rattle.e_simplex.specs.inner.Tried.{negated, negative_constraint, AreFoundValues}
 use Rattle.e_literal.proofs.Arith.{sums, neg_mul, size_negative}
 use Rattle.e_simplex.proofs.Deciding.{forms_push}
 
@@ -114,7 +114,7 @@ module _ (w : ℕ) (constraints : List Constraint) (l : Constraint) (s : Table) 
   f2 : WideFurther w (constraints ++ l ∷ []) values
   f2 = subst (λ v. WideFurther v (constraints ++ l ∷ []) values) h.table.columns_many (subst (λ v. WideFurther (columns_of s) v values) h.constraints_are f)
 
-  pub found_above : IsFound w constraints l values
+  pub found_above : AreFoundValues w constraints l values
   found_above = record {
     solution = first_constraints w constraints l values a2;
     small = b;
@@ -123,7 +123,7 @@ module _ (w : ℕ) (constraints : List Constraint) (l : Constraint) (s : Table) 
     further = inl f2;
   }
 
-  pub found_below : (k : Constraint) → l ≡ negative_constraint k → IsFound w constraints k values
+  pub found_below : (k : Constraint) → l ≡ negative_constraint k → AreFoundValues w constraints k values
   found_below k e = record {
     solution = first_constraints w constraints l values a2;
     small = b;

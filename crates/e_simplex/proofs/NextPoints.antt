@@ -6,11 +6,11 @@ use lib.IntN.{ℤ, pos}
 use Rattle.e_simplex.specs.declared.constraints.Constraint.{Constraint}
 use Rattle.e_simplex.specs.declared.constraints.Sense.TheVariants.{More}
 use Rattle.e_simplex.specs.declared.disequalities.Point.{Point}
-use Rattle.e_fraction.specs.Det.{IsWide}
+use Rattle.e_fraction.specs.Det.{HasWideMinor}
 use Rattle.e_simplex.specs.Constraints.{rows_of, form_value, AllFormsWithin}
 use Rattle.e_simplex.specs.inner.Multiple.{AddedTo}
 use Rattle.e_simplex.specs.Solved.{WideFurther}
-use Rattle.e_simplex.specs.inner.Tried.{IsFound, negative_constraint, AreValues, AreBelowBut}
+use Rattle.e_simplex.specs.inner.Tried.{AreFoundValues, negative_constraint, AreValues, AreBelowBut}
 use Rattle.e_simplex.specs.inner.Points.{IsPoint}
 use Rattle.e_simplex.specs.inner.Disequalities.{AreFurther, LargeForm, IsMoved, WideWithTwo}
 use Rattle.e_simplex.proofs.PointSteps.{point_step}
@@ -27,7 +27,7 @@ all_below forms k found second v b h j l = elim (cases_eq j k) [
 
 module _ (w : ℕ) (constraints forms : List Constraint) (k : ℕ) (l : Constraint) (at : (d : Constraint) → l ≡ get_or forms k d) (here : k < length forms) where
   pub next_point_is : (values form_values found second : List ℤ) (t : ℕ) (m : Point) → AllFormsWithin w constraints → AreFurther w constraints forms
-      → IsPoint w constraints forms k values form_values → get_or form_values k (pos 0) ≡ pos 0 → IsFound w constraints l found → IsMoved forms k values form_values found second t m
+      → IsPoint w constraints forms k values form_values → get_or form_values k (pos 0) ≡ pos 0 → AreFoundValues w constraints l found → IsMoved forms k values form_values found second t m
       → IsPoint w constraints forms (k + 1) m.values.items m.form_values.items
   next_point_is values form_values found second t m wl af point none f s =
       point_step w constraints forms k values form_values found second t m.values.items m.form_values.items wl af.within here (omega (arith, af.few, here)) s.some s.few point none
@@ -37,7 +37,7 @@ module _ (w : ℕ) (constraints forms : List Constraint) (k : ℕ) (l : Constrai
       s.good (subst (λ n. AddedTo n values found t m.values.items) point.solution.shape s.values_are)
       (subst (λ n. AddedTo n form_values second t m.form_values.items) point.form_values_are.shape s.form_values_are)
 
-  pub step_wide_two : (found : List ℤ) → AreFurther w constraints forms → IsFound w constraints l found → LargeForm forms k found → WideWithTwo w constraints forms k
+  pub step_wide_two : (found : List ℤ) → AreFurther w constraints forms → AreFoundValues w constraints l found → LargeForm forms k found → WideWithTwo w constraints forms k
   step_wide_two found af f g = record {
     place = g.place;
     here = g.here;
@@ -46,11 +46,11 @@ module _ (w : ℕ) (constraints forms : List Constraint) (k : ℕ) (l : Constrai
   }
     where
       by : (d : Constraint) → WideFurther w (constraints ++ l ∷ []) found ⊎ WideFurther w (constraints ++ negative_constraint l ∷ []) found
-          → IsWide (rows_of ((constraints ++ get_or forms k d ∷ []) ++ get_or forms g.place d ∷ [])) w (2 ^ 63)
-          ⊎ IsWide (rows_of ((constraints ++ negative_constraint (get_or forms k d) ∷ []) ++ get_or forms g.place d ∷ [])) w (2 ^ 63)
+          → HasWideMinor (rows_of ((constraints ++ get_or forms k d ∷ []) ++ get_or forms g.place d ∷ [])) w (2 ^ 63)
+          ⊎ HasWideMinor (rows_of ((constraints ++ negative_constraint (get_or forms k d) ∷ []) ++ get_or forms g.place d ∷ [])) w (2 ^ 63)
       by d (inl h) =
-          inl (subst (λ v. IsWide (rows_of ((constraints ++ v ∷ []) ++ get_or forms g.place d ∷ [])) w (2 ^ 63)) (at d)
+          inl (subst (λ v. HasWideMinor (rows_of ((constraints ++ v ∷ []) ++ get_or forms g.place d ∷ [])) w (2 ^ 63)) (at d)
           (h (get_or forms g.place d) (af.more g.place d g.here) (af.within g.place d g.here) (g.large d)))
       by d (inr h) =
-          inr (subst (λ v. IsWide (rows_of ((constraints ++ negative_constraint v ∷ []) ++ get_or forms g.place d ∷ [])) w (2 ^ 63)) (at d)
+          inr (subst (λ v. HasWideMinor (rows_of ((constraints ++ negative_constraint v ∷ []) ++ get_or forms g.place d ∷ [])) w (2 ^ 63)) (at d)
           (h (get_or forms g.place d) (af.more g.place d g.here) (af.within g.place d g.here) (g.large d)))

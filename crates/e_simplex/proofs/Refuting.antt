@@ -18,7 +18,7 @@ use Rattle.e_simplex.specs.Entries.{AllSmall}
 use Rattle.e_simplex.specs.Constraints.{form_at, weighed_at, MayWeigh, IsAbsurd, AllFormsWithin, FormWithin}
 use Rattle.e_simplex.specs.Naming.{place_of, AreOnce, FormNamed, AllNamed, named_form, named_constraint, named_constraints, sense_of, keeps}
 use Rattle.e_simplex.specs.inner.RowMultipliers.{row_multipliers, count_nots}
-use Rattle.e_simplex.specs.Answer.{each_weighed, MayTake, AreTaken, TakesMore, Refutes, RefutesBoth, IsNotAt, as_more, as_less}
+use Rattle.e_simplex.specs.Answer.{each_weighed, MayTake, AreMultipliers, TakesMore, Refutes, RefutesBoth, IsNotAt, as_more, as_less}
 use Rattle.e_simplex.specs.inner.Disequalities.{AreBothRefuted, AreFurther, WideWithSome, AreUnequal}
 use Rattle.e_simplex.specs.Solved.{IsSolved, columns_of, constraints_of}
 use Rattle.e_simplex.specs.declared.table.Table.{Table}
@@ -220,33 +220,33 @@ more_of More e h = refl
 more_of Not e h = absurd (true≢false e)
 
 module _ (ts : List Term) (ws : List ℤ) (last : ℤ) where
-  taken_none : (rows : List Row) (n : ℕ) → AllWeigh (named_constraints false ts rows) ws n → AreTaken rows (row_multipliers rows ws n zero last)
+  taken_none : (rows : List Row) (n : ℕ) → AllWeigh (named_constraints false ts rows) ws n → AreMultipliers rows (row_multipliers rows ws n zero last)
   taken_none [] n h = tt
   taken_none (r ∷ rs) n h = by (keeps true r.says) refl (subst (λ v. AllWeigh v ws n) (main_cons ts r rs) h) (λ m p. taken_none rs m p)
     where
       by : (b : Bool) → keeps true r.says ≡ b → AllWeigh (cond b (named_constraints false ts rs) (named_constraint ts r ∷ named_constraints false ts rs)) ws n
-          → ((m : ℕ) → AllWeigh (named_constraints false ts rs) ws m → AreTaken rs (row_multipliers rs ws m zero last))
-          → AreTaken (r ∷ rs) (cond b (pos 0 ∷ row_multipliers rs ws n zero last) (get_or ws n (pos 0) ∷ row_multipliers rs ws (suc n) zero last))
+          → ((m : ℕ) → AllWeigh (named_constraints false ts rs) ws m → AreMultipliers rs (row_multipliers rs ws m zero last))
+          → AreMultipliers (r ∷ rs) (cond b (pos 0 ∷ row_multipliers rs ws n zero last) (get_or ws n (pos 0) ∷ row_multipliers rs ws (suc n) zero last))
       by true e p ih = (subst (λ s. MayTake s (pos 0)) (sym (kept_not r.says e)) refl, ih n p)
       by false e p ih = (take_of r.says (get_or ws n (pos 0)) e p.0, ih (suc n) p.1)
 
-  taken_one : (g : Summands → Summands) (rows : List Row) (k n : ℕ) → pos 0 ≤ℤ last → AllWeigh (named_constraints false ts rows) ws n → AreTaken (with_form g rows k) (row_multipliers rows ws n (suc k) last)
+  taken_one : (g : Summands → Summands) (rows : List Row) (k n : ℕ) → pos 0 ≤ℤ last → AllWeigh (named_constraints false ts rows) ws n → AreMultipliers (with_form g rows k) (row_multipliers rows ws n (suc k) last)
   taken_one g [] k n z h = tt
   taken_one g (r ∷ rs) zero n z h = by (keeps true r.says) refl (subst (λ v. AllWeigh v ws n) (main_cons ts r rs) h) (λ m p. taken_one g rs zero m z p)
     where
       by : (b : Bool) → keeps true r.says ≡ b → AllWeigh (cond b (named_constraints false ts rs) (named_constraint ts r ∷ named_constraints false ts rs)) ws n
-          → ((m : ℕ) → AllWeigh (named_constraints false ts rs) ws m → AreTaken (with_form g rs zero) (row_multipliers rs ws m 1 last))
-          → AreTaken (cond b (record { says = More; form = g r.form } ∷ rs) (r ∷ with_form g rs zero)) (cond b (last ∷ row_multipliers rs ws n zero last) (get_or ws n (pos 0) ∷ row_multipliers rs ws (suc n) 1 last))
+          → ((m : ℕ) → AllWeigh (named_constraints false ts rs) ws m → AreMultipliers (with_form g rs zero) (row_multipliers rs ws m 1 last))
+          → AreMultipliers (cond b (record { says = More; form = g r.form } ∷ rs) (r ∷ with_form g rs zero)) (cond b (last ∷ row_multipliers rs ws n zero last) (get_or ws n (pos 0) ∷ row_multipliers rs ws (suc n) 1 last))
       by true e p ih = (z, taken_none rs n p)
       by false e p ih = (take_of r.says (get_or ws n (pos 0)) e p.0, ih (suc n) p.1)
   taken_one g (r ∷ rs) (suc k) n z h =
-      subst (λ e. AreTaken (with_form g (r ∷ rs) (suc k)) (cond (keeps true r.says) (cond e last (pos 0) ∷ row_multipliers rs ws n (suc k) last) (get_or ws n (pos 0) ∷ row_multipliers rs ws (suc n) (suc (suc k)) last)))
+      subst (λ e. AreMultipliers (with_form g (r ∷ rs) (suc k)) (cond (keeps true r.says) (cond e last (pos 0) ∷ row_multipliers rs ws n (suc k) last) (get_or ws n (pos 0) ∷ row_multipliers rs ws (suc n) (suc (suc k)) last)))
       (sym (eqb_more k)) (by (keeps true r.says) refl (subst (λ v. AllWeigh v ws n) (main_cons ts r rs) h) (λ m p. taken_one g rs k m z p) (λ m p. taken_one g rs (suc k) m z p))
     where
       by : (b : Bool) → keeps true r.says ≡ b → AllWeigh (cond b (named_constraints false ts rs) (named_constraint ts r ∷ named_constraints false ts rs)) ws n
-          → ((m : ℕ) → AllWeigh (named_constraints false ts rs) ws m → AreTaken (with_form g rs k) (row_multipliers rs ws m (suc k) last))
-          → ((m : ℕ) → AllWeigh (named_constraints false ts rs) ws m → AreTaken (with_form g rs (suc k)) (row_multipliers rs ws m (suc (suc k)) last))
-          → AreTaken (cond b (r ∷ with_form g rs k) (r ∷ with_form g rs (suc k))) (cond b (pos 0 ∷ row_multipliers rs ws n (suc k) last) (get_or ws n (pos 0) ∷ row_multipliers rs ws (suc n) (suc (suc k)) last))
+          → ((m : ℕ) → AllWeigh (named_constraints false ts rs) ws m → AreMultipliers (with_form g rs k) (row_multipliers rs ws m (suc k) last))
+          → ((m : ℕ) → AllWeigh (named_constraints false ts rs) ws m → AreMultipliers (with_form g rs (suc k)) (row_multipliers rs ws m (suc (suc k)) last))
+          → AreMultipliers (cond b (r ∷ with_form g rs k) (r ∷ with_form g rs (suc k))) (cond b (pos 0 ∷ row_multipliers rs ws n (suc k) last) (get_or ws n (pos 0) ∷ row_multipliers rs ws (suc n) (suc (suc k)) last))
       by true e p ih jh = (subst (λ s. MayTake s (pos 0)) (sym (kept_not r.says e)) refl, ih n p)
       by false e p ih jh = (take_of r.says (get_or ws n (pos 0)) e p.0, jh (suc n) p.1)
 

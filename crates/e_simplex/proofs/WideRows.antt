@@ -6,7 +6,7 @@ use borrow.Author.Differences.{abs_is}
 use Rattle.e_literal.specs.declared.object.Term.{Term}
 use Rattle.e_literal.specs.Rows.{Row, Says, Zero, AtLeast, More, Not}
 use Rattle.e_literal.specs.Minor.{SignedRow, entry, IsWide as IsWideRows}
-use Rattle.e_fraction.specs.Det.{det, IsPart, IsWide}
+use Rattle.e_fraction.specs.Det.{det, IsPart, HasWideMinor}
 use Rattle.e_simplex.specs.declared.constraints.Constraint.{Constraint}
 use Rattle.e_simplex.specs.Constraints.{constraint_row, rows_of}
 use Rattle.e_simplex.specs.inner.Tried.{negative_constraint}
@@ -73,29 +73,29 @@ rows_main ts (r ∷ rs) = by r.says r (rows_main ts rs)
 module _ (ts : List Term) (n size : ℕ) where
   put_one : (b : Bool) (r : Row) (l : Constraint) (ls : List Constraint) (ms ps qs : List SignedRow) (xs : List (ℕ → ℤ)) (d : Bool) (e : Constraint) → l ≡ named_constraint ts r
       → 0 < length (cond b (l ∷ ls) ls)
-      → ((ys : List (ℕ → ℤ)) → 0 < length ls → IsWide (ys ++ (own_rows ts ms ++ row_as d (get_or ls 0 e) ∷ [])) n size → IsWide (ys ++ own_rows ts qs) n size)
-      → IsWide (xs ++ (own_rows ts (cond b ms (signed r false ∷ ms)) ++ row_as d (get_or (cond b (l ∷ ls) ls) 0 e) ∷ [])) n size
-      → IsWide (xs ++ own_rows ts (cond b (signed r d ∷ ms) (signed r false ∷ qs))) n size
-  put_one true r l ls ms ps qs xs d e q k ih h = wide_last xs (own_rows ts ms) (own_row ts (signed r d)) n size (subst (λ v. IsWide (xs ++ (own_rows ts ms ++ row_as d v ∷ [])) n size) q h)
+      → ((ys : List (ℕ → ℤ)) → 0 < length ls → HasWideMinor (ys ++ (own_rows ts ms ++ row_as d (get_or ls 0 e) ∷ [])) n size → HasWideMinor (ys ++ own_rows ts qs) n size)
+      → HasWideMinor (xs ++ (own_rows ts (cond b ms (signed r false ∷ ms)) ++ row_as d (get_or (cond b (l ∷ ls) ls) 0 e) ∷ [])) n size
+      → HasWideMinor (xs ++ own_rows ts (cond b (signed r d ∷ ms) (signed r false ∷ qs))) n size
+  put_one true r l ls ms ps qs xs d e q k ih h = wide_last xs (own_rows ts ms) (own_row ts (signed r d)) n size (subst (λ v. HasWideMinor (xs ++ (own_rows ts ms ++ row_as d v ∷ [])) n size) q h)
   put_one false r l ls ms ps qs xs d e q k ih h =
-      subst (λ v. IsWide v n size) (append_assoc xs (own_row ts (signed r false) ∷ []) (own_rows ts qs))
+      subst (λ v. HasWideMinor v n size) (append_assoc xs (own_row ts (signed r false) ∷ []) (own_rows ts qs))
       (ih (xs ++ own_row ts (signed r false) ∷ []) k
-      (subst (λ v. IsWide v n size) (sym (append_assoc xs (own_row ts (signed r false) ∷ []) (own_rows ts ms ++ row_as d (get_or ls 0 e) ∷ []))) h))
+      (subst (λ v. HasWideMinor v n size) (sym (append_assoc xs (own_row ts (signed r false) ∷ []) (own_rows ts ms ++ row_as d (get_or ls 0 e) ∷ []))) h))
 
   skip_one : (b : Bool) (r : Row) (l : Constraint) (ls : List Constraint) (ms ps qs : List SignedRow) (xs : List (ℕ → ℤ)) (k : ℕ) (d : Bool) (e : Constraint)
       → suc k < length (cond b (l ∷ ls) ls)
-      → ((ys : List (ℕ → ℤ)) → k < length ls → IsWide (ys ++ (own_rows ts ms ++ row_as d (get_or ls k e) ∷ [])) n size → IsWide (ys ++ own_rows ts ps) n size)
-      → ((ys : List (ℕ → ℤ)) → suc k < length ls → IsWide (ys ++ (own_rows ts ms ++ row_as d (get_or ls (suc k) e) ∷ [])) n size → IsWide (ys ++ own_rows ts qs) n size)
-      → IsWide (xs ++ (own_rows ts (cond b ms (signed r false ∷ ms)) ++ row_as d (get_or (cond b (l ∷ ls) ls) (suc k) e) ∷ [])) n size
-      → IsWide (xs ++ own_rows ts (cond b ps (signed r false ∷ qs))) n size
+      → ((ys : List (ℕ → ℤ)) → k < length ls → HasWideMinor (ys ++ (own_rows ts ms ++ row_as d (get_or ls k e) ∷ [])) n size → HasWideMinor (ys ++ own_rows ts ps) n size)
+      → ((ys : List (ℕ → ℤ)) → suc k < length ls → HasWideMinor (ys ++ (own_rows ts ms ++ row_as d (get_or ls (suc k) e) ∷ [])) n size → HasWideMinor (ys ++ own_rows ts qs) n size)
+      → HasWideMinor (xs ++ (own_rows ts (cond b ms (signed r false ∷ ms)) ++ row_as d (get_or (cond b (l ∷ ls) ls) (suc k) e) ∷ [])) n size
+      → HasWideMinor (xs ++ own_rows ts (cond b ps (signed r false ∷ qs))) n size
   skip_one true r l ls ms ps qs xs k d e m ih jh h = ih xs (omega (arith, m)) h
   skip_one false r l ls ms ps qs xs k d e m ih jh h =
-      subst (λ v. IsWide v n size) (append_assoc xs (own_row ts (signed r false) ∷ []) (own_rows ts qs))
+      subst (λ v. HasWideMinor v n size) (append_assoc xs (own_row ts (signed r false) ∷ []) (own_rows ts qs))
       (jh (xs ++ own_row ts (signed r false) ∷ []) m
-      (subst (λ v. IsWide v n size) (sym (append_assoc xs (own_row ts (signed r false) ∷ []) (own_rows ts ms ++ row_as d (get_or ls (suc k) e) ∷ []))) h))
+      (subst (λ v. HasWideMinor v n size) (sym (append_assoc xs (own_row ts (signed r false) ∷ []) (own_rows ts ms ++ row_as d (get_or ls (suc k) e) ∷ []))) h))
 
   wide_one : (rows : List Row) (k : ℕ) (d : Bool) (e : Constraint) (xs : List (ℕ → ℤ)) → k < length (named_constraints true ts rows)
-      → IsWide (xs ++ (own_rows ts (mains rows) ++ row_as d (get_or (named_constraints true ts rows) k e) ∷ [])) n size → IsWide (xs ++ own_rows ts (with_one rows k d)) n size
+      → HasWideMinor (xs ++ (own_rows ts (mains rows) ++ row_as d (get_or (named_constraints true ts rows) k e) ∷ [])) n size → HasWideMinor (xs ++ own_rows ts (with_one rows k d)) n size
   wide_one [] k d e xs l h = absurd (omega (arith, l))
   wide_one (r ∷ rs) zero d e xs l h =
       put_one (keeps true r.says) r (named_constraint ts r) (named_constraints true ts rs) (mains rs) [] (with_one rs zero d) xs d e refl l (λ ys m g. wide_one rs zero d e ys m g) h
@@ -105,35 +105,35 @@ module _ (ts : List Term) (n size : ℕ) where
 
   -- ---- two rows put last
 
-  push_two : (xs ms : List (ℕ → ℤ)) (a b : ℕ → ℤ) → IsWide (xs ++ (ms ++ a ∷ b ∷ [])) n size → IsWide (xs ++ ((ms ++ b ∷ []) ++ a ∷ [])) n size
+  push_two : (xs ms : List (ℕ → ℤ)) (a b : ℕ → ℤ) → HasWideMinor (xs ++ (ms ++ a ∷ b ∷ [])) n size → HasWideMinor (xs ++ ((ms ++ b ∷ []) ++ a ∷ [])) n size
   push_two xs ms a b h =
-      subst (λ v. IsWide v n size) (append_assoc xs ms (b ∷ a ∷ []) ∙ ap (λ v. xs ++ v) (sym (append_assoc ms (b ∷ []) (a ∷ []))))
-      (wide_last (xs ++ ms) (a ∷ []) b n size (subst (λ v. IsWide v n size) (sym (append_assoc xs ms (a ∷ b ∷ []))) h))
+      subst (λ v. HasWideMinor v n size) (append_assoc xs ms (b ∷ a ∷ []) ∙ ap (λ v. xs ++ v) (sym (append_assoc ms (b ∷ []) (a ∷ []))))
+      (wide_last (xs ++ ms) (a ∷ []) b n size (subst (λ v. HasWideMinor v n size) (sym (append_assoc xs ms (a ∷ b ∷ []))) h))
 
-  last_two : (xs ms : List (ℕ → ℤ)) (a b : ℕ → ℤ) → IsWide (xs ++ (ms ++ a ∷ b ∷ [])) n size → IsWide (xs ++ ((ms ++ a ∷ []) ++ b ∷ [])) n size
-  last_two xs ms a b h = subst (λ v. IsWide (xs ++ v) n size) (sym (append_assoc ms (a ∷ []) (b ∷ []))) h
+  last_two : (xs ms : List (ℕ → ℤ)) (a b : ℕ → ℤ) → HasWideMinor (xs ++ (ms ++ a ∷ b ∷ [])) n size → HasWideMinor (xs ++ ((ms ++ a ∷ []) ++ b ∷ [])) n size
+  last_two xs ms a b h = subst (λ v. HasWideMinor (xs ++ v) n size) (sym (append_assoc ms (a ∷ []) (b ∷ []))) h
 
-  go_on : (xs zs : List (ℕ → ℤ)) (a : ℕ → ℤ) → IsWide ((xs ++ a ∷ []) ++ zs) n size → IsWide (xs ++ a ∷ zs) n size
-  go_on xs zs a h = subst (λ v. IsWide v n size) (append_assoc xs (a ∷ []) zs) h
+  go_on : (xs zs : List (ℕ → ℤ)) (a : ℕ → ℤ) → HasWideMinor ((xs ++ a ∷ []) ++ zs) n size → HasWideMinor (xs ++ a ∷ zs) n size
+  go_on xs zs a h = subst (λ v. HasWideMinor v n size) (append_assoc xs (a ∷ []) zs) h
 
-  go_back : (xs zs : List (ℕ → ℤ)) (a : ℕ → ℤ) → IsWide (xs ++ a ∷ zs) n size → IsWide ((xs ++ a ∷ []) ++ zs) n size
-  go_back xs zs a h = subst (λ v. IsWide v n size) (sym (append_assoc xs (a ∷ []) zs)) h
+  go_back : (xs zs : List (ℕ → ℤ)) (a : ℕ → ℤ) → HasWideMinor (xs ++ a ∷ zs) n size → HasWideMinor ((xs ++ a ∷ []) ++ zs) n size
+  go_back xs zs a h = subst (λ v. HasWideMinor v n size) (sym (append_assoc xs (a ∷ []) zs)) h
 
   wide_two : (rows : List Row) (k : ℕ) (d : Bool) (j : ℕ) (e : Bool) (f : Constraint) (xs : List (ℕ → ℤ)) → k < length (named_constraints true ts rows) → j < length (named_constraints true ts rows) → k ≢ j
-      → IsWide (xs ++ (own_rows ts (mains rows) ++ row_as d (get_or (named_constraints true ts rows) k f) ∷ row_as e (get_or (named_constraints true ts rows) j f) ∷ [])) n size
-      → IsWide (xs ++ own_rows ts (with_two rows k d j e)) n size
+      → HasWideMinor (xs ++ (own_rows ts (mains rows) ++ row_as d (get_or (named_constraints true ts rows) k f) ∷ row_as e (get_or (named_constraints true ts rows) j f) ∷ [])) n size
+      → HasWideMinor (xs ++ own_rows ts (with_two rows k d j e)) n size
   wide_two [] k d j e f xs l m a h = absurd (omega (arith, l))
   wide_two (r ∷ rs) zero d zero e f xs l m a h = absurd (a refl)
   wide_two (r ∷ rs) zero d (suc j) e f xs l m a h = by (keeps true r.says) l m h (λ ys g. wide_one rs j e f ys g) (λ ys g i w. wide_two rs zero d (suc j) e f ys g i a w)
     where
       by : (b : Bool) → 0 < length (cond b (named_constraint ts r ∷ named_constraints true ts rs) (named_constraints true ts rs)) → suc j < length (cond b (named_constraint ts r ∷ named_constraints true ts rs) (named_constraints true ts rs))
-          → IsWide (xs ++ (own_rows ts (cond b (mains rs) (signed r false ∷ mains rs)) ++ row_as d (get_or (cond b (named_constraint ts r ∷ named_constraints true ts rs) (named_constraints true ts rs)) 0 f)
+          → HasWideMinor (xs ++ (own_rows ts (cond b (mains rs) (signed r false ∷ mains rs)) ++ row_as d (get_or (cond b (named_constraint ts r ∷ named_constraints true ts rs) (named_constraints true ts rs)) 0 f)
           ∷ row_as e (get_or (cond b (named_constraint ts r ∷ named_constraints true ts rs) (named_constraints true ts rs)) (suc j) f) ∷ [])) n size
-          → ((ys : List (ℕ → ℤ)) → j < length (named_constraints true ts rs) → IsWide (ys ++ (own_rows ts (mains rs) ++ row_as e (get_or (named_constraints true ts rs) j f) ∷ [])) n size → IsWide (ys ++ own_rows ts (with_one rs j e)) n size)
+          → ((ys : List (ℕ → ℤ)) → j < length (named_constraints true ts rs) → HasWideMinor (ys ++ (own_rows ts (mains rs) ++ row_as e (get_or (named_constraints true ts rs) j f) ∷ [])) n size → HasWideMinor (ys ++ own_rows ts (with_one rs j e)) n size)
           → ((ys : List (ℕ → ℤ)) → 0 < length (named_constraints true ts rs) → suc j < length (named_constraints true ts rs)
-          → IsWide (ys ++ (own_rows ts (mains rs) ++ row_as d (get_or (named_constraints true ts rs) 0 f) ∷ row_as e (get_or (named_constraints true ts rs) (suc j) f) ∷ [])) n size
-          → IsWide (ys ++ own_rows ts (with_two rs zero d (suc j) e)) n size)
-          → IsWide (xs ++ own_rows ts (cond b (signed r d ∷ with_one rs j e) (signed r false ∷ with_two rs zero d (suc j) e))) n size
+          → HasWideMinor (ys ++ (own_rows ts (mains rs) ++ row_as d (get_or (named_constraints true ts rs) 0 f) ∷ row_as e (get_or (named_constraints true ts rs) (suc j) f) ∷ [])) n size
+          → HasWideMinor (ys ++ own_rows ts (with_two rs zero d (suc j) e)) n size)
+          → HasWideMinor (xs ++ own_rows ts (cond b (signed r d ∷ with_one rs j e) (signed r false ∷ with_two rs zero d (suc j) e))) n size
       by true p q g one two =
           go_on xs (own_rows ts (with_one rs j e)) (own_row ts (signed r d))
           (one (xs ++ own_row ts (signed r d) ∷ []) (omega (arith, q))
@@ -147,13 +147,13 @@ module _ (ts : List Term) (n size : ℕ) where
   wide_two (r ∷ rs) (suc k) d zero e f xs l m a h = by (keeps true r.says) l m h (λ ys g. wide_one rs k d f ys g) (λ ys g i w. wide_two rs (suc k) d zero e f ys g i a w)
     where
       by : (b : Bool) → suc k < length (cond b (named_constraint ts r ∷ named_constraints true ts rs) (named_constraints true ts rs)) → 0 < length (cond b (named_constraint ts r ∷ named_constraints true ts rs) (named_constraints true ts rs))
-          → IsWide (xs ++ (own_rows ts (cond b (mains rs) (signed r false ∷ mains rs)) ++ row_as d (get_or (cond b (named_constraint ts r ∷ named_constraints true ts rs) (named_constraints true ts rs)) (suc k) f)
+          → HasWideMinor (xs ++ (own_rows ts (cond b (mains rs) (signed r false ∷ mains rs)) ++ row_as d (get_or (cond b (named_constraint ts r ∷ named_constraints true ts rs) (named_constraints true ts rs)) (suc k) f)
           ∷ row_as e (get_or (cond b (named_constraint ts r ∷ named_constraints true ts rs) (named_constraints true ts rs)) 0 f) ∷ [])) n size
-          → ((ys : List (ℕ → ℤ)) → k < length (named_constraints true ts rs) → IsWide (ys ++ (own_rows ts (mains rs) ++ row_as d (get_or (named_constraints true ts rs) k f) ∷ [])) n size → IsWide (ys ++ own_rows ts (with_one rs k d)) n size)
+          → ((ys : List (ℕ → ℤ)) → k < length (named_constraints true ts rs) → HasWideMinor (ys ++ (own_rows ts (mains rs) ++ row_as d (get_or (named_constraints true ts rs) k f) ∷ [])) n size → HasWideMinor (ys ++ own_rows ts (with_one rs k d)) n size)
           → ((ys : List (ℕ → ℤ)) → suc k < length (named_constraints true ts rs) → 0 < length (named_constraints true ts rs)
-          → IsWide (ys ++ (own_rows ts (mains rs) ++ row_as d (get_or (named_constraints true ts rs) (suc k) f) ∷ row_as e (get_or (named_constraints true ts rs) 0 f) ∷ [])) n size
-          → IsWide (ys ++ own_rows ts (with_two rs (suc k) d zero e)) n size)
-          → IsWide (xs ++ own_rows ts (cond b (signed r e ∷ with_one rs k d) (signed r false ∷ with_two rs (suc k) d zero e))) n size
+          → HasWideMinor (ys ++ (own_rows ts (mains rs) ++ row_as d (get_or (named_constraints true ts rs) (suc k) f) ∷ row_as e (get_or (named_constraints true ts rs) 0 f) ∷ [])) n size
+          → HasWideMinor (ys ++ own_rows ts (with_two rs (suc k) d zero e)) n size)
+          → HasWideMinor (xs ++ own_rows ts (cond b (signed r e ∷ with_one rs k d) (signed r false ∷ with_two rs (suc k) d zero e))) n size
       by true p q g one two =
           go_on xs (own_rows ts (with_one rs k d)) (own_row ts (signed r e))
           (one (xs ++ own_row ts (signed r e) ∷ []) (omega (arith, p))
@@ -168,15 +168,15 @@ module _ (ts : List Term) (n size : ℕ) where
       by (keeps true r.says) l m h (λ ys g i w. wide_two rs k d j e f ys g i (λ q. a (ap suc q)) w) (λ ys g i w. wide_two rs (suc k) d (suc j) e f ys g i a w)
     where
       by : (b : Bool) → suc k < length (cond b (named_constraint ts r ∷ named_constraints true ts rs) (named_constraints true ts rs)) → suc j < length (cond b (named_constraint ts r ∷ named_constraints true ts rs) (named_constraints true ts rs))
-          → IsWide (xs ++ (own_rows ts (cond b (mains rs) (signed r false ∷ mains rs)) ++ row_as d (get_or (cond b (named_constraint ts r ∷ named_constraints true ts rs) (named_constraints true ts rs)) (suc k) f)
+          → HasWideMinor (xs ++ (own_rows ts (cond b (mains rs) (signed r false ∷ mains rs)) ++ row_as d (get_or (cond b (named_constraint ts r ∷ named_constraints true ts rs) (named_constraints true ts rs)) (suc k) f)
           ∷ row_as e (get_or (cond b (named_constraint ts r ∷ named_constraints true ts rs) (named_constraints true ts rs)) (suc j) f) ∷ [])) n size
           → ((ys : List (ℕ → ℤ)) → k < length (named_constraints true ts rs) → j < length (named_constraints true ts rs)
-          → IsWide (ys ++ (own_rows ts (mains rs) ++ row_as d (get_or (named_constraints true ts rs) k f) ∷ row_as e (get_or (named_constraints true ts rs) j f) ∷ [])) n size
-          → IsWide (ys ++ own_rows ts (with_two rs k d j e)) n size)
+          → HasWideMinor (ys ++ (own_rows ts (mains rs) ++ row_as d (get_or (named_constraints true ts rs) k f) ∷ row_as e (get_or (named_constraints true ts rs) j f) ∷ [])) n size
+          → HasWideMinor (ys ++ own_rows ts (with_two rs k d j e)) n size)
           → ((ys : List (ℕ → ℤ)) → suc k < length (named_constraints true ts rs) → suc j < length (named_constraints true ts rs)
-          → IsWide (ys ++ (own_rows ts (mains rs) ++ row_as d (get_or (named_constraints true ts rs) (suc k) f) ∷ row_as e (get_or (named_constraints true ts rs) (suc j) f) ∷ [])) n size
-          → IsWide (ys ++ own_rows ts (with_two rs (suc k) d (suc j) e)) n size)
-          → IsWide (xs ++ own_rows ts (cond b (with_two rs k d j e) (signed r false ∷ with_two rs (suc k) d (suc j) e))) n size
+          → HasWideMinor (ys ++ (own_rows ts (mains rs) ++ row_as d (get_or (named_constraints true ts rs) (suc k) f) ∷ row_as e (get_or (named_constraints true ts rs) (suc j) f) ∷ [])) n size
+          → HasWideMinor (ys ++ own_rows ts (with_two rs (suc k) d (suc j) e)) n size)
+          → HasWideMinor (xs ++ own_rows ts (cond b (with_two rs k d j e) (signed r false ∷ with_two rs (suc k) d (suc j) e))) n size
       by true p q g one two = one xs (omega (arith, p)) (omega (arith, q)) g
       by false p q g one two =
           go_on xs (own_rows ts (with_two rs (suc k) d (suc j) e)) (own_row ts (signed r false))
@@ -204,7 +204,7 @@ length_alike (r ∷ rs) (q ∷ qs) h = ap suc (length_alike rs qs h.1)
 length_alike [] (q ∷ qs) h = absurd h
 length_alike (r ∷ rs) [] h = absurd h
 
-wide_alike : (rs qs : List (ℕ → ℤ)) (n size : ℕ) → Similar rs qs → IsWide rs n size → IsWide qs n size
+wide_alike : (rs qs : List (ℕ → ℤ)) (n size : ℕ) → Similar rs qs → HasWideMinor rs n size → HasWideMinor qs n size
 wide_alike rs qs n size s h =
     (let b = part_alike rs qs h.chosen s h.are_rows in
     record {
@@ -307,19 +307,19 @@ rows_append [] ys = refl
 rows_append (x ∷ xs) ys = ap (λ v. constraint_row x ∷ v) (rows_append xs ys)
 
 module _ (ts : List Term) (rows : List Row) (o : AreOnce ts) (a : AllNamed ts rows) where
-  wide_main : IsWide (rows_of (named_constraints false ts rows)) (length ts + 1) (2 ^ 63) → IsWideRows rows
+  wide_main : HasWideMinor (rows_of (named_constraints false ts rows)) (length ts + 1) (2 ^ 63) → IsWideRows rows
   wide_main h =
       wide_named ts (length ts + 1) (mains rows) (own_rows ts (mains rows)) rows (own_entries ts (mains rows) o (ok_mains ts rows a)) (part_mains rows)
-      (subst (λ v. IsWide v (length ts + 1) (2 ^ 63)) (rows_main ts rows) h)
+      (subst (λ v. HasWideMinor v (length ts + 1) (2 ^ 63)) (rows_main ts rows) h)
 
   signed_one : (k : ℕ) (d : Bool) (e : Constraint) → k < length (named_constraints true ts rows)
-      → IsWide (own_rows ts (mains rows) ++ row_as d (get_or (named_constraints true ts rows) k e) ∷ []) (length ts + 1) (2 ^ 63) → IsWideRows rows
+      → HasWideMinor (own_rows ts (mains rows) ++ row_as d (get_or (named_constraints true ts rows) k e) ∷ []) (length ts + 1) (2 ^ 63) → IsWideRows rows
   signed_one k d e l h =
       wide_named ts (length ts + 1) (with_one rows k d) (own_rows ts (with_one rows k d)) rows (own_entries ts (with_one rows k d) o (ok_one ts rows k d a)) (part_one rows k d)
       (wide_one ts (length ts + 1) (2 ^ 63) rows k d e [] l h)
 
   signed_two : (k : ℕ) (d : Bool) (j : ℕ) (e : Constraint) → k < length (named_constraints true ts rows) → j < length (named_constraints true ts rows) → k ≢ j
-      → IsWide (own_rows ts (mains rows) ++ row_as d (get_or (named_constraints true ts rows) k e) ∷ constraint_row (get_or (named_constraints true ts rows) j e) ∷ []) (length ts + 1) (2 ^ 63) → IsWideRows rows
+      → HasWideMinor (own_rows ts (mains rows) ++ row_as d (get_or (named_constraints true ts rows) k e) ∷ constraint_row (get_or (named_constraints true ts rows) j e) ∷ []) (length ts + 1) (2 ^ 63) → IsWideRows rows
   signed_two k d j e l m n h =
       wide_named ts (length ts + 1) (with_two rows k d j false) (own_rows ts (with_two rows k d j false)) rows (own_entries ts (with_two rows k d j false) o (ok_two ts rows k d j false a))
       (part_two rows k d j false)
@@ -338,23 +338,23 @@ module _ (ts : List Term) (rows : List Row) (o : AreOnce ts) (a : AllNamed ts ro
 
   wide_with : (k : ℕ) → k < length (named_constraints true ts rows) → WideWith (length ts + 1) (named_constraints false ts rows) (named_constraints true ts rows) k → IsWideRows rows
   wide_with k l h = elim (h one_constraint) [
-    | inl g ↦ signed_one k false one_constraint l (subst (λ v. IsWide v (length ts + 1) (2 ^ 63)) (rows_of_one (get_or (named_constraints true ts rows) k one_constraint)) g)
+    | inl g ↦ signed_one k false one_constraint l (subst (λ v. HasWideMinor v (length ts + 1) (2 ^ 63)) (rows_of_one (get_or (named_constraints true ts rows) k one_constraint)) g)
     | inr g ↦ signed_one k true one_constraint l
         (wide_alike (own_rows ts (mains rows) ++ constraint_row (negative_constraint (get_or (named_constraints true ts rows) k one_constraint)) ∷ [])
         (own_rows ts (mains rows) ++ turned (constraint_row (negative_constraint (get_or (named_constraints true ts rows) k one_constraint))) ∷ []) (length ts + 1) (2 ^ 63)
         (similar_turned (own_rows ts (mains rows)) [] (constraint_row (negative_constraint (get_or (named_constraints true ts rows) k one_constraint))))
-        (subst (λ v. IsWide v (length ts + 1) (2 ^ 63)) (rows_of_one (negative_constraint (get_or (named_constraints true ts rows) k one_constraint))) g))
+        (subst (λ v. HasWideMinor v (length ts + 1) (2 ^ 63)) (rows_of_one (negative_constraint (get_or (named_constraints true ts rows) k one_constraint))) g))
   ]
 
   wide_with_two : (k : ℕ) → k < length (named_constraints true ts rows) → WideWithTwo (length ts + 1) (named_constraints false ts rows) (named_constraints true ts rows) k → IsWideRows rows
   wide_with_two k l h = elim (h.wide one_constraint) [
     | inl g ↦ signed_two k false h.place one_constraint l h.here (λ q. h.other (sym q))
-        (subst (λ v. IsWide v (length ts + 1) (2 ^ 63)) (rows_of_two (get_or (named_constraints true ts rows) k one_constraint) (get_or (named_constraints true ts rows) h.place one_constraint)) g)
+        (subst (λ v. HasWideMinor v (length ts + 1) (2 ^ 63)) (rows_of_two (get_or (named_constraints true ts rows) k one_constraint) (get_or (named_constraints true ts rows) h.place one_constraint)) g)
     | inr g ↦ signed_two k true h.place one_constraint l h.here (λ q. h.other (sym q))
         (wide_alike (own_rows ts (mains rows) ++ constraint_row (negative_constraint (get_or (named_constraints true ts rows) k one_constraint)) ∷ constraint_row (get_or (named_constraints true ts rows) h.place one_constraint) ∷ [])
         (own_rows ts (mains rows) ++ turned (constraint_row (negative_constraint (get_or (named_constraints true ts rows) k one_constraint))) ∷ constraint_row (get_or (named_constraints true ts rows) h.place one_constraint) ∷ []) (length ts + 1) (2 ^ 63)
         (similar_turned (own_rows ts (mains rows)) (constraint_row (get_or (named_constraints true ts rows) h.place one_constraint) ∷ []) (constraint_row (negative_constraint (get_or (named_constraints true ts rows) k one_constraint))))
-        (subst (λ v. IsWide v (length ts + 1) (2 ^ 63)) (rows_of_two (negative_constraint (get_or (named_constraints true ts rows) k one_constraint)) (get_or (named_constraints true ts rows) h.place one_constraint)) g))
+        (subst (λ v. HasWideMinor v (length ts + 1) (2 ^ 63)) (rows_of_two (negative_constraint (get_or (named_constraints true ts rows) k one_constraint)) (get_or (named_constraints true ts rows) h.place one_constraint)) g))
   ]
 
   wide_with_some : WideWithSome (length ts + 1) (named_constraints false ts rows) (named_constraints true ts rows) → IsWideRows rows
@@ -364,7 +364,7 @@ module _ (ts : List Term) (rows : List Row) (o : AreOnce ts) (a : AllNamed ts ro
 -- ---- the same over more columns than those of the terms
 
 module _ (ts : List Term) (rows : List Row) (w : ℕ) (o : AreOnce ts) (a : AllNamed ts rows) where
-  pub wide_over : IsWide (rows_of (named_constraints false ts rows)) w (2 ^ 63) → IsWideRows rows
+  pub wide_over : HasWideMinor (rows_of (named_constraints false ts rows)) w (2 ^ 63) → IsWideRows rows
   wide_over h = wide_main ts rows o a (narrow_wide (length ts + 1) w (named_constraints false ts rows) (omega arith) (within_constraints false ts rows a) h)
 
   pub wide_with_some_over : WideWithSome w (named_constraints false ts rows) (named_constraints true ts rows) → IsWideRows rows

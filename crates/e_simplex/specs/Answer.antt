@@ -29,11 +29,11 @@ MayTake More m = pos 0 ≤ℤ m
 MayTake Not m = m ≡ pos 0
 
 -- one multiplier a row, as the row may be taken
-abbrev pub AreTaken : List Row → List ℤ → Type 0
-AreTaken [] [] = Unit {0}
-AreTaken (r ∷ rs) (m ∷ ms) = MayTake r.says m × AreTaken rs ms
-AreTaken [] (m ∷ ms) = ⊥
-AreTaken (r ∷ rs) [] = ⊥
+abbrev pub AreMultipliers : List Row → List ℤ → Type 0
+AreMultipliers [] [] = Unit {0}
+AreMultipliers (r ∷ rs) (m ∷ ms) = MayTake r.says m × AreMultipliers rs ms
+AreMultipliers [] (m ∷ ms) = ⊥
+AreMultipliers (r ∷ rs) [] = ⊥
 
 -- a row that says `more` is taken at least once
 abbrev pub TakesMore : List Row → List ℤ → Type 0
@@ -43,7 +43,7 @@ TakesMore (r ∷ rs) (m ∷ ms) = ((r.says ≡ More) × (pos 1 ≤ℤ m)) ⊎ Ta
 
 -- the sum of the rows says that nothing positive is more than 0
 pub record Refutes (rows : List Row) (ms : List ℤ) : Type 0 where
-  pub taken : AreTaken rows ms
+  pub taken : AreMultipliers rows ms
   pub more : TakesMore rows ms
   pub small : (i : ℕ) → i < length ms → unsigned_abs (get_or ms i (pos 0)) ≤ 2 ^ 80
   pub no_positive : (t : Term) → total (each_weighed rows ms) t ≤ℤ pos 0

@@ -9,7 +9,7 @@ use Rattle.e_simplex.specs.declared.solved_rows.Prepared.{Prepared}
 use Rattle.e_simplex.specs.declared.solved_rows.Prepared.TheVariants.{SolvedRows, Absurd, TooWide}
 
 -- the rows, settled; or multipliers that refute them; or the rows are wide, and so is their width
-abbrev pub IsPrepared : List GivenRow → Prepared → Type 0
-IsPrepared rows (SolvedRows s) = s ≡ rows
-IsPrepared rows (Absurd absurdity) = IsRefuted (all_seen rows) absurdity
-IsPrepared rows TooWide = IsWide (all_seen rows) × (2 ^ 63 ≤ width (all_seen rows))
+abbrev pub IsPreparedRows : List GivenRow → Prepared → Type 0
+IsPreparedRows rows (SolvedRows s) = s ≡ rows
+IsPreparedRows rows (Absurd absurdity) = IsRefuted (all_seen rows) absurdity
+IsPreparedRows rows TooWide = IsWide (all_seen rows) × (2 ^ 63 ≤ width (all_seen rows))

@@ -7,7 +7,7 @@ ghost use Rattle.e_fraction.specs.Limits.{all_small};
 ghost use Rattle.e_fraction.specs.Views.{all_seen};
 ghost use Rattle.e_simplex.specs.Answer.{IsVerdict, IsRefuted, IsHolds, IsAbsurd};
 ghost use Rattle.e_simplex.specs.Naming.{AreOnce, AllNamed, named_constraints};
-ghost use Rattle.e_simplex.specs.Solved.{IsSolved, IsOutcome, columns_of};
+ghost use Rattle.e_simplex.specs.Solved.{IsSolved, IsTableOutcome, columns_of};
 ghost use Rattle.e_simplex.specs.inner.Paired.{PairedTo};
 ghost use Rattle.e_simplex.specs.inner.Weights.{AreWeightsFor, AreWeightsForBoth};
 
@@ -128,7 +128,7 @@ pub fn verdict_of(
     requires once { AreOnce terms.now }
     requires named { AllNamed terms.now (all_seen rows.now) }
     requires outcome { (w : ℕ) × (length terms.now < w) × (w ≤ 2 ^ 63 + 8)
-        × IsOutcome w (named_constraints false terms.now (all_seen rows.now)) outcome.now }
+        × IsTableOutcome w (named_constraints false terms.now (all_seen rows.now)) outcome.now }
     ensures { IfOk result (IsVerdict (all_seen rows.now)) }
 {
     match outcome {

@@ -2,7 +2,7 @@
 
 ghost use Rattle.std.specs.Prelude.{◌≡◌, ◌+◌, ◌^◌, ◌<◌, ◌++◌, ◌∷◌, [], length, IfOk};
 ghost use Rattle.e_simplex.specs.Constraints.{numbers, FixedTo};
-ghost use Rattle.e_simplex.specs.Solved.{IsBegun, IsSolved, IsSolvedAs, IsOutcome, IsFit};
+ghost use Rattle.e_simplex.specs.Solved.{IsBegunTable, IsSolved, IsSolvedAs, IsTableOutcome, IsFit};
 ghost use Rattle.e_simplex.specs.Solved.{constraints_of, columns_of};
 
 use crate::constraints::{Constraint, is_zero};
@@ -115,7 +115,7 @@ pub fn solve_constraints(
     width: usize,
 ) -> Result<Outcome, AllocError>
     requires { IsFit width constraints.items }
-    ensures { IfOk result (IsOutcome width constraints.items) }
+    ensures { IfOk result (IsTableOutcome width constraints.items) }
 {
     let table = Table::new(alloc, constraints, width)?;
     table.solved(alloc)
@@ -125,7 +125,7 @@ impl Table {
     /// The table of constraints over `width` columns, with no row yet.
     fn new(alloc: Global, constraints: Vec<Constraint>, width: usize) -> Result<Table, AllocError>
         requires { IsFit width constraints.items }
-        ensures { IfOk result (IsBegun width constraints.items) }
+        ensures { IfOk result (IsBegunTable width constraints.items) }
     {
         let fixed = fixed_numbers(alloc, &constraints, width)?;
         let columns = count_up(alloc, width)?;
@@ -164,7 +164,7 @@ impl Table {
         requires solved { IsSolved (columns_of self.now) (constraints_of self.now) self.now }
         requires fit { IsFit (columns_of self.now) (constraints_of self.now ++ more.now) }
         ensures { IfOk result
-            (IsBegun (columns_of self.now) (constraints_of self.now ++ more.now)) }
+            (IsBegunTable (columns_of self.now) (constraints_of self.now ++ more.now)) }
     {
         let w = self.columns.len();
         let basis = Vec::from_slice(alloc, &self.basis)?;
@@ -185,8 +185,8 @@ impl Table {
     /// What comes of the constraints.
     fn solved(mut self, alloc: Global) -> Result<Outcome, AllocError>
         requires fit { IsFit (columns_of self) (constraints_of self) }
-        requires begun { IsBegun (columns_of self) (constraints_of self) self }
-        ensures { IfOk result (IsOutcome (columns_of self) (constraints_of self)) }
+        requires begun { IsBegunTable (columns_of self) (constraints_of self) self }
+        ensures { IfOk result (IsTableOutcome (columns_of self) (constraints_of self)) }
     {
         let fits = self.add_rows(alloc)?;
         if !fits {
@@ -214,7 +214,7 @@ impl Table {
         requires solved { IsSolved (columns_of self.now) (constraints_of self.now) self.now }
         requires fit { IsFit (columns_of self.now) (constraints_of self.now ++ more.now) }
         ensures { IfOk result
-            (IsOutcome (columns_of self.now) (constraints_of self.now ++ more.now)) }
+            (IsTableOutcome (columns_of self.now) (constraints_of self.now ++ more.now)) }
     {
         let table = self.extended(alloc, more)?;
         table.solved(alloc)
@@ -226,7 +226,7 @@ impl Table {
         requires fit { IsFit (columns_of self.now)
             (constraints_of self.now ++ constraint.now ∷ []) }
         ensures { IfOk result
-            (IsOutcome (columns_of self.now) (constraints_of self.now ++ constraint.now ∷ [])) }
+            (IsTableOutcome (columns_of self.now) (constraints_of self.now ++ constraint.now ∷ [])) }
     {
         let more = [copy_of_constraint(alloc, constraint)?];
         self.with_all(alloc, &more)

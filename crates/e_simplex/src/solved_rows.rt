@@ -7,7 +7,7 @@ ghost use Rattle.e_fraction.specs.Limits.{all_small};
 ghost use Rattle.e_fraction.specs.Views.{all_seen};
 ghost use Rattle.e_simplex.specs.Answer.{AreValuesOf, IsVerdict, IsHolds, IsAbsurd};
 ghost use Rattle.e_simplex.specs.Naming.{AreOnce, AllNamed, named_constraints};
-ghost use Rattle.e_simplex.specs.Preparing.{IsPrepared};
+ghost use Rattle.e_simplex.specs.Preparing.{IsPreparedRows};
 ghost use Rattle.e_simplex.specs.Solved.{IsSolved, columns_of};
 ghost use Rattle.e_simplex.specs.SolvedRows.{IsTableFor};
 
@@ -104,7 +104,7 @@ fn with_values(
     requires counted { columns_of solved ≤ 2 ^ 63 + 8 }
     requires solved { IsSolved (columns_of solved)
         (named_constraints false terms.items (all_seen rows.items)) solved }
-    ensures { IfOk result (IsPrepared rows.items) }
+    ensures { IfOk result (IsPreparedRows rows.items) }
 {
     match verdict_of_solved(alloc, &rows, &terms, &solved)? {
         Verdict::TooWide => Ok(Prepared::TooWide),
@@ -125,7 +125,7 @@ fn with_values(
 pub fn prepare(alloc: Global, rows: Vec<Row>) -> Result<Prepared, AllocError>
     requires few { length rows.items ≤ 4096 }
     requires coefficients { IsTrue (all_small rows.items) }
-    ensures { IfOk result (IsPrepared rows.items) }
+    ensures { IfOk result (IsPreparedRows rows.items) }
 {
     let terms = terms_of(alloc, &rows)?;
     let constraints = constraints_where(alloc, false, &terms, &rows)?;
@@ -181,7 +181,7 @@ fn prepared_with(
     requires few { length (rows.now ++ more.now) ≤ 4096 }
     requires coefficients { IsTrue (all_small (rows.now ++ more.now)) }
     requires table { IsTableFor rows.now terms.now solved.now }
-    ensures { IfOk result (IsPrepared (rows.now ++ more.now)) }
+    ensures { IfOk result (IsPreparedRows (rows.now ++ more.now)) }
 {
     let together = rows_with(alloc, rows, more)?;
     let terms = terms_with(alloc, terms, more)?;
@@ -250,7 +250,7 @@ impl SolvedRows {
     pub fn with(&self, alloc: Global, more: &[Row]) -> Result<Prepared, AllocError>
         requires few { length (self.now ++ more.now) ≤ 4096 }
         requires coefficients { IsTrue (all_small (self.now ++ more.now)) }
-        ensures { IfOk result (IsPrepared (self.now ++ more.now)) }
+        ensures { IfOk result (IsPreparedRows (self.now ++ more.now)) }
     {
         let prepared = prepared_with(alloc, &self.rows, &self.terms, &self.solved, more)?;
         Ok(prepared)

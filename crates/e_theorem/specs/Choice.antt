@@ -29,7 +29,7 @@ is_below (a ∷ others) (b ∷ bs) = nat_lt a.num b.num || (a.num == b.num && is
 is_below _ _ = false
 
 -- the least good choice
-pub record IsLeast (t : StatementView) (scope : Scope) (facts : List Lit) (pattern : List (Option Obj)) (args : List Obj) : Type 0 where
+pub record IsLeastChoice (t : StatementView) (scope : Scope) (facts : List Lit) (pattern : List (Option Obj)) (args : List Obj) : Type 0 where
   pub good : IsAllowedChoice t scope facts pattern args
   pub least : (other : List Obj) → IsAllowedChoice t scope facts pattern other → IsFalse (is_below other args)
 

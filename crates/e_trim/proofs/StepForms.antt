@@ -29,7 +29,7 @@ use Rattle.e_deriv.proofs.Keeping.{stay_on, stay_all, no_fewer}
 use Rattle.e_deriv.proofs.Scripts.{step_script-Claim, step_script-Superposed, close_script-Cases}
 use Rattle.e_trim.specs.Trimmed.{lit_at, cert_at, by_at, joins_at, makes_at, is_kept, line_at, with_step, wants, trimmed_from}
 use Rattle.e_trim.specs.inner.Flags.{flag, flags_of, inside_of, step_flags}
-use Rattle.e_trim.specs.inner.StepState.{IsReady, IsReadyStep, StepFits, KeepsFacts, passed, outer_of, left_for}
+use Rattle.e_trim.specs.inner.StepState.{IsReady, IsReadyToTrim, StepFits, KeepsFacts, passed, outer_of, left_for}
 use Rattle.e_trim.specs.inner.Building.{kept_step}
 use Rattle.e_trim.specs.declared.step_state.StepState.{StepState}
 
@@ -87,7 +87,7 @@ pub ready_small : (before : List StatementView) (step : Step) (rest : Script) (x
 ready_small before step rest x goal r = (all_parts (λ y. is_small y.scope) before step rest x goal r.scopes).0
 
 -- the block inside of a claim, and that of a superposition
-pub claim_ready : (before : List StatementView) (shown : List Lit) (inner : Box Block Global) (x : StepState) → IsReadyStep before (ClaimBlock shown inner) x → IsReady before (script_of inner.value) x.scope x.facts (goal_of shown)
+pub claim_ready : (before : List StatementView) (shown : List Lit) (inner : Box Block Global) (x : StepState) → IsReadyToTrim before (ClaimBlock shown inner) x → IsReady before (script_of inner.value) x.scope x.facts (goal_of shown)
 claim_ready before shown inner x r =
     let e = step_script-Claim shown inner r.rest in
     record {
@@ -95,7 +95,7 @@ claim_ready before shown inner x r =
       scopes = subst (λ d. inner_test (λ y. is_small y.scope) before d x.scope x.facts ≡ true) e (all_parts (λ y. is_small y.scope) before (ClaimBlock shown inner) r.rest x r.goal r.ready.scopes).1;
     }
 
-pub superposed_ready : (before : List StatementView) (form : Superpose) (names : List (List ℕ)) (shown : List Lit) (certs : List Cert) (inner : Box Block Global) (x : StepState) → IsReadyStep before (SuperposedBlock form names shown certs inner) x
+pub superposed_ready : (before : List StatementView) (form : Superpose) (names : List (List ℕ)) (shown : List Lit) (certs : List Cert) (inner : Box Block Global) (x : StepState) → IsReadyToTrim before (SuperposedBlock form names shown certs inner) x
     → IsReady before (script_of inner.value) (grown x.scope superposing.sorts_copied) (joined_all x.facts (superposing.gives_of_superposition form x.scope)) (goal_of shown)
 superposed_ready before form names shown certs inner x r =
     let step = SuperposedBlock form names shown certs inner in

@@ -10,7 +10,7 @@ use Rattle.e_deriv.proofs.Keeping.{all_stay}
 use Rattle.e_trim.specs.Looked.{Wants, both, of_line}
 use Rattle.e_trim.specs.Trimmed.{is_kept, line_at, with_step, wants}
 use Rattle.e_trim.specs.inner.Flags.{flag, flags_of, inside_of, step_flags}
-use Rattle.e_trim.specs.inner.StepState.{IsReady, IsReadyStep, StepFits, StepAdds, FlagsAdded, StepWants, StepFlags, KeepsFacts, passed, outer_of, left_for}
+use Rattle.e_trim.specs.inner.StepState.{IsReady, IsReadyToTrim, StepFits, StepAdds, FlagsAdded, StepWants, StepFlags, KeepsFacts, passed, outer_of, left_for}
 use Rattle.e_trim.specs.declared.step_state.StepState.{StepState}
 use Rattle.e_trim.specs.declared.step_state.Outer.{Outer}
 use Rattle.e_trim.proofs.StepForms.{ready_rest, ready_fits, ready_small, wants_step, flags_step, passed_keeps, keeps_on, keeps_enough, left_back}
@@ -35,7 +35,7 @@ look_fits before steps head x goal close l = ready_fits before head (steps_scrip
 pub look_small : (before : List StatementView) (steps : List Step) (head : Step) (x : StepState) (goal : Goal) (close : Script) → Looking before steps head x goal close → is_small x.scope ≡ true
 look_small before steps head x goal close l = ready_small before head (steps_script (later_steps steps) close) x goal (at_first before steps head x goal close l)
 
-pub look_step_ready : (before : List StatementView) (steps : List Step) (head : Step) (x : StepState) (goal : Goal) (close : Script) → Looking before steps head x goal close → IsReadyStep before head x
+pub look_step_ready : (before : List StatementView) (steps : List Step) (head : Step) (x : StepState) (goal : Goal) (close : Script) → Looking before steps head x goal close → IsReadyToTrim before head x
 look_step_ready before steps head x goal close l = record { rest = steps_script (later_steps steps) close; goal = goal; ready = at_first before steps head x goal close l }
 
 pub look_rest : (before : List StatementView) (steps : List Step) (head : Step) (x after : StepState) (goal : Goal) (close : Script) → Looking before steps head x goal close → IsPast before head x after

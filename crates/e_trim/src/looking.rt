@@ -9,7 +9,7 @@ ghost use Rattle.e_deriv.specs.Fitting.{is_small, is_small_statement};
 ghost use Rattle.e_deriv.specs.Script.{script_of, steps_script, close_script};
 ghost use Rattle.e_trim.specs.Trimmed.{outside, wants};
 ghost use Rattle.e_trim.specs.inner.Flags.{flags_of};
-ghost use Rattle.e_trim.specs.inner.StepState.{IsReady, IsReadyStep, StepAdds, FlagsAdded, StepWants, StepFlags, KeepsFacts, goal_said};
+ghost use Rattle.e_trim.specs.inner.StepState.{IsReady, IsReadyToTrim, StepAdds, FlagsAdded, StepWants, StepFlags, KeepsFacts, goal_said};
 
 use crate::step_state::{Goal, StepState};
 use crate::steps::{is_kept, look_close, look_step, pass};
@@ -63,7 +63,7 @@ fn look_back(
     flags: &mut Vec<bool>,
     out: &mut Wanted,
 ) -> Result<(), AllocError>
-    requires ready { IsReadyStep (all_stated before.now) step.now state.old }
+    requires ready { IsReadyToTrim (all_stated before.now) step.now state.old }
     requires statements { IsTrue (list_all is_small_statement (all_stated before.now)) }
     ensures wanted { OnOk result (StepAdds (all_stated before.now) step.now state.old out.old out.new) }
     ensures flags { OnOk result (FlagsAdded (all_stated before.now) step.now state.old out.old flags.old.items flags.new.items) }
@@ -88,7 +88,7 @@ fn look_at_step(
     flags: &mut Vec<bool>,
     out: &mut Wanted,
 ) -> Result<(), AllocError>
-    requires ready { IsReadyStep (all_stated before.now) step.now state.old }
+    requires ready { IsReadyToTrim (all_stated before.now) step.now state.old }
     requires statements { IsTrue (list_all is_small_statement (all_stated before.now)) }
     ensures wanted { OnOk result (StepWants (all_stated before.now) step.now state.old out.old out.new) }
     ensures flags { OnOk result (StepFlags (all_stated before.now) step.now state.old flags.old.items flags.new.items) }

@@ -31,7 +31,7 @@ use Rattle.e_clause.specs.MetricCertificate.{differing, above_row, below_row, bo
 use Rattle.e_metric.specs.declared.kind_system.KindSystem.{KindSystem}
 use Rattle.e_metric.specs.declared.kind_system.KindSystem.TheVariants.{Absurd}
 use Rattle.e_metric.specs.SolvedSystems.{IsKindSystem}
-use Rattle.e_metric.specs.MetricAnswers.{IsCertified}
+use Rattle.e_metric.specs.MetricAnswers.{IsMetricCertificate}
 use Rattle.e_metric.proofs.terms.FirstTerms.{lits_append}
 use Rattle.e_metric.proofs.rows.Forms.{none_more}
 use Rattle.e_metric.proofs.rows.RowsOfMoreFacts.{more_apart}
@@ -171,14 +171,14 @@ module _ (facts more : List Lit) (wanted : Option Lit) where
   front_scoped : (s : Scope) → list_all (all_in_scope s) (facts ++ more) ≡ true → list_all (all_in_scope s) facts ≡ true
   front_scoped s k = and_left (list_all (all_in_scope s) facts) (list_all (all_in_scope s) more) (sym (list_all-append (all_in_scope s) facts more) ∙ k)
 
-  pub certified_more : (m : MetricCert) → IsCertified facts None m → IsCertified (facts ++ more) wanted m
+  pub certified_more : (m : MetricCert) → IsMetricCertificate facts None m → IsMetricCertificate (facts ++ more) wanted m
   certified_more m h = record { refutes = sums_wider m.sums h.refutes; scoped = λ s k g. h.scoped s (front_scoped s k) refl; written = h.written }
 
-pub certified_wider : (facts : List Lit) (wanted : Option Lit) (m : MetricCert) → IsCertified facts None m → IsCertified facts wanted m
-certified_wider facts wanted m h = subst (λ fs. IsCertified fs wanted m) (none_more facts) (certified_more facts [] wanted m h)
+pub certified_wider : (facts : List Lit) (wanted : Option Lit) (m : MetricCert) → IsMetricCertificate facts None m → IsMetricCertificate facts wanted m
+certified_wider facts wanted m h = subst (λ fs. IsMetricCertificate fs wanted m) (none_more facts) (certified_more facts [] wanted m h)
 
 -- a certificate of the first facts is one of all
 pub absurd_stays : (which : Kind) (facts : List Lit) (from : ℕ) (kind_system : KindSystem) (m : MetricCert) → kind_system ≡ Absurd m → IsKindSystem which (take from facts) kind_system → IsKindSystem which facts kind_system
 absurd_stays which facts from kind_system m e h =
     subst (IsKindSystem which facts) (sym e)
-    (subst (λ fs. IsCertified fs None m) (take-append-drop from facts) (certified_more (take from facts) (drop from facts) None m (subst (IsKindSystem which (take from facts)) e h)))
+    (subst (λ fs. IsMetricCertificate fs None m) (take-append-drop from facts) (certified_more (take from facts) (drop from facts) None m (subst (IsKindSystem which (take from facts)) e h)))

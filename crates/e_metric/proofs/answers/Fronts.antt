@@ -14,45 +14,45 @@ use Rattle.e_metric.specs.declared.kind_system.KindSystem.{KindSystem}
 use Rattle.e_metric.specs.declared.metric_facts.Slot.{Slot}
 use Rattle.e_metric.specs.declared.metric_facts.MetricFacts.{MetricFacts}
 use Rattle.e_metric.specs.inner.ByKind.{at_kind}
-use Rattle.e_metric.specs.Fronts.{IsFront, AreFronts}
+use Rattle.e_metric.specs.Fronts.{IsFrontSystem, AreFronts}
 use Rattle.e_metric.specs.SolvedSystems.{IsContradictionOf, IsKindSystem, IsAnswerAlone, AnswersAs}
-use Rattle.e_metric.specs.MetricAnswers.{IsCertified, IsKindAnswer}
+use Rattle.e_metric.specs.MetricAnswers.{IsMetricCertificate, IsKindAnswer}
 
 -- ---- one kind
 
-pub none_front : (which : Kind) (facts : List Lit) (s : Slot) → s.kind_system ≡ None → s.upto ≡ 0 → IsFront which facts s
+pub none_front : (which : Kind) (facts : List Lit) (s : Slot) → s.kind_system ≡ None → s.upto ≡ 0 → IsFrontSystem which facts s
 none_front which facts s e n = record { within = omega (arith, n); kind_system = subst (λ o. IfSome o (IsKindSystem which (take s.upto facts))) (sym e) tt }
 
-pub whole_front : (which : Kind) (facts : List Lit) (s : Slot) (o : Option KindSystem) → s.kind_system ≡ o → s.upto ≡ length facts → IfSome o (IsKindSystem which facts) → IsFront which facts s
+pub whole_front : (which : Kind) (facts : List Lit) (s : Slot) (o : Option KindSystem) → s.kind_system ≡ o → s.upto ≡ length facts → IfSome o (IsKindSystem which facts) → IsFrontSystem which facts s
 whole_front which facts s o e n h = record {
   within = omega (arith, n);
   kind_system = subst (λ p. IfSome p (IsKindSystem which (take s.upto facts))) (sym e) (subst (λ v. IfSome o (IsKindSystem which v)) (sym (take_all s.upto facts (omega (arith, n)))) h);
 }
 
 -- what is there, where all facts are known
-pub whole_system : (which : Kind) (facts : List Lit) (s : Slot) (kind_system : KindSystem) → IsFront which facts s → s.upto ≡ length facts → s.kind_system ≡ Some kind_system → IsKindSystem which facts kind_system
+pub whole_system : (which : Kind) (facts : List Lit) (s : Slot) (kind_system : KindSystem) → IsFrontSystem which facts s → s.upto ≡ length facts → s.kind_system ≡ Some kind_system → IsKindSystem which facts kind_system
 whole_system which facts s kind_system h n e =
     subst (λ v. IsKindSystem which v kind_system) (take_all s.upto facts (omega (arith, n))) (subst (λ o. IfSome o (IsKindSystem which (take s.upto facts))) e h.kind_system)
 
 -- what is there, where it is some
-pub first_system : (which : Kind) (facts : List Lit) (s : Slot) (kind_system : KindSystem) → IsFront which facts s → s.kind_system ≡ Some kind_system → IsKindSystem which (take s.upto facts) kind_system
+pub first_system : (which : Kind) (facts : List Lit) (s : Slot) (kind_system : KindSystem) → IsFrontSystem which facts s → s.kind_system ≡ Some kind_system → IsKindSystem which (take s.upto facts) kind_system
 first_system which facts s kind_system h e = subst (λ o. IfSome o (IsKindSystem which (take s.upto facts))) e h.kind_system
 
-pub front_copied : (which : Kind) (facts : List Lit) (s : Slot) (kind_system other : KindSystem) → IsFront which facts s → s.kind_system ≡ Some kind_system → AnswersAs kind_system other → IsFront which facts (record { kind_system = Some other; upto = s.upto })
+pub front_copied : (which : Kind) (facts : List Lit) (s : Slot) (kind_system other : KindSystem) → IsFrontSystem which facts s → s.kind_system ≡ Some kind_system → AnswersAs kind_system other → IsFrontSystem which facts (record { kind_system = Some other; upto = s.upto })
 front_copied which facts s kind_system other h e f = record { within = h.within; kind_system = f which (take s.upto facts) (first_system which facts s kind_system h e) }
 
-pub none_left : (which : Kind) (facts : List Lit) (s : Slot) → IsFront which facts s → IsFront which facts (record { kind_system = None; upto = s.upto })
+pub none_left : (which : Kind) (facts : List Lit) (s : Slot) → IsFrontSystem which facts s → IsFrontSystem which facts (record { kind_system = None; upto = s.upto })
 none_left which facts s h = record { within = h.within; kind_system = tt }
 
 -- fewer facts, of which it is still a front
-pub cut_front : (which : Kind) (facts : List Lit) (count : ℕ) (s : Slot) → count ≤ length facts → s.upto ≤ count → IsFront which facts s → IsFront which (take count facts) s
+pub cut_front : (which : Kind) (facts : List Lit) (count : ℕ) (s : Slot) → count ≤ length facts → s.upto ≤ count → IsFrontSystem which facts s → IsFrontSystem which (take count facts) s
 cut_front which facts count s n m h = record {
   within = omega (arith, m, length-take-le count facts n);
   kind_system = subst (λ v. IfSome s.kind_system (IsKindSystem which v)) (sym (take-take s.upto count facts m)) h.kind_system;
 }
 
 -- more facts
-front_more : (which : Kind) (facts more : List Lit) (s : Slot) → IsFront which facts s → IsFront which (facts ++ more) s
+front_more : (which : Kind) (facts more : List Lit) (s : Slot) → IsFrontSystem which facts s → IsFrontSystem which (facts ++ more) s
 front_more which facts more s h = record {
   within = omega (arith, h.within, length-append facts more);
   kind_system = subst (λ v. IfSome s.kind_system (IsKindSystem which v)) (sym (take-append-le s.upto facts more h.within)) h.kind_system;
@@ -65,13 +65,13 @@ alone_answered which facts wanted kind_system (Err x) h e k = tt
 
 -- a certificate that a system has, of the facts that have the system
 pub at_system : {E : Type 0} (which : Kind) (facts : List Lit) (kind_system : KindSystem) (r : Result (Option MetricCert) E) → IsKindSystem which facts kind_system
-    → IfOk r (IsContradictionOf kind_system) → IfOk r (λ o. IfSome o (IsCertified facts None))
+    → IfOk r (IsContradictionOf kind_system) → IfOk r (λ o. IfSome o (IsMetricCertificate facts None))
 at_system which facts kind_system (Ok o) h k = k which facts h
 at_system which facts kind_system (Err x) h k = tt
 
 -- ---- all kinds
 
-pub front_at : (facts : List Lit) (m : MetricFacts) → AreFronts facts m → (which : Kind) → IsFront which facts (at_kind m.systems which)
+pub front_at : (facts : List Lit) (m : MetricFacts) → AreFronts facts m → (which : Kind) → IsFrontSystem which facts (at_kind m.systems which)
 front_at facts m h Segment = h.segments
 front_at facts m h Angle = h.angles
 front_at facts m h AreaKind = h.areas

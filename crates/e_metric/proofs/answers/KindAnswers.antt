@@ -31,7 +31,7 @@ use Rattle.e_simplex.specs.Answer.{IsAbsurdity}
 use Rattle.e_metric.specs.AgreeingRows.{AreRows, AllLimited}
 use Rattle.e_metric.specs.ListedTerms.{with_listed, distinct_terms}
 use Rattle.e_metric.specs.inner.Certificate.{certificate_sums}
-use Rattle.e_metric.specs.MetricAnswers.{IsCertified}
+use Rattle.e_metric.specs.MetricAnswers.{IsMetricCertificate}
 use Rattle.e_clause.specs.declared.cert.Version.TheVariants as version
 use Rattle.e_clause.specs.Versions.{are_sums_of}
 use Rattle.e_metric.proofs.rows.SameCoefficients.{satisfy_alike, wide_alike, width_alike}
@@ -96,7 +96,7 @@ module _ (which : Kind) (facts : List Lit) (wanted : Option Lit) where
         record { is_wide = wide; is_width = e; is_large = omega (arith, e, wide_rows_width (rows_of_system which facts wanted) wide) })
 
     pub refuted : (names : List RowName) (terms : List Term) (a : Absurdity) (sums : Sums) → names ≡ names_given ps → terms ≡ with_listed (distinct_terms which facts wanted) (Right ∷ [])
-        → IsAbsurdity (all_seen rows) a → sums ≡ certificate_sums names rows terms a → IsCertified facts wanted (record { sums = sums })
+        → IsAbsurdity (all_seen rows) a → sums ≡ certificate_sums names rows terms a → IsMetricCertificate facts wanted (record { sums = sums })
     refuted names terms a sums n t h e =
         (let sums_are : sums ≡ certificate_sums (names_given ps) (rows_given ps) (with_listed (distinct_terms which facts wanted) (Right ∷ [])) a =
         e ∙ ap (λ ns. certificate_sums ns rows terms a) n ∙ ap (λ rs. certificate_sums (names_given ps) rs terms a) rows_are ∙ ap (λ ts. certificate_sums (names_given ps) (rows_given ps) ts a) t in

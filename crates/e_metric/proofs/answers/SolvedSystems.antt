@@ -31,7 +31,7 @@ use Rattle.e_metric.specs.inner.Certificate.{certificate_sums}
 use Rattle.e_metric.specs.inner.FurtherRows.{terms_added, rows_added_by_goal, further}
 use Rattle.e_metric.specs.SolvedSystems.{AreNamed, IsSolvedSystem, AreTogether}
 use Rattle.e_metric.specs.ListedTerms.{with_listed, distinct_terms}
-use Rattle.e_metric.specs.MetricAnswers.{IsCertified}
+use Rattle.e_metric.specs.MetricAnswers.{IsMetricCertificate}
 use Rattle.e_metric.proofs.rows.GoalRows.{with_further}
 use Rattle.e_metric.proofs.rows.RowOrder.{one_order, reordered_more}
 use Rattle.e_metric.specs.RowOrder.{AreReordered}
@@ -84,7 +84,7 @@ module _ (which : Kind) (facts : List Lit) (wanted : Option Lit) (ns : List Name
   wide_named = KindAnswers.has_width which facts wanted ns order named.pairs named.are named.limited good few good_wanted rows named.rows_are
 
   pub refuted_named : (terms : List Term) (a : Absurdity) (sums : Sums) → terms ≡ with_listed (distinct_terms which facts wanted) (Right ∷ [])
-      → IsAbsurdity (all_seen rows) a → sums ≡ certificate_sums names rows terms a → IsCertified facts wanted (record { sums = sums })
+      → IsAbsurdity (all_seen rows) a → sums ≡ certificate_sums names rows terms a → IsMetricCertificate facts wanted (record { sums = sums })
   refuted_named terms a sums t h e = KindAnswers.refuted which facts wanted ns order named.pairs named.are named.limited good few good_wanted rows named.rows_are names terms a sums named.names_are t h e
 
 -- ---- values, and those of more terms
@@ -165,7 +165,7 @@ module _ (which : Kind) (facts : List Lit) (wanted : Option Lit) (g : SolvedSyst
   )
 
   pub refuted_together : (all : List RowName) (rs : List GivenRow) (terms : List Term) (a : Absurdity) (sums : Sums) → all ≡ g.names.items ++ names → rs ≡ g.rows.items ++ rows
-      → terms ≡ with_listed (distinct_terms which facts wanted) (Right ∷ []) → IsAbsurdity (all_seen both) a → sums ≡ certificate_sums all rs terms a → IsCertified facts wanted (record { sums = sums })
+      → terms ≡ with_listed (distinct_terms which facts wanted) (Right ∷ []) → IsAbsurdity (all_seen both) a → sums ≡ certificate_sums all rs terms a → IsMetricCertificate facts wanted (record { sums = sums })
   refuted_together all rs terms a sums n r same h e =
       refuted_named which facts wanted t.all t.order (g.names.items ++ names) both named_both good few good_wanted terms a sums same h
       (e ∙ ap₂ {A = List RowName} {B = List GivenRow} (λ x y. certificate_sums x y terms a) n (same_rows rs r))

@@ -10,11 +10,11 @@ use Rattle.e_literal.proofs.Arith.{sums}
 use Rattle.e_fraction.specs.declared.row.Row.{Row as GivenRow}
 use Rattle.e_fraction.specs.Limits.{all_small, small_multipliers}
 use Rattle.e_fraction.specs.Views.{seen, all_seen}
-use Rattle.e_simplex.specs.Answer.{AreTaken, Refutes, IsNotAt, as_more, as_less, RefutesBoth}
+use Rattle.e_simplex.specs.Answer.{AreMultipliers, Refutes, IsNotAt, as_more, as_less, RefutesBoth}
 use Rattle.e_metric.specs.inner.Certificate.{negated_place, IsWeighable}
 use Rattle.e_metric.proofs.sums.SystemCertificates.{length_more, length_less, left_given, left_more, left_less}
 
-taken_length : (rs : List Row) (ms : List ℤ) → AreTaken rs ms → length ms ≡ length rs
+taken_length : (rs : List Row) (ms : List ℤ) → AreMultipliers rs ms → length ms ≡ length rs
 taken_length [] [] h = refl
 taken_length [] (m ∷ ms) h = absurd h
 taken_length (r ∷ rs) [] h = absurd h

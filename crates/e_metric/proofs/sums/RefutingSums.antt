@@ -24,7 +24,7 @@ use Rattle.e_clause.specs.declared.cert.RowName.{RowName}
 use Rattle.e_clause.specs.declared.cert.RowName.TheVariants.{Least}
 use Rattle.e_clause.specs.System.{least_row}
 use Rattle.e_clause.specs.Sum.{Place, is_step_term, row_named, weighed_rows, is_nonzero_bounded, is_limited_sum, refutes}
-use Rattle.e_simplex.specs.Answer.{each_weighed, MayTake, AreTaken, TakesMore, Refutes}
+use Rattle.e_simplex.specs.Answer.{each_weighed, MayTake, AreMultipliers, TakesMore, Refutes}
 use Rattle.e_metric.specs.inner.Certificate.{named_multipliers, leasts}
 use Rattle.e_metric.proofs.terms.FirstTerms.{Once, has_same}
 
@@ -205,7 +205,7 @@ one_sign AtLeast m n h = at_least_is m h
 one_sign More m n h = at_least_is m h
 one_sign Not m n h = absurd (n h)
 
-kept_signs : (rs : List Row) (ms : List ℤ) → AreTaken rs ms → list_all (λ (w : Weighed). allows_multiplier w.row.says w.multiplier) (kept_rows rs ms) ≡ true
+kept_signs : (rs : List Row) (ms : List ℤ) → AreMultipliers rs ms → list_all (λ (w : Weighed). allows_multiplier w.row.says w.multiplier) (kept_rows rs ms) ≡ true
 kept_signs [] ms h = refl
 kept_signs (r ∷ rs) [] h = refl
 kept_signs (r ∷ rs) (m ∷ ms) h = by (int_eq m (pos 0)) refl (kept_signs rs ms h.1)

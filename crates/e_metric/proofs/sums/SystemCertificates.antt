@@ -31,7 +31,7 @@ use Rattle.e_fraction.specs.declared.row.Row.{Row as GivenRow}
 use Rattle.e_fraction.specs.Views.{all_seen, weighed}
 use Rattle.e_simplex.specs.declared.decision.Absurdity.{Absurdity}
 use Rattle.e_simplex.specs.declared.decision.Absurdity.TheVariants.{One, Two}
-use Rattle.e_simplex.specs.Answer.{each_weighed, MayTake, AreTaken, TakesMore, Refutes, IsNotAt, as_more, as_less, RefutesBoth, IsAbsurdity}
+use Rattle.e_simplex.specs.Answer.{each_weighed, MayTake, AreMultipliers, TakesMore, Refutes, IsNotAt, as_more, as_less, RefutesBoth, IsAbsurdity}
 use Rattle.e_metric.specs.AgreeingRows.{AreRows}
 use Rattle.e_metric.specs.ListedTerms.{with_listed, distinct_terms}
 use Rattle.e_metric.specs.inner.Certificate.{certificate_sum, negated_place, certificate_sums}
@@ -75,7 +75,7 @@ length_rows (n ∷ ns) (p ∷ ps) h = ap suc (length_rows ns ps h.2)
 
 -- ---- multipliers of rows that are alike
 
-taken_alike : (rs ss : List Row) (ms : List ℤ) → Alike rs ss → AreTaken rs ms → AreTaken ss ms
+taken_alike : (rs ss : List Row) (ms : List ℤ) → Alike rs ss → AreMultipliers rs ms → AreMultipliers ss ms
 taken_alike [] [] ms h t = t
 taken_alike [] (q ∷ ss) ms h t = absurd h
 taken_alike (r ∷ rs) [] ms h t = absurd h
@@ -177,7 +177,7 @@ unless r m h n = by r.says refl h
     by More e k = ap (λ x. cond (says_differ x) None (Some r)) e
     by Not e k = absurd (n k)
 
-named_taken : (p : Place) (ns : List NamedRow) (ms : List ℤ) → Each (IsNamed p) ns → AreTaken (map row_of ns) ms → NamedWhere p (map name_of ns) (map row_of ns) ms
+named_taken : (p : Place) (ns : List NamedRow) (ms : List ℤ) → Each (IsNamed p) ns → AreMultipliers (map row_of ns) ms → NamedWhere p (map name_of ns) (map row_of ns) ms
 named_taken p [] [] h t = tt
 named_taken p [] (m ∷ ms) h t = absurd t
 named_taken p (n ∷ ns) [] h t = absurd t
@@ -205,7 +205,7 @@ each_at P [] k m h e = absurd e
 each_at P (n ∷ ns) zero m h e = subst P e h.0
 each_at P (n ∷ ns) (suc k) m h e = each_at P ns k m h.1 e
 
-named_above : (p : Place) (ns : List NamedRow) (ms : List ℤ) (k : ℕ) (q : NamedRow) → Each (IsNamed p) ns → RowAt ns k q → p.above ≡ Some (above_row q.row) → AreTaken (as_more (map row_of ns) k) ms
+named_above : (p : Place) (ns : List NamedRow) (ms : List ℤ) (k : ℕ) (q : NamedRow) → Each (IsNamed p) ns → RowAt ns k q → p.above ≡ Some (above_row q.row) → AreMultipliers (as_more (map row_of ns) k) ms
     → NamedWhere p (set (map name_of ns) k Above) (as_more (map row_of ns) k) ms
 named_above p [] ms k q h e a t = absurd e
 named_above p (n ∷ ns) [] zero q h e a t = absurd t
@@ -213,7 +213,7 @@ named_above p (n ∷ ns) [] (suc k) q h e a t = absurd t
 named_above p (n ∷ ns) (m ∷ ms) zero q h e a t = (λ z. a ∙ ap (λ (x : NamedRow). Some (above_row x.row)) (sym e), named_taken p ns ms h.1 t.1)
 named_above p (n ∷ ns) (m ∷ ms) (suc k) q h e a t = (λ z. h.0.by_name ∙ unless n.row m t.0 z, named_above p ns ms k q h.1 e a t.1)
 
-named_below : (p : Place) (ns : List NamedRow) (ms : List ℤ) (k : ℕ) (q : NamedRow) → Each (IsNamed p) ns → RowAt ns k q → p.below ≡ Some (below_row q.row) → AreTaken (as_less (map row_of ns) k) ms
+named_below : (p : Place) (ns : List NamedRow) (ms : List ℤ) (k : ℕ) (q : NamedRow) → Each (IsNamed p) ns → RowAt ns k q → p.below ≡ Some (below_row q.row) → AreMultipliers (as_less (map row_of ns) k) ms
     → NamedWhere p (set (map name_of ns) k Below) (as_less (map row_of ns) k) ms
 named_below p [] ms k q h e a t = absurd e
 named_below p (n ∷ ns) [] zero q h e a t = absurd t

@@ -7,7 +7,7 @@ use Rattle.e_literal.specs.Scopes.{grown}
 use Rattle.e_literal.specs.Use.{StatementView, needs_of_use, gives_of_use}
 use Rattle.e_clause.specs.Certify.{certify_all}
 use Rattle.e_clause.specs.Judged.{are_well_formed_in, are_limited_facts}
-use Rattle.e_theorem.specs.Choice.{is_choice, IsLeast}
+use Rattle.e_theorem.specs.Choice.{is_choice, IsLeastChoice}
 use Rattle.e_theorem.specs.Pattern.{is_pattern}
 use Rattle.e_deriv.specs.Fitting.{is_small, is_small_statement}
 use Rattle.e_clause.specs.declared.cert.Version.TheVariants as version
@@ -31,7 +31,7 @@ pub record CanApply (t : StatementView) (pattern : List (Option Obj)) (x : Basis
 -- the arguments are the least good choice, each given literal has its certificate there, which names literals that are well
 -- formed, and these are the shown ones
 pub record IsUse (t : StatementView) (pattern : List (Option Obj)) (x : Basis) (u : Use) : Type 0 where
-  pub least : IsLeast t x.scope x.facts pattern u.args
+  pub least : IsLeastChoice t x.scope x.facts pattern u.args
   pub certified : IsTrue (certify_all x.scope x.facts (needs_of_use t u.args x.scope) u.certs.items)
   pub written : IsTrue (list_all (is_cert_of version.One) u.certs.items)
   pub gives : u.gives ≡ gives_of_use t u.args x.scope

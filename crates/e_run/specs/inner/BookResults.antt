@@ -114,6 +114,6 @@ HasLastLines (Stopped title stop) = IsStop stop
 HasLastLines (Faulty f) = Unit {0}
 
 -- the last lines were written, or a front of them and the sink failed
-abbrev pub Closes : Option (List ℕ) → Option (List ℕ) → List ℕ → Status → Status → Type 0
-Closes old new last answer result =
+abbrev pub ClosesWith : Option (List ℕ) → Option (List ℕ) → List ℕ → Status → Status → Type 0
+ClosesWith old new last answer result =
     ((result ≡ answer) × Grew old new last) ⊎ ((result ≡ status.WriteFault) × GrewByFront old new last)

@@ -19,8 +19,8 @@ use Rattle.e_run.specs.declared.blocks.RunError.TheVariants.{NoMemory, ReadFault
 use Rattle.e_run.specs.declared.status.Status.{Status}
 use Rattle.e_run.specs.declared.status.Status.TheVariants as status
 use Rattle.e_run.specs.LastLines.{no_memory_line}
-use Rattle.e_run.specs.inner.BookResults.{Closes as ClosesWith}
-use Rattle.e_run.specs.Rewrites.{block_of, blocks_of, AreFirst, EndsAfter, line_of, answer_of}
+use Rattle.e_run.specs.inner.BookResults.{ClosesWith}
+use Rattle.e_run.specs.Rewrites.{block_of, blocks_of, AreFirstTheorems, EndsAfter, line_of, answer_of}
 
 -- ---- a theorem
 
@@ -96,7 +96,7 @@ TheoremsWritten job v last lines old new result = WroteTheorems job (ComeAll v l
 
 -- of a text
 abbrev pub BlocksWritten : Job → List ℕ → Option (List ℕ) → Option (List ℕ) → Result Judgement RunError → Type 0
-BlocksWritten job text old new result = WroteTheorems job (EndsAfter job (lines_of_text text)) (AreFirst job (lines_of_text text)) old new result
+BlocksWritten job text old new result = WroteTheorems job (EndsAfter job (lines_of_text text)) (AreFirstTheorems job (lines_of_text text)) old new result
 
 -- theorems that are certified one after another, and what is due of them was written; these lines are left
 pub record Progress (job : Job) (v : Version) (last : ℕ) (lines : Rest) (old new : Option (List ℕ)) (known : List TitledStatement) (rest : Rest) : Type 0 where

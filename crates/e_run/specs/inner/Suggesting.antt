@@ -32,8 +32,8 @@ use Rattle.e_run.specs.inner.BookResults.{stop_answer}
 -- ---- one theorem
 
 -- with these lines of it, those of the theorems after it are the lines from it on
-abbrev pub GoesOn : Names → Scope → List Lit → List ℕ → StatementView → ℕ → List (List ℕ) → Type 0
-GoesOn names scope facts title t left lines =
+abbrev pub ChoicesGoOn : Names → Scope → List Lit → List ℕ → StatementView → ℕ → List (List ℕ) → Type 0
+ChoicesGoOn names scope facts title t left lines =
     (h : TitledStatement) → h.title ≡ title → stated h.statement ≡ t → (hs : List TitledStatement) (others : List (List ℕ)) (more : Bool)
     → Lists names scope facts hs (left - length lines) others more → Lists names scope facts (h ∷ hs) left (lines ++ others) more
 
@@ -45,7 +45,7 @@ EndsWith names scope facts title t left lines =
 -- what was written of one theorem
 abbrev pub IsListedOne : Names → Scope → List Lit → List ℕ → StatementView → ℕ → List ℕ → List ℕ → Listed → Type 0
 IsListedOne names scope facts title t left old new (listed.All n) =
-    (lines : List (List ℕ)) × (new ≡ old ++ text_of lines) × (n ≡ length lines) × (n ≤ left) × GoesOn names scope facts title t left lines
+    (lines : List (List ℕ)) × (new ≡ old ++ text_of lines) × (n ≡ length lines) × (n ≤ left) × ChoicesGoOn names scope facts title t left lines
 IsListedOne names scope facts title t left old new (listed.Full n) =
     (lines : List (List ℕ)) × (new ≡ old ++ text_of lines) × (n ≡ length lines) × (n ≤ left) × EndsWith names scope facts title t left lines
 IsListedOne names scope facts title t left old new (listed.TooWide w) = (length t.declared ≤ 6) × SomeArgsAreTooWide t scope facts w
@@ -103,7 +103,7 @@ pub record IsOnWay (lines : Rest) (title : List ℕ) (known : Known) (rest : Res
 -- ---- the answer on the next theorem
 
 -- the theorems before were taken, none of them has the title, and this is the next one
-pub record IsNext (lines : Rest) (title : List ℕ) (before : List TitledStatement) (t : TheoremView) : Type 0 where
+pub record IsNextTitled (lines : Rest) (title : List ℕ) (before : List TitledStatement) (t : TheoremView) : Type 0 where
   pub known : Known
   pub rest : Rest
   pub after : Rest
@@ -113,7 +113,7 @@ pub record IsNext (lines : Rest) (title : List ℕ) (before : List TitledStateme
 
 -- where it is the next one, that is due
 abbrev pub AnswersNext : List TitledStatement → TheoremView → List ℕ → ℕ → Status → List ℕ → Type 0
-AnswersNext before t title step answer out = (lines : Rest) → IsNext lines title before t → IsBookAnswer lines title step answer out
+AnswersNext before t title step answer out = (lines : Rest) → IsNextTitled lines title before t → IsBookAnswer lines title step answer out
 
 -- the stop is out of memory, which says nothing of the book
 abbrev pub is_out_of_memory : Stop → Bool
@@ -129,12 +129,12 @@ pub record IsStopAnswer (title : List ℕ) (stop : Stop) (answer : Status) (out 
 -- ---- the answer on what comes next
 
 -- that is due; or it was taken, and then this is known
-abbrev pub Passes : Rest → List ℕ → ℕ → Known → Rest → Option Answer → Type 0
-Passes lines title step now after (Some a) = IsBookAnswer lines title step a.status a.line.items
-Passes lines title step now after None = IsOnWay lines title now after
+abbrev pub PassesTitles : Rest → List ℕ → ℕ → Known → Rest → Option Answer → Type 0
+PassesTitles lines title step now after (Some a) = IsBookAnswer lines title step a.status a.line.items
+PassesTitles lines title step now after None = IsOnWay lines title now after
 
 -- where it is the next one, it is taken, or that is due
 abbrev pub PassesNext : Known → BookItem → List ℕ → ℕ → Known → Option Answer → Type 0
 PassesNext known item title step now answer =
     (lines rest after : Rest) → IsOnWay lines title known rest → item_from known (end_line_number lines) None rest ≡ Ok (Some (item, after))
-    → Passes lines title step now after answer
+    → PassesTitles lines title step now after answer

@@ -1,6 +1,6 @@
 -- What the loop over the forms that are not to be 0 takes, and what comes of it.
 use Rattle.std.specs.Prelude.{◌≡◌, ◌≢◌, ◌⊎◌, ℕ, ◌+◌, ◌^◌, ◌<◌, ◌≤◌, ◌++◌, ◌∷◌, [], ℤ, pos, List, length, get_or, unsigned_abs}
-use Rattle.e_fraction.specs.Det.{IsWide}
+use Rattle.e_fraction.specs.Det.{HasWideMinor}
 use Rattle.e_simplex.specs.Constraints.{rows_of, form_value, IsSolution, IsAbsurd, AllSmallConstraints, AllFormsWithin}
 use Rattle.e_simplex.specs.inner.Multiple.{NoneIsZero, AddedTo}
 use Rattle.e_simplex.specs.Solved.{IsFit}
@@ -41,16 +41,16 @@ pub record IsMoved (forms : List Constraint) (k : ℕ) (values form_values found
 
 -- the constraints are wide with the form at k as more or as less than 0
 abbrev pub WideWith : ℕ → List Constraint → List Constraint → ℕ → Type 0
-WideWith w constraints forms k = (d : Constraint) → IsWide (rows_of (constraints ++ get_or forms k d ∷ [])) w (2 ^ 63)
-    ⊎ IsWide (rows_of (constraints ++ negative_constraint (get_or forms k d) ∷ [])) w (2 ^ 63)
+WideWith w constraints forms k = (d : Constraint) → HasWideMinor (rows_of (constraints ++ get_or forms k d ∷ [])) w (2 ^ 63)
+    ⊎ HasWideMinor (rows_of (constraints ++ negative_constraint (get_or forms k d) ∷ [])) w (2 ^ 63)
 
 -- the constraints are wide with that and another form
 pub record WideWithTwo (w : ℕ) (constraints forms : List Constraint) (k : ℕ) : Type 0 where
   pub place : ℕ
   pub here : place < length forms
   pub other : place ≢ k
-  pub wide : (d : Constraint) → IsWide (rows_of ((constraints ++ get_or forms k d ∷ []) ++ get_or forms place d ∷ [])) w (2 ^ 63)
-      ⊎ IsWide (rows_of ((constraints ++ negative_constraint (get_or forms k d) ∷ []) ++ get_or forms place d ∷ [])) w (2 ^ 63)
+  pub wide : (d : Constraint) → HasWideMinor (rows_of ((constraints ++ get_or forms k d ∷ []) ++ get_or forms place d ∷ [])) w (2 ^ 63)
+      ⊎ HasWideMinor (rows_of ((constraints ++ negative_constraint (get_or forms k d) ∷ []) ++ get_or forms place d ∷ [])) w (2 ^ 63)
 
 -- both signs of the form at k are refuted
 pub record AreBothRefuted (w : ℕ) (constraints forms : List Constraint) (k : ℕ) (above below : List ℤ) : Type 0 where

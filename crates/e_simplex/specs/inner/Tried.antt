@@ -1,6 +1,6 @@
 -- What comes of a form that is to be more than 0 or less than 0.
 use Rattle.std.specs.Prelude.{◌≡◌, ◌≢◌, ◌⊎◌, ℕ, ◌^◌, ◌<◌, ◌≤◌, ◌++◌, ◌∷◌, [], ℤ, pos, neg_ℤ, List, length, get_or, unsigned_abs}
-use Rattle.e_fraction.specs.Det.{IsWide}
+use Rattle.e_fraction.specs.Det.{HasWideMinor}
 use Rattle.e_simplex.specs.Entries.{AllSmall}
 use Rattle.e_simplex.specs.Constraints.{rows_of, form_value, IsSolution, IsAbsurd}
 use Rattle.e_simplex.specs.Solved.{WideFurther}
@@ -20,7 +20,7 @@ abbrev pub negative_constraint : Constraint → Constraint
 negative_constraint l = record { sense = More; form = negated l.form }
 
 -- whole values that satisfy the constraints, at which the form of l is not 0
-pub record IsFound (w : ℕ) (constraints : List Constraint) (l : Constraint) (values : List ℤ) : Type 0 where
+pub record AreFoundValues (w : ℕ) (constraints : List Constraint) (l : Constraint) (values : List ℤ) : Type 0 where
   pub solution : IsSolution w constraints values
   pub small : AllSmall values
   pub unequal : form_value l.form values ≢ pos 0
@@ -28,9 +28,9 @@ pub record IsFound (w : ℕ) (constraints : List Constraint) (l : Constraint) (v
   pub further : WideFurther w (constraints ++ l ∷ []) values ⊎ WideFurther w (constraints ++ negative_constraint l ∷ []) values
 
 abbrev pub IsTried : ℕ → List Constraint → Constraint → Tried → Type 0
-IsTried w constraints l (Found values) = IsFound w constraints l values.items
+IsTried w constraints l (Found values) = AreFoundValues w constraints l values.items
 IsTried w constraints l (BothRefuted above below) = IsAbsurd w (constraints ++ l ∷ []) above.items × IsAbsurd w (constraints ++ negative_constraint l ∷ []) below.items
-IsTried w constraints l TooWide = IsWide (rows_of (constraints ++ l ∷ [])) w (2 ^ 63) ⊎ IsWide (rows_of (constraints ++ negative_constraint l ∷ [])) w (2 ^ 63)
+IsTried w constraints l TooWide = HasWideMinor (rows_of (constraints ++ l ∷ [])) w (2 ^ 63) ⊎ HasWideMinor (rows_of (constraints ++ negative_constraint l ∷ [])) w (2 ^ 63)
 
 -- the values of the first n forms
 pub record AreValues (n : ℕ) (forms : List Constraint) (values : List ℤ) (xs : List ℤ) : Type 0 where

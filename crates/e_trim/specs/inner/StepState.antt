@@ -67,7 +67,7 @@ pub record IsApplied (before : List StatementView) (theorem : ℕ) (args : List 
   pub fit : IsTrue (are_arguments (theorem_at before theorem) s (written args))
 
 -- with something after it and some goal the step is ready
-pub record IsReadyStep (before : List StatementView) (step : Step) (x : StepState) : Type 0 where
+pub record IsReadyToTrim (before : List StatementView) (step : Step) (x : StepState) : Type 0 where
   pub rest : Script
   pub goal : Goal
   pub ready : IsReady before (step_script step rest) x.scope x.facts goal

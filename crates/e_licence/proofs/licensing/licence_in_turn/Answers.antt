@@ -3,7 +3,7 @@ use Rattle.std.specs.Prelude.{IfSome}
 use Rattle.std.specs.List.{list_all}
 use Rattle.e_literal.specs.Facts.{is_metric}
 use Rattle.e_literal.specs.WellFormed.{is_well_formed}
-use Rattle.e_metric.specs.MetricAnswers.{IsCertified}
+use Rattle.e_metric.specs.MetricAnswers.{IsMetricCertificate}
 use Rattle.e_licence.proofs.GoodLiterals.{well_formed}
 use Rattle.e_licence.proofs.Licences.{by_sums}
 use Rattle.e_licence.proofs.licensing.licence_in_turn.Goals as goal
@@ -19,5 +19,5 @@ returns-in-Some-clause-licence c =
     let l = c.args.lit.now in
     let facts = c.facts-facts.result.now in
     let metric : is_metric l ≡ true = search rules in
-    let answer : IsCertified facts (Some l) c.in-Some.cert = subst (λ o. IfSome o (IsCertified facts (Some l))) c.in-Some.is c.in_ok-cert.ensures.cert in
-    by_sums b l c.in-Some.cert c.good.ensures c.requires.lit c.requires.not_fact metric (subst (λ fs. IsCertified fs (Some l) c.in-Some.cert) c.facts-facts.ensures answer)
+    let answer : IsMetricCertificate facts (Some l) c.in-Some.cert = subst (λ o. IfSome o (IsMetricCertificate facts (Some l))) c.in-Some.is c.in_ok-cert.ensures.cert in
+    by_sums b l c.in-Some.cert c.good.ensures c.requires.lit c.requires.not_fact metric (subst (λ fs. IsMetricCertificate fs (Some l) c.in-Some.cert) c.facts-facts.ensures answer)

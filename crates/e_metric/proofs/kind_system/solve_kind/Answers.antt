@@ -6,7 +6,7 @@ use Rattle.e_clause.specs.System.{rows_of_term, system}
 use Rattle.e_fraction.specs.Limits.{all_small}
 use Rattle.e_fraction.specs.Views.{all_seen}
 use Rattle.e_simplex.specs.Answer.{IsRefuted}
-use Rattle.e_simplex.specs.Preparing.{IsPrepared}
+use Rattle.e_simplex.specs.Preparing.{IsPreparedRows}
 use Rattle.e_literal.specs.declared.object.Term.TheVariants.{Right}
 use Rattle.e_metric.specs.SolvedSystems.{AreNamed}
 use Rattle.e_metric.specs.ListedTerms.{with_listed, distinct_terms}
@@ -32,7 +32,7 @@ certificate_of-certified-requires-clause-coefficients c =
 
 pub returns-in-SolvedRows : goal.returns-in-SolvedRows
 returns-in-SolvedRows c =
-    let h : c.in-SolvedRows.settled ≡ c.in_ok-names.rows.items = subst (IsPrepared c.in_ok-names.rows.items) c.in-SolvedRows.is c.in_ok-prepare.ensures in
+    let h : c.in-SolvedRows.settled ≡ c.in_ok-names.rows.items = subst (IsPreparedRows c.in_ok-names.rows.items) c.in-SolvedRows.is c.in_ok-prepare.ensures in
     let copies : c.in_ok-kept.kept.items ≡ c.in_ok-names.rows.items = c.in_ok-kept.ensures ∙ c.deref.ensures.value in
     record {
       rows = (system c.args.which c.args.facts.now None);
@@ -45,14 +45,14 @@ returns-in-SolvedRows c =
 
 pub returns-in-TooWide : goal.returns-in-TooWide
 returns-in-TooWide c =
-    let h : IsWide (all_seen c.in_ok-names.rows.items) × (2 ^ 63 ≤ width (all_seen c.in_ok-names.rows.items)) = subst (IsPrepared c.in_ok-names.rows.items) c.in-TooWide.is c.in_ok-prepare.ensures in
+    let h : IsWide (all_seen c.in_ok-names.rows.items) × (2 ^ 63 ≤ width (all_seen c.in_ok-names.rows.items)) = subst (IsPreparedRows c.in_ok-names.rows.items) c.in-TooWide.is c.in_ok-prepare.ensures in
     has_width c.args.which c.args.facts.now None (system c.args.which c.args.facts.now None) (same_order (system c.args.which c.args.facts.now None)) c.in_ok-named.named.items c.in_ok-named.ensures.rows c.in_ok-named.ensures.limited c.requires.facts c.requires.few refl c.in_ok-names.rows.items c.in_ok-names.ensures.rows c.width.result
     (c.width.ensures.value ∙ ap (λ rs. width (all_seen rs)) (c.deref-in-TooWide.ensures.value ∙ c.in_ok-kept.ensures ∙ c.deref.ensures.value)
     ∙ system_width c.args.which c.args.facts.now None c.in_ok-named.named.items c.in_ok-named.ensures.rows c.in_ok-names.rows.items c.in_ok-names.ensures.rows) h.0
 
 pub returns-in_ok-certified-in-Absurd : goal.returns-in_ok-certified-in-Absurd
 returns-in_ok-certified-in-Absurd c =
-    let h : IsRefuted (all_seen c.in_ok-names.rows.items) c.in-Absurd.absurdity = subst (IsPrepared c.in_ok-names.rows.items) c.in-Absurd.is c.in_ok-prepare.ensures in
+    let h : IsRefuted (all_seen c.in_ok-names.rows.items) c.in-Absurd.absurdity = subst (IsPreparedRows c.in_ok-names.rows.items) c.in-Absurd.is c.in_ok-prepare.ensures in
     refuted_named c.args.which c.args.facts.now None (system c.args.which c.args.facts.now None) (same_order (system c.args.which c.args.facts.now None)) c.in_ok-names.names.items c.in_ok-names.rows.items (named_of (system c.args.which c.args.facts.now None) c.in_ok-named.named.items c.in_ok-names.names.items c.in_ok-names.rows.items c.in_ok-named.ensures.rows c.in_ok-named.ensures.limited c.in_ok-names.ensures.names c.in_ok-names.ensures.rows) c.requires.facts c.requires.few refl
     (with_listed (distinct_terms c.args.which c.args.facts.now None) (Right ∷ [])) c.in-Absurd.absurdity c.in_ok-certified-in-Absurd.field-0.sums refl h.refutes
     (c.in_ok-certified-in-Absurd.ensures ∙ ap (λ rs. certificate_sums c.in_ok-names.names.items rs (with_listed (distinct_terms c.args.which c.args.facts.now None) (Right ∷ [])) c.in-Absurd.absurdity) (c.deref-in-Absurd.ensures.value ∙ c.in_ok-kept.ensures ∙ c.deref.ensures.value))

@@ -1,6 +1,6 @@
 use Rattle.std.proofs.Common.{refl, subst, List, ℕ, arith}
 use Rattle.e_run.specs.LastLines.{no_memory_line, read_fault_line}
-use Rattle.e_run.specs.DrawerAnswers.{Draws}
+use Rattle.e_run.specs.DrawerAnswers.{DrawsAndWrites}
 use Rattle.e_run.specs.declared.status.Status.TheVariants as status
 use Rattle.e_run.proofs.DrawerAnswers.{drawn_closed, any_figure, read_figure, drawn_is_short}
 use Rattle.e_run.proofs.drawer.figure.Goals as goal
@@ -18,7 +18,7 @@ returns-in-Err-NoMemory-clause-draws g c =
 pub returns-clause-draws : goal.returns-clause-draws
 returns-clause-draws g c =
     read_figure (g.S.Source.left c.args.source.now) c.in-Ok.text.items (g.K.Sink.written c.args.sink.now) (g.K.Sink.written c.tell.new.sink) c.tell.result c.in-Ok.ensures.text
-    (subst (λ (t : List ℕ). Draws t (g.K.Sink.written c.args.sink.now) (g.K.Sink.written c.tell.new.sink) c.tell.result) c.deref.ensures.value c.tell.ensures.draws)
+    (subst (λ (t : List ℕ). DrawsAndWrites t (g.K.Sink.written c.args.sink.now) (g.K.Sink.written c.tell.new.sink) c.tell.result) c.deref.ensures.value c.tell.ensures.draws)
 
 pub returns-clause-end : goal.returns-clause-end
 returns-clause-end g c =

@@ -3,7 +3,7 @@ use Rattle.e_io.specs.Bytes.{Grew, GrewByFront}
 use Rattle.e_judgement.specs.Judged.{lines_of_text}
 use Rattle.e_run.specs.LastLines.{no_memory_line, read_fault_line, text_limit_line}
 use Rattle.e_run.specs.declared.status.Status.TheVariants as status
-use Rattle.e_run.specs.Rewrites.{AreFirst, Rewrites}
+use Rattle.e_run.specs.Rewrites.{AreFirstTheorems, Rewrites}
 use Rattle.e_run.specs.inner.Rewriting.{BlocksWritten, WroteFrontOf, WroteOf}
 use Rattle.e_run.proofs.VerifierAnswers.{any_of, short_of, long_of}
 use Rattle.e_run.proofs.RewrittenTexts.{closed_first, closed_head, closed_inside, closed_judgement, closed_memory, no_theorem}
@@ -44,12 +44,12 @@ returns-in-Err-NoMemory-rewrite_blocks-clause-rewrites g c =
     short_of (g.S.Source.left c.args.source.now) c.in-Ok-read_text.text.items (λ text. Rewrites c.args.job text (g.K.Sink.written c.args.sink.now) (g.K.Sink.written c.close-in-Err-NoMemory-rewrite_blocks.new.sink) c.close-in-Err-NoMemory-rewrite_blocks.result) c.in-Ok-read_text.ensures.text (omega arith)
     (closed_memory c.args.job c.in-Ok-read_text.text.items (g.K.Sink.written c.args.sink.now) (g.K.Sink.written c.write_all.new.sink) (g.K.Sink.written c.rewrite_blocks.new.sink) (g.K.Sink.written c.close-in-Err-NoMemory-rewrite_blocks.new.sink) c.close-in-Err-NoMemory-rewrite_blocks.result
     (subst (λ (b : List ℕ). Grew (g.K.Sink.written c.args.sink.now) (g.K.Sink.written c.write_all.new.sink) b) c.head_of.ensures c.in-Ok.ensures.ok)
-    (subst (λ (t : List ℕ). WroteOf c.args.job (AreFirst c.args.job (lines_of_text t)) (g.K.Sink.written c.write_all.new.sink) (g.K.Sink.written c.rewrite_blocks.new.sink)) c.deref.ensures.value
+    (subst (λ (t : List ℕ). WroteOf c.args.job (AreFirstTheorems c.args.job (lines_of_text t)) (g.K.Sink.written c.write_all.new.sink) (g.K.Sink.written c.rewrite_blocks.new.sink)) c.deref.ensures.value
     (rw c.in-Err-NoMemory-rewrite_blocks.field-0-is at c.in-Err-NoMemory-rewrite_blocks.ensures.wrote)) c.close-in-Err-NoMemory-rewrite_blocks.ensures.closes)
 
 pub returns-clause-rewrites : goal.returns-clause-rewrites
 returns-clause-rewrites g c =
     short_of (g.S.Source.left c.args.source.now) c.in-Ok-read_text.text.items (λ text. Rewrites c.args.job text (g.K.Sink.written c.args.sink.now) (g.K.Sink.written c.rewrite_blocks.new.sink) status.WriteFault) c.in-Ok-read_text.ensures.text (omega arith)
     (closed_inside c.args.job c.in-Ok-read_text.text.items (g.K.Sink.written c.args.sink.now) (g.K.Sink.written c.write_all.new.sink) (g.K.Sink.written c.rewrite_blocks.new.sink) (subst (λ (b : List ℕ). Grew (g.K.Sink.written c.args.sink.now) (g.K.Sink.written c.write_all.new.sink) b) c.head_of.ensures c.in-Ok.ensures.ok)
-    (subst (λ (t : List ℕ). WroteFrontOf c.args.job (AreFirst c.args.job (lines_of_text t)) (g.K.Sink.written c.write_all.new.sink) (g.K.Sink.written c.rewrite_blocks.new.sink)) c.deref.ensures.value
+    (subst (λ (t : List ℕ). WroteFrontOf c.args.job (AreFirstTheorems c.args.job (lines_of_text t)) (g.K.Sink.written c.write_all.new.sink) (g.K.Sink.written c.rewrite_blocks.new.sink)) c.deref.ensures.value
     (rw c.in-Err-WriteFault.field-0-is at c.in-Err-WriteFault.ensures.wrote)))

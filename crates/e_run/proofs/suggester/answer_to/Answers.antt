@@ -4,7 +4,7 @@ use Rattle.e_book.specs.Definitions.{item_from, view_of}
 use Rattle.e_book.specs.Grammar.{last_line, BookFails}
 use Rattle.e_run.specs.declared.trial.Answer.{Answer}
 use Rattle.e_run.specs.Outcome.{end_line_number}
-use Rattle.e_run.specs.inner.Suggesting.{IsOnWay, Passes}
+use Rattle.e_run.specs.inner.Suggesting.{IsOnWay, PassesTitles}
 use Rattle.e_run.proofs.SuggesterAnswers.{way_start, no_step_here, faulty_here}
 use Rattle.e_run.proofs.suggester.answer_to.Goals as goal
 
@@ -45,7 +45,7 @@ pass_item-requires-clause-fitting c = rw c.in-Ok-Some.field-0-is at c.in-Ok-Some
 pub returns-in-Some : goal.returns-in-Some
 returns-in-Some c =
     let last : last_line c.loop-item.lines ≡ end_line_number c.args.lines.now.lines = c.loop-item.invariant.last ∙ ap (λ (n : ℕ). n + length c.args.lines.now.lines) c.requires.first in
-    subst (λ (o : Option Answer). Passes c.args.lines.now.lines c.args.title c.args.step c.pass_item.new.known c.next_item.new.lines.lines o) c.in-Some.is
+    subst (λ (o : Option Answer). PassesTitles c.args.lines.now.lines c.args.title c.args.step c.pass_item.new.known c.next_item.new.lines.lines o) c.in-Some.is
     (c.in_ok-pass_item.ensures c.args.lines.now.lines c.loop-item.lines.lines c.next_item.new.lines.lines c.loop-item.invariant.way
     (subst (λ (n : ℕ). item_from c.loop-item.known n None c.loop-item.lines.lines ≡ Ok (Some (view_of c.in-Ok-Some.item, c.next_item.new.lines.lines))) last (rw c.in-Ok-Some.field-0-is at c.in-Ok-Some.ensures.read)))
 
@@ -53,7 +53,7 @@ pub loop-item-preserved : goal.loop-item-preserved
 loop-item-preserved c =
     let last : last_line c.loop-item.lines ≡ end_line_number c.args.lines.now.lines = c.loop-item.invariant.last ∙ ap (λ (n : ℕ). n + length c.args.lines.now.lines) c.requires.first in
     record {
-      way = subst (λ (o : Option Answer). Passes c.args.lines.now.lines c.args.title c.args.step c.pass_item.new.known c.next_item.new.lines.lines o) c.in-None.is
+      way = subst (λ (o : Option Answer). PassesTitles c.args.lines.now.lines c.args.title c.args.step c.pass_item.new.known c.next_item.new.lines.lines o) c.in-None.is
           (c.in_ok-pass_item.ensures c.args.lines.now.lines c.loop-item.lines.lines c.next_item.new.lines.lines c.loop-item.invariant.way
           (subst (λ (n : ℕ). item_from c.loop-item.known n None c.loop-item.lines.lines ≡ Ok (Some (view_of c.in-Ok-Some.item, c.next_item.new.lines.lines))) last (rw c.in-Ok-Some.field-0-is at c.in-Ok-Some.ensures.read)));
       last = c.in-Ok-Some.ensures.last ∙ c.loop-item.invariant.last;

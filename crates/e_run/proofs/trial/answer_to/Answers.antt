@@ -7,11 +7,11 @@ use Rattle.e_run.specs.declared.trial.Answer.{Answer}
 use Rattle.e_run.specs.LastLines.{head_line, tried_line}
 use Rattle.e_run.specs.Outcome.{Rest}
 use Rattle.e_run.specs.inner.BookResults.{BookResultIs, last_lines}
-use Rattle.e_run.specs.Trials.{IsTried, TrialAnswer}
+use Rattle.e_run.specs.Trials.{IsTrial, TrialAnswer}
 use Rattle.e_run.proofs.Trials.{is_other, result_answered, accepted_tried, accepted_verified, tried_answered}
 use Rattle.e_run.proofs.trial.answer_to.Goals as goal
 
-answered_if : {E : Type 0} → (lines : Rest) (n s : ℕ) (r : Result Answer E) → IsTried lines n s
+answered_if : {E : Type 0} → (lines : Rest) (n s : ℕ) (r : Result Answer E) → IsTrial lines n s
     → IfOk r (λ a. (a.status ≡ status.Tried n s) × (a.line.items ≡ tried_line n s)) → IfOk r (λ a. TrialAnswer lines a.status a.line.items)
 answered_if lines n s (Ok a) t h = tried_answered lines n s a.status a.line.items t h.0 h.1
 answered_if lines n s (Err e) t h = tt

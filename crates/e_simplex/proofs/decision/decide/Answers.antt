@@ -2,7 +2,7 @@ use Rattle.std.proofs.Common.{◌≡◌, ◌+◌, ◌<◌, ◌^◌, arith, ap, s
 use Rattle.e_fraction.specs.Views.{all_seen}
 use Rattle.e_simplex.specs.Naming.{named_constraints}
 use Rattle.e_simplex.specs.Constraints.{AllSmallConstraints}
-use Rattle.e_simplex.specs.Solved.{IsFit, IsOutcome}
+use Rattle.e_simplex.specs.Solved.{IsFit, IsTableOutcome}
 use Rattle.e_simplex.proofs.NamedConstraints.{fit_constraints}
 use Rattle.e_simplex.proofs.Refuting.{length_seen, law_holds, law_absurd}
 use Rattle.e_simplex.proofs.decision.decide.Goals as goal
@@ -29,7 +29,7 @@ verdict_of-requires-clause-outcome c =
       c.len.result + 1,
       omega (arith, k, ap length c.deref-2.ensures.value),
       omega (arith, k, n),
-      subst (λ v. IsOutcome (c.len.result + 1) v c.in_ok-outcome.outcome) l c.in_ok-outcome.ensures,
+      subst (λ v. IsTableOutcome (c.len.result + 1) v c.in_ok-outcome.outcome) l c.in_ok-outcome.ensures,
     )
 
 pub returns-clause-holds : goal.returns-clause-holds

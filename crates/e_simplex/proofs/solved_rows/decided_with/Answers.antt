@@ -3,7 +3,7 @@ use Rattle.std.proofs.lemmas.List.{nil_from_length}
 use Rattle.e_fraction.specs.Views.{all_seen}
 use Rattle.e_simplex.specs.Constraints.{AllSmallConstraints}
 use Rattle.e_simplex.specs.Naming.{AllNamed, named_constraints}
-use Rattle.e_simplex.specs.Solved.{IsSolved, IsOutcome, columns_of}
+use Rattle.e_simplex.specs.Solved.{IsSolved, IsTableOutcome, columns_of}
 use Rattle.e_simplex.proofs.Extending.{named_both, fit_both, outcome_both, solved_both}
 use Rattle.e_simplex.proofs.solved_rows.decided_with.Goals as goal
 
@@ -37,8 +37,8 @@ verdict_of-requires-clause-outcome c =
       columns_of s,
       omega (arith, room, ap length c.deref-5.ensures.value),
       omega (arith, n),
-      subst (λ v. IsOutcome (columns_of s) (named_constraints false v (all_seen c.deref-4.result.now)) c.in_ok-outcome.outcome) (sym c.deref-5.ensures.value)
-          (subst (λ v. IsOutcome (columns_of s) (named_constraints false ts (all_seen v)) c.in_ok-outcome.outcome) (sym (c.deref-4.ensures.value ∙ c.in_ok-all.ensures))
+      subst (λ v. IsTableOutcome (columns_of s) (named_constraints false v (all_seen c.deref-4.result.now)) c.in_ok-outcome.outcome) (sym c.deref-5.ensures.value)
+          (subst (λ v. IsTableOutcome (columns_of s) (named_constraints false ts (all_seen v)) c.in_ok-outcome.outcome) (sym (c.deref-4.ensures.value ∙ c.in_ok-all.ensures))
           (outcome_both c.args.rows.now c.args.more.now c.args.terms.now ts s c.requires.table c.in_ok-terms.ensures.continues c.in_ok-terms.ensures.all
           c.deref-3.result.now (c.deref-3.ensures.value ∙ c.in_ok-constraints.ensures.value ∙ ap (λ v. named_constraints false v (all_seen c.args.more.now)) c.deref-2.ensures.value)
           c.in_ok-outcome.outcome c.in_ok-outcome.ensures)),

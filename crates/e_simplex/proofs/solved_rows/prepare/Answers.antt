@@ -1,5 +1,5 @@
 use Rattle.std.proofs.Common.{◌≡◌, ◌+◌, ◌<◌, ◌^◌, arith, ap, sym, ◌∙◌, subst, length, false, rules}
-use Rattle.e_fraction.specs.Det.{IsWide}
+use Rattle.e_fraction.specs.Det.{HasWideMinor}
 use Rattle.e_fraction.specs.Views.{all_seen}
 use Rattle.e_fraction.proofs.Wideness.{wide_rows_width}
 use Rattle.e_simplex.specs.Constraints.{AllSmallConstraints, IsAbsurd, rows_of}
@@ -55,7 +55,7 @@ returns-in-TooWide c =
     let l : c.in_ok-constraints.constraints.items ≡ named_constraints false ts (all_seen c.args.rows.items)
     = c.in_ok-constraints.ensures.value ∙ ap (λ v. named_constraints false v (all_seen c.deref-3.result.now)) c.deref-2.ensures.value ∙ ap (λ v. named_constraints false ts (all_seen v)) c.deref-3.ensures.value in
     let h = rw c.in-TooWide.is at c.in_ok-solve_constraints.ensures in
-    let w = wide_over ts (all_seen c.args.rows.items) (c.len.result + 1 + 8) c.in_ok-terms.ensures.once a (subst (λ v. IsWide (rows_of v) (c.len.result + 1 + 8) (2 ^ 63)) l h) in
+    let w = wide_over ts (all_seen c.args.rows.items) (c.len.result + 1 + 8) c.in_ok-terms.ensures.once a (subst (λ v. HasWideMinor (rows_of v) (c.len.result + 1 + 8) (2 ^ 63)) l h) in
     (w, wide_rows_width (all_seen c.args.rows.items) w)
 
 pub with_values-requires-clause-named : goal.with_values-requires-clause-named

@@ -14,7 +14,7 @@ use Rattle.e_theorem.specs.Statements.{all_stated}
 use Rattle.e_deriv.specs.Script.{close_script, script_of, steps_script, size}
 use Rattle.e_trim.specs.Looked.{Wants}
 use Rattle.e_trim.specs.Trimmed.{outside, wants}
-use Rattle.e_trim.specs.inner.StepState.{goal_said, IsReady, IsReadyStep}
+use Rattle.e_trim.specs.inner.StepState.{goal_said, IsReady, IsReadyToTrim}
 use Rattle.e_trim.specs.inner.Flags.{flags_of}
 use Rattle.e_trim.proofs.FirstSteps.{ok_map, on_ok, later_steps, whole_is}
 use Rattle.e_trim.proofs.StepSizes.{rest_falls, step_falls, claim_falls, superposed_falls, first_falls, second_falls}
@@ -42,7 +42,7 @@ look-release-requires t c = look_enough (all_stated c.args.before.now) c.step-it
 pub look-look_back-requires : goal.look-look_back-requires
 look-look_back-requires t c = (
   omega (arith, c.decreases, step_falls c.step-item.result (steps_script (later_steps c.args.steps.now) (close_script c.args.close.now)) (steps_script c.args.steps.now (close_script c.args.close.now)) (whole_is c.args.steps.now c.step-item.result (close_script c.args.close.now) c.in-len1-up.len_at_least c.step-item.is)),
-  (subst (IsReadyStep (all_stated c.args.before.now) c.step-item.result) (sym (look_back_is (all_stated c.args.before.now) c.step-item.result c.args.state.now c.pass.new.state c.look.new.state c.release.new.self c.hold-outer.result c.in_ok-pass-in-len1-up.ensures c.in_ok-wanted-in-len1-up.ensures.kept c.hold-outer.ensures c.release.ensures)) (look_step_ready (all_stated c.args.before.now) c.args.steps.now c.step-item.result c.args.state.now (goal_said c.args.goal.now) (close_script c.args.close.now) (record { some = c.in-len1-up.len_at_least; first = c.step-item.is; ready = c.requires.ready })), c.requires.statements),
+  (subst (IsReadyToTrim (all_stated c.args.before.now) c.step-item.result) (sym (look_back_is (all_stated c.args.before.now) c.step-item.result c.args.state.now c.pass.new.state c.look.new.state c.release.new.self c.hold-outer.result c.in_ok-pass-in-len1-up.ensures c.in_ok-wanted-in-len1-up.ensures.kept c.hold-outer.ensures c.release.ensures)) (look_step_ready (all_stated c.args.before.now) c.args.steps.now c.step-item.result c.args.state.now (goal_said c.args.goal.now) (close_script c.args.close.now) (record { some = c.in-len1-up.len_at_least; first = c.step-item.is; ready = c.requires.ready })), c.requires.statements),
 )
 
 pub look-returns-in_ok-look_back-in-len1-up-clause-wanted : goal.look-returns-in_ok-look_back-in-len1-up-clause-wanted
@@ -101,7 +101,7 @@ look_at_step-look_inside-requires t c = (
       omega arith,
       (
         subst (λ ls. IsReady (all_stated c.args.before.now) (script_of c.deref.result.now) c.args.state.now.scope c.args.state.now.facts (goal_of ls)) (sym c.items.ensures)
-            (subst (λ b. IsReady (all_stated c.args.before.now) (script_of b) c.args.state.now.scope c.args.state.now.facts (goal_of c.in-Claim.shown)) (sym c.deref.ensures) (claim_ready (all_stated c.args.before.now) c.in-Claim.shown c.in-Claim.inner c.args.state.now (subst (λ st. IsReadyStep (all_stated c.args.before.now) st c.args.state.now) c.in-Claim.is c.requires.ready))),
+            (subst (λ b. IsReady (all_stated c.args.before.now) (script_of b) c.args.state.now.scope c.args.state.now.facts (goal_of c.in-Claim.shown)) (sym c.deref.ensures) (claim_ready (all_stated c.args.before.now) c.in-Claim.shown c.in-Claim.inner c.args.state.now (subst (λ st. IsReadyToTrim (all_stated c.args.before.now) st c.args.state.now) c.in-Claim.is c.requires.ready))),
         c.requires.statements,
       ),
     ),
@@ -137,7 +137,7 @@ look_at_step-look_inside-requires-in-Superposed t c = (
             (subst (λ fs. IsReady (all_stated c.args.before.now) (script_of c.deref-in-Superposed.result.now) (grown c.args.state.now.scope superposing.sorts_copied) (joined_all c.args.state.now.facts fs) (goal_of c.items-in-Superposed.result.now)) (sym (c.deref-in-Superposed-2.ensures.value ∙ c.in_ok-given-in-Superposed.ensures))
             (subst (λ ls. IsReady (all_stated c.args.before.now) (script_of c.deref-in-Superposed.result.now) (grown c.args.state.now.scope superposing.sorts_copied) (joined_all c.args.state.now.facts (superposing.gives_of_superposition c.in-Superposed.form c.args.state.now.scope)) (goal_of ls)) (sym c.items-in-Superposed.ensures)
             (subst (λ b. IsReady (all_stated c.args.before.now) (script_of b) (grown c.args.state.now.scope superposing.sorts_copied) (joined_all c.args.state.now.facts (superposing.gives_of_superposition c.in-Superposed.form c.args.state.now.scope)) (goal_of c.in-Superposed.shown)) (sym c.deref-in-Superposed.ensures)
-            (superposed_ready (all_stated c.args.before.now) c.in-Superposed.form c.in-Superposed.names c.in-Superposed.shown c.in-Superposed.certs c.in-Superposed.inner c.args.state.now (subst (λ st. IsReadyStep (all_stated c.args.before.now) st c.args.state.now) c.in-Superposed.is c.requires.ready))))),
+            (superposed_ready (all_stated c.args.before.now) c.in-Superposed.form c.in-Superposed.names c.in-Superposed.shown c.in-Superposed.certs c.in-Superposed.inner c.args.state.now (subst (λ st. IsReadyToTrim (all_stated c.args.before.now) st c.args.state.now) c.in-Superposed.is c.requires.ready))))),
         c.requires.statements,
       ),
     ),

@@ -2,7 +2,7 @@ use Rattle.std.proofs.Common.{Option, Some, Result, Ok, refl, ap, subst, ◌∙�
 use Rattle.std.proofs.lemmas.Result.{err_from_is_err_and}
 use Rattle.e_text.specs.declared.line.Line.{Line}
 use Rattle.e_text.specs.declared.line.LineFault.{LineFault}
-use Rattle.e_text.specs.Lines.{Ahead, Takes, view_of_line}
+use Rattle.e_text.specs.Lines.{Ahead, TakesNext, view_of_line}
 use Rattle.e_book.specs.declared.item.Item.{Item}
 use Rattle.e_book.specs.inner.Machine.{TakesLine}
 use Rattle.e_book.proofs.ReadingOn.{alike_more, good_more, ends_item, fails_at_line, fails_in_line, all_taken}
@@ -19,26 +19,26 @@ loop-line-init c = record {
 
 pub returns-in-Err-clause-reads : goal.returns-in-Err-clause-reads
 returns-in-Err-clause-reads c =
-    let taken = subst (λ (r : Result Line LineFault). Takes c.loop-line.lines (Some r) c.next.new.self) c.in-Err.is c.in-Some.ensures in
+    let taken = subst (λ (r : Result Line LineFault). TakesNext c.loop-line.lines (Some r) c.next.new.self) c.in-Err.is c.in-Some.ensures in
     rw c.of_line.ensures (fails_in_line c.args.known.now c.args.self.now.coming c.loop-line.self.coming c.loop-line.self.coming c.args.lines.now.lines c.loop-line.lines.lines c.next.new.self.lines c.in-Err.fault taken.0 c.loop-line.invariant.alike)
 
 pub returns-in_err-take-clause-reads : goal.returns-in_err-take-clause-reads
 returns-in_err-take-clause-reads c =
-    let taken = subst (λ (r : Result Line LineFault). Takes c.loop-line.lines (Some r) c.next.new.self) c.in-Ok.is c.in-Some.ensures in
+    let taken = subst (λ (r : Result Line LineFault). TakesNext c.loop-line.lines (Some r) c.next.new.self) c.in-Ok.is c.in-Some.ensures in
     let p = err_from_is_err_and c.from_residual.result c.from_residual.ensures.1 in
     rw (p.1, p.2) (fails_at_line c.args.known.now c.args.self.now.coming c.loop-line.self.coming c.take.new.self.coming c.take.new.self.coming c.args.lines.now.lines c.loop-line.lines.lines c.next.new.self.lines c.next.new.self.lines (view_of_line c.in-Ok.line) c.in_err-take.field-0.0
     taken.0 c.loop-line.invariant.alike c.in_err-take.ensures.takes)
 
 pub returns-in-Some-2-clause-reads : goal.returns-in-Some-2-clause-reads
 returns-in-Some-2-clause-reads c =
-    let taken = subst (λ (r : Result Line LineFault). Takes c.loop-line.lines (Some r) c.next.new.self) c.in-Ok.is c.in-Some.ensures in
+    let taken = subst (λ (r : Result Line LineFault). TakesNext c.loop-line.lines (Some r) c.next.new.self) c.in-Ok.is c.in-Some.ensures in
     ends_item c.args.known.now c.args.self.now.coming c.loop-line.self.coming c.take.new.self.coming c.args.lines.now.lines c.loop-line.lines.lines c.next.new.self.lines (view_of_line c.in-Ok.line) c.in-Some-2.item taken.0
     c.loop-line.invariant.alike c.loop-line.invariant.good
     (subst (λ (r : Option Item). TakesLine c.args.known.now c.loop-line.self.coming (view_of_line c.in-Ok.line) (Ok r) c.take.new.self.coming) c.in-Some-2.is c.in_ok-take.ensures.takes)
 
 pub loop-line-preserved : goal.loop-line-preserved
 loop-line-preserved c =
-    let taken = subst (λ (r : Result Line LineFault). Takes c.loop-line.lines (Some r) c.next.new.self) c.in-Ok.is c.in-Some.ensures in
+    let taken = subst (λ (r : Result Line LineFault). TakesNext c.loop-line.lines (Some r) c.next.new.self) c.in-Ok.is c.in-Some.ensures in
     record {
       alike = alike_more c.args.known.now c.args.self.now.coming c.loop-line.self.coming c.take.new.self.coming c.args.lines.now.lines c.loop-line.lines.lines c.next.new.self.lines (view_of_line c.in-Ok.line) taken.0 c.loop-line.invariant.alike
           (subst (λ (r : Option Item). TakesLine c.args.known.now c.loop-line.self.coming (view_of_line c.in-Ok.line) (Ok r) c.take.new.self.coming) c.in-None.is c.in_ok-take.ensures.takes);

@@ -1,6 +1,6 @@
 use Rattle.std.proofs.Common.{subst, sym, None}
 use Rattle.e_metric.specs.SolvedSystems.{IsKindSystem}
-use Rattle.e_metric.specs.MetricAnswers.{IsCertified}
+use Rattle.e_metric.specs.MetricAnswers.{IsMetricCertificate}
 use Rattle.e_metric.proofs.answers.GrownSystems.{same_solved}
 use Rattle.e_metric.proofs.kind_system.KindSystem.copied.Goals as goal
 
@@ -11,7 +11,7 @@ returns-in_ok-solved_system-in-Solved c = λ which facts h.
 
 pub returns-in_ok-cert-in-Absurd : goal.returns-in_ok-cert-in-Absurd
 returns-in_ok-cert-in-Absurd c = λ which facts h.
-    subst (IsCertified facts None) (sym c.in_ok-cert-in-Absurd.ensures) (subst (IsKindSystem which facts) c.in-Absurd.is h)
+    subst (IsMetricCertificate facts None) (sym c.in_ok-cert-in-Absurd.ensures) (subst (IsKindSystem which facts) c.in-Absurd.is h)
 
 pub returns-in-TooWide : goal.returns-in-TooWide
 returns-in-TooWide c = λ which facts h. subst (IsKindSystem which facts) c.in-TooWide.is h
