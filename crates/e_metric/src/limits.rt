@@ -76,12 +76,7 @@ fn monomials(lit: &Lit) -> usize
 fn are_well_formed(facts: &Facts) -> bool
     ensures { result ≡ list_all WellFormed.is_well_formed facts.now }
 {
-    for i in 0..facts.len() {
-        if !is_well_formed(facts.get(i)) {
-            return false;
-        }
-    }
-    true
+    facts.items().iter().all(|fact| is_well_formed(fact))
 }
 
 // How many monomials the metric facts have, or 1,101.
