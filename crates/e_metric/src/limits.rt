@@ -85,8 +85,8 @@ fn capped_monomials(facts: &Facts) -> usize
 {
     // Capped at each fact, since nothing bounds how many facts there are.
     let mut count = 0;
-    for i in 0..facts.len() {
-        count = (count + monomials(facts.get(i))).min(1101);
+    for fact in facts.items() {
+        count = (count + monomials(fact)).min(1101);
     }
     count
 }
