@@ -115,6 +115,9 @@ get_from (x ∷ xs) (suc n) k = (let e : suc (n + k) ≡ suc n + k = omega arith
 pub one_from : {X : Type 0} (xs : List X) (from k : ℕ) (x : X) → slice_get xs (from + k) ≡ Some x → slice_get (drop from xs) k ≡ Some x
 one_from xs from k x h = get_from xs from k ∙ h
 
+pub place_in_all : {X : Type 0} (xs : List X) (from k : ℕ) (x : X) → slice_get (drop from xs) k ≡ Some x → slice_get xs (from + k) ≡ Some x
+place_in_all xs from k x h = sym (get_from xs from k) ∙ h
+
 pub whole_rest : {X : Type 0} (xs : List X) (from k : ℕ) → length xs - from ≤ k → take k (drop from xs) ≡ drop from xs
 whole_rest xs from k h = take_all k (drop from xs) (omega (arith, length-drop from xs, h))
 
