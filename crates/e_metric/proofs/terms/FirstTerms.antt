@@ -1,10 +1,10 @@
 -- Terms in the order in which they occur first.
-use Rattle.std.proofs.Common.{◌≡◌, ◌≤◌, ℕ, zero, suc, ◌+◌, ◌-◌, List, [], ◌∷◌, ◌++◌, map, take, drop, length, refl, sym, ap, ap₂, ◌∙◌, arith, Bool, true, false, cond, ◌||◌, true≢false, ◌⊎◌, inl, inr, Option, Some, None, append_assoc}
+use Rattle.std.proofs.Common.{◌≡◌, ℕ, zero, suc, ◌+◌, List, [], ◌∷◌, ◌++◌, map, take, drop, refl, sym, ap, ap₂, ◌∙◌, arith, Bool, true, false, cond, ◌||◌, true≢false, ◌⊎◌, inl, inr, Option, Some, None, append_assoc}
 use Rattle.std.specs.Prelude.{slice_get}
 use Rattle.std.specs.List.{cons_option}
 use Rattle.std.proofs.lemmas.List.Folds.{list_any-append}
 use Rattle.std.proofs.lemmas.Bool.{or_left, or_right, or_cases, cases_Bool}
-use Rattle.std.proofs.lemmas.List.{map-append, length-drop, take_all}
+use Rattle.std.proofs.lemmas.List.{map-append}
 use Rattle.e_literal.specs.declared.object.Kind.{Kind}
 use Rattle.e_literal.specs.declared.object.Mono.{Mono}
 use Rattle.e_literal.specs.declared.object.Term.{Term}
@@ -112,14 +112,8 @@ get_from xs zero k = (let e : k ≡ zero + k = omega arith in ap (slice_get xs) 
 get_from [] (suc n) k = refl
 get_from (x ∷ xs) (suc n) k = (let e : suc (n + k) ≡ suc n + k = omega arith in get_from xs n k ∙ ap (slice_get (x ∷ xs)) e)
 
-pub one_from : {X : Type 0} (xs : List X) (from k : ℕ) (x : X) → slice_get xs (from + k) ≡ Some x → slice_get (drop from xs) k ≡ Some x
-one_from xs from k x h = get_from xs from k ∙ h
-
 pub place_in_all : {X : Type 0} (xs : List X) (from k : ℕ) (x : X) → slice_get (drop from xs) k ≡ Some x → slice_get xs (from + k) ≡ Some x
 place_in_all xs from k x h = sym (get_from xs from k) ∙ h
-
-pub whole_rest : {X : Type 0} (xs : List X) (from k : ℕ) → length xs - from ≤ k → take k (drop from xs) ≡ drop from xs
-whole_rest xs from k h = take_all k (drop from xs) (omega (arith, length-drop from xs, h))
 
 -- the terms of one more
 pub more_terms : (which : Kind) (ls : List Lit) (i : ℕ) (l : Lit) (start now new : List Term) → slice_get ls i ≡ Some l
