@@ -71,8 +71,7 @@ pub(crate) fn by_arithmetic(
 pub(crate) fn clash(alloc: Global, facts: &Facts) -> Result<Option<Lit>, AllocError>
     ensures { IfOk result (IsClashOf facts.now) }
 {
-    for i in 0..facts.len() {
-        let fact = facts.get(i);
+    for fact in facts.items() {
         if is_denied(alloc, facts, fact)? {
             return Ok(Some(copy(alloc, fact)?));
         }

@@ -56,15 +56,14 @@ fn add_atom(terms: &mut Vec<Term>, atom: &Atom) -> Result<(), AllocError>
 }
 
 // Right, and the terms of the facts, in their normal order.
-#[tactic(auto, using(crate::proofs::terms::StepTerms::fact_terms))]
 fn terms_of_facts(alloc: Global, facts: &Facts) -> Result<Vec<Term>, AllocError>
     ensures { IfOk result
         (λ v. v.items ≡ map Same.canonical (Term.Right ∷ terms_of_lits facts.now)) }
 {
     let mut terms = Vec::new(alloc);
     terms.push(Term::Right)?;
-    for i in 0..facts.len() {
-        add_atom(&mut terms, &facts.get(i).atom)?;
+    for fact in facts.items() {
+        add_atom(&mut terms, &fact.atom)?;
     }
     Ok(terms)
 }

@@ -76,12 +76,7 @@ fn monomials(lit: &Lit) -> usize
 fn are_well_formed(facts: &Facts) -> bool
     ensures { result ≡ list_all WellFormed.is_well_formed facts.now }
 {
-    for i in 0..facts.len() {
-        if !is_well_formed(facts.get(i)) {
-            return false;
-        }
-    }
-    true
+    facts.items().iter().all(|fact| is_well_formed(fact))
 }
 
 // How many monomials the metric facts have, or 1,101.
@@ -90,8 +85,8 @@ fn capped_monomials(facts: &Facts) -> usize
 {
     // Capped at each fact, since nothing bounds how many facts there are.
     let mut count = 0;
-    for i in 0..facts.len() {
-        count = (count + monomials(facts.get(i))).min(1101);
+    for fact in facts.items() {
+        count = (count + monomials(fact)).min(1101);
     }
     count
 }

@@ -77,9 +77,8 @@ fn add_facts(
     ensures { OnOk result (terms.new.items
         ≡ with_listed terms.old.items (terms_of_lits (of_kind which (drop from facts.now)))) }
 {
-    let count = facts.len();
-    for k in 0..count - from {
-        add_literal(terms, which, facts.get(from + k))?;
+    for fact in &facts.items()[from..] {
+        add_literal(terms, which, fact)?;
     }
     Ok(())
 }

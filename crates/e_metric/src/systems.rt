@@ -140,9 +140,8 @@ fn add_fact_rows(
         (GrowBy (rows_named (λ l. name.Fact l) (of_kind which (drop from facts.now))) rows.old.items
         rows.new.items) }
 {
-    let count = facts.len();
-    for k in 0..count - from {
-        add_fact_row(rows, alloc, which, facts.get(from + k))?;
+    for fact in &facts.items()[from..] {
+        add_fact_row(rows, alloc, which, fact)?;
     }
     Ok(())
 }

@@ -55,8 +55,8 @@ pub fn multipliers_of_rows(
 {
     let mut all = Vec::with_capacity(alloc, rows.len())?;
     let mut seen = 0;
-    for i in 0..rows.len() {
-        let is_not = is_kept(true, rows[i].kind);
+    for (i, row) in rows.iter().enumerate() {
+        let is_not = is_kept(true, row.kind);
         let weight = weight_at(weights, i - seen);
         all.push(multiplier(is_not, seen, tried, last, weight))?;
         seen = counted(is_not, seen);
@@ -72,8 +72,8 @@ pub fn place_of_not(rows: &[Row], k: usize) -> usize
     ensures before { count_nots (all_seen (take result rows.now)) ≡ k }
 {
     let mut seen = 0;
-    for i in 0..rows.len() {
-        let is_not = is_kept(true, rows[i].kind);
+    for (i, row) in rows.iter().enumerate() {
+        let is_not = is_kept(true, row.kind);
         if is_not && seen == k {
             return i;
         }

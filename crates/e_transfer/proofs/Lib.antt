@@ -4,7 +4,6 @@ pub mod Orders
 pub mod GoalMatches
 pub mod Unification
 pub mod Lists
-pub mod Places
 pub mod Plans
 pub mod Instances
 pub mod Needs

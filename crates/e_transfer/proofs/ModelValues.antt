@@ -1,8 +1,8 @@
 -- Values that carry over to all terms refute a literal where they are a model of the facts.
-use Rattle.std.proofs.Common.{◌≡◌, ℕ, List, [], ◌∷◌, ◌++◌, refl, sym, ap, ◌∙◌, Bool, true, false, cond, not, ◌&&◌, ◌||◌, eqb, eq-eqb, true≢false, length, take, ◌≤◌, inl, inr, Some}
+use Rattle.std.proofs.Common.{◌≡◌, ℕ, List, [], ◌∷◌, ◌++◌, refl, sym, ◌∙◌, Bool, true, false, cond, not, ◌&&◌, ◌||◌, eqb, eq-eqb, true≢false, length, inl, inr, Some, arith}
 use Rattle.std.specs.Prelude.{MatchBool}
-use Rattle.std.proofs.lemmas.List.{take_all}
-use Rattle.std.specs.List.{list_all}
+use Rattle.std.proofs.lemmas.List.Sums.{list_all-from_AllPass}
+use Rattle.std.specs.List.{list_all, AllWithin}
 use Rattle.std.proofs.lemmas.List.Folds.{list_all-append}
 use Rattle.std.proofs.lemmas.Bool.{and_from}
 use Rattle.e_literal.specs.declared.object.Term.{Term}
@@ -63,7 +63,7 @@ refuted facts l w model fit fails follows =
     true≢false (sym (follows.follows v admissible true_facts) ∙ fails)
 
 -- fact by fact
-fits_all : (facts ls : List Lit) (v : Term → ℕ) → list_all (λ l. fits_terms facts v (terms_of_atom l.atom)) ls ≡ true → fits_terms facts v (terms_of_lits ls) ≡ true
+pub fits_all : (facts ls : List Lit) (v : Term → ℕ) → list_all (λ l. fits_terms facts v (terms_of_atom l.atom)) ls ≡ true → fits_terms facts v (terms_of_lits ls) ≡ true
 fits_all facts [] v each = refl
 fits_all facts (l ∷ ls) v each =
     let here = fits_terms facts v (terms_of_atom l.atom) in
@@ -71,13 +71,10 @@ fits_all facts (l ∷ ls) v each =
     list_all-append (fits_term facts v) (terms_of_atom l.atom) (terms_of_lits ls)
     ∙ and_from here (fits_terms facts v (terms_of_lits ls)) (and_left here rest each) (fits_all facts ls v (and_right here rest each))
 
-pub all_fit : (facts : List Lit) (v : Term → ℕ) (n : ℕ) → length facts ≤ n → list_all (λ l. fits_terms facts v (terms_of_atom l.atom)) (take n facts) ≡ true
-    → fits_terms facts v (terms_of_lits facts) ≡ true
-all_fit facts v n most each =
-    fits_all facts facts v (sym (ap (list_all (λ l. fits_terms facts v (terms_of_atom l.atom))) (take_all n facts most)) ∙ each)
-
-pub all_true : (facts : List Lit) (v : Term → ℕ) (n : ℕ) → length facts ≤ n → all_hold v (take n facts) ≡ true → all_hold v facts ≡ true
-all_true facts v n most each = sym (ap (all_hold v) (take_all n facts most)) ∙ each
+-- where `all` answered yes, each passes
+pub each_passes : (p : Lit → Bool) (ls : List Lit) (b : Bool) (No : Type 0) → b ≡ true → MatchBool b (AllWithin (λ l. p l ≡ true) ls 0 (length ls)) No → list_all p ls ≡ true
+each_passes p ls true No e h = list_all-from_AllPass p ls (λ k d less. h k d (omega arith) less)
+each_passes p ls false No e h = absurd (true≢false (sym e))
 
 -- ---- whether a model is at hand
 

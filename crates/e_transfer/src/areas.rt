@@ -47,8 +47,8 @@ pub fn areas_of(alloc: Global, facts: &Facts) -> Result<Vec<Term>, AllocError>
     ensures { IfOk result (λ v. IsTrue (name_areas_of v.items facts.now)) }
 {
     let mut areas = Vec::new(alloc);
-    for i in 0..facts.len() {
-        add_areas(&mut areas, facts.get(i))?;
+    for fact in facts.items() {
+        add_areas(&mut areas, fact)?;
     }
     Ok(areas)
 }

@@ -28,5 +28,5 @@ pub fn are_limited_facts(scope: Scope, facts: &Facts) -> bool
 fn are_in_scope(scope: Scope, facts: &Facts) -> bool
     ensures { result ≡ list_all (all_in_scope scope) facts.now }
 {
-    (0..facts.len()).all(|i| in_scope(facts.get(i), scope))
+    facts.items().iter().all(|fact| in_scope(fact, scope))
 }

@@ -97,8 +97,8 @@ pub fn marks_of(facts: &Facts) -> [bool; MARKS]
     ensures { IsTrue (are_marked result facts.now) }
 {
     let mut marks = [false; MARKS];
-    for i in 0..facts.len() {
-        marks[mark_of(facts.get(i))] = true;
+    for fact in facts.items() {
+        marks[mark_of(fact)] = true;
     }
     marks
 }

@@ -196,12 +196,10 @@ fn facts_fit(facts: &Facts, filling: Filling, values: &[(Term, u128)]) -> bool
         → IsTrue (fits_terms facts.now (value_by filling values.now) (terms_of_lits facts.now)) }
     ensures hold { result ≡ true → IsTrue (all_hold (value_by filling values.now) facts.now) }
 {
-    for i in 0..facts.len() {
-        if !fact_fits(facts, filling, values, facts.get(i)) {
-            return false;
-        }
-    }
-    true
+    facts
+        .items()
+        .iter()
+        .all(|fact| fact_fits(facts, filling, values, fact))
 }
 
 /// Whether the facts are true with these values, and these are values that the terms may have.

@@ -19,7 +19,7 @@ use crate::plan::make_plan;
 use crate::query::Query;
 use crate::unify::{Binding, unify};
 use crate::walk::{Verdict, search};
-use e_clause::{Row, Rule, TransferCert};
+use e_clause::{Row, Rule, TRANSFER_RULES, TransferCert};
 use std::alloc::{AllocError, Global};
 
 /// The instances that have the goal at a place of the clause, and whose variables are bound so.
@@ -148,7 +148,7 @@ pub fn search_rules(alloc: Global, query: &Query) -> Result<Verdict<TransferCert
         (RuleSearchIs query.now.strength query.now.scope query.now.facts.now query.now.goal.now
         (NoneGives query.now.strength query.now.scope query.now.facts.now query.now.goal.now)) }
 {
-    for at in 0..29u8 {
+    for at in 0..TRANSFER_RULES {
         match search_rule(alloc, query, Rule::transfer(at), order(at))? {
             Verdict::No => {}
             Verdict::Yes(cert) => return Ok(Verdict::Yes(cert)),

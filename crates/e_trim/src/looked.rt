@@ -69,8 +69,7 @@ fn look_up_parting(
 ) -> Result<(), AllocError>
     ensures { OnOk result (out.new ≡ both out.old (looked_up (first_that (Looked.parts_ends term) facts.now))) }
 {
-    for i in 0..facts.len() {
-        let fact = facts.get(i);
+    for fact in facts.items() {
         if parts_ends(fact, term) {
             return out.look_up(alloc, fact);
         }
@@ -87,8 +86,7 @@ fn look_up_written(
 ) -> Result<(), AllocError>
     ensures { OnOk result (out.new ≡ both out.old (looked_up (first_that (Looked.has_written term) facts.now))) }
 {
-    for i in 0..facts.len() {
-        let fact = facts.get(i);
+    for fact in facts.items() {
         if has_written(fact, term) {
             return out.look_up(alloc, fact);
         }

@@ -92,9 +92,9 @@ fn answered_after(
 ) -> Result<&'static str, AllocError>
     requires { AreFronts some.old known.old }
 {
-    for i in 0..facts.len() {
+    for fact in facts.items() {
         answered_by(rt, alloc, known, some, goal)?;
-        some.add(copy(alloc, facts.get(i))?)?;
+        some.add(copy(alloc, fact)?)?;
     }
     answered_by(rt, alloc, known, some, goal)
 }

@@ -1,10 +1,10 @@
 -- Terms in the order in which they occur first.
-use Rattle.std.proofs.Common.{◌≡◌, ◌≤◌, ℕ, zero, suc, ◌+◌, ◌-◌, List, [], ◌∷◌, ◌++◌, map, take, drop, length, refl, sym, ap, ap₂, ◌∙◌, arith, Bool, true, false, cond, ◌||◌, true≢false, ◌⊎◌, inl, inr, Option, Some, None, append_assoc}
+use Rattle.std.proofs.Common.{◌≡◌, ℕ, zero, suc, ◌+◌, List, [], ◌∷◌, ◌++◌, map, take, drop, refl, sym, ap, ap₂, ◌∙◌, arith, Bool, true, false, cond, ◌||◌, true≢false, ◌⊎◌, inl, inr, Option, Some, None, append_assoc}
 use Rattle.std.specs.Prelude.{slice_get}
 use Rattle.std.specs.List.{cons_option}
 use Rattle.std.proofs.lemmas.List.Folds.{list_any-append}
 use Rattle.std.proofs.lemmas.Bool.{or_left, or_right, or_cases, cases_Bool}
-use Rattle.std.proofs.lemmas.List.{map-append, length-drop, take_all}
+use Rattle.std.proofs.lemmas.List.{map-append}
 use Rattle.e_literal.specs.declared.object.Kind.{Kind}
 use Rattle.e_literal.specs.declared.object.Mono.{Mono}
 use Rattle.e_literal.specs.declared.object.Term.{Term}
@@ -112,21 +112,18 @@ get_from xs zero k = (let e : k ≡ zero + k = omega arith in ap (slice_get xs) 
 get_from [] (suc n) k = refl
 get_from (x ∷ xs) (suc n) k = (let e : suc (n + k) ≡ suc n + k = omega arith in get_from xs n k ∙ ap (slice_get (x ∷ xs)) e)
 
-pub one_from : {X : Type 0} (xs : List X) (from k : ℕ) (x : X) → slice_get xs (from + k) ≡ Some x → slice_get (drop from xs) k ≡ Some x
-one_from xs from k x h = get_from xs from k ∙ h
+pub place_in_all : {X : Type 0} (xs : List X) (from k : ℕ) (x : X) → slice_get (drop from xs) k ≡ Some x → slice_get xs (from + k) ≡ Some x
+place_in_all xs from k x h = sym (get_from xs from k) ∙ h
 
-pub whole_rest : {X : Type 0} (xs : List X) (from k : ℕ) → length xs - from ≤ k → take k (drop from xs) ≡ drop from xs
-whole_rest xs from k h = take_all k (drop from xs) (omega (arith, length-drop from xs, h))
-
--- the terms of one more of them
-pub more_terms : (which : Kind) (facts : List Lit) (from k : ℕ) (l : Lit) (start now new : List Term) → slice_get facts (from + k) ≡ Some l
-    → now ≡ with_listed start (terms_of_lits (of_kind which (take k (drop from facts)))) → new ≡ with_listed now (terms_of_lits (of_kind which (l ∷ [])))
-    → new ≡ with_listed start (terms_of_lits (of_kind which (take (k + 1) (drop from facts))))
-more_terms which facts from k l start now new h e n =
+-- the terms of one more
+pub more_terms : (which : Kind) (ls : List Lit) (i : ℕ) (l : Lit) (start now new : List Term) → slice_get ls i ≡ Some l
+    → now ≡ with_listed start (terms_of_lits (of_kind which (take i ls))) → new ≡ with_listed now (terms_of_lits (of_kind which (l ∷ [])))
+    → new ≡ with_listed start (terms_of_lits (of_kind which (take (i + 1) ls)))
+more_terms which ls i l start now new h e n =
     n ∙ ap (λ ts. with_listed ts (terms_of_lits (of_kind which (l ∷ [])))) e
-    ∙ sym (ap (λ ls. with_listed start (terms_of_lits ls)) (kind_more which (drop from facts) k l (one_from facts from k l h))
-    ∙ ap (with_listed start) (lits_append (of_kind which (take k (drop from facts))) (of_kind which (l ∷ [])))
-    ∙ listed_append start (terms_of_lits (of_kind which (take k (drop from facts)))) (terms_of_lits (of_kind which (l ∷ []))))
+    ∙ sym (ap (λ ms. with_listed start (terms_of_lits ms)) (kind_more which ls i l h)
+    ∙ ap (with_listed start) (lits_append (of_kind which (take i ls)) (of_kind which (l ∷ [])))
+    ∙ listed_append start (terms_of_lits (of_kind which (take i ls))) (terms_of_lits (of_kind which (l ∷ []))))
 
 -- with the wanted literal
 turned_terms : (which : Kind) (l : Lit) → terms_of_lits (of_kind which (negation l ∷ [])) ≡ terms_of_lits (of_kind which (l ∷ []))

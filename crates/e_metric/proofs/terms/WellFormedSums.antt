@@ -1,9 +1,8 @@
 -- Sums that are well formed, part by part.
-use Rattle.std.proofs.Common.{◌≡◌, ℕ, ◌+◌, List, [], ◌∷◌, ◌++◌, length, sym, ap, ap₂, ◌∙◌, Bool, true, false, ◌&&◌, true≢false, inl, inr, take, Some, length-append}
+use Rattle.std.proofs.Common.{◌≡◌, ℕ, ◌+◌, List, [], ◌∷◌, ◌++◌, length, ap, ap₂, ◌∙◌, Bool, true, ◌&&◌, take, Some, length-append}
 use Rattle.std.specs.Prelude.{nat_le, slice_get}
 use Rattle.std.specs.List.{list_all}
 use Rattle.std.proofs.lemmas.List.Folds.{list_all-append}
-use Rattle.std.proofs.lemmas.Bool.{cases_Bool}
 use Rattle.e_literal.specs.declared.object.Kind.{Kind}
 use Rattle.e_literal.specs.declared.object.Mono.{Mono}
 use Rattle.e_literal.specs.declared.literal.Lit.{Lit}
@@ -12,7 +11,6 @@ use Rattle.e_literal.specs.WellFormed.{same_kind, is_bounded_coefficient, are_we
 use Rattle.e_clause.specs.Assignment.{terms_of_atom, terms_of_lits}
 use Rattle.e_metric.proofs.rows.Forms.{none_more}
 use Rattle.e_metric.proofs.terms.FirstTerms.{take_one, lits_append}
-use Rattle.e_metric.proofs.rows.SystemRows.{all_at}
 
 abbrev good_of : Kind → Mono → Bool
 good_of which m = same_kind (kind_of_term m.term) which && is_bounded_coefficient m.coeff
@@ -32,12 +30,6 @@ monomials_more facts i l h =
     ∙ ap (λ ts. length (terms_of_lits (take i facts)) + length ts) (none_more (terms_of_atom l.atom))
 
 -- ---- a test of each
-
-pub not_all : (p : Lit → Bool) (ls : List Lit) (i : ℕ) (l : Lit) → slice_get ls i ≡ Some l → p l ≡ false → false ≡ list_all p ls
-not_all p ls i l h e = elim (cases_Bool (list_all p ls)) [
-  | inl k ↦ absurd (true≢false (sym (all_at p ls i l k h) ∙ e))
-  | inr n ↦ sym n
-]
 
 pub all_more : (p : Lit → Bool) (ls : List Lit) (i : ℕ) (l : Lit) → slice_get ls i ≡ Some l → list_all p (take i ls) ≡ true → p l ≡ true → list_all p (take (i + 1) ls) ≡ true
 all_more p ls i l h k e =

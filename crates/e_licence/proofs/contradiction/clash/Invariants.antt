@@ -4,5 +4,5 @@ use Rattle.e_clause.specs.Clash.{clashes_at}
 use Rattle.e_licence.proofs.contradiction.clash.Given as goal
 
 -- none of the facts so far clashes
-abbrev pub invariant-loop-i : goal.invariant-loop-i
-invariant-loop-i l = list_any (clashes_at l.facts) (take l.i l.facts) ≡ false
+abbrev pub invariant-loop-fact : goal.invariant-loop-fact
+invariant-loop-fact l = list_any (clashes_at l.facts) (take l.fact-index l.facts) ≡ false

@@ -4,5 +4,5 @@ use Rattle.e_literal.specs.Same.{canonical}
 use Rattle.e_clause.specs.Assignment.{terms_of_lits}
 use Rattle.e_metric.proofs.assigning.terms_of_facts.Given as goal
 
-abbrev pub invariant-loop-i : goal.invariant-loop-i
-invariant-loop-i l = l.terms.items ≡ map canonical (Right ∷ terms_of_lits (take l.i l.facts))
+abbrev pub invariant-loop-fact : goal.invariant-loop-fact
+invariant-loop-fact l = l.terms.items ≡ map canonical (Right ∷ terms_of_lits (take l.fact-index l.facts))

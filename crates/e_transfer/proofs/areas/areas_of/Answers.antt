@@ -1,7 +1,16 @@
-use Rattle.std.proofs.Common.{[]}
-use Rattle.e_transfer.proofs.FreeAreas.{also_next_fact}
+use Rattle.std.proofs.Common.{[], length, ap, arith}
+use Rattle.e_facts.proofs.Items.{fact_at}
+use Rattle.e_transfer.proofs.FreeAreas.{also_next_fact, all_facts_listed}
 use Rattle.e_transfer.proofs.areas.areas_of.Goals as goal
 
-pub loop-i-preserved : goal.loop-i-preserved
-loop-i-preserved c =
-    also_next_fact c.args.facts.now c.loop-i.i c.get.result.now [] c.loop-i.areas.items c.add_areas.new.areas.items c.get.ensures c.loop-i.invariant c.in_ok-add_areas.ensures
+pub loop-fact-preserved : goal.loop-fact-preserved
+loop-fact-preserved c =
+    let facts = c.args.facts.now in
+    let i = c.loop-fact.fact-index in
+    let fact = c.fact-item.result in
+    also_next_fact facts i fact [] c.loop-fact.areas.items c.add_areas.new.areas.items
+    (fact_at c.items-fact-items.result.now facts i fact c.items-fact-items.ensures c.loop-fact-test.true c.fact-item.is) c.loop-fact.invariant c.in_ok-add_areas.ensures
+
+pub returns : goal.returns
+returns c =
+    all_facts_listed c.args.facts.now c.loop-fact.fact-index c.loop-fact.areas.items (omega (arith, c.loop-fact-test.false, ap length c.items-fact-items.ensures)) c.loop-fact.invariant

@@ -1,15 +1,20 @@
-use Rattle.std.proofs.Common.{refl, true, set, arith, length-set, ◌∙◌}
+use Rattle.std.proofs.Common.{refl, true, set, length, arith, length-set, ap, ◌∙◌}
+use Rattle.e_facts.proofs.Items.{fact_at}
 use Rattle.e_transfer.proofs.MarkedFacts.{one_more_marked, all_marked}
 use Rattle.e_transfer.proofs.marks.marks_of.Goals as goal
 
-pub loop-i-preserved : goal.loop-i-preserved
-loop-i-preserved c =
-    let marks = c.loop-i.marks in
+pub loop-fact-preserved : goal.loop-fact-preserved
+loop-fact-preserved c =
+    let facts = c.args.facts.now in
+    let i = c.loop-fact.fact-index in
+    let fact = c.fact-item.result in
+    let marks = c.loop-fact.marks in
     record {
-      long = length-set marks c.mark_of.result true ∙ c.loop-i.invariant.long;
-      all = one_more_marked c.args.facts.now marks (set marks c.mark_of.result true) c.loop-i.i c.mark_of.result c.get.result.now
-          (let e = c.loop-i.invariant.long in let b = c.mark_of.ensures.below in omega (arith, e, b)) refl c.mark_of.ensures.is c.get.ensures c.loop-i.invariant.all;
+      long = length-set marks c.mark_of.result true ∙ c.loop-fact.invariant.long;
+      all = one_more_marked facts marks (set marks c.mark_of.result true) i c.mark_of.result fact
+          (let e = c.loop-fact.invariant.long in let b = c.mark_of.ensures.below in omega (arith, e, b)) refl c.mark_of.ensures.is
+          (fact_at c.items-fact-items.result.now facts i fact c.items-fact-items.ensures c.loop-fact-test.true c.fact-item.is) c.loop-fact.invariant.all;
     }
 
 pub returns : goal.returns
-returns c = all_marked c.args.facts.now c.loop-i.marks c.loop-i.i (omega arith) c.loop-i.invariant.all
+returns c = all_marked c.args.facts.now c.loop-fact.marks c.loop-fact.fact-index (omega (arith, c.loop-fact-test.false, ap length c.items-fact-items.ensures)) c.loop-fact.invariant.all
