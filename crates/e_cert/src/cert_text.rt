@@ -6,7 +6,7 @@ ghost use Rattle.e_cert.specs.CertLines.{row_words, cert_line_words, cert_line_t
 
 use crate::cert_line::{CertLine, RawRow};
 use e_line::{RawTerm, put_literal, put_term};
-use e_words::{put, put_names, put_number};
+use e_text::{put, put_names, put_number};
 use std::alloc::AllocError;
 
 /// A row that is said of a term.

@@ -8,7 +8,7 @@ use e_figure::{Figure, holds, refutes};
 use e_line::put_literal;
 use e_literal::Lit;
 use e_names::raw_of;
-use e_words::{end_line, put_number};
+use e_text::{end_line, put_number};
 use std::alloc::{AllocError, Global};
 use std::mem;
 

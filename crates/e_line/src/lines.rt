@@ -13,8 +13,7 @@ use crate::raw_line::RawLine;
 use crate::superposes::superposition_pieces;
 use crate::words::sort_word;
 use e_construct::{Piece, Shape, pieces};
-use e_text::Name;
-use e_words::{put, put_names};
+use e_text::{Name, put, put_names};
 use std::alloc::AllocError;
 
 /// A citation after its first word.
@@ -194,7 +193,7 @@ pub fn put_apply(
 }
 
 /// A superposition after its first word.
-#[tactic(auto, using(e_words::proofs::Spaced::spaced_append))]
+#[tactic(auto, using(e_text::proofs::Spaced::spaced_append))]
 fn put_superposition(
     out: &mut Vec<u8>,
     new: &[Name],

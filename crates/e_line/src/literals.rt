@@ -5,8 +5,7 @@ ghost use Rattle.e_line.specs.Canonical.{term_words, mono_words, more_monos, sum
 
 use crate::literal::{RawAtom, RawLit};
 use crate::sum::{RawMono, RawTerm};
-use e_text::Name;
-use e_words::{put, put_coefficient, put_four, put_three};
+use e_text::{Name, put, put_coefficient, put_four, put_three};
 use std::alloc::AllocError;
 
 /// Writes a term, each word after a space. It fails only out of memory.
@@ -21,7 +20,7 @@ pub fn put_term(out: &mut Vec<u8>, term: &RawTerm) -> Result<(), AllocError>
     }
 }
 
-#[tactic(auto, using(e_words::proofs::Spaced::spaced_append))]
+#[tactic(auto, using(e_text::proofs::Spaced::spaced_append))]
 fn put_mono(out: &mut Vec<u8>, mono: &RawMono) -> Result<(), AllocError>
     ensures { OnOk result (out.new.items ≡ out.old.items ++ spaced (mono_words mono.now)) }
 {
@@ -30,7 +29,7 @@ fn put_mono(out: &mut Vec<u8>, mono: &RawMono) -> Result<(), AllocError>
 }
 
 /// More monomials, each after a plus.
-#[tactic(auto, using(e_words::proofs::Spaced::spaced_append))]
+#[tactic(auto, using(e_text::proofs::Spaced::spaced_append))]
 fn put_more(out: &mut Vec<u8>, monos: &[RawMono]) -> Result<(), AllocError>
     ensures { OnOk result (out.new.items ≡ out.old.items ++ spaced (more_monos monos.now)) }
 {
@@ -42,7 +41,7 @@ fn put_more(out: &mut Vec<u8>, monos: &[RawMono]) -> Result<(), AllocError>
 }
 
 /// Monomials with a plus between two, and 0 for none.
-#[tactic(auto, using(e_words::proofs::Spaced::spaced_append))]
+#[tactic(auto, using(e_text::proofs::Spaced::spaced_append))]
 fn put_sum(out: &mut Vec<u8>, sum: &[RawMono]) -> Result<(), AllocError>
     ensures { OnOk result (out.new.items ≡ out.old.items ++ spaced (sum_words sum.now)) }
 {

@@ -23,8 +23,7 @@ use e_deriv::Names;
 use e_line::{FaultKind, LineError, RawLine, collected, exact_line_of};
 use e_literal::Items;
 use e_names::Theorems;
-use e_text::{Line, LineEnd, is};
-use e_words::put_number;
+use e_text::{Line, LineEnd, is, put_number};
 use std::alloc::{AllocError, Global};
 use std::mem;
 

@@ -17,9 +17,8 @@ use e_literal::{Items, Obj};
 use e_names::{Theorems, name_of_object};
 use e_prove::Place;
 use e_suggest::{Suggested, all};
-use e_text::{Name, Title};
+use e_text::{Name, Title, end_line};
 use e_theorem::Statement;
-use e_words::end_line;
 use std::alloc::{AllocError, Global};
 use std::mem;
 

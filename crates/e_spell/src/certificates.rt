@@ -12,7 +12,7 @@ use crate::rules::put_rule;
 use e_clause::{Against, Cert, MetricCert, Part, RowName, Rule, Sums, TransferCert};
 use e_deriv::Names;
 use e_literal::{Lit, Obj, Term};
-use e_words::{end_line, put, put_line, put_number};
+use e_text::{end_line, put, put_line, put_number};
 use std::alloc::{AllocError, Global};
 
 /// A row that is said of a term.

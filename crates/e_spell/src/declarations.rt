@@ -9,7 +9,7 @@ use crate::literals::name_of;
 use e_deriv::Names;
 use e_line::sort_word;
 use e_literal::{Sort, is_same_sort};
-use e_words::{end_line, put};
+use e_text::{end_line, put};
 use std::alloc::AllocError;
 
 /// What a line says of its objects.

@@ -8,9 +8,8 @@ ghost use Rattle.e_spell.specs.inner.Parts.{title_text, statement_text, head_tex
 use crate::declarations::{Counts, Role, put_objects_of};
 use crate::literals::put_literal_lines;
 use e_deriv::Names;
-use e_text::Title;
+use e_text::{Title, end_line, put, put_line};
 use e_theorem::Statement;
-use e_words::{end_line, put, put_line};
 use std::alloc::{AllocError, Global};
 
 fn put_title(out: &mut Vec<u8>, title: Title) -> Result<(), AllocError>

@@ -14,8 +14,7 @@ use e_deriv::Names;
 use e_line::put_said;
 use e_literal::{Items, Lit, Obj, Sort, Term};
 use e_names::{name_at, name_of_object, raw_of, raw_term};
-use e_text::Name;
-use e_words::{end_line, put};
+use e_text::{Name, end_line, put};
 use std::alloc::{AllocError, Global};
 use std::mem;
 

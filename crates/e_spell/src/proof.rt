@@ -17,8 +17,7 @@ use e_construct::{Construction, Superpose};
 use e_deriv::{Block, Close, Names, Step};
 use e_literal::{Lit, Obj};
 use e_names::Theorems;
-use e_text::Name;
-use e_words::put_line;
+use e_text::{Name, put_line};
 use std::alloc::{AllocError, Global};
 use std::mem;
 

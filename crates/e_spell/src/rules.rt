@@ -3,7 +3,7 @@ ghost use Rattle.std.specs.Prelude.{◌≡◌, ◌++◌, ◌∷◌, OnOk};
 ghost use Rattle.e_names.specs.Canonical.{rule_name};
 
 use e_clause::Rule;
-use e_words::put;
+use e_text::put;
 use std::alloc::AllocError;
 
 /// The name of a rule in the table.

@@ -14,8 +14,7 @@ use e_deriv::Names;
 use e_line::{put_apply, put_by, put_let, put_named, put_stated, put_superpose};
 use e_literal::{Lit, Obj};
 use e_names::{Theorems, raw_lits, raw_of};
-use e_text::Name;
-use e_words::end_line;
+use e_text::{Name, end_line};
 use std::alloc::{AllocError, Global};
 use std::{mem, slice};
 

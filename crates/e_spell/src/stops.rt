@@ -6,8 +6,7 @@ ghost use Rattle.e_spell.specs.Spelling.{unlicensed_text, too_wide_text, stop_te
 use crate::literals::{put_literal, put_term};
 use e_deriv::{Names, Stop, Wanted};
 use e_literal::{Term, Values};
-use e_text::Title;
-use e_words::{end_line, put, put_number};
+use e_text::{Title, end_line, put, put_number};
 use std::alloc::{AllocError, Global};
 
 /// What happened at a line of a theorem.
@@ -39,7 +38,7 @@ fn put_wanted(
 }
 
 /// A term and its value.
-#[tactic(auto, using(e_words::proofs::Spaced::spaced_append))]
+#[tactic(auto, using(e_text::proofs::Spaced::spaced_append))]
 fn put_value(out: &mut Vec<u8>, names: &Names, term: Term, value: u128) -> Result<(), AllocError>
     ensures { OnOk result (out.new.items ≡ out.old.items ++ value_line names.now (term, value)) }
 {

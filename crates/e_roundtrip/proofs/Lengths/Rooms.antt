@@ -10,7 +10,7 @@ use Rattle.e_text.specs.Names.{is_letter, is_digit, is_name_byte, is_title_byte,
 use Rattle.e_text.specs.Numerals.{is_numeral}
 use Rattle.e_text.specs.Tokens.{spaced, joined}
 use Rattle.e_text.proofs.NumeralWords.{is_numeral-decimal}
-use Rattle.e_words.proofs.Spaced.{spaced_append}
+use Rattle.e_text.proofs.Spaced.{spaced_append}
 
 -- ---- words
 

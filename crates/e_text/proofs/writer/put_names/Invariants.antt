@@ -1,6 +1,6 @@
 use Rattle.std.proofs.Common.{◌≡◌, ◌≤◌, ◌++◌, drop, length, take}
 use Rattle.e_text.specs.Tokens.{spaced}
-use Rattle.e_words.proofs.put_names.Given as goal
+use Rattle.e_text.proofs.writer.put_names.Given as goal
 
 abbrev pub invariant-loop-name : goal.invariant-loop-name
 invariant-loop-name l =

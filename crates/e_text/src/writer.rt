@@ -1,11 +1,9 @@
 //! Words written after spaces, and the ends of lines. Each of these functions adds bytes to what is
 //! written. It fails only when out of memory, and then what was written before is as it was.
-#![tactic(auto)]
-
 ghost use Rattle.std.specs.Prelude.{◌≡◌, ◌≤◌, ◌++◌, ◌∷◌, [], ◌==◌, if◌then◌else◌, decimal, length, take, OnOk, OnErr};
 ghost use Rattle.e_text.specs.Tokens.{spaced};
 
-use e_text::Name;
+use crate::name::Name;
 use itoa::{Buffer, Integer};
 use std::alloc::AllocError;
 
