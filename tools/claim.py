@@ -145,7 +145,8 @@ def clauses_of_run(top):
     for line in text.split("\n"):
         uses.update(names_of_use(line)[0])
     contract = text[text.index("pub fn run<") :]
-    clauses = re.findall(r"^    (?:ensures|requires) (\w+ )?\{(.*)\}$", contract[: contract.index("\n{\n")], re.M)
+    contract = contract[: contract.index("\n{\n")]
+    clauses = re.findall(r"^    (?:ensures|requires) (\w+ )?\{(.*?)\}$(?=\n    \S|\Z)", contract, re.M | re.S)
     return [(name.strip(), clause) for name, clause in clauses], uses
 
 

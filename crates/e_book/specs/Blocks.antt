@@ -6,7 +6,8 @@ use Rattle.e_book.specs.declared.blocks.OpenBlock.{OpenBlock}
 use Rattle.e_book.specs.declared.blocks.BlockKind.{BlockKind}
 use Rattle.e_book.specs.declared.blocks.BlockKind.TheVariants as kind
 
--- a claim and a superposition have goals of their own, without made objects; a block of a split has that of the block it closes
+-- a claim and a superposition have goals of their own, without made objects; a block of a split has
+-- that of the block it closes
 abbrev pub is_claim : BlockKind → Bool
 is_claim (kind.Claim shown) = true
 is_claim (kind.Superpose form names shown) = true

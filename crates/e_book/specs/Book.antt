@@ -35,7 +35,8 @@ abbrev pub at_end : ℕ → Option TheoremParser → Result (Option (TheoremView
 at_end last None = Ok None
 at_end last (Some d) = Err (faults.Unended last)
 
--- the next theorem and the lines after it, or the first fault; last is the number after the last line
+-- the next theorem and the lines after it, or the first fault; last is the number after the last
+-- line
 abbrev pub read_from : List TitledStatement → ℕ → Option TheoremParser → List (Result LineView LineFault) → Result (Option (TheoremView × List (Result LineView LineFault))) BookFault
 read_from known last parser [] = at_end last parser
 read_from known last parser (Err f ∷ lines) = Err (line_fault f)

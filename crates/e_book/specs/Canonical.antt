@@ -64,8 +64,9 @@ shown_forms ns t = map made_form (grouped ns (made_objects t)) ++ map (show_form
 abbrev pub head_forms : TheoremView → List RawLine
 head_forms t = rawlines.Theorem t.title ∷ (given_forms t.names t.statement ++ (shown_forms t.names t.statement ++ rawlines.Proof ∷ []))
 
--- the forms of a script's lines, where these names are in scope before the first: those of new objects come into scope
--- after the line that makes them, and those of an inner block are gone after it
+-- the forms of a script's lines, where these names are in scope before the first: those of new
+-- objects come into scope after the line that makes them, and those of an inner block are gone
+-- after it
 unfoldable pub script_forms : List TitledStatement → Names → Script → List RawLine
 script_forms known ns (Cite by rest) = by_form ns by ∷ script_forms known ns rest
 script_forms known ns (Hence lit cert rest) = hence_form ns lit ∷ script_forms known ns rest

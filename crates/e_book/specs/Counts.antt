@@ -32,7 +32,8 @@ names_after known ns (Made form names certs) = named ns (sorts_made form) names
 names_after known ns (Applied theorem args names certs) = named ns (theorem_of known theorem).made names
 names_after known ns step = ns
 
--- what a step makes facts. A theorem that is applied gives as many literals as it shows, with as many monomials
+-- what a step makes facts. A theorem that is applied gives as many literals as it shows, with as
+-- many monomials
 abbrev pub given_by : List TitledStatement → Scope → PlainStep → List Lit
 given_by known s (Cited by) = by.lit ∷ []
 given_by known s (Inferred lit cert) = lit ∷ []

@@ -41,8 +41,8 @@ pub data BookItem : Type 0 where
   OfTheorem : (theorem : TheoremView) → BookItem
   OfNotion : (notion : Titled) → BookItem
 
--- What has been said of a theorem or of a definition whose lines come, and how many literals its items stand for. A definition says what it
--- means as a statement says what it shows.
+-- What has been said of a theorem or of a definition whose lines come, and how many literals its
+-- items stand for. A definition says what it means as a statement says what it shows.
 pub data Coming : Type 0 where
   InTheorem : (so_far : Open) (expanded : ℕ) → Coming
   InDefinition : (head : Head) (expanded : ℕ) → Coming
@@ -89,8 +89,8 @@ plain_line known (Defined t) f = Err Malformed
 
 -- ---- a line with items: the literals that they stand for are written out in their place
 
--- The line may come there, and then the names are looked up from left to right: the line with the literals, with the names of their
--- objects, and how many of them are of notions.
+-- The line may come there, and then the names are looked up from left to right: the line with the
+-- literals, with the names of their objects, and how many of them are of notions.
 abbrev pub written_out : Known → Open → Listing → List RawItem → Result (RawLine × ℕ) FaultKind
 written_out known o line is =
     let ns : Names = (context_at known.theorems o).names in
@@ -139,7 +139,8 @@ abbrev pub at_end : ℕ → Option Coming → Answer
 at_end last None = Ok None
 at_end last (Some c) = Err (faults.Unended last)
 
--- the next theorem or definition and the lines after it, or the first fault; last is the number after the last line
+-- the next theorem or definition and the lines after it, or the first fault; last is the number
+-- after the last line
 abbrev pub item_from : Known → ℕ → Option Coming → Rest → Answer
 item_from known last c [] = at_end last c
 item_from known last c (Err f ∷ lines) = Err (line_fault f)
@@ -159,8 +160,8 @@ BookReads (Ok (Some i)) new read = read ≡ Ok (Some (view_of i, new.lines))
 BookReads (Ok None) new read = read ≡ Ok None
 BookReads (Err f) new read = BookFails f read
 
--- A theorem that is read has a spelling, and a title that no definition has. A definition that is read has a title that nothing has, means
--- something, and speaks of its declared objects alone.
+-- A theorem that is read has a spelling, and a title that no definition has. A definition that is
+-- read has a title that nothing has, means something, and speaks of its declared objects alone.
 abbrev pub IsWellFormedItem : Known → BookItem → Type 0
 IsWellFormedItem known (OfTheorem t) = HasSpelling known.theorems t × (defines known.notions t.title ≡ false)
 IsWellFormedItem known (OfNotion n) = (is_taken known n.title ≡ false) × IsTrue (is_notion n.notion)

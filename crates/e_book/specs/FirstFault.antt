@@ -34,6 +34,7 @@ pub record BreaksAt (known : Known) (o : Option Coming) (lines : Rest) (fault : 
   pub taken : Leaves known o front left
   pub faulty : IsFaulty known left line fault
 
--- a fault is the first: all lines before it are taken, or all lines are, and they end inside a theorem or a definition
+-- a fault is the first: all lines before it are taken, or all lines are, and they end inside a
+-- theorem or a definition
 abbrev pub IsFirst : Known → ℕ → Option Coming → Rest → BookFault → Type 0
 IsFirst known last o lines fault = BreaksAt known o lines fault ⊎ ((n : Coming) × Leaves known o lines (Some n) × (faults.Unended last ≡ fault))

@@ -1,4 +1,5 @@
--- What a theorem that is read is known to be: its objects are in scope, its names are theirs, it is within the limits.
+-- What a theorem that is read is known to be: its objects are in scope, its names are theirs, it is
+-- within the limits.
 use Rattle.std.specs.Prelude.{◌≡◌, ℕ, ◌+◌, ◌≤◌, List, [], length, nat_le, Bool, true, false, ◌&&◌, IsTrue, Ok}
 use Rattle.std.specs.List.{list_all}
 use Rattle.e_literal.specs.declared.object.Scope.{Scope}
@@ -23,8 +24,9 @@ use Rattle.e_book.specs.LineLimits.{few_objects}
 use Rattle.e_book.specs.TheoremViews.{TheoremView}
 use Rattle.e_names.specs.Fits.{NamesDiffer, is_diagram_lit}
 
--- at each construction, use of an earlier theorem and superposition none of the new names is in scope and no two are equal, there
--- is one for each new object, and with them not too many objects are in scope
+-- at each construction, use of an earlier theorem and superposition none of the new names is in
+-- scope and no two are equal, there is one for each new object, and with them not too many objects
+-- are in scope
 unfoldable pub NewNamesFit : List StatementView → Names → Script → Type 0
 NewNamesFit before ns (Cite by rest) = NewNamesFit before ns rest
 NewNamesFit before ns (Hence lit cert rest) = NewNamesFit before ns rest
@@ -46,7 +48,8 @@ NewNamesFit before ns (Qed objects certs) = Unit {0}
 NewNamesFit before ns (Contradiction against) = Unit {0}
 NewNamesFit before ns (Cases lit first second) = NewNamesFit before ns first × NewNamesFit before ns second
 
--- this many literals are facts before the script, repeats counted, and nowhere in it more than the limit
+-- this many literals are facts before the script, repeats counted, and nowhere in it more than the
+-- limit
 unfoldable pub few_facts : List StatementView → ℕ → Scope → Script → Bool
 few_facts before n s (Cite by rest) = nat_le (n + 1) most_facts && few_facts before (n + 1) s rest
 few_facts before n s (Hence lit cert rest) = nat_le (n + 1) most_facts && few_facts before (n + 1) s rest
@@ -119,15 +122,16 @@ pub record Fits (known : List TitledStatement) (t : TheoremView) : Type 0 where
   pub points : length t.names.points ≤ most_of Point
   pub lines : length t.names.lines ≤ most_of Line
   pub circles : length t.names.circles ≤ most_of Circle
-  -- the given literals are over the declared objects, and the shown ones over these and the made ones
+  -- the given literals are over the declared objects, and the shown ones over these and the made
+  -- ones
   pub given : IsTrue (list_all (all_in_scope (scope_of (stated t.statement))) t.statement.given)
   pub shown : IsTrue (list_all (all_in_scope (scope_of_names t.names)) t.statement.shown)
   -- sums have terms of one kind, not too many, with coefficients that are not too large
   pub good_given : IsTrue (list_all is_well_formed t.statement.given)
   pub good_shown : IsTrue (list_all is_well_formed t.statement.shown)
   pub good_script : IsTrue (has_good_literals t.script)
-  -- each line of the script has objects of the right sorts, all in scope where it stands, whatever its blanks are filled with; each
-  -- theorem that it uses is an earlier one
+  -- each line of the script has objects of the right sorts, all in scope where it stands, whatever
+  -- its blanks are filled with; each theorem that it uses is an earlier one
   pub script : IsTrue (list_all (λ x. form_fits (stated_by known) x x.here) (proof_lines (stated_by known) (stated t.statement) t.script t.script))
   pub new_names : NewNamesFit (stated_by known) (declared_names (stated t.statement) t.names) t.script
   pub steps : size t.script ≤ most_steps

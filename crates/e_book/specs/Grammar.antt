@@ -1,4 +1,5 @@
--- The grammar of theorems: each line has a form, then its names are looked up, and then the limits are asked.
+-- The grammar of theorems: each line has a form, then its names are looked up, and then the limits
+-- are asked.
 use Rattle.std.specs.Prelude.{◌≡◌, ◌==◌, ℕ, ◌+◌, List, [], ◌∷◌, ◌++◌, length, replicate, nat_le, Bool, true, false, ◌&&◌, Option, Some, None, Result, Ok, Err, if◌then◌else◌}
 use Rattle.e_literal.specs.declared.object.Sort.{Sort}
 use Rattle.e_theorem.specs.declared.statement.Statement.{Statement}
@@ -137,7 +138,8 @@ abbrev pub no_more : ℕ → Option Open → Result (Option (TheoremView × Rest
 no_more last None = Ok None
 no_more last (Some o) = Err (faults.Unended last)
 
--- the next theorem and the lines after it, or the first fault; last is the number after the last line
+-- the next theorem and the lines after it, or the first fault; last is the number after the last
+-- line
 abbrev pub read_from : List TitledStatement → ℕ → Option Open → Rest → Result (Option (TheoremView × Rest)) BookFault
 read_from known last o [] = no_more last o
 read_from known last o (Err f ∷ lines) = Err (line_fault f)

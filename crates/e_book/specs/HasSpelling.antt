@@ -42,8 +42,8 @@ names_theorems known (Contradiction against) = true
 names_theorems known (Cases lit first second) = names_theorems known first && names_theorems known second
 
 pub record HasSpelling (known : List TitledStatement) (t : TheoremView) : Type 0 where
-  -- objects in scope, names that differ, fitting arguments at each citation and construction, names of new objects that are
-  -- free, and the limits of a theorem
+  -- objects in scope, names that differ, fitting arguments at each citation and construction, names
+  -- of new objects that are free, and the limits of a theorem
   pub fits : Fits known t
   pub few_theorems : length known < most_theorems
   pub title : is_title t.title ≡ true

@@ -27,7 +27,8 @@ Shows [] (text ∷ texts) rest = ⊥
 Shows (Err f ∷ lines) (text ∷ texts) rest = ⊥
 Shows (Ok l ∷ lines) (text ∷ texts) rest = (l.bytes ≡ text) × Shows lines texts rest
 
--- a theorem that has a spelling, and no definition's title, is read from its canonical lines, and the lines after them are left
+-- a theorem that has a spelling, and no definition's title, is read from its canonical lines, and
+-- the lines after them are left
 abbrev pub CanonicalLinesAreRead : Type 0
 CanonicalLinesAreRead =
     (known : Known) (last : ℕ) (t : TheoremView) (lines rest : List (Result LineView LineFault)) → IsTrue (are_notions known.notions) → HasSpelling known.theorems t → defines known.notions t.title ≡ false
@@ -39,20 +40,22 @@ ReadTheoremsHaveASpelling =
     (known : Known) (last : ℕ) (t : TheoremView) (lines rest : List (Result LineView LineFault)) → IsTrue (are_notions known.notions)
     → item_from known last None lines ≡ Ok (Some (OfTheorem t, rest)) → HasSpelling known.theorems t
 
--- a definition that is read has a title that nothing has, means something, and speaks of its declared objects alone
+-- a definition that is read has a title that nothing has, means something, and speaks of its
+-- declared objects alone
 abbrev pub ReadDefinitionsAreNotions : Type 0
 ReadDefinitionsAreNotions =
     (known : Known) (last : ℕ) (n : Titled) (lines rest : List (Result LineView LineFault)) → IsTrue (are_notions known.notions)
     → item_from known last None lines ≡ Ok (Some (OfNotion n, rest)) → IsWellFormedItem known (OfNotion n)
 
--- Literals that are written out, with the names of their objects, are read as they were: so an item stands for the literals of its notion,
--- with its objects for the declared ones.
+-- Literals that are written out, with the names of their objects, are read as they were: so an item
+-- stands for the literals of its notion, with its objects for the declared ones.
 abbrev pub LiteralsAreReadAsNamed : Type 0
 LiteralsAreReadAsNamed =
     (ns : Names) (l : Lit) → AreNames ns.points → AreNames ns.lines → AreNames ns.circles → NamesDiffer ns → IsTrue (all_in_scope (scope_of_names ns) l) → IsTrue (is_well_formed l)
     → lit_in ns (raw_of ns l) ≡ Ok l
 
--- a fault is the first: all lines before it are taken, or all lines are, and they end inside a theorem or a definition
+-- a fault is the first: all lines before it are taken, or all lines are, and they end inside a
+-- theorem or a definition
 abbrev pub FaultIsFirst : Type 0
 FaultIsFirst = (known : Known) (last : ℕ) (lines : List (Result LineView LineFault)) (fault : BookFault) → item_from known last None lines ≡ Err fault
     → IsFirst known last None lines fault

@@ -27,8 +27,8 @@ pub record Enclosing : Type 0 where
   pub steps : List PlainStep
   pub opener : Opener
 
--- before the proof; in a block, with those around it, the innermost first; after the first block of a split; after the proof;
--- after the last line
+-- before the proof; in a block, with those around it, the innermost first; after the first block of
+-- a split; after the proof; after the last line
 pub data Open : Type 0 where
   Stating : (head : Head) → Open
   Proving : (head : Head) (around : List Enclosing) (steps : List PlainStep) → Open
@@ -48,7 +48,8 @@ abbrev pub made_inside : List Enclosing → List Sort → List Sort
 made_inside [] made = made
 made_inside (a ∷ around) made = if has_goal a.opener then [] else made_inside around made
 
--- what closing a block inside another leaves; the second block of a split closes the block around it too
+-- what closing a block inside another leaves; the second block of a split closes the block around
+-- it too
 abbrev pub after_inner_close : Head → List Enclosing → List PlainStep → Script → (Script → Open) → Opener → Open
 after_inner_close h around steps inner again (ByClaim shown) = Proving h around (steps ++ Claimed shown inner ∷ [])
 after_inner_close h around steps inner again (BySuperposition form names shown) = Proving h around (steps ++ Copied form names shown [] inner ∷ [])

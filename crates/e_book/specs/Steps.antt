@@ -95,7 +95,8 @@ with_terms d raws = do
   n ← terms_after_raw d.terms raws
   Ok (record d { terms = n })
 
--- a construction: its names, then the limits of objects, of steps and of facts. Its new objects are in scope after it.
+-- a construction: its names, then the limits of objects, of steps and of facts. Its new objects are
+-- in scope after it.
 unfoldable pub built : TheoremParser → RawLet → Result TheoremParser FaultKind
 built d raw = do
   form ← let_in d.in_scope raw
@@ -103,8 +104,8 @@ built d raw = do
   few ← few_objects after
   with_step (record d { in_scope = after }) (Made form raw.new []) (length (gives_of_construction form (scope_of_names d.in_scope)))
 
--- a theorem is used within the limits of objects, of steps, of facts, of monomials and of blanks. What it shows are facts, and its
--- made objects are in scope after the line.
+-- a theorem is used within the limits of objects, of steps, of facts, of monomials and of blanks.
+-- What it shows are facts, and its made objects are in scope after the line.
 unfoldable pub used_by : TheoremParser → StatementView → ℕ → List (Option Obj) → List (List ℕ) → Result TheoremParser FaultKind
 used_by d t theorem args new = do
   let after = named d.in_scope t.made new
@@ -193,8 +194,9 @@ resumed d o os shown s = do
   e ← counted_from d o.facts o.terms shown
   Ok (record e { steps = o.steps ++ s ∷ []; in_scope = o.in_scope; blocks = os })
 
--- A block inside another is closed. A claim or a superposition is a step of the block around it. After the first block of a
--- split comes `else`. After the second one the split closes the block around it.
+-- A block inside another is closed. A claim or a superposition is a step of the block around it.
+-- After the first block of a split comes `else`. After the second one the split closes the block
+-- around it.
 abbrev pub closed_inside : TheoremParser → OpenBlock → List OpenBlock → Script → (CloseLine → Result TheoremParser FaultKind) → BlockKind → Result TheoremParser FaultKind
 closed_inside d o os inner close (kind.Claim shown) = resumed d o os shown (Claimed shown inner)
 closed_inside d o os inner close (kind.Superpose form names shown) = resumed d o os shown (Copied form names shown [] inner)
@@ -216,7 +218,8 @@ abbrev pub second_begun : TheoremParser → Saved → Lit → Script → Theorem
 second_begun d around lit first =
     record d { in_scope = around.in_scope; facts = around.facts + 1; terms = around.terms + monomials lit.atom; blocks = outer_with around (kind.Second lit first) ∷ d.blocks; place = Splitting }
 
--- what closing the open block inside another one leaves: the parser, or the close of that other block
+-- what closing the open block inside another one leaves: the parser, or the close of that other
+-- block
 abbrev pub ClosesInside : TheoremParser → OpenBlock → CloseLine → Result (Option CloseLine) LineError → TheoremParser → Type 0
 ClosesInside d o close (Ok None) new =
     (again : CloseLine → Result TheoremParser FaultKind) → closed_inside d o d.blocks (all_before d.steps (script_of_close close)) again o.kind ≡ Ok new

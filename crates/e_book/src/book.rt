@@ -1,5 +1,6 @@
 //! A book, theorem by theorem and definition by definition.
-ghost use Rattle.std.specs.Prelude.{◌≡◌, ◌<◌, ◌^◌, length, None, IfOk, OnOk, IfSome, OnSome, IsTrue};
+ghost use Rattle.std.specs.Prelude.{◌≡◌, ◌<◌, ◌^◌, length, None, IfOk};
+ghost use Rattle.std.specs.Prelude.{OnOk, IfSome, OnSome, IsTrue};
 ghost use Rattle.std.specs.List.{list_all};
 ghost use Rattle.e_deriv.specs.Fitting.{is_small_statement};
 ghost use Rattle.e_names.specs.TitledStatements.{stated_by};
@@ -27,9 +28,11 @@ fn read_with(
     requires begins { reading.old.coming ≡ None }
     requires notions { IsTrue (are_notions known.now.notions) }
     requires lines { last_line lines.old < 2 ^ 32 }
-    ensures read { BookReads result lines.new (machine.item_from known.now (last_line lines.old) None lines.old.lines) }
+    ensures read { BookReads result lines.new
+        (machine.item_from known.now (last_line lines.old) None lines.old.lines) }
     ensures last { OnOk result (last_line lines.new ≡ last_line lines.old) }
-    ensures shorter { IfOk result (λ t. OnSome t (length lines.new.lines < length lines.old.lines)) }
+    ensures shorter { IfOk result
+        (λ t. OnSome t (length lines.new.lines < length lines.old.lines)) }
 {
     match reading.read(alloc, lines, known)? {
         Some(item) => Ok(Some(item)),
@@ -44,9 +47,11 @@ fn read_with(
 fn read_item(alloc: Global, lines: &mut Lines, known: &Known) -> Result<Option<Item>, BookFault>
     requires lines { last_line lines.old < 2 ^ 32 }
     requires notions { IsTrue (are_notions known.now.notions) }
-    ensures read { BookReads result lines.new (machine.item_from known.now (last_line lines.old) None lines.old.lines) }
+    ensures read { BookReads result lines.new
+        (machine.item_from known.now (last_line lines.old) None lines.old.lines) }
     ensures last { OnOk result (last_line lines.new ≡ last_line lines.old) }
-    ensures shorter { IfOk result (λ t. OnSome t (length lines.new.lines < length lines.old.lines)) }
+    ensures shorter { IfOk result
+        (λ t. OnSome t (length lines.new.lines < length lines.old.lines)) }
 {
     let mut reading = Reading::new();
     let read = read_with(alloc, &mut reading, lines, known);
@@ -64,9 +69,11 @@ pub fn next_item(alloc: Global, lines: &mut Lines, known: &Known) -> Result<Opti
     requires lines { last_line lines.old < 2 ^ 32 }
     requires theorems { IsTrue (list_all is_small_statement (stated_by known.now.theorems)) }
     requires notions { IsTrue (are_notions known.now.notions) }
-    ensures read { BookReads result lines.new (item_from known.now (last_line lines.old) None lines.old.lines) }
+    ensures read { BookReads result lines.new
+        (item_from known.now (last_line lines.old) None lines.old.lines) }
     ensures last { OnOk result (last_line lines.new ≡ last_line lines.old) }
-    ensures shorter { IfOk result (λ t. OnSome t (length lines.new.lines < length lines.old.lines)) }
+    ensures shorter { IfOk result
+        (λ t. OnSome t (length lines.new.lines < length lines.old.lines)) }
     ensures good { IfOk result (λ o. IfSome o (HasWellFormedView known.now)) }
     ensures fitting { IfOk result (λ o. IfSome o (IsFittingItem known.now)) }
 {

@@ -7,7 +7,9 @@ ghost use Rattle.e_line.specs.Items.{listing_form, superpose_form, is_show};
 ghost use Rattle.e_names.specs.Scope.{right_count};
 ghost use Rattle.e_book.specs.Definitions.{has_notion_title, OfNotion, view_of};
 ghost use Rattle.e_book.specs.Steps.{allowed, FitsScope};
-ghost use Rattle.e_book.specs.inner.Machine.{FitsComing, is_ready, written, begins, begins_theorem, begins_definition, step, goes_on, defines_on, lists, item_of, notion_of_parser};
+ghost use Rattle.e_book.specs.inner.Machine.{FitsComing, is_ready, written, begins};
+ghost use Rattle.e_book.specs.inner.Machine.{begins_theorem, begins_definition, step, goes_on};
+ghost use Rattle.e_book.specs.inner.Machine.{defines_on, lists, item_of, notion_of_parser};
 
 use crate::item::Item;
 use crate::limits::MAX_NOTIONS;
@@ -176,7 +178,8 @@ impl Coming {
         requires { FitsScope self.old.parser }
         ensures value { Moves result self.new.parser (defines_on self.old.parser form.now) }
         ensures fits { OnOk result (FitsScope self.new.parser) }
-        ensures kept { (self.new.defines ≡ self.old.defines) × (self.new.expanded ≡ self.old.expanded) }
+        ensures kept { (self.new.defines ≡ self.old.defines)
+            × (self.new.expanded ≡ self.old.expanded) }
     {
         match form {
             RawLine::Declare(sort, names) => {
@@ -231,7 +234,8 @@ impl Coming {
     ) -> Result<Written, LineError>
         requires coming { FitsComing known.now self.now }
         requires notions { IsTrue (are_notions known.now.notions) }
-        ensures value { Gives (λ w. (w.form, w.count)) result (written known.now.notions self.now.parser line.now items.now) }
+        ensures value { Gives (λ w. (w.form, w.count)) result
+            (written known.now.notions self.now.parser line.now items.now) }
         ensures count { IfOk result (λ w. w.count ≤ most_expanded + 1) }
     {
         self.parser.ready(line)?;

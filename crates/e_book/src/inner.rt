@@ -56,7 +56,10 @@ impl TheoremParser {
     ghost use Rattle.e_deriv.specs.PlainStep.{plain_step, Claimed, Copied, all_before};
     ghost use Rattle.e_line.specs.Limits.{most_depth, most_terms};
     ghost use Rattle.e_book.specs.LineLimits.{few_objects};
-    ghost use Rattle.e_book.specs.Steps.{FitsScope, FitsOuter, HasRoom, ClosesInside, concluded, with_terms, room_inside, interrupted, begun_with, begun_terms, claimed, superposed, copies_begun, split, outer_with, resumed, second_begun, closed, shut};
+    ghost use Rattle.e_book.specs.Steps.{FitsScope, FitsOuter, HasRoom, ClosesInside, concluded};
+    ghost use Rattle.e_book.specs.Steps.{with_terms, room_inside, interrupted, begun_with};
+    ghost use Rattle.e_book.specs.Steps.{begun_terms, claimed, superposed, copies_begun, split};
+    ghost use Rattle.e_book.specs.Steps.{outer_with, resumed, second_begun, closed, shut};
     ghost use Rattle.e_book.specs.Blocks.{made_in};
     ghost use Rattle.e_book.specs.ParserViews.{script_of_close};
 
@@ -154,7 +157,8 @@ impl TheoremParser {
         requires after { FewNamed after }
         requires begun { begun_with kind ≡ 0 }
         requires terms { begun_terms kind ≡ 0 }
-        ensures value { Moves result self.new (copies_begun self.old kind after given.now shown.now) }
+        ensures value { Moves result self.new
+            (copies_begun self.old kind after given.now shown.now) }
         ensures fits { OnOk result (FitsScope self.new) }
     {
         if let Err(trouble) = self.room_inside(given.len()) {
@@ -252,7 +256,8 @@ impl TheoremParser {
     #[tactic(auto, unfolding(crate::specs::Steps::closed))]
     fn close_block(&mut self, alloc: Global, close: CloseLine) -> Result<(), LineError>
         requires { FitsScope self.old }
-        ensures value { Moves result self.new (closed self.old self.old.blocks self.old.steps close) }
+        ensures value { Moves result self.new
+            (closed self.old self.old.blocks self.old.steps close) }
         ensures fits { OnOk result (FitsScope self.new) }
     {
         let Some(outer) = self.blocks.pop() else {
@@ -351,7 +356,9 @@ impl TheoremParser {
     ) -> Result<(), LineError>
         requires parser { FitsScope self.old }
         requires outer { FitsOuter (outer_with around (BlockKind.Claim shown)) }
-        ensures value { Moves result self.new (resumed self.old (outer_with around (BlockKind.Claim shown)) self.old.blocks shown (Claimed shown inner)) }
+        ensures value { Moves result self.new
+            (resumed self.old (outer_with around (BlockKind.Claim shown)) self.old.blocks shown
+            (Claimed shown inner)) }
         ensures fits { OnOk result (FitsScope self.new) }
     {
         let facts = match facts_of(around.facts, shown.items()) {
@@ -392,7 +399,9 @@ impl TheoremParser {
     ) -> Result<(), LineError>
         requires parser { FitsScope self.old }
         requires outer { FitsOuter (outer_with around (BlockKind.Superpose form names shown)) }
-        ensures value { Moves result self.new (resumed self.old (outer_with around (BlockKind.Superpose form names shown)) self.old.blocks shown (Copied form names shown [] inner)) }
+        ensures value { Moves result self.new
+            (resumed self.old (outer_with around (BlockKind.Superpose form names shown))
+            self.old.blocks shown (Copied form names shown [] inner)) }
         ensures fits { OnOk result (FitsScope self.new) }
     {
         let facts = match facts_of(around.facts, shown.items()) {
@@ -436,7 +445,12 @@ impl TheoremParser {
         terms: usize,
         step: Step,
     ) -> Result<(), AllocError>
-        ensures { OnOk result (self.new ≡ record self.old { steps = around.steps ++ plain_step step ∷ []; in_scope = around.in_scope; facts = facts; terms = terms }) }
+        ensures { OnOk result (self.new ≡ record self.old {
+          steps = around.steps ++ plain_step step ∷ [];
+          in_scope = around.in_scope;
+          facts = facts;
+          terms = terms;
+        }) }
     {
         let Saved {
             steps,

@@ -1,5 +1,7 @@
 //! What holds of the grammar: each law is the contract of a function.
-ghost use Rattle.e_book.specs.Laws.{CanonicalLinesAreRead, ReadTheoremsHaveASpelling, ReadDefinitionsAreNotions, LiteralsAreReadAsNamed, FaultIsFirst, FaultIsOfTheFront};
+ghost use Rattle.e_book.specs.Laws.{CanonicalLinesAreRead, ReadTheoremsHaveASpelling};
+ghost use Rattle.e_book.specs.Laws.{ReadDefinitionsAreNotions, LiteralsAreReadAsNamed};
+ghost use Rattle.e_book.specs.Laws.{FaultIsFirst, FaultIsOfTheFront};
 
 /// A theorem that has a spelling, and no definition's title, is read from its canonical lines, and
 /// the lines after them are left.

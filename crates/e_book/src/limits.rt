@@ -93,7 +93,8 @@ pub(crate) fn terms_with(before: usize, lits: &[RawLit]) -> Result<usize, LineEr
 /// So many facts and these, or the limit of all.
 pub(crate) fn facts_of(before: usize, lits: &[Lit]) -> Result<usize, LineError>
     requires { before ≤ most_facts }
-    ensures value { Gives (λ n. tt) result (within (before + length lits.now) most_facts limits.Facts) }
+    ensures value { Gives (λ n. tt) result
+        (within (before + length lits.now) most_facts limits.Facts) }
     ensures sum { IfOk result (λ n. n ≡ before + length lits.now) }
 {
     if lits.len() > MAX_FACTS - before {

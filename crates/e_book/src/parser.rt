@@ -1,5 +1,6 @@
 //! A theorem while its lines come.
-ghost use Rattle.std.specs.Prelude.{◌≡◌, ◌≤◌, ◌<◌, ◌+◌, ◌^◌, ◌++◌, length, replicate, IfOk, OnOk, Ok, Err};
+ghost use Rattle.std.specs.Prelude.{◌≡◌, ◌≤◌, ◌<◌, ◌+◌, ◌^◌, ◌++◌, length};
+ghost use Rattle.std.specs.Prelude.{replicate, IfOk, OnOk, Ok, Err};
 ghost use Rattle.e_line.specs.Reading.{Gives, Moves};
 ghost use Rattle.e_construct.specs.Construct.{gives_of_construction};
 ghost use Rattle.e_names.specs.Scope.{names_of_sort, with_names};
@@ -113,7 +114,8 @@ pub fn no_names(alloc: Global) -> Names
 /// Names put after those of their sort.
 fn append_names(names: &mut Names, sort: Sort, new: &[Name]) -> Result<(), AllocError>
     ensures count { OnOk result (count_names names.new ≡ count_names names.old + length new.now) }
-    ensures value { OnOk result (names.new ≡ with_names names.old sort (names_of_sort names.old sort ++ new.now)) }
+    ensures value { OnOk result
+        (names.new ≡ with_names names.old sort (names_of_sort names.old sort ++ new.now)) }
 {
     match sort {
         Sort::Point => names.points.append(new),
@@ -162,7 +164,9 @@ impl TheoremParser {
     ghost use Rattle.e_theorem.specs.Statements.{stated};
     ghost use Rattle.e_line.specs.Limits.{most_theorems};
     ghost use Rattle.e_book.specs.LineLimits.{few_objects};
-    ghost use Rattle.e_book.specs.Steps.{FitsScope, begin, begun, step, stepped, declares, supposes, makes, shows, proof_begun, cited, inferred, with_step, with_terms, built, used_by, applied};
+    ghost use Rattle.e_book.specs.Steps.{FitsScope, begin, begun, step, stepped, declares};
+    ghost use Rattle.e_book.specs.Steps.{supposes, makes, shows, proof_begun, cited, inferred};
+    ghost use Rattle.e_book.specs.Steps.{with_step, with_terms, built, used_by, applied};
     ghost use Rattle.e_book.specs.ParserViews.{entry_of_parser};
     ghost use Rattle.e_book.specs.TheoremViews.{entry_of};
     ghost use Rattle.e_book.specs.inner.Machine.{names_there};
@@ -422,9 +426,11 @@ impl TheoremParser {
         sorts: &[Sort],
         new: &[Name],
     ) -> Result<Items<Name>, LineError>
-        ensures value { Gives (λ n. tt) result (few_objects (named self.old.in_scope sorts.now new.now)) }
+        ensures value { Gives (λ n. tt) result
+            (few_objects (named self.old.in_scope sorts.now new.now)) }
         ensures names { IfOk result (λ n. n ≡ new.now) }
-        ensures scope { OnOk result (self.new ≡ record self.old { in_scope = named self.old.in_scope sorts.now new.now }) }
+        ensures scope { OnOk result
+            (self.new ≡ record self.old { in_scope = named self.old.in_scope sorts.now new.now }) }
         ensures few { OnOk result (FewNamed (named self.old.in_scope sorts.now new.now)) }
     {
         put_names(&mut self.in_scope, sorts, new)?;
@@ -457,7 +463,8 @@ impl TheoremParser {
         new: &[Name],
     ) -> Result<(), LineError>
         requires { FitsScope self.old }
-        ensures value { Moves result self.new (used_by self.old (stated statement.now) application.theorem application.args new.now) }
+        ensures value { Moves result self.new
+            (used_by self.old (stated statement.now) application.theorem application.args new.now) }
         ensures fits { OnOk result (FitsScope self.new) }
     {
         let Application { theorem, args } = application;

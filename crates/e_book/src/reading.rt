@@ -1,12 +1,14 @@
 //! A theorem or a definition while its lines come, one after another.
-ghost use Rattle.std.specs.Prelude.{◌≡◌, ◌<◌, ◌^◌, length, None, IfOk, OnOk, IfSome, OnSome, IsTrue};
+ghost use Rattle.std.specs.Prelude.{◌≡◌, ◌<◌, ◌^◌, length, None, IfOk};
+ghost use Rattle.std.specs.Prelude.{OnOk, IfSome, OnSome, IsTrue};
 ghost use Rattle.e_text.specs.Lines.{view_of_line};
 ghost use Rattle.e_text.specs.Tokens.{tokens_of};
 ghost use Rattle.e_line.specs.Reading.{texts, Gives};
 ghost use Rattle.e_book.specs.Grammar.{starts_with_hash, is_skipped, last_line};
 ghost use Rattle.e_names.specs.Titled.{are_notions};
 ghost use Rattle.e_book.specs.Definitions.{HasWellFormedView};
-ghost use Rattle.e_book.specs.inner.Machine.{FitsComing, line_step, is_done, IsBegun, TakesWords, TakesLine, ReadsOn, end_of};
+ghost use Rattle.e_book.specs.inner.Machine.{FitsComing, line_step, is_done, IsBegun};
+ghost use Rattle.e_book.specs.inner.Machine.{TakesWords, TakesLine, ReadsOn, end_of};
 
 use crate::coming::Coming;
 use crate::item::Item;
@@ -99,7 +101,8 @@ impl Reading {
         requires number { line.now.number < 2 ^ 32 }
         requires coming { IfSome self.old.coming (FitsComing known.now) }
         requires notions { IsTrue (are_notions known.now.notions) }
-        ensures takes { TakesLine known.now self.old.coming (view_of_line line.now) result self.new.coming }
+        ensures takes { TakesLine known.now self.old.coming
+            (view_of_line line.now) result self.new.coming }
         ensures fits { OnOk result (IfSome self.new.coming (FitsComing known.now)) }
     {
         let words = collected(alloc, line.bytes)?;
@@ -118,7 +121,8 @@ impl Reading {
         requires number { line.now.number < 2 ^ 32 }
         requires coming { IfSome self.old.coming (FitsComing known.now) }
         requires notions { IsTrue (are_notions known.now.notions) }
-        ensures takes { TakesLine known.now self.old.coming (view_of_line line.now) result self.new.coming }
+        ensures takes { TakesLine known.now self.old.coming
+            (view_of_line line.now) result self.new.coming }
         ensures fits { OnOk result (IfSome self.new.coming (FitsComing known.now)) }
     {
         if is_skipped(words) {
@@ -137,7 +141,8 @@ impl Reading {
     ) -> Result<Option<Item>, BookFault>
         requires coming { IfSome self.old.coming (FitsComing known.now) }
         requires notions { IsTrue (are_notions known.now.notions) }
-        ensures takes { TakesWords known.now self.old.coming number (texts words.now) result self.new.coming }
+        ensures takes { TakesWords known.now self.old.coming number
+            (texts words.now) result self.new.coming }
         ensures fits { OnOk result (IfSome self.new.coming (FitsComing known.now)) }
     {
         let coming = self.coming.take();
@@ -165,9 +170,11 @@ impl Reading {
         requires lines { last_line lines.old < 2 ^ 32 }
         requires coming { IfSome self.old.coming (FitsComing known.now) }
         requires notions { IsTrue (are_notions known.now.notions) }
-        ensures reads { ReadsOn known.now self.old.coming lines.old.lines result self.new.coming lines.new.lines }
+        ensures reads { ReadsOn known.now self.old.coming lines.old.lines result
+            self.new.coming lines.new.lines }
         ensures last { OnOk result (last_line lines.new ≡ last_line lines.old) }
-        ensures shorter { IfOk result (λ t. OnSome t (length lines.new.lines < length lines.old.lines)) }
+        ensures shorter { IfOk result
+            (λ t. OnSome t (length lines.new.lines < length lines.old.lines)) }
         ensures fits { OnOk result (IfSome self.new.coming (FitsComing known.now)) }
     {
         while let Some(line) = lines.next() {
@@ -198,9 +205,11 @@ impl Reading {
         requires coming { IfSome self.old.coming (FitsComing known.now) }
         requires notions { IsTrue (are_notions known.now.notions) }
         requires begun { IsBegun known.now self.old.coming }
-        ensures reads { ReadsOn known.now self.old.coming lines.old.lines result self.new.coming lines.new.lines }
+        ensures reads { ReadsOn known.now self.old.coming lines.old.lines result
+            self.new.coming lines.new.lines }
         ensures last { OnOk result (last_line lines.new ≡ last_line lines.old) }
-        ensures shorter { IfOk result (λ t. OnSome t (length lines.new.lines < length lines.old.lines)) }
+        ensures shorter { IfOk result
+            (λ t. OnSome t (length lines.new.lines < length lines.old.lines)) }
         ensures fits { OnOk result (IfSome self.new.coming (FitsComing known.now)) }
         ensures begun { OnOk result (IsBegun known.now self.new.coming) }
         ensures good { IfOk result (λ o. IfSome o (HasWellFormedView known.now)) }

@@ -145,7 +145,8 @@ cert_line_text cert_line = joined (codes "|" ∷ cert_line_words cert_line)
 
 -- ---- versions
 
--- the row has a form in this version: that of a fact has a literal in the first, and a place in the second
+-- the row has a form in this version: that of a fact has a literal in the first, and a place in the
+-- second
 abbrev pub row_is_of : Version → RawRow → Bool
 row_is_of v (rows.Fact l) = by_literals v
 row_is_of v (rows.FactAt k) = by_places v

@@ -69,8 +69,8 @@ row_put (Some (sums.Above differs sum)) m r = with_row sum m r >>= λ new. Ok (s
 row_put (Some (sums.Below differs above sum)) m r = with_row sum m r >>= λ new. Ok (sums.Below differs above new)
 row_put _ m r = Err Malformed
 
--- a sum is begun after the head of a metric certificate, after the row that differs, and after the first of two sums, which
--- has a row
+-- a sum is begun after the head of a metric certificate, after the row that differs, and after the
+-- first of two sums, which has a row
 abbrev pub sum_begun : Option OpenSums → Result OpenSums FaultKind
 sum_begun (Some sums.Begun) = Ok (sums.One [])
 sum_begun (Some (sums.Differs differs)) = Ok (sums.Above differs [])
@@ -132,7 +132,8 @@ transfer_rule (Some r) = if is_transfer r then Ok r else Err Malformed
 abbrev pub count_others : Lit → List Lit → ℕ
 count_others wanted lits = length (others lits wanted)
 
--- a transfer of which no part has come. It owes a part for each place of its instance that has not the wanted literal
+-- a transfer of which no part has come. It owes a part for each place of its instance that has not
+-- the wanted literal
 unfoldable pub transfer_at : Lit → ℕ → List Obj → Result OpenTransfer FaultKind
 transfer_at wanted r args = or_malformed (Inst r args) >>= λ lits. Ok (record { rule = r; args = args; parts = []; owed = count_others wanted lits })
 

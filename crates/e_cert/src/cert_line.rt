@@ -1,7 +1,10 @@
 //! The lines of certificates, known from their words by spelling alone.
 ghost use Rattle.std.specs.Prelude.{◌≡◌};
 ghost use Rattle.e_line.specs.Reading.{texts, Gives};
-ghost use Rattle.e_cert.specs.CertLines.{size_of, multiplier_of, place_of, fact_row_of, bare_row, row_named, row_of, may_differ, bare, differs_of, transfer_of, fact_cert_line_of, row_cert_line_of, cert_line_named, cert_line_of, row_is_of, cert_line_is_of};
+ghost use Rattle.e_cert.specs.CertLines.{size_of, multiplier_of, place_of, fact_row_of, bare_row};
+ghost use Rattle.e_cert.specs.CertLines.{row_named, row_of, may_differ, bare, differs_of};
+ghost use Rattle.e_cert.specs.CertLines.{transfer_of, fact_cert_line_of, row_cert_line_of};
+ghost use Rattle.e_cert.specs.CertLines.{cert_line_named, cert_line_of, row_is_of, cert_line_is_of};
 ghost use Rattle.e_clause.specs.Versions.{by_literals, by_places};
 
 use e_clause::Version;

@@ -11,7 +11,8 @@ use std::alloc::AllocError;
 
 /// A row that is said of a term.
 fn put_term_row(out: &mut Vec<u8>, word: &[u8], term: &RawTerm) -> Result<(), AllocError>
-    ensures { OnOk result (out.new.items ≡ out.old.items ++ spaced (word.now ∷ term_words term.now)) }
+    ensures { OnOk result
+        (out.new.items ≡ out.old.items ++ spaced (word.now ∷ term_words term.now)) }
 {
     put(out, word)?;
     put_term(out, term)
@@ -19,7 +20,8 @@ fn put_term_row(out: &mut Vec<u8>, word: &[u8], term: &RawTerm) -> Result<(), Al
 
 /// A fact by its place.
 fn put_place(out: &mut Vec<u8>, place: u32) -> Result<(), AllocError>
-    ensures { OnOk result (out.new.items ≡ out.old.items ++ spaced (codes "fact" ∷ decimal place ∷ [])) }
+    ensures { OnOk result
+        (out.new.items ≡ out.old.items ++ spaced (codes "fact" ∷ decimal place ∷ [])) }
 {
     put(out, b"fact")?;
     put_number(out, place)
@@ -46,7 +48,8 @@ fn put_row(out: &mut Vec<u8>, row: &RawRow) -> Result<(), AllocError>
 
 /// A line of a certificate after its sign.
 fn put_words(out: &mut Vec<u8>, cert_line: &CertLine) -> Result<(), AllocError>
-    ensures { OnOk result (out.new.items ≡ out.old.items ++ spaced (cert_line_words cert_line.now)) }
+    ensures { OnOk result
+        (out.new.items ≡ out.old.items ++ spaced (cert_line_words cert_line.now)) }
 {
     match cert_line {
         CertLine::Fact => put(out, b"fact"),

@@ -4,7 +4,11 @@ ghost use Rattle.e_clause.specs.Instance.{number_of_rule};
 ghost use Rattle.e_clause.specs.declared.cert.Part.TheVariants as parts;
 ghost use Rattle.e_line.specs.Reading.{Gives};
 ghost use Rattle.e_names.specs.Scope.{FewNames};
-ghost use Rattle.e_cert.specs.Owed.{fact_in, row_in, with_row, row_put, sum_begun, differs_put, sums_ended, has_more, transfer_put, part_put, metric_put, takes_metric, clash_put, transfer_rule, count_others, transfer_at, transfer_in, transfer_begun, ended, after_cert_line, kept_of, finish_certs};
+ghost use Rattle.e_cert.specs.Owed.{fact_in, row_in, with_row, row_put, sum_begun};
+ghost use Rattle.e_cert.specs.Owed.{differs_put, sums_ended, has_more, transfer_put, part_put};
+ghost use Rattle.e_cert.specs.Owed.{metric_put, takes_metric, clash_put, transfer_rule};
+ghost use Rattle.e_cert.specs.Owed.{count_others, transfer_at, transfer_in, transfer_begun};
+ghost use Rattle.e_cert.specs.Owed.{ended, after_cert_line, kept_of, finish_certs};
 
 use crate::cert_line::{CertLine, RawRow};
 use crate::kept::{Certs, Rows, StepCerts};

@@ -1,6 +1,11 @@
 //! Laws of metric and transfer consequence, of systems and of certificates, each as a function that
 //! does nothing and whose contract is the law.
-ghost use Rattle.e_clause.specs.Laws.{CertificateIsSound, ContradictionCertificateIsSound, MetricCertificateIsSound, MetricContradictionIsSound, TransferCertificateIsSound, MetricFactFollows, SolutionsRefute, CounterexampleSolves, UnsolvedFollows, UnsolvedContradicts, CounterexampleRefutes, CounterexampleSatisfies};
+ghost use Rattle.e_clause.specs.Laws.{CertificateIsSound, ContradictionCertificateIsSound};
+ghost use Rattle.e_clause.specs.Laws.{MetricCertificateIsSound, MetricContradictionIsSound};
+ghost use Rattle.e_clause.specs.Laws.{TransferCertificateIsSound, MetricFactFollows};
+ghost use Rattle.e_clause.specs.Laws.{SolutionsRefute, CounterexampleSolves};
+ghost use Rattle.e_clause.specs.Laws.{UnsolvedFollows, UnsolvedContradicts};
+ghost use Rattle.e_clause.specs.Laws.{CounterexampleRefutes, CounterexampleSatisfies};
 
 /// What a certificate certifies is allowed.
 pub fn certificate_is_sound()

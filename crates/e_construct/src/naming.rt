@@ -35,7 +35,10 @@ impl<'a> Naming<'a> {
     }
 
     fn atom(&self, relation: &Relation) -> Atom
-        ensures { result ≡ (renamed (image_of self.now) (record { neg = false; atom = atom_of relation.now })).atom }
+        ensures { result ≡ (renamed (image_of self.now) (record {
+          neg = false;
+          atom = atom_of relation.now;
+        })).atom }
     {
         match relation {
             Relation::On(x, y) => Atom::On(self.point(*x), self.line(*y)),

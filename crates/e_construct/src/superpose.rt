@@ -1,7 +1,7 @@
 //! Superposition: a triangle is put onto a point, along a line.
 
-ghost use Rattle.std.specs.Prelude.{◌≡◌, ◌∷◌, [], ◌<◌, ◌+◌, ◌^◌, ◌++◌, map, IfOk, OnOk, false, true};
-ghost use Rattle.std.specs.Prelude.{nat_lt};
+ghost use Rattle.std.specs.Prelude.{◌≡◌, ◌∷◌, [], ◌<◌, ◌+◌, ◌^◌, ◌++◌};
+ghost use Rattle.std.specs.Prelude.{map, IfOk, OnOk, false, true, nat_lt};
 ghost use Rattle.std.specs.List.{list_all};
 ghost use Rattle.e_construct.specs.Shapes;
 ghost use Rattle.e_construct.specs.Superposing;
@@ -58,7 +58,8 @@ impl Superpose {
     /// What holds in its block, in order, where the copies are the next points of the scope.
     pub fn gives(&self, alloc: Global, scope: Scope) -> Result<Vec<Lit>, AllocError>
         requires { scope.points + 2 < 2 ^ 16 }
-        ensures { IfOk result (λ lits. lits.items ≡ Superposing.gives_of_superposition self.now scope) }
+        ensures { IfOk result
+            (λ lits. lits.items ≡ Superposing.gives_of_superposition self.now scope) }
     {
         let [a, b, c, d, g, h] = self.points;
         let [_, l] = self.lines;
@@ -101,7 +102,8 @@ fn isnt(atom: Atom) -> Lit
 
 /// Adds that the magnitudes of each pair are equal.
 fn extend(alloc: Global, lits: &mut Vec<Lit>, equals: &[(Term, Term)]) -> Result<(), AllocError>
-    ensures { OnOk result (lits.new.items ≡ lits.old.items ++ map (λ x. Superposing.equal x.0 x.1) equals.now) }
+    ensures { OnOk result
+        (lits.new.items ≡ lits.old.items ++ map (λ x. Superposing.equal x.0 x.1) equals.now) }
 {
     for pair in equals {
         lits.push(equal(alloc, pair.0, pair.1)?)?;

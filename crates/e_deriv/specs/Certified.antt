@@ -24,8 +24,8 @@ certs_of (Claim shown inner rest) = []
 certs_of (Contradiction against) = []
 certs_of (Cases lit first second) = []
 
--- beside the needs: a citation's instance gives the literal; no argument of an application is a blank; a contradiction has a
--- certificate that shows one
+-- beside the needs: a citation's instance gives the literal; no argument of an application is a
+-- blank; a contradiction has a certificate that shows one
 abbrev pub certified_beside : Script → Scope → List Lit → Bool
 certified_beside (Cite by rest) s facts = is_cited facts by
 certified_beside (Apply theorem args names certs rest) s facts = has_no_blank args

@@ -22,7 +22,8 @@ LicensedProves =
 abbrev pub ProofIsLicensed : Type 0
 ProofIsLicensed = (before : List StatementView) (t : StatementView) (d : Script) → IsProof before t d → AllLicensed before (derivation_lines before t d)
 
--- what holds before the line of a number is one, however the blanks of lines that are not licensed are filled
+-- what holds before the line of a number is one, however the blanks of lines that are not licensed
+-- are filled
 pub record SamePlace (x y : Line) : Type 0 where
   pub scope : x.scope ≡ y.scope
   pub facts : x.facts ≡ y.facts

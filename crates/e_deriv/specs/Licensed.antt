@@ -1,4 +1,5 @@
--- When a line is licensed, whatever the blocks inside it are; the first that is not, and what it lacks.
+-- When a line is licensed, whatever the blocks inside it are; the first that is not, and what it
+-- lacks.
 use Rattle.std.specs.Prelude.{◌≡◌, ℕ, suc, List, [], ◌∷◌, ◌++◌, take, slice_get, IsTrue, IsFalse, Some}
 use Rattle.e_literal.specs.declared.object.Obj.{Obj}
 use Rattle.e_literal.specs.declared.object.Scope.{Scope}
@@ -14,8 +15,9 @@ use Rattle.e_deriv.specs.Parts.{has_no_blank}
 use Rattle.e_deriv.specs.Lines.{Line, theorem_at, proof_lines}
 use Rattle.e_deriv.specs.Steps.{fits, needs, needs_as_written, is_cited}
 
--- beside its form and its needs: a citation's instance gives the literal; the arguments of an application are the least good
--- choice for its blanks; at a contradiction the facts contradict each other
+-- beside its form and its needs: a citation's instance gives the literal; the arguments of an
+-- application are the least good choice for its blanks; at a contradiction the facts contradict
+-- each other
 abbrev pub LicensedBeside : List StatementView → Script → Scope → List Lit → List Obj → Type 0
 LicensedBeside before (Cite by rest) s facts args = IsTrue (is_cited facts by)
 LicensedBeside before (Apply theorem pattern names certs rest) s facts args = IsLeastChoice (theorem_at before theorem) s facts pattern args
@@ -39,7 +41,8 @@ pub record IsFirstNotAllowed (scope : Scope) (facts : List Lit) (ls : List Lit) 
   pub allowed : AllAllowed scope facts earlier
   pub not_allowed : ¬ Allowed scope facts l
 
--- what a line that is not licensed lacks; an application with blanks lacks a choice for them that is good
+-- what a line that is not licensed lacks; an application with blanks lacks a choice for them that
+-- is good
 abbrev pub Lacks : List StatementView → Line → Script → Wanted → Type 0
 Lacks before x (Cite by rest) (Literal l) = IsFalse (is_cited x.facts by) × (l ≡ by.lit)
 Lacks before x (Hence lit cert rest) (Literal l) = IsFirstNotAllowed x.scope x.facts (needs_as_written before x) l
@@ -53,7 +56,8 @@ Lacks before x (Qed objects certs) (Literal l) = IsFirstNotAllowed x.scope x.fac
 Lacks before x (Contradiction against) AContradiction = ¬ Contradictory x.facts
 Lacks before x _ _ = ⊥
 
--- the line has number n from 1 on, of the statement's script with its blanks filled, and all lines before it are licensed
+-- the line has number n from 1 on, of the statement's script with its blanks filled, and all lines
+-- before it are licensed
 pub record IsContext (before : List StatementView) (t : StatementView) (script : Script) (n : ℕ) (x : Line) : Type 0 where
   pub filled : Script
   pub place : ℕ

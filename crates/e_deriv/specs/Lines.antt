@@ -13,8 +13,8 @@ use Rattle.e_deriv.specs.Script.{Script, Cite, Hence, Make, Apply, Claim, Superp
 use Rattle.e_deriv.specs.Parts.{rest_of, inner_of, args_of}
 use Rattle.e_deriv.specs.Goal.{Goal, goal_of, goal_of_statement, facts_of_statement}
 
--- a line: the scope and the facts before it, the goal of its block, the script from it on, and, where it applies a theorem, the
--- arguments with all blanks filled
+-- a line: the scope and the facts before it, the goal of its block, the script from it on, and,
+-- where it applies a theorem, the arguments with all blanks filled
 pub record Line : Type 0 where
   pub scope : Scope
   pub facts : List Lit
@@ -32,11 +32,13 @@ no_statement = record { declared = []; given = []; made = []; shown = [] }
 abbrev pub theorem_at : List StatementView → ℕ → StatementView
 theorem_at before k = unwrap_or (slice_get before k) no_statement
 
--- The lines of a script, whose blanks are filled by the arguments that a second script has in the same places; a script without
--- blanks is its own second. An applied theorem's made objects come into scope after the line, and what it shows joins the facts.
--- The block of a claim begins with what holds before it; when it is closed its objects and its facts are gone, and the claimed
--- literals are facts. The block of a superposition begins with the two copied points too, and what it gives. The blocks of a
--- split have the goal of the block that the split closes, the first with the literal for a fact, the second with its negation.
+-- The lines of a script, whose blanks are filled by the arguments that a second script has in the
+-- same places; a script without blanks is its own second. An applied theorem's made objects come
+-- into scope after the line, and what it shows joins the facts. The block of a claim begins with
+-- what holds before it; when it is closed its objects and its facts are gone, and the claimed
+-- literals are facts. The block of a superposition begins with the two copied points too, and what
+-- it gives. The blocks of a split have the goal of the block that the split closes, the first with
+-- the literal for a fact, the second with its negation.
 unfoldable pub lines : List StatementView → Script → Script → Scope → List Lit → Goal → List Line
 lines before (Cite by rest) f s facts goal = line (Cite by rest) f s facts goal ∷ lines before rest (rest_of f) s (joined facts by.lit) goal
 lines before (Hence lit cert rest) f s facts goal = line (Hence lit cert rest) f s facts goal ∷ lines before rest (rest_of f) s (joined facts lit) goal
@@ -63,7 +65,8 @@ lines before (Cases lit first second) f s facts goal =
 abbrev pub proof_lines : List StatementView → StatementView → Script → Script → List Line
 proof_lines before t script f = lines before script f (scope_of t) (facts_of_statement t) (goal_of_statement t)
 
--- the number of the first line that fails the test, where the first line has number n; else the number after the last
+-- the number of the first line that fails the test, where the first line has number n; else the
+-- number after the last
 abbrev pub first_failure : (Line → Bool) → List Line → ℕ → Result ℕ ℕ
 first_failure p [] n = Ok n
 first_failure p (x ∷ xs) n = if p x then first_failure p xs (n + 1) else Err n

@@ -27,8 +27,8 @@ abbrev pub named : Names → List Sort → List (List ℕ) → Names
 named ns (sort ∷ kinds) (name ∷ names) = named (with_names ns sort (names_of_sort ns sort ++ name ∷ [])) kinds names
 named ns _ _ = ns
 
--- the names in scope before each line, in text order, where these are in scope before the first; those that an inner block
--- brings are gone after it
+-- the names in scope before each line, in text order, where these are in scope before the first;
+-- those that an inner block brings are gone after it
 unfoldable pub names_lines : List StatementView → Names → Script → List Names
 names_lines before ns (Cite by rest) = ns ∷ names_lines before ns rest
 names_lines before ns (Hence lit cert rest) = ns ∷ names_lines before ns rest
@@ -45,6 +45,7 @@ names_lines before ns (Cases lit first second) = ns ∷ (names_lines before ns f
 abbrev pub first_names : Scope → Names → Names
 first_names s ns = record { points = take s.points ns.points; lines = take s.lines ns.lines; circles = take s.circles ns.circles }
 
--- of the names of a statement's declared and made objects those of the declared ones, which come first
+-- of the names of a statement's declared and made objects those of the declared ones, which come
+-- first
 abbrev pub declared_names : StatementView → Names → Names
 declared_names t ns = first_names (scope_of t) ns

@@ -25,24 +25,26 @@ Proves before s facts goal (Cite by rest) =
 Proves before s facts goal (Hence lit cert rest) =
     IsTrue (all_in_scope s lit) × Allowed s facts lit
     × Proves before s (joined facts lit) goal rest
--- each literal that the construction needs is allowed; the new objects come into scope, and what it gives joins the facts
+-- each literal that the construction needs is allowed; the new objects come into scope, and what it
+-- gives joins the facts
 Proves before s facts goal (Make form names certs rest) =
     IsTrue (fits_construction form s) × AllAllowed s facts (needs_of_construction form)
     × Proves before (grown s (sorts_made form)) (joined_all facts (gives_of_construction form s)) goal rest
--- no argument is a blank, they fit the theorem, which is an earlier one, and each given literal is allowed; the made objects
--- come into scope, and the shown literals join the facts
+-- no argument is a blank, they fit the theorem, which is an earlier one, and each given literal is
+-- allowed; the made objects come into scope, and the shown literals join the facts
 Proves before s facts goal (Apply theorem args names certs rest) =
     IsTrue (has_no_blank args) × IsTrue (is_applied before theorem s args (written args))
     × AllAllowed s facts (needs_of_use (theorem_at before theorem) (written args) s)
     × Proves before (grown s (theorem_at before theorem).made)
     (joined_all facts (gives_of_use (theorem_at before theorem) (written args) s)) goal rest
--- the inner block proves the claimed literals, and these join the facts; the inner objects and facts are gone
+-- the inner block proves the claimed literals, and these join the facts; the inner objects and
+-- facts are gone
 Proves before s facts goal (Claim shown inner rest) =
     IsTrue (are_over s shown)
     × Proves before s facts (goal_of shown) inner
     × Proves before s (joined_all facts shown) goal rest
--- each literal that the superposition needs is allowed, and the inner block proves the shown literals with the copy; these join
--- the facts, and the copy is gone
+-- each literal that the superposition needs is allowed, and the inner block proves the shown
+-- literals with the copy; these join the facts, and the copy is gone
 Proves before s facts goal (Superposed form names shown certs inner rest) =
     IsTrue (superposing.fits_superposition form s) × AllAllowed s facts (superposing.needs_of_superposition form)
     × IsTrue (are_over s shown)

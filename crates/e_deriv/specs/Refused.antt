@@ -1,4 +1,5 @@
--- Why a script is refused: its first step that is not licensed, with values that show it; or a line that is too wide.
+-- Why a script is refused: its first step that is not licensed, with values that show it; or a line
+-- that is too wide.
 use Rattle.std.specs.Prelude.{◌≡◌, ℕ, List, IsTrue, IsFalse, Contains, MatchBool, Option, Some, None}
 use Rattle.e_literal.specs.declared.object.Term.{Term}
 use Rattle.e_literal.specs.declared.literal.Lit.{Lit}
@@ -17,7 +18,8 @@ use Rattle.e_deriv.specs.Licensed.{Lacks, IsContext}
 
 -- ---- values
 
--- a metric literal that does not follow from the facts has values that show it; a diagram literal has none
+-- a metric literal that does not follow from the facts has values that show it; a diagram literal
+-- has none
 abbrev pub LiteralIsShown : List Lit → Lit → Option (List (Term × ℕ)) → Type 0
 LiteralIsShown facts l (Some values) = IsTrue (is_metric l) × ListsCounterexample facts (Some l) values
 LiteralIsShown facts l None = IsFalse (is_metric l)
@@ -49,8 +51,9 @@ pub record SomeIsWide (before : List StatementView) (x : Line) : Type 0 where
   pub is_one : Contains (needs_as_written before x) lit
   pub is_wide : IsWideLit x.scope x.facts lit
 
--- a literal that the line needs is wide, for an application with blanks under a choice that is not above the least good one; or
--- its contradiction is. A citation, a claim and a split need nothing and are never wide.
+-- a literal that the line needs is wide, for an application with blanks under a choice that is not
+-- above the least good one; or its contradiction is. A citation, a claim and a split need nothing
+-- and are never wide.
 abbrev pub IsWideAt : List StatementView → Line → Script → Type 0
 IsWideAt before x (Contradiction against) = IsWideContradiction x.facts
 IsWideAt before x (Apply theorem pattern names certs rest) =

@@ -1,4 +1,5 @@
--- What has to be so at a line beside what it has to be allowed: its objects are in scope, its form fits. What it needs.
+-- What has to be so at a line beside what it has to be allowed: its objects are in scope, its form
+-- fits. What it needs.
 use Rattle.std.specs.Prelude.{ℕ, List, [], ◌∷◌, length, Bool, true, ◌&&◌, nat_lt, Option}
 use Rattle.std.specs.List.{list_all}
 use Rattle.e_literal.specs.declared.object.Obj.{Obj}
@@ -24,7 +25,8 @@ abbrev pub is_applied : List StatementView → ℕ → Scope → List (Option Ob
 is_applied before theorem s pattern args =
     nat_lt theorem (length before) && is_choice (theorem_at before theorem) s pattern args
 
--- the line's form fits where it stands; what a superposition shows does not speak of the copied points
+-- the line's form fits where it stands; what a superposition shows does not speak of the copied
+-- points
 abbrev pub fits_at : List StatementView → Script → Scope → Goal → List Obj → Bool
 fits_at before (Cite by rest) s goal args = is_citation s by
 fits_at before (Hence lit cert rest) s goal args = all_in_scope s lit

@@ -1,4 +1,5 @@
--- Derivations of one version: all certificates cite facts by literals that are the same, or all by their places.
+-- Derivations of one version: all certificates cite facts by literals that are the same, or all by
+-- their places.
 use Rattle.std.specs.Prelude.{Bool, true, ◌&&◌}
 use Rattle.std.specs.Option.{option_map_or}
 use Rattle.std.specs.List.{list_all}
@@ -6,7 +7,8 @@ use Rattle.e_clause.specs.declared.cert.Version.{Version}
 use Rattle.e_clause.specs.Versions.{is_cert_of, is_against_of}
 use Rattle.e_deriv.specs.Script.{Script, Cite, Hence, Make, Apply, Claim, Superposed, Qed, Contradiction, Cases}
 
--- the certificates of the script are of this version, and the literals that they name are well formed
+-- the certificates of the script are of this version, and the literals that they name are well
+-- formed
 unfoldable pub has_certs_of : Version → Script → Bool
 has_certs_of v (Cite by rest) = has_certs_of v rest
 has_certs_of v (Hence lit cert rest) = option_map_or (is_cert_of v) cert true && has_certs_of v rest

@@ -1,6 +1,7 @@
 //! Blocks without their certificates.
 ghost use Rattle.std.specs.Prelude.{◌≡◌, [], IfOk};
-ghost use Rattle.e_deriv.specs.declared.block.Step.TheVariants.{Make as MakeStep, Apply as ApplyStep};
+ghost use Rattle.e_deriv.specs.declared.block.Step.TheVariants.{Make as MakeStep};
+ghost use Rattle.e_deriv.specs.declared.block.Step.TheVariants.{Apply as ApplyStep};
 ghost use Rattle.e_deriv.specs.Script.{Script, script_of, step_script, close_script, erased};
 
 use crate::block::{Block, Close, Step};
@@ -28,7 +29,8 @@ pub fn erase(alloc: Global, block: &Block) -> Result<Block, AllocError>
 #[cycle(erase)]
 #[tactic(auto, using(crate::proofs::Scripts::erasing))]
 fn erase_step(alloc: Global, step: &Step) -> Result<Step, AllocError>
-    ensures { IfOk result (λ s. (rest : Script) → step_script s (erased rest) ≡ erased (step_script step.now rest)) }
+    ensures { IfOk result
+        (λ s. (rest : Script) → step_script s (erased rest) ≡ erased (step_script step.now rest)) }
 {
     match step {
         Step::Cite(by) => Ok(Step::Cite(copy_by(alloc, by)?)),

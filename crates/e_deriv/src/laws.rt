@@ -1,6 +1,7 @@
 //! Laws of scripts and derivations, each as a function that does nothing and whose contract is the
 //! law.
-ghost use Rattle.e_deriv.specs.Laws.{CertifiedProves, LicensedProves, ProofIsLicensed, ContextIsOne, LicensedHasNoStop, StopIsOne};
+ghost use Rattle.e_deriv.specs.Laws.{CertifiedProves, LicensedProves, ProofIsLicensed};
+ghost use Rattle.e_deriv.specs.Laws.{ContextIsOne, LicensedHasNoStop, StopIsOne};
 
 /// What is certified is a proof.
 pub fn certified_proves()

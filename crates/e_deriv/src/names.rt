@@ -29,7 +29,8 @@ impl Names {
     /// Puts a name last among those of the sort. It fails only out of memory, and then the names
     /// are as before.
     pub fn push(&mut self, sort: Sort, name: Name) -> Result<(), AllocError>
-        ensures ok { OnOk result (self.new ≡ with_names self.old sort (names_of_sort self.old sort ++ name ∷ [])) }
+        ensures ok { OnOk result
+            (self.new ≡ with_names self.old sort (names_of_sort self.old sort ++ name ∷ [])) }
         ensures err { OnErr result (self.new ≡ self.old) }
     {
         match sort {

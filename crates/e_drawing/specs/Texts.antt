@@ -21,8 +21,8 @@ words_step p words = line_of words >>= λ l. step p l
 abbrev pub at_end : ℕ → Plan → Result Plan BookFault
 at_end last p = if is_done p then Ok p else Err (faults.Unended last)
 
--- the figure of these lines, or the first fault; last is the number after the last line. After the last line of the figure only lines that
--- say nothing may come.
+-- the figure of these lines, or the first fault; last is the number after the last line. After the
+-- last line of the figure only lines that say nothing may come.
 abbrev pub plan_from : ℕ → Plan → List (Result LineView LineFault) → Result Plan BookFault
 plan_from last p [] = at_end last p
 plan_from last p (Err f ∷ lines) = Err (line_fault f)
@@ -43,7 +43,8 @@ abbrev pub PlanIs : Result (Unit {0}) BookFault → Plan → Result Plan BookFau
 PlanIs (Ok u) new read = read ≡ Ok new
 PlanIs (Err f) new read = BookFails f read
 
--- what a line makes of a plan: to read on through the line is to read on from there, or it is the first with a fault
+-- what a line makes of a plan: to read on through the line is to read on from there, or it is the
+-- first with a fault
 abbrev pub TakesPlanLine : Plan → LineView → Result (Unit {0}) BookFault → Plan → Type 0
 TakesPlanLine old l (Ok u) new = (last : ℕ) (more : List (Result LineView LineFault)) → plan_from last old (Ok l ∷ more) ≡ plan_from last new more
 TakesPlanLine old l (Err f) new = (last : ℕ) (more : List (Result LineView LineFault)) → BookFails f (plan_from last old (Ok l ∷ more))

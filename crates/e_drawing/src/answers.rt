@@ -1,6 +1,7 @@
 //! The lines that answer a figure text.
 ghost use Rattle.std.specs.Prelude.{◌≡◌, ◌++◌, flat_map, length, OnOk};
-ghost use Rattle.e_drawing.specs.Answers.{given_word, shown_word, answer_line, given_line, shown_line, figure_line, answered};
+ghost use Rattle.e_drawing.specs.Answers.{given_word, shown_word, answer_line};
+ghost use Rattle.e_drawing.specs.Answers.{given_line, shown_line, figure_line, answered};
 
 use crate::plan::Plan;
 use e_deriv::Names;
@@ -44,7 +45,8 @@ fn put_answer(
     names: &Names,
     lit: &Lit,
 ) -> Result<(), AllocError>
-    ensures { OnOk result (out.new.items ≡ out.old.items ++ answer_line word.now holds.now names.now lit.now) }
+    ensures { OnOk result
+        (out.new.items ≡ out.old.items ++ answer_line word.now holds.now names.now lit.now) }
 {
     out.extend_from_slice(word)?;
     out.extend_from_slice(holds)?;
@@ -57,7 +59,8 @@ fn put_answer(
 
 /// A line for each given literal.
 fn put_given(alloc: Global, out: &mut Vec<u8>, plan: &Plan) -> Result<(), AllocError>
-    ensures { OnOk result (out.new.items ≡ out.old.items ++ flat_map (given_line plan.now) plan.now.given) }
+    ensures { OnOk result
+        (out.new.items ≡ out.old.items ++ flat_map (given_line plan.now) plan.now.given) }
 {
     for lit in plan.given.items() {
         put_answer(
@@ -74,7 +77,8 @@ fn put_given(alloc: Global, out: &mut Vec<u8>, plan: &Plan) -> Result<(), AllocE
 
 /// A line for each shown literal.
 fn put_shown(alloc: Global, out: &mut Vec<u8>, plan: &Plan) -> Result<(), AllocError>
-    ensures { OnOk result (out.new.items ≡ out.old.items ++ flat_map (shown_line plan.now) plan.now.shown) }
+    ensures { OnOk result
+        (out.new.items ≡ out.old.items ++ flat_map (shown_line plan.now) plan.now.shown) }
 {
     for lit in plan.shown.items() {
         put_answer(

@@ -2,7 +2,9 @@
 ghost use Rattle.std.specs.Prelude.{◌≡◌, ◌≤◌, true};
 ghost use Rattle.e_text.specs.Numerals.{is_numeral};
 ghost use Rattle.e_line.specs.Reading.{Gives, Reads};
-ghost use Rattle.e_drawing.specs.Numbers.{most_size, most_square, value_to, unsigned_of, negative_of, coordinate_of, square_of, coordinate_at, square_at};
+ghost use Rattle.e_drawing.specs.Numbers.{most_size, most_square, value_to};
+ghost use Rattle.e_drawing.specs.Numbers.{unsigned_of, negative_of, coordinate_of};
+ghost use Rattle.e_drawing.specs.Numbers.{square_of, coordinate_at, square_at};
 
 use e_line::{FaultKind, LineError, Words};
 use e_text::{number, numeral};

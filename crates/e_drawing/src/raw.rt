@@ -2,7 +2,8 @@
 ghost use Rattle.std.specs.Prelude.{IfOk};
 ghost use Rattle.e_line.specs.Reading.{texts, Gives};
 ghost use Rattle.e_drawing.specs.inner.Nondegenerate.{IsNondegenerate};
-ghost use Rattle.e_drawing.specs.Lines.{point_of, straight_of, round_of, alone, line_named, line_of};
+ghost use Rattle.e_drawing.specs.Lines.{point_of, straight_of, round_of};
+ghost use Rattle.e_drawing.specs.Lines.{alone, line_named, line_of};
 
 use crate::number::{coordinate, square};
 use e_figure::{Point, Round, Straight, has_direction, has_inside};

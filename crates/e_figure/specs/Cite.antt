@@ -9,7 +9,8 @@ use Rattle.e_clause.specs.Citing.{is_citation, is_cited}
 use Rattle.e_figure.specs.Figure.{FigureView, is_figure}
 use Rattle.e_figure.specs.Truth.{is_true}
 
--- a citation over the scope gives the literal: the instance has it, and the negation of each of its others is a fact
+-- a citation over the scope gives the literal: the instance has it, and the negation of each of its
+-- others is a fact
 pub record IsCited (scope : Scope) (facts : List Lit) (l : Lit) : Type 0 where
   pub by : By
   pub lit : by.lit ≡ l
@@ -28,7 +29,8 @@ CitedIsTrue =
     IsTrue (is_figure d) → IsTrue (list_all (is_true d) facts) →
     IsCiteList scope facts ls → IsTrue (list_all (is_true d) ls)
 
--- the figure shows that the literal does not follow: the facts are true in it, and the literal is not
+-- the figure shows that the literal does not follow: the facts are true in it, and the literal is
+-- not
 abbrev pub is_refuted : FigureView → List Lit → Lit → Bool
 is_refuted d facts l = list_all (is_true d) facts && not (is_true d l)
 

@@ -1,4 +1,5 @@
--- A figure: points, lines and circles with whole numbers, each by its place among those of its sort.
+-- A figure: points, lines and circles with whole numbers, each by its place among those of its
+-- sort.
 use Rattle.std.specs.Prelude.{ℕ, ◌≤◌, List, [], ◌∷◌, ◌++◌, length, get_or, Bool, not, ◌&&◌, if◌then◌else◌, nat_le, nat_lt, ℤ, pos, unsigned_abs, Option, Some, None}
 use Rattle.std.specs.List.{list_all}
 use Rattle.std.specs.Ordering.{int_eq}
@@ -57,8 +58,8 @@ view_of points lines circles = record { points = points; lines = lines; circles 
 abbrev pub can_be_drawn : FigureView → Bool
 can_be_drawn d = has_few_objects d && (is_bounded d && is_figure d)
 
--- the figure of these objects, and none where a number is out of its bounds, a direction is two zeros, a square is 0, or there
--- are too many
+-- the figure of these objects, and none where a number is out of its bounds, a direction is two
+-- zeros, a square is 0, or there are too many
 abbrev pub figure_of : List Point → List Straight → List Round → Option FigureView
 figure_of points lines circles =
     if can_be_drawn (view_of points lines circles) then Some (view_of points lines circles) else None
@@ -80,7 +81,8 @@ with_circle d c = record { points = d.points; lines = d.lines; circles = d.circl
 abbrev pub scope_of : FigureView → Scope
 scope_of d = record { points = length d.points; lines = length d.lines; circles = length d.circles }
 
--- the objects with these numbers; what is put for others says nothing, since literals are asked of objects in scope alone
+-- the objects with these numbers; what is put for others says nothing, since literals are asked of
+-- objects in scope alone
 abbrev pub point_of : FigureView → ℕ → Point
 point_of d n = get_or d.points n (record { x = pos 0; y = pos 0 })
 

@@ -49,12 +49,18 @@ impl Model for Figure {
 
     ghost Value = { FigureView };
 
-    ghost view = { λ f. record { points = f.points.items; lines = f.lines.items; circles = f.circles.items } };
+    ghost view = { λ f. record {
+      points = f.points.items;
+      lines = f.lines.items;
+      circles = f.circles.items;
+    } };
 
-    ghost invariant = { λ f.
-        IsTrue (is_figure (record { points = f.points.items; lines = f.lines.items; circles = f.circles.items }))
-        × (IsTrue (is_bounded (record { points = f.points.items; lines = f.lines.items; circles = f.circles.items }))
-        × HasFewObjects (record { points = f.points.items; lines = f.lines.items; circles = f.circles.items })) };
+    ghost invariant = { λ f. IsTrue (is_figure
+        (record { points = f.points.items; lines = f.lines.items; circles = f.circles.items }))
+        × (IsTrue (is_bounded
+        (record { points = f.points.items; lines = f.lines.items; circles = f.circles.items }))
+        × HasFewObjects
+        (record { points = f.points.items; lines = f.lines.items; circles = f.circles.items })) };
 }
 
 impl Figure {
@@ -74,7 +80,8 @@ impl Figure {
     }
 
     fn drawn(points: Vec<Point>, lines: Vec<Straight>, circles: Vec<Round>) -> Figure
-        requires { IsTrue (spec.can_be_drawn (spec.view_of points.items lines.items circles.items)) }
+        requires { IsTrue
+            (spec.can_be_drawn (spec.view_of points.items lines.items circles.items)) }
         ensures { result ≡ spec.view_of points.items lines.items circles.items }
     {
         Figure {
@@ -218,7 +225,8 @@ fn are_bounded(points: &[Point], lines: &[Straight], circles: &[Round]) -> bool
 
 /// Whether the lines have directions, and the circles insides.
 fn have_extent(lines: &[Straight], circles: &[Round]) -> bool
-    ensures { result ≡ (list_all spec.has_direction lines.now && list_all spec.has_inside circles.now) }
+    ensures { result
+        ≡ (list_all spec.has_direction lines.now && list_all spec.has_inside circles.now) }
 {
     have_directions(lines) && have_insides(circles)
 }

@@ -173,7 +173,8 @@ fn are_in_line(a: Point, b: Point, c: Point) -> bool
     requires a { IsTrue (is_small_point a) }
     requires b { IsTrue (is_small_point b) }
     requires c { IsTrue (is_small_point c) }
-    ensures { result ≡ int_eq (truth.cross (b.x -ℤ a.x) (b.y -ℤ a.y) (c.x -ℤ a.x) (c.y -ℤ a.y)) (pos 0) }
+    ensures { result
+        ≡ int_eq (truth.cross (b.x -ℤ a.x) (b.y -ℤ a.y) (c.x -ℤ a.x) (c.y -ℤ a.y)) (pos 0) }
 {
     is_zero(turn_at(a, b, c))
 }
@@ -182,7 +183,8 @@ fn are_opposite(a: Point, b: Point, c: Point) -> bool
     requires a { IsTrue (is_small_point a) }
     requires b { IsTrue (is_small_point b) }
     requires c { IsTrue (is_small_point c) }
-    ensures { result ≡ int_lt (truth.dot (a.x -ℤ b.x) (a.y -ℤ b.y) (c.x -ℤ b.x) (c.y -ℤ b.y)) (pos 0) }
+    ensures { result
+        ≡ int_lt (truth.dot (a.x -ℤ b.x) (a.y -ℤ b.y) (c.x -ℤ b.x) (c.y -ℤ b.y)) (pos 0) }
 {
     reach_at(a, b, c) < 0
 }
@@ -306,7 +308,8 @@ fn excess(c: Round, e: Round) -> i128
 fn squared_excess(c: Round, e: Round) -> i128
     requires c { IsTrue (is_small_circle c) }
     requires e { IsTrue (is_small_circle e) }
-    ensures { result ≡ (truth.dist e.x e.y c.x c.y -ℤ pos c.square -ℤ pos e.square) *ℤ (truth.dist e.x e.y c.x c.y -ℤ pos c.square -ℤ pos e.square) }
+    ensures { result ≡ (truth.dist e.x e.y c.x c.y -ℤ pos c.square -ℤ pos e.square)
+        *ℤ (truth.dist e.x e.y c.x c.y -ℤ pos c.square -ℤ pos e.square) }
 {
     let rest = excess(c, e);
     product(rest, rest)

@@ -1,4 +1,5 @@
--- The book that make writes: theorems on points in order, each but every sixth by the one before it.
+-- The book that make writes: theorems on points in order, each but every sixth by the one before
+-- it.
 use Rattle.std.specs.Prelude.{ℕ, zero, suc, ◌+◌, ◌-◌, ◌%◌, List, [], ◌∷◌, ◌++◌, nat_lt, flat_map, codes, decimal, if◌then◌else◌}
 
 -- this many numbers, from this one on

@@ -1,5 +1,6 @@
 //! The book that `make` writes.
-ghost use Rattle.std.specs.Prelude.{◌≡◌, ◌≤◌, ◌<◌, ◌^◌, ◌+◌, ◌-◌, ◌++◌, OnOk, IfOk, string_bytes, flat_map};
+ghost use Rattle.std.specs.Prelude.{◌≡◌, ◌≤◌, ◌<◌, ◌^◌, ◌+◌, ◌-◌, ◌++◌};
+ghost use Rattle.std.specs.Prelude.{OnOk, IfOk, string_bytes, flat_map};
 ghost use Rattle.e_generate.specs.Generated;
 ghost use Rattle.e_generate.specs.Generated.{numbers};
 
@@ -15,7 +16,8 @@ fn put_point(out: &mut String, number: u32) -> Result<(), AllocError>
 
 /// So many points.
 fn put_points(out: &mut String, count: u32) -> Result<(), AllocError>
-    ensures { OnOk result (string_bytes out.new ≡ string_bytes out.old ++ Generated.points_to count) }
+    ensures { OnOk result
+        (string_bytes out.new ≡ string_bytes out.old ++ Generated.points_to count) }
 {
     for i in 0..count {
         put_point(out, i)?;
@@ -25,7 +27,8 @@ fn put_points(out: &mut String, count: u32) -> Result<(), AllocError>
 
 /// A segment after a space.
 fn put_segment(out: &mut String, from: u32, to: u32) -> Result<(), AllocError>
-    ensures { OnOk result (string_bytes out.new ≡ string_bytes out.old ++ Generated.segment from to) }
+    ensures { OnOk result
+        (string_bytes out.new ≡ string_bytes out.old ++ Generated.segment from to) }
 {
     write!(out, " seg p{from} p{to}")
 }
@@ -42,7 +45,8 @@ fn put_given_line(out: &mut String, i: u32) -> Result<(), AllocError>
 /// The given literals: each point is between its neighbours.
 fn put_given(out: &mut String, last: u32) -> Result<(), AllocError>
     requires { (3 ≤ last) × (last < 2 ^ 16) }
-    ensures { OnOk result (string_bytes out.new ≡ string_bytes out.old ++ flat_map Generated.given_line (numbers 0 (last - 1))) }
+    ensures { OnOk result (string_bytes out.new ≡ string_bytes out.old
+        ++ flat_map Generated.given_line (numbers 0 (last - 1))) }
 {
     for i in 0..last - 1 {
         put_given_line(out, i)?;
@@ -62,7 +66,8 @@ fn put_added(out: &mut String, i: u32) -> Result<(), AllocError>
 /// The lengths between neighbours after the first.
 fn put_sum(out: &mut String, last: u32) -> Result<(), AllocError>
     requires { (3 ≤ last) × (last < 2 ^ 16) }
-    ensures { OnOk result (string_bytes out.new ≡ string_bytes out.old ++ flat_map Generated.added (numbers 1 (last - 1))) }
+    ensures { OnOk result (string_bytes out.new ≡ string_bytes out.old
+        ++ flat_map Generated.added (numbers 1 (last - 1))) }
 {
     for i in 1..last {
         put_added(out, i)?;
@@ -85,7 +90,8 @@ fn put_show_sum(out: &mut String, last: u32) -> Result<(), AllocError>
 
 /// What is shown second: the first length is less than the whole.
 fn put_show_less(out: &mut String, last: u32) -> Result<(), AllocError>
-    ensures { OnOk result (string_bytes out.new ≡ string_bytes out.old ++ Generated.show_less last) }
+    ensures { OnOk result
+        (string_bytes out.new ≡ string_bytes out.old ++ Generated.show_less last) }
 {
     out.push_str("show")?;
     put_segment(out, 0, 1)?;
@@ -97,7 +103,8 @@ fn put_show_less(out: &mut String, last: u32) -> Result<(), AllocError>
 /// The statement of a theorem.
 fn put_statement(out: &mut String, number: u32, last: u32) -> Result<(), AllocError>
     requires { (3 ≤ last) × (last < 2 ^ 16) }
-    ensures { OnOk result (string_bytes out.new ≡ string_bytes out.old ++ Generated.statement number last) }
+    ensures { OnOk result
+        (string_bytes out.new ≡ string_bytes out.old ++ Generated.statement number last) }
 {
     write!(out, "theorem G{number}\npoints")?;
     put_points(out, last + 1)?;
@@ -110,7 +117,8 @@ fn put_statement(out: &mut String, number: u32, last: u32) -> Result<(), AllocEr
 /// The use of the theorem before, where that has one point less.
 fn put_earlier(out: &mut String, number: u32, last: u32) -> Result<(), AllocError>
     requires { 1 ≤ number }
-    ensures { OnOk result (string_bytes out.new ≡ string_bytes out.old ++ Generated.earlier number last) }
+    ensures { OnOk result
+        (string_bytes out.new ≡ string_bytes out.old ++ Generated.earlier number last) }
 {
     if last > 3 {
         write!(out, "apply G{}", number - 1)?;
@@ -152,7 +160,8 @@ fn put_cites(out: &mut String, i: u32) -> Result<(), AllocError>
 /// These steps for all points between the second and the last.
 fn put_all_cites(out: &mut String, last: u32) -> Result<(), AllocError>
     requires { (3 ≤ last) × (last < 2 ^ 16) }
-    ensures { OnOk result (string_bytes out.new ≡ string_bytes out.old ++ flat_map Generated.cites (numbers 2 (last - 2))) }
+    ensures { OnOk result (string_bytes out.new ≡ string_bytes out.old
+        ++ flat_map Generated.cites (numbers 2 (last - 2))) }
 {
     for i in 2..last {
         put_cites(out, i)?;
@@ -176,7 +185,8 @@ fn put_hence(out: &mut String, i: u32) -> Result<(), AllocError>
 /// These steps, one neighbour after another.
 fn put_lengths(out: &mut String, last: u32) -> Result<(), AllocError>
     requires { (3 ≤ last) × (last < 2 ^ 16) }
-    ensures { OnOk result (string_bytes out.new ≡ string_bytes out.old ++ flat_map Generated.hence_line (numbers 1 (last - 1))) }
+    ensures { OnOk result (string_bytes out.new ≡ string_bytes out.old
+        ++ flat_map Generated.hence_line (numbers 1 (last - 1))) }
 {
     for i in 1..last {
         put_hence(out, i)?;
@@ -188,7 +198,8 @@ fn put_lengths(out: &mut String, last: u32) -> Result<(), AllocError>
 fn put_proof(out: &mut String, number: u32, last: u32) -> Result<(), AllocError>
     requires number { 1 ≤ number }
     requires last { (3 ≤ last) × (last < 2 ^ 16) }
-    ensures { OnOk result (string_bytes out.new ≡ string_bytes out.old ++ Generated.proof number last) }
+    ensures { OnOk result
+        (string_bytes out.new ≡ string_bytes out.old ++ Generated.proof number last) }
 {
     out.push_str("proof\n")?;
     put_earlier(out, number, last)?;
@@ -202,7 +213,8 @@ fn put_proof(out: &mut String, number: u32, last: u32) -> Result<(), AllocError>
 /// A theorem of the book.
 fn put_theorem(out: &mut String, number: u32) -> Result<(), AllocError>
     requires { 1 ≤ number }
-    ensures { OnOk result (string_bytes out.new ≡ string_bytes out.old ++ Generated.theorem_text number) }
+    ensures { OnOk result
+        (string_bytes out.new ≡ string_bytes out.old ++ Generated.theorem_text number) }
 {
     let last = 3 + (number - 1) % 6;
     put_statement(out, number, last)?;

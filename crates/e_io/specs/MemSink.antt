@@ -3,8 +3,8 @@ use Rattle.std.specs.Prelude.{ℕ, Bool, ◌-◌, ◌||◌, ◌==◌, min, List,
 use Rattle.std.specs.List.{list_any}
 use Rattle.e_io.specs.Bytes.{one_more}
 
--- what was written, the most that it holds, the numbers of the calls that fail, the most that a call
--- takes, the number of the next call, and how many calls have failed
+-- what was written, the most that it holds, the numbers of the calls that fail, the most that a
+-- call takes, the number of the next call, and how many calls have failed
 pub record Store : Type 0 where
   pub written : List ℕ
   pub room : ℕ

@@ -1,5 +1,6 @@
 //! Sinks in memory.
-ghost use Rattle.std.specs.Prelude.{◌≡◌, ◌≤◌, ◌<◌, ◌↔◌, Some, None, [], length, IsTrue, IsErr, IfOk, OnErr};
+ghost use Rattle.std.specs.Prelude.{◌≡◌, ◌≤◌, ◌<◌, ◌↔◌, Some, None, []};
+ghost use Rattle.std.specs.Prelude.{length, IsTrue, IsErr, IfOk, OnErr};
 ghost use Rattle.e_io.specs.Bytes.{TakesBytes, Rose};
 ghost use Rattle.e_io.specs.MemSink.{Store, fails, taken, after_write};
 
@@ -25,9 +26,17 @@ impl Model for MemSink {
 
     ghost Value = { Store };
 
-    ghost view = { λ s. record { written = s.bytes.items; room = s.room; fail = s.fail.items; piece = s.piece; call = s.call; faults = s.faults } };
+    ghost view = { λ s. record {
+      written = s.bytes.items;
+      room = s.room;
+      fail = s.fail.items;
+      piece = s.piece;
+      call = s.call;
+      faults = s.faults;
+    } };
 
-    ghost invariant = { λ s. (vec_len s.bytes ≤ s.room) × (s.room ≤ vec_capacity s.bytes) × (0 < s.piece) };
+    ghost invariant = { λ s. (vec_len s.bytes ≤ s.room)
+        × (s.room ≤ vec_capacity s.bytes) × (0 < s.piece) };
 }
 
 impl MemSink {
@@ -42,7 +51,14 @@ impl MemSink {
         piece: usize,
     ) -> Result<MemSink, AllocError>
         requires { 0 < piece }
-        ensures { IfOk result (λ s. s ≡ record { written = []; room = room; fail = fail.items; piece = piece; call = 0; faults = 0 }) }
+        ensures { IfOk result (λ s. s ≡ record {
+          written = [];
+          room = room;
+          fail = fail.items;
+          piece = piece;
+          call = 0;
+          faults = 0;
+        }) }
     {
         Ok(MemSink {
             bytes: Vec::with_capacity(alloc, room)?,

@@ -1,5 +1,6 @@
 //! Sources in memory.
-ghost use Rattle.std.specs.Prelude.{◌≡◌, ◌≤◌, ◌<◌, ◌↔◌, Some, length, drop, min, vec_len, IsTrue, IsErr, IfOk, OnErr};
+ghost use Rattle.std.specs.Prelude.{◌≡◌, ◌≤◌, ◌<◌, ◌↔◌, Some, length, drop};
+ghost use Rattle.std.specs.Prelude.{min, vec_len, IsTrue, IsErr, IfOk, OnErr};
 ghost use Rattle.e_io.specs.Bytes.{ReadsBytes, Rose};
 ghost use Rattle.e_io.specs.MemSource.{Supply, fails, given, after_read, buffer_after};
 
@@ -23,7 +24,13 @@ impl Model for MemSource {
 
     ghost Value = { Supply };
 
-    ghost view = { λ s. record { left = drop s.at s.bytes.items; fail = s.fail.items; piece = s.piece; call = s.call; faults = s.faults } };
+    ghost view = { λ s. record {
+      left = drop s.at s.bytes.items;
+      fail = s.fail.items;
+      piece = s.piece;
+      call = s.call;
+      faults = s.faults;
+    } };
 
     ghost invariant = { λ s. (s.at ≤ vec_len s.bytes) × (0 < s.piece) };
 }
@@ -34,7 +41,13 @@ impl MemSource {
     /// of the next call and the count of faults stay at 2^64 - 1.
     pub fn new(bytes: Vec<u8>, fail: Vec<u64>, piece: usize) -> Self
         requires { 0 < piece }
-        ensures { result ≡ record { left = bytes.items; fail = fail.items; piece = piece; call = 0; faults = 0 } }
+        ensures { result ≡ record {
+          left = bytes.items;
+          fail = fail.items;
+          piece = piece;
+          call = 0;
+          faults = 0;
+        } }
     {
         MemSource {
             bytes,

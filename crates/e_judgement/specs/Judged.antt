@@ -1,5 +1,5 @@
--- The judgement of a derivation text: its theorems are taken one after another, up to the first block in which a line has no form at
--- its place or is not certified.
+-- The judgement of a derivation text: its theorems are taken one after another, up to the first
+-- block in which a line has no form at its place or is not certified.
 use Rattle.std.specs.Prelude.{◌≡◌, ◌⊎◌, ℕ, ◌+◌, Bool, ◌&&◌, List, [], ◌∷◌, ◌++◌, length, codes, Option, Some, None, Result, Ok, Err, if◌then◌else◌}
 use Rattle.std.specs.Str.{bytes_eq}
 use Rattle.e_text.specs.Lines.{LineView, lines_of, fault_line}
@@ -22,7 +22,8 @@ Rest = List (Result LineView LineFault)
 abbrev pub with_theorem : List TitledStatement → TheoremView → List TitledStatement
 with_theorem known t = known ++ headed t.title t.statement ∷ []
 
--- with this known, these lines begin with this theorem and its derivation, in this version, and those are left after it
+-- with this known, these lines begin with this theorem and its derivation, in this version, and
+-- those are left after it
 abbrev pub ReadsNext : Version → ℕ → List TitledStatement → Rest → TheoremView → Rest → Type 0
 ReadsNext v last known lines t after = piece_from known last (at_start v) lines ≡ Ok (Derived t, after)
 
@@ -30,7 +31,8 @@ ReadsNext v last known lines t after = piece_from known last (at_start v) lines 
 abbrev pub IsCertified : List TitledStatement → TheoremView → Type 0
 IsCertified known t = Certified (stated_by known) (stated t.statement) t.script
 
--- these theorems are read one after another, and each is certified by those before it; then this is known, and these lines are left
+-- these theorems are read one after another, and each is certified by those before it; then this is
+-- known, and these lines are left
 abbrev pub Passes : Version → ℕ → List TitledStatement → Rest → List TheoremView → List TitledStatement → Rest → Type 0
 Passes v last known lines [] now rest = (known ≡ now) × (lines ≡ rest)
 Passes v last known lines (t ∷ ts) now rest =
@@ -64,7 +66,8 @@ FailsThere v last known lines j =
 abbrev pub Closes : Version → ℕ → List TitledStatement → Rest → Judgement → Type 0
 Closes v last known lines j = EndsThere v last known lines j ⊎ (BreaksThere v last known lines j ⊎ FailsThere v last known lines j)
 
--- these lines after the head of this version are theorems, each certified by those before it, and then end so
+-- these lines after the head of this version are theorems, each certified by those before it, and
+-- then end so
 pub record IsJudged (v : Version) (last : ℕ) (lines : Rest) (j : Judgement) : Type 0 where
   pub theorems : List TheoremView
   pub known : List TitledStatement

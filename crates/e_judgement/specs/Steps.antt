@@ -15,7 +15,8 @@ use Rattle.e_judgement.specs.declared.next.NextItem.{NextItem}
 use Rattle.e_judgement.specs.declared.next.NextItem.TheVariants.{Theorem, End}
 use Rattle.e_judgement.specs.Judged.{Rest, ReadsNext, IsCertified, Closes, version_of}
 
--- the theorem comes next and is certified, by certificates of the version; without them it has a spelling in a book
+-- the theorem comes next and is certified, by certificates of the version; without them it has a
+-- spelling in a book
 pub record IsNextCertified (v : Version) (known : List TitledStatement) (last : ℕ) (lines : Rest) (t : TheoremView) (after : Rest) : Type 0 where
   pub read : ReadsNext v last known lines t after
   pub certified : IsCertified known t

@@ -47,9 +47,12 @@ fn after_last_line(lines: &mut Lines, theorems: u32) -> Judgement
 
 /// Checks a theorem that is read by those that are known.
 fn check(alloc: Global, known: &Theorems, theorem: &Theorem) -> Result<(), Reject>
-    requires { IsVerifiable (stated_by known.now) (stated theorem.now.statement) (script_of theorem.now.block) }
-    ensures certified { OnOk result (Certified (stated_by known.now) (stated theorem.now.statement) (script_of theorem.now.block)) }
-    ensures bad { IfErr result (RejectIs (verdict (stated_by known.now) (stated theorem.now.statement) (script_of theorem.now.block))) }
+    requires { IsVerifiable (stated_by known.now) (stated theorem.now.statement)
+        (script_of theorem.now.block) }
+    ensures certified { OnOk result (Certified (stated_by known.now) (stated theorem.now.statement)
+        (script_of theorem.now.block)) }
+    ensures bad { IfErr result (RejectIs (verdict (stated_by known.now)
+        (stated theorem.now.statement) (script_of theorem.now.block))) }
 {
     verify(
         alloc,
@@ -69,7 +72,8 @@ pub fn next_item(
 ) -> Result<NextItem, AllocError>
     requires few { length known.now ≤ most_theorems }
     requires known { IsTrue (list_all is_small_statement (stated_by known.now)) }
-    ensures next { IfOk result (λ n. NextCertified version known.now (last_line lines.old) lines.old.lines lines.new.lines n) }
+    ensures next { IfOk result (λ n. NextCertified version known.now
+        (last_line lines.old) lines.old.lines lines.new.lines n) }
     ensures on { IfOk result (λ n. GoesOn n lines.old lines.new) }
 {
     let theorem = match read(alloc, lines, known, version) {

@@ -26,8 +26,8 @@ pub record IsNextChoice (t : StatementView) (scope : Scope) (facts : List Lit) (
   pub good : IsAllowedChoice t scope facts pattern args
   pub above : IsTrue (is_above choices args)
 
--- The first of the good choices in order, at most this many; and whether there are more. No good choice is missing before the last of
--- these, and where there are no more none is missing at all.
+-- The first of the good choices in order, at most this many; and whether there are more. No good
+-- choice is missing before the last of these, and where there are no more none is missing at all.
 pub record AreFirst (t : StatementView) (scope : Scope) (facts : List Lit) (pattern : List (Option Obj)) (most : ℕ) (choices : List (List Obj)) (more : Bool) : Type 0 where
   pub good : (args : List Obj) → Contains choices args → IsAllowedChoice t scope facts pattern args
   pub ascending : IsTrue (is_ascending choices)

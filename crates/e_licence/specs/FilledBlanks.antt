@@ -8,7 +8,8 @@ use Rattle.e_licence.specs.Contexts.{Basis}
 use Rattle.e_licence.specs.declared.blanks.Filled.{Filled}
 use Rattle.e_licence.specs.declared.blanks.Filled.TheVariants as filled
 
--- the least good choice; or no choice is good; or a choice that is not above the least good one, if there is one, is too wide
+-- the least good choice; or no choice is good; or a choice that is not above the least good one, if
+-- there is one, is too wide
 abbrev pub FilledIs : StatementView → Basis → List (Option Obj) → Filled → Type 0
 FilledIs t b pattern (filled.Found args) = IsLeastChoice t b.scope b.facts pattern args
 FilledIs t b pattern filled.None = NoneIsAllowed t b.scope b.facts pattern

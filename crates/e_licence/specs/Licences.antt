@@ -22,8 +22,8 @@ use Rattle.e_licence.specs.declared.contradiction.Refuted.TheVariants as refuted
 
 -- ---- a literal
 
--- the certificate certifies the literal, and names literals that are well formed; one that is among the facts is certified as a
--- fact, with no sums and no rule
+-- the certificate certifies the literal, and names literals that are well formed; one that is among
+-- the facts is certified as a fact, with no sums and no rule
 pub record IsCertifiedBy (b : Basis) (l : Lit) (c : Cert) : Type 0 where
   pub certifies : IsTrue (certifies b.scope b.facts l c)
   pub as_fact : IsTrue (has b.facts l) → c ≡ Plain Fact
@@ -39,7 +39,8 @@ pub record IsRefusedBy (b : Basis) (l : Lit) (values : Option (List (Term × ℕ
   pub not_allowed : ¬ Allowed b.scope b.facts l
   pub shown : IsShownBy b.facts l values
 
--- a certificate; or the literal is not allowed; or it is wide, and this is the width of one of its systems
+-- a certificate; or the literal is not allowed; or it is wide, and this is the width of one of its
+-- systems
 abbrev pub IsLicence : Basis → Lit → Licensed → Type 0
 IsLicence b l (licensed.Yes c) = IsCertifiedBy b l c
 IsLicence b l (licensed.No values) = IsRefusedBy b l values
@@ -47,7 +48,8 @@ IsLicence b l (licensed.TooWide w) = IsTooWideLit b.scope b.facts l w
 
 -- ---- a contradiction
 
--- the certificate shows that the facts contradict each other, and names literals that are well formed
+-- the certificate shows that the facts contradict each other, and names literals that are well
+-- formed
 pub record IsCertifiedAgainst (b : Basis) (against : Against) : Type 0 where
   pub certifies : IsTrue (certifies_against b.scope b.facts against)
   pub written : IsTrue (is_against_of version.One against)
@@ -57,7 +59,8 @@ pub record IsConsistentBy (facts : List Lit) (values : List (Term × ℕ)) : Typ
   pub not_contradictory : ¬ Contradictory facts
   pub shown : ListsCounterexample facts None values
 
--- a certificate; or the facts do not contradict each other; or the contradiction is wide, with the width of a system
+-- a certificate; or the facts do not contradict each other; or the contradiction is wide, with the
+-- width of a system
 abbrev pub IsAnswerAgainst : Basis → Refuted → Type 0
 IsAnswerAgainst b (refuted.Yes against) = IsCertifiedAgainst b against
 IsAnswerAgainst b (refuted.No values) = IsConsistentBy b.facts values

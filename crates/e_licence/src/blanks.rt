@@ -9,7 +9,8 @@ ghost use Rattle.e_theorem.specs.Pattern.{is_pattern};
 ghost use Rattle.e_theorem.specs.Statements.{stated};
 ghost use Rattle.e_transfer.specs.Prepared.{IsPrepared};
 ghost use Rattle.e_licence.specs.inner.BlankChoices;
-ghost use Rattle.e_licence.specs.inner.BlankChoices.{IsKeptChoice, IsWanted, OneIs, AllIs, SomeIsWideAt};
+ghost use Rattle.e_licence.specs.inner.BlankChoices.{IsKeptChoice, IsWanted};
+ghost use Rattle.e_licence.specs.inner.BlankChoices.{OneIs, AllIs, SomeIsWideAt};
 ghost use Rattle.e_licence.specs.FilledBlanks.{FilledIs};
 
 use crate::context::Context;

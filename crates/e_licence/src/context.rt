@@ -1,6 +1,7 @@
 //! What a step is licensed by.
 
-ghost use Rattle.std.specs.Prelude.{◌≡◌, ◌<◌, [], ◌∷◌, ◌++◌, length, IsTrue, IfOk, IfErr, IfSome, OnOk, OnErr, option_copied};
+ghost use Rattle.std.specs.Prelude.{◌≡◌, ◌<◌, [], ◌∷◌, ◌++◌, length, IsTrue, IfOk};
+ghost use Rattle.std.specs.Prelude.{IfErr, IfSome, OnOk, OnErr, option_copied};
 ghost use Rattle.e_literal.specs.Facts.{joined};
 ghost use Rattle.e_clause.specs.Judged.{are_limited_facts, is_well_formed_in};
 ghost use Rattle.e_facts.specs.Adding.{AddedIs};

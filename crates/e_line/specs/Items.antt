@@ -1,4 +1,5 @@
--- The lines of a book by their spelling alone: those of theorems, with items among their literals, and the first line of a definition.
+-- The lines of a book by their spelling alone: those of theorems, with items among their literals,
+-- and the first line of a definition.
 use Rattle.std.specs.Prelude.{ℕ, Bool, true, false, ◌&&◌, List, [], ◌∷◌, take, drop, Result, Ok, Err, codes, if◌then◌else◌}
 use Rattle.std.specs.List.{slice_split, list_any}
 use Rattle.std.specs.Str.{bytes_eq}
@@ -69,8 +70,8 @@ listed line words = do
   items ← items_of words
   Ok (Listed line items)
 
--- a line by its first word and the others: where an item is among literals, the line with its items; the first line of a
--- definition; and any other line as one of a theorem
+-- a line by its first word and the others: where an item is among literals, the line with its
+-- items; the first line of a definition; and any other line as one of a theorem
 unfoldable pub line_named : List ℕ → List (List ℕ) → Result BookLine FaultKind
 line_named w ws =
     if bytes_eq w (codes "define") then define_of ws else

@@ -3,7 +3,8 @@
 ghost use Rattle.std.specs.Prelude.{◌≡◌, ◌&&◌, [], ◌∷◌};
 ghost use Rattle.std.specs.Str.{bytes_eq};
 ghost use Rattle.e_line.specs.Reading.{texts, Gives, Moves, with_front};
-ghost use Rattle.e_line.specs.Items.{as_of, item_of, items_of, begins_item, has_item, define_of, placing_of, listed, line_named, line_of};
+ghost use Rattle.e_line.specs.Items.{as_of, item_of, items_of, begins_item, has_item};
+ghost use Rattle.e_line.specs.Items.{define_of, placing_of, listed, line_named, line_of};
 
 use crate::fault::{FaultKind, LineError};
 use crate::lets::{are_words_of, names_at};

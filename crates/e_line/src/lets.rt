@@ -3,7 +3,8 @@ ghost use Rattle.std.specs.Prelude.{◌≡◌, List, map, slice_get, false, IfOk
 ghost use Rattle.std.specs.Option.{option_map_or};
 ghost use Rattle.e_construct.specs.Views.{piece_view};
 ghost use Rattle.e_line.specs.Reading.{texts, names_of, Gives};
-ghost use Rattle.e_line.specs.Lets.{is_word_of, are_words_of, is_line_of, shapes_of, is_place, words_at, avoided_of, let_named, let_of};
+ghost use Rattle.e_line.specs.Lets.{is_word_of, are_words_of, is_line_of, shapes_of};
+ghost use Rattle.e_line.specs.Lets.{is_place, words_at, avoided_of, let_named, let_of};
 
 use crate::fault::{FaultKind, LineError};
 use crate::words::{cut, some_names};
@@ -85,7 +86,8 @@ fn is_place(new: bool, piece: Piece) -> bool
 
 /// Whether such a place is there.
 fn is_place_at(new: bool, pieces: &[Piece], at: usize) -> bool
-    ensures { result ≡ option_map_or (λ p. is_place new (piece_view p)) (slice_get pieces.now at) false }
+    ensures { result
+        ≡ option_map_or (λ p. is_place new (piece_view p)) (slice_get pieces.now at) false }
 {
     match pieces.get(at) {
         None => false,
@@ -100,7 +102,8 @@ pub(crate) fn names_at(
     pieces: &[Piece],
     words: &[&[u8]],
 ) -> Result<Items<Name>, LineError>
-    ensures { Gives (λ n. n) result (names_of (words_at new (map piece_view pieces.now) (texts words.now))) }
+    ensures { Gives (λ n. n) result
+        (names_of (words_at new (map piece_view pieces.now) (texts words.now))) }
 {
     let mut names = Items::empty(alloc);
     for (i, word) in words.iter().enumerate() {

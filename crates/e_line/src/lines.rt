@@ -5,7 +5,8 @@ ghost use Rattle.e_text.specs.Tokens.{spaced};
 ghost use Rattle.e_construct.specs.Views.{piece_view};
 ghost use Rattle.e_line.specs.declared.raw_line.RawLine.TheVariants as rawlines;
 ghost use Rattle.e_line.specs.Superposes.{superpose_pieces};
-ghost use Rattle.e_line.specs.Canonical.{lit_words, lits_words, filled, line_pieces, avoid_words, argument_word, made_words, line_of};
+ghost use Rattle.e_line.specs.Canonical.{lit_words, lits_words, filled, line_pieces};
+ghost use Rattle.e_line.specs.Canonical.{avoid_words, argument_word, made_words, line_of};
 
 use crate::literal::RawLit;
 use crate::literals::{put_literal, put_literals};
@@ -23,7 +24,8 @@ fn put_citation(
     names: &[Name],
     lit: &RawLit,
 ) -> Result<(), AllocError>
-    ensures { OnOk result (out.new.items ≡ out.old.items ++ spaced (rule.now ∷ (names.now ++ codes ":" ∷ lit_words lit.now))) }
+    ensures { OnOk result (out.new.items ≡ out.old.items
+        ++ spaced (rule.now ∷ (names.now ++ codes ":" ∷ lit_words lit.now))) }
 {
     put(out, rule)?;
     put_names(out, names)?;
@@ -39,7 +41,8 @@ pub fn put_by(
     names: &[Name],
     lit: &RawLit,
 ) -> Result<(), AllocError>
-    ensures { OnOk result (out.new.items ≡ out.old.items ++ line_of (rawlines.By rule.now names.now lit.now)) }
+    ensures { OnOk result
+        (out.new.items ≡ out.old.items ++ line_of (rawlines.By rule.now names.now lit.now)) }
 {
     out.extend_from_slice(b"by")?;
     put_citation(out, rule, names, lit)
@@ -52,7 +55,8 @@ fn put_pieces(
     new: &[Name],
     args: &[Name],
 ) -> Result<(), AllocError>
-    ensures { OnOk result (out.new.items ≡ out.old.items ++ spaced (filled (map piece_view pieces.now) new.now args.now)) }
+    ensures { OnOk result (out.new.items ≡ out.old.items
+        ++ spaced (filled (map piece_view pieces.now) new.now args.now)) }
 {
     let [piece, pieces @ ..] = pieces else {
         return Ok(());
@@ -86,7 +90,8 @@ fn put_shape(
     new: &[Name],
     args: &[Name],
 ) -> Result<(), AllocError>
-    ensures { OnOk result (out.new.items ≡ out.old.items ++ spaced (filled (line_pieces shapes.now) new.now args.now)) }
+    ensures { OnOk result (out.new.items ≡ out.old.items
+        ++ spaced (filled (line_pieces shapes.now) new.now args.now)) }
 {
     match shapes {
         [] => Ok(()),
@@ -113,7 +118,8 @@ fn put_construction(
     args: &[Name],
     avoid: &[Name],
 ) -> Result<(), AllocError>
-    ensures { OnOk result (out.new.items ≡ out.old.items ++ spaced (filled (line_pieces shapes.now) new.now args.now ++ avoid_words avoid.now)) }
+    ensures { OnOk result (out.new.items ≡ out.old.items
+        ++ spaced (filled (line_pieces shapes.now) new.now args.now ++ avoid_words avoid.now)) }
 {
     put_shape(out, shapes, new, args)?;
     put_avoided(out, avoid)?;
@@ -128,7 +134,8 @@ pub fn put_let(
     args: &[Name],
     avoid: &[Name],
 ) -> Result<(), AllocError>
-    ensures { OnOk result (out.new.items ≡ out.old.items ++ line_of (rawlines.Let (record { shapes = shapes.now; new = new.now; args = args.now; avoid = avoid.now }))) }
+    ensures { OnOk result (out.new.items ≡ out.old.items ++ line_of (rawlines.Let
+        (record { shapes = shapes.now; new = new.now; args = args.now; avoid = avoid.now }))) }
 {
     out.extend_from_slice(b"let")?;
     put_construction(out, shapes, new, args, avoid)
@@ -171,7 +178,8 @@ fn put_use(
     args: &[Option<Name>],
     new: &[Name],
 ) -> Result<(), AllocError>
-    ensures { OnOk result (out.new.items ≡ out.old.items ++ spaced (title.now ∷ (map argument_word args.now ++ made_words new.now))) }
+    ensures { OnOk result (out.new.items ≡ out.old.items
+        ++ spaced (title.now ∷ (map argument_word args.now ++ made_words new.now))) }
 {
     put(out, title)?;
     put_arguments(out, args)?;
@@ -186,7 +194,8 @@ pub fn put_apply(
     args: &[Option<Name>],
     new: &[Name],
 ) -> Result<(), AllocError>
-    ensures { OnOk result (out.new.items ≡ out.old.items ++ line_of (rawlines.Apply (record { title = title.now; args = args.now; new = new.now }))) }
+    ensures { OnOk result (out.new.items ≡ out.old.items ++ line_of
+        (rawlines.Apply (record { title = title.now; args = args.now; new = new.now }))) }
 {
     out.extend_from_slice(b"apply")?;
     put_use(out, title, args, new)
@@ -200,7 +209,8 @@ fn put_superposition(
     args: &[Name],
     shown: &[RawLit],
 ) -> Result<(), AllocError>
-    ensures { OnOk result (out.new.items ≡ out.old.items ++ spaced (filled superpose_pieces new.now args.now ++ lits_words shown.now)) }
+    ensures { OnOk result (out.new.items ≡ out.old.items
+        ++ spaced (filled superpose_pieces new.now args.now ++ lits_words shown.now)) }
 {
     put_pieces(out, superposition_pieces(), new, args)?;
     put_literals(out, shown)?;
@@ -215,7 +225,8 @@ pub fn put_superpose(
     new: &[Name],
     shown: &[RawLit],
 ) -> Result<(), AllocError>
-    ensures { OnOk result (out.new.items ≡ out.old.items ++ line_of (rawlines.Superpose (record { args = args.now; new = new.now; shown = shown.now }))) }
+    ensures { OnOk result (out.new.items ≡ out.old.items ++ line_of
+        (rawlines.Superpose (record { args = args.now; new = new.now; shown = shown.now }))) }
 {
     out.extend_from_slice(b"superpose")?;
     put_superposition(out, new, args, shown)
@@ -231,7 +242,8 @@ pub fn put_named(out: &mut Vec<u8>, word: &[u8], names: &[Name]) -> Result<(), A
 
 /// Writes a line of a word and literals.
 pub fn put_stated(out: &mut Vec<u8>, word: &[u8], lits: &[RawLit]) -> Result<(), AllocError>
-    ensures { OnOk result (out.new.items ≡ out.old.items ++ (word.now ++ spaced (lits_words lits.now))) }
+    ensures { OnOk result
+        (out.new.items ≡ out.old.items ++ (word.now ++ spaced (lits_words lits.now))) }
 {
     out.extend_from_slice(word)?;
     put_literals(out, lits)
@@ -239,7 +251,8 @@ pub fn put_stated(out: &mut Vec<u8>, word: &[u8], lits: &[RawLit]) -> Result<(),
 
 /// Writes a line of a word and a literal.
 pub fn put_said(out: &mut Vec<u8>, word: &[u8], lit: &RawLit) -> Result<(), AllocError>
-    ensures { OnOk result (out.new.items ≡ out.old.items ++ (word.now ++ spaced (lit_words lit.now))) }
+    ensures { OnOk result
+        (out.new.items ≡ out.old.items ++ (word.now ++ spaced (lit_words lit.now))) }
 {
     out.extend_from_slice(word)?;
     put_literal(out, lit)

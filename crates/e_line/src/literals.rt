@@ -1,7 +1,8 @@
 //! Terms, sums and literals, with the names that they have.
 ghost use Rattle.std.specs.Prelude.{◌≡◌, ◌++◌, ◌∷◌, [], true, OnOk};
 ghost use Rattle.e_text.specs.Tokens.{spaced};
-ghost use Rattle.e_line.specs.Canonical.{term_words, mono_words, more_monos, sum_words, sums_words, atom_words, not_words, lit_words, more_words, lits_words};
+ghost use Rattle.e_line.specs.Canonical.{term_words, mono_words, more_monos, sum_words, sums_words};
+ghost use Rattle.e_line.specs.Canonical.{atom_words, not_words, lit_words, more_words, lits_words};
 
 use crate::literal::{RawAtom, RawLit};
 use crate::sum::{RawMono, RawTerm};
@@ -69,7 +70,8 @@ fn put_sums(
     sign: &[u8],
     right: &[RawMono],
 ) -> Result<(), AllocError>
-    ensures { OnOk result (out.new.items ≡ out.old.items ++ spaced (sums_words left.now sign.now right.now)) }
+    ensures { OnOk result
+        (out.new.items ≡ out.old.items ++ spaced (sums_words left.now sign.now right.now)) }
 {
     put_sum(out, left)?;
     put_side(out, sign, right)?;

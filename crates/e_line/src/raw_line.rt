@@ -1,7 +1,8 @@
 //! The forms of lines, known from their words by spelling alone.
 ghost use Rattle.std.specs.Prelude.{◌≡◌, List, length, IfOk, [], ◌∷◌, ◌==◌};
 ghost use Rattle.e_line.specs.Reading.{texts, Gives};
-ghost use Rattle.e_line.specs.RawLines.{declare_of, sort_of, made_of, by_of, raw_line_of, raw_line_named, theorem_of, bare};
+ghost use Rattle.e_line.specs.RawLines.{declare_of, sort_of, made_of, by_of};
+ghost use Rattle.e_line.specs.RawLines.{raw_line_of, raw_line_named, theorem_of, bare};
 
 use crate::applies::{RawApply, apply_of};
 use crate::fault::{FaultKind, LineError};

@@ -1,7 +1,8 @@
 //! The forms of sums, known from their words by spelling alone.
 ghost use Rattle.std.specs.Prelude.{◌≡◌, true};
 ghost use Rattle.e_line.specs.Reading.{texts, Gives, Moves, with_front, each};
-ghost use Rattle.e_line.specs.Sums.{term_named, term_of, coefficient_of, counted_term, mono_of, is_plus, is_zero, sum_of};
+ghost use Rattle.e_line.specs.Sums.{term_named, term_of, coefficient_of};
+ghost use Rattle.e_line.specs.Sums.{counted_term, mono_of, is_plus, is_zero, sum_of};
 ghost use Rattle.std.specs.List.{slice_split};
 ghost use Rattle.e_text.specs.Numerals.{is_numeral};
 
@@ -123,7 +124,8 @@ fn is_zero(words: &[&[u8]]) -> bool
 
 /// Monomials with a plus between two, put last.
 fn put_monos_of(words: &[&[u8]], monos: &mut Items<RawMono>) -> Result<(), LineError>
-    ensures { Moves result monos.new (with_front monos.old (each mono_of (slice_split is_plus (texts words.now)))) }
+    ensures { Moves result monos.new
+        (with_front monos.old (each mono_of (slice_split is_plus (texts words.now)))) }
 {
     let mut at = 0;
     while at <= words.len() {

@@ -1,11 +1,13 @@
 //! The words of a line that are still to be read.
-ghost use Rattle.std.specs.Prelude.{◌≡◌, ◌<◌, ◌≤◌, IsTrue, if◌then◌else◌, List, length, IfOk, [], ◌∷◌, ◌==◌};
+ghost use Rattle.std.specs.Prelude.{◌≡◌, ◌<◌, ◌≤◌, IsTrue, if◌then◌else◌};
+ghost use Rattle.std.specs.Prelude.{List, length, IfOk, [], ◌∷◌, ◌==◌};
 ghost use Rattle.std.specs.Iterator.{YieldsFirst};
 ghost use Rattle.e_text.specs.Tokens.{tokens_of};
 ghost use Rattle.std.specs.List.{position_or_len};
 ghost use Rattle.std.specs.Str.{bytes_eq};
 ghost use Rattle.e_line.specs.Canonical.{sort_word};
-ghost use Rattle.e_line.specs.Reading.{cut_at, texts, Gives, Reads, word_at, name_at, title_at, end_at, names_of, some_names, two_names, three_names};
+ghost use Rattle.e_line.specs.Reading.{cut_at, texts, Gives, Reads, word_at, name_at, title_at};
+ghost use Rattle.e_line.specs.Reading.{end_at, names_of, some_names, two_names, three_names};
 
 use crate::fault::{FaultKind, LineError};
 use e_literal::{Items, Sort};
@@ -51,7 +53,8 @@ pub fn place_of(words: &[&[u8]], word: &[u8]) -> usize
 
 /// The words before a word, those after it, and whether it is there.
 pub fn cut<'b, 'a>(words: &'b [&'a [u8]], word: &[u8]) -> (&'b [&'a [u8]], &'b [&'a [u8]], bool)
-    ensures cut { cut_at word.now (texts words.now) ≡ (texts result.0.now, texts result.1.now, result.2) }
+    ensures cut { cut_at word.now (texts words.now)
+        ≡ (texts result.0.now, texts result.1.now, result.2) }
     ensures shorter { IsTrue result.2 → length result.1.now < length words.now }
 {
     let end = place_of(words, word);

@@ -83,7 +83,8 @@ fn put_terms(
     y: &[Mono],
     monos: &[Mono],
 ) -> Result<(), AllocError>
-    ensures { OnOk result (form.new.entries ≡ fold (put_term x.now y.now) form.old.entries monos.now) }
+    ensures { OnOk result
+        (form.new.entries ≡ fold (put_term x.now y.now) form.old.entries monos.now) }
 {
     for m in monos {
         put_mono(form, x, y, *m)?;

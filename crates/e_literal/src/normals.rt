@@ -45,7 +45,8 @@ impl Normal {
     /// literals that are the same.
     pub fn is_equal(&self, other: &Normal) -> bool
         ensures decides { IsTrue result ↔ (form_of self.now ≡ form_of other.now) }
-        ensures same { (a b : Lit) → form_of self.now ≡ normal_form a → form_of other.now ≡ normal_form b → result ≡ same_lit a b }
+        ensures same { (a b : Lit) → form_of self.now ≡ normal_form a
+            → form_of other.now ≡ normal_form b → result ≡ same_lit a b }
     {
         self == other
     }

@@ -82,7 +82,8 @@ fn term_has_images(map: &Map, term: Term) -> bool
 }
 
 fn renamed_atom(alloc: Global, atom: &Atom, map: &Map) -> Result<Atom, AllocError>
-    ensures { IfOk result (λ a. a ≡ atom_at (number_at (image_in map.now) Point) (number_at (image_in map.now) Line) (number_at (image_in map.now) Circle) atom.now) }
+    ensures { IfOk result (λ a. a ≡ atom_at (number_at (image_in map.now) Point)
+        (number_at (image_in map.now) Line) (number_at (image_in map.now) Circle) atom.now) }
 {
     let atom = match atom {
         Atom::On(a, l) => Atom::On(point(map, *a), line(map, *l)),
@@ -130,7 +131,8 @@ fn circle(map: &Map, number: u16) -> u16
 }
 
 fn renamed_sum(alloc: Global, form: &Form, map: &Map) -> Result<Form, AllocError>
-    ensures { IfOk result (λ f. f ≡ map_list (mono_at (number_at (image_in map.now) Point)) form.now) }
+    ensures { IfOk result
+        (λ f. f ≡ map_list (mono_at (number_at (image_in map.now) Point)) form.now) }
 {
     let mut monos = Vec::with_capacity(alloc, form.items().len())?;
     for m in form.items() {

@@ -14,7 +14,8 @@ use Rattle.e_fraction.specs.Limits.{has_small_coefficients}
 abbrev pub has_no_zero : Summands → Bool
 has_no_zero form = list_all (λ p. not (int_eq p.0 (pos 0))) form
 
--- the row says the same of a form with the same coefficients, in which each term occurs once and none with 0
+-- the row says the same of a form with the same coefficients, in which each term occurs once and
+-- none with 0
 pub record IsRow (given : GivenRow) (r : Row) : Type 0 where
   pub says : says_of given.kind ≡ r.says
   pub coefficients : (t : Term) → coefficient given.form t ≡ coefficient r.form t

@@ -12,6 +12,7 @@ abbrev pub with_listed : List Term → List Term → List Term
 with_listed seen [] = seen
 with_listed seen (t ∷ ts) = with_listed (if has_term seen t then seen else seen ++ t ∷ []) ts
 
--- the terms of the facts of a kind and of the wanted literal, if it is of the kind, each once, as it is written first
+-- the terms of the facts of a kind and of the wanted literal, if it is of the kind, each once, as
+-- it is written first
 abbrev pub distinct_terms : Kind → List Lit → Option Lit → List Term
 distinct_terms which facts wanted = first_terms [] (terms_of_lits (of_kind which facts) ++ terms_of_lits (of_kind which (against_goal wanted)))

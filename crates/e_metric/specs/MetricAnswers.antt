@@ -24,7 +24,8 @@ abbrev pub wanted_in : Scope → Option Lit → Bool
 wanted_in s (Some l) = all_in_scope s l
 wanted_in s None = true
 
--- the sums refute; they name no object but those of the facts and of the wanted literal, and no literal that is not well formed
+-- the sums refute; they name no object but those of the facts and of the wanted literal, and no
+-- literal that is not well formed
 pub record IsMetricCertificate (facts : List Lit) (wanted : Option Lit) (m : MetricCert) : Type 0 where
   pub refutes : IsTrue (sums_refute facts wanted m.sums)
   pub scoped : (s : Scope) → IsTrue (list_all (all_in_scope s) facts) → IsTrue (wanted_in s wanted) → IsTrue (sums_in s m.sums)

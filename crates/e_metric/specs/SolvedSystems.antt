@@ -40,7 +40,8 @@ pub record AreTogether (which : Kind) (facts : List Lit) (wanted : Option Lit) (
   pub named : AreNamed all (g.names.items ++ names) (g.rows.items ++ rows)
   pub settled : g.settled ≡ g.rows.items
 
--- the system of the facts of one kind: their rows have a solution; or they contradict each other; or their system is wide
+-- the system of the facts of one kind: their rows have a solution; or they contradict each other;
+-- or their system is wide
 abbrev pub IsKindSystem : Kind → List Lit → KindSystem → Type 0
 IsKindSystem which facts (Solved g) = IsSolvedSystem which facts g
 IsKindSystem which facts (Absurd m) = IsMetricCertificate facts None m
@@ -54,7 +55,8 @@ AnswersAs kind_system other = (which : Kind) (facts : List Lit) → IsKindSystem
 abbrev pub IsContradictionOf : KindSystem → Option MetricCert → Type 0
 IsContradictionOf kind_system o = (which : Kind) (facts : List Lit) → IsKindSystem which facts kind_system → IfSome o (IsMetricCertificate facts None)
 
--- the answer on each wanted literal of another kind, or of the facts alone, by the system of the facts of this kind
+-- the answer on each wanted literal of another kind, or of the facts alone, by the system of the
+-- facts of this kind
 abbrev pub IsAnswerAlone : KindSystem → Metric → Type 0
 IsAnswerAlone kind_system m =
     (which : Kind) (facts : List Lit) (wanted : Option Lit) → IsKindSystem which facts kind_system → of_kind which (against_goal wanted) ≡ [] → IsKindAnswer which facts wanted m

@@ -1,6 +1,7 @@
 //! Certificates from multipliers of the rows of a system.
 
-ghost use Rattle.std.specs.Prelude.{◌≡◌, ℕ, ◌+◌, ◌<◌, ◌≤◌, ◌^◌, ◌++◌, ◌∷◌, [], length, get_or, set, pos, unsigned_abs, IfOk, OnOk, IsTrue};
+ghost use Rattle.std.specs.Prelude.{◌≡◌, ℕ, ◌+◌, ◌<◌, ◌≤◌, ◌^◌, ◌++◌, ◌∷◌, [], length};
+ghost use Rattle.std.specs.Prelude.{get_or, set, pos, unsigned_abs, IfOk, OnOk, IsTrue};
 ghost use Rattle.e_literal.specs.Absurd;
 ghost use Rattle.e_fraction.specs.Limits.{all_small};
 ghost use Rattle.e_fraction.specs.Views.{weighed, all_seen};
@@ -76,9 +77,10 @@ fn use_row(
     row: &Row,
     weight: i128,
 ) -> Result<(), AllocError>
-    ensures { OnOk result (
-        (rows.new.items ≡ rows.old.items ++ Certificate.used_rows (row.now ∷ []) (weight ∷ []))
-        × (weights.new.items ≡ weights.old.items ++ Certificate.used_weights (row.now ∷ []) (weight ∷ []))) }
+    ensures { OnOk result
+        ((rows.new.items ≡ rows.old.items ++ Certificate.used_rows (row.now ∷ []) (weight ∷ []))
+        × (weights.new.items ≡ weights.old.items
+        ++ Certificate.used_weights (row.now ∷ []) (weight ∷ []))) }
 {
     if weight != 0 {
         rows.push(copied_row(alloc, row)?)?;

@@ -1,7 +1,8 @@
 //! Whether a metric literal follows from the facts of a step, and whether they contradict each
 //! other.
 
-ghost use Rattle.std.specs.Prelude.{◌≡◌, ◌≤◌, [], ◌∷◌, length, map, option_copied, IsTrue, IfOk, Some, None};
+ghost use Rattle.std.specs.Prelude.{◌≡◌, ◌≤◌, [], ◌∷◌, length, map};
+ghost use Rattle.std.specs.Prelude.{option_copied, IsTrue, IfOk, Some, None};
 ghost use Rattle.std.specs.List.{list_all};
 ghost use Rattle.e_literal.specs.WellFormed.{is_well_formed};
 ghost use Rattle.e_clause.specs.Assignment.{terms_of_lits};
@@ -12,7 +13,8 @@ ghost use Rattle.e_fraction.specs.Views.{all_seen};
 ghost use Rattle.e_simplex.specs.Answer.{IsAbsurdity};
 ghost use Rattle.e_metric.specs.inner.Certificate;
 ghost use Rattle.e_metric.specs.ListedTerms.{distinct_terms, with_listed};
-ghost use Rattle.e_metric.specs.MetricAnswers.{IsMetricAnswer, IsKindAnswer, preferred, IfYes, IfNo};
+ghost use Rattle.e_metric.specs.MetricAnswers.{IsMetricAnswer, IsKindAnswer};
+ghost use Rattle.e_metric.specs.MetricAnswers.{preferred, IfYes, IfNo};
 
 use crate::assigning::counterexample;
 use crate::by_kind::{ByKind, other_kinds};

@@ -2,7 +2,8 @@
 
 ghost use Rattle.std.specs.Prelude.{◌≡◌, ◌+◌, ◌<◌, ◌≤◌, ◌^◌, length, pos, OnOk, IfOk};
 ghost use Rattle.e_literal.specs.Same.{coeff_of};
-ghost use Rattle.e_metric.specs.inner.Differences.{coefficient_in_difference, difference_form, with_summand, with_summands};
+ghost use Rattle.e_metric.specs.inner.Differences.{coefficient_in_difference, difference_form};
+ghost use Rattle.e_metric.specs.inner.Differences.{with_summand, with_summands};
 
 use e_fraction::stands_in;
 use e_literal::{Mono, Term, canonical, coefficient_in, is_degenerate};

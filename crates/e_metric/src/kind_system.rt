@@ -1,12 +1,14 @@
 //! The system of the facts of one kind.
 
-ghost use Rattle.std.specs.Prelude.{◌≡◌, ◌≤◌, ◌++◌, length, take, flat_map, true, IsTrue, IfOk, MatchOption, Some, None};
+ghost use Rattle.std.specs.Prelude.{◌≡◌, ◌≤◌, ◌++◌, length, take, flat_map};
+ghost use Rattle.std.specs.Prelude.{true, IsTrue, IfOk, MatchOption, Some, None};
 ghost use Rattle.std.specs.List.{list_all};
 ghost use Rattle.e_literal.specs.WellFormed.{is_well_formed};
 ghost use Rattle.e_clause.specs.Assignment.{terms_of_lits};
 ghost use Rattle.e_clause.specs.Laws.{is_well_formed_metric};
 ghost use Rattle.e_clause.specs.System.{rows_of_term};
-ghost use Rattle.e_metric.specs.SolvedSystems.{AreTogether, IsContradictionOf, IsSolvedSystem, IsKindSystem, IsAnswerAlone, AnswersAs};
+ghost use Rattle.e_metric.specs.SolvedSystems.{AreTogether, IsContradictionOf, IsSolvedSystem};
+ghost use Rattle.e_metric.specs.SolvedSystems.{IsKindSystem, IsAnswerAlone, AnswersAs};
 ghost use Rattle.e_metric.specs.ListedTerms;
 ghost use Rattle.e_metric.specs.MetricAnswers.{IsKindAnswer};
 

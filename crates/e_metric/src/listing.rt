@@ -1,6 +1,7 @@
 //! The terms of the literals of a kind.
 
-ghost use Rattle.std.specs.Prelude.{◌≡◌, ◌≤◌, ◌++◌, ◌∷◌, [], length, map, drop, option_copied, OnOk, IfOk};
+ghost use Rattle.std.specs.Prelude.{◌≡◌, ◌≤◌, ◌++◌, ◌∷◌, [], length};
+ghost use Rattle.std.specs.Prelude.{map, drop, option_copied, OnOk, IfOk};
 ghost use Rattle.e_literal.specs.Rows;
 ghost use Rattle.e_clause.specs.Assignment.{terms_of_atom, terms_of_lits};
 ghost use Rattle.e_clause.specs.System;

@@ -1,6 +1,7 @@
 //! What is solved of the facts of a step, kind by kind, from as many of them as were asked about.
 
-ghost use Rattle.std.specs.Prelude.{◌≡◌, ◌≤◌, [], length, take, true, option_copied, IsTrue, IfOk, IfSome, MatchOption, List, Some, None};
+ghost use Rattle.std.specs.Prelude.{◌≡◌, ◌≤◌, [], length, take, true, option_copied};
+ghost use Rattle.std.specs.Prelude.{IsTrue, IfOk, IfSome, MatchOption, List, Some, None};
 ghost use Rattle.std.specs.List.{list_all};
 ghost use Rattle.e_literal.specs.declared.object.Kind.{Kind};
 ghost use Rattle.e_literal.specs.declared.literal.Lit.{Lit};
@@ -12,7 +13,8 @@ ghost use Rattle.e_clause.specs.Metric.{MetricConsequence, Unsatisfiable};
 ghost use Rattle.e_clause.specs.System.{of_kind, against_goal};
 ghost use Rattle.e_metric.specs.Fronts.{IsFrontSystem, IsFrontAs, AreFronts};
 ghost use Rattle.e_metric.specs.SolvedSystems.{IsKindSystem};
-ghost use Rattle.e_metric.specs.MetricAnswers.{IsMetricCertificate, IsMetricAnswer, IsKindAnswer, IfYes, IfNo};
+ghost use Rattle.e_metric.specs.MetricAnswers.{IsMetricCertificate, IsMetricAnswer};
+ghost use Rattle.e_metric.specs.MetricAnswers.{IsKindAnswer, IfYes, IfNo};
 
 use crate::by_kind::{ByKind, other_kinds};
 use crate::consequence::{Metric, answer_of_kind, joined_answer};

@@ -1,13 +1,15 @@
 //! The metric systems.
 
-ghost use Rattle.std.specs.Prelude.{◌≡◌, ◌≤◌, ◌∷◌, [], true, length, drop, option_copied, flat_map, IfOk, OnOk, IsTrue, Some};
+ghost use Rattle.std.specs.Prelude.{◌≡◌, ◌≤◌, ◌∷◌, [], true, length, drop};
+ghost use Rattle.std.specs.Prelude.{option_copied, flat_map, IfOk, OnOk, IsTrue, Some};
 ghost use Rattle.std.specs.Option.{option_map_or};
 ghost use Rattle.std.specs.List.{list_all};
 ghost use Rattle.e_literal.specs.WellFormed.{is_well_formed};
 ghost use Rattle.e_clause.specs.declared.cert.RowName.TheVariants as name;
 ghost use Rattle.e_clause.specs.System.{NamedRow};
 ghost use Rattle.e_clause.specs.System;
-ghost use Rattle.e_clause.specs.System.{of_kind, against_goal, rows_named, rows_of_term, rows_of_kind};
+ghost use Rattle.e_clause.specs.System.{of_kind, against_goal, rows_named};
+ghost use Rattle.e_clause.specs.System.{rows_of_term, rows_of_kind};
 ghost use Rattle.e_metric.specs.inner.FurtherRows;
 ghost use Rattle.e_metric.specs.AgreeingRows.{AreRows, AllLimited, GrowBy, IsRow, IsLimited};
 

@@ -29,8 +29,9 @@ entries_in ns _ _ = Ok []
 abbrev pub count_blanks : List (Option Obj) → ℕ
 count_blanks pattern = length (filter is_none pattern)
 
--- the title, then how many arguments and new names there are, then the arguments, then the new names, as they are on the line:
--- the place of the theorem, and what stands for its declared objects
+-- the title, then how many arguments and new names there are, then the arguments, then the new
+-- names, as they are on the line: the place of the theorem, and what stands for its declared
+-- objects
 unfoldable pub apply_in : List TitledStatement → Names → RawApply → Result (ℕ × List (Option Obj)) FaultKind
 apply_in known ns raw = do
   k ← known_place (place_in known raw.title)

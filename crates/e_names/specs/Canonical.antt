@@ -90,8 +90,8 @@ by_form ns b = rawlines.By (rule_name b.rule) (map (name_of_object ns) b.args) (
 abbrev pub hence_form : Names → Lit → RawLine
 hence_form ns l = rawlines.Hence (raw_of ns l)
 
--- the line of a construction, with names for the objects that it makes. Its words are those of other shapes too where these
--- have the same line: the sorts of the arguments tell them apart.
+-- the line of a construction, with names for the objects that it makes. Its words are those of
+-- other shapes too where these have the same line: the sorts of the arguments tell them apart.
 abbrev pub let_form : Names → Construction → List (List ℕ) → RawLine
 let_form ns form names =
     rawlines.Let (record { shapes = form.shape ∷ []; new = names; args = map (name_of_object ns) form.args; avoid = map (name_of_object ns) form.avoid })

@@ -18,8 +18,8 @@ abbrev pub known_notion : Option Notion → Result Notion FaultKind
 known_notion None = Err UnknownName
 known_notion (Some n) = Ok n
 
--- the title, then how many names there are, then the names: the literals of the notion with their objects for its declared ones, or the
--- first of them where there are more than this many
+-- the title, then how many names there are, then the names: the literals of the notion with their
+-- objects for its declared ones, or the first of them where there are more than this many
 unfoldable pub meant_in : List Titled → Names → ℕ → RawAs → Result (List Lit) FaultKind
 meant_in notions ns most raw = do
   n ← known_notion (notion_of notions raw.title)
@@ -27,8 +27,9 @@ meant_in notions ns most raw = do
   args ← objects_of_sorts ns n.declared raw.args
   Ok (take most (expanded n args (scope_of_names ns)))
 
--- what an item stands for, and how many literals of the line are of notions, of which this many come before it. One more than a theorem may
--- have stands for all that are too many: then the line passes a limit, whatever else it has.
+-- what an item stands for, and how many literals of the line are of notions, of which this many
+-- come before it. One more than a theorem may have stands for all that are too many: then the line
+-- passes a limit, whatever else it has.
 abbrev pub item_in : List Titled → Names → ℕ → RawItem → Result (List Lit × ℕ) FaultKind
 item_in notions ns n (Literal raw) = lit_in ns raw >>= λ l. Ok (l ∷ [], n)
 item_in notions ns n (As raw) = meant_in notions ns (most_expanded + 1 - n) raw >>= λ ls. Ok (ls, n + length ls)

@@ -220,7 +220,8 @@ abbrev pub right_sort : Bool → Result (Unit {0}) FaultKind
 right_sort true = Ok tt
 right_sort false = Err WrongSort
 
--- the arguments, after those that were found: each has a sort that one of the shapes takes there, after the earlier ones
+-- the arguments, after those that were found: each has a sort that one of the shapes takes there,
+-- after the earlier ones
 abbrev pub arguments_in : Names → List Shape → List Obj → List (List ℕ) → Result (List Obj) FaultKind
 arguments_in ns shapes found [] = Ok found
 arguments_in ns shapes found (name ∷ names) =
@@ -229,15 +230,16 @@ arguments_in ns shapes found (name ∷ names) =
 abbrev pub construction : Shape → List Obj → List Obj → Construction
 construction shape args avoid = record { shape = shape; args = args; avoid = avoid }
 
--- the construction of the first shape that fits the objects. A line of a book has one: its shapes have as many arguments as
--- the line, and the last argument has a sort that one of them takes after the others.
+-- the construction of the first shape that fits the objects. A line of a book has one: its shapes
+-- have as many arguments as the line, and the last argument has a sort that one of them takes after
+-- the others.
 abbrev pub first_fitting : Scope → List Obj → List Obj → List Shape → Result Construction FaultKind
 first_fitting s args avoid [] = Err Malformed
 first_fitting s args avoid (shape ∷ shapes) =
     if fits_construction (construction shape args avoid) s then Ok (construction shape args avoid) else first_fitting s args avoid shapes
 
--- the new names, then the arguments, then the avoided objects, as they are on the line. No line of a book has another number
--- of new names than objects that are made.
+-- the new names, then the arguments, then the avoided objects, as they are on the line. No line of
+-- a book has another number of new names than objects that are made.
 unfoldable pub let_in : Names → RawLet → Result Construction FaultKind
 let_in ns l = do
   free ← fresh ns [] l.new
@@ -254,7 +256,8 @@ abbrev pub objects_of_sorts : Names → List Sort → List (List ℕ) → Result
 objects_of_sorts ns (sort ∷ sorts) (name ∷ names) = object_as ns sort name >>= λ o. objects_of_sorts ns sorts names >>= λ os. Ok (o ∷ os)
 objects_of_sorts ns _ _ = Ok []
 
--- the objects after qed: as many as the goal has made ones, and then each of the sort of its made one
+-- the objects after qed: as many as the goal has made ones, and then each of the sort of its made
+-- one
 unfoldable pub qed_in : Names → List Sort → List (List ℕ) → Result (List Obj) FaultKind
 qed_in ns made names = do
   right ← right_count (length names == length made)

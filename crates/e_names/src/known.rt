@@ -39,7 +39,8 @@ impl Known {
     /// Puts a theorem last. When memory runs out all is as before.
     pub fn add(&mut self, title: Title, statement: Statement) -> Result<(), AllocError>
         requires new { is_taken self.old title ≡ false }
-        ensures ok { OnOk result (self.new ≡ record self.old { theorems = self.old.theorems ++ headed title statement ∷ [] }) }
+        ensures ok { OnOk result (self.new
+            ≡ record self.old { theorems = self.old.theorems ++ headed title statement ∷ [] }) }
         ensures err { OnErr result (self.new ≡ self.old) }
     {
         self.theorems.add(title, statement)
@@ -48,7 +49,9 @@ impl Known {
     /// Puts a definition last. When memory runs out all is as before.
     pub fn add_notion(&mut self, title: Title, notion: Notion) -> Result<(), AllocError>
         requires new { is_taken self.old title ≡ false }
-        ensures ok { OnOk result (self.new ≡ record self.old { notions = self.old.notions ++ titled title notion ∷ [] }) }
+        ensures ok { OnOk result (self.new ≡ record self.old {
+          notions = self.old.notions ++ titled title notion ∷ [];
+        }) }
         ensures err { OnErr result (self.new ≡ self.old) }
     {
         self.notions.add(title, notion)

@@ -45,7 +45,8 @@ fn meant_in(
     requires names { FewNames names.now }
     requires notions { IsTrue (are_notions notions.now) }
     ensures value { Gives (λ l. l) result (meant_in notions.now names.now most raw.now) }
-    ensures within { IfOk result (λ l. IsTrue (list_all (all_in_scope (scope_of_names names.now)) l)) }
+    ensures within { IfOk result
+        (λ l. IsTrue (list_all (all_in_scope (scope_of_names names.now)) l)) }
     ensures count { IfOk result (λ l. length l ≤ most) }
 {
     let notion = known_notion(notions, raw.title)?;
@@ -73,7 +74,8 @@ fn put_item(
     requires names { FewNames names.now }
     requires notions { IsTrue (are_notions notions.now) }
     requires count { count ≤ most_expanded + 1 }
-    ensures value { Writes names.now result raws.old raws.new (item_in notions.now names.now count item.now) }
+    ensures value { Writes names.now result raws.old raws.new
+        (item_in notions.now names.now count item.now) }
     ensures count { IfOk result (λ n. n ≤ most_expanded + 1) }
 {
     match item {
@@ -103,7 +105,8 @@ pub fn put_items(
     requires names { FewNames names.now }
     requires notions { IsTrue (are_notions notions.now) }
     requires count { count ≤ most_expanded + 1 }
-    ensures value { Writes names.now result raws.old raws.new (items_in notions.now names.now count items.now) }
+    ensures value { Writes names.now result raws.old raws.new
+        (items_in notions.now names.now count items.now) }
     ensures count { IfOk result (λ n. n ≤ most_expanded + 1) }
 {
     match items {

@@ -1,6 +1,7 @@
 //! Objects, terms and literals by their names, as a line spells them.
 ghost use Rattle.std.specs.Prelude.{◌≡◌, ◌++◌, map, true, IfOk, OnOk};
-ghost use Rattle.e_names.specs.Canonical.{nameless, name_at, name_of_object, raw_term, raw_sum, raw_atom, raw_signed, raw_of};
+ghost use Rattle.e_names.specs.Canonical.{nameless, name_at, name_of_object, raw_term};
+ghost use Rattle.e_names.specs.Canonical.{raw_sum, raw_atom, raw_signed, raw_of};
 
 use e_deriv::Names;
 use e_line::{RawAtom, RawLit, RawMono, RawTerm};

@@ -6,7 +6,12 @@ ghost use Rattle.e_clause.specs.Sigs.{sig_of};
 ghost use Rattle.std.specs.List.{list_any};
 ghost use Rattle.e_construct.specs.Lines;
 ghost use Rattle.e_line.specs.Reading.{Gives, Moves, each, with_front};
-ghost use Rattle.e_names.specs.Scope.{object_in, object_of, used, number_at, number_of, on_sort, line_meets, meets_from, equal_at, atom_in, negated_in, lit_in, lits_in, object_as, objects_as, is_taken, fresh, args_in, by_in, known_rule, FewNames, scope_of_names, arguments_in, first_fitting, let_in, objects_of_sorts, qed_in};
+ghost use Rattle.e_names.specs.Scope.{object_in, object_of, used, number_at, number_of};
+ghost use Rattle.e_names.specs.Scope.{on_sort, line_meets, meets_from, equal_at};
+ghost use Rattle.e_names.specs.Scope.{atom_in, negated_in, lit_in, lits_in, object_as};
+ghost use Rattle.e_names.specs.Scope.{objects_as, is_taken, fresh, args_in, by_in};
+ghost use Rattle.e_names.specs.Scope.{known_rule, FewNames, scope_of_names, arguments_in};
+ghost use Rattle.e_names.specs.Scope.{first_fitting, let_in, objects_of_sorts, qed_in};
 
 use crate::terms::{Sides, sums_in};
 use e_clause::{By, Rule, Sig};

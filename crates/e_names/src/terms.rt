@@ -13,7 +13,8 @@ use std::alloc::Global;
 
 fn point(names: &Names, name: Name) -> Result<u16, LineError>
     requires { FewNames names.now }
-    ensures { Gives (λ n. n) result (Rattle.e_names.specs.Scope.number_of names.now Sort.Point name) }
+    ensures { Gives (λ n. n) result
+        (Rattle.e_names.specs.Scope.number_of names.now Sort.Point name) }
 {
     number_of(names, Sort::Point, name)
 }

@@ -1,6 +1,8 @@
 //! The theorems that are known.
-ghost use Rattle.std.specs.Prelude.{◌≡◌, ◌++◌, ◌∷◌, [], ◌<◌, ◌≤◌, ◌^◌, OnOk, OnErr, length, slice_get, Some, false};
-ghost use Rattle.e_names.specs.TitledStatements.{headed, titles, statements, is_known, place_in, theorem_of};
+ghost use Rattle.std.specs.Prelude.{◌≡◌, ◌++◌, ◌∷◌, [], ◌<◌, ◌≤◌, ◌^◌, OnOk};
+ghost use Rattle.std.specs.Prelude.{OnErr, length, slice_get, Some, false};
+ghost use Rattle.e_names.specs.TitledStatements.{headed, titles, statements};
+ghost use Rattle.e_names.specs.TitledStatements.{is_known, place_in, theorem_of};
 ghost use Rattle.e_theorem.specs.Statements.{stated};
 
 use e_text::Title;

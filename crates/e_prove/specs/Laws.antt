@@ -45,7 +45,8 @@ IsRefusalAt n wanted (Unlicensed step lacked values names) = (step ≡ n) × (la
 IsRefusalAt n wanted (TooWide step lacked width names) = ⊥
 IsRefusalAt n wanted NoMemory = Unit {0}
 
--- where step n is the first that is not licensed, and no step up to it is wide, a stop is there, and says what is lacked
+-- where step n is the first that is not licensed, and no step up to it is wide, a stop is there,
+-- and says what is lacked
 abbrev pub RefusedStopsThere : Type 0
 RefusedStopsThere =
     (before : List StatementView) (t : StatementView) (script : Script) (n : ℕ) (wanted : Wanted) (stop : Stop) (first : IsFirstUnlicensed before t script n wanted) →

@@ -8,8 +8,9 @@ use Rattle.e_deriv.specs.Naming.{names_lines, declared_names}
 use Rattle.e_deriv.specs.Licensed.{IsContext}
 use Rattle.e_prove.specs.declared.place.Place.{Place}
 
--- All steps before the one with this number are licensed, with their blanks filled by the least good choices; these are the objects in
--- scope before it and the facts, and the names of the objects, where those are the names of the statement's declared and made objects.
+-- All steps before the one with this number are licensed, with their blanks filled by the least
+-- good choices; these are the objects in scope before it and the facts, and the names of the
+-- objects, where those are the names of the statement's declared and made objects.
 pub record IsStepPlace (before : List StatementView) (t : StatementView) (names : Names) (script : Script) (n : ℕ) (p : Place) : Type 0 where
   pub line : Line
   pub context : IsContext before t script n line

@@ -1,5 +1,6 @@
 //! Licensing an application of an earlier theorem.
-ghost use Rattle.std.specs.Prelude.{◌≡◌, List, IfOk, IfErr, IsTrue, IsFalse, MatchOption, Some, map};
+ghost use Rattle.std.specs.Prelude.{◌≡◌, List, IfOk, IfErr, IsTrue};
+ghost use Rattle.std.specs.Prelude.{IsFalse, MatchOption, Some, map};
 ghost use Rattle.std.specs.List.{list_all};
 ghost use Rattle.e_literal.specs.Use.{StatementView, are_arguments, needs_of_use, gives_of_use};
 ghost use Rattle.e_clause.specs.declared.cert.Cert.{Cert as Certificate};
@@ -14,7 +15,8 @@ ghost use Rattle.e_deriv.specs.Parts.{has_no_blank};
 ghost use Rattle.e_clause.specs.declared.cert.Version.TheVariants as version;
 ghost use Rattle.e_clause.specs.Versions.{is_cert_of};
 ghost use Rattle.e_prove.specs.inner.Applications.{CanApply, IsUse};
-ghost use Rattle.e_prove.specs.inner.StopsOfSteps.{StepStopsAmong, StepStopsFilling, StepStopsApplying, UnlessNoMemory};
+ghost use Rattle.e_prove.specs.inner.StopsOfSteps.{StepStopsAmong, StepStopsFilling};
+ghost use Rattle.e_prove.specs.inner.StopsOfSteps.{StepStopsApplying, UnlessNoMemory};
 ghost use Rattle.e_prove.specs.inner.StopsOfSteps;
 ghost use Rattle.e_prove.specs.inner.LicensedSteps.{IsLicensedStep, IsStopOfStep};
 

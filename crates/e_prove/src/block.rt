@@ -2,9 +2,12 @@
 ghost use Rattle.std.specs.Prelude.{◌≡◌, ◌+◌, ◌<◌, ◌^◌, List, IfOk, IfErr, OnOk};
 ghost use Rattle.e_clause.specs.declared.cert.Cert.{Cert as Certificate};
 ghost use Rattle.e_theorem.specs.Statements.{all_stated};
-ghost use Rattle.e_deriv.specs.Script.{Claim, Superposed, script_of, step_script, close_script, size};
+ghost use Rattle.e_deriv.specs.Script.{Claim, Superposed, script_of};
+ghost use Rattle.e_deriv.specs.Script.{step_script, close_script, size};
 ghost use Rattle.e_prove.specs.inner.StepStates.{goal_view};
-ghost use Rattle.e_prove.specs.inner.PassedSteps.{AreReadySteps, IsReadyFor, IsReadyStep, IsDerivedFrom, IsPassed, KeepsHeld, StepsStop, StepStops, StopsWithin};
+ghost use Rattle.e_prove.specs.inner.PassedSteps.{AreReadySteps, IsReadyFor, IsReadyStep};
+ghost use Rattle.e_prove.specs.inner.PassedSteps.{IsDerivedFrom, IsPassed, KeepsHeld};
+ghost use Rattle.e_prove.specs.inner.PassedSteps.{StepsStop, StepStops, StopsWithin};
 
 use crate::application::{Application, apply};
 use crate::close::{Goal, contradiction, qed};

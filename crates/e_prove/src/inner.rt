@@ -1,6 +1,7 @@
 //! What is left of an inner block.
 ghost use Rattle.std.specs.Prelude.{◌≡◌, ◌<◌, List, length, IfOk, IfErr, OnOk};
-ghost use Rattle.e_deriv.specs.Script.{Script, Claim, Superposed, Cases, script_of, step_script, close_script};
+ghost use Rattle.e_deriv.specs.Script.{Script, Claim, Superposed, Cases};
+ghost use Rattle.e_deriv.specs.Script.{script_of, step_script, close_script};
 ghost use Rattle.e_deriv.specs.declared.stop.Stop.TheVariants.{NoMemory};
 ghost use Rattle.e_prove.specs.inner.StepStates.{CanJoinLast, IsLeftWith};
 

@@ -1,5 +1,6 @@
 //! Laws of the answers, each as a function that does nothing and whose contract is the law.
-ghost use Rattle.e_prove.specs.Laws.{LicensedIsNotRefused, LicensedStopsForMemory, DerivedStopsForMemory, RefusedStopsThere};
+ghost use Rattle.e_prove.specs.Laws.{LicensedIsNotRefused, LicensedStopsForMemory};
+ghost use Rattle.e_prove.specs.Laws.{DerivedStopsForMemory, RefusedStopsThere};
 
 /// Where each step is licensed, nothing but a stop out of memory and a step that is too wide is a
 /// right stop.

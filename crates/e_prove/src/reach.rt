@@ -4,10 +4,13 @@ ghost use Rattle.e_literal.specs.Literal.{negation};
 ghost use Rattle.e_literal.specs.Facts.{joined};
 ghost use Rattle.e_clause.specs.Judged.{are_limited_facts};
 ghost use Rattle.e_theorem.specs.Statements.{all_stated};
-ghost use Rattle.e_deriv.specs.Script.{Script, script_of, step_script, close_script, size as script_size};
+ghost use Rattle.e_deriv.specs.Script.{Script, script_of, step_script};
+ghost use Rattle.e_deriv.specs.Script.{close_script, size as script_size};
 ghost use Rattle.e_prove.specs.Stops.{IsStopBefore};
 ghost use Rattle.e_prove.specs.inner.StepStates.{after_literal, goal_view};
-ghost use Rattle.e_prove.specs.inner.PassedSteps.{IsReadyFor, IsDerivedFrom, IsReadyStep, ReachesStep, ReachesInStep, IsFirstPassed, StopsWithin, StepStops};
+ghost use Rattle.e_prove.specs.inner.PassedSteps.{IsReadyFor, IsDerivedFrom, IsReadyStep};
+ghost use Rattle.e_prove.specs.inner.PassedSteps.{ReachesStep, ReachesInStep};
+ghost use Rattle.e_prove.specs.inner.PassedSteps.{IsFirstPassed, StopsWithin, StepStops};
 
 use crate::block::{prove_block, prove_step};
 use crate::close::Goal;

@@ -11,7 +11,8 @@ ghost use Rattle.e_construct.specs.Superposing;
 ghost use Rattle.e_clause.specs.Certify.{certify_all};
 ghost use Rattle.e_clause.specs.declared.cert.Version.TheVariants as version;
 ghost use Rattle.e_clause.specs.Versions.{is_cert_of};
-ghost use Rattle.e_prove.specs.inner.StepStates.{HasRoomForMore, after_literal, after_make, after_superposed};
+ghost use Rattle.e_prove.specs.inner.StepStates.{HasRoomForMore, after_literal};
+ghost use Rattle.e_prove.specs.inner.StepStates.{after_make, after_superposed};
 ghost use Rattle.e_prove.specs.inner.StopsOfSteps.{StepStopsAmong, UnlessNoMemory};
 ghost use Rattle.e_prove.specs.inner.LicensedSteps.{IsLicensedStep, IsStopOfStep};
 

@@ -8,7 +8,8 @@ ghost use Rattle.e_clause.specs.Judged.{are_limited_facts};
 ghost use Rattle.e_theorem.specs.Statements.{stated};
 ghost use Rattle.e_deriv.specs.Goal.{facts_of_statement};
 ghost use Rattle.e_deriv.specs.Naming.{named};
-ghost use Rattle.e_prove.specs.inner.StepStates.{start_of, held_at, IsLeft, IsLeftWith, CanJoinLast, after_literal};
+ghost use Rattle.e_prove.specs.inner.StepStates.{start_of, held_at, IsLeft, IsLeftWith};
+ghost use Rattle.e_prove.specs.inner.StepStates.{CanJoinLast, after_literal};
 
 use e_deriv::Names;
 use e_facts::Facts;

@@ -35,8 +35,8 @@ abbrev pub NextCerts : List StepCerts → Option StepCerts → List StepCerts �
 NextCerts old None new = (old ≡ []) × (new ≡ [])
 NextCerts old (Some k) new = old ≡ k ∷ new
 
--- The script with these certificates, in the order of its lines: at each line that can have some, those that come next. And the
--- certificates that are left.
+-- The script with these certificates, in the order of its lines: at each line that can have some,
+-- those that come next. And the certificates that are left.
 unfoldable pub filled : Script → List StepCerts → Script × List StepCerts
 filled (Cite by rest) ks = let r = filled rest ks in (Cite by r.0, r.1)
 filled (Hence lit cert rest) ks = let r = filled rest (after_next ks) in (Hence lit (first_cert (next_certs ks)) r.0, r.1)

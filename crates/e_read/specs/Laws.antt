@@ -18,7 +18,8 @@ abbrev pub is_of_theorem : Result LineView LineFault → Bool
 is_of_theorem (Ok l) = not (begins_with_bar (tokens_of l.bytes))
 is_of_theorem (Err f) = true
 
--- the lines without those of certificates, as lines of a book, are the theorem without its certificates
+-- the lines without those of certificates, as lines of a book, are the theorem without its
+-- certificates
 pub record ReadsAsBook (known : List TitledStatement) (last : ℕ) (t : TheoremView) (lines rest : List (Result LineView LineFault)) : Type 0 where
   pub front : List (Result LineView LineFault)
   pub all : lines ≡ front ++ rest
@@ -29,8 +30,8 @@ abbrev pub DerivationsAreOfBooks : Type 0
 DerivationsAreOfBooks = (v : Version) (known : List TitledStatement) (last : ℕ) (t : TheoremView) (lines rest : List (Result LineView LineFault)) → piece_from known last (at_start v) lines ≡ Ok (Derived t, rest)
     → ReadsAsBook known last t lines rest
 
--- The lines begin with a front of which no line is wrong: read alone it only ends too soon. The line after the front has no form at its
--- place, whatever follows it, and has this number.
+-- The lines begin with a front of which no line is wrong: read alone it only ends too soon. The
+-- line after the front has no form at its place, whatever follows it, and has this number.
 pub record GarblesAt (v : Version) (known : List TitledStatement) (lines : List (Result LineView LineFault)) (n : ℕ) : Type 0 where
   pub front : List (Result LineView LineFault)
   pub line : Result LineView LineFault
@@ -39,7 +40,8 @@ pub record GarblesAt (v : Version) (known : List TitledStatement) (lines : List 
   pub before : (last : ℕ) → piece_from known last (at_start v) front ≡ Err last
   pub there : (last : ℕ) (other : List (Result LineView LineFault)) → piece_from known last (at_start v) (front ++ line ∷ other) ≡ Err n
 
--- no line is wrong, and they end inside a theorem: at the number after the last line, whichever it is
+-- no line is wrong, and they end inside a theorem: at the number after the last line, whichever it
+-- is
 abbrev pub EndsTooSoon : Version → List TitledStatement → List (Result LineView LineFault) → Type 0
 EndsTooSoon v known lines = (last : ℕ) → piece_from known last (at_start v) lines ≡ Err last
 

@@ -26,7 +26,8 @@ use Rattle.e_names.specs.Applies.{apply_in}
 use Rattle.e_cert.specs.declared.owed.Obligation.{Obligation}
 use Rattle.e_cert.specs.declared.owed.Obligation.TheVariants as due
 
--- what a block shows that a claim or a superposition began; a block of a split has the goal of the block that it closes
+-- what a block shows that a claim or a superposition began; a block of a split has the goal of the
+-- block that it closes
 abbrev pub shown_inside : BlockKind → Option (List Lit) → Option (List Lit)
 shown_inside (kind.Claim shown) around = Some shown
 shown_inside (kind.Superpose form names shown) around = Some shown
@@ -42,7 +43,8 @@ abbrev pub goal_or : Option (List Lit) → Goal → Goal
 goal_or None goal = goal
 goal_or (Some shown) goal = goal_of shown
 
--- the goal of the block that is open: that of the claim or superposition that it is in, and else that of the whole proof
+-- the goal of the block that is open: that of the claim or superposition that it is in, and else
+-- that of the whole proof
 abbrev pub open_goal : TheoremParser → Goal
 open_goal d = goal_or (claimed d.blocks) (goal_of_statement (stated (statement_of_parser d)))
 
@@ -61,8 +63,9 @@ needs_of_use known d raw = apply_in known d.in_scope raw >>= λ a. needs_in (sco
 unfoldable pub needs_at_qed : TheoremParser → List (List ℕ) → Result (List Lit) FaultKind
 needs_at_qed d ns = qed_in d.in_scope (made_in d.blocks d.made) ns >>= λ objects. Ok (goal_with (open_goal d) objects)
 
--- what a line owes: one certificate for the literal of hence, for each literal that a construction, an application or a
--- superposition needs, for each literal of the goal at qed, and one of a contradiction; no other line owes any
+-- what a line owes: one certificate for the literal of hence, for each literal that a construction,
+-- an application or a superposition needs, for each literal of the goal at qed, and one of a
+-- contradiction; no other line owes any
 unfoldable pub due_of : List TitledStatement → TheoremParser → RawLine → Result Obligation FaultKind
 due_of known d (rawlines.Hence raw) = lit_in d.in_scope raw >>= λ l. Ok (one_each (l ∷ []))
 due_of known d (rawlines.Let raw) = let_in d.in_scope raw >>= λ form. Ok (one_each (needs_of_construction form))

@@ -140,8 +140,8 @@ abbrev pub is_end : List TitledStatement → Option TheoremParser → LineView �
 is_end known None l = is_last_line known l
 is_end known (Some d) l = false
 
--- the rest of what comes next and the lines after it, or the first line that is malformed at its place; last is the number after
--- the last line
+-- the rest of what comes next and the lines after it, or the first line that is malformed at its
+-- place; last is the number after the last line
 unfoldable pub piece_from : List TitledStatement → ℕ → BlockParser → List (Result LineView LineFault) → Result (Piece × List (Result LineView LineFault)) ℕ
 piece_from known last r [] = Err last
 piece_from known last r (Err f ∷ lines) = Err (fault_line f)
@@ -161,7 +161,8 @@ LineIs (Ok line) old new = old.lines ≡ Ok (view_of_line line) ∷ new.lines
 LineIs (Err (faults.Garbled n)) old new = (known : List TitledStatement) (r : BlockParser) → piece_from known (last_line old) r old.lines ≡ Err n
 LineIs (Err faults.NoMemory) old new = ⊥
 
--- what comes next, where this line comes before any others and made this of the block, unless memory ran out
+-- what comes next, where this line comes before any others and made this of the block, unless
+-- memory ran out
 abbrev pub ProgressIs : List TitledStatement → BlockParser → LineView → BlockParser → Result Progress TextFault → Type 0
 ProgressIs known old line new (Ok turns.Last) = (last : ℕ) (rest : List (Result LineView LineFault)) → piece_from known last old (Ok line ∷ rest) ≡ Ok (Last, rest)
 ProgressIs known old line new (Ok turns.Complete) = IsTrue (is_finished new.parser)

@@ -2,7 +2,8 @@
 ghost use Rattle.std.specs.Prelude.{◌≡◌, IfOk, OnOk};
 ghost use Rattle.e_deriv.specs.Script.{script_of};
 ghost use Rattle.e_cert.specs.Owed.{first_cert};
-ghost use Rattle.e_read.specs.Filled.{after_next, next_certs, next_against, Fills, FillsStep, FillsClose};
+ghost use Rattle.e_read.specs.Filled.{after_next, next_certs, next_against};
+ghost use Rattle.e_read.specs.Filled.{Fills, FillsStep, FillsClose};
 
 use crate::kept::CertQueue;
 use e_cert::{Certs, StepCerts};

@@ -1,5 +1,6 @@
 //! What certificates a line owes.
-ghost use Rattle.std.specs.Prelude.{◌≡◌, ◌≤◌, ◌<◌, ◌+◌, ◌^◌, IfOk, IsTrue, length, map, Option, Some, None, reverse};
+ghost use Rattle.std.specs.Prelude.{◌≡◌, ◌≤◌, ◌<◌, ◌+◌, ◌^◌, IfOk, IsTrue};
+ghost use Rattle.std.specs.Prelude.{length, map, Option, Some, None, reverse};
 ghost use Rattle.std.specs.Option.{option_map};
 ghost use Rattle.std.specs.List.{list_all};
 ghost use Rattle.e_literal.specs.Rename;
@@ -118,7 +119,8 @@ fn with_objects(
     objects: &[Obj],
 ) -> Result<Items<Lit>, AllocError>
     requires one_sort { map (λ o. o.sort) made.now ≡ map (λ o. o.sort) objects.now }
-    ensures { IfOk result (λ ls. ls ≡ map (Rename.renamed (image_in (paired made.now objects.now))) shown.now) }
+    ensures { IfOk result
+        (λ ls. ls ≡ map (Rename.renamed (image_in (paired made.now objects.now))) shown.now) }
 {
     let images = Map::paired(alloc, made, objects)?;
     let with = all_renamed(alloc, shown, &images)?;
@@ -134,7 +136,8 @@ fn whole_goal_with(
 ) -> Result<Items<Lit>, AllocError>
     requires parser { FitsParser parser.now }
     requires sorts { map (λ o. o.sort) objects.now ≡ parser.now.made }
-    ensures { IfOk result (λ ls. ls ≡ Goal.goal_with (goal_of_statement (stated (statement_of_parser parser.now))) objects.now) }
+    ensures { IfOk result (λ ls. ls ≡ Goal.goal_with
+        (goal_of_statement (stated (statement_of_parser parser.now))) objects.now) }
 {
     let declared = grown(NOTHING, parser.declared.items());
     let made = next_objects(alloc, declared, parser.made.items())?;

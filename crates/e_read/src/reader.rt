@@ -11,7 +11,8 @@ ghost use Rattle.e_names.specs.TitledStatements.{stated_by};
 ghost use Rattle.e_book.specs.Grammar.{last_line};
 ghost use Rattle.e_book.specs.TheoremViews.{entry_of};
 ghost use Rattle.e_book.specs.HasSpelling.{HasSpelling};
-ghost use Rattle.e_read.specs.Text.{at_start, garbled_at, taken, LineIs, LineReads, ProgressIs, FitsReading, piece_from, bare, OfTheorem, TextReads};
+ghost use Rattle.e_read.specs.Text.{at_start, garbled_at, taken, LineIs, LineReads, ProgressIs};
+ghost use Rattle.e_read.specs.Text.{FitsReading, piece_from, bare, OfTheorem, TextReads};
 
 use crate::reading::BlockParser;
 use e_book::Theorem;
@@ -89,7 +90,8 @@ fn take_line(
     requires reading { FitsReading reading.old }
     requires few { OnSome reading.old.parser (length known.now ≤ most_theorems) }
     requires known { IsTrue (list_all is_small_statement (stated_by known.now)) }
-    ensures value { LineReads result reading.new (garbled_at line.entry.number (taken known.now reading.old (view_of_line line.entry))) }
+    ensures value { LineReads result reading.new
+        (garbled_at line.entry.number (taken known.now reading.old (view_of_line line.entry))) }
     ensures fits { OnOk result (FitsReading reading.new) }
     ensures few { OnOk result (OnSome reading.new.parser (length known.now ≤ most_theorems)) }
 {
@@ -133,7 +135,8 @@ fn read_piece(
 ) -> Result<Piece, TextFault>
     requires few { length known.now < 2 ^ 32 - 1 }
     requires known { IsTrue (list_all is_small_statement (stated_by known.now)) }
-    ensures read { TextReads known.now result lines.new (piece_from known.now (last_line lines.old) (at_start version) lines.old.lines) }
+    ensures read { TextReads known.now result lines.new
+        (piece_from known.now (last_line lines.old) (at_start version) lines.old.lines) }
     ensures last { OnOk result (last_line lines.new ≡ last_line lines.old) }
     ensures shorter { OnOk result (length lines.new.lines < length lines.old.lines) }
 {
@@ -180,16 +183,19 @@ pub fn read(
 ) -> Result<Piece, TextFault>
     requires few { length known.now < 2 ^ 32 - 1 }
     requires known { IsTrue (list_all is_small_statement (stated_by known.now)) }
-    ensures read { TextReads known.now result lines.new (piece_from known.now (last_line lines.old) (at_start version) lines.old.lines) }
+    ensures read { TextReads known.now result lines.new
+        (piece_from known.now (last_line lines.old) (at_start version) lines.old.lines) }
     ensures last { OnOk result (last_line lines.new ≡ last_line lines.old) }
     ensures shorter { OnOk result (length lines.new.lines < length lines.old.lines) }
     // without its certificates a theorem that is read has a spelling in a book: its title is new,
     // and it is within the limits
     ensures spelled { IfOk result (OfTheorem (λ t. HasSpelling known.now (bare (entry_of t)))) }
     // its certificates are of that version, and name literals that are well formed
-    ensures version { IfOk result (OfTheorem (λ t. IsTrue (has_certs_of version (script_of t.block)))) }
+    ensures version { IfOk result
+        (OfTheorem (λ t. IsTrue (has_certs_of version (script_of t.block)))) }
     // its literals speak of its own objects
-    ensures states { IfOk result (OfTheorem (λ t. IsTrue (is_small_statement (stated t.statement)))) }
+    ensures states { IfOk result
+        (OfTheorem (λ t. IsTrue (is_small_statement (stated t.statement)))) }
 {
     read_piece(alloc, lines, known, version)
 }

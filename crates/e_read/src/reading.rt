@@ -10,7 +10,11 @@ ghost use Rattle.e_book.specs.TheoremViews.{entry_of};
 ghost use Rattle.e_line.specs.Reading.{texts, Gives, Moves};
 ghost use Rattle.e_names.specs.Scope.{FewNames};
 ghost use Rattle.e_book.specs.Steps.{no_names};
-ghost use Rattle.e_read.specs.Text.{owes_nothing, at_start, with_cert_line, certified, owed_by, gone_on, finish_line, with_form, stepped, is_bar, worded, is_lf_end, spelled, taken, derived, is_finished, finished, is_end, is_last_line, last_line_of, FitsParser, FitsReading, FitsBegun};
+ghost use Rattle.e_read.specs.Text.{owes_nothing, at_start, with_cert_line, certified};
+ghost use Rattle.e_read.specs.Text.{owed_by, gone_on, finish_line, with_form, stepped};
+ghost use Rattle.e_read.specs.Text.{is_bar, worded, is_lf_end, spelled, taken, derived};
+ghost use Rattle.e_read.specs.Text.{is_finished, finished, is_end, is_last_line};
+ghost use Rattle.e_read.specs.Text.{last_line_of, FitsParser, FitsReading, FitsBegun};
 
 use crate::filling::fill;
 use crate::kept::AllCerts;
@@ -126,7 +130,8 @@ fn next_line(
     requires parser { FitsParser parser }
     requires few { length known.now ≤ most_theorems }
     requires known { IsTrue (list_all is_small_statement (stated_by known.now)) }
-    ensures value { Gives (λ b. (b.parser, b.owed)) result (gone_on known.now (Some parser) form.now) }
+    ensures value { Gives (λ b. (b.parser, b.owed)) result
+        (gone_on known.now (Some parser) form.now) }
     ensures fits { IfOk result (λ b. FitsBegun b.parser b.owed) }
     ensures few { OnOk result (length known.now ≤ most_theorems) }
 {
@@ -272,7 +277,8 @@ impl BlockParser {
         requires reading { FitsReading self.old }
         requires few { OnSome self.old.parser (length known.now ≤ most_theorems) }
         requires known { IsTrue (list_all is_small_statement (stated_by known.now)) }
-        ensures value { Moves result self.new (worded known.now self.old line.now (texts words.now)) }
+        ensures value { Moves result self.new
+            (worded known.now self.old line.now (texts words.now)) }
         ensures fits { OnOk result (FitsReading self.new) }
         ensures few { OnOk result (OnSome self.new.parser (length known.now ≤ most_theorems)) }
     {
@@ -329,7 +335,8 @@ impl BlockParser {
         known: &Theorems,
         line: Line<'_>,
     ) -> Result<bool, AllocError>
-        ensures { IfOk result (λ b. b ≡ is_end known.now self.now.parser (view_of_line line.entry)) }
+        ensures { IfOk result
+            (λ b. b ≡ is_end known.now self.now.parser (view_of_line line.entry)) }
     {
         match &self.parser {
             Some(_) => Ok(false),

@@ -1,4 +1,5 @@
--- When the certificates of a derivation have the form that lines of a text can have, whether they certify or not.
+-- When the certificates of a derivation have the form that lines of a text can have, whether they
+-- certify or not.
 use Rattle.std.specs.Prelude.{ℤ, ◌^◌, nat_lt, List, [], ◌∷◌, length, Bool, true, false, not, ◌&&◌, ◌==◌, Some, None, IsTrue}
 use Rattle.std.specs.Option.{option_map_or}
 use Rattle.std.specs.List.{list_all}
@@ -31,7 +32,8 @@ use Rattle.e_deriv.specs.Certified.{certs_of, derivation_lines}
 
 -- ---- sums
 
--- 1 to 4,096 rows with multipliers from 1 to 2^80 in size, their objects in scope and their literals well formed
+-- 1 to 4,096 rows with multipliers from 1 to 2^80 in size, their objects in scope and their
+-- literals well formed
 abbrev pub sum_formed : Scope → List (ℤ × RowName) → Bool
 sum_formed s xs = is_limited_sum xs && (sum_in s xs && is_writable_sum xs)
 
@@ -56,7 +58,8 @@ part_formed s FactPart = true
 part_formed s (Metric m) = sums_formed s m.sums
 part_formed s (FactPartAt k) = nat_lt k (2 ^ 32)
 
--- an instance of a transfer rule, in scope, with one part for each place that has another literal than this one
+-- an instance of a transfer rule, in scope, with one part for each place that has another literal
+-- than this one
 abbrev pub has_parts : Lit → List Part → List Lit → Bool
 has_parts l parts lits = length parts == length (others lits l)
 

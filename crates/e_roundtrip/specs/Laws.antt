@@ -27,12 +27,14 @@ use Rattle.e_roundtrip.specs.Written.{AllCanBeSpelled, AllCanBeVerified, SpellsP
 
 -- ---- what is read is spelled so
 
--- what is read in a version as a theorem with its derivation is spelled so: the lines are exactly those of its one spelling
+-- what is read in a version as a theorem with its derivation is spelled so: the lines are exactly
+-- those of its one spelling
 abbrev pub ReadIsSpelled : Type 0
 ReadIsSpelled = (v : Version) (known : List TitledStatement) (last : ℕ) (t : TheoremView) (lines rest : List (Result LineView LineFault)) → piece_from known last (at_start v) lines ≡ Ok (Derived t, rest)
     → ShowsEnded lines (spelled_lines known t t.script) rest
 
--- so their bytes are its one text: no other text is read as the same theorem with the same derivation
+-- so their bytes are its one text: no other text is read as the same theorem with the same
+-- derivation
 abbrev pub ReadTextIsSpelled : Type 0
 ReadTextIsSpelled = (v : Version) (known : List TitledStatement) (last : ℕ) (t : TheoremView) (lines rest : List (Result LineView LineFault)) → piece_from known last (at_start v) lines ≡ Ok (Derived t, rest)
     → text_of_lines lines ≡ spelled known t t.script ++ text_of_lines rest
@@ -44,24 +46,28 @@ ReadCanBeSpelled = (v : Version) (known : List TitledStatement) (last : ℕ) (t 
 
 -- ---- what is spelled is read
 
--- a derivation that is certified, and whose certificates name literals that are well formed, has the form
+-- a derivation that is certified, and whose certificates name literals that are well formed, has
+-- the form
 abbrev pub CertifiedIsFormed : Type 0
 CertifiedIsFormed = (before : List StatementView) (t : StatementView) (d : Script) → Certified before t d → IsTrue (is_written_well d) → Formed before t d
 
--- the lines of a derivation's one spelling, whatever follows them, are read as the theorem with that derivation
+-- the lines of a derivation's one spelling, whatever follows them, are read as the theorem with
+-- that derivation
 abbrev pub SpelledIsRead : Type 0
 SpelledIsRead =
     (v : Version) (known : List TitledStatement) (last : ℕ) (t : TheoremView) (d : Script) (lines rest : List (Result LineView LineFault)) → CanBeSpelled v known t d
     → ShowsEnded lines (spelled_lines known t d) rest → piece_from known last (at_start v) lines ≡ Ok (Derived (record t { script = d }), rest)
 
--- a theorem that can be spelled still can when its blanks are filled: when its script is that of a certified derivation without the
--- certificates, which differs from its own only in the arguments at the lines that use earlier theorems
+-- a theorem that can be spelled still can when its blanks are filled: when its script is that of a
+-- certified derivation without the certificates, which differs from its own only in the arguments
+-- at the lines that use earlier theorems
 abbrev pub FilledHasSpelling : Type 0
 FilledHasSpelling =
     (known : List TitledStatement) (t : TheoremView) (d : Script) → HasSpelling known t → erased d ≡ filled_by (erased t.script) d
     → Certified (stated_by known) (stated t.statement) d → HasSpelling known (record t { script = erased d })
 
--- and so it still can when the idle steps of a certified derivation of the first version are left out
+-- and so it still can when the idle steps of a certified derivation of the first version are left
+-- out
 abbrev pub TrimmedHasSpelling : Type 0
 TrimmedHasSpelling =
     (known : List TitledStatement) (t : TheoremView) → IsTrue (list_all is_small_statement (stated_by known)) → HasSpelling known (record t { script = erased t.script }) → IsTrue (has_certs_of One t.script)
@@ -69,13 +75,15 @@ TrimmedHasSpelling =
 
 -- ---- what is written is judged
 
--- what is written of derivations that can be spelled is a derivation text that is judged as their verdicts say: verified, or bad at
--- the first step that is not certified, and never garbled, however long it is
+-- what is written of derivations that can be spelled is a derivation text that is judged as their
+-- verdicts say: verified, or bad at the first step that is not certified, and never garbled,
+-- however long it is
 abbrev pub WrittenIsJudged : Type 0
 WrittenIsJudged =
     (v : Version) (ps : List (TheoremView × Script)) → AllCanBeSpelled v [] ps → JudgesText (written v ps) (judgement_of [] ps)
 
--- what is written of certified derivations is a derivation text that is judged verified, with their number
+-- what is written of certified derivations is a derivation text that is judged verified, with their
+-- number
 abbrev pub WrittenIsVerified : Type 0
 WrittenIsVerified =
     (v : Version) (ps : List (TheoremView × Script)) → AllCanBeVerified v [] ps → JudgesText (written v ps) (Verified (length ps))

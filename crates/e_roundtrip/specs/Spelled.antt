@@ -12,14 +12,16 @@ use Rattle.e_book.specs.TheoremViews.{TheoremView}
 use Rattle.e_book.specs.HasSpelling.{HasSpelling}
 use Rattle.e_roundtrip.specs.Formed.{Formed}
 
--- the next lines begin with these texts, whatever their numbers, each ended by a line feed, and the rest follows
+-- the next lines begin with these texts, whatever their numbers, each ended by a line feed, and the
+-- rest follows
 abbrev pub ShowsEnded : List (Result LineView LineFault) → List (List ℕ) → List (Result LineView LineFault) → Type 0
 ShowsEnded lines [] rest = lines ≡ rest
 ShowsEnded [] (text ∷ texts) rest = ⊥
 ShowsEnded (Err f ∷ lines) (text ∷ texts) rest = ⊥
 ShowsEnded (Ok l ∷ lines) (text ∷ texts) rest = (l.bytes ≡ text) × (l.end ≡ Lf) × ShowsEnded lines texts rest
 
--- what a derivation of a theorem is that lines of a text of this version can spell, by its form alone: whether its certificates certify is not asked
+-- what a derivation of a theorem is that lines of a text of this version can spell, by its form
+-- alone: whether its certificates certify is not asked
 pub record CanBeSpelled (v : Version) (known : List TitledStatement) (t : TheoremView) (d : Script) : Type 0 where
   -- so is the theorem, with the derivation's script for its own
   pub plain : HasSpelling known (record t { script = erased d })

@@ -13,7 +13,8 @@ use Rattle.e_judgement.specs.declared.judgement.Judgement.{Judgement}
 use Rattle.e_judgement.specs.declared.judgement.Judgement.TheVariants.{Verified, Bad}
 use Rattle.e_judgement.specs.Judged.{with_theorem, head_of}
 
--- theorems, each with a derivation of it that lines of this version can spell: each where those before it are known
+-- theorems, each with a derivation of it that lines of this version can spell: each where those
+-- before it are known
 abbrev pub AllCanBeSpelled : Version → List TitledStatement → List (TheoremView × Script) → Type 0
 AllCanBeSpelled v known [] = Unit {0}
 AllCanBeSpelled v known (p ∷ ps) = CanBeSpelled v known p.0 p.1 × AllCanBeSpelled v (with_theorem known p.0) ps
@@ -28,7 +29,8 @@ abbrev pub AllCanBeVerified : Version → List TitledStatement → List (Theorem
 AllCanBeVerified v known [] = Unit {0}
 AllCanBeVerified v known (p ∷ ps) = CanBeVerified v known p.0 p.1 × AllCanBeVerified v (with_theorem known p.0) ps
 
--- after the verdict on a derivation: bad at the line that is not certified, or what those after it are judged
+-- after the verdict on a derivation: bad at the line that is not certified, or what those after it
+-- are judged
 abbrev pub judged_after : List ℕ → Result ℕ ℕ → Judgement → Judgement
 judged_after title (Ok n) after = after
 judged_after title (Err step) after = Bad title step
@@ -61,7 +63,8 @@ abbrev pub AllProved : List TitledStatement → List (TheoremView × Script) →
 AllProved known [] = Unit {0}
 AllProved known (p ∷ ps) = IsProof (stated_by known) (stated p.0.statement) p.1 × AllProved (with_theorem known p.0) ps
 
--- the text is the head line of its version, the spellings of this many theorems, each with a derivation that proves it, and the line with their number
+-- the text is the head line of its version, the spellings of this many theorems, each with a
+-- derivation that proves it, and the line with their number
 pub record SpellsProofs (n : ℕ) (text : List ℕ) : Type 0 where
   pub version : Version
   pub theorems : List (TheoremView × Script)

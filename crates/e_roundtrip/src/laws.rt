@@ -1,5 +1,8 @@
 //! What holds between reading, spelling and verifying: each law is the contract of a function.
-ghost use Rattle.e_roundtrip.specs.Laws.{ReadIsSpelled, ReadTextIsSpelled, ReadCanBeSpelled, SpelledIsRead, CertifiedIsFormed, FilledHasSpelling, TrimmedHasSpelling, WrittenIsJudged, WrittenIsVerified, VerifiedIsWritten};
+ghost use Rattle.e_roundtrip.specs.Laws.{ReadIsSpelled, ReadTextIsSpelled, ReadCanBeSpelled};
+ghost use Rattle.e_roundtrip.specs.Laws.{SpelledIsRead, CertifiedIsFormed, FilledHasSpelling};
+ghost use Rattle.e_roundtrip.specs.Laws.{TrimmedHasSpelling, WrittenIsJudged};
+ghost use Rattle.e_roundtrip.specs.Laws.{WrittenIsVerified, VerifiedIsWritten};
 
 /// The lines that are read as a theorem with its derivation are exactly the lines of its one
 /// spelling.

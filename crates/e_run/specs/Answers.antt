@@ -31,10 +31,11 @@ pub record Derived : Type 0 where
   pub theorem : TheoremView
   pub derivation : Script
 
--- The derivation proves the theorem's statement from those that are known, and each of its certificates certifies at its own line.
--- Without its certificates it is the theorem's own script, with its blanks filled, and so filled each line of the script is licensed:
--- the arguments of each application are the least good choice. The literals that its certificates name are well formed, and no fact is
--- named by its place.
+-- The derivation proves the theorem's statement from those that are known, and each of its
+-- certificates certifies at its own line. Without its certificates it is the theorem's own script,
+-- with its blanks filled, and so filled each line of the script is licensed: the arguments of each
+-- application are the least good choice. The literals that its certificates name are well formed,
+-- and no fact is named by its place.
 pub record IsDerived (known : List TitledStatement) (d : Derived) : Type 0 where
   pub proves : IsProof (stated_by known) (stated d.theorem.statement) d.derivation
   pub certified : Certified (stated_by known) (stated d.theorem.statement) d.derivation
@@ -126,8 +127,8 @@ Outputs lines _ out = ⊥
 abbrev pub Checks : Rest → Option (List ℕ) → Option (List ℕ) → Status → Type 0
 Checks lines old new answer = Wrote (Outputs lines) old new answer
 
--- the answer of an outcome, or that a line is too wide where one is that is reached; a fault of the source or the sink,
--- and out of memory, can come in place of it
+-- the answer of an outcome, or that a line is too wide where one is that is reached; a fault of the
+-- source or the sink, and out of memory, can come in place of it
 abbrev pub IsAnswer : Rest → BookOutcome → Status → Type 0
 IsAnswer lines (outcome.Accepted n) (status.Accepted m) = m ≡ n
 IsAnswer lines (outcome.Unlicensed title step wanted names) (status.Unlicensed p i w values) = (p ≡ title) × (i ≡ step) × (w ≡ wanted)

@@ -10,8 +10,8 @@ use Rattle.e_run.specs.Wrote.{Wrote}
 use Rattle.e_run.specs.Answers.{IsAllOf}
 use Rattle.e_run.specs.VerifierAnswers.{IsFailure}
 
--- What is due with an answer: what is written of the text, or the line of its first fault. A fault of the source and out of memory say
--- nothing of it.
+-- What is due with an answer: what is written of the text, or the line of its first fault. A fault
+-- of the source and out of memory say nothing of it.
 abbrev pub FigureAnswer : List ℕ → Status → List ℕ → Type 0
 FigureAnswer text (status.Drawn n) out = drawn_of text ≡ Ok (n, out)
 FigureAnswer text (status.Fault f) out = (drawn_of text ≡ Err f) × (out ≡ fault_line f)

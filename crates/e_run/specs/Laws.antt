@@ -1,4 +1,5 @@
--- A book has one outcome, and what is answered at a refusal and at a line that is too wide is its own.
+-- A book has one outcome, and what is answered at a refusal and at a line that is too wide is its
+-- own.
 use Rattle.std.specs.Prelude.{◌≡◌, ℕ, List, Option}
 use Rattle.e_names.specs.declared.known.Known.{Known}
 use Rattle.e_book.specs.TheoremViews.{TheoremView}

@@ -1,4 +1,5 @@
--- The outcome of a book: its theorems and definitions are taken one after another, up to the first fault or the first unlicensed line.
+-- The outcome of a book: its theorems and definitions are taken one after another, up to the first
+-- fault or the first unlicensed line.
 use Rattle.std.specs.Prelude.{◌≡◌, ℕ, ◌+◌, ◌-◌, slice_get, List, [], ◌∷◌, ◌++◌, length, Option, Some, None, Result, Ok, Err}
 use Rattle.e_text.specs.Lines.{LineView, lines_of}
 use Rattle.e_text.specs.declared.line.LineFault.{LineFault}
@@ -49,8 +50,8 @@ pub record AreDefined (last : ℕ) (known : Known) (lines : Rest) (now : Known) 
   pub notions : List Titled
   pub defines : Defines last known lines notions now rest
 
--- these theorems are read one after another, and definitions between them, and each theorem is licensed by those before it; then this is
--- known, and these lines are left
+-- these theorems are read one after another, and definitions between them, and each theorem is
+-- licensed by those before it; then this is known, and these lines are left
 abbrev pub Takes : ℕ → Known → Rest → List TheoremView → Known → Rest → Type 0
 Takes last known lines [] now rest = AreDefined last known lines now rest
 Takes last known lines (t ∷ ts) now rest =
@@ -64,8 +65,8 @@ pub data BookOutcome : Type 0 where
   Unlicensed : (title : List ℕ) (step : ℕ) (wanted : Wanted) (names : Names) → BookOutcome
   Faulty : (fault : BookFault) → BookOutcome
 
--- with this known, the next theorem has this title, its line of this number is the first unlicensed one and lacks this, and these
--- are the names of the objects in scope before it
+-- with this known, the next theorem has this title, its line of this number is the first unlicensed
+-- one and lacks this, and these are the names of the objects in scope before it
 pub record StopsAt (known : List TitledStatement) (t : TheoremView) (title : List ℕ) (step : ℕ) (wanted : Wanted) (names : Names) : Type 0 where
   pub titled : t.title ≡ title
   pub first : IsFirstUnlicensed (stated_by known) (stated t.statement) t.script step wanted
@@ -86,7 +87,8 @@ OutcomeAt last known lines (Faulty fault) = item_from known last None lines ≡ 
 abbrev pub end_line_number : Rest → ℕ
 end_line_number lines = 1 + length lines
 
--- these are the first theorems of the lines, each licensed, with definitions between them; then this is known, and these lines are left
+-- these are the first theorems of the lines, each licensed, with definitions between them; then
+-- this is known, and these lines are left
 abbrev pub Begins : Rest → List TheoremView → Known → Rest → Type 0
 Begins lines theorems known rest = Takes (end_line_number lines) nothing_known lines theorems known rest
 
@@ -114,8 +116,8 @@ pub record IsOutcomeOf (text : List ℕ) (end : BookOutcome) : Type 0 where
 
 -- ---- how the check of a theorem breaks off
 
--- with this known, the theorem has this title, its line of this number is the first unlicensed one and lacks this, these values show
--- it, and these are the names of the objects in scope before it
+-- with this known, the theorem has this title, its line of this number is the first unlicensed one
+-- and lacks this, these values show it, and these are the names of the objects in scope before it
 pub record RefusedAt (known : List TitledStatement) (t : TheoremView) (title : List ℕ) (step : ℕ) (wanted : Wanted) (values : Option (List (Term × ℕ))) (names : Names) : Type 0 where
   pub titled : t.title ≡ title
   pub refused : IsRefused (stated_by known) (stated t.statement) t.script step wanted values
@@ -134,7 +136,8 @@ pub record HasWideLine (known : List TitledStatement) (t : TheoremView) : Type 0
   pub context : IsContext (stated_by known) (stated t.statement) t.script step line
   pub is_wide : IsWideLine (stated_by known) line
 
--- in a theorem of these lines whose earlier ones are licensed, a line is wide, and each line before it is licensed
+-- in a theorem of these lines whose earlier ones are licensed, a line is wide, and each line before
+-- it is licensed
 pub record HasWide (lines : Rest) : Type 0 where
   pub theorems : List TheoremView
   pub known : Known

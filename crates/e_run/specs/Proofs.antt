@@ -1,5 +1,6 @@
--- The sentence that people rely on: the bytes spell proofs. They are the head line, the spellings of n theorems, each with a
--- derivation that proves its statement from those before it, and the line with their number, and nothing else.
+-- The sentence that people rely on: the bytes spell proofs. They are the head line, the spellings
+-- of n theorems, each with a derivation that proves its statement from those before it, and the
+-- line with their number, and nothing else.
 use Rattle.std.specs.Prelude.{◌≡◌, ℕ, List, Option, Some}
 use Rattle.e_io.specs.Bytes.{Grew}
 use Rattle.e_roundtrip.specs.Written.{SpellsProofs}

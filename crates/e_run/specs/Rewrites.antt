@@ -1,4 +1,5 @@
--- What the commands answer that write something of each theorem of a derivation text as soon as it is verified, and what they write.
+-- What the commands answer that write something of each theorem of a derivation text as soon as it
+-- is verified, and what they write.
 use Rattle.std.specs.Prelude.{◌≡◌, ◌⊎◌, ℕ, ◌+◌, ◌<◌, ◌≤◌, ◌^◌, List, [], ◌∷◌, ◌++◌, length, flat_map, codes, Ok, Err, Option, Some, None}
 use Rattle.e_clause.specs.declared.cert.Version.{Version}
 use Rattle.e_clause.specs.declared.cert.Version.TheVariants.{One, Two}
@@ -95,8 +96,8 @@ read_as Upgrade head = head
 read_as Trim head = only_first head
 read_as Uses head = head
 
--- these theorems come first in lines after the head of this version, each certified by those before it; then this is known, and these
--- lines are left
+-- these theorems come first in lines after the head of this version, each certified by those before
+-- it; then this is known, and these lines are left
 abbrev pub BeginsCertified : Version → Rest → List TheoremView → List TitledStatement → Rest → Type 0
 BeginsCertified v lines ts known rest = Passes v (2 + length lines) [] lines ts known rest
 
@@ -114,7 +115,8 @@ abbrev pub EndsAfterHead : Option Version → Rest → List TheoremView → Judg
 EndsAfterHead None lines ts j = (ts ≡ []) × (j ≡ judgements.Garbled 1)
 EndsAfterHead (Some v) lines ts j = (known : List TitledStatement) × (rest : Rest) × BeginsCertified v lines ts known rest × Closes v (2 + length lines) known rest j
 
--- all theorems of a text before the place where it ends so; without a head line that the command takes it is garbled at line 1
+-- all theorems of a text before the place where it ends so; without a head line that the command
+-- takes it is garbled at line 1
 abbrev pub EndsAfter : Job → Rest → List TheoremView → Judgement → Type 0
 EndsAfter job [] ts j = (ts ≡ []) × (j ≡ judgements.Garbled 1)
 EndsAfter job (Err f ∷ lines) ts j = (ts ≡ []) × (j ≡ judgements.Garbled 1)
@@ -122,7 +124,8 @@ EndsAfter job (Ok l ∷ lines) ts j = EndsAfterHead (read_as job (version_of l))
 
 -- ---- what is due
 
--- theorems of the text, all before the place where it ends so, what is written of them, and the last line
+-- theorems of the text, all before the place where it ends so, what is written of them, and the
+-- last line
 pub record RewroteUpTo (job : Job) (text : List ℕ) (j : Judgement) (out : List ℕ) : Type 0 where
   pub theorems : List TheoremView
   pub ends : EndsAfter job (lines_of_text text) theorems j
@@ -134,8 +137,9 @@ pub record RewroteSome (job : Job) (text : List ℕ) (last out : List ℕ) : Typ
   pub first : AreFirstTheorems job (lines_of_text text) theorems
   pub bytes : out ≡ written_with job theorems last
 
--- What is due with each answer. A text that is upgraded, trimmed or listed, each by its command, is verified; what is written of one that
--- is upgraded or trimmed is verified itself. Before the last line comes what is written of all theorems before the place where the text ends. A fault of the
+-- What is due with each answer. A text that is upgraded, trimmed or listed, each by its command, is
+-- verified; what is written of one that is upgraded or trimmed is verified itself. Before the last
+-- line comes what is written of all theorems before the place where the text ends. A fault of the
 -- source comes before anything is judged.
 abbrev pub RewriteAnswer : Job → List ℕ → Status → List ℕ → Type 0
 RewriteAnswer job text (status.Upgraded n) out = (job ≡ Upgrade) × RewroteUpTo job text (judgements.Verified n) out × IsVerifiedText n out
@@ -156,7 +160,8 @@ Rewrites job text old new answer = Wrote (RewriteAnswer job text) old new answer
 abbrev pub RewritesText : Job → Option (List ℕ) → Option (List ℕ) → Option (List ℕ) → Status → Type 0
 RewritesText job left old new answer = (text : List ℕ) × IsAllOf left text × Rewrites job text old new answer
 
--- the lines have this judgement for the command, for which a text of a version that it does not take is garbled at line 1
+-- the lines have this judgement for the command, for which a text of a version that it does not
+-- take is garbled at line 1
 abbrev pub JudgesLinesFor : Job → Rest → Judgement → Type 0
 JudgesLinesFor job [] j = j ≡ judgements.Garbled 1
 JudgesLinesFor job (Err f ∷ lines) j = j ≡ judgements.Garbled 1
@@ -166,7 +171,8 @@ JudgesLinesFor job (Ok l ∷ lines) j = JudgedAfterHead (read_as job (version_of
 abbrev pub JudgesFor : Job → List ℕ → Judgement → Type 0
 JudgesFor job text j = JudgesLinesFor job (lines_of_text text) j
 
--- where a source exposes its bytes, and they are a text that has this judgement for the command, the answer is that, or the run failed
+-- where a source exposes its bytes, and they are a text that has this judgement for the command,
+-- the answer is that, or the run failed
 abbrev pub AnswersRewrite : Job → Option (List ℕ) → Status → Type 0
 AnswersRewrite job left answer =
     (text : List ℕ) (j : Judgement) → left ≡ Some text → length text ≤ 2 ^ 60 → JudgesFor job text j → (answer ≡ answer_of job j) ⊎ IsFailure answer

@@ -1,5 +1,5 @@
--- What holds of a run, command by command, by the bytes left in the source, those written to the sink, and the answer. One more command is
--- one more case of each.
+-- What holds of a run, command by command, by the bytes left in the source, those written to the
+-- sink, and the answer. One more command is one more case of each.
 use Rattle.std.specs.Prelude.{ℕ, List, Option}
 use Rattle.e_run.specs.declared.status.Status.{Status}
 use Rattle.e_run.specs.declared.command.Command.{Command}
@@ -15,7 +15,8 @@ use Rattle.e_run.specs.Taken.{HandledAll, TookFew}
 use Rattle.e_run.specs.Trials.{AnswersTrial, HasCount, Tries}
 use Rattle.e_run.specs.VerifierAnswers.{AnswersText, VerifiesText}
 
--- what was written of an accepted book, and of a text that is upgraded or trimmed, and a text that is verified, spell proofs
+-- what was written of an accepted book, and of a text that is upgraded or trimmed, and a text that
+-- is verified, spell proofs
 abbrev pub HasProofs : Command → Option (List ℕ) → Option (List ℕ) → Option (List ℕ) → Status → Type 0
 HasProofs Check left old new answer = WroteProofs old new answer
 HasProofs Verify left old new answer = ReadProofs left answer
@@ -33,8 +34,8 @@ Runs (Trial n) left old new answer = Tries n old new answer × HasCount n answer
 Runs (Suggest title step) left old new answer = SuggestsBook title step left old new answer
 Runs Unknown left old new answer = AnswersUsage old new answer
 
--- and the other way round: where a book has an outcome, and a text a judgement, that is the answer; and a figure text always has one;
--- where the way to a step has an outcome, that is the answer
+-- and the other way round: where a book has an outcome, and a text a judgement, that is the answer;
+-- and a figure text always has one; where the way to a step has an outcome, that is the answer
 abbrev pub IsDue : Command → Option (List ℕ) → Status → Type 0
 IsDue Check left answer = Answers left answer
 IsDue Verify left answer = AnswersText left answer
@@ -44,15 +45,16 @@ IsDue (Trial n) left answer = AnswersTrial n answer
 IsDue (Suggest title step) left answer = AnswersSuggest title step left answer
 IsDue _ left answer = Unit {0}
 
--- Of a source of a book at most one byte more is taken than a book may have; after a read fault all that was taken is handled: the blocks of
--- exactly the theorems whose last line was taken are written. A book that is accepted was read to its end.
+-- Of a source of a book at most one byte more is taken than a book may have; after a read fault all
+-- that was taken is handled: the blocks of exactly the theorems whose last line was taken are
+-- written. A book that is accepted was read to its end.
 pub record TakesBook (left after old new : Option (List ℕ)) (answer : Status) : Type 0 where
   pub took : TookFew left after
   pub handled : IsReadFault answer → HandledAll left after old new
   pub end : IsAccepted answer → IsAtEnd after
 
--- what was taken of the source; a derivation text that is verified, upgraded, trimmed or listed, and a figure text that is answered, were
--- read to their end
+-- what was taken of the source; a derivation text that is verified, upgraded, trimmed or listed,
+-- and a figure text that is answered, were read to their end
 abbrev pub TakesOf : Command → Option (List ℕ) → Option (List ℕ) → Option (List ℕ) → Option (List ℕ) → Status → Type 0
 TakesOf Check left after old new answer = TakesBook left after old new answer
 TakesOf Verify left after old new answer = IsVerified answer → IsAtEnd after

@@ -1,4 +1,5 @@
--- What the command `suggest` answers to a book, a title and the number of a step, and what it writes.
+-- What the command `suggest` answers to a book, a title and the number of a step, and what it
+-- writes.
 use Rattle.std.specs.Prelude.{◌≡◌, ◌⊎◌, ℕ, ◌-◌, ◌<◌, ◌≤◌, List, [], ◌∷◌, ◌++◌, length, map, nat_le, Bool, true, false, IsFalse, Contains, MatchBool, Option, Some, None, Ok, Err, codes, slice_get}
 use Rattle.std.specs.Str.{bytes_eq}
 use Rattle.e_text.specs.Tokens.{spaced}
@@ -32,8 +33,8 @@ use Rattle.e_run.specs.Answers.{IsAllOf}
 
 -- ---- the way to the step
 
--- the first theorems of the lines are licensed, with definitions between them and after them, and no theorem has the title; then this is
--- known, and this holds of what is left
+-- the first theorems of the lines are licensed, with definitions between them and after them, and
+-- no theorem has the title; then this is known, and this holds of what is left
 pub record UpToTheorem (lines : Rest) (title : List ℕ) (Holds : Known → Rest → Type 0) : Type 0 where
   pub theorems : List TheoremView
   pub known : Known
@@ -46,7 +47,8 @@ pub record UpToTheorem (lines : Rest) (title : List ℕ) (Holds : Known → Rest
 abbrev pub NextUpTo : Rest → List ℕ → (List TitledStatement → TheoremView → Type 0) → Type 0
 NextUpTo lines title Holds = UpToTheorem lines title (λ known rest. NextIs (end_line_number lines) known rest (Holds known.theorems))
 
--- step n of the theorem comes before the step that is asked for: the theorem has another title; or it has that step, and n is less
+-- step n of the theorem comes before the step that is asked for: the theorem has another title; or
+-- it has that step, and n is less
 abbrev pub IsEarlier : List ℕ → ℕ → TheoremView → ℕ → Type 0
 IsEarlier title step t n = MatchBool (bytes_eq t.title title) ((step ≤ size t.script) × (n < step)) (Unit {0})
 
@@ -64,8 +66,8 @@ pub record HasTooFewSteps (title : List ℕ) (step : ℕ) (t : TheoremView) : Ty
 abbrev pub HasNamesAt : List TitledStatement → TheoremView → ℕ → Names → Type 0
 HasNamesAt known t step names = Some names ≡ slice_get (names_lines (stated_by known) (declared_names (stated t.statement) t.names) t.script) (step - 1)
 
--- what is due before anything is suggested: the step is reached; there is no such step; an earlier step is not licensed; a line has a fault
--- up to the end of the theorem
+-- what is due before anything is suggested: the step is reached; there is no such step; an earlier
+-- step is not licensed; a line has a fault up to the end of the theorem
 pub data WayOutcome : Type 0 where
   AtStep : WayOutcome
   NoStep : WayOutcome
@@ -93,8 +95,9 @@ apply_lines title names choices = map (apply_line title names) choices
 abbrev pub is_asked_for : TitledStatement → Bool
 is_asked_for h = nat_le (length h.statement.declared) 6
 
--- The lines of these theorems, in order, and whether some are left out: each theorem that is asked gives the first of its choices, as many as
--- are left of the most, and one that has more is the last to be asked.
+-- The lines of these theorems, in order, and whether some are left out: each theorem that is asked
+-- gives the first of its choices, as many as are left of the most, and one that has more is the
+-- last to be asked.
 abbrev pub Lists : Names → Scope → List Lit → List TitledStatement → ℕ → List (List ℕ) → Bool → Type 0
 Lists names scope facts [] left lines more = (lines ≡ []) × (more ≡ false)
 Lists names scope facts (h ∷ hs) left lines more =
@@ -127,14 +130,16 @@ pub record WidensAtStep (title : List ℕ) (step width : ℕ) (names : Names) (k
   pub is_asked_for : length theorem.statement.declared ≤ 6
   pub too_wide : SomeArgsAreTooWide (stated theorem.statement) line.scope line.facts width
 
--- an earlier step is too wide; or it is the step itself, where a match is wanted, and a choice there is too wide
+-- an earlier step is too wide; or it is the step itself, where a match is wanted, and a choice
+-- there is too wide
 abbrev pub Widens : List ℕ → ℕ → List ℕ → ℕ → Wanted → ℕ → Names → List TitledStatement → TheoremView → Type 0
 Widens title step p n wanted width names known t =
     (TooWideAt known t p n wanted width names × IsEarlier title step t n)
     ⊎ ((p ≡ title) × (n ≡ step) × (wanted ≡ Match) × WidensAtStep title step width names known t)
 
--- What is due in all with an answer to a book of these lines. Nothing is written before the last lines but the lines that are suggested, and
--- those only once all were found. A fault of the source and out of memory say nothing of the book.
+-- What is due in all with an answer to a book of these lines. Nothing is written before the last
+-- lines but the lines that are suggested, and those only once all were found. A fault of the source
+-- and out of memory say nothing of the book.
 abbrev pub SuggestAnswer : Rest → List ℕ → ℕ → Status → List ℕ → Type 0
 SuggestAnswer lines title step (status.Suggested n more) out = NextUpTo lines title (Suggests title step n more out)
 SuggestAnswer lines title step status.NoStep out = IsWayOf lines title step NoStep × (out ≡ no_step_line)
@@ -155,7 +160,8 @@ SuggestsBook title step left old new answer =
 
 -- ---- the other way round
 
--- a step that comes before the asked one, or that one, is wide: the former as a line, the latter under some choice for a theorem that is asked
+-- a step that comes before the asked one, or that one, is wide: the former as a line, the latter
+-- under some choice for a theorem that is asked
 pub record HasWideEarlier (title : List ℕ) (step : ℕ) (known : List TitledStatement) (t : TheoremView) : Type 0 where
   pub number : ℕ
   pub line : Line
@@ -166,7 +172,8 @@ pub record HasWideEarlier (title : List ℕ) (step : ℕ) (known : List TitledSt
 abbrev pub HasWideOnWay : List ℕ → ℕ → List TitledStatement → TheoremView → Type 0
 HasWideOnWay title step known t = HasWideEarlier title step known t ⊎ ((width : ℕ) × (names : Names) × WidensAtStep title step width names known t)
 
--- the answer of an outcome; or a step on the way is wide; a fault of the source or the sink, and out of memory, can come in place of it
+-- the answer of an outcome; or a step on the way is wide; a fault of the source or the sink, and
+-- out of memory, can come in place of it
 abbrev pub IsWayAnswer : Rest → List ℕ → ℕ → WayOutcome → Status → Type 0
 IsWayAnswer lines title step AtStep (status.Suggested n more) = Unit {0}
 IsWayAnswer lines title step NoStep status.NoStep = Unit {0}

@@ -22,8 +22,8 @@ TookFew old new = Taken old new (λ taken. length taken ≤ 4194305)
 abbrev pub HaveNone : ℕ → Known → Rest → Type 0
 HaveNone last known lines = (i : BookItem) (after : Rest) → ¬ (item_from known last None lines ≡ Ok (Some (i, after)))
 
--- all theorems that these lines have, each with its derivation from those before it, and these bytes are the head line, their blocks and
--- the last lines
+-- all theorems that these lines have, each with its derivation from those before it, and these
+-- bytes are the head line, their blocks and the last lines
 pub record AllTaken (lines : Rest) (last out : List ℕ) : Type 0 where
   pub derived : List Derived
   pub sound : AllDerived [] derived

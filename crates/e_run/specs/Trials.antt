@@ -1,4 +1,5 @@
--- What the command `trial` answers: the generated book is checked, and what `check` would write of it is verified, within one call.
+-- What the command `trial` answers: the generated book is checked, and what `check` would write of
+-- it is verified, within one call.
 use Rattle.std.specs.Prelude.{◌≡◌, ℕ, List, [], Option}
 use Rattle.e_deriv.specs.declared.names.Names.{Names}
 use Rattle.e_names.specs.declared.known.Known.{Known}
@@ -13,7 +14,8 @@ use Rattle.e_run.specs.Wrote.{Wrote}
 use Rattle.e_run.specs.Outcome.{Rest, BookOutcome, Begins, IsOutcomeOf, lines_of_book, Accepted as AcceptedBook, Faulty as FaultyBook}
 use Rattle.e_run.specs.Answers.{Derived, AllDerived, OutputUpTo, OutcomeAfter, Refuses, Widens, IsAnswer, theorems_of, steps_of}
 
--- a book of these lines is accepted with these numbers of theorems and steps, and then `check` writes this
+-- a book of these lines is accepted with these numbers of theorems and steps, and then `check`
+-- writes this
 pub record IsAccepted (lines : Rest) (theorems steps : ℕ) (out : List ℕ) : Type 0 where
   pub ended : OutputUpTo lines (OutcomeAfter lines (AcceptedBook theorems)) (accepted_line theorems) out
   pub steps_are : steps ≡ steps_of ended.derived
@@ -57,7 +59,8 @@ abbrev pub HasCount : ℕ → Status → Type 0
 HasCount n (status.Tried m s) = m ≡ n
 HasCount n _ = Unit {0}
 
--- the answer where that is the book's outcome: Tried with its number comes in the place of Accepted, and else what `check` answers
+-- the answer where that is the book's outcome: Tried with its number comes in the place of
+-- Accepted, and else what `check` answers
 abbrev pub IsTrialAnswer : Rest → BookOutcome → Status → Type 0
 IsTrialAnswer lines (AcceptedBook n) (status.Tried m s) = m ≡ n
 IsTrialAnswer lines end (status.Accepted m) = ⊥

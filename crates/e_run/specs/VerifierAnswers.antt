@@ -21,8 +21,8 @@ line_of (judgements.Verified n) = verified_line n
 line_of (judgements.Bad title step) = bad_line title step
 line_of (judgements.Garbled line) = garbled_line line
 
--- The line that is due with an answer. The text has this judgement, or has more bytes than `verify` takes; a fault of the source and want of
--- memory say nothing of it.
+-- The line that is due with an answer. The text has this judgement, or has more bytes than `verify`
+-- takes; a fault of the source and want of memory say nothing of it.
 abbrev pub TextAnswer : List ℕ → Status → List ℕ → Type 0
 TextAnswer text (status.Verified n) out = JudgesText text (judgements.Verified n) × (out ≡ verified_line n)
 TextAnswer text (status.Bad title step) out = JudgesText text (judgements.Bad title step) × (out ≡ bad_line title step)
@@ -47,7 +47,8 @@ IsFailure status.WriteFault = Unit {0}
 IsFailure status.NoMemory = Unit {0}
 IsFailure _ = ⊥
 
--- where a source exposes its bytes, and they are a text that has this judgement, the answer is that, or the run failed
+-- where a source exposes its bytes, and they are a text that has this judgement, the answer is
+-- that, or the run failed
 abbrev pub AnswersText : Option (List ℕ) → Status → Type 0
 AnswersText left answer =
     (text : List ℕ) (j : Judgement) → left ≡ Some text → length text ≤ 2 ^ 60 → JudgesText text j → (answer ≡ answer_of j) ⊎ IsFailure answer

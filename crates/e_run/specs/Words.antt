@@ -29,7 +29,8 @@ abbrev pub placed_command : List ℕ → Option (List ℕ) → Option ℕ → Co
 placed_command word (Some title) (Some step) = if bytes_eq word (codes "suggest") then Suggest title step else Unknown
 placed_command word _ _ = Unknown
 
--- `check`, `verify`, `upgrade`, `figure`, `trim` and `uses` are alone, `make` and `trial` come before a number, and `suggest` before a title and the number of a step
+-- `check`, `verify`, `upgrade`, `figure`, `trim` and `uses` are alone, `make` and `trial` come
+-- before a number, and `suggest` before a title and the number of a step
 abbrev pub command_of : List (List ℕ) → Command
 command_of (word ∷ []) = plain_command word
 command_of (word ∷ number ∷ []) = counted_command word (count_of number)

@@ -1,4 +1,5 @@
--- What was written with an answer: all that is due with it, or some first bytes of that, and the sink failed.
+-- What was written with an answer: all that is due with it, or some first bytes of that, and the
+-- sink failed.
 use Rattle.std.specs.Prelude.{◌≡◌, ◌⊎◌, ℕ, List, Option}
 use Rattle.e_io.specs.Bytes.{Grew, GrewByFront}
 use Rattle.e_run.specs.declared.status.Status.{Status}
@@ -17,7 +18,7 @@ pub record WroteFront (Due : Status → List ℕ → Type 0) (old new : Option (
   pub due : Due answer out
   pub grew : GrewByFront old new out
 
--- this is the answer, and what is due with it was written; or the answer is a write fault, and a front of what is due with some answer was
--- written
+-- this is the answer, and what is due with it was written; or the answer is a write fault, and a
+-- front of what is due with some answer was written
 abbrev pub Wrote : (Status → List ℕ → Type 0) → Option (List ℕ) → Option (List ℕ) → Status → Type 0
 Wrote Due old new answer = WroteAll Due old new answer ⊎ ((answer ≡ status.WriteFault) × WroteFront Due old new)

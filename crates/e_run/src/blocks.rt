@@ -1,5 +1,6 @@
 //! The blocks of a book whose lines are all there: each theorem read, checked and written.
-ghost use Rattle.std.specs.Prelude.{◌≡◌, ◌≤◌, ◌<◌, ◌^◌, false, length, IfOk, OnOk, IfErr, IsErrOf, IsTrue};
+ghost use Rattle.std.specs.Prelude.{◌≡◌, ◌≤◌, ◌<◌, ◌^◌, false, length};
+ghost use Rattle.std.specs.Prelude.{IfOk, OnOk, IfErr, IsErrOf, IsTrue};
 ghost use Rattle.e_io.specs.Bytes.{Rose};
 ghost use Rattle.e_theorem.specs.Statements.{stated};
 ghost use Rattle.e_deriv.specs.Script.{script_of};
@@ -57,11 +58,14 @@ impl From<AllocError> for RunError {
 
 /// The block of a theorem with its derivation from those that are known.
 pub fn block(alloc: Global, known: &Theorems, theorem: &Theorem) -> Result<Vec<u8>, Stop>
-    requires fitting { IsFitting (stated_by known.now) (stated theorem.now.statement) (script_of theorem.now.block) }
+    requires fitting { IsFitting (stated_by known.now) (stated theorem.now.statement)
+        (script_of theorem.now.block) }
     requires good { IsTrue (has_good_literals (script_of theorem.now.block)) }
     ensures block { IfOk result (λ v. HasBlock known.now (entry_of theorem.now) v.items) }
-    ensures stop { IfErr result (StopIs (stated_by known.now) (stated theorem.now.statement) (script_of theorem.now.block)) }
-    ensures names { IfErr result (HasNames (stated_by known.now) (stated theorem.now.statement) theorem.now.names (script_of theorem.now.block)) }
+    ensures stop { IfErr result (StopIs (stated_by known.now) (stated theorem.now.statement)
+        (script_of theorem.now.block)) }
+    ensures names { IfErr result (HasNames (stated_by known.now)
+        (stated theorem.now.statement) theorem.now.names (script_of theorem.now.block)) }
 {
     let derivation = prove(alloc, known.statements(), theorem)?;
     let text = spell(alloc, known, theorem, &derivation);
@@ -114,9 +118,11 @@ pub fn blocks<K: Sink>(
 ) -> Result<BookResult, RunError>
     requires first { lines.old.line ≡ 1 }
     requires few { length lines.old.lines < 2 ^ 31 }
-    ensures book_result { BlocksAre lines.old.lines (K.written sink.old) (K.written sink.new) result }
+    ensures book_result { BlocksAre lines.old.lines (K.written sink.old)
+        (K.written sink.new) result }
     ensures rises { K.faults sink.old ≤ K.faults sink.new }
-    ensures cause { IsErrOf result RunError.WriteFault → Rose (K.faults sink.old) (K.faults sink.new) }
+    ensures cause { IsErrOf result RunError.WriteFault
+        → Rose (K.faults sink.old) (K.faults sink.new) }
 {
     let mut book = Book::new(alloc);
     let ended = book.take_all(alloc, lines, sink);

@@ -1,6 +1,7 @@
 //! A book while its lines come: each theorem is checked, and its block written, as soon as its last
 //! line has come.
-ghost use Rattle.std.specs.Prelude.{◌≡◌, ◌≤◌, ◌<◌, ◌^◌, ◌++◌, ℕ, List, [], Option, Some, None, Ok, false, IfOk, IfNone, IsErrOf};
+ghost use Rattle.std.specs.Prelude.{◌≡◌, ◌≤◌, ◌<◌, ◌^◌, ◌++◌, ℕ, List, [], Option};
+ghost use Rattle.std.specs.Prelude.{Some, None, Ok, false, IfOk, IfNone, IsErrOf};
 ghost use Rattle.e_io.specs.Bytes.{Rose};
 ghost use Rattle.e_book.specs.Grammar.{last_line};
 ghost use Rattle.e_names.specs.Titled.{defines};
@@ -9,7 +10,8 @@ ghost use Rattle.e_book.specs.TheoremViews.{entry_of};
 ghost use Rattle.e_book.specs.HasSpelling.{HasSpelling};
 ghost use Rattle.e_run.specs.Outcome.{Rest, end_line_number};
 ghost use Rattle.e_run.specs.inner.BookResults.{BlocksAre};
-ghost use Rattle.e_run.specs.inner.Progress.{History, IsBook, Reaches, Handles, BookTakes, AreTaken, first_book, result_at};
+ghost use Rattle.e_run.specs.inner.Progress.{History, IsBook, Reaches, Handles};
+ghost use Rattle.e_run.specs.inner.Progress.{BookTakes, AreTaken, first_book, result_at};
 ghost use Rattle.e_run.specs.declared.blocks.RunError.{RunError};
 
 use crate::blocks::{BookResult, RunError, block, faulty, keep, stopped};
@@ -55,11 +57,16 @@ impl Book {
         requires begins { self.old.reading.coming ≡ None }
         requires spelled { HasSpelling self.old.known.theorems (entry_of theorem) }
         requires title { defines self.old.known.notions theorem.title ≡ false }
-        ensures handles { (lines rest after : Rest) (before : Option (List ℕ)) → History lines before self.old.known rest (K.written sink.old) self.old.steps → item_from self.old.known (end_line_number lines) None rest ≡ Ok (Some (OfTheorem (entry_of theorem), after)) → Handles lines before after result self.new (K.written sink.new) }
+        ensures handles { (lines rest after : Rest) (before : Option (List ℕ))
+            → History lines before self.old.known rest (K.written sink.old) self.old.steps
+            → item_from self.old.known (end_line_number lines) None rest
+            ≡ Ok (Some (OfTheorem (entry_of theorem), after))
+            → Handles lines before after result self.new (K.written sink.new) }
         ensures book { IfOk result (λ e. IfNone e (IsBook self.new)) }
         ensures begins { IfOk result (λ e. IfNone e (self.new.reading.coming ≡ None)) }
         ensures rises { K.faults sink.old ≤ K.faults sink.new }
-        ensures cause { IsErrOf result RunError.WriteFault → Rose (K.faults sink.old) (K.faults sink.new) }
+        ensures cause { IsErrOf result RunError.WriteFault
+            → Rose (K.faults sink.old) (K.faults sink.new) }
     {
         let block = match block(alloc, &self.known.theorems, &theorem) {
             Ok(block) => block,
@@ -92,11 +99,16 @@ impl Book {
         requires book { IsBook self.old }
         requires begins { self.old.reading.coming ≡ None }
         requires good { HasWellFormedView self.old.known item }
-        ensures handles { (lines rest after : Rest) (before : Option (List ℕ)) → History lines before self.old.known rest (K.written sink.old) self.old.steps → item_from self.old.known (end_line_number lines) None rest ≡ Ok (Some (view_of item, after)) → Handles lines before after result self.new (K.written sink.new) }
+        ensures handles { (lines rest after : Rest) (before : Option (List ℕ))
+            → History lines before self.old.known rest (K.written sink.old) self.old.steps
+            → item_from self.old.known (end_line_number lines) None rest
+            ≡ Ok (Some (view_of item, after))
+            → Handles lines before after result self.new (K.written sink.new) }
         ensures book { IfOk result (λ e. IfNone e (IsBook self.new)) }
         ensures begins { IfOk result (λ e. IfNone e (self.new.reading.coming ≡ None)) }
         ensures rises { K.faults sink.old ≤ K.faults sink.new }
-        ensures cause { IsErrOf result RunError.WriteFault → Rose (K.faults sink.old) (K.faults sink.new) }
+        ensures cause { IsErrOf result RunError.WriteFault
+            → Rose (K.faults sink.old) (K.faults sink.new) }
     {
         match item {
             Item::Theorem(theorem) => self.handle(alloc, theorem, sink),
@@ -119,11 +131,14 @@ impl Book {
     ) -> Result<Option<BookResult>, RunError>
         requires book { IsBook self.old }
         requires lines { last_line lines.old < 2 ^ 32 }
-        ensures takes { (all : Rest → Rest) (before : Option (List ℕ)) → Reaches all (λ more. lines.old.lines ++ more) before self.old (K.written sink.old) → BookTakes all before result self.new (K.written sink.new) }
+        ensures takes { (all : Rest → Rest) (before : Option (List ℕ))
+            → Reaches all (λ more. lines.old.lines ++ more) before self.old (K.written sink.old)
+            → BookTakes all before result self.new (K.written sink.new) }
         ensures taken { IfOk result (λ e. IfNone e (AreTaken lines.old lines.new)) }
         ensures book { IfOk result (λ e. IfNone e (IsBook self.new)) }
         ensures rises { K.faults sink.old ≤ K.faults sink.new }
-        ensures cause { IsErrOf result RunError.WriteFault → Rose (K.faults sink.old) (K.faults sink.new) }
+        ensures cause { IsErrOf result RunError.WriteFault
+            → Rose (K.faults sink.old) (K.faults sink.new) }
     {
         loop {
             let item = match self.reading.read(alloc, lines, &self.known) {
@@ -161,9 +176,13 @@ impl Book {
     ) -> Result<BookResult, RunError>
         requires book { IsBook self.old }
         requires lines { last_line lines.old < 2 ^ 32 }
-        ensures ends { (all : Rest → Rest) (before : Option (List ℕ)) → end_line_number (all []) ≡ last_line lines.old → Reaches all (λ more. lines.old.lines ++ more) before self.old (K.written sink.old) → BlocksAre (all []) before (K.written sink.new) result }
+        ensures ends { (all : Rest → Rest) (before : Option (List ℕ))
+            → end_line_number (all []) ≡ last_line lines.old
+            → Reaches all (λ more. lines.old.lines ++ more) before self.old (K.written sink.old)
+            → BlocksAre (all []) before (K.written sink.new) result }
         ensures rises { K.faults sink.old ≤ K.faults sink.new }
-        ensures cause { IsErrOf result RunError.WriteFault → Rose (K.faults sink.old) (K.faults sink.new) }
+        ensures cause { IsErrOf result RunError.WriteFault
+            → Rose (K.faults sink.old) (K.faults sink.new) }
     {
         match self.take(alloc, lines, sink)? {
             Some(book_result) => Ok(book_result),

@@ -5,7 +5,8 @@ ghost use Rattle.e_run.specs.Answers.{Checks, ChecksBook, IsWriteFault, IsReadFa
 ghost use Rattle.e_run.specs.Input.{IsAtEnd};
 ghost use Rattle.e_run.specs.LastLines.{head_line};
 ghost use Rattle.e_run.specs.Outcome.{Rest};
-ghost use Rattle.e_run.specs.inner.BookResults.{ClosesWith, BookResultIs, IsAll, HasLastLines, last_lines, answer_of};
+ghost use Rattle.e_run.specs.inner.BookResults.{ClosesWith, BookResultIs, IsAll};
+ghost use Rattle.e_run.specs.inner.BookResults.{HasLastLines, last_lines, answer_of};
 ghost use Rattle.e_run.specs.Taken.{TookFew, HandledAll};
 
 use crate::blocks::{BookResult, RunError};
@@ -39,7 +40,8 @@ pub fn close<K: Sink>(sink: &mut K, last: &[u8], answer: Status) -> Status
 /// The last lines of a book's result.
 pub fn last_lines(alloc: Global, book_result: &BookResult) -> Result<Vec<u8>, AllocError>
     requires { HasLastLines book_result.now }
-    ensures { IfOk result (λ v. v.items ≡ Rattle.e_run.specs.inner.BookResults.last_lines book_result.now) }
+    ensures { IfOk result
+        (λ v. v.items ≡ Rattle.e_run.specs.inner.BookResults.last_lines book_result.now) }
 {
     match book_result {
         BookResult::All { theorems, .. } => accepted(alloc, *theorems),
@@ -93,7 +95,10 @@ pub fn answer_of(book_result: BookResult) -> Status
 /// Writes the last lines of a book's result, and gives its answer.
 fn report<K: Sink>(alloc: Global, book_result: BookResult, sink: &mut K) -> Status
     requires { HasLastLines book_result }
-    ensures checks { (lines : Rest) (before between : Option (List ℕ)) → Grew before between head_line → BookResultIs lines between (K.written sink.old) book_result → Checks lines before (K.written sink.new) result }
+    ensures checks { (lines : Rest) (before between : Option (List ℕ))
+        → Grew before between head_line
+        → BookResultIs lines between (K.written sink.old) book_result
+        → Checks lines before (K.written sink.new) result }
     ensures accepted { IsAccepted result → IsAll book_result }
     ensures rises { K.faults sink.old ≤ K.faults sink.new }
     ensures cause { IsWriteFault result → Rose (K.faults sink.old) (K.faults sink.new) }
@@ -111,9 +116,11 @@ fn report<K: Sink>(alloc: Global, book_result: BookResult, sink: &mut K) -> Stat
 /// Reads a book from a source, and writes its derivations and the last lines to a sink: the block
 /// of each theorem as soon as its last line is read.
 pub fn check<S: Source, K: Sink>(alloc: Global, source: &mut S, sink: &mut K) -> Status
-    ensures checks { ChecksBook (S.left source.old) (K.written sink.old) (K.written sink.new) result }
+    ensures checks { ChecksBook (S.left source.old) (K.written sink.old)
+        (K.written sink.new) result }
     ensures took { TookFew (S.left source.old) (S.left source.new) }
-    ensures handled { IsReadFault result → HandledAll (S.left source.old) (S.left source.new) (K.written sink.old) (K.written sink.new) }
+    ensures handled { IsReadFault result → HandledAll (S.left source.old) (S.left source.new)
+        (K.written sink.old) (K.written sink.new) }
     ensures end { IsAccepted result → IsAtEnd (S.left source.new) }
     ensures read_rises { S.faults source.old ≤ S.faults source.new }
     ensures read_cause { IsReadFault result → Rose (S.faults source.old) (S.faults source.new) }

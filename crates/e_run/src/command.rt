@@ -1,6 +1,7 @@
 //! The words of a command.
 ghost use Rattle.std.specs.Prelude.{◌≡◌, ◌≤◌, IfSome, map, string_bytes};
-ghost use Rattle.e_run.specs.Words.{count_of, step_of, plain_command, counted_command, placed_command, command_of, OfCount, OfStep};
+ghost use Rattle.e_run.specs.Words.{count_of, step_of, plain_command, counted_command};
+ghost use Rattle.e_run.specs.Words.{placed_command, command_of, OfCount, OfStep};
 
 use e_text::{Title, number};
 

@@ -42,7 +42,8 @@ pub fn read_text<S: Source>(
     ensures few { IfOk result (λ v. vec_len v ≤ most + 1) }
     ensures end { IfOk result (λ v. vec_len v ≤ most → IsAtEnd (S.left source.new)) }
     ensures rises { S.faults source.old ≤ S.faults source.new }
-    ensures cause { IsErrOf result InputFault.ReadFault → Rose (S.faults source.old) (S.faults source.new) }
+    ensures cause { IsErrOf result InputFault.ReadFault
+        → Rose (S.faults source.old) (S.faults source.new) }
 {
     let mut text = Vec::new(alloc);
     let mut buffer = [0u8; 4096];

@@ -1,6 +1,8 @@
 //! The last lines of an answer.
 ghost use Rattle.std.specs.Prelude.{◌≡◌, ◌++◌, [], IfOk, OnOk, codes, decimal};
-ghost use Rattle.e_run.specs.LastLines.{accepted_line, tried_line, verified_line, bad_line, garbled_line, listed_line, suggested_line, fault_line, fault_words, faulty_line, what_word};
+ghost use Rattle.e_run.specs.LastLines.{accepted_line, tried_line, verified_line, bad_line};
+ghost use Rattle.e_run.specs.LastLines.{garbled_line, listed_line, suggested_line};
+ghost use Rattle.e_run.specs.LastLines.{fault_line, fault_words, faulty_line, what_word};
 
 use e_line::{BookFault, What};
 use e_text::Title;

@@ -1,5 +1,6 @@
 //! A book that is read piece by piece: its lines are taken as soon as they have their end.
-ghost use Rattle.std.specs.Prelude.{◌≡◌, ◌≤◌, ◌+◌, ◌++◌, ℕ, List, [], length, Option, IfOk, IfNone, IsErrOf, vec_len};
+ghost use Rattle.std.specs.Prelude.{◌≡◌, ◌≤◌, ◌+◌, ◌++◌, ℕ, List, [], length};
+ghost use Rattle.std.specs.Prelude.{Option, IfOk, IfNone, IsErrOf, vec_len};
 ghost use Rattle.e_io.specs.Bytes.{Rose};
 ghost use Rattle.e_text.specs.Lines.{IsClosed, IsOpen, lines_of};
 ghost use Rattle.e_run.specs.Input.{IsAtEnd};
@@ -56,7 +57,8 @@ impl Untaken {
     fn lines(&self) -> Lines<'_>
         requires line { self.now.line ≤ self.now.before + 1 }
         requires few { self.now.before + vec_len self.now.bytes ≤ 4194305 }
-        ensures lines { result.lines ≡ lines_of (record { longest = 1600; most = 4194304 }) (record { line = self.now.line; before = self.now.before }) self.now.bytes.items }
+        ensures lines { result.lines ≡ lines_of (record { longest = 1600; most = 4194304 })
+            (record { line = self.now.line; before = self.now.before }) self.now.bytes.items }
         ensures line { result.line ≡ self.now.line }
         ensures count { length result.lines ≤ vec_len self.now.bytes }
     {
@@ -81,13 +83,17 @@ fn take_closed<K: Sink>(
     requires line { untaken.old.line ≤ untaken.old.before + 1 }
     requires few { untaken.old.before + vec_len untaken.old.bytes ≤ 4194305 }
     requires closed { IsClosed untaken.old.bytes.items }
-    ensures takes { (read : List ℕ) (before : Option (List ℕ)) → IsReadUpTo read before book.old untaken.old (K.written sink.old) → PieceTakes read before result book.new untaken.new (K.written sink.new) }
+    ensures takes { (read : List ℕ) (before : Option (List ℕ))
+        → IsReadUpTo read before book.old untaken.old (K.written sink.old)
+        → PieceTakes read before result book.new untaken.new (K.written sink.new) }
     ensures book { IfOk result (λ e. IfNone e (IsBook book.new)) }
     ensures taken { IfOk result (λ e. IfNone e (untaken.new.bytes.items ≡ [])) }
-    ensures count { IfOk result (λ e. IfNone e (untaken.new.before ≡ untaken.old.before + vec_len untaken.old.bytes)) }
+    ensures count { IfOk result
+        (λ e. IfNone e (untaken.new.before ≡ untaken.old.before + vec_len untaken.old.bytes)) }
     ensures line { IfOk result (λ e. IfNone e (untaken.new.line ≤ untaken.new.before + 1)) }
     ensures rises { K.faults sink.old ≤ K.faults sink.new }
-    ensures cause { IsErrOf result RunError.WriteFault → Rose (K.faults sink.old) (K.faults sink.new) }
+    ensures cause { IsErrOf result RunError.WriteFault
+        → Rose (K.faults sink.old) (K.faults sink.new) }
 {
     let mut lines = untaken.lines();
     match book.take(alloc, &mut lines, sink)? {
@@ -114,13 +120,17 @@ fn take_piece<K: Sink>(
     requires line { untaken.old.line ≤ untaken.old.before + 1 }
     requires few { untaken.old.before + vec_len untaken.old.bytes + length piece.now ≤ 4194305 }
     requires unended { IsOpen untaken.old.bytes.items }
-    ensures takes { (read : List ℕ) (before : Option (List ℕ)) → IsReadUpTo read before book.old untaken.old (K.written sink.old) → PieceTakes (read ++ piece.now) before result book.new untaken.new (K.written sink.new) }
+    ensures takes { (read : List ℕ) (before : Option (List ℕ))
+        → IsReadUpTo read before book.old untaken.old (K.written sink.old)
+        → PieceTakes (read ++ piece.now) before result book.new untaken.new (K.written sink.new) }
     ensures book { IfOk result (λ e. IfNone e (IsBook book.new)) }
     ensures unended { IfOk result (λ e. IfNone e (IsOpen untaken.new.bytes.items)) }
-    ensures count { IfOk result (λ e. IfNone e (untaken.new.before + vec_len untaken.new.bytes ≡ untaken.old.before + vec_len untaken.old.bytes + length piece.now)) }
+    ensures count { IfOk result (λ e. IfNone e (untaken.new.before + vec_len untaken.new.bytes
+        ≡ untaken.old.before + vec_len untaken.old.bytes + length piece.now)) }
     ensures line { IfOk result (λ e. IfNone e (untaken.new.line ≤ untaken.new.before + 1)) }
     ensures rises { K.faults sink.old ≤ K.faults sink.new }
-    ensures cause { IsErrOf result RunError.WriteFault → Rose (K.faults sink.old) (K.faults sink.new) }
+    ensures cause { IsErrOf result RunError.WriteFault
+        → Rose (K.faults sink.old) (K.faults sink.new) }
 {
     let (ended, rest) = piece.split_at(closed_len(piece));
     if ended.is_empty() {
@@ -146,9 +156,12 @@ fn take_last<K: Sink>(
     requires book { IsBook book.old }
     requires line { untaken.now.line ≤ untaken.now.before + 1 }
     requires few { untaken.now.before + vec_len untaken.now.bytes ≤ 4194305 }
-    ensures ends { (read : List ℕ) (before : Option (List ℕ)) → IsReadUpTo read before book.old untaken.now (K.written sink.old) → BlocksAre (lines_of_book read) before (K.written sink.new) result }
+    ensures ends { (read : List ℕ) (before : Option (List ℕ))
+        → IsReadUpTo read before book.old untaken.now (K.written sink.old)
+        → BlocksAre (lines_of_book read) before (K.written sink.new) result }
     ensures rises { K.faults sink.old ≤ K.faults sink.new }
-    ensures cause { IsErrOf result RunError.WriteFault → Rose (K.faults sink.old) (K.faults sink.new) }
+    ensures cause { IsErrOf result RunError.WriteFault
+        → Rose (K.faults sink.old) (K.faults sink.new) }
 {
     let mut lines = untaken.lines();
     book.take_all(alloc, &mut lines, sink)
@@ -162,14 +175,18 @@ fn take_source<S: Source, K: Sink>(
     sink: &mut K,
 ) -> Result<BookResult, RunError>
     requires { book.old ≡ first_book }
-    ensures ends { TextResultIs (S.left source.old) (K.written sink.old) (K.written sink.new) result }
-    ensures handled { IsErrOf result RunError.ReadFault → HandledBlocks (S.left source.old) (S.left source.new) (K.written sink.old) (K.written sink.new) }
+    ensures ends { TextResultIs (S.left source.old) (K.written sink.old)
+        (K.written sink.new) result }
+    ensures handled { IsErrOf result RunError.ReadFault → HandledBlocks (S.left source.old)
+        (S.left source.new) (K.written sink.old) (K.written sink.new) }
     ensures took { TookFew (S.left source.old) (S.left source.new) }
     ensures end { IfOk result (λ e. IsAll e → IsAtEnd (S.left source.new)) }
     ensures read_rises { S.faults source.old ≤ S.faults source.new }
-    ensures read_cause { IsErrOf result RunError.ReadFault → Rose (S.faults source.old) (S.faults source.new) }
+    ensures read_cause { IsErrOf result RunError.ReadFault
+        → Rose (S.faults source.old) (S.faults source.new) }
     ensures write_rises { K.faults sink.old ≤ K.faults sink.new }
-    ensures write_cause { IsErrOf result RunError.WriteFault → Rose (K.faults sink.old) (K.faults sink.new) }
+    ensures write_cause { IsErrOf result RunError.WriteFault
+        → Rose (K.faults sink.old) (K.faults sink.new) }
 {
     let mut untaken = Untaken::new(alloc);
     let mut buffer = [0u8; PIECE];
@@ -197,14 +214,18 @@ pub fn blocks_of_source<S: Source, K: Sink>(
     source: &mut S,
     sink: &mut K,
 ) -> Result<BookResult, RunError>
-    ensures ends { TextResultIs (S.left source.old) (K.written sink.old) (K.written sink.new) result }
-    ensures handled { IsErrOf result RunError.ReadFault → HandledBlocks (S.left source.old) (S.left source.new) (K.written sink.old) (K.written sink.new) }
+    ensures ends { TextResultIs (S.left source.old) (K.written sink.old)
+        (K.written sink.new) result }
+    ensures handled { IsErrOf result RunError.ReadFault → HandledBlocks (S.left source.old)
+        (S.left source.new) (K.written sink.old) (K.written sink.new) }
     ensures took { TookFew (S.left source.old) (S.left source.new) }
     ensures end { IfOk result (λ e. IsAll e → IsAtEnd (S.left source.new)) }
     ensures read_rises { S.faults source.old ≤ S.faults source.new }
-    ensures read_cause { IsErrOf result RunError.ReadFault → Rose (S.faults source.old) (S.faults source.new) }
+    ensures read_cause { IsErrOf result RunError.ReadFault
+        → Rose (S.faults source.old) (S.faults source.new) }
     ensures write_rises { K.faults sink.old ≤ K.faults sink.new }
-    ensures write_cause { IsErrOf result RunError.WriteFault → Rose (K.faults sink.old) (K.faults sink.new) }
+    ensures write_cause { IsErrOf result RunError.WriteFault
+        → Rose (K.faults sink.old) (K.faults sink.new) }
 {
     let mut book = Book::new(alloc);
     let ended = take_source(alloc, &mut book, source, sink);

@@ -7,7 +7,8 @@ ghost use Rattle.e_book.specs.Grammar.{last_line};
 ghost use Rattle.e_run.specs.Answers.{IsReadFault, IsWriteFault};
 ghost use Rattle.e_run.specs.Input.{IsAtEnd};
 ghost use Rattle.e_run.specs.Rewrites.{RewritesText, IsRewritten};
-ghost use Rattle.e_run.specs.inner.Rewriting.{BlocksWritten, Broke, IsReadFor, IsReported, IsVerified, Passed, TheoremsWritten};
+ghost use Rattle.e_run.specs.inner.Rewriting.{BlocksWritten, Broke, IsReadFor, IsReported};
+ghost use Rattle.e_run.specs.inner.Rewriting.{IsVerified, Passed, TheoremsWritten};
 
 use crate::blocks::RunError;
 use crate::checker::close;
@@ -33,10 +34,13 @@ fn pass<K: Sink>(
     sink: &mut K,
 ) -> Result<(), RunError>
     requires { IsVerified job known.old (entry_of theorem) }
-    ensures passed { OnOk result (Passed job known.old (entry_of theorem) known.new (K.written sink.old) (K.written sink.new)) }
-    ensures broke { IfErr result (Broke job known.old (entry_of theorem) (K.written sink.old) (K.written sink.new)) }
+    ensures passed { OnOk result (Passed job known.old (entry_of theorem) known.new
+        (K.written sink.old) (K.written sink.new)) }
+    ensures broke { IfErr result
+        (Broke job known.old (entry_of theorem) (K.written sink.old) (K.written sink.new)) }
     ensures rises { K.faults sink.old ≤ K.faults sink.new }
-    ensures cause { IsErrOf result RunError.WriteFault → Rose (K.faults sink.old) (K.faults sink.new) }
+    ensures cause { IsErrOf result RunError.WriteFault
+        → Rose (K.faults sink.old) (K.faults sink.new) }
 {
     let Ok(block) = block_of(alloc, job, known, &theorem) else {
         mem::drop(theorem);
@@ -64,9 +68,11 @@ fn rewrite_theorems<K: Sink>(
 ) -> Result<Judgement, RunError>
     requires none { known.old ≡ [] }
     requires version { IsReadFor job version }
-    ensures wrote { TheoremsWritten job version (last_line lines.old) lines.old.lines (K.written sink.old) (K.written sink.new) result }
+    ensures wrote { TheoremsWritten job version (last_line lines.old) lines.old.lines
+        (K.written sink.old) (K.written sink.new) result }
     ensures rises { K.faults sink.old ≤ K.faults sink.new }
-    ensures cause { IsErrOf result RunError.WriteFault → Rose (K.faults sink.old) (K.faults sink.new) }
+    ensures cause { IsErrOf result RunError.WriteFault
+        → Rose (K.faults sink.old) (K.faults sink.new) }
 {
     loop {
         let theorem = match next_item(alloc, version, known, lines) {
@@ -88,7 +94,8 @@ fn rewrite_blocks<K: Sink>(
     requires { length text.now ≤ 2 ^ 60 }
     ensures wrote { BlocksWritten job text.now (K.written sink.old) (K.written sink.new) result }
     ensures rises { K.faults sink.old ≤ K.faults sink.new }
-    ensures cause { IsErrOf result RunError.WriteFault → Rose (K.faults sink.old) (K.faults sink.new) }
+    ensures cause { IsErrOf result RunError.WriteFault
+        → Rose (K.faults sink.old) (K.faults sink.new) }
 {
     let mut lines = Lines::new(text, LONGEST_LINE, text.len() as u64);
     let Some(version) = read_as(job, begins(&mut lines)) else {
@@ -116,7 +123,8 @@ fn report<K: Sink>(alloc: Global, job: Job, judgement: Judgement, sink: &mut K) 
 /// Reads a derivation text from a source, and writes to a sink the head, something of each theorem
 /// as soon as it is verified, and the last line.
 pub fn rewrite<S: Source, K: Sink>(alloc: Global, job: Job, source: &mut S, sink: &mut K) -> Status
-    ensures rewrites { RewritesText job (S.left source.old) (K.written sink.old) (K.written sink.new) result }
+    ensures rewrites { RewritesText job (S.left source.old) (K.written sink.old)
+        (K.written sink.new) result }
     ensures end { IsRewritten result → IsAtEnd (S.left source.new) }
     ensures read_rises { S.faults source.old ≤ S.faults source.new }
     ensures read_cause { IsReadFault result → Rose (S.faults source.old) (S.faults source.new) }

@@ -55,10 +55,14 @@ pub fn read_as(job: Job, head: Option<Version>) -> Option<Version>
 
 /// The block of the theorem with its derivation, which cites facts by their places.
 fn upgraded_block(alloc: Global, known: &Theorems, theorem: &Theorem) -> Result<Vec<u8>, AllocError>
-    requires verifiable { IsVerifiable (stated_by known.now) (stated theorem.now.statement) (script_of theorem.now.block) }
-    requires certified { Certified (stated_by known.now) (stated theorem.now.statement) (script_of theorem.now.block) }
-    ensures block { IfOk result (λ v. v.items ≡ Rewrites.upgraded_block known.now (entry_of theorem.now)) }
-    ensures version { OnOk result (IsTrue (has_certs_of Two (derivation_with_places (stated_by known.now) (stated theorem.now.statement) (script_of theorem.now.block)))) }
+    requires verifiable { IsVerifiable (stated_by known.now) (stated theorem.now.statement)
+        (script_of theorem.now.block) }
+    requires certified { Certified (stated_by known.now) (stated theorem.now.statement)
+        (script_of theorem.now.block) }
+    ensures block { IfOk result
+        (λ v. v.items ≡ Rewrites.upgraded_block known.now (entry_of theorem.now)) }
+    ensures version { OnOk result (IsTrue (has_certs_of Two (derivation_with_places
+        (stated_by known.now) (stated theorem.now.statement) (script_of theorem.now.block)))) }
 {
     let derivation = numbered(
         alloc,
@@ -73,7 +77,8 @@ fn upgraded_block(alloc: Global, known: &Theorems, theorem: &Theorem) -> Result<
 
 /// The block of the theorem with its derivation without the steps that nothing needs.
 fn trimmed_block(alloc: Global, known: &Theorems, theorem: &Theorem) -> Result<Vec<u8>, AllocError>
-    requires { IsTrimmable (stated_by known.now) (stated theorem.now.statement) (script_of theorem.now.block) }
+    requires { IsTrimmable (stated_by known.now) (stated theorem.now.statement)
+        (script_of theorem.now.block) }
     ensures { IfOk result (λ v. v.items ≡ Rewrites.trimmed_block known.now (entry_of theorem.now)) }
 {
     let trimmed = trim(
@@ -102,7 +107,8 @@ fn put_title_at(out: &mut Vec<u8>, known: &Theorems, place: usize) -> Result<(),
 
 /// The titles at the places, each after a space.
 fn put_titles(out: &mut Vec<u8>, known: &Theorems, places: &[u32]) -> Result<(), AllocError>
-    ensures { OnOk result (out.new.items ≡ out.old.items ++ flat_map (Rewrites.title_word known.now) places.now) }
+    ensures { OnOk result
+        (out.new.items ≡ out.old.items ++ flat_map (Rewrites.title_word known.now) places.now) }
 {
     for place in places {
         put_title_at(out, known, *place as usize)?;
@@ -129,10 +135,13 @@ pub fn block_of(
     known: &Theorems,
     theorem: &Theorem,
 ) -> Result<Vec<u8>, AllocError>
-    requires verifiable { IsVerifiable (stated_by known.now) (stated theorem.now.statement) (script_of theorem.now.block) }
-    requires certified { Certified (stated_by known.now) (stated theorem.now.statement) (script_of theorem.now.block) }
+    requires verifiable { IsVerifiable (stated_by known.now) (stated theorem.now.statement)
+        (script_of theorem.now.block) }
+    requires certified { Certified (stated_by known.now) (stated theorem.now.statement)
+        (script_of theorem.now.block) }
     requires version { HasVersionFor job (script_of theorem.now.block) }
-    ensures block { IfOk result (λ v. v.items ≡ Rewrites.block_of job known.now (entry_of theorem.now)) }
+    ensures block { IfOk result
+        (λ v. v.items ≡ Rewrites.block_of job known.now (entry_of theorem.now)) }
     ensures version { OnOk result (IsOfSecond job known.now (entry_of theorem.now)) }
 {
     match job {

@@ -78,15 +78,19 @@ pub fn run<S: Source, K: Sink>(
 ) -> Status
     // What was written of an accepted book, and of a text that is upgraded or trimmed, spells
     // proofs, and so does a text that is verified.
-    ensures proofs { HasProofs (command_of (map string_bytes words.now)) (S.left source.old) (K.written sink.old) (K.written sink.new) result }
+    ensures proofs { HasProofs (command_of (map string_bytes words.now)) (S.left source.old)
+        (K.written sink.old) (K.written sink.new) result }
     // What the answer means, and what was written.
-    ensures runs { Runs (command_of (map string_bytes words.now)) (S.left source.old) (K.written sink.old) (K.written sink.new) result }
+    ensures runs { Runs (command_of (map string_bytes words.now)) (S.left source.old)
+        (K.written sink.old) (K.written sink.new) result }
     // A book with an outcome is answered so, a derivation text with a judgement, and each figure
     // text.
     ensures due { IsDue (command_of (map string_bytes words.now)) (S.left source.old) result }
     // What was taken of the source; the commands that read nothing leave it as it was.
-    ensures taken { TakesOf (command_of (map string_bytes words.now)) (S.left source.old) (S.left source.new) (K.written sink.old) (K.written sink.new) result }
-    ensures unread { IsFalse (reads (command_of (map string_bytes words.now))) → source.new ≡ source.old }
+    ensures taken { TakesOf (command_of (map string_bytes words.now)) (S.left source.old)
+        (S.left source.new) (K.written sink.old) (K.written sink.new) result }
+    ensures unread { IsFalse (reads (command_of (map string_bytes words.now)))
+        → source.new ≡ source.old }
     // The causes of the other answers.
     ensures read_rises { S.faults source.old ≤ S.faults source.new }
     ensures read_cause { IsReadFault result → Rose (S.faults source.old) (S.faults source.new) }

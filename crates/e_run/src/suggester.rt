@@ -6,7 +6,8 @@ ghost use Rattle.e_io.specs.Bytes.{Rose};
 ghost use Rattle.e_theorem.specs.Statements.{stated};
 ghost use Rattle.e_deriv.specs.Script.{script_of};
 ghost use Rattle.e_deriv.specs.Fitting.{IsFitting, is_small_statement};
-ghost use Rattle.e_book.specs.Definitions.{OfTheorem, view_of, IsWellFormedItem, HasWellFormedView, IsFittingItem};
+ghost use Rattle.e_book.specs.Definitions.{OfTheorem, view_of, IsWellFormedItem};
+ghost use Rattle.e_book.specs.Definitions.{HasWellFormedView, IsFittingItem};
 ghost use Rattle.e_book.specs.TheoremViews.{entry_of};
 ghost use Rattle.e_names.specs.TitledStatements.{stated_by};
 ghost use Rattle.e_names.specs.Taken.{nothing_known};
@@ -16,7 +17,8 @@ ghost use Rattle.e_run.specs.LastLines.{fault_line, no_step_line, suggested_line
 ghost use Rattle.e_run.specs.DrawerAnswers.{lacks_memory};
 ghost use Rattle.e_run.specs.Outcome.{lines_of_book};
 ghost use Rattle.e_run.specs.SuggesterAnswers.{SuggestsBook};
-ghost use Rattle.e_run.specs.inner.Suggesting.{AnswersAt, AnswersNext, PassesNext, IsBookAnswer, IsStopAnswer, is_out_of_memory};
+ghost use Rattle.e_run.specs.inner.Suggesting.{AnswersAt, AnswersNext, PassesNext};
+ghost use Rattle.e_run.specs.inner.Suggesting.{IsBookAnswer, IsStopAnswer, is_out_of_memory};
 
 use crate::blocks::keep;
 use crate::checker::{close, stop_answer};
@@ -50,7 +52,8 @@ fn no_step(alloc: Global) -> Result<Answer, AllocError>
 
 /// A fault other than out of memory.
 fn faulty(alloc: Global, at: BookFault) -> Result<Answer, AllocError>
-    ensures { IfOk result (λ a. (lacks_memory at ≡ false) × (a.status ≡ Fault at) × (a.line.items ≡ fault_line at)) }
+    ensures { IfOk result
+        (λ a. (lacks_memory at ≡ false) × (a.status ≡ Fault at) × (a.line.items ≡ fault_line at)) }
 {
     if lacks_memory(at) {
         return Err(AllocError);
@@ -96,7 +99,8 @@ fn with_last_line(
     lines: u32,
     more: bool,
 ) -> Result<Answer, AllocError>
-    ensures { IfOk result (λ a. (a.status ≡ Suggested lines more) × (a.line.items ≡ text.items ++ suggested_line lines more)) }
+    ensures { IfOk result (λ a. (a.status ≡ Suggested lines more)
+        × (a.line.items ≡ text.items ++ suggested_line lines more)) }
 {
     let mut text = text;
     let last = suggested(alloc, lines, more)?;
@@ -117,7 +121,8 @@ fn answer_at(
     step: u32,
 ) -> Result<Answer, AllocError>
     requires { IsTrue (list_all is_small_statement (stated_by known.now)) }
-    ensures { IfOk result (λ a. AnswersAt place.old.names place.old.context.scope place.old.context.facts known.now title step a.status a.line.items) }
+    ensures { IfOk result (λ a. AnswersAt place.old.names place.old.context.scope
+        place.old.context.facts known.now title step a.status a.line.items) }
 {
     place.context.solve(alloc)?;
     let mut text = Vec::new(alloc);
@@ -146,9 +151,11 @@ fn answer_on(
     step: u32,
 ) -> Result<Answer, AllocError>
     requires small { IsTrue (list_all is_small_statement (stated_by known.now)) }
-    requires fitting { IsFitting (stated_by known.now) (stated theorem.now.statement) (script_of theorem.now.block) }
+    requires fitting { IsFitting (stated_by known.now) (stated theorem.now.statement)
+        (script_of theorem.now.block) }
     requires first { 1 ≤ step }
-    ensures { IfOk result (λ a. AnswersNext known.now (entry_of theorem.now) theorem.now.title step a.status a.line.items) }
+    ensures { IfOk result (λ a. AnswersNext known.now
+        (entry_of theorem.now) theorem.now.title step a.status a.line.items) }
 {
     let steps = size(&theorem.block);
     if steps < step {
@@ -181,10 +188,12 @@ fn pass_theorem(
 ) -> Result<Option<Answer>, AllocError>
     requires small { IsTrue (list_all is_small_statement (stated_by known.old.theorems)) }
     requires good { IsWellFormedItem known.old (OfTheorem (entry_of theorem)) }
-    requires fitting { IsFitting (stated_by known.old.theorems) (stated theorem.statement) (script_of theorem.block) }
+    requires fitting { IsFitting (stated_by known.old.theorems) (stated theorem.statement)
+        (script_of theorem.block) }
     requires states { IsTrue (is_small_statement (stated theorem.statement)) }
     requires first { 1 ≤ step }
-    ensures { IfOk result (PassesNext known.old (OfTheorem (entry_of theorem)) title step known.new) }
+    ensures { IfOk result
+        (PassesNext known.old (OfTheorem (entry_of theorem)) title step known.new) }
 {
     if has_title(&theorem, title) {
         let answer = answer_on(alloc, &known.theorems, &theorem, step);
@@ -258,7 +267,8 @@ fn answer_to(
 fn answer_for(alloc: Global, text: &[u8], title: Title, step: u32) -> Result<Answer, AllocError>
     requires few { length text.now < 2 ^ 31 }
     requires step { 1 ≤ step }
-    ensures { IfOk result (λ a. IsBookAnswer (lines_of_book text.now) title step a.status a.line.items) }
+    ensures { IfOk result
+        (λ a. IsBookAnswer (lines_of_book text.now) title step a.status a.line.items) }
 {
     let mut lines = Lines::new(text, LONGEST_LINE, MOST_BYTES as u64);
     let mut known = Known::new(alloc);
@@ -277,7 +287,8 @@ pub fn suggest<S: Source, K: Sink>(
     sink: &mut K,
 ) -> Status
     requires { 1 ≤ step }
-    ensures suggests { SuggestsBook title step (S.left source.old) (K.written sink.old) (K.written sink.new) result }
+    ensures suggests { SuggestsBook title step (S.left source.old) (K.written sink.old)
+        (K.written sink.new) result }
     ensures read_rises { S.faults source.old ≤ S.faults source.new }
     ensures read_cause { IsReadFault result → Rose (S.faults source.old) (S.faults source.new) }
     ensures write_rises { K.faults sink.old ≤ K.faults sink.new }

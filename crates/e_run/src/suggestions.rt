@@ -62,7 +62,8 @@ fn put_application(
     names: &Names,
     args: &[Obj],
 ) -> Result<(), AllocError>
-    ensures { OnOk result (out.new.items ≡ out.old.items ++ (apply_line title names.now args.now ++ 10 ∷ [])) }
+    ensures { OnOk result
+        (out.new.items ≡ out.old.items ++ (apply_line title names.now args.now ++ 10 ∷ [])) }
 {
     let args = names_of_choice(alloc, names, args)?;
     let put = put_apply(out, title.bytes(), args.items(), &[]);
@@ -79,7 +80,8 @@ fn put_applications(
     names: &Names,
     choices: &[Items<Obj>],
 ) -> Result<(), AllocError>
-    ensures { OnOk result (out.new.items ≡ out.old.items ++ text_of (apply_lines title names.now choices.now)) }
+    ensures { OnOk result
+        (out.new.items ≡ out.old.items ++ text_of (apply_lines title names.now choices.now)) }
 {
     for choice in choices {
         put_application(alloc, out, title, names, choice.items())?;
@@ -98,7 +100,8 @@ fn list_theorem(
     out: &mut Vec<u8>,
 ) -> Result<Listed, AllocError>
     requires { IsTrue (is_statement (stated statement.now)) }
-    ensures { IfOk result (IsListedOne place.now.names place.now.context.scope place.now.context.facts title (stated statement.now) left out.old.items out.new.items) }
+    ensures { IfOk result (IsListedOne place.now.names place.now.context.scope
+        place.now.context.facts title (stated statement.now) left out.old.items out.new.items) }
 {
     let declared = statement.declared.len();
     if declared > MOST_DECLARED {
@@ -127,7 +130,8 @@ pub fn list_theorems(
 ) -> Result<Listed, AllocError>
     requires small { IsTrue (list_all is_small_statement (stated_by known.now)) }
     requires empty { out.old.items ≡ [] }
-    ensures { IfOk result (IsListed place.now.names place.now.context.scope place.now.context.facts known.now out.new.items) }
+    ensures { IfOk result (IsListed place.now.names place.now.context.scope place.now.context.facts
+        known.now out.new.items) }
 {
     let mut count = 0;
     for at in 0..known.len() {

@@ -33,7 +33,8 @@ pub struct Answer {
 fn verified(alloc: Global, text: &[u8], theorems: u32, steps: u32) -> Result<Answer, AllocError>
     requires few { length text.now ≤ 2 ^ 60 }
     requires verified { JudgesText text.now (Judgement.Verified theorems) }
-    ensures { IfOk result (λ a. (a.status ≡ Status.Tried theorems steps) × (a.line.items ≡ tried_line theorems steps)) }
+    ensures { IfOk result (λ a. (a.status ≡ Status.Tried theorems steps)
+        × (a.line.items ≡ tried_line theorems steps)) }
 {
     let Judgement::Verified { theorems } = judge(alloc, text)? else {
         unreachable!();
@@ -82,7 +83,8 @@ fn answer_to(alloc: Global, lines: &mut Lines) -> Result<Answer, AllocError>
 /// The answer to the generated book of n theorems, with its line.
 fn answer_for(alloc: Global, theorems: u32) -> Result<Answer, AllocError>
     requires { theorems ≤ 500 }
-    ensures { IfOk result (λ a. TrialAnswer (lines_of_book (generated_text theorems)) a.status a.line.items) }
+    ensures { IfOk result
+        (λ a. TrialAnswer (lines_of_book (generated_text theorems)) a.status a.line.items) }
 {
     let mut source = SureSource::new(generated(alloc, theorems)?);
     let text = match read_text(alloc, &mut source, MOST_BYTES) {

@@ -27,7 +27,8 @@ fn answer_of(judgement: Judgement) -> Status
 
 /// The line of a judgement.
 fn line_of(alloc: Global, judgement: &Judgement) -> Result<Vec<u8>, AllocError>
-    ensures { IfOk result (λ v. v.items ≡ Rattle.e_run.specs.VerifierAnswers.line_of judgement.now) }
+    ensures { IfOk result
+        (λ v. v.items ≡ Rattle.e_run.specs.VerifierAnswers.line_of judgement.now) }
 {
     match judgement {
         Judgement::Verified { theorems } => verified(alloc, *theorems),
@@ -63,7 +64,8 @@ fn report_judgement<K: Sink>(alloc: Global, text: &[u8], sink: &mut K) -> Status
 
 /// Reads a derivation text from a source, and writes its judgement to a sink.
 pub fn verify<S: Source, K: Sink>(alloc: Global, source: &mut S, sink: &mut K) -> Status
-    ensures verifies { VerifiesText (S.left source.old) (K.written sink.old) (K.written sink.new) result }
+    ensures verifies { VerifiesText (S.left source.old) (K.written sink.old)
+        (K.written sink.new) result }
     ensures end { IsVerified result → IsAtEnd (S.left source.new) }
     ensures read_rises { S.faults source.old ≤ S.faults source.new }
     ensures read_cause { IsReadFault result → Rose (S.faults source.old) (S.faults source.new) }

@@ -95,7 +95,8 @@ pub record IsRefuted (rows : List Row) (absurdity : Absurdity) : Type 0 where
   pub refutes : IsAbsurdity rows absurdity
   pub none : ¬ HasSolution rows
 
--- values that satisfy the rows; or multipliers that refute them; or the rows are wide, and so is their width
+-- values that satisfy the rows; or multipliers that refute them; or the rows are wide, and so is
+-- their width
 abbrev pub IsVerdict : List Row → Verdict → Type 0
 IsVerdict rows (Absurd absurdity) = IsRefuted rows absurdity
 IsVerdict rows (Holds values) = AreValuesOf rows values

@@ -1,4 +1,5 @@
--- Rows over terms as constraints over numbered columns: column 0 has the constants, and the terms follow in order.
+-- Rows over terms as constraints over numbered columns: column 0 has the constants, and the terms
+-- follow in order.
 use Rattle.std.specs.Prelude.{◌≡◌, ℕ, suc, ◌<◌, ◌≤◌, cond, not, Bool, List, [], ◌∷◌, length, get_or}
 use Rattle.e_literal.specs.declared.object.Term.{Term}
 use Rattle.e_literal.specs.declared.object.Term.TheVariants.{Right}

@@ -225,8 +225,8 @@ impl Table {
         requires solved { IsSolved (columns_of self.now) (constraints_of self.now) self.now }
         requires fit { IsFit (columns_of self.now)
             (constraints_of self.now ++ constraint.now ∷ []) }
-        ensures { IfOk result
-            (IsTableOutcome (columns_of self.now) (constraints_of self.now ++ constraint.now ∷ [])) }
+        ensures { IfOk result (IsTableOutcome (columns_of self.now)
+            (constraints_of self.now ++ constraint.now ∷ [])) }
     {
         let more = [copy_of_constraint(alloc, constraint)?];
         self.with_all(alloc, &more)

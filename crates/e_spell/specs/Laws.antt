@@ -13,12 +13,13 @@ abbrev pub is_plain : List ℕ → Bool
 is_plain [] = true
 is_plain (b ∷ bs) = not (b == 124)
 
--- the theorem with the blanks of its script filled by the arguments that a derivation has in the same places
+-- the theorem with the blanks of its script filled by the arguments that a derivation has in the
+-- same places
 abbrev pub filled_entry : TheoremView → Script → TheoremView
 filled_entry t d = record t { script = filled_by t.script d }
 
--- without the lines of certificates the spelling is the theorem's own lines, with its blanks filled, where the derivation is one of
--- its script
+-- without the lines of certificates the spelling is the theorem's own lines, with its blanks
+-- filled, where the derivation is one of its script
 abbrev pub LinesAreTheTheorem : Type 0
 LinesAreTheTheorem =
     (known : List TitledStatement) (t : TheoremView) (d : Script) → erased d ≡ filled_by t.script d →

@@ -20,9 +20,10 @@ use Rattle.e_names.specs.Canonical.{raw_of, by_form, hence_form, let_form, apply
 use Rattle.e_book.specs.Canonical.{head_forms, names_of_proof, text_of}
 use Rattle.e_spell.specs.Certificates.{named_term, certs_lines, contradiction_lines}
 
--- each line of a derivation, and below it one certificate for each literal that it needs, or that of a contradiction, where
--- these theorems are known and these names are in scope before the first: those of new objects come into scope after the
--- certificates of the line that makes them, and those of an inner block are gone after it
+-- each line of a derivation, and below it one certificate for each literal that it needs, or that
+-- of a contradiction, where these theorems are known and these names are in scope before the first:
+-- those of new objects come into scope after the certificates of the line that makes them, and
+-- those of an inner block are gone after it
 unfoldable pub script_lines : List TitledStatement → Names → Script → List (List ℕ)
 script_lines known ns (Cite by rest) = line_of (by_form ns by) ∷ script_lines known ns rest
 script_lines known ns (Hence lit cert rest) = line_of (hence_form ns lit) ∷ (certs_lines ns (option_to_list cert) ++ script_lines known ns rest)

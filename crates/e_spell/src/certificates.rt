@@ -5,7 +5,10 @@ ghost use Rattle.e_text.specs.Tokens.{spaced};
 ghost use Rattle.e_line.specs.Canonical.{lit_words};
 ghost use Rattle.e_names.specs.Canonical.{raw_of};
 ghost use Rattle.e_spell.specs.Certificates.{named_term, row_words};
-ghost use Rattle.e_spell.specs.inner.Parts.{place_text, row_text, sum_text, rows_text, differs_text, sums_text, metric_text, part_text, parts_text, instance_text, transfer_text, cert_text, certs_text, against_text, contradiction_text};
+ghost use Rattle.e_spell.specs.inner.Parts.{place_text, row_text, sum_text, rows_text};
+ghost use Rattle.e_spell.specs.inner.Parts.{differs_text, sums_text, metric_text, part_text};
+ghost use Rattle.e_spell.specs.inner.Parts.{parts_text, instance_text, transfer_text, cert_text};
+ghost use Rattle.e_spell.specs.inner.Parts.{certs_text, against_text, contradiction_text};
 
 use crate::literals::{put_literal, put_literal_line, put_objects, put_term};
 use crate::rules::put_rule;
@@ -17,7 +20,8 @@ use std::alloc::{AllocError, Global};
 
 /// A row that is said of a term.
 fn put_term_row(out: &mut Vec<u8>, names: &Names, word: &[u8], term: Term) -> Result<(), AllocError>
-    ensures { OnOk result (out.new.items ≡ out.old.items ++ spaced (word.now ∷ named_term names.now term)) }
+    ensures { OnOk result
+        (out.new.items ≡ out.old.items ++ spaced (word.now ∷ named_term names.now term)) }
 {
     put(out, word)?;
     put_term(out, names, term)
@@ -29,7 +33,8 @@ fn put_fact_row(
     names: &Names,
     lit: &Lit,
 ) -> Result<(), AllocError>
-    ensures { OnOk result (out.new.items ≡ out.old.items ++ spaced (codes "fact" ∷ lit_words (raw_of names.now lit.now))) }
+    ensures { OnOk result (out.new.items ≡ out.old.items
+        ++ spaced (codes "fact" ∷ lit_words (raw_of names.now lit.now))) }
 {
     put(out, b"fact")?;
     put_literal(alloc, out, names, lit)
@@ -37,7 +42,8 @@ fn put_fact_row(
 
 /// A fact by its place.
 fn put_place(out: &mut Vec<u8>, place: u32) -> Result<(), AllocError>
-    ensures { OnOk result (out.new.items ≡ out.old.items ++ spaced (codes "fact" ∷ decimal place ∷ [])) }
+    ensures { OnOk result
+        (out.new.items ≡ out.old.items ++ spaced (codes "fact" ∷ decimal place ∷ [])) }
 {
     put(out, b"fact")?;
     put_number(out, place)
@@ -237,7 +243,8 @@ pub(crate) fn put_cert_of(
     names: &Names,
     cert: &Option<Cert>,
 ) -> Result<(), AllocError>
-    ensures { OnOk result (out.new.items ≡ out.old.items ++ certs_text names.now (option_to_list cert.now)) }
+    ensures { OnOk result
+        (out.new.items ≡ out.old.items ++ certs_text names.now (option_to_list cert.now)) }
 {
     match cert {
         Some(cert) => put_cert(alloc, out, names, cert),
@@ -266,7 +273,8 @@ pub(crate) fn put_against_of(
     names: &Names,
     against: &Option<Against>,
 ) -> Result<(), AllocError>
-    ensures { OnOk result (out.new.items ≡ out.old.items ++ contradiction_text names.now against.now) }
+    ensures { OnOk result
+        (out.new.items ≡ out.old.items ++ contradiction_text names.now against.now) }
 {
     match against {
         Some(against) => put_against(alloc, out, names, against),

@@ -1,5 +1,6 @@
 //! The lines that declare objects, and those of made objects.
-ghost use Rattle.std.specs.Prelude.{◌≡◌, ◌++◌, ◌∷◌, [], ◌≤◌, ◌+◌, ◌-◌, ◌^◌, Some, None, length, OnOk, IfOk};
+ghost use Rattle.std.specs.Prelude.{◌≡◌, ◌++◌, ◌∷◌, [], ◌≤◌, ◌+◌, ◌-◌};
+ghost use Rattle.std.specs.Prelude.{◌^◌, Some, None, length, OnOk, IfOk};
 ghost use Rattle.e_literal.specs.Literal.{count_of};
 ghost use Rattle.e_literal.specs.Scopes.{with_one, grown, next_objects};
 ghost use Rattle.e_spell.specs.inner.Counts.{Below, AtMostMore, scope_of_counts};
@@ -109,7 +110,8 @@ fn put_object(
     sort: Sort,
     name: &[u8],
 ) -> Result<(), AllocError>
-    ensures { OnOk result (out.new.items ≡ out.old.items ++ (opening role last sort ++ 32 ∷ name.now)) }
+    ensures { OnOk result
+        (out.new.items ≡ out.old.items ++ (opening role last sort ++ 32 ∷ name.now)) }
 {
     put_opening(out, role, last, sort)?;
     put(out, name)
@@ -125,8 +127,10 @@ pub(crate) fn put_objects_of(
     sorts: &[Sort],
 ) -> Result<Counts, AllocError>
     requires { Below before (2 ^ 63) }
-    ensures text { OnOk result (out.new.items ≡ out.old.items ++ objects_text role names.now (next_objects (scope_of_counts before) sorts.now)) }
-    ensures scope { IfOk result (λ after. scope_of_counts after ≡ grown (scope_of_counts before) sorts.now) }
+    ensures text { OnOk result (out.new.items ≡ out.old.items
+        ++ objects_text role names.now (next_objects (scope_of_counts before) sorts.now)) }
+    ensures scope { IfOk result
+        (λ after. scope_of_counts after ≡ grown (scope_of_counts before) sorts.now) }
     ensures more { IfOk result (λ after. AtMostMore before after (length sorts.now)) }
 {
     let mut counts = before;

@@ -28,7 +28,8 @@ fn put_statement(
     names: &Names,
     statement: &Statement,
 ) -> Result<Counts, AllocError>
-    ensures text { OnOk result (out.new.items ≡ out.old.items ++ statement_text names.now statement.now) }
+    ensures text { OnOk result
+        (out.new.items ≡ out.old.items ++ statement_text names.now statement.now) }
     ensures declared { IfOk result (λ c. scope_of_counts c ≡ scope_of (stated statement.now)) }
 {
     let none = Counts {
@@ -52,7 +53,8 @@ pub(crate) fn put_head(
     names: &Names,
     statement: &Statement,
 ) -> Result<Counts, AllocError>
-    ensures text { OnOk result (out.new.items ≡ out.old.items ++ head_text title names.now statement.now) }
+    ensures text { OnOk result
+        (out.new.items ≡ out.old.items ++ head_text title names.now statement.now) }
     ensures declared { IfOk result (λ c. scope_of_counts c ≡ scope_of (stated statement.now)) }
 {
     put_title(out, title)?;

@@ -5,7 +5,8 @@ ghost use Rattle.e_literal.specs.Literal.{obj};
 ghost use Rattle.e_text.specs.Tokens.{spaced};
 ghost use Rattle.e_deriv.specs.Naming.{names_of_sort};
 ghost use Rattle.e_line.specs.Canonical.{lit_words};
-ghost use Rattle.e_names.specs.Canonical.{raw_of, name_at, name_of_object, argument_name, placed_names};
+ghost use Rattle.e_names.specs.Canonical.{raw_of, name_at, name_of_object};
+ghost use Rattle.e_names.specs.Canonical.{argument_name, placed_names};
 ghost use Rattle.e_spell.specs.Certificates.{named_term};
 ghost use Rattle.e_spell.specs.inner.Parts.{lit_text, lits_text};
 
@@ -31,7 +32,8 @@ pub(crate) fn put_objects(
     names: &Names,
     objects: &[Obj],
 ) -> Result<(), AllocError>
-    ensures { OnOk result (out.new.items ≡ out.old.items ++ spaced (map (name_of_object names.now) objects.now)) }
+    ensures { OnOk result
+        (out.new.items ≡ out.old.items ++ spaced (map (name_of_object names.now) objects.now)) }
 {
     for object in objects {
         put(out, name_of_object(names, *object).bytes())?;
@@ -135,7 +137,8 @@ pub(crate) fn put_literal(
     names: &Names,
     lit: &Lit,
 ) -> Result<(), AllocError>
-    ensures { OnOk result (out.new.items ≡ out.old.items ++ spaced (lit_words (raw_of names.now lit.now))) }
+    ensures { OnOk result
+        (out.new.items ≡ out.old.items ++ spaced (lit_words (raw_of names.now lit.now))) }
 {
     let raw = raw_of(alloc, names, lit)?;
     let put = e_line::put_literal(out, &raw);

@@ -4,7 +4,9 @@ ghost use Rattle.std.specs.Option.{option_to_list};
 ghost use Rattle.e_deriv.specs.PlainStep.{plain_step};
 ghost use Rattle.e_deriv.specs.Script.{script_of, close_script};
 ghost use Rattle.e_names.specs.Canonical.{hence_form, let_form, apply_form};
-ghost use Rattle.e_spell.specs.inner.Parts.{form_text, certs_text, superposition_text, qed_text, step_text, steps_text, names_after, script_text, contradicted_text, proof_text};
+ghost use Rattle.e_spell.specs.inner.Parts.{form_text, certs_text, superposition_text};
+ghost use Rattle.e_spell.specs.inner.Parts.{qed_text, step_text, steps_text, names_after};
+ghost use Rattle.e_spell.specs.inner.Parts.{script_text, contradicted_text, proof_text};
 
 use crate::certificates::{put_against_of, put_cert_of, put_certs};
 use crate::literals::put_literal_line;
@@ -29,7 +31,9 @@ fn put_hence(
     lit: &Lit,
     cert: &Option<Cert>,
 ) -> Result<(), AllocError>
-    ensures { OnOk result (out.new.items ≡ out.old.items ++ (form_text (hence_form names.now lit.now) ++ certs_text names.now (option_to_list cert.now))) }
+    ensures { OnOk result
+        (out.new.items ≡ out.old.items ++ (form_text (hence_form names.now lit.now)
+        ++ certs_text names.now (option_to_list cert.now))) }
 {
     put_literal_line(alloc, out, b"hence", names, lit)?;
     put_cert_of(alloc, out, names, cert)
@@ -45,7 +49,8 @@ fn put_made(
     new: &[Name],
     certs: &[Cert],
 ) -> Result<(), AllocError>
-    ensures { OnOk result (out.new.items ≡ out.old.items ++ (form_text (let_form names.now form.now new.now) ++ certs_text names.now certs.now)) }
+    ensures { OnOk result (out.new.items ≡ out.old.items
+        ++ (form_text (let_form names.now form.now new.now) ++ certs_text names.now certs.now)) }
 {
     put_construction(alloc, out, names, form, new)?;
     put_certs(alloc, out, names, certs)
@@ -63,7 +68,9 @@ fn put_applied(
     new: &[Name],
     certs: &[Cert],
 ) -> Result<(), AllocError>
-    ensures { OnOk result (out.new.items ≡ out.old.items ++ (form_text (apply_form known.now names.now theorem args.now new.now) ++ certs_text names.now certs.now)) }
+    ensures { OnOk result (out.new.items ≡ out.old.items
+        ++ (form_text (apply_form known.now names.now theorem args.now new.now)
+        ++ certs_text names.now certs.now)) }
 {
     put_application(alloc, out, known, names, theorem, args, new)?;
     put_certs(alloc, out, names, certs)
@@ -80,7 +87,8 @@ fn put_superposed(
     shown: &[Lit],
     certs: &[Cert],
 ) -> Result<(), AllocError>
-    ensures { OnOk result (out.new.items ≡ out.old.items ++ (superposition_text names.now form new.now shown.now ++ certs_text names.now certs.now)) }
+    ensures { OnOk result (out.new.items ≡ out.old.items ++ (superposition_text names.now form
+        new.now shown.now ++ certs_text names.now certs.now)) }
 {
     put_superposition(alloc, out, names, form, new, shown)?;
     put_certs(alloc, out, names, certs)
@@ -97,7 +105,8 @@ fn put_step(
     names: &Names,
     step: &Step,
 ) -> Result<(), AllocError>
-    ensures { OnOk result (out.new.items ≡ out.old.items ++ step_text known.now names.now (plain_step step.now)) }
+    ensures { OnOk result
+        (out.new.items ≡ out.old.items ++ step_text known.now names.now (plain_step step.now)) }
 {
     match step {
         Step::Cite(by) => put_citation(alloc, out, names, by),
@@ -160,8 +169,10 @@ fn put_steps(
     names: &mut Names,
     steps: &[Step],
 ) -> Result<(), AllocError>
-    ensures text { OnOk result (out.new.items ≡ out.old.items ++ steps_text known.now names.old (map plain_step steps.now)) }
-    ensures names { OnOk result (names.new ≡ names_after known.now names.old (map plain_step steps.now)) }
+    ensures text { OnOk result (out.new.items ≡ out.old.items
+        ++ steps_text known.now names.old (map plain_step steps.now)) }
+    ensures names { OnOk result
+        (names.new ≡ names_after known.now names.old (map plain_step steps.now)) }
 {
     for step in steps {
         put_step(alloc, out, known, names, step)?;
@@ -178,7 +189,8 @@ fn put_qed(
     objects: &[Obj],
     certs: &[Cert],
 ) -> Result<(), AllocError>
-    ensures { OnOk result (out.new.items ≡ out.old.items ++ qed_text names.now objects.now certs.now) }
+    ensures { OnOk result
+        (out.new.items ≡ out.old.items ++ qed_text names.now objects.now certs.now) }
 {
     put_conclusion(alloc, out, names, objects)?;
     put_certs(alloc, out, names, certs)
@@ -191,7 +203,8 @@ fn put_contradiction(
     names: &Names,
     against: &Option<Against>,
 ) -> Result<(), AllocError>
-    ensures { OnOk result (out.new.items ≡ out.old.items ++ contradicted_text names.now against.now) }
+    ensures { OnOk result
+        (out.new.items ≡ out.old.items ++ contradicted_text names.now against.now) }
 {
     put_line(out, b"contradiction")?;
     put_against_of(alloc, out, names, against)
@@ -207,7 +220,8 @@ fn put_close(
     names: &Names,
     close: &Close,
 ) -> Result<(), AllocError>
-    ensures { OnOk result (out.new.items ≡ out.old.items ++ script_text known.now names.now (close_script close.now)) }
+    ensures { OnOk result (out.new.items ≡ out.old.items
+        ++ script_text known.now names.now (close_script close.now)) }
 {
     match close {
         Close::Qed { objects, certs } => put_qed(alloc, out, names, objects.items(), certs.items()),
@@ -231,7 +245,8 @@ fn put_block(
     names: &Names,
     block: &Block,
 ) -> Result<(), AllocError>
-    ensures { OnOk result (out.new.items ≡ out.old.items ++ script_text known.now names.now (script_of block.now)) }
+    ensures { OnOk result
+        (out.new.items ≡ out.old.items ++ script_text known.now names.now (script_of block.now)) }
 {
     let mut names = names.copy(alloc)?;
     if let Err(error) = put_steps(alloc, out, known, &mut names, &block.steps) {
@@ -252,7 +267,8 @@ pub(crate) fn put_proof(
     names: &Names,
     block: &Block,
 ) -> Result<(), AllocError>
-    ensures { OnOk result (out.new.items ≡ out.old.items ++ proof_text known.now names.now (script_of block.now)) }
+    ensures { OnOk result
+        (out.new.items ≡ out.old.items ++ proof_text known.now names.now (script_of block.now)) }
 {
     put_block(alloc, out, known, names, block)?;
     put_line(out, b"end")?;

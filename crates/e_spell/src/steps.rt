@@ -50,7 +50,8 @@ pub(crate) fn put_construction(
     form: &Construction,
     new: &[Name],
 ) -> Result<(), AllocError>
-    ensures { OnOk result (out.new.items ≡ out.old.items ++ form_text (let_form names.now form.now new.now)) }
+    ensures { OnOk result
+        (out.new.items ≡ out.old.items ++ form_text (let_form names.now form.now new.now)) }
 {
     let args = names_of_objects(alloc, names, form.args.items())?;
     let avoid = match names_of_objects(alloc, names, form.avoid.items()) {
@@ -77,7 +78,8 @@ fn put_by_title(
     args: &[Option<Name>],
     new: &[Name],
 ) -> Result<(), AllocError>
-    ensures { OnOk result (out.new.items ≡ out.old.items ++ line_of (rawlines.Apply (record { title = title_at known.now place; args = args.now; new = new.now }))) }
+    ensures { OnOk result (out.new.items ≡ out.old.items ++ line_of (rawlines.Apply
+        (record { title = title_at known.now place; args = args.now; new = new.now }))) }
 {
     if place < known.len() {
         put_apply(out, known.title(place).bytes(), args, new)
@@ -96,7 +98,8 @@ pub(crate) fn put_application(
     args: &[Option<Obj>],
     new: &[Name],
 ) -> Result<(), AllocError>
-    ensures { OnOk result (out.new.items ≡ out.old.items ++ form_text (apply_form known.now names.now theorem args.now new.now)) }
+    ensures { OnOk result (out.new.items ≡ out.old.items
+        ++ form_text (apply_form known.now names.now theorem args.now new.now)) }
 {
     let args = names_of_arguments(alloc, names, args)?;
     let put = put_by_title(out, known, theorem as usize, args.items(), new);
@@ -112,7 +115,8 @@ pub(crate) fn put_claim(
     names: &Names,
     shown: &[Lit],
 ) -> Result<(), AllocError>
-    ensures { OnOk result (out.new.items ≡ out.old.items ++ form_text (claim_form names.now shown.now)) }
+    ensures { OnOk result
+        (out.new.items ≡ out.old.items ++ form_text (claim_form names.now shown.now)) }
 {
     let raws = raw_lits(alloc, names, shown)?;
     let put = put_stated(out, b"claim", raws.items());
@@ -131,7 +135,8 @@ pub(crate) fn put_superposition(
     new: &[Name],
     shown: &[Lit],
 ) -> Result<(), AllocError>
-    ensures { OnOk result (out.new.items ≡ out.old.items ++ superposition_text names.now form new.now shown.now) }
+    ensures { OnOk result
+        (out.new.items ≡ out.old.items ++ superposition_text names.now form new.now shown.now) }
 {
     let args = placed_names(alloc, names, form)?;
     let raws = match raw_lits(alloc, names, shown) {
@@ -155,7 +160,8 @@ pub(crate) fn put_conclusion(
     names: &Names,
     objects: &[Obj],
 ) -> Result<(), AllocError>
-    ensures { OnOk result (out.new.items ≡ out.old.items ++ form_text (qed_form names.now objects.now)) }
+    ensures { OnOk result
+        (out.new.items ≡ out.old.items ++ form_text (qed_form names.now objects.now)) }
 {
     let objects = names_of_objects(alloc, names, objects)?;
     let put = put_named(out, b"qed", objects.items());

@@ -1,6 +1,7 @@
 //! The last lines of stops.
 ghost use Rattle.std.specs.Prelude.{◌≡◌, ◌++◌, IfOk, OnOk};
-ghost use Rattle.e_spell.specs.inner.Parts.{place_line, wanted_line, value_line, values_text, values_of_text, width_line};
+ghost use Rattle.e_spell.specs.inner.Parts.{place_line, wanted_line, value_line};
+ghost use Rattle.e_spell.specs.inner.Parts.{values_text, values_of_text, width_line};
 ghost use Rattle.e_spell.specs.Spelling.{unlicensed_text, too_wide_text, stop_text, IsStop};
 
 use crate::literals::{put_literal, put_term};
@@ -87,7 +88,8 @@ fn spell_unlicensed(
     values: &Option<Values>,
     names: &Names,
 ) -> Result<Vec<u8>, AllocError>
-    ensures { IfOk result (λ v. v.items ≡ unlicensed_text title step wanted.now values.now names.now) }
+    ensures { IfOk result
+        (λ v. v.items ≡ unlicensed_text title step wanted.now values.now names.now) }
 {
     let mut out = Vec::new(alloc);
     put_place(&mut out, b"unlicensed", title, step)?;

@@ -21,7 +21,8 @@ fn put_theorem(
     theorem: &Theorem,
     deriv: &Block,
 ) -> Result<(), AllocError>
-    ensures { OnOk result (out.new.items ≡ out.old.items ++ theorem_text known.now (entry_of theorem.now) (script_of deriv.now)) }
+    ensures { OnOk result (out.new.items ≡ out.old.items
+        ++ theorem_text known.now (entry_of theorem.now) (script_of deriv.now)) }
 {
     let declared = put_head(
         alloc,
@@ -52,7 +53,8 @@ pub fn spell(
     theorem: &Theorem,
     deriv: &Block,
 ) -> Result<Vec<u8>, AllocError>
-    ensures { IfOk result (λ v. v.items ≡ spelled known.now (entry_of theorem.now) (script_of deriv.now)) }
+    ensures { IfOk result
+        (λ v. v.items ≡ spelled known.now (entry_of theorem.now) (script_of deriv.now)) }
 {
     let mut out = Vec::new(alloc);
     put_theorem(alloc, &mut out, known, theorem, deriv)?;

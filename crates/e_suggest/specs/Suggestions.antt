@@ -24,7 +24,8 @@ pub record AreChoices (t : StatementView) (scope : Scope) (facts : List Lit) (li
 abbrev pub AreFirstChoices : StatementView → Scope → List Lit → ℕ → List (List Obj) → Bool → Type 0
 AreFirstChoices t scope facts most choices more = AreFirst t scope facts (blanks t) most choices more
 
--- under some choice of arguments a given literal is wide, and w is the width of one of its wide systems
+-- under some choice of arguments a given literal is wide, and w is the width of one of its wide
+-- systems
 abbrev pub SomeArgsAreTooWide : StatementView → Scope → List Lit → ℕ → Type 0
 SomeArgsAreTooWide t scope facts w = AnyChoiceIsTooWide t scope facts (blanks t) w
 

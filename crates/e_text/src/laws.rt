@@ -1,6 +1,8 @@
 //! What holds of lines, tokens, names and numerals: each law is the contract of a function.
 ghost use Rattle.std.specs.Prelude.{◌≡◌, Some};
-ghost use Rattle.e_text.specs.Laws.{LinesMakeTheText, WrittenLinesAreRead, OneByteMoreIsEnough, FrontsAreRead, NoMoreLinesThanBytes, TokensHoldNoBlank, JoinedWordsAreRead, PrintedNumbersAreRead};
+ghost use Rattle.e_text.specs.Laws.{LinesMakeTheText, WrittenLinesAreRead, OneByteMoreIsEnough};
+ghost use Rattle.e_text.specs.Laws.{FrontsAreRead, NoMoreLinesThanBytes, TokensHoldNoBlank};
+ghost use Rattle.e_text.specs.Laws.{JoinedWordsAreRead, PrintedNumbersAreRead};
 
 use crate::name::{Name, Title};
 

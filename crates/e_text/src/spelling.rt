@@ -20,7 +20,8 @@ pub struct Spelling {
 }
 
 impl Model for Spelling {
-    ghost use Rattle.std.specs.Prelude.{◌≡◌, ◌≤◌, ◌-◌, ◌++◌, List, ℕ, length, take, drop, replicate};
+    ghost use Rattle.std.specs.Prelude.{◌≡◌, ◌≤◌, ◌-◌, ◌++◌, List, ℕ};
+    ghost use Rattle.std.specs.Prelude.{length, take, drop, replicate};
     ghost use Rattle.std.proofs.Common.{arith, length-take-le};
     ghost use Rattle.e_text.specs.inner.Fixed.{undone};
 
@@ -28,9 +29,13 @@ impl Model for Spelling {
 
     ghost view = { λ s. take s.len s.bytes };
 
-    ghost invariant = { λ s. (s.len ≤ 24) × (length s.bytes ≡ 24) × (drop s.len s.bytes ≡ replicate (24 - s.len) 0) };
+    ghost invariant = { λ s. (s.len ≤ 24) × (length s.bytes ≡ 24)
+        × (drop s.len s.bytes ≡ replicate (24 - s.len) 0) };
 
-    ghost inverse = { λ bs. record { bytes = bs ++ replicate (24 - length bs) 0; len = length bs } };
+    ghost inverse = { λ bs. record {
+      bytes = bs ++ replicate (24 - length bs) 0;
+      len = length bs;
+    } };
 
     ghost inverse_ok = { λ s h i. record {
       bytes = undone 24 s.len s.bytes h.0 h.1 h.2 i;

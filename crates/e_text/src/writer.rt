@@ -1,6 +1,7 @@
 //! Words written after spaces, and the ends of lines. Each of these functions adds bytes to what is
 //! written. It fails only when out of memory, and then what was written before is as it was.
-ghost use Rattle.std.specs.Prelude.{◌≡◌, ◌≤◌, ◌++◌, ◌∷◌, [], ◌==◌, if◌then◌else◌, decimal, length, take, OnOk, OnErr};
+ghost use Rattle.std.specs.Prelude.{◌≡◌, ◌≤◌, ◌++◌, ◌∷◌, [], ◌==◌, if◌then◌else◌};
+ghost use Rattle.std.specs.Prelude.{decimal, length, take, OnOk, OnErr};
 ghost use Rattle.e_text.specs.Tokens.{spaced};
 
 use crate::name::Name;
@@ -46,7 +47,8 @@ fn put_two(out: &mut Vec<u8>, x: &[u8], y: &[u8]) -> Result<(), AllocError>
 
 /// Writes three words, each after a space.
 pub fn put_three(out: &mut Vec<u8>, x: &[u8], y: &[u8], z: &[u8]) -> Result<(), AllocError>
-    ensures ok { OnOk result (out.new.items ≡ out.old.items ++ spaced (x.now ∷ y.now ∷ z.now ∷ [])) }
+    ensures ok { OnOk result
+        (out.new.items ≡ out.old.items ++ spaced (x.now ∷ y.now ∷ z.now ∷ [])) }
     ensures err { OnErr result (out.new.items ≡ out.old.items) }
 {
     let before = out.len();
@@ -62,7 +64,8 @@ pub fn put_four(
     y: &[u8],
     z: &[u8],
 ) -> Result<(), AllocError>
-    ensures ok { OnOk result (out.new.items ≡ out.old.items ++ spaced (word.now ∷ x.now ∷ y.now ∷ z.now ∷ [])) }
+    ensures ok { OnOk result
+        (out.new.items ≡ out.old.items ++ spaced (word.now ∷ x.now ∷ y.now ∷ z.now ∷ [])) }
     ensures err { OnErr result (out.new.items ≡ out.old.items) }
 {
     let before = out.len();
@@ -81,7 +84,8 @@ pub fn put_number<I: Integer>(out: &mut Vec<u8>, number: I) -> Result<(), AllocE
 
 /// Writes a coefficient after a space, and nothing for 1.
 pub fn put_coefficient(out: &mut Vec<u8>, coeff: u32) -> Result<(), AllocError>
-    ensures ok { OnOk result (out.new.items ≡ out.old.items ++ spaced (if coeff == 1 then [] else decimal coeff ∷ [])) }
+    ensures ok { OnOk result
+        (out.new.items ≡ out.old.items ++ spaced (if coeff == 1 then [] else decimal coeff ∷ [])) }
     ensures err { OnErr result (out.new.items ≡ out.old.items) }
 {
     if coeff == 1 {

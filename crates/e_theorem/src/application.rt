@@ -1,7 +1,8 @@
 //! The use of a statement: its literals at arguments for the declared objects and new objects for
 //! the made ones.
 
-ghost use Rattle.std.specs.Prelude.{◌≡◌, ◌<◌, ◌+◌, ◌^◌, ◌++◌, IsTrue, IfOk, IfErr, length, take, map as map_list};
+ghost use Rattle.std.specs.Prelude.{◌≡◌, ◌<◌, ◌+◌, ◌^◌, ◌++◌, IsTrue, IfOk};
+ghost use Rattle.std.specs.Prelude.{IfErr, length, take, map as map_list};
 ghost use Rattle.e_literal.specs.declared.object.Obj.{Obj as Object};
 ghost use Rattle.e_literal.specs.Rename.{image_in, renamed as at_images};
 ghost use Rattle.e_literal.specs.Scopes;
@@ -60,8 +61,10 @@ pub fn use_of(
     requires lines { scope.lines + length statement.now.made < 2 ^ 16 }
     requires circles { scope.circles + length statement.now.made < 2 ^ 16 }
     ensures fit { IfOk result (λ _. IsTrue (are_arguments (stated statement.now) scope args.now)) }
-    ensures needs { IfOk result (λ a. a.needs ≡ needs_of_use (stated statement.now) args.now scope) }
-    ensures gives { IfOk result (λ a. a.gives ≡ gives_of_use (stated statement.now) args.now scope) }
+    ensures needs { IfOk result
+        (λ a. a.needs ≡ needs_of_use (stated statement.now) args.now scope) }
+    ensures gives { IfOk result
+        (λ a. a.gives ≡ gives_of_use (stated statement.now) args.now scope) }
     ensures err { IfErr result (UseFaultIs (stated statement.now) args.now scope) }
 {
     if !are_of_sorts(scope, statement.declared.items(), args) {
@@ -124,7 +127,8 @@ fn images_declared(
 ) -> Result<Map, AllocError>
     requires fit { IsTrue (are_arguments (as_stated notion.now) scope args.now) }
     requires few { length notion.now.declared < 2 ^ 16 }
-    ensures { IfOk result (λ m. (o : Object) → image_in m o ≡ image (as_stated notion.now) args.now scope o) }
+    ensures { IfOk result
+        (λ m. (o : Object) → image_in m o ≡ image (as_stated notion.now) args.now scope o) }
 {
     let sources = next_objects(alloc, NOTHING, notion.declared.items())?;
     let images = Map::paired(alloc, &sources, args)?;
@@ -143,7 +147,8 @@ fn images(
     requires points { scope.points + length statement.now.made < 2 ^ 16 }
     requires lines { scope.lines + length statement.now.made < 2 ^ 16 }
     requires circles { scope.circles + length statement.now.made < 2 ^ 16 }
-    ensures { IfOk result (λ m. (o : Object) → image_in m o ≡ image (stated statement.now) args.now scope o) }
+    ensures { IfOk result
+        (λ m. (o : Object) → image_in m o ≡ image (stated statement.now) args.now scope o) }
 {
     let sources = objects(alloc, statement)?;
     let mut targets = Vec::from_slice(alloc, args)?;
@@ -155,7 +160,9 @@ fn images(
 // The declared and the made objects.
 fn objects(alloc: Global, statement: &Statement) -> Result<Vec<Obj>, AllocError>
     requires few { length statement.now.declared + length statement.now.made < 2 ^ 16 }
-    ensures { IfOk result (λ os. os.items ≡ Scopes.next_objects Scopes.nothing statement.now.declared ++ Scopes.next_objects (scope_of (stated statement.now)) statement.now.made) }
+    ensures { IfOk result
+        (λ os. os.items ≡ Scopes.next_objects Scopes.nothing statement.now.declared
+        ++ Scopes.next_objects (scope_of (stated statement.now)) statement.now.made) }
 {
     let declared = statement.declared.items();
     let mut objects = next_objects(alloc, NOTHING, declared)?;

@@ -14,8 +14,8 @@ use Rattle.e_transfer.specs.declared.finding.Found.{Found}
 use Rattle.e_transfer.specs.declared.finding.Found.TheVariants.{Yes, No, TooWide}
 use Rattle.e_transfer.specs.GivenGoals.{NarrowTransfer}
 
--- no transfer gives the goal from facts alone, nor one all of whose systems are narrow; and a system of a literal that a
--- transfer needs is wide, with this width
+-- no transfer gives the goal from facts alone, nor one all of whose systems are narrow; and a
+-- system of a literal that a transfer needs is wide, with this width
 pub record IsTooWideTransfer (scope : Scope) (facts : List Lit) (goal : Lit) (w : ℕ) : Type 0 where
   pub not_plain : ¬ TransferFromFacts scope facts goal
   pub not_narrow : ¬ NarrowTransfer scope facts goal
@@ -23,7 +23,8 @@ pub record IsTooWideTransfer (scope : Scope) (facts : List Lit) (goal : Lit) (w 
   pub is_system : IsTransferSystem scope facts goal rows
   pub has_width : HasWidth rows w
 
--- a certificate, whose parts name literals that are well formed; or no transfer gives the goal; or a system is too wide
+-- a certificate, whose parts name literals that are well formed; or no transfer gives the goal; or
+-- a system is too wide
 abbrev pub IsFound : Scope → List Lit → Lit → Found → Type 0
 IsFound scope facts goal (Yes cert) = IsTrue (transfer_in scope cert) × IsTrue (transfer_certifies facts goal cert) × IsTrue (list_all (is_part_of version.One) cert.parts)
 IsFound scope facts goal No = ¬ TransferConsequence scope facts goal

@@ -66,8 +66,8 @@ pub record GivesGoal (m : Strength) (scope : Scope) (facts : List Lit) (goal : L
   pub here : IsTrue (is_at lits place goal)
   pub suffice : All (Suffices m facts) (needs_beside lits goal)
 
--- what each literal of an instance that gives the goal is: the goal, at its place, and elsewhere the goal or one whose
--- negation suffices
+-- what each literal of an instance that gives the goal is: the goal, at its place, and elsewhere
+-- the goal or one whose negation suffices
 abbrev pub IsFittingLiteral : Strength → List Lit → Lit → Bool → Lit → Type 0
 IsFittingLiteral m facts goal here l = MatchBool here (IsTrue (same_lit l goal)) (IsTrue (same_lit l goal) ⊎ Suffices m facts (negation l))
 
@@ -91,7 +91,8 @@ PartIs m scope facts l (verdict.Yes p) = IsCertifyingPart scope facts l p
 PartIs m scope facts l verdict.No = Suffices m facts l → ⊥
 PartIs m scope facts l (verdict.TooWide w) = (m ≡ strength.Sums) × IsTrue (is_metric l) × IsTooWideSystem facts (Some l) w
 
--- what is answered on a literal with a wide system: where only narrow ones are searched for, that it does not suffice
+-- what is answered on a literal with a wide system: where only narrow ones are searched for, that
+-- it does not suffice
 abbrev pub passed_over : Strength → ℕ → Verdict Part
 passed_over strength.Facts w = verdict.No
 passed_over strength.Sums w = verdict.TooWide w
@@ -154,7 +155,8 @@ NoneOf m scope facts goal rule = (place : ℕ) → NoneAt m scope facts goal rul
 abbrev pub NoneGives : Strength → Scope → List Lit → Lit → Type 0
 NoneGives m scope facts goal = (rule : ℕ) → IsTrue (is_transfer rule) → NoneOf m scope facts goal rule
 
--- one that gives the goal; or none of those that are searched for, as `None` says; or one that is too wide
+-- one that gives the goal; or none of those that are searched for, as `None` says; or one that is
+-- too wide
 abbrev pub RuleSearchIs : Strength → Scope → List Lit → Lit → Type 0 → Verdict TransferCert → Type 0
 RuleSearchIs m scope facts goal None (verdict.Yes cert) = IsCertifyingTransfer scope facts goal cert
 RuleSearchIs m scope facts goal None verdict.No = None
@@ -162,7 +164,8 @@ RuleSearchIs m scope facts goal None (verdict.TooWide w) = (m ≡ strength.Sums)
 
 -- ---- the answer
 
--- the negation of each other literal of an instance is a fact, or follows from the facts by narrow systems
+-- the negation of each other literal of an instance is a fact, or follows from the facts by narrow
+-- systems
 pub record NarrowTransfer (scope : Scope) (facts : List Lit) (l : Lit) : Type 0 where
   pub lits : List Lit
   pub of : TransferOf scope l lits

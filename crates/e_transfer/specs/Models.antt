@@ -38,7 +38,8 @@ is_flattened _ _ = false
 abbrev pub value_when_canonical : Filling → List (Term × ℕ) → Term → ℕ
 value_when_canonical filling values t = if is_flattened filling t then 0 else value_in_list filling values t
 
--- the same in whatever order the points of the term are written, and 0 for a segment x x and a flat area
+-- the same in whatever order the points of the term are written, and 0 for a segment x x and a flat
+-- area
 abbrev pub value_by : Filling → List (Term × ℕ) → Term → ℕ
 value_by filling values t = carried (value_when_canonical filling values) t
 

@@ -12,7 +12,8 @@ VerdictIs kept shown wide wanted part (verdict.Yes p) = kept part × shown part 
 VerdictIs kept shown wide wanted part verdict.No = (rest : List ℕ) → wanted (part ++ rest) → ⊥
 VerdictIs kept shown wide wanted part (verdict.TooWide w) = wide part w
 
--- a choice each of whose parts is kept, and none below it is wanted; or none is wanted; or a part that is too wide, and none below it is wanted
+-- a choice each of whose parts is kept, and none below it is wanted; or none is wanted; or a part
+-- that is too wide, and none below it is wanted
 abbrev pub SearchIs :
     {P : Type 0} → (List ℕ → Type 0) → (List ℕ → P → Type 0) → (List ℕ → ℕ → Type 0) → (List ℕ → Type 0) → List Span → List ℕ → List ℕ → Verdict P → Type 0
 SearchIs kept shown wide wanted spans before after (verdict.Yes p) =

@@ -4,7 +4,8 @@
 ghost use Rattle.std.specs.Prelude.{◌≡◌, [], ◌∷◌, IfOk, OnOk, IsTrue, MatchOption, map};
 ghost use Rattle.e_clause.specs.Assignment.{terms_of_atom};
 ghost use Rattle.e_transfer.specs.Areas;
-ghost use Rattle.e_transfer.specs.Areas.{name_areas_of, ListsAlso, AreTwoAreas, AreOneEach, AreEqualAreas};
+ghost use Rattle.e_transfer.specs.Areas.{name_areas_of, ListsAlso, AreTwoAreas};
+ghost use Rattle.e_transfer.specs.Areas.{AreOneEach, AreEqualAreas};
 
 use crate::clause::{clause_len, pattern_at};
 use crate::marks::is_area;

@@ -1,10 +1,13 @@
 //! How a goal may match a place of a clause, and what it says of the variables then.
 
-ghost use Rattle.std.specs.Prelude.{◌≡◌, ◌⊎◌, ◌++◌, map, if◌then◌else◌, option_to_list, IfOk, OnOk, IsTrue, [], ◌∷◌};
+ghost use Rattle.std.specs.Prelude.{◌≡◌, ◌⊎◌, ◌++◌, map, if◌then◌else◌};
+ghost use Rattle.std.specs.Prelude.{option_to_list, IfOk, OnOk, IsTrue, [], ◌∷◌};
 ghost use Rattle.e_literal.specs.Literal.{negation};
 ghost use Rattle.e_clause.specs.Views.{atom_of, lit_of, row_of};
 ghost use Rattle.e_transfer.specs.inner.Matches;
-ghost use Rattle.e_transfer.specs.inner.Matches.{Cover, CoverAtom, CoverSums, all_cancel, none_cancels, matches_of_term, matches_of_sum, cancellations_of_terms, cancellations_of_sum};
+ghost use Rattle.e_transfer.specs.inner.Matches.{Cover, CoverAtom, CoverSums, all_cancel};
+ghost use Rattle.e_transfer.specs.inner.Matches.{none_cancels, matches_of_term, matches_of_sum};
+ghost use Rattle.e_transfer.specs.inner.Matches.{cancellations_of_terms, cancellations_of_sum};
 
 use crate::equations::{Equation, equations_of_atom, equations_of_term, equations_of_terms};
 use e_clause::{Pattern, Row, Shape};

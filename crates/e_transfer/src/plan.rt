@@ -1,6 +1,7 @@
 //! In which order the variables of a rule are chosen, and from which numbers.
 
-ghost use Rattle.std.specs.Prelude.{◌≡◌, ◌<◌, ◌++◌, map, ◌==◌, IfOk, OnOk, IsTrue, length, slice_index, nat_lt};
+ghost use Rattle.std.specs.Prelude.{◌≡◌, ◌<◌, ◌++◌, map, ◌==◌, IfOk, OnOk};
+ghost use Rattle.std.specs.Prelude.{IsTrue, length, slice_index, nat_lt};
 ghost use Rattle.std.specs.List.{list_all};
 ghost use Rattle.e_clause.specs.Views.{atom_of, lit_of, row_of};
 ghost use Rattle.e_transfer.specs.inner.Equations;
@@ -8,7 +9,8 @@ ghost use Rattle.e_transfer.specs.inner.PartsOfChoices;
 ghost use Rattle.e_transfer.specs.inner.PartsOfChoices.{sum_last, term_last, atom_last};
 ghost use Rattle.e_transfer.specs.inner.Bindings;
 ghost use Rattle.e_transfer.specs.inner.Plans;
-ghost use Rattle.e_transfer.specs.inner.Plans.{total_of, has_variable, Grows, RepresentativesAre, OrderIs, PositionsAre, IsPlanFor};
+ghost use Rattle.e_transfer.specs.inner.Plans.{total_of, has_variable, Grows, RepresentativesAre};
+ghost use Rattle.e_transfer.specs.inner.Plans.{OrderIs, PositionsAre, IsPlanFor};
 
 use crate::unify::{Binding, binding_of, representative};
 use crate::walk::Span;

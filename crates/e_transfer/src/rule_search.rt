@@ -5,7 +5,8 @@ ghost use Rattle.e_clause.specs.Instance.{clause_of};
 ghost use Rattle.e_clause.specs.RuleKinds.{is_transfer};
 ghost use Rattle.e_clause.specs.Table.{table};
 ghost use Rattle.e_clause.specs.Views.{row_of};
-ghost use Rattle.e_transfer.specs.GivenGoals.{RuleSearchIs, NoneWithBindings, NoneWithEquations, NoneAt, NoneOf, NoneGives};
+ghost use Rattle.e_transfer.specs.GivenGoals.{RuleSearchIs, NoneWithBindings};
+ghost use Rattle.e_transfer.specs.GivenGoals.{NoneWithEquations, NoneAt, NoneOf, NoneGives};
 ghost use Rattle.e_transfer.specs.inner.Plans.{total_of};
 
 use crate::areas::place_of_areas;

@@ -1,7 +1,8 @@
 -- What a line looks up among the facts, and which objects it names.
 --
--- A literal is looked up by itself and not by its place: that a member of the facts is looked up means that one the same is among
--- the literals that are looked up, since no two members are the same.
+-- A literal is looked up by itself and not by its place: that a member of the facts is looked up
+-- means that one the same is among the literals that are looked up, since no two members are the
+-- same.
 use Rattle.std.specs.Prelude.{List, [], ◌∷◌, ◌++◌, map, flat_map, Bool, false, ◌||◌, if◌then◌else◌, ℤ, Option, Some, None}
 use Rattle.std.specs.Option.{option_map_or}
 use Rattle.std.specs.List.{list_any}
@@ -152,6 +153,7 @@ named_on (Qed objects certs) = objects
 named_on (Contradiction against) = []
 named_on (Cases lit first second) = objects_of_atom lit.atom
 
--- what the line looks up, blocks inside of it left aside, and the objects that it and its certificates name
+-- what the line looks up, blocks inside of it left aside, and the objects that it and its
+-- certificates name
 abbrev pub of_line : List StatementView → Line → Wants
 of_line before x = both (needed (named_on x.here)) (both (of_certs x.facts (needs before x) (certs_of x.here)) (of_beside x.here x.facts))

@@ -8,8 +8,9 @@ use Rattle.e_deriv.specs.Certified.{Certified, derivation_lines}
 use Rattle.e_deriv.specs.Fitting.{is_small, is_small_statement}
 use Rattle.e_deriv.specs.Versions.{has_certs_of}
 
--- the statements have at most 1,000 objects of each sort; the derivation is of the first version and certified, it has at most 1,024 lines, and before each of
--- them at most 1,000 objects of each sort are in scope
+-- the statements have at most 1,000 objects of each sort; the derivation is of the first version
+-- and certified, it has at most 1,024 lines, and before each of them at most 1,000 objects of each
+-- sort are in scope
 pub record IsTrimmable (before : List StatementView) (t : StatementView) (d : Script) : Type 0 where
   pub statements : IsTrue (list_all is_small_statement before)
   pub statement : IsTrue (is_small_statement t)

@@ -66,7 +66,8 @@ abbrev pub is_kept : List StatementView → Script → Scope → List Lit → Wa
 is_kept before here s facts w =
     list_any (supplies facts w) (joins_at before here s) || list_any (is_needed w) (next_objects s (makes_at before here))
 
--- of what a block wants, what is outside of it: facts that stood before it, and objects that were in scope
+-- of what a block wants, what is outside of it: facts that stood before it, and objects that were
+-- in scope
 abbrev pub outside : Scope → List Lit → Wants → Wants
 outside s facts w = record { lits = filter (has facts) w.lits; objects = filter (is_in_scope s) w.objects }
 
@@ -76,8 +77,8 @@ outside s facts w = record { lits = filter (has facts) w.lits; objects = filter 
 abbrev pub line_at : Script → Scope → List Lit → Goal → Line
 line_at here s facts goal = line here here s facts goal
 
--- Where this is wanted after a step, and that by the block inside it, what is wanted from the step on: a step that is not kept
--- wants nothing.
+-- Where this is wanted after a step, and that by the block inside it, what is wanted from the step
+-- on: a step that is not kept wants nothing.
 abbrev pub with_step : List StatementView → Script → Scope → List Lit → Goal → Wants → Wants → Wants
 with_step before here s facts goal inner w =
     if is_kept before here s facts w then both w (both (of_line before (line_at here s facts goal)) inner) else w

@@ -9,7 +9,8 @@ ghost use Rattle.e_deriv.specs.Fitting.{is_small, is_small_statement};
 ghost use Rattle.e_deriv.specs.Script.{script_of, steps_script, step_script, close_script};
 ghost use Rattle.e_trim.specs.Trimmed;
 ghost use Rattle.e_trim.specs.inner.StepState.{FewKept};
-ghost use Rattle.e_trim.specs.inner.Building.{AreSmall, IsSmallStep, TakesFlag, IsBuilt, StepIsBuilt, CloseIsBuilt, BlockIsBuilt};
+ghost use Rattle.e_trim.specs.inner.Building.{AreSmall, IsSmallStep, TakesFlag, IsBuilt};
+ghost use Rattle.e_trim.specs.inner.Building.{StepIsBuilt, CloseIsBuilt, BlockIsBuilt};
 
 use crate::numbering::{
     new_against, new_args, new_by, new_cert, new_certs, new_construction, new_lit, new_lits,
@@ -94,10 +95,13 @@ fn build(
     flags: &mut Vec<bool>,
     out: &mut Vec<Step>,
 ) -> Result<Close, AllocError>
-    requires scopes { AreSmall (all_stated before.now) (steps_script steps.now (close_script close.now)) scope }
+    requires scopes { AreSmall (all_stated before.now)
+        (steps_script steps.now (close_script close.now)) scope }
     requires statements { IsTrue (list_all is_small_statement (all_stated before.now)) }
     requires few { FewKept scope kept.now }
-    ensures { IfOk result (λ c. IsBuilt (all_stated before.now) kept.now (steps_script steps.now (close_script close.now)) scope flags.old.items flags.new.items out.old.items out.new.items c) }
+    ensures { IfOk result (λ c. IsBuilt (all_stated before.now) kept.now
+        (steps_script steps.now (close_script close.now)) scope flags.old.items flags.new.items
+        out.old.items out.new.items c) }
 {
     match steps {
         [] => build_close(alloc, before, close, scope, kept, flags),
@@ -128,7 +132,8 @@ fn build_step(
     requires scopes { IsSmallStep (all_stated before.now) step.now scope }
     requires statements { IsTrue (list_all is_small_statement (all_stated before.now)) }
     requires few { FewKept scope kept.now }
-    ensures { IfOk result (λ s. StepIsBuilt (all_stated before.now) kept.now step.now scope flags.old.items flags.new.items s) }
+    ensures { IfOk result (λ s. StepIsBuilt (all_stated before.now) kept.now step.now scope
+        flags.old.items flags.new.items s) }
 {
     match step {
         Step::Cite(by) => Ok(Step::Cite(new_by(alloc, kept, by)?)),
@@ -196,7 +201,8 @@ fn build_close(
     requires scopes { AreSmall (all_stated before.now) (close_script close.now) scope }
     requires statements { IsTrue (list_all is_small_statement (all_stated before.now)) }
     requires few { FewKept scope kept.now }
-    ensures { IfOk result (λ c. CloseIsBuilt (all_stated before.now) kept.now (close_script close.now) scope flags.old.items flags.new.items c) }
+    ensures { IfOk result (λ c. CloseIsBuilt (all_stated before.now) kept.now
+        (close_script close.now) scope flags.old.items flags.new.items c) }
 {
     match close {
         Close::Qed { objects, certs } => Ok(Close::Qed {
@@ -230,7 +236,8 @@ pub fn build_block(
     requires scopes { AreSmall (all_stated before.now) (script_of block.now) scope }
     requires statements { IsTrue (list_all is_small_statement (all_stated before.now)) }
     requires few { FewKept scope kept.now }
-    ensures { IfOk result (λ b. BlockIsBuilt (all_stated before.now) kept.now (script_of block.now) scope flags.old.items flags.new.items b) }
+    ensures { IfOk result (λ b. BlockIsBuilt (all_stated before.now) kept.now
+        (script_of block.now) scope flags.old.items flags.new.items b) }
 {
     let mut steps = Vec::new(alloc);
     let built = build(

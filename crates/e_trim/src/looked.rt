@@ -7,7 +7,9 @@ ghost use Rattle.e_literal.specs.Literal.{negation};
 ghost use Rattle.e_literal.specs.Same.{term_eq};
 ghost use Rattle.e_clause.specs.Assignment.{terms_of_wanted};
 ghost use Rattle.e_trim.specs.Looked;
-ghost use Rattle.e_trim.specs.Looked.{both, looked_up, first_that, has_written, parts_ends, of_row, of_sum, of_sums, of_part, of_transfer, of_cert, of_certs, of_against, of_term};
+ghost use Rattle.e_trim.specs.Looked.{both, looked_up, first_that, has_written};
+ghost use Rattle.e_trim.specs.Looked.{parts_ends, of_row, of_sum, of_sums, of_part};
+ghost use Rattle.e_trim.specs.Looked.{of_transfer, of_cert, of_certs, of_against, of_term};
 ghost use Rattle.e_trim.specs.inner.Wanted.{of_negated};
 
 use crate::instances::negated_others;
@@ -67,7 +69,8 @@ fn look_up_parting(
     term: Term,
     out: &mut Wanted,
 ) -> Result<(), AllocError>
-    ensures { OnOk result (out.new ≡ both out.old (looked_up (first_that (Looked.parts_ends term) facts.now))) }
+    ensures { OnOk result
+        (out.new ≡ both out.old (looked_up (first_that (Looked.parts_ends term) facts.now))) }
 {
     for fact in facts.items() {
         if parts_ends(fact, term) {
@@ -84,7 +87,8 @@ fn look_up_written(
     term: Term,
     out: &mut Wanted,
 ) -> Result<(), AllocError>
-    ensures { OnOk result (out.new ≡ both out.old (looked_up (first_that (Looked.has_written term) facts.now))) }
+    ensures { OnOk result
+        (out.new ≡ both out.old (looked_up (first_that (Looked.has_written term) facts.now))) }
 {
     for fact in facts.items() {
         if has_written(fact, term) {
@@ -103,7 +107,8 @@ fn look_term<'a>(
     term: Term,
     out: &mut Wanted,
 ) -> Result<(), AllocError>
-    ensures { OnOk result (out.new ≡ both out.old (of_term facts.now (option_copied wanted.entry) term)) }
+    ensures { OnOk result
+        (out.new ≡ both out.old (of_term facts.now (option_copied wanted.entry) term)) }
 {
     if !is_wanted(wanted, term) {
         look_up_written(alloc, facts, term, out)?;
@@ -120,7 +125,8 @@ fn look_row<'a>(
     name: &'a RowName,
     out: &mut Wanted,
 ) -> Result<(), AllocError>
-    ensures { OnOk result (out.new ≡ both out.old (of_row facts.now (option_copied wanted.entry) name.now)) }
+    ensures { OnOk result
+        (out.new ≡ both out.old (of_row facts.now (option_copied wanted.entry) name.now)) }
 {
     match name {
         RowName::Fact(lit) => out.name(alloc, lit),
@@ -144,7 +150,8 @@ fn look_sum<'a>(
     sum: &'a [(i128, RowName)],
     out: &mut Wanted,
 ) -> Result<(), AllocError>
-    ensures { OnOk result (out.new ≡ both out.old (of_sum facts.now (option_copied wanted.entry) sum.now)) }
+    ensures { OnOk result
+        (out.new ≡ both out.old (of_sum facts.now (option_copied wanted.entry) sum.now)) }
 {
     for (_, name) in sum {
         look_row(alloc, facts, wanted, name, out)?;
@@ -161,7 +168,8 @@ fn look_sums<'a>(
     sums: &'a Sums,
     out: &mut Wanted,
 ) -> Result<(), AllocError>
-    ensures { OnOk result (out.new ≡ both out.old (of_sums facts.now (option_copied wanted.entry) sums.now)) }
+    ensures { OnOk result
+        (out.new ≡ both out.old (of_sums facts.now (option_copied wanted.entry) sums.now)) }
 {
     match sums {
         Sums::One(sum) => look_sum(alloc, facts, wanted, sum.rows(), out),

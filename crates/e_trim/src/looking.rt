@@ -9,7 +9,8 @@ ghost use Rattle.e_deriv.specs.Fitting.{is_small, is_small_statement};
 ghost use Rattle.e_deriv.specs.Script.{script_of, steps_script, close_script};
 ghost use Rattle.e_trim.specs.Trimmed.{outside, wants};
 ghost use Rattle.e_trim.specs.inner.Flags.{flags_of};
-ghost use Rattle.e_trim.specs.inner.StepState.{IsReady, IsReadyToTrim, StepAdds, FlagsAdded, StepWants, StepFlags, KeepsFacts, goal_said};
+ghost use Rattle.e_trim.specs.inner.StepState.{IsReady, IsReadyToTrim, StepAdds, FlagsAdded};
+ghost use Rattle.e_trim.specs.inner.StepState.{StepWants, StepFlags, KeepsFacts, goal_said};
 
 use crate::step_state::{Goal, StepState};
 use crate::steps::{is_kept, look_close, look_step, pass};
@@ -33,10 +34,16 @@ pub fn look(
     state: &mut StepState,
     flags: &mut Vec<bool>,
 ) -> Result<Wanted, AllocError>
-    requires ready { IsReady (all_stated before.now) (steps_script steps.now (close_script close.now)) state.old.scope state.old.facts (goal_said goal.now) }
+    requires ready { IsReady (all_stated before.now)
+        (steps_script steps.now (close_script close.now)) state.old.scope state.old.facts
+        (goal_said goal.now) }
     requires statements { IsTrue (list_all is_small_statement (all_stated before.now)) }
-    ensures wanted { IfOk result (λ w. w ≡ wants (all_stated before.now) (steps_script steps.now (close_script close.now)) state.old.scope state.old.facts (goal_said goal.now)) }
-    ensures flags { OnOk result (flags.new.items ≡ flags.old.items ++ flags_of (all_stated before.now) (steps_script steps.now (close_script close.now)) state.old.scope state.old.facts (goal_said goal.now)) }
+    ensures wanted { IfOk result
+        (λ w. w ≡ wants (all_stated before.now) (steps_script steps.now (close_script close.now))
+        state.old.scope state.old.facts (goal_said goal.now)) }
+    ensures flags { OnOk result (flags.new.items ≡ flags.old.items
+        ++ flags_of (all_stated before.now) (steps_script steps.now (close_script close.now))
+        state.old.scope state.old.facts (goal_said goal.now)) }
     ensures kept { OnOk result (KeepsFacts state.old state.new) }
 {
     match steps {
@@ -65,8 +72,10 @@ fn look_back(
 ) -> Result<(), AllocError>
     requires ready { IsReadyToTrim (all_stated before.now) step.now state.old }
     requires statements { IsTrue (list_all is_small_statement (all_stated before.now)) }
-    ensures wanted { OnOk result (StepAdds (all_stated before.now) step.now state.old out.old out.new) }
-    ensures flags { OnOk result (FlagsAdded (all_stated before.now) step.now state.old out.old flags.old.items flags.new.items) }
+    ensures wanted { OnOk result
+        (StepAdds (all_stated before.now) step.now state.old out.old out.new) }
+    ensures flags { OnOk result (FlagsAdded (all_stated before.now) step.now state.old out.old
+        flags.old.items flags.new.items) }
     ensures kept { OnOk result (KeepsFacts state.old state.new) }
 {
     if !is_kept(alloc, before, step, state, out)? {
@@ -90,8 +99,10 @@ fn look_at_step(
 ) -> Result<(), AllocError>
     requires ready { IsReadyToTrim (all_stated before.now) step.now state.old }
     requires statements { IsTrue (list_all is_small_statement (all_stated before.now)) }
-    ensures wanted { OnOk result (StepWants (all_stated before.now) step.now state.old out.old out.new) }
-    ensures flags { OnOk result (StepFlags (all_stated before.now) step.now state.old flags.old.items flags.new.items) }
+    ensures wanted { OnOk result
+        (StepWants (all_stated before.now) step.now state.old out.old out.new) }
+    ensures flags { OnOk result
+        (StepFlags (all_stated before.now) step.now state.old flags.old.items flags.new.items) }
     ensures kept { OnOk result (KeepsFacts state.old state.new) }
 {
     look_step(alloc, before, step, state, out)?;
@@ -138,10 +149,16 @@ fn look_inside(
 ) -> Result<Wanted, AllocError>
     requires small { IsTrue (is_small state.old.scope) }
     requires few { length sorts.now < 2 ^ 15 }
-    requires ready { IsReady (all_stated before.now) (script_of block.now) (grown state.old.scope sorts.now) (joined_all state.old.facts lits.now) (goal_said goal.now) }
+    requires ready { IsReady (all_stated before.now) (script_of block.now)
+        (grown state.old.scope sorts.now) (joined_all state.old.facts lits.now)
+        (goal_said goal.now) }
     requires statements { IsTrue (list_all is_small_statement (all_stated before.now)) }
-    ensures wanted { IfOk result (λ w. w ≡ outside state.old.scope state.old.facts (wants (all_stated before.now) (script_of block.now) (grown state.old.scope sorts.now) (joined_all state.old.facts lits.now) (goal_said goal.now))) }
-    ensures flags { OnOk result (flags.new.items ≡ flags.old.items ++ flags_of (all_stated before.now) (script_of block.now) (grown state.old.scope sorts.now) (joined_all state.old.facts lits.now) (goal_said goal.now)) }
+    ensures wanted { IfOk result (λ w. w ≡ outside state.old.scope state.old.facts
+        (wants (all_stated before.now) (script_of block.now) (grown state.old.scope sorts.now)
+        (joined_all state.old.facts lits.now) (goal_said goal.now))) }
+    ensures flags { OnOk result (flags.new.items ≡ flags.old.items
+        ++ flags_of (all_stated before.now) (script_of block.now) (grown state.old.scope sorts.now)
+        (joined_all state.old.facts lits.now) (goal_said goal.now)) }
     ensures same { OnOk result (state.new ≡ state.old) }
 {
     let outer = state.hold();
@@ -170,10 +187,14 @@ fn look_at_close(
     state: &mut StepState,
     flags: &mut Vec<bool>,
 ) -> Result<Wanted, AllocError>
-    requires ready { IsReady (all_stated before.now) (close_script close.now) state.old.scope state.old.facts (goal_said goal.now) }
+    requires ready { IsReady (all_stated before.now)
+        (close_script close.now) state.old.scope state.old.facts (goal_said goal.now) }
     requires statements { IsTrue (list_all is_small_statement (all_stated before.now)) }
-    ensures wanted { IfOk result (λ w. w ≡ wants (all_stated before.now) (close_script close.now) state.old.scope state.old.facts (goal_said goal.now)) }
-    ensures flags { OnOk result (flags.new.items ≡ flags.old.items ++ flags_of (all_stated before.now) (close_script close.now) state.old.scope state.old.facts (goal_said goal.now)) }
+    ensures wanted { IfOk result (λ w. w ≡ wants (all_stated before.now)
+        (close_script close.now) state.old.scope state.old.facts (goal_said goal.now)) }
+    ensures flags { OnOk result
+        (flags.new.items ≡ flags.old.items ++ flags_of (all_stated before.now)
+        (close_script close.now) state.old.scope state.old.facts (goal_said goal.now)) }
     ensures kept { OnOk result (KeepsFacts state.old state.new) }
 {
     let mut wanted = Wanted::new(alloc);

@@ -31,7 +31,8 @@ fn note(places: &mut Vec<u32>, place: u32) -> Result<(), AllocError>
 #[cycle(note_block)]
 #[tactic(auto, using(crate::proofs::Places::noting))]
 fn note_block(places: &mut Vec<u32>, block: &Block) -> Result<(), AllocError>
-    ensures { OnOk result (places.new.items ≡ Applied.noted_all places.old.items (places_of (script_of block.now))) }
+    ensures { OnOk result
+        (places.new.items ≡ Applied.noted_all places.old.items (places_of (script_of block.now))) }
 {
     for step in &block.steps {
         note_step(places, step)?;
@@ -43,7 +44,8 @@ fn note_block(places: &mut Vec<u32>, block: &Block) -> Result<(), AllocError>
 #[cycle(note_block)]
 #[tactic(auto, using(crate::proofs::Places::noting))]
 fn note_step(places: &mut Vec<u32>, step: &Step) -> Result<(), AllocError>
-    ensures { OnOk result (places.new.items ≡ Applied.noted_all places.old.items (Applied.places_of_step step.now)) }
+    ensures { OnOk result
+        (places.new.items ≡ Applied.noted_all places.old.items (Applied.places_of_step step.now)) }
 {
     match step {
         Step::Cite(_) | Step::Hence { .. } | Step::Make { .. } => Ok(()),
@@ -57,7 +59,8 @@ fn note_step(places: &mut Vec<u32>, step: &Step) -> Result<(), AllocError>
 #[cycle(note_block)]
 #[tactic(auto, using(crate::proofs::Places::noting))]
 fn note_close(places: &mut Vec<u32>, close: &Close) -> Result<(), AllocError>
-    ensures { OnOk result (places.new.items ≡ Applied.noted_all places.old.items (places_of (close_script close.now))) }
+    ensures { OnOk result (places.new.items
+        ≡ Applied.noted_all places.old.items (places_of (close_script close.now))) }
 {
     match close {
         Close::Qed { .. } | Close::Contradiction { .. } => Ok(()),

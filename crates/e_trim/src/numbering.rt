@@ -138,7 +138,8 @@ fn new_form(alloc: Global, kept: &[Obj], form: &Form) -> Result<Form, AllocError
 
 fn new_atom(alloc: Global, kept: &[Obj], atom: &Atom) -> Result<Atom, AllocError>
     requires { length kept.now < 2 ^ 16 }
-    ensures { IfOk result (λ a. a ≡ atom_at (Trimmed.number kept.now Point) (Trimmed.number kept.now Line) (Trimmed.number kept.now Circle) atom.now) }
+    ensures { IfOk result (λ a. a ≡ atom_at (Trimmed.number kept.now Point)
+        (Trimmed.number kept.now Line) (Trimmed.number kept.now Circle) atom.now) }
 {
     let atom = match atom {
         Atom::On(a, l) => Atom::On(point(kept, *a), line(kept, *l)),

@@ -33,7 +33,8 @@ use std::mem;
 /// The sorts of the objects that the step makes and that live on.
 #[tactic(auto, using(crate::proofs::StepParts::by_step))]
 pub fn makes<'a>(before: &'a [Statement], step: &'a Step) -> &'a [Sort]
-    ensures { (rest : Script) → result.now ≡ makes_at (all_stated before.now) (step_script step.now rest) }
+    ensures { (rest : Script)
+        → result.now ≡ makes_at (all_stated before.now) (step_script step.now rest) }
 {
     match step {
         Step::Make { form, .. } => form.made(),
@@ -77,8 +78,10 @@ fn use_at(
     requires small { IsTrue (is_small scope) }
     requires statements { IsTrue (list_all is_small_statement (all_stated before.now)) }
     requires fits { IsApplied (all_stated before.now) theorem args.now scope }
-    ensures needs { IfOk result (λ a. a.needs ≡ needs_of_use (theorem_at (all_stated before.now) theorem) (written args.now) scope) }
-    ensures gives { IfOk result (λ a. a.gives ≡ gives_of_use (theorem_at (all_stated before.now) theorem) (written args.now) scope) }
+    ensures needs { IfOk result (λ a. a.needs
+        ≡ needs_of_use (theorem_at (all_stated before.now) theorem) (written args.now) scope) }
+    ensures gives { IfOk result (λ a. a.gives
+        ≡ gives_of_use (theorem_at (all_stated before.now) theorem) (written args.now) scope) }
 {
     let Some(statement) = before.get(theorem as usize) else {
         unreachable!();
@@ -102,7 +105,8 @@ pub fn joins(
     requires small { IsTrue (is_small scope) }
     requires statements { IsTrue (list_all is_small_statement (all_stated before.now)) }
     requires fits { StepFits (all_stated before.now) step.now scope }
-    ensures { IfOk result (λ ls. (rest : Script) → ls ≡ joins_at (all_stated before.now) (step_script step.now rest) scope) }
+    ensures { IfOk result (λ ls. (rest : Script)
+        → ls ≡ joins_at (all_stated before.now) (step_script step.now rest) scope) }
 {
     match step {
         Step::Cite(by) => one(alloc, &by.lit),
@@ -129,7 +133,8 @@ pub fn pass(
     requires small { IsTrue (is_small state.old.scope) }
     requires statements { IsTrue (list_all is_small_statement (all_stated before.now)) }
     requires fits { StepFits (all_stated before.now) step.now state.old.scope }
-    ensures { OnOk result ((rest : Script) → state.new ≡ passed (all_stated before.now) (step_script step.now rest) state.old) }
+    ensures { OnOk result ((rest : Script)
+        → state.new ≡ passed (all_stated before.now) (step_script step.now rest) state.old) }
 {
     let lits = joins(alloc, before, step, state.scope)?;
     let opened = state.open(alloc, makes(before, step), lits.items());
@@ -163,7 +168,8 @@ pub fn is_kept(
     requires small { IsTrue (is_small state.now.scope) }
     requires statements { IsTrue (list_all is_small_statement (all_stated before.now)) }
     requires fits { StepFits (all_stated before.now) step.now state.now.scope }
-    ensures { IfOk result (λ b. (rest : Script) → b ≡ Trimmed.is_kept (all_stated before.now) (step_script step.now rest) state.now.scope state.now.facts wanted.now) }
+    ensures { IfOk result (λ b. (rest : Script) → b ≡ Trimmed.is_kept (all_stated before.now)
+        (step_script step.now rest) state.now.scope state.now.facts wanted.now) }
 {
     let objects = next_objects(alloc, state.scope, makes(before, step))?;
     if are_needed(wanted, &objects) {
@@ -178,7 +184,9 @@ pub fn is_kept(
 // ---- what a step wants
 
 fn look_cite(alloc: Global, by: &By, out: &mut Wanted) -> Result<(), AllocError>
-    ensures { OnOk result ((before : List StatementView) (rest : Script) (x : states.StepState) (goal : BlockGoal) → out.new ≡ both out.old (of_line before (line_at (scripts.Cite by.now rest) x.scope x.facts goal))) }
+    ensures { OnOk result ((before : List StatementView) (rest : Script) (x : states.StepState)
+        (goal : BlockGoal) → out.new
+        ≡ both out.old (of_line before (line_at (scripts.Cite by.now rest) x.scope x.facts goal))) }
 {
     out.need(by.args.items())?;
     out.need_objects_of(&by.lit)?;
@@ -192,7 +200,9 @@ fn look_hence(
     state: &StepState,
     out: &mut Wanted,
 ) -> Result<(), AllocError>
-    ensures { OnOk result ((before : List StatementView) (rest : Script) (goal : BlockGoal) → out.new ≡ both out.old (of_line before (line_at (scripts.Hence lit.now cert.now rest) state.now.scope state.now.facts goal))) }
+    ensures { OnOk result ((before : List StatementView) (rest : Script) (goal : BlockGoal)
+        → out.new ≡ both out.old (of_line before
+        (line_at (scripts.Hence lit.now cert.now rest) state.now.scope state.now.facts goal))) }
 {
     out.need_objects_of(lit)?;
     match cert {
@@ -208,7 +218,9 @@ fn look_make(
     state: &StepState,
     out: &mut Wanted,
 ) -> Result<(), AllocError>
-    ensures { OnOk result ((before : List StatementView) (names : List (List ℕ)) (rest : Script) (goal : BlockGoal) → out.new ≡ both out.old (of_line before (line_at (scripts.Make form.now names certs.now rest) state.now.scope state.now.facts goal))) }
+    ensures { OnOk result ((before : List StatementView) (names : List (List ℕ)) (rest : Script)
+        (goal : BlockGoal) → out.new ≡ both out.old (of_line before (line_at
+        (scripts.Make form.now names certs.now rest) state.now.scope state.now.facts goal))) }
 {
     out.need(form.args.items())?;
     out.need(form.avoid.items())?;
@@ -228,7 +240,9 @@ fn look_apply(
     requires small { IsTrue (is_small state.now.scope) }
     requires statements { IsTrue (list_all is_small_statement (all_stated before.now)) }
     requires fits { IsApplied (all_stated before.now) theorem args.now state.now.scope }
-    ensures { OnOk result ((names : List (List ℕ)) (rest : Script) (goal : BlockGoal) → out.new ≡ both out.old (of_line (all_stated before.now) (line_at (scripts.Apply theorem args.now names certs.now rest) state.now.scope state.now.facts goal))) }
+    ensures { OnOk result ((names : List (List ℕ)) (rest : Script) (goal : BlockGoal)
+        → out.new ≡ both out.old (of_line (all_stated before.now) (line_at (scripts.Apply theorem
+        args.now names certs.now rest) state.now.scope state.now.facts goal))) }
 {
     let objects = written_of(alloc, args)?;
     out.need(&objects)?;
@@ -247,7 +261,10 @@ fn look_superpose(
     state: &StepState,
     out: &mut Wanted,
 ) -> Result<(), AllocError>
-    ensures { OnOk result ((before : List StatementView) (names : List (List ℕ)) (inner rest : Script) (goal : BlockGoal) → out.new ≡ both out.old (of_line before (line_at (scripts.Superposed form.now names shown.now certs.now inner rest) state.now.scope state.now.facts goal))) }
+    ensures { OnOk result ((before : List StatementView) (names : List (List ℕ))
+        (inner rest : Script) (goal : BlockGoal) → out.new ≡ both out.old
+        (of_line before (line_at (scripts.Superposed form.now names shown.now certs.now inner rest)
+        state.now.scope state.now.facts goal))) }
 {
     need_superposed(form, out)?;
     out.need_objects_of_all(shown)?;
@@ -284,7 +301,9 @@ pub fn look_step(
     requires small { IsTrue (is_small state.now.scope) }
     requires statements { IsTrue (list_all is_small_statement (all_stated before.now)) }
     requires fits { StepFits (all_stated before.now) step.now state.now.scope }
-    ensures { OnOk result ((rest : Script) (goal : BlockGoal) → out.new ≡ both out.old (of_line (all_stated before.now) (line_at (step_script step.now rest) state.now.scope state.now.facts goal))) }
+    ensures { OnOk result ((rest : Script) (goal : BlockGoal)
+        → out.new ≡ both out.old (of_line (all_stated before.now)
+        (line_at (step_script step.now rest) state.now.scope state.now.facts goal))) }
 {
     match step {
         Step::Cite(by) => look_cite(alloc, by, out),
@@ -329,7 +348,9 @@ fn look_qed(
     out: &mut Wanted,
 ) -> Result<(), AllocError>
     requires one_sort { map (λ o. o.sort) goal.now.made.now ≡ map (λ o. o.sort) objects.now }
-    ensures { OnOk result ((before : List StatementView) → out.new ≡ both out.old (of_line before (line_at (scripts.Qed objects.now certs.now) state.now.scope state.now.facts (goal_said goal.now)))) }
+    ensures { OnOk result ((before : List StatementView)
+        → out.new ≡ both out.old (of_line before (line_at (scripts.Qed objects.now certs.now)
+        state.now.scope state.now.facts (goal_said goal.now)))) }
 {
     out.need(objects)?;
     let lits = goal_with(alloc, goal, objects)?;
@@ -345,7 +366,8 @@ pub fn look_close(
     out: &mut Wanted,
 ) -> Result<(), AllocError>
     requires fits { CloseFits close.now state.now.scope (goal_said goal.now) }
-    ensures { OnOk result ((before : List StatementView) → out.new ≡ both out.old (of_line before (line_at (close_script close.now) state.now.scope state.now.facts (goal_said goal.now)))) }
+    ensures { OnOk result ((before : List StatementView) → out.new ≡ both out.old (of_line before
+        (line_at (close_script close.now) state.now.scope state.now.facts (goal_said goal.now)))) }
 {
     match close {
         Close::Qed { objects, certs } => {

@@ -41,7 +41,9 @@ fn flags_of(
     deriv: &Block,
 ) -> Result<Vec<bool>, AllocError>
     requires { IsTrimmable (all_stated before.now) (stated statement.now) (script_of deriv.now) }
-    ensures { IfOk result (λ v. v.items ≡ flags.flags_of (all_stated before.now) (script_of deriv.now) (scope_of (stated statement.now)) (start_of (stated statement.now)).facts (goal_of_statement (stated statement.now))) }
+    ensures { IfOk result (λ v. v.items ≡ flags.flags_of (all_stated before.now)
+        (script_of deriv.now) (scope_of (stated statement.now))
+        (start_of (stated statement.now)).facts (goal_of_statement (stated statement.now))) }
 {
     let scope = grown(NOTHING, statement.declared.items());
     let made = next_objects(alloc, scope, statement.made.items())?;
@@ -77,8 +79,10 @@ pub fn trim(
     deriv: &Block,
 ) -> Result<Block, AllocError>
     requires { IsTrimmable (all_stated before.now) (stated statement.now) (script_of deriv.now) }
-    ensures trimmed { IfOk result (λ b. script_of b ≡ trimmed (all_stated before.now) (stated statement.now) (script_of deriv.now)) }
-    ensures certified { IfOk result (λ b. Certified (all_stated before.now) (stated statement.now) (script_of b)) }
+    ensures trimmed { IfOk result (λ b. script_of b
+        ≡ trimmed (all_stated before.now) (stated statement.now) (script_of deriv.now)) }
+    ensures certified { IfOk result
+        (λ b. Certified (all_stated before.now) (stated statement.now) (script_of b)) }
 {
     let mut flags = flags_of(alloc, before, statement, deriv)?;
     let declared = statement.declared.items();

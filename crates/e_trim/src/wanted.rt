@@ -2,7 +2,9 @@
 
 ghost use Rattle.std.specs.Prelude.{◌≡◌, [], ◌∷◌, ◌++◌, OnOk, IfOk};
 ghost use Rattle.e_literal.specs.Facts.{has};
-ghost use Rattle.e_literal.specs.declared.object.Sort.TheVariants.{Point as PointSort, Line as LineSort, Circle as CircleSort};
+ghost use Rattle.e_literal.specs.declared.object.Sort.TheVariants.{Point as PointSort};
+ghost use Rattle.e_literal.specs.declared.object.Sort.TheVariants.{Line as LineSort};
+ghost use Rattle.e_literal.specs.declared.object.Sort.TheVariants.{Circle as CircleSort};
 ghost use Rattle.e_literal.specs.Literal.{obj, objects_of_atom, objects_of_sum, objects_of_term};
 ghost use Rattle.e_literal.specs.Rename.{same_obj};
 ghost use Rattle.e_trim.specs.Looked.{no_wants, both, looked_up, needed, of_lit, objects_of_lits};
@@ -107,7 +109,8 @@ impl Wanted {
     /// The points of two sums are needed.
     #[tactic(auto, using(crate::proofs::Both::joining))]
     fn need_sums(&mut self, left: &[Mono], right: &[Mono]) -> Result<(), AllocError>
-        ensures { OnOk result (self.new ≡ both self.old (needed (objects_of_sum left.now ++ objects_of_sum right.now))) }
+        ensures { OnOk result (self.new
+            ≡ both self.old (needed (objects_of_sum left.now ++ objects_of_sum right.now))) }
     {
         self.need_sum(left)?;
         self.need_sum(right)

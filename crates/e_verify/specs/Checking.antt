@@ -21,17 +21,19 @@ line_in_state d x goal = line d d x.scope x.facts goal
 abbrev pub lines_in_state : List StatementView → Script → StepState → Goal → List Line
 lines_in_state before d x goal = lines before d d x.scope x.facts goal
 
--- the number of the script's first step that is not certified, or the number after the last, where the first has this number
+-- the number of the script's first step that is not certified, or the number after the last, where
+-- the first has this number
 abbrev pub verdict_at : List StatementView → Script → StepState → Goal → ℕ → Result ℕ ℕ
 verdict_at before d x goal first = first_failure (is_certified before) (lines_in_state before d x goal) first
 
--- a line is refused exactly at the first that is not certified; a stop out of memory may come anywhere
+-- a line is refused exactly at the first that is not certified; a stop out of memory may come
+-- anywhere
 abbrev pub RejectIs : Result ℕ ℕ → Reject → Type 0
 RejectIs verdict (Bad step) = verdict ≡ Err step
 RejectIs verdict NoMemory = Unit {0}
 
--- the literals of the script, of the facts and of the goal are well formed, at most 1,000 objects of each sort are in scope before each line,
--- and there are numbers for all lines
+-- the literals of the script, of the facts and of the goal are well formed, at most 1,000 objects
+-- of each sort are in scope before each line, and there are numbers for all lines
 pub record IsCheckable (before : List StatementView) (d : Script) (x : StepState) (goal : Goal) (first : ℕ) : Type 0 where
   pub written : IsTrue (is_written_well d)
   pub scopes : IsTrue (list_all (λ y. is_small y.scope) (lines_in_state before d x goal))
@@ -53,14 +55,16 @@ IsCheckableStep before step x first = AreCheckable before (step_script step) x f
 abbrev pub KeepsFirstFacts : StepState → StepState → Type 0
 KeepsFirstFacts x after = take (length x.facts) after.facts ≡ x.facts
 
--- the line before whatever comes is certified, or is not; where it is, that holds after it, and well-formed facts stay well formed
+-- the line before whatever comes is certified, or is not; where it is, that holds after it, and
+-- well-formed facts stay well formed
 pub record IsChecked (before : List StatementView) (whole : Script → Script) (x after : StepState) (certified : Bool) : Type 0 where
   pub test : (rest : Script) (goal : Goal) → certified ≡ is_certified before (line_in_state (whole rest) x goal)
   pub next : IsTrue certified → (rest : Script) (goal : Goal) → lines_in_state before (whole rest) x goal ≡ line_in_state (whole rest) x goal ∷ lines_in_state before rest after goal
   pub kept : IsTrue certified → KeepsFirstFacts x after
   pub formed : IsTrue certified → IsTrue (list_all is_well_formed x.facts) → IsTrue (list_all is_well_formed after.facts)
 
--- lines before a script have been checked where this held, and now that holds, and the next line has that number
+-- lines before a script have been checked where this held, and now that holds, and the next line
+-- has that number
 pub record AreVerified (before : List StatementView) (whole : Script → Script) (x : StepState) (first : ℕ) (after : StepState) (next : ℕ) : Type 0 where
   pub ready : (rest : Script) (goal : Goal) → IsCheckable before (whole rest) x goal first → IsCheckable before rest after goal next
   pub same : (rest : Script) (goal : Goal) → verdict_at before (whole rest) x goal first ≡ verdict_at before rest after goal next

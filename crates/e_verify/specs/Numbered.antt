@@ -1,4 +1,5 @@
--- A derivation whose certificates cite facts by literals, with the places of these facts for the literals.
+-- A derivation whose certificates cite facts by literals, with the places of these facts for the
+-- literals.
 use Rattle.std.specs.Prelude.{ℕ, List, [], ◌∷◌, map, Bool, true, false, not, ◌&&◌, ◌||◌, if◌then◌else◌, ℤ, neg_ℤ, Option, Some, None, slice_get, unwrap_or}
 use Rattle.std.specs.List.{list_all, position_or_len}
 use Rattle.std.specs.Option.{option_map}
@@ -39,7 +40,8 @@ use Rattle.e_deriv.specs.Steps.{needs}
 abbrev pub place_of_same : List Lit → Lit → ℕ
 place_of_same facts l = position_or_len (λ f. same_lit f l) facts
 
--- x - y and z - w have one coefficient at each of these terms, where a term that is 0 in itself does not count
+-- x - y and z - w have one coefficient at each of these terms, where a term that is 0 in itself
+-- does not count
 abbrev pub have_one_form_at : List Mono → List Mono → List Mono → List Mono → List Mono → Bool
 have_one_form_at x y z w ms = list_all (λ m. is_degenerate m.term || agree_at x y z w m.term) ms
 
@@ -132,7 +134,8 @@ against_with_places facts (MetricAgainst m) = MetricAgainst (record { sums = sum
 abbrev pub needs_of : List StatementView → Script → Scope → List Lit → Goal → List Lit
 needs_of before d s facts goal = needs before (line d d s facts goal)
 
--- The script where certificates have the places of facts, each among the facts before its own line; what holds before each line is as in its lines.
+-- The script where certificates have the places of facts, each among the facts before its own line;
+-- what holds before each line is as in its lines.
 unfoldable pub with_places : List StatementView → Script → Scope → List Lit → Goal → Script
 with_places before (Cite by rest) s facts goal = Cite by (with_places before rest s (joined facts by.lit) goal)
 with_places before (Hence lit cert rest) s facts goal = Hence lit (option_map (cert_with_places facts lit) cert) (with_places before rest s (joined facts lit) goal)

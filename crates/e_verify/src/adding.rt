@@ -1,6 +1,7 @@
 //! How rows are added up.
 
-ghost use Rattle.std.specs.Prelude.{◌≡◌, ◌≤◌, ◌^◌, ◌++◌, IsTrue, OnOk, pos, neg_ℤ, ◌+ℤ◌, ◌*ℤ◌, unsigned_abs, if◌then◌else◌};
+ghost use Rattle.std.specs.Prelude.{◌≡◌, ◌≤◌, ◌^◌, ◌++◌, IsTrue, OnOk, pos, neg_ℤ};
+ghost use Rattle.std.specs.Prelude.{◌+ℤ◌, ◌*ℤ◌, unsigned_abs, if◌then◌else◌};
 ghost use Rattle.e_literal.specs.Rows;
 ghost use Rattle.e_literal.specs.declared.object.Term.{Term as ATerm};
 ghost use Rattle.e_literal.specs.Rows.{coefficient, normal_summands};

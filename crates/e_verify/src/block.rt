@@ -1,12 +1,15 @@
 //! Checking a block line by line, with the blocks inside it.
 
-ghost use Rattle.std.specs.Prelude.{◌≡◌, ◌+◌, ◌<◌, ◌^◌, ℕ, List, IfOk, IfErr, OnOk, IsTrue, IsFalse, Ok};
+ghost use Rattle.std.specs.Prelude.{◌≡◌, ◌+◌, ◌<◌, ◌^◌, ℕ, List, IfOk};
+ghost use Rattle.std.specs.Prelude.{IfErr, OnOk, IsTrue, IsFalse, Ok};
 ghost use Rattle.std.specs.List.{list_all};
 ghost use Rattle.e_theorem.specs.Statements.{all_stated};
 ghost use Rattle.e_deriv.specs.Fitting.{is_small_statement};
 ghost use Rattle.e_deriv.specs.Script.{Claim, Superposed, script_of, step_script, close_script};
 ghost use Rattle.e_verify.specs.declared.reject.Reject.TheVariants.{Bad as IsBad};
-ghost use Rattle.e_verify.specs.Checking.{AreCheckable, IsCheckable, IsCheckableStep, AreVerified, KeepsFirstFacts, LinesReject, RejectIs, StepRejects, verdict_at};
+ghost use Rattle.e_verify.specs.Checking.{AreCheckable, IsCheckable, IsCheckableStep};
+ghost use Rattle.e_verify.specs.Checking.{AreVerified, KeepsFirstFacts, LinesReject};
+ghost use Rattle.e_verify.specs.Checking.{RejectIs, StepRejects, verdict_at};
 ghost use Rattle.e_verify.specs.inner.StepStates.{block_goal};
 
 use crate::closes::{contradiction, qed};

@@ -2,7 +2,8 @@
 
 ghost use Rattle.std.specs.Prelude.{◌≡◌, IfOk, OnOk};
 ghost use Rattle.e_literal.specs.Facts.{joined_all};
-ghost use Rattle.e_deriv.specs.Script.{Script, Claim, Superposed, Cases, script_of, step_script, close_script};
+ghost use Rattle.e_deriv.specs.Script.{Script, Claim, Superposed, Cases};
+ghost use Rattle.e_deriv.specs.Script.{script_of, step_script, close_script};
 ghost use Rattle.e_verify.specs.inner.StepStates.{restored, with_facts};
 
 use crate::step_state::{Checkpoint, StepState};

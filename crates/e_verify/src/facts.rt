@@ -3,7 +3,8 @@
 ghost use Rattle.std.specs.Prelude.{◌≡◌, ◌≤◌, [], take, length, slice_get, OnOk};
 ghost use Rattle.std.specs.List.{list_any, position};
 ghost use Rattle.std.specs.Option.{option_copied};
-ghost use Rattle.e_literal.specs.Facts.{has as is_fact, has_all, joined, joined_all, are_apart as say_apart, are_equal_points};
+ghost use Rattle.e_literal.specs.Facts.{has as is_fact, has_all, joined, joined_all};
+ghost use Rattle.e_literal.specs.Facts.{are_apart as say_apart, are_equal_points};
 ghost use Rattle.e_literal.specs.Literal.{negation};
 ghost use Rattle.e_literal.specs.Same.{same_lit, term_eq};
 ghost use Rattle.e_verify.specs.inner.Fingerprint.{atom_fingerprint};

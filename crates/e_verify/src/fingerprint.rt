@@ -3,7 +3,8 @@
 
 ghost use Rattle.std.specs.Prelude.{◌≡◌, ◌*◌, ◌<◌, ◌≤◌, ◌^◌};
 ghost use Rattle.e_literal.specs.Solution.{carried};
-ghost use Rattle.e_verify.specs.inner.Fingerprint.{square_residue, term_number, sum_weight, packed, atom_fingerprint};
+ghost use Rattle.e_verify.specs.inner.Fingerprint.{square_residue, term_number};
+ghost use Rattle.e_verify.specs.inner.Fingerprint.{sum_weight, packed, atom_fingerprint};
 
 use crate::key::placed;
 use e_literal::{Atom, Lit, Mono, Term, canonical, is_degenerate};

@@ -9,8 +9,11 @@ ghost use Rattle.e_theorem.specs.Statements.{stated, all_stated};
 ghost use Rattle.e_clause.specs.declared.cert.Version.TheVariants as version;
 ghost use Rattle.e_deriv.specs.Certified.{Certified};
 ghost use Rattle.e_deriv.specs.Fitting.{is_small, is_small_statement};
-ghost use Rattle.e_deriv.specs.declared.block.Close.TheVariants.{Contradiction as ContradictionClose};
-ghost use Rattle.e_deriv.specs.Script.{Cite, Hence, Make, Apply, Claim, Superposed, Qed, script_of, step_script, close_script, erased};
+ghost use Rattle.e_deriv.specs.declared.block.Close.TheVariants.{
+  Contradiction as ContradictionClose,
+};
+ghost use Rattle.e_deriv.specs.Script.{Cite, Hence, Make, Apply, Claim, Superposed, Qed};
+ghost use Rattle.e_deriv.specs.Script.{script_of, step_script, close_script, erased};
 ghost use Rattle.e_deriv.specs.Versions.{has_certs_of};
 ghost use Rattle.e_verify.specs.Numbered;
 ghost use Rattle.e_verify.specs.Numbered.{derivation_with_places};

@@ -1,6 +1,7 @@
 //! Steps without a block inside: whether one is certified, and what holds after it.
 
-ghost use Rattle.std.specs.Prelude.{◌≡◌, ◌&&◌, ℕ, List, IfOk, IsTrue, Some, None, if◌then◌else◌, true};
+ghost use Rattle.std.specs.Prelude.{◌≡◌, ◌&&◌, ℕ, List, IfOk, IsTrue};
+ghost use Rattle.std.specs.Prelude.{Some, None, if◌then◌else◌, true};
 ghost use Rattle.std.specs.List.{list_all};
 ghost use Rattle.std.specs.Option.{option_map, option_map_or};
 ghost use Rattle.e_literal.specs.Literal.{all_in_scope};

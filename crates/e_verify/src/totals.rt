@@ -1,6 +1,7 @@
 //! Sums of forms, term by term. A term is kept as its key, so that two are compared at once.
 
-ghost use Rattle.std.specs.Prelude.{◌≡◌, ◌≤◌, ◌<◌, ◌+◌, ◌^◌, ◌↔◌, IsTrue, OnOk, [], ◌∷◌, pos, ◌+ℤ◌, ◌*ℤ◌, unsigned_abs, length};
+ghost use Rattle.std.specs.Prelude.{◌≡◌, ◌≤◌, ◌<◌, ◌+◌, ◌^◌, ◌↔◌, IsTrue, OnOk};
+ghost use Rattle.std.specs.Prelude.{[], ◌∷◌, pos, ◌+ℤ◌, ◌*ℤ◌, unsigned_abs, length};
 ghost use Rattle.std.specs.List.{list_all};
 ghost use Rattle.e_literal.specs.declared.object.Term.{Term as ATerm};
 ghost use Rattle.e_literal.specs.Rows.{coefficient, normal_summands, times, plus};

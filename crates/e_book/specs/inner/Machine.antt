@@ -158,14 +158,15 @@ TakesWords known old number words (Ok None) new = (c : Coming) × (line_step kno
 TakesWords known old number words (Ok (Some i)) new = (c : Coming) × (line_step known old words ≡ Ok c) × (is_done c ≡ true) × (view_of i ≡ item_of c) × (new ≡ None)
 TakesWords known old number words (Err f) new = BookFails f (put_at number (line_step known old words))
 
--- what a line makes of it: to read on from here through the line is to read on from there; or the line ends the theorem or the definition;
--- or it is the first with a fault
+-- what a line makes of it: to read on from here through the line is to read on from there; or the
+-- line ends the theorem or the definition; or it is the first with a fault
 abbrev pub TakesLine : Known → Option Coming → LineView → Result (Option Item) BookFault → Option Coming → Type 0
 TakesLine known old l (Ok None) new = (last : ℕ) (more : Rest) → item_from known last old (Ok l ∷ more) ≡ item_from known last new more
 TakesLine known old l (Ok (Some i)) new = (new ≡ None) × ((last : ℕ) (more : Rest) → item_from known last old (Ok l ∷ more) ≡ Ok (Some (view_of i, more)))
 TakesLine known old l (Err f) new = (last : ℕ) (more : Rest) → BookFails f (item_from known last old (Ok l ∷ more))
 
--- what the lines that come make of it: all are taken, and none has a fault; or a theorem or a definition ends, and these are left
+-- what the lines that come make of it: all are taken, and none has a fault; or a theorem or a
+-- definition ends, and these are left
 abbrev pub ReadsOn : Known → Option Coming → Rest → Result (Option Item) BookFault → Option Coming → Rest → Type 0
 ReadsOn known old lines (Ok None) new left =
     (left ≡ []) × HaveNoFault lines × ((last : ℕ) (more : Rest) → item_from known last old (lines ++ more) ≡ item_from known last new more)

@@ -16,7 +16,8 @@ use Rattle.e_licence.specs.Contexts.{Basis}
 
 -- ---- arguments
 
--- the argument for the object: the written one, or that with the next number; where no number is left, that which comes next in a scope
+-- the argument for the object: the written one, or that with the next number; where no number is
+-- left, that which comes next in a scope
 abbrev pub argument_for : Scope → Obj → Option Obj → List ℕ → Obj
 argument_for missing o (Some p) c = p
 argument_for missing o None [] = obj o.sort (count_of missing o.sort)

@@ -1,4 +1,5 @@
--- What a sweep over choices answers: those that are found, as lists of numbers, each from the first blank on.
+-- What a sweep over choices answers: those that are found, as lists of numbers, each from the first
+-- blank on.
 use Rattle.std.specs.Prelude.{◌≡◌, ℕ, ◌≤◌, ◌<◌, ◌⊎◌, List, [], ◌∷◌, ◌++◌, length}
 use Rattle.e_transfer.specs.declared.walk.Span.{Span}
 use Rattle.e_transfer.specs.Choice.{FitsSpans, Starts, ComesBefore, EachKept}
@@ -26,14 +27,16 @@ IsAbove cs d = Each (λ c. ComesBefore c d) cs
 
 -- ---- what is found
 
--- the choice begins with these numbers and goes on with one of each span, and each of its parts from there on is kept
+-- the choice begins with these numbers and goes on with one of each span, and each of its parts
+-- from there on is kept
 pub record IsKeptWhole (kept : List ℕ → Type 0) (before : List ℕ) (spans : List Span) (c : List ℕ) : Type 0 where
   pub rest : List ℕ
   pub is : c ≡ before ++ rest
   pub fits : FitsSpans spans rest
   pub each : EachKept kept before rest
 
--- all choices that begin with these numbers were tried: the kept ones in order, and no wanted one is missing
+-- all choices that begin with these numbers were tried: the kept ones in order, and no wanted one
+-- is missing
 pub record AreAll (kept wanted : List ℕ → Type 0) (before : List ℕ) (spans : List Span) (cs : List (List ℕ)) : Type 0 where
   pub whole : Each (IsKeptWhole kept before spans) cs
   pub ascending : AreAscending cs
@@ -48,7 +51,8 @@ pub record AreFirstOf (kept wanted : List ℕ → Type 0) (before : List ℕ) (s
   pub next_whole : IsKeptWhole kept before spans next
   pub next_above : IsAbove cs next
 
--- what a sweep answers: all were tried, and those that are kept were found; or one more than the most was; or a part is too wide
+-- what a sweep answers: all were tried, and those that are kept were found; or one more than the
+-- most was; or a part is too wide
 abbrev pub Sweeps :
     (List ℕ → Type 0) → (List ℕ → ℕ → Type 0) → (List ℕ → Type 0) → List Span → ℕ → List ℕ → List ℕ → List (List ℕ) → List (List ℕ) → Swept → Type 0
 Sweeps kept wide wanted spans most before after old new sweep.Done =
@@ -65,7 +69,8 @@ FoundIs most c old new (sweep.TooWide w) = ⊥
 
 -- ---- a sweep over the numbers of one span
 
--- the choice has a number of the span, and below this one, after these, and is a kept one from there on
+-- the choice has a number of the span, and below this one, after these, and is a kept one from
+-- there on
 pub record IsKeptUnder (kept : List ℕ → Type 0) (before : List ℕ) (span : Span) (rest : List Span) (v : ℕ) (c : List ℕ) : Type 0 where
   pub number : ℕ
   pub low : span.from ≤ number

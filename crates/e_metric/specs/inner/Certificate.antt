@@ -42,7 +42,8 @@ abbrev pub leasts : (Term → ℤ) → List Term → List (ℤ × RowName)
 leasts left [] = []
 leasts left (t ∷ ts) = if int_lt (left (canonical t)) (pos 0) then (neg_ℤ (left (canonical t)), Least t) ∷ leasts left ts else leasts left ts
 
--- the rows with their multipliers, and what brings each term to 0, where the terms are weighed by these weights
+-- the rows with their multipliers, and what brings each term to 0, where the terms are weighed by
+-- these weights
 abbrev pub certificate_sum : List RowName → List GivenRow → List ℤ → List ℤ → List Term → List (ℤ × RowName)
 certificate_sum names rows multipliers weights terms = named_multipliers names multipliers ++ leasts (total (weighed rows weights)) terms
 
@@ -50,7 +51,8 @@ certificate_sum names rows multipliers weights terms = named_multipliers names m
 abbrev pub negated_place : List ℤ → ℕ → List ℤ
 negated_place ms k = set ms k (neg_ℤ (get_or ms k (pos 0)))
 
--- one sum; or two, in which the row that differs is named `above` and `below`, and counts the other way in the second
+-- one sum; or two, in which the row that differs is named `above` and `below`, and counts the other
+-- way in the second
 abbrev pub certificate_sums : List RowName → List GivenRow → List Term → Absurdity → Sums
 certificate_sums names rows terms (One multipliers) = OneSum (certificate_sum names rows multipliers.items multipliers.items terms)
 certificate_sums names rows terms (Two row above below) =

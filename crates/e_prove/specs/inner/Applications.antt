@@ -20,16 +20,16 @@ pub record LitsFitAt (t : StatementView) (args : List Obj) (x : Basis) : Type 0 
   pub needs : IsTrue (are_well_formed_in x.scope (needs_of_use t args x.scope))
   pub after : IsTrue (are_limited_facts (grown x.scope t.made) (joined_all x.facts (gives_of_use t args x.scope)))
 
--- the arguments fit the statement, whatever their blanks are filled with, and at each choice the literals are good; there are
--- numbers for all objects
+-- the arguments fit the statement, whatever their blanks are filled with, and at each choice the
+-- literals are good; there are numbers for all objects
 pub record CanApply (t : StatementView) (pattern : List (Option Obj)) (x : Basis) : Type 0 where
   pub fits : IsTrue (is_pattern t x.scope pattern)
   pub statement : IsTrue (is_small_statement t)
   pub scope : IsTrue (is_small x.scope)
   pub lits : (args : List Obj) → IsTrue (is_choice t x.scope pattern args) → LitsFitAt t args x
 
--- the arguments are the least good choice, each given literal has its certificate there, which names literals that are well
--- formed, and these are the shown ones
+-- the arguments are the least good choice, each given literal has its certificate there, which
+-- names literals that are well formed, and these are the shown ones
 pub record IsUse (t : StatementView) (pattern : List (Option Obj)) (x : Basis) (u : Use) : Type 0 where
   pub least : IsLeastChoice t x.scope x.facts pattern u.args
   pub certified : IsTrue (certify_all x.scope x.facts (needs_of_use t u.args x.scope) u.certs.items)

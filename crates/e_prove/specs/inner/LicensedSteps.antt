@@ -31,9 +31,9 @@ line_at script filled x goal = line script filled x.scope x.facts goal
 abbrev pub has_form : List StatementView → Line → Bool
 has_form before y = form_fits before y y.here
 
--- where the step has its form it is licensed, with its blanks filled as in the derived one, and the derived one is certified;
--- without certificates the derived one is the step with its blanks filled; its certificates name literals that are well formed;
--- this holds after
+-- where the step has its form it is licensed, with its blanks filled as in the derived one, and the
+-- derived one is certified; without certificates the derived one is the step with its blanks
+-- filled; its certificates name literals that are well formed; this holds after
 pub record IsLicensedStep (before : List StatementView) (step : Step) (x : StepState) (derived : Step) (after : StepState) : Type 0 where
   pub licensed : (rest more : Script) (goal : Goal) →
       IsTrue (has_form before (line_at (step_script step rest) (step_script derived more) x.context goal)) →
@@ -57,8 +57,8 @@ pub record IsLicensedStep (before : List StatementView) (step : Step) (x : StepS
 abbrev pub IsStopOfStep : List StatementView → Step → StepState → StepStop → Type 0
 IsStopOfStep before step x h = (rest filled : Script) (goal : Goal) → StepStopsAt before (line_at (step_script step rest) filled x.context goal) h
 
--- where this holds the close is licensed, and the derived one certified, by certificates that name literals that are well formed;
--- both are one without certificates
+-- where this holds the close is licensed, and the derived one certified, by certificates that name
+-- literals that are well formed; both are one without certificates
 pub record IsLicensedClose (before : List StatementView) (close : Close) (x : Basis) (goal : Goal) (derived : Close) : Type 0 where
   pub licensed : AllLicensed before (lines_at before (close_script close) (close_script derived) x goal)
   pub certified : IsTrue (list_all (is_certified before) (lines_at before (close_script derived) (close_script derived) x goal))

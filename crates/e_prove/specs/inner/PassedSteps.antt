@@ -27,8 +27,8 @@ use Rattle.e_prove.specs.inner.StepStates.{after_literal}
 use Rattle.e_prove.specs.inner.StopsOfSteps.{StepStopsAt}
 use Rattle.e_prove.specs.inner.LicensedSteps.{lines_at, has_form}
 
--- each step of the script has its form in its place, and its literals fit, however blanks are filled; there are numbers for
--- all objects
+-- each step of the script has its form in its place, and its literals fit, however blanks are
+-- filled; there are numbers for all objects
 pub record IsReadyFor (before : List StatementView) (script : Script) (x : StepState) (goal : Goal) : Type 0 where
   pub forms : IsTrue (list_all (has_form before) (lines_at before script script x.context goal))
   pub lits : (filled : Script) → LitsFit before (lines_at before script filled x.context goal)
@@ -46,8 +46,9 @@ pub record AreReadySteps (before : List StatementView) (whole : Script → Scrip
 abbrev pub IsReadyStep : List StatementView → Step → StepState → ℕ → Type 0
 IsReadyStep before step x first = AreReadySteps before (step_script step) x first
 
--- the script is licensed, with its blanks filled as in the derived one, and the derived one is certified; without certificates
--- that is the script with its blanks filled; its certificates name literals that are well formed
+-- the script is licensed, with its blanks filled as in the derived one, and the derived one is
+-- certified; without certificates that is the script with its blanks filled; its certificates name
+-- literals that are well formed
 pub record IsDerivedFrom (before : List StatementView) (script : Script) (x : StepState) (goal : Goal) (derived : Script) : Type 0 where
   pub licensed : AllLicensed before (lines_at before script derived x.context goal)
   pub certified : IsTrue (list_all (is_certified before) (lines_at before derived derived x.context goal))
@@ -60,7 +61,8 @@ KeepsHeld x after = after.context.held ≡ x.context.held
 
 -- ---- stops
 
--- what is found at a step: that licensing stops so, or that these objects are in scope before it and these are the facts
+-- what is found at a step: that licensing stops so, or that these objects are in scope before it
+-- and these are the facts
 pub data Arrival : Type 0 where
   Halts : (h : StepStop) → Arrival
   Stands : (scope : Scope) (facts : List Lit) → Arrival
@@ -69,8 +71,8 @@ abbrev pub ArrivesAt : List StatementView → Line → Arrival → Type 0
 ArrivesAt before y (Halts h) = StepStopsAt before y h
 ArrivesAt before y (Stands scope facts) = (y.scope ≡ scope) × (y.facts ≡ facts)
 
--- it is found at one of the steps, before which all are licensed; the first step has this number and this one that, and these are
--- the names in scope before it
+-- it is found at one of the steps, before which all are licensed; the first step has this number
+-- and this one that, and these are the names in scope before it
 pub record IsReachedIn (before : List StatementView) (xs : List Line) (ns : List Names) (first : ℕ) (a : Arrival) (n : ℕ) (names : Names) : Type 0 where
   pub place : ℕ
   pub number : n ≡ first + place
@@ -101,8 +103,9 @@ pub record StopsWithin (before : List StatementView) (script : Script) (x : Step
 
 -- ---- what has been licensed
 
--- Steps before a script have been licensed where this held, and now that holds, and the next step has that number: whatever comes
--- after them, what is derived from it is derived from the whole, and what is found in it, or a stop in it, is found in the whole.
+-- Steps before a script have been licensed where this held, and now that holds, and the next step
+-- has that number: whatever comes after them, what is derived from it is derived from the whole,
+-- and what is found in it, or a stop in it, is found in the whole.
 pub record IsPassed (before : List StatementView) (whole : Script → Script) (x : StepState) (first : ℕ) (derived : Script → Script) (after : StepState) (next : ℕ) : Type 0 where
   pub ready : (rest : Script) (goal : Goal) → IsReadyFor before (whole rest) x goal → IsReadyFor before rest after goal
   pub derives : (rest more : Script) (goal : Goal) → IsReadyFor before (whole rest) x goal → IsDerivedFrom before rest after goal more → IsDerivedFrom before (whole rest) x goal (derived more)

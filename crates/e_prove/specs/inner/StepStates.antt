@@ -18,7 +18,8 @@ use Rattle.e_licence.specs.Contexts.{State, state_of}
 use Rattle.e_prove.specs.declared.step_state.StepState.{StepState}
 use Rattle.e_prove.specs.declared.close.Goal.{Goal as CodeGoal}
 
--- before the first step of a statement's proof, where these are the names of its declared and made objects
+-- before the first step of a statement's proof, where these are the names of its declared and made
+-- objects
 abbrev pub start_of : StatementView → Names → StepState
 start_of t names = record { context = record { scope = scope_of t; facts = facts_of_statement t; held = [] }; names = declared_names t names }
 

@@ -28,7 +28,8 @@ StepStopsAt before x (Lacks wanted values) = LineLacks before x x.here wanted ×
 StepStopsAt before x (TooWide wanted width) = IsTooWide before x x.here wanted width
 StepStopsAt before x NoMemory = Unit {0}
 
--- the first of the literals that is not allowed is lacked, or one of them is too wide; out of memory is free
+-- the first of the literals that is not allowed is lacked, or one of them is too wide; out of
+-- memory is free
 abbrev pub StepStopsAmong : Basis → List Lit → StepStop → Type 0
 StepStopsAmong x ls (Lacks (Literal l) values) = IsFirstNotAllowed x.scope x.facts ls l × LiteralIsShown x.facts l values
 StepStopsAmong x ls (TooWide (Literal l) width) = Contains ls l × IsTooWideLit x.scope x.facts l width
@@ -38,7 +39,8 @@ StepStopsAmong x ls (TooWide Match width) = ⊥
 StepStopsAmong x ls (TooWide Contradiction width) = ⊥
 StepStopsAmong x ls NoMemory = Unit {0}
 
--- no choice for the blanks is good, or one that is not above the least good one is too wide; out of memory is free
+-- no choice for the blanks is good, or one that is not above the least good one is too wide; out of
+-- memory is free
 abbrev pub StepStopsFilling : StatementView → Basis → List (Option Obj) → StepStop → Type 0
 StepStopsFilling t x pattern (Lacks Match values) = NoneIsAllowed t x.scope x.facts pattern × (values ≡ None)
 StepStopsFilling t x pattern (TooWide Match width) = SomeChoiceIsTooWide t x.scope x.facts pattern width
@@ -48,7 +50,8 @@ StepStopsFilling t x pattern (TooWide (Literal l) width) = ⊥
 StepStopsFilling t x pattern (TooWide Contradiction width) = ⊥
 StepStopsFilling t x pattern NoMemory = Unit {0}
 
--- why an application of the statement stops: without blanks at one of its given literals, with blanks at their filling
+-- why an application of the statement stops: without blanks at one of its given literals, with
+-- blanks at their filling
 abbrev pub StepStopsApplying : StatementView → Basis → List (Option Obj) → StepStop → Type 0
 StepStopsApplying t x pattern h = MatchBool (has_no_blank pattern) (StepStopsAmong x (needs_of_use t (written pattern) x.scope) h) (StepStopsFilling t x pattern h)
 
@@ -57,7 +60,8 @@ abbrev pub match_stop : StepStop → StepStop
 match_stop (TooWide wanted width) = TooWide Match width
 match_stop h = h
 
--- what an answer on a contradiction makes of its close: the close with its certificate, or why it stops
+-- what an answer on a contradiction makes of its close: the close with its certificate, or why it
+-- stops
 abbrev pub contradiction_by : Refuted → Result Close StepStop
 contradiction_by (refuted.Yes against) = Ok (ContradictionClose (Some against))
 contradiction_by (refuted.No values) = Err (Lacks Contradiction (Some values))

@@ -9,7 +9,8 @@ use Rattle.e_run.specs.Answers.{Derived, AllDerived, theorems_of, blocks_of, IsA
 use Rattle.e_run.specs.inner.BookResults.{SourceResultIs}
 use Rattle.e_run.specs.Taken.{Taken, HaveNone, OfWholeLines}
 
--- the blocks of all theorems that these lines have were written, each with a derivation from those before it
+-- the blocks of all theorems that these lines have were written, each with a derivation from those
+-- before it
 pub record AllBlocks (lines : Rest) (old new : Option (List ℕ)) : Type 0 where
   pub derived : List Derived
   pub sound : AllDerived [] derived

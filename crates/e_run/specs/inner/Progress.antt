@@ -23,7 +23,8 @@ use Rattle.e_run.specs.inner.BookResults.{BookResultIs, BlocksAre}
 
 -- ---- a book by its lines
 
--- the theorems so far are the first of these lines, each with its derivation, and their blocks were written; then these lines are left
+-- the theorems so far are the first of these lines, each with its derivation, and their blocks were
+-- written; then these lines are left
 pub record History (lines : Rest) (old : Option (List ℕ)) (known : Known) (rest : Rest) (new : Option (List ℕ)) (steps : ℕ) : Type 0 where
   pub derived : List Derived
   pub sound : AllDerived [] derived
@@ -45,14 +46,16 @@ pub record IsBook (b : Book) : Type 0 where
   pub coming : IfSome b.reading.coming (FitsComing b.known)
   pub begun : IsBegun b.known b.reading.coming
 
--- By what comes: all lines of the book, and those that remain. Whatever comes, the theorems so far are the first of all lines, and to
--- read the next one from its first line is to read on from what has come of it.
+-- By what comes: all lines of the book, and those that remain. Whatever comes, the theorems so far
+-- are the first of all lines, and to read the next one from its first line is to read on from what
+-- has come of it.
 pub record Reaches (all remaining : Rest → Rest) (old : Option (List ℕ)) (b : Book) (new : Option (List ℕ)) : Type 0 where
   pub tail : Rest
   pub history : (more : Rest) → History (all more) old b.known (tail ++ remaining more) new b.steps
   pub reads : (last : ℕ) (more : Rest) → item_from b.known last None (tail ++ remaining more) ≡ item_from b.known last b.reading.coming (remaining more)
 
--- the next theorem or definition is taken, and these lines are left; or the blocks end or break off at it
+-- the next theorem or definition is taken, and these lines are left; or the blocks end or break off
+-- at it
 abbrev pub Handles : Rest → Option (List ℕ) → Rest → Result (Option BookResult) RunError → Book → Option (List ℕ) → Type 0
 Handles lines old after (Ok None) b new = History lines old b.known after new b.steps
 Handles lines old after (Ok (Some book_result)) b new = BookResultIs lines old new book_result
@@ -77,8 +80,8 @@ result_at line (Some d) theorems steps = Faulty (Unended line)
 
 -- ---- a book by its bytes
 
--- These bytes were read. Those that are taken are lines with their ends, and none has a fault; so whatever bytes come, the lines of the
--- book begin with these.
+-- These bytes were read. Those that are taken are lines with their ends, and none has a fault; so
+-- whatever bytes come, the lines of the book begin with these.
 pub record IsReadUpTo (read : List ℕ) (old : Option (List ℕ)) (b : Book) (u : Untaken) (new : Option (List ℕ)) : Type 0 where
   pub taken : List ℕ
   pub all : read ≡ taken ++ u.bytes.items
@@ -88,7 +91,8 @@ pub record IsReadUpTo (read : List ℕ) (old : Option (List ℕ)) (b : Book) (u 
   pub before : u.before ≡ length taken
   pub reaches : Reaches (λ more. lines_of_book taken ++ more) (λ more. more) old b new
 
--- all these bytes were read, and the book goes on; or its blocks end or break off at them, whatever bytes come
+-- all these bytes were read, and the book goes on; or its blocks end or break off at them, whatever
+-- bytes come
 abbrev pub PieceTakes : List ℕ → Option (List ℕ) → Result (Option BookResult) RunError → Book → Untaken → Option (List ℕ) → Type 0
 PieceTakes read old (Ok None) b u new = IsReadUpTo read old b u new
 PieceTakes read old (Ok (Some book_result)) b u new = (left : List ℕ) → BookResultIs (lines_of_book (read ++ left)) old new book_result

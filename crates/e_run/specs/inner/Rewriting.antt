@@ -75,7 +75,8 @@ WroteOf job Are old new = (ts : List TheoremView) × Are ts × Grew old new (blo
 abbrev pub WroteFrontOf : Job → (List TheoremView → Type 0) → Option (List ℕ) → Option (List ℕ) → Type 0
 WroteFrontOf job Are old new = (ts : List TheoremView) × Are ts × GrewByFront old new (blocks_of job [] ts)
 
--- what was written with a result: where the lines end so, what is due of the theorems before their end, else of some first ones
+-- what was written with a result: where the lines end so, what is due of the theorems before their
+-- end, else of some first ones
 abbrev pub WroteTheorems : Job → (List TheoremView → Judgement → Type 0) → (List TheoremView → Type 0) → Option (List ℕ) → Option (List ℕ) → Result Judgement RunError → Type 0
 WroteTheorems job End Are old new (Ok j) = WroteOf job (λ ts. End ts j × AreOfSecond job [] ts) old new
 WroteTheorems job End Are old new (Err NoMemory) = WroteOf job Are old new
@@ -98,7 +99,8 @@ TheoremsWritten job v last lines old new result = WroteTheorems job (ComeAll v l
 abbrev pub BlocksWritten : Job → List ℕ → Option (List ℕ) → Option (List ℕ) → Result Judgement RunError → Type 0
 BlocksWritten job text old new result = WroteTheorems job (EndsAfter job (lines_of_text text)) (AreFirstTheorems job (lines_of_text text)) old new result
 
--- theorems that are certified one after another, and what is due of them was written; these lines are left
+-- theorems that are certified one after another, and what is due of them was written; these lines
+-- are left
 pub record Progress (job : Job) (v : Version) (last : ℕ) (lines : Rest) (old new : Option (List ℕ)) (known : List TitledStatement) (rest : Rest) : Type 0 where
   pub theorems : List TheoremView
   pub passes : Passes v last [] lines theorems known rest

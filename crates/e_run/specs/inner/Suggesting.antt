@@ -66,7 +66,8 @@ IsListed names scope facts known out (listed.Full n) =
     (lines : List (List ℕ)) × (out ≡ text_of lines) × (n ≡ length lines) × (n ≤ 1000) × Lists names scope facts known 1000 lines true
 IsListed names scope facts known out (listed.TooWide w) = SomeIsTooWide scope facts known w
 
--- what is known where the theorems before the one at this place were asked, and these lines are of them
+-- what is known where the theorems before the one at this place were asked, and these lines are of
+-- them
 pub record IsListedTo (names : Names) (scope : Scope) (facts : List Lit) (known left : List TitledStatement) (out : List ℕ) (count : ℕ) : Type 0 where
   pub lines : List (List ℕ)
   pub bytes : out ≡ text_of lines
@@ -92,7 +93,8 @@ pub record IsBookAnswer (lines : Rest) (title : List ℕ) (step : ℕ) (answer :
 
 -- ---- on the way
 
--- theorems and definitions of these lines were taken, no theorem has the title, and these lines are left
+-- theorems and definitions of these lines were taken, no theorem has the title, and these lines are
+-- left
 pub record IsOnWay (lines : Rest) (title : List ℕ) (known : Known) (rest : Rest) : Type 0 where
   pub theorems : List TheoremView
   pub begins : Begins lines theorems known rest

@@ -3,7 +3,8 @@ use Rattle.std.specs.Prelude.{ℕ, zero, suc, cond, eqb, Bool, true, ℤ, pos, L
 use Rattle.e_literal.specs.Rows.{Row}
 use Rattle.e_simplex.specs.Naming.{keeps}
 
--- the weights from n on, for the rows that do not say `not 0`; of the others the one counted as k has the weight `last`, and the rest 0
+-- the weights from n on, for the rows that do not say `not 0`; of the others the one counted as k
+-- has the weight `last`, and the rest 0
 abbrev pub row_multipliers : List Row → List ℤ → ℕ → ℕ → ℤ → List ℤ
 row_multipliers [] ws n k last = []
 row_multipliers (r ∷ rs) ws n zero last = cond (keeps true r.says) (pos 0 ∷ row_multipliers rs ws n zero last) (get_or ws n (pos 0) ∷ row_multipliers rs ws (suc n) zero last)

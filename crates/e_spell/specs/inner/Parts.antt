@@ -163,7 +163,8 @@ abbrev pub role_words : Role → Sort → List ℕ
 role_words Declared s = sort_word s
 role_words Made s = codes "made" ++ 32 ∷ sort_word s
 
--- what comes before the name of an object, by the sort of the object before it: nothing on a line of that sort
+-- what comes before the name of an object, by the sort of the object before it: nothing on a line
+-- of that sort
 abbrev pub opening : Role → Option Sort → Sort → List ℕ
 opening role None s = role_words role s
 opening role (Some t) s = if same_sort t s then [] else 10 ∷ role_words role s

@@ -19,11 +19,13 @@ binding_at bindings v = slice_index_or bindings v binding.Free
 abbrev pub BindingsAgree : (ℕ → ℕ) → List Binding → Type 0
 BindingsAgree f bindings = (v : ℕ) → IsTrue (binding_agrees f v (binding_at bindings v))
 
--- numbers that agree with the bindings and the equation agree with the new bindings, and are not excluded
+-- numbers that agree with the bindings and the equation agree with the new bindings, and are not
+-- excluded
 abbrev pub TakesIn : List Binding → List Binding → Equation → Bool → Type 0
 TakesIn old new b result = (f : ℕ → ℕ) → BindingsAgree f old → IsTrue (agrees f b) → IsTrue result × BindingsAgree f new
 
--- numbers that agree with the equations agree with the bindings, of which there is one for each variable; or no numbers do
+-- numbers that agree with the equations agree with the bindings, of which there is one for each
+-- variable; or no numbers do
 abbrev pub BindingsAre : ℕ → List Equation → Option (List Binding) → Type 0
 BindingsAre total equations (Some bindings) = (length bindings ≡ total) × ((f : ℕ → ℕ) → IsTrue (all_agree f equations) → BindingsAgree f bindings)
 BindingsAre total equations None = (f : ℕ → ℕ) → IsTrue (all_agree f equations) → ⊥

@@ -1,4 +1,5 @@
--- What a goal says of the variables of a rule: each is named by its place among the rule's arguments.
+-- What a goal says of the variables of a rule: each is named by its place among the rule's
+-- arguments.
 use Rattle.std.specs.Prelude.{ℕ, ◌+◌, List, [], ◌∷◌, Bool, ◌==◌, Option, Some, None}
 use Rattle.std.specs.List.{list_all, list_any}
 use Rattle.e_literal.specs.declared.literal.Atom.{Atom}

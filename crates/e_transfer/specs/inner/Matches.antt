@@ -74,7 +74,8 @@ all_cancel x y ms = list_all (λ m. cancels x y m.term) ms
 abbrev pub sum_under : (ℕ → ℕ) → List Mono → List Mono
 sum_under f x = map (mono_at f) x
 
--- x - y over variables has the normal form of z - w, or of its negative, only where the variables are as one of the matches says
+-- x - y over variables has the normal form of z - w, or of its negative, only where the variables
+-- are as one of the matches says
 abbrev pub CoverSums : List Mono → List Mono → List Mono → List Mono → List (List Equation) → Type 0
 CoverSums x y z w matches =
     (f : ℕ → ℕ) → IsTrue (agree (sum_under f x) (sum_under f y) z w || agree (sum_under f x) (sum_under f y) w z) → IsTrue (some_agree f matches)

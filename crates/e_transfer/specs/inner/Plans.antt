@@ -52,8 +52,8 @@ variable_span count _ = record { from = 0; to = count }
 abbrev pub plan_spans : Row → Scope → List Binding → List ℕ → List Span
 plan_spans r scope bindings order = map (λ v. variable_span (count_of scope (variable_sort r v)) (binding_at bindings v)) order
 
--- the last places are those of the literals of the clause, the places are those of the spans, and each instance over the
--- scope whose arguments agree with the bindings is that of some choice
+-- the last places are those of the literals of the clause, the places are those of the spans, and
+-- each instance over the scope whose arguments agree with the bindings is that of some choice
 pub record IsPlanFor (r : Row) (scope : Scope) (bindings : List Binding) (plan : Plan) : Type 0 where
   pub ready_at : plan.ready_at.items ≡ ready_at_of r plan.positions.items
   pub below : IsTrue (list_all (λ p. nat_lt p (length plan.spans.items)) plan.positions.items)

@@ -11,7 +11,8 @@ use Rattle.e_transfer.specs.declared.query.Strength.{Strength}
 use Rattle.e_transfer.specs.inner.PartsOfChoices.{chosen_arguments, ready_at_of}
 use Rattle.e_transfer.specs.GivenGoals.{GivesGoal, IsCertifyingTransfer}
 
--- the plan is one for the rule's clause, and the instance at the choice's arguments gives the goal at the place
+-- the plan is one for the rule's clause, and the instance at the choice's arguments gives the goal
+-- at the place
 pub record Wanted (m : Strength) (scope : Scope) (facts : List Lit) (goal : Lit) (rule place : ℕ) (plan : Plan) (c : List ℕ) : Type 0 where
   pub row : Row
   pub of_table : slice_get table rule ≡ Some row

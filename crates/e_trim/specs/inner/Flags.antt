@@ -1,4 +1,5 @@
--- Which steps are kept, as a pile: what comes last is read first, so that the flags are read in text order.
+-- Which steps are kept, as a pile: what comes last is read first, so that the flags are read in
+-- text order.
 use Rattle.std.specs.Prelude.{List, [], ◌∷◌, ◌++◌, Bool, true, false}
 use Rattle.e_literal.specs.declared.object.Scope.{Scope}
 use Rattle.e_literal.specs.declared.literal.Lit.{Lit}
@@ -14,7 +15,8 @@ use Rattle.e_deriv.specs.Lines.{theorem_at}
 use Rattle.e_trim.specs.Looked.{Wants, no_wants}
 use Rattle.e_trim.specs.Trimmed.{joins_at, is_kept, wants, outside}
 
--- the flag of a step, and under it those of the block inside, which is read only where the step is kept
+-- the flag of a step, and under it those of the block inside, which is read only where the step is
+-- kept
 abbrev pub flag : Bool → List Bool → List Bool
 flag true inner = inner ++ true ∷ []
 flag false inner = false ∷ []

@@ -1,4 +1,5 @@
--- A number for each literal, the same for literals that are the same: most literals that are not the same differ in it.
+-- A number for each literal, the same for literals that are the same: most literals that are not
+-- the same differ in it.
 use Rattle.std.specs.Prelude.{ℕ, ◌+◌, ◌*◌, ◌%◌, List}
 use Rattle.std.specs.Int.{abs_diff}
 use Rattle.e_literal.specs.declared.object.Term.{Term}
