@@ -1,4 +1,5 @@
--- What literals and facts are that a step is judged by: in scope, well formed, and not too many.
+-- What the literals and facts are by which a step is licensed: in scope, well formed, and not too
+-- many.
 use Rattle.std.specs.Prelude.{ℕ, List, length, Bool, ◌&&◌, nat_le}
 use Rattle.std.specs.List.{list_all}
 use Rattle.e_literal.specs.declared.object.Scope.{Scope}

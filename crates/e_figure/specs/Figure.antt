@@ -46,7 +46,7 @@ is_bounded d = list_all is_small_point d.points && (list_all is_small_line d.lin
 abbrev pub has_few_objects : FigureView → Bool
 has_few_objects d = nat_le (length d.points) 40 && (nat_le (length d.lines) 24 && nat_le (length d.circles) 16)
 
--- so there are, as a figure keeps it
+-- the same as a proposition, which a figure keeps of its objects
 abbrev pub HasFewObjects : FigureView → Type 0
 HasFewObjects d = (length d.points ≤ 40) × ((length d.lines ≤ 24) × (length d.circles ≤ 16))
 

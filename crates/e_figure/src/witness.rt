@@ -20,7 +20,7 @@ pub enum LawFault {
     /// The arguments do not fit the rule's variables, or one is not in the figure's scope.
     #[error("the arguments do not fit the rule's variables, or are not in the figure")]
     BadArgs,
-    /// Want of memory.
+    /// Out of memory.
     #[error("out of memory")]
     NoMemory,
 }

@@ -1,4 +1,4 @@
--- What good facts are, part by part.
+-- Facts that are in scope, well formed and not too many, part by part.
 use Rattle.std.proofs.Common.{◌≡◌, ℕ, ◌≤◌, List, length, true, arith}
 use Rattle.std.specs.Prelude.{nat_le}
 use Rattle.std.specs.List.{list_all}

@@ -12,7 +12,7 @@ use Rattle.e_licence.specs.Contexts.{State}
 abbrev pub held_in : List Lit → Held → State
 held_in facts h = record { scope = h.scope; facts = take h.facts facts }
 
--- its facts are good, and what is solved was solved of them
+-- its facts are in scope, well formed and not too many, and what is solved was solved of them
 pub record IsHeldState (facts : List Lit) (h : Held) : Type 0 where
   pub good : IsTrue (are_limited_facts h.scope (take h.facts facts))
   pub metric_facts : IfSome h.solved (AreFronts (take h.facts facts))
@@ -22,7 +22,8 @@ abbrev pub AreHeld : ℕ → ℕ → List Lit → List Held → Type 0
 AreHeld low high facts [] = low ≤ high
 AreHeld low high facts (h ∷ hs) = (low ≤ h.facts) × IsHeldState facts h × AreHeld h.facts high facts hs
 
--- the facts are good, so is what is held of them, and what is solved is that of the first of them
+-- the facts are in scope, well formed and not too many, so are those of the held states, and what
+-- is solved is that of the first of them
 pub record IsHeldContext (scope : Scope) (facts : List Lit) (held : List Held) (solved : Option MetricFacts) : Type 0 where
   pub good : IsTrue (are_limited_facts scope facts)
   pub states : AreHeld 0 (length facts) facts held

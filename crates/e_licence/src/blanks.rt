@@ -57,8 +57,8 @@ pub struct Blanks<'a> {
 /// the first given literal that is not allowed, as soon as its objects are known. It fails only out
 /// of memory.
 ///
-/// Questions begin where the context has solved its facts: [`Context::solve`] before it is worth
-/// it.
+/// It begins from what the context has solved of its facts: a [`Context::solve`] before it is worth
+/// its time.
 pub fn match_blanks(
     alloc: Global,
     context: &Context,

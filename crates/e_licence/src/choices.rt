@@ -36,8 +36,8 @@ pub enum FirstChoices {
 /// most `most`, and whether there are more. The blanks are filled as [`crate::match_blanks`] fills
 /// them. It fails only out of memory.
 ///
-/// Questions begin where the context has solved its facts: [`Context::solve`] before it is worth
-/// it.
+/// It begins from what the context has solved of its facts: a [`Context::solve`] before it is worth
+/// its time.
 pub fn first_choices(
     alloc: Global,
     context: &Context,

@@ -103,7 +103,7 @@ impl Context {
         self.solved.as_ref()
     }
 
-    /// A copy of it, or nothing known.
+    /// A copy of what is solved of the facts, or nothing known.
     pub(crate) fn metric_facts(&self, alloc: Global) -> Result<MetricFacts, AllocError>
         ensures { IfOk result (AreFronts self.now.facts) }
     {

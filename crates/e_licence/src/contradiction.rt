@@ -31,7 +31,7 @@ pub enum Refuted {
 /// Whether the facts contradict each other: a diagram literal and its negation both are facts, or
 /// else no admissible assignment makes the metric facts true. It fails only out of memory.
 ///
-/// It begins where the context has solved its facts, and lets go what it solves;
+/// It begins from what the context has solved of its facts, and lets go what it solves itself;
 /// [`Context::against`] keeps that for the next question.
 pub fn against(alloc: Global, context: &Context) -> Result<Refuted, AllocError>
     ensures { IfOk result (IsAnswerAgainst context.now) }

@@ -33,7 +33,7 @@ pub enum Licensed {
 /// Whether the literal is allowed: as a fact; else, if it is metric, as a metric consequence of the
 /// facts; else as a transfer consequence. It fails only out of memory.
 ///
-/// Questions begin where the context has solved its facts. Where many literals are asked,
+/// It begins from what the context has solved of its facts. Where many literals are asked,
 /// [`Context::licence`] keeps what is solved for one of them.
 pub fn licence(alloc: Global, context: &Context, lit: &Lit) -> Result<Licensed, AllocError>
     requires { IsTrue (is_well_formed_in context.now.scope lit.now) }

@@ -1,4 +1,4 @@
--- What is kept of the facts of a step.
+-- What is solved of the facts of a step, kind by kind.
 use Rattle.std.specs.Prelude.{◌≡◌, List, [], ◌++◌, length, map, flat_map, IfSome, Option, None}
 use Rattle.e_literal.specs.declared.object.Kind.{Kind}
 use Rattle.e_literal.specs.declared.literal.Lit.{Lit}
@@ -33,7 +33,7 @@ pub record IsSolvedSystem (which : Kind) (facts : List Lit) (g : SolvedSystem) :
   pub terms : g.terms.items ≡ distinct_terms which facts None
   pub raised : g.raised ≡ length (flat_map (rows_of_term facts) g.terms.items)
 
--- the kept rows, and more after them, are those of a system, in some order, with their names
+-- the solved rows, and more after them, are those of a system, in some order, with their names
 pub record AreTogether (which : Kind) (facts : List Lit) (wanted : Option Lit) (g : SolvedSystem) (names : List RowName) (rows : List GivenRow) : Type 0 where
   pub all : List NamedRow
   pub order : AreReordered all (system which facts wanted)

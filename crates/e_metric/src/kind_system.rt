@@ -139,8 +139,8 @@ impl KindSystem {
         }
     }
 
-    /// What is solved of the facts, where this is that of the first `from` of them. None: the
-    /// others change nothing. Facts that contradict each other stay so, and facts with a wide
+    /// What is solved of the facts, where this is that of the first `from` of them; None where
+    /// the others change nothing. Facts that contradict each other stay so, and facts with a wide
     /// system are asked from nothing.
     pub fn grown(
         &self,
@@ -167,9 +167,9 @@ impl KindSystem {
     }
 }
 
-// What is solved of the facts, where the first `from` of them have this solved system. None: the
-// solved system is that of all. Where a term that was there brings a row by a new fact, the rows
-// are settled from nothing: it would occur among the others.
+// What is solved of the facts, where the first `from` of them have this solved system; None where
+// it is that of all of them. Where a term that was there brings a row by a new fact, the rows are
+// solved from nothing, since that row would come among the others.
 fn grown(
     alloc: Global,
     solved_system: &SolvedSystem,
@@ -255,7 +255,7 @@ fn joined_parts(
     Ok(JoinedParts { names, rows, terms })
 }
 
-// The solved system of these, whose rows are settled.
+// The solved system of these, whose rows are solved.
 fn solved_with(facts: &Facts, joined: JoinedParts, settled: SolvedRows) -> SolvedSystem
     ensures names { result.names.items ≡ joined.names.items }
     ensures rows { result.rows.items ≡ joined.rows.items }

@@ -52,7 +52,7 @@ impl Slot {
         self.upto == facts.len()
     }
 
-    // What is solved of all facts. None: what is there is that.
+    // What is solved of all facts; None where what is there already is that.
     fn brought(
         &self,
         alloc: Global,
@@ -75,8 +75,8 @@ impl Slot {
         }
     }
 
-    // Brings what is solved up to all facts. No clause says that it does, since what is there is
-    // right in any case.
+    // Brings what is solved up to all facts. No contract promises that it does, since what is there
+    // is right in any case.
     fn bring(&mut self, alloc: Global, which: Kind, facts: &Facts) -> Result<(), AllocError>
         requires front { IsFrontSystem which facts.now self.old }
         requires facts { IsTrue (list_all is_well_formed facts.now) }
@@ -184,7 +184,7 @@ impl Slot {
         }
     }
 
-    // Whether no more than the first facts are known.
+    // Whether what is solved is that of no more than the first `count` facts.
     fn is_within(&self, count: usize) -> bool
         ensures { result ≡ true → self.now.upto ≤ count }
     {
@@ -205,8 +205,8 @@ impl Slot {
 }
 
 /// What is solved of the facts of a step. Each kind is solved where it is first asked, and brought
-/// up to the facts that have come since where it is asked again. What a refused call leaves is
-/// right for the same facts, and so is what facts leave that come later.
+/// up to the facts that have come since where it is asked again. What a call leaves
+/// that fails is right for the same facts, and what is there stays right where more facts come.
 #[derive(Drop)]
 pub struct MetricFacts {
     systems: ByKind<Slot>,
@@ -279,8 +279,8 @@ impl MetricFacts {
         self.systems.areas.back_to(count);
     }
 
-    /// The same of the same facts: where a block of a proof begins, so that what is solved of the
-    /// facts before it is there again after it.
+    /// A copy. It is made where a block of a proof begins, so that what is solved of the facts
+    /// before it is there again after it.
     pub fn copied(&self, alloc: Global) -> Result<MetricFacts, AllocError>
         ensures { IfOk result (λ m. (facts : List Lit) → AreFronts facts self.now
             → AreFronts facts m) }
@@ -451,8 +451,8 @@ impl MetricFacts {
         }
     }
 
-    /// Whether the metric literal follows from the facts: the answers are those of [`follows`]. Of
-    /// the kinds that the goal is not of the answer is known, where they were brought up to the
+    /// Whether the metric literal follows from the facts: the answers are those of [`follows`]. The
+    /// answers of the kinds other than the goal's are known, where these were brought up to the
     /// facts. The goal's own system is asked only where the goal is true with the values that the
     /// facts have already, and from there.
     ///

@@ -29,7 +29,7 @@ use e_simplex::{Absurdity, SolvedRows, Verdict, width};
 use std::alloc::{AllocError, Global};
 use std::mem;
 
-/// The rows of the facts of one kind with their names and their terms, and what is settled of them.
+/// The rows of the facts of one kind with their names and their terms, and what is solved of them.
 #[derive(Drop)]
 pub struct SolvedSystem {
     pub names: Vec<RowName>,
@@ -107,7 +107,7 @@ pub fn system_width(
 }
 
 impl SolvedSystem {
-    /// The same rows, settled.
+    /// The same rows, solved.
     pub fn copied(&self, alloc: Global) -> Result<SolvedSystem, AllocError>
         ensures names { IfOk result (λ g. g.names.items ≡ self.now.names.items) }
         ensures rows { IfOk result (λ g. g.rows.items ≡ self.now.rows.items) }
@@ -175,7 +175,7 @@ impl SolvedSystem {
         Ok(cert)
     }
 
-    // The answer where the goal has these rows, by what is settled.
+    // The answer where the goal has these rows, by what is solved.
     fn decided(
         &self,
         alloc: Global,

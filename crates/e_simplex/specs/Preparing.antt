@@ -1,4 +1,4 @@
--- What comes of rows that are to be settled.
+-- What comes of rows that are to be solved.
 use Rattle.std.specs.Prelude.{◌≡◌, ◌≤◌, ◌^◌, List}
 use Rattle.e_literal.specs.Minor.{IsWide}
 use Rattle.e_literal.specs.Width.{width}
@@ -8,7 +8,7 @@ use Rattle.e_simplex.specs.Answer.{IsRefuted}
 use Rattle.e_simplex.specs.declared.solved_rows.Prepared.{Prepared}
 use Rattle.e_simplex.specs.declared.solved_rows.Prepared.TheVariants.{SolvedRows, Absurd, TooWide}
 
--- the rows, settled; or multipliers that refute them; or the rows are wide, and so is their width
+-- the rows, solved; or multipliers that refute them; or the rows are wide, and so is their width
 abbrev pub IsPreparedRows : List GivenRow → Prepared → Type 0
 IsPreparedRows rows (SolvedRows s) = s ≡ rows
 IsPreparedRows rows (Absurd absurdity) = IsRefuted (all_seen rows) absurdity

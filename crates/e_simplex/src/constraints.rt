@@ -70,6 +70,7 @@ fn constant(sense: Sense) -> i128
     }
 }
 
+/// Whether a constraint of this sense says that its form is 0.
 pub fn is_zero(sense: Sense) -> bool
     ensures { result ≡ is_zero_sense sense }
 {

@@ -82,7 +82,7 @@ pub fn try_both(alloc: Global, solved: &Table, constraint: &Constraint) -> Resul
     }
 }
 
-/// The values of the lines' forms.
+/// The values of the constraints' forms.
 pub fn values_at(
     alloc: Global,
     forms: &[Constraint],

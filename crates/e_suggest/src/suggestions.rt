@@ -43,7 +43,7 @@ pub fn all(
     }
 }
 
-/// So many blanks.
+/// `count` blanks.
 fn only_blanks(alloc: Global, count: usize) -> Result<Vec<Option<Obj>>, AllocError>
     ensures { IfOk result (λ v. v.items ≡ replicate count None) }
 {

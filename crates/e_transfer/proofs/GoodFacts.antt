@@ -1,4 +1,4 @@
--- Facts that are good, test by test.
+-- Facts that are in scope, well formed and not too many, test by test.
 use Rattle.std.proofs.Common.{◌≡◌, List, [], ◌∷◌, refl, ap, ◌∙◌, Bool, true, false, ◌&&◌}
 use Rattle.std.specs.List.{list_all}
 use mathlib.Core.Bool.{and_assoc}

@@ -1,4 +1,4 @@
--- Ties taken in one by one.
+-- Equations taken in one by one.
 use Rattle.std.proofs.Common.{◌≡◌, ℕ, zero, suc, List, [], ◌∷◌, refl, sym, ap, ◌∙◌, arith, Bool, true, false, true≢false, get_or, length, take, drop, ◌++◌, append-nil, ◌<◌, ◌+◌}
 use Rattle.std.proofs.lemmas.List.{take_all, drop_all}
 use Rattle.std.proofs.lemmas.List.Folds.{list_all_more}

@@ -98,7 +98,7 @@ passed_over strength.Facts w = verdict.No
 passed_over strength.Sums w = verdict.TooWide w
 passed_over strength.NarrowSums w = verdict.No
 
--- as many parts as literals, each good for its literal
+-- as many parts as literals, and each certifies its literal
 abbrev pub AreCertifyingParts : Scope → List Lit → List Lit → List Part → Type 0
 AreCertifyingParts scope facts ls ps = AllZip (IsCertifyingPart scope facts) ls ps
 
@@ -113,7 +113,7 @@ all_diagrams_hold facts ls = list_all (λ l. is_metric l || has facts l) ls
 
 -- ---- whether instances give the goal
 
--- the certificate is good for the goal, and its parts name literals that are well formed
+-- the certificate certifies the goal, and its parts name literals that are well formed
 pub record IsCertifyingTransfer (scope : Scope) (facts : List Lit) (goal : Lit) (cert : TransferCert) : Type 0 where
   pub over : IsTrue (transfer_in scope cert)
   pub certifies : IsTrue (transfer_certifies facts goal cert)
@@ -138,7 +138,8 @@ abbrev pub NoneWithBindings : Strength → Scope → List Lit → Lit → ℕ �
 NoneWithBindings m scope facts goal rule place bindings =
     (args : List Obj) → BindingsAgree (number args) bindings → GivesGoal m scope facts goal rule place args → ⊥
 
--- none that has the goal at this place of the clause, with variables bound so, gives it
+-- none that has the goal at this place of the clause, with variables as these equations say, gives
+-- it
 abbrev pub NoneWithEquations : Strength → Scope → List Lit → Lit → ℕ → ℕ → List Equation → Type 0
 NoneWithEquations m scope facts goal rule place equations =
     (args : List Obj) → IsTrue (all_agree (number args) equations) → GivesGoal m scope facts goal rule place args → ⊥

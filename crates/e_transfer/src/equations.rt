@@ -13,9 +13,9 @@ use std::alloc::{AllocError, Global};
 /// arguments.
 #[derive(Clone, Copy, PartialEq, Eq)]
 pub enum Equation {
-    /// The variable represents the object with this number.
+    /// The variable is the object with this number.
     Is(usize, u16),
-    /// The two variables represent one object.
+    /// The two variables are one object.
     Same(usize, usize),
 }
 

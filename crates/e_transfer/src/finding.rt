@@ -35,7 +35,7 @@ pub enum Found {
 
 /// Whether one instance of a transfer clause over the scope gives the goal, and why.
 ///
-/// `Yes` with a certificate that is good for the goal; `No` where no instance gives it. `TooWide`
+/// `Yes` with a certificate that certifies the goal; `No` where no instance gives it. `TooWide`
 /// where neither facts alone give it, nor metric literals that follow from the facts by narrow
 /// systems, and an instance whose diagram literals hold needs a metric literal with a wide system,
 /// of this width. It fails only out of memory.
@@ -109,8 +109,8 @@ pub fn find_by_sums(
 }
 
 /// The same, where what many searches need is made of the facts. Values with which all metric facts
-/// are true, if there are any, show of most metric literals that they do not follow. What facts
-/// alone give is found by the way; only where a system is wide they are searched alone.
+/// are true, if such are known, show of most metric literals that they do not follow. What facts
+/// alone give is found by the way; only where a system is wide is it searched for by itself.
 pub fn find_prepared<'a>(
     alloc: Global,
     scope: Scope,
@@ -161,8 +161,8 @@ fn find_where_wide(alloc: Global, query: &Query, width: u128) -> Result<Found, A
     }
 }
 
-/// The same, where a literal that an instance needs has a wide system, of this width: those are
-/// passed over.
+/// The same, where facts alone do not give the goal either: literals with wide systems are passed
+/// over.
 fn find_narrow(alloc: Global, query: &Query, width: u128) -> Result<Found, AllocError>
     requires not_plain { ¬ TransferFromFacts query.now.scope query.now.facts.now
         query.now.goal.now }

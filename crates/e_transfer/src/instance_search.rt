@@ -91,7 +91,7 @@ fn is_last(place: usize, length: usize) -> bool
 }
 
 /// Whether what an instance needs may hold: a fact, or a metric literal that is not seen to be
-/// false beside true facts.
+/// false with values with which the facts are true.
 fn may_suffice(query: &Query, need: &Lit) -> bool
     ensures { result ≡ false → Suffices query.now.strength query.now.facts.now need.now → ⊥ }
 {

@@ -3,7 +3,7 @@
 //!
 //! A literal is searched for at each place of each rule. What it says of the variables binds them,
 //! and the others are chosen one by one: a choice is given up at the first literal of the clause
-//! that cannot hold.
+//! that is not the goal and whose negation cannot hold.
 #![tactic(auto)]
 
 mod areas;

@@ -138,9 +138,9 @@ fn parts(pattern: &Pattern, negated: bool) -> (Shape, bool)
     }
 }
 
-/// The same, where a metric literal may also follow from the facts: it does not where it says that
-/// areas differ, or that one is less, and there are values with which the facts are true and all
-/// areas are 0.
+/// Whether a literal of this relation and sign may hold, where a metric one may also follow from
+/// the facts: it does not where it says that areas differ, or that one is less, and there are
+/// values with which the facts are true and all areas are 0.
 fn may_follow(query: &Query, neg: bool, shape: &Shape) -> bool
     ensures { result ≡ false → Marks.NoneSuffices query.now.strength query.now.facts.now
         (record { neg = neg; atom = atom_of shape.now }) }
@@ -178,7 +178,7 @@ fn may_hold(query: &Query, row: &Row, at: usize) -> bool
     mark(relation_of(&shape), neg) == mark_of(query.goal) || may_suffice(query, !neg, &shape)
 }
 
-/// Whether the place is the goal's, or the literal there may hold.
+/// Whether the place is the goal's, or may have the goal or a literal whose negation holds.
 fn may_be(query: &Query, row: &Row, place: usize, at: usize) -> bool
     requires { at < length (clause_of (row_of row.now)) }
     ensures { result ≡ false → (at ≢ place)
@@ -187,7 +187,8 @@ fn may_be(query: &Query, row: &Row, place: usize, at: usize) -> bool
     at == place || may_hold(query, row, at)
 }
 
-/// Whether each literal of the clause but the one at this place may hold.
+/// Whether at each place of the clause but this one an instance may have the goal, or a literal
+/// whose negation holds.
 pub fn may_all_hold(query: &Query, rule: Rule, row: &Row, place: usize) -> bool
     requires { slice_get table rule ≡ Some (row_of row.now) }
     ensures { result ≡ false → NoneAt query.now.strength query.now.scope query.now.facts.now

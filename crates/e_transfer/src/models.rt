@@ -209,7 +209,8 @@ pub fn are_of_model(facts: &Facts, filling: Filling, values: &[(Term, u128)]) ->
     may_have(facts, filling, values, Term::Right) && facts_fit(facts, filling, values)
 }
 
-/// Whether the metric literal is false with the values of a model of the facts.
+/// Whether the metric literal is false with the values of a model of the facts, and these are
+/// values that its terms may have.
 pub fn refutes(facts: &Facts, filling: Filling, values: &[(Term, u128)], lit: &Lit) -> bool
     requires { IsTrue (is_model facts.now (value_by filling values.now)) }
     ensures { result ≡ true → ¬ MetricConsequence facts.now lit.now }

@@ -16,7 +16,7 @@ use e_literal::{Term, Values};
 use e_metric::{Metric, MetricFacts};
 use std::alloc::{AllocError, Global};
 
-/// What is made of facts: values with which all metric ones are true, if there are any, of which
+/// What is made of facts: values with which all metric ones are true, if such are known, of which
 /// models those are, the areas that the facts name, and which relations they have.
 #[derive(Drop)]
 pub struct Prepared {
@@ -28,8 +28,8 @@ pub struct Prepared {
     pub marks: [bool; MARKS],
 }
 
-// The values with which all metric facts are true, if there are any. What they are is a matter of
-// speed alone.
+// The values with which all metric facts are true, if the answer has them. What they are is a
+// matter of speed alone.
 fn values_of(alloc: Global, answer: Metric) -> Values {
     match answer {
         Metric::No(values) => values,
@@ -37,7 +37,7 @@ fn values_of(alloc: Global, answer: Metric) -> Values {
     }
 }
 
-// With these values and areas.
+// What is made of the facts, with these values and areas.
 fn with_values(facts: &Facts, values: Values, areas: Vec<Term>) -> Prepared
     requires { IsTrue (name_areas_of areas.items facts.now) }
     ensures { IsPrepared facts.now result }
@@ -52,7 +52,7 @@ fn with_values(facts: &Facts, values: Values, areas: Vec<Term>) -> Prepared
     }
 }
 
-/// What is made of these facts, of which this is known.
+/// What is made of the facts, by what is solved of them.
 pub fn prepare(
     alloc: Global,
     facts: &Facts,

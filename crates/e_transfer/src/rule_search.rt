@@ -57,7 +57,8 @@ fn search_with_bindings(
     }
 }
 
-/// The instances that have the goal at a place of the clause, and whose variables are bound so.
+/// The instances that have the goal at a place of the clause, and whose variables are as these
+/// equations say.
 fn search_with_equations(
     alloc: Global,
     query: &Query,

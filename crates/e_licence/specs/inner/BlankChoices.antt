@@ -46,7 +46,7 @@ images_of_choice s os entries c = paired os (filled_arguments s os entries c)
 
 -- ---- what is licensed at the first numbers of a choice
 
--- all objects of the literal are in scope now, and not all were before
+-- all objects of the literal are in scope now, and not all were at the part before, if there is one
 abbrev pub is_completed : Scope → List Entry → List Entry → Bool → Lit → Bool
 is_completed s now before first l = is_well_formed_in s (renamed (image_in now) l) && (first || not (is_well_formed_in s (renamed (image_in before) l)))
 

@@ -1,4 +1,4 @@
--- The first term of an equation, at which most equations that are not the same are answered apart.
+-- The first term of an equation, at which most equations that are not the same differ already.
 use Rattle.std.specs.Prelude.{List, [], ◌∷◌, Bool, true, ◌||◌}
 use Rattle.e_literal.specs.declared.object.Mono.{Mono}
 use Rattle.e_literal.specs.Same.{agree_at}

@@ -10,7 +10,7 @@ use Rattle.e_simplex.specs.declared.constraints.Sense.TheVariants.{More}
 use Rattle.e_simplex.specs.declared.unequal.Tried.{Tried}
 use Rattle.e_simplex.specs.declared.unequal.Tried.TheVariants.{Found, BothRefuted, TooWide}
 
--- the form with each coefficient turned round
+-- the form with each coefficient negated
 abbrev pub negated : List Monomial → List Monomial
 negated [] = []
 negated (x ∷ xs) = record { coefficient = neg_ℤ x.coefficient; column = x.column } ∷ negated xs

@@ -36,7 +36,7 @@ both_equations v n w m = Some (equation.Is v n ∷ equation.Is w m ∷ [])
 abbrev pub all_three : ℕ → ℕ → ℕ → ℕ → ℕ → ℕ → Option (List Equation)
 all_three v n w m u k = Some (equation.Is v n ∷ equation.Is w m ∷ equation.Is u k ∷ [])
 
--- the atom of a row is the goal where its variables represent the goal's objects, place by place
+-- the atom of a row is the goal where its variables are the goal's objects, place by place
 abbrev pub equations_from_atom : Row → Atom → Atom → Option (List Equation)
 equations_from_atom r (On x l) (On a b) = both_equations x a (line_variable r l) b
 equations_from_atom r (OnC x c) (OnC a b) = both_equations x a (circle_variable r c) b

@@ -1,4 +1,4 @@
--- The first summand with the term has its coefficient, since terms stand once.
+-- The first summand with the term has its coefficient, since no term comes twice.
 use Rattle.std.proofs.Common.{◌≡◌, true, to_z-of_z, SFits, rules, sym, ap, ◌∙◌, get_or, take, length, pos, arith}
 use Rattle.std.specs.List.{list_any}
 use mir.Syntax.{w64}
