@@ -1,5 +1,5 @@
-//! Cross and dot products, sides and distances, in 128 bits. No number here is past 2^98, which is
-//! less than 10^30.
+//! Differences, products, and cross and dot products, of which sides and distances are made, in 128
+//! bits. No number here is past 2^98, which is less than 10^30.
 
 ghost use Rattle.std.specs.Ordering.{int_eq};
 ghost use Rattle.std.specs.Prelude.{◌≡◌, ◌≤◌, ◌^◌, ◌+◌, ℤ, pos, ◌-ℤ◌, ◌*ℤ◌, unsigned_abs};

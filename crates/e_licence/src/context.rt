@@ -137,7 +137,7 @@ impl Context {
 
     /// The present state is held last.
     ///
-    /// It fails only out of memory, and then all is as before.
+    /// It fails only out of memory, and then all that contracts see is as before.
     pub fn hold(&mut self) -> Result<(), AllocError>
         ensures ok { OnOk result
             (self.new ≡ record self.old { held = self.old.held ++ state_of self.old ∷ [] }) }

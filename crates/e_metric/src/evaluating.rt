@@ -56,8 +56,8 @@ pub fn are_so(values: &[(Term, u128)], rows: &[Row]) -> bool
     true
 }
 
-// A value that a term may have of which no fact speaks: 1 where it is a segment whose ends differ,
-// and else 0.
+// A value that a term may have of which no fact speaks: 1 where it is a segment whose ends are
+// apart by the facts, and else 0.
 fn default_value(facts: &Facts, term: Term) -> u128
     ensures { result ≡ FurtherRows.value_of_fresh facts.now term }
 {

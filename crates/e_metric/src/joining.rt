@@ -46,7 +46,7 @@ fn add_term(
     Ok(())
 }
 
-// Puts the terms of a sum last in which they do not occur.
+// Puts the terms of a sum last, each as `add_term` does.
 fn add_terms(
     form: &mut Vec<(i64, Term)>,
     x: &[Mono],

@@ -126,7 +126,7 @@ impl KindSystem {
         }
     }
 
-    /// The certificate that the facts contradict each other, if they do.
+    /// The certificate that the facts contradict each other, if there is one.
     pub fn contradiction(&self, alloc: Global) -> Result<Option<MetricCert>, AllocError>
         ensures { IfOk result (IsContradictionOf self.now) }
     {

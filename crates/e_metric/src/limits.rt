@@ -79,7 +79,7 @@ fn are_well_formed(facts: &Facts) -> bool
     facts.items().iter().all(|fact| is_well_formed(fact))
 }
 
-// How many monomials the metric facts have, or 1,101.
+// How many monomials the metric facts have, or 1,101 where they have more.
 fn capped_monomials(facts: &Facts) -> usize
     ensures { result ≡ min (length (terms_of_lits facts.now)) 1101 }
 {

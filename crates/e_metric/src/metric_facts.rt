@@ -205,8 +205,8 @@ impl Slot {
 }
 
 /// What is solved of the facts of a step. Each kind is solved where it is first asked, and brought
-/// up to the facts that have come since where it is asked again. What a call leaves
-/// that fails is right for the same facts, and what is there stays right where more facts come.
+/// up to the facts that have come since where it is asked again. What is there after a call that
+/// fails is right for the same facts, and it stays right where more facts come.
 #[derive(Drop)]
 pub struct MetricFacts {
     systems: ByKind<Slot>,
@@ -581,8 +581,8 @@ impl MetricFacts {
         self.answer_of_facts(alloc, facts)
     }
 
-    // Brings a kind up to the facts: the certificate that its facts contradict each other, if they
-    // do.
+    // Brings a kind up to the facts: the certificate that its facts contradict each other, if there
+    // is one.
     fn contradiction_of(
         &mut self,
         alloc: Global,

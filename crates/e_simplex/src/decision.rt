@@ -147,8 +147,8 @@ pub fn verdict_of(
 /// Whether values of the terms, whole numbers of at least 0, satisfy the rows.
 /// [`have_small_coefficients`] tests the condition. The answer is `Holds` with values that satisfy
 /// every row, or `Absurd` with multipliers that refute the rows, or `TooWide`, which comes only
-/// where some minor of the rows has size at least 2^63, and the width with it. A form of more than
-/// 2^32 terms is out of memory.
+/// where some minor of the rows has size at least 2^63, and so their width is at least 2^63 too. A
+/// form of more than 2^32 terms is out of memory.
 ///
 /// [`have_small_coefficients`]: e_fraction::have_small_coefficients
 pub fn decide(alloc: Global, rows: &[Row]) -> Result<Verdict, AllocError>

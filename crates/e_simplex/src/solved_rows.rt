@@ -121,7 +121,7 @@ fn with_values(
 /// Solves rows, to be asked about with further rows. The conditions are those of [`decide`]. The
 /// answer is `SolvedRows` where values satisfy every row, or `Absurd` with multipliers that refute
 /// the rows, or `TooWide`, which comes only where some minor of the rows has size at least 2^63,
-/// and the width with it.
+/// and so their width is at least 2^63 too.
 pub fn prepare(alloc: Global, rows: Vec<Row>) -> Result<Prepared, AllocError>
     requires few { length rows.items ≤ 4096 }
     requires coefficients { IsTrue (all_small rows.items) }

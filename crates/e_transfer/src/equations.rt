@@ -36,7 +36,7 @@ fn three(
     Ok(Items::new(Vec::from_slice(alloc, &[first, second, third])?))
 }
 
-/// The argument of a point variable, a line variable and a circle variable.
+/// That the point variable at this place is the point with this number.
 fn point(at: u16, number: u16) -> Equation
     ensures { result ≡ bound.Is at number }
 {

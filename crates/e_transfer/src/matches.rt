@@ -129,7 +129,7 @@ fn unbound(alloc: Global) -> Result<MatchList, AllocError>
     Ok(matches)
 }
 
-/// Both at once.
+/// The equations of two matches together.
 fn joined(
     alloc: Global,
     first: &[Equation],

@@ -146,7 +146,7 @@ pub fn sort_of(row: &Row, variable: usize) -> Sort
     }
 }
 
-/// The numbers for a variable: the known one, if an object has it, or those of all objects.
+/// The numbers for a variable: the known one, or none if no object has it; or those of all objects.
 fn span_for(count: u16, binding: Binding) -> Span
     ensures { result ≡ Plans.variable_span count binding }
 {

@@ -16,9 +16,9 @@ pub struct Span {
 /// What is answered on the first numbers of a choice, and by a search for a whole one.
 #[derive(Drop)]
 pub enum Verdict<P> {
-    /// The search may go on; if the choice is whole, it is good, and this shows it.
+    /// The search may go on; if the choice is whole, it is found, and this is handed out for it.
     Yes(P),
-    /// No choice that begins so is good.
+    /// No choice that begins so is wanted.
     No,
     /// It cannot be decided: something here is too wide, and has this width.
     TooWide(u128),

@@ -44,7 +44,7 @@ pub record PositionsAre (representatives order positions : List ℕ) : Type 0 wh
   pub below : (v : ℕ) → v < length representatives → slice_index positions v < length order
   pub at : (v : ℕ) → v < length representatives → slice_index order (slice_index positions v) ≡ slice_index representatives v
 
--- the known number alone, if there are more objects, or all numbers of objects
+-- the known number alone, or none if no object has it; or the numbers of all objects
 abbrev pub variable_span : ℕ → Binding → Span
 variable_span count (binding.Is n) = (if nat_lt n count then record { from = n; to = n + 1 } else record { from = 0; to = 0 })
 variable_span count _ = record { from = 0; to = count }
