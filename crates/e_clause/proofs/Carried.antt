@@ -1,4 +1,5 @@
--- Solutions of the three metric systems, carried to the terms as they are written, are a counterexample.
+-- Solutions of the three metric systems, carried to the terms as they are written, are a
+-- counterexample.
 use Rattle.std.proofs.Common.{◌≡◌, ◌≢◌, ℕ, ◌+◌, ◌*◌, ◌≤◌, List, [], ◌∷◌, ◌++◌, length, refl, sym, ap, ap₂, ◌∙◌, subst, arith, Option, Some, None, Bool, true, false, cond, ◌&&◌, ◌||◌, ◌==◌, eqb, eq-eqb, true≢false, ◌⊎◌, inl, inr, min, max, le-leb, eqb-true}
 use Rattle.std.specs.Prelude.{flat_map, nat_le}
 use Rattle.std.specs.Option.{option_map, option_map_or}

@@ -1,4 +1,5 @@
--- The rows of a metric system: each is the one that its name names, and has no term but those of the system.
+-- The rows of a metric system: each is the one that its name names, and has no term but those of
+-- the system.
 use Rattle.std.proofs.Common.{◌≡◌, ℕ, ◌+◌, List, [], ◌∷◌, ◌++◌, refl, sym, ap, ap₂, ◌∙◌, subst, Option, Some, None, Bool, true, false, cond, ◌||◌, true≢false, ◌⊎◌, inl, inr}
 use Rattle.std.specs.Prelude.{flat_map, option_and_then}
 use Rattle.std.specs.Option.{option_map}

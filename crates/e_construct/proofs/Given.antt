@@ -1,5 +1,6 @@
--- What a construction or a superposition needs and gives is in scope. What a construction needs and gives, and what a
--- superposition needs, compares no magnitudes; what a superposition gives is well formed.
+-- What a construction or a superposition needs and gives is in scope. What a construction needs and
+-- gives, and what a superposition needs, compares no magnitudes; what a superposition gives is well
+-- formed.
 use Rattle.std.proofs.Common.{◌≡◌, ℕ, ◌+◌, ◌<◌, Bool, true, false, cond, ltb, eqb, ◌&&◌, ◌||◌, List, [], ◌∷◌, ◌++◌, length, map, Option, Some, None, refl, sym, subst, ◌∙◌, arith}
 use Rattle.std.specs.Prelude.{unwrap_or}
 use Rattle.std.specs.Option.{option_map_or}

@@ -1,4 +1,5 @@
--- Values of sums, of forms and of literals, where terms that are one term have one value and those that are 0 have 0.
+-- Values of sums, of forms and of literals, where terms that are one term have one value and those
+-- that are 0 have 0.
 use Rattle.std.proofs.Common.{◌≡◌, ℕ, ◌+◌, ◌<◌, ◌≤◌, List, [], ◌∷◌, ◌++◌, map, refl, sym, ap, ap₂, ◌∙◌, subst, arith, Some, None, Bool, true, false, not, cond, ◌&&◌, ◌||◌, true≢false, eqb, eq-eqb, ◌⊎◌, inl, inr, ltb-true, lt-ltb, eqb-true}
 use Rattle.std.specs.Prelude.{filter, nat_lt}
 use Rattle.std.specs.List.{list_any}

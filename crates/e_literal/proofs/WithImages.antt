@@ -1,4 +1,5 @@
--- Literals with other objects in the place of theirs: where they are in scope, and that they are as well formed as before.
+-- Literals with other objects in the place of theirs: where they are in scope, and that they are as
+-- well formed as before.
 use Rattle.std.proofs.Common.{◌≡◌, ℕ, Bool, true, false, cond, ◌&&◌, List, [], ◌∷◌, ◌++◌, map, length, Option, Some, None, refl, sym, ap, ◌∙◌}
 use Rattle.std.specs.Prelude.{nat_le}
 use Rattle.std.specs.List.{list_all}

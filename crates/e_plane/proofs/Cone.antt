@@ -1,6 +1,6 @@
--- Contradictions between signs of polynomials, by certificates. From facts that say of polynomials that they are 0, positive or
--- not negative, others follow: sums, products, squares, multiples of what is 0. A certificate is one that is positive, and
--- whose monomials cancel.
+-- Contradictions between signs of polynomials, by certificates. From facts that say of polynomials
+-- that they are 0, positive or not negative, others follow: sums, products, squares, multiples of
+-- what is 0. A certificate is one that is positive, and whose monomials cancel.
 use Rattle.std.proofs.Common.{◌≡◌, ℕ, zero, suc, List, [], ◌∷◌, refl, ap, arith, ◌∙◌, Bool, true, false, ◌&&◌, ◌||◌}
 use lib.IntN.{ℤ, pos, negsuc, ◌+ℤ◌, ◌-ℤ◌, ◌*ℤ◌, zero-*ℤ}
 use lib.Signed.{◌≤ℤ◌, ◌<ℤ◌}

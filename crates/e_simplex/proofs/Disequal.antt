@@ -1,4 +1,5 @@
--- What the rows that say `not 0` need: one of enough multiples keeps them all, and a value of a further row is a minor.
+-- What the rows that say `not 0` need: one of enough multiples keeps them all, and a value of a
+-- further row is a minor.
 use Rattle.std.proofs.Common.{◌≡◌, ◌≢◌, ℕ, zero, suc, ◌+◌, ◌<◌, ◌≤◌, cond, eqb, List, [], ◌∷◌, refl, ap, arith, sym, ◌∙◌, subst, length, get_or, ◌⊎◌, inl, inr}
 use Rattle.std.proofs.lemmas.Bool.{cases_eq, eq-eqb, ne_eqb}
 use lib.IntN.{ℤ, pos, ◌+ℤ◌, ◌-ℤ◌, ◌*ℤ◌, neg_ℤ}

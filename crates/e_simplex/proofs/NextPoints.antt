@@ -1,4 +1,5 @@
--- One step of the loop over the forms that are not to be 0: the point that comes of it, and when the constraints are wide.
+-- One step of the loop over the forms that are not to be 0: the point that comes of it, and when
+-- the constraints are wide.
 use Rattle.std.proofs.Common.{◌≡◌, ℕ, ◌+◌, ◌^◌, ◌<◌, List, [], ◌∷◌, ◌++◌, ap, arith, sym, ◌∙◌, subst, length, get_or, ◌⊎◌, inl, inr}
 use Rattle.std.specs.Prelude.{unsigned_abs}
 use Rattle.std.proofs.lemmas.Bool.{cases_eq}

@@ -8,7 +8,8 @@ use Rattle.e_text.specs.Numerals.{number_of}
 abbrev pub LinesMakeTheText : Type 0
 LinesMakeTheText = (w : Bounds) (at : Spot) (text : List ℕ) → HaveNoFault (lines_of w at text) → text_of_lines (lines_of w at text) ≡ text
 
--- lines that are written with a line feed after each are read as these lines
+-- lines of allowed bytes, within the bounds, that are written with a line feed after each are read
+-- as these lines
 abbrev pub WrittenLinesAreRead : Type 0
 WrittenLinesAreRead = (w : Bounds) (at : Spot) (lines : List (List ℕ)) → AreShort w.longest lines → at.before + length (lf_text lines) ≤ w.most
     → lines_of w at (lf_text lines) ≡ numbered at.line lines
@@ -35,6 +36,6 @@ TokensHoldNoBlank = (line : List ℕ) → AreTokens (tokens_of line)
 abbrev pub JoinedWordsAreRead : Type 0
 JoinedWordsAreRead = (words : List (List ℕ)) → AreTokens words → tokens_of (joined words) ≡ words
 
--- a number that is printed is read as itself
+-- a number below 2 ^ 128 that is printed is read as itself
 abbrev pub PrintedNumbersAreRead : Type 0
 PrintedNumbersAreRead = (n : ℕ) → n < 2 ^ 128 → number_of (decimal n) ≡ Some n

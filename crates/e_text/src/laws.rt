@@ -11,7 +11,8 @@ pub fn lines_make_the_text()
     ensures { LinesMakeTheText }
 {}
 
-/// Lines of allowed bytes that are written with a line feed after each are read as these lines.
+/// Lines of allowed bytes, within the bounds, that are written with a line feed after each are read
+/// as these lines.
 pub fn written_lines_are_read()
     ensures { WrittenLinesAreRead }
 {}

@@ -96,8 +96,8 @@ pub fn expand(
     expand_first(alloc, notion, args, scope, notion.means.len())
 }
 
-/// The first `most` literals of what a notion says of these arguments, or all where there are fewer;
-/// `BadArgs` as `expand`.
+/// The first `most` literals of what a notion says of these arguments, or all where there are
+/// fewer; `BadArgs` as `expand`.
 pub fn expand_first(
     alloc: Global,
     notion: &Notion,

@@ -1,4 +1,5 @@
--- Sums that show that the facts contradict each other show so of more facts too, and of each literal that it follows.
+-- Sums that show that the facts contradict each other show so of more facts too, and of each
+-- literal that it follows.
 use Rattle.std.proofs.Common.{◌≡◌, ℕ, zero, suc, List, [], ◌∷◌, ◌++◌, take, drop, take-append-drop, append_assoc, refl, sym, ap, ap₂, ◌∙◌, subst, cond, Bool, true, false, ◌&&◌, ◌||◌, true≢false, inl, inr, Option, Some, None}
 use Rattle.std.specs.Prelude.{option_and_then, slice_get}
 use Rattle.std.specs.Option.{option_map_or, option_map}

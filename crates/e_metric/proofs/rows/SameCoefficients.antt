@@ -1,4 +1,5 @@
--- Rows that say the same of forms with the same coefficients: they have the same solutions, minors and width.
+-- Rows that say the same of forms with the same coefficients: they have the same solutions, minors
+-- and width.
 use Rattle.std.proofs.Common.{◌≡◌, ℕ, zero, suc, ◌+◌, ◌-◌, ◌*◌, ◌≤◌, ◌^◌, max, min, List, [], ◌∷◌, map, length, refl, sym, ap, ap₂, ◌∙◌, subst, arith, cond, Bool, true, false, not, ◌||◌, true≢false, ◌⊎◌, inl, inr}
 use Rattle.std.specs.Prelude.{unsigned_abs, sum_by, count_by, filter}
 use Rattle.std.proofs.lemmas.List.Sums.{sum_by-cons}
