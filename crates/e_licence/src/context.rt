@@ -124,15 +124,11 @@ impl Context {
     }
 
     /// More objects come into scope.
-    ///
-    /// It fails only out of memory, and then all is as before.
-    pub fn widen(&mut self, scope: Scope) -> Result<(), AllocError>
+    pub fn widen(&mut self, scope: Scope)
         requires { IsWithin self.old.scope scope }
-        ensures ok { OnOk result (self.new ≡ record self.old { scope = scope }) }
-        ensures err { OnErr result (self.new ≡ self.old) }
+        ensures { self.new ≡ record self.old { scope = scope } }
     {
         self.scope = scope;
-        Ok(())
     }
 
     /// The present state is held last.

@@ -123,7 +123,7 @@ impl StepState {
         ensures names { OnOk result (self.new.names ≡ named self.old.names sorts.now names.now) }
     {
         let scope = grown(self.context.scope(), sorts);
-        self.context.widen(scope)?;
+        self.context.widen(scope);
         name_all(&mut self.names, sorts, names)
     }
 

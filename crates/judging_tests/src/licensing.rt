@@ -187,7 +187,7 @@ fn grow(context: &mut Context) -> Result<(Added, Added), AllocError>
     ensures { OnOk result (0 < length context.new.held) }
 {
     context.hold()?;
-    context.widen(TWO_POINTS)?;
+    context.widen(TWO_POINTS);
     let first = context.add(equal_points())?;
     let second = context.add(equal_points())?;
     Ok((first, second))

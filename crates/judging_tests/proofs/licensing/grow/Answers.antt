@@ -36,21 +36,21 @@ widen-requires c = subst (λ s. IsWithin s two_points) (sym (ap (λ (b : Basis).
 
 pub add-requires : goal.add-requires
 add-requires c =
-    let scope = ap (λ (b : Basis). b.scope) c.in_ok-widen.ensures.ok in
-    let facts = ap (λ (b : Basis). b.facts) c.in_ok-widen.ensures.ok ∙ ap (λ (b : Basis). b.facts) c.in_ok-hold.ensures.ok ∙ c.requires.facts in
+    let scope = ap (λ (b : Basis). b.scope) c.widen.ensures in
+    let facts = ap (λ (b : Basis). b.facts) c.widen.ensures ∙ ap (λ (b : Basis). b.facts) c.in_ok-hold.ensures.ok ∙ c.requires.facts in
     good_at c.widen.new.self [] c.equal_points.result scope facts c.equal_points.ensures first_fact
 
 pub add-requires-2 : goal.add-requires-2
 add-requires-2 c =
-    let scope = ap (λ (b : Basis). b.scope) c.in_ok-first.ensures.joined ∙ ap (λ (b : Basis). b.scope) c.in_ok-widen.ensures.ok in
-    let empty = ap (λ (b : Basis). b.facts) c.in_ok-widen.ensures.ok ∙ ap (λ (b : Basis). b.facts) c.in_ok-hold.ensures.ok ∙ c.requires.facts in
+    let scope = ap (λ (b : Basis). b.scope) c.in_ok-first.ensures.joined ∙ ap (λ (b : Basis). b.scope) c.widen.ensures in
+    let empty = ap (λ (b : Basis). b.facts) c.widen.ensures ∙ ap (λ (b : Basis). b.facts) c.in_ok-hold.ensures.ok ∙ c.requires.facts in
     let facts = ap (λ (b : Basis). b.facts) c.in_ok-first.ensures.joined ∙ ap (λ fs. joined fs c.equal_points.result) empty ∙ ap (joined []) c.equal_points.ensures in
     good_at c.add.new.self (joined [] equal_points) c.equal_points-2.result scope facts c.equal_points-2.ensures same_fact
 
 pub returns : goal.returns
 returns c =
     let some = held_of c.args.context.now c.hold.new.self c.in_ok-hold.ensures.ok in
-    let wider = ap (λ (b : Basis). length b.held) c.in_ok-widen.ensures.ok in
+    let wider = ap (λ (b : Basis). length b.held) c.widen.ensures in
     let once = ap (λ (b : Basis). length b.held) c.in_ok-first.ensures.joined in
     let twice = ap (λ (b : Basis). length b.held) c.in_ok-second.ensures.joined in
     omega (arith, some, wider, once, twice)

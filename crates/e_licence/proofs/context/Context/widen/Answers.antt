@@ -8,5 +8,5 @@ invariant_of-self c =
     let x = c.self.inside in
     after_widen x.scope c.args.scope x.facts x.held.items x.solved (subst (λ (b : Basis). IsWithin b.scope c.args.scope) (sym c.self.view_is) c.requires) c.self.invariant
 
-pub returns-clause-ok : goal.returns-clause-ok
-returns-clause-ok c = ap (λ (b : Basis). record b { scope = c.args.scope }) c.self.view_is
+pub returns : goal.returns
+returns c = ap (λ (b : Basis). record b { scope = c.args.scope }) c.self.view_is
