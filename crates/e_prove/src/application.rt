@@ -118,7 +118,7 @@ fn filled(
     filled_by_least(alloc, statement, pattern, context)
 }
 
-/// The same, where the facts are solved, so that they need not be for each choice anew.
+/// The same, where the facts are solved before, so that they are not solved for each choice anew.
 fn filled_by_least(
     alloc: Global,
     statement: &Statement,

@@ -6,6 +6,7 @@ use e_clause::{RowName, Rule, Sum, instance};
 use e_literal::{Obj, Term};
 use std::alloc::{AllocError, Global};
 
+/// Puts a rule, an instance of one, or a sum.
 pub fn put(alloc: Global, out: &mut Answer, call: &str, on: &str) -> Result<(), AllocError> {
     match call {
         "rule" => {
