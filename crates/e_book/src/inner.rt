@@ -272,7 +272,7 @@ impl TheoremParser {
     }
 
     /// The open block is closed inside the one around it. After the second block of a split the
-    /// answer is the close of the one around, which is closed too.
+    /// answer is the split, which closes the block around too.
     #[tactic(auto, using(crate::proofs::Interrupted::emptied))]
     fn close_inside(
         &mut self,

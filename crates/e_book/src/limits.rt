@@ -51,7 +51,7 @@ pub(crate) fn most_of(sort: Sort) -> usize
     }
 }
 
-/// The limit of objects of a sort.
+/// What the limit of objects of this sort counts.
 pub(crate) fn what_of(sort: Sort) -> What
     ensures { result ≡ what_of sort }
 {

@@ -108,7 +108,7 @@ fn declared(alloc: Global, rule: Rule) -> Result<String, AllocError> {
     Ok(text)
 }
 
-/// The lines that give the negation of each literal that is not the goal, but of the one at a
+/// The lines that give the negation of each literal that is not the goal, except the one at a
 /// place.
 fn given(alloc: Global, lits: &[Lit], goal: &Lit, left_out: usize) -> Result<String, AllocError> {
     let mut text = String::new(alloc);
@@ -147,7 +147,7 @@ fn step(alloc: Global, rule: Rule, goal: &str) -> Result<String, AllocError> {
     }
 }
 
-/// What is answered where the goal is inferred from the others but the one at a place: its steps
+/// What is answered where the goal is inferred from the others except the one at a place: its steps
 /// and end, and what it lacks.
 fn inferred(
     alloc: Global,
