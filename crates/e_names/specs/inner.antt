@@ -1,2 +1,2 @@
--- Words of private contracts and of proofs: nothing here is part of any claim.
+-- Words of contracts inside the program and of proofs: nothing here is part of any claim.
 pub mod Written
