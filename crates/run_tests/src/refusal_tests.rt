@@ -31,7 +31,7 @@ fn without_numbers(alloc: Global, answer: &str) -> Result<String, AllocError> {
     Ok(text)
 }
 
-/// The number of the value line of this place.
+/// The number on the value line at this place, counted from 0.
 fn value(answer: &str, place: usize) -> Option<u128> {
     let line = answer
         .split('/')
