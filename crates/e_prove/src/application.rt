@@ -84,7 +84,7 @@ pub fn apply(
     })
 }
 
-/// The application of a statement, where it is good.
+/// The application of a statement, where each of its given literals is allowed.
 fn used(
     alloc: Global,
     statement: &Statement,
