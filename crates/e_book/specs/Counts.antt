@@ -122,7 +122,7 @@ abbrev pub blanks_on : RawLine → ℕ
 blanks_on (rawlines.Apply a) = length (filter is_none a.args)
 blanks_on form = 0
 
--- ---- the limits, in the order of their table: whether each is kept by a line and by what comes after it
+-- ---- the limits, in the order of their table: whether a line and what comes after it keep each
 
 abbrev pub limits_at : RawLine → LineContext → (steps depth : ℕ) → List (Bool × What)
 limits_at f at steps depth =

@@ -105,7 +105,7 @@ impl Model for BlockStack {
 }
 
 impl BlockStack {
-    /// None.
+    /// No block is interrupted.
     pub fn new(alloc: Global) -> BlockStack
         ensures { result ≡ [] }
     {
@@ -121,14 +121,14 @@ impl BlockStack {
         self.blocks.len()
     }
 
-    /// They, the outermost first.
+    /// The interrupted blocks, the outermost first.
     pub fn items(&self) -> &[OpenBlock]
         ensures { reverse result.now ≡ self.now }
     {
         &self.blocks
     }
 
-    /// One more, which is the innermost now. It fails only out of memory.
+    /// One more block is interrupted, and is the innermost now. It fails only out of memory.
     pub(crate) fn push(&mut self, outer: OpenBlock) -> Result<(), AllocError>
         ensures { OnOk result (self.new ≡ outer ∷ self.old) }
     {

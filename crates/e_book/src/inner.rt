@@ -271,7 +271,8 @@ impl TheoremParser {
         }
     }
 
-    /// The open block is closed inside the one around it. Some close closes that one too.
+    /// The open block is closed inside the one around it. After the second block of a split the
+    /// answer is the split, which closes the block around too.
     #[tactic(auto, using(crate::proofs::Interrupted::emptied))]
     fn close_inside(
         &mut self,

@@ -51,7 +51,7 @@ pub(crate) fn most_of(sort: Sort) -> usize
     }
 }
 
-/// The limit of objects of a sort.
+/// What the limit of objects of this sort counts.
 pub(crate) fn what_of(sort: Sort) -> What
     ensures { result ≡ what_of sort }
 {
@@ -74,7 +74,8 @@ pub(crate) fn few_objects(names: &Names) -> Result<(), LineError>
     Ok(())
 }
 
-/// So many monomials and those of the literals, or the limit of all.
+/// This many monomials and those of the literals as they are written; the limit where they are too
+/// many.
 pub(crate) fn terms_with(before: usize, lits: &[RawLit]) -> Result<usize, LineError>
     requires { before ≤ most_terms }
     ensures { Gives (λ n. n) result (terms_after_raw before lits.now) }
@@ -90,7 +91,7 @@ pub(crate) fn terms_with(before: usize, lits: &[RawLit]) -> Result<usize, LineEr
     Ok(terms)
 }
 
-/// So many facts and these, or the limit of all.
+/// This many facts and these; the limit where they are too many.
 pub(crate) fn facts_of(before: usize, lits: &[Lit]) -> Result<usize, LineError>
     requires { before ≤ most_facts }
     ensures value { Gives (λ n. tt) result
@@ -114,7 +115,7 @@ pub(crate) fn monomials(lit: &Lit) -> usize
     }
 }
 
-/// So many monomials and those of the literals, or the limit of all.
+/// This many monomials and those of the literals; the limit where they are too many.
 pub(crate) fn terms_of(before: usize, lits: &[Lit]) -> Result<usize, LineError>
     requires { before ≤ most_terms }
     ensures { Gives (λ n. n) result (terms_after before lits.now) }

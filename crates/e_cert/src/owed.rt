@@ -51,7 +51,7 @@ pub struct OpenTransfer {
     pub owed: usize,
 }
 
-/// What certificates a line has.
+/// What certificates a line owes, with those that were read.
 #[derive(Drop)]
 pub enum Obligation {
     /// None.

@@ -19,9 +19,10 @@ pub struct Drawing {
     pub bytes: Vec<u8>,
 }
 
-/// The most bytes of a figure text, and of one of its lines.
+/// The most bytes of a figure text.
 const MOST_BYTES: u64 = 4_194_304;
 
+/// The most bytes of one of its lines.
 const LONGEST_LINE: usize = 1600;
 
 /// Reads the figure of a text.

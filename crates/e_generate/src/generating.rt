@@ -14,7 +14,7 @@ fn put_point(out: &mut String, number: u32) -> Result<(), AllocError>
     write!(out, " p{number}")
 }
 
-/// So many points.
+/// The points before this number, each after a space.
 fn put_points(out: &mut String, count: u32) -> Result<(), AllocError>
     ensures { OnOk result
         (string_bytes out.new ≡ string_bytes out.old ++ Generated.points_to count) }

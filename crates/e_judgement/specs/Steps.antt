@@ -41,7 +41,8 @@ version_at [] = None
 version_at (Err f ∷ lines) = None
 version_at (Ok l ∷ lines) = version_of l
 
--- it was found so; where it is one, its line is taken, and line 2 is next
+-- the version that was found is the one that the first line says; where it says one, that line is
+-- taken, and line 2 is next
 pub record IsHeadFound (lines : Rest) (after : Ahead) (found : Option Version) : Type 0 where
   pub head : found ≡ version_at lines
   pub taken : (v : Version) → found ≡ Some v → (l : LineView) × (lines ≡ Ok l ∷ after.lines) × (after.line ≡ 2)

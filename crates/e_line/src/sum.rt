@@ -61,6 +61,7 @@ fn term_named(word: &[u8], rest: &[&[u8]]) -> Result<RawTerm, LineError>
     Err(LineError::Fault(FaultKind::Malformed))
 }
 
+/// A term, by all its words.
 #[tactic(auto, unfolding(crate::specs::Sums::term_of))]
 pub fn term_of(words: &[&[u8]]) -> Result<RawTerm, LineError>
     ensures { Gives (λ t. t) result (term_of (texts words.now)) }

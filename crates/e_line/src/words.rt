@@ -107,6 +107,7 @@ impl<'b, 'a> Model for Words<'b, 'a> {
 }
 
 impl<'b, 'a> Words<'b, 'a> {
+    /// All these words are still to be read.
     pub fn new(words: &'b [&'a [u8]]) -> Self
         ensures { result ≡ texts words.now }
     {

@@ -30,7 +30,7 @@ abbrev pub count_blanks : List (Option Obj) → ℕ
 count_blanks pattern = length (filter is_none pattern)
 
 -- the title, then how many arguments and new names there are, then the arguments, then the new
--- names, as they are on the line: the place of the theorem, and what stands for its declared
+-- names, from left to right: the place of the theorem, and what stands for its declared
 -- objects
 unfoldable pub apply_in : List TitledStatement → Names → RawApply → Result (ℕ × List (Option Obj)) FaultKind
 apply_in known ns raw = do

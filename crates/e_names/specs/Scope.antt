@@ -174,7 +174,7 @@ object_as ns sort name = number_of ns sort name >>= λ n. Ok (obj sort n)
 abbrev pub objects_as : Names → Sort → List (List ℕ) → Result (List Obj) FaultKind
 objects_as ns sort names = each (object_as ns sort) names
 
--- whether a name stands for an object, or among those that are new on the line
+-- a name is that of an object in scope, or one of those that are new on the line before it
 abbrev pub is_taken : Names → List (List ℕ) → List ℕ → Bool
 is_taken ns seen name = has ns.points name || (has ns.lines name || (has ns.circles name || has seen name))
 
@@ -238,7 +238,7 @@ first_fitting s args avoid [] = Err Malformed
 first_fitting s args avoid (shape ∷ shapes) =
     if fits_construction (construction shape args avoid) s then Ok (construction shape args avoid) else first_fitting s args avoid shapes
 
--- the new names, then the arguments, then the avoided objects, as they are on the line. No line of
+-- the new names, then the arguments, then the avoided objects, from left to right. No line of
 -- a book has another number of new names than objects that are made.
 unfoldable pub let_in : Names → RawLet → Result Construction FaultKind
 let_in ns l = do

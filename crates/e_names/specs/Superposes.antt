@@ -14,7 +14,7 @@ use Rattle.e_names.specs.Scope.{number_of, fresh, lits_in}
 abbrev pub superpose : (a b c d g h K L : ℕ) → Superpose
 superpose a b c d g h K L = record { points = a ∷ b ∷ c ∷ d ∷ g ∷ h ∷ []; lines = K ∷ L ∷ [] }
 
--- the triangle and its line, then the place and its line, as they are there
+-- the triangle and its line, then the place and its line, in the order of the line of text
 unfoldable pub placed_in : Names → List (List ℕ) → Result Superpose FaultKind
 placed_in ns (a ∷ b ∷ c ∷ k ∷ d ∷ g ∷ h ∷ l ∷ []) = do
   na ← number_of ns sorts.Point a

@@ -11,7 +11,7 @@ use e_literal::{Items, Lit, Sort};
 use e_text::Name;
 use std::alloc::Global;
 
-/// The points and lines, as they are there.
+/// The triangle and its line, then the place and its line, in the order of the line of text.
 #[tactic(auto, unfolding(crate::specs::Superposes::placed_in))]
 pub fn placed_in(names: &Names, args: &[Name]) -> Result<Superpose, LineError>
     requires { FewNames names.now }

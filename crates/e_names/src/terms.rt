@@ -19,6 +19,7 @@ fn point(names: &Names, name: Name) -> Result<u16, LineError>
     number_of(names, Sort::Point, name)
 }
 
+/// A term with the points that its names stand for; the leftmost fault.
 #[tactic(auto, unfolding(crate::specs::Scope::term_in))]
 pub fn term_in(names: &Names, term: &RawTerm) -> Result<Term, LineError>
     requires { FewNames names.now }

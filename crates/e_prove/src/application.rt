@@ -84,7 +84,7 @@ pub fn apply(
     })
 }
 
-/// The application of a statement, where it is good.
+/// The application of a statement, where each of its given literals is allowed.
 fn used(
     alloc: Global,
     statement: &Statement,
@@ -118,7 +118,7 @@ fn filled(
     filled_by_least(alloc, statement, pattern, context)
 }
 
-/// The same, where the facts are solved, so that they need not be for each choice anew.
+/// The same, where the facts are solved before, so that they are not solved for each choice anew.
 fn filled_by_least(
     alloc: Global,
     statement: &Statement,

@@ -1,4 +1,4 @@
-//! Whether a literal is allowed by the facts, and a citation good.
+//! Whether a literal is allowed by the facts, and whether a citation gives its literal.
 ghost use Rattle.std.specs.Prelude.{◌≡◌, [], ◌∷◌, IsTrue, IfOk, IfErr, map};
 ghost use Rattle.std.specs.List.{list_all};
 ghost use Rattle.e_literal.specs.Facts.{has, has_all, others};

@@ -113,7 +113,7 @@ impl StepState {
     }
 
     /// New objects of these sorts come into scope, with these names. It fails only out of memory;
-    /// no clause speaks of what holds then.
+    /// no clause says what holds then.
     pub fn grow(&mut self, sorts: &[Sort], names: &[Name]) -> Result<(), AllocError>
         requires points { self.old.context.scope.points + length sorts.now < 2 ^ 16 }
         requires lines { self.old.context.scope.lines + length sorts.now < 2 ^ 16 }

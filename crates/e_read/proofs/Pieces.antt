@@ -1,4 +1,4 @@
--- What stands ahead, line by line.
+-- What comes next in a text, line by line.
 use Rattle.std.proofs.Common.{◌≡◌, ℕ, false, true, List, [], ◌∷◌, Option, Some, None, Result, Ok, Err, refl, sym, ap, subst, ◌∙◌}
 use Rattle.e_text.specs.Lines.{LineView, fault_line}
 use Rattle.e_text.specs.declared.line.LineFault.{LineFault}

@@ -54,7 +54,7 @@ filled (Cases lit first second) ks =
     let f = filled first ks in
     let s = filled second f.1 in (Cases lit f.0 s.0, s.1)
 
--- ---- what the code that fills says: of a block, of a step before whatever comes after it, and of a close
+-- ---- what the code fills in: in a block, a step before whatever comes after it, and a close
 
 abbrev pub Fills : Script → List StepCerts → Script → List StepCerts → Type 0
 Fills old ks new left = filled old ks ≡ (new, left)

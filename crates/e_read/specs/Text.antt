@@ -51,7 +51,7 @@ owes_nothing = record { names = no_names; due = due.Nothing; sums = None }
 abbrev pub at_start : Version → BlockParser
 at_start v = record { version = v; parser = None; owed = owes_nothing; kept = [] }
 
--- the certificates are owed that are left after a line of one
+-- a line of a certificate is taken, and what is owed after it is left
 unfoldable pub with_cert_line : BlockParser → CertLine → Result BlockParser FaultKind
 with_cert_line r m = after_cert_line r.owed m >>= λ o. Ok (record r { owed = o })
 

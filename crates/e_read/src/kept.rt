@@ -24,7 +24,7 @@ impl Model for AllCerts {
 }
 
 impl AllCerts {
-    /// Nothing.
+    /// Nothing was read.
     pub(crate) fn new(alloc: Global) -> AllCerts
         ensures { result ≡ [] }
     {
@@ -43,7 +43,7 @@ impl AllCerts {
         Ok(())
     }
 
-    /// One after the other.
+    /// What was read, to be taken out one after the other.
     pub(crate) fn into_queue(self) -> CertQueue
         ensures { result ≡ self }
     {

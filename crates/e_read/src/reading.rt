@@ -38,7 +38,7 @@ pub struct BlockParser {
     pub version: Version,
     /// The theorem, once its first line has come.
     pub parser: Option<TheoremParser>,
-    /// What the last line but those of certificates owes.
+    /// What is owed by the last line that is not one of a certificate.
     pub owed: Pending,
     /// The certificates of the lines before it.
     pub kept: AllCerts,

@@ -23,9 +23,9 @@ ShowsEnded (Ok l ∷ lines) (text ∷ texts) rest = (l.bytes ≡ text) × (l.end
 -- what a derivation of a theorem is that lines of a text of this version can spell, by its form
 -- alone: whether its certificates certify is not asked
 pub record CanBeSpelled (v : Version) (known : List TitledStatement) (t : TheoremView) (d : Script) : Type 0 where
-  -- so is the theorem, with the derivation's script for its own
+  -- the theorem has a spelling, with the derivation's script for its own
   pub plain : HasSpelling known (record t { script = erased d })
-  -- each line has as many certificates as it owes, of good form
+  -- each line has as many certificates as it owes, each of the form that lines can have
   pub formed : Formed (stated_by known) (stated t.statement) d
   -- its certificates are of the version
   pub version : IsTrue (has_certs_of v d)

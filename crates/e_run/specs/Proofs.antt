@@ -18,7 +18,7 @@ RewroteProofs old new (status.Upgraded n) = (out : List ℕ) × SpellsProofs n o
 RewroteProofs old new (status.Trimmed n) = (out : List ℕ) × SpellsProofs n out × Grew old new out
 RewroteProofs old new _ = Unit {0}
 
--- where a derivation text is verified, and its source tells its bytes, they spell proofs
+-- where a derivation text is verified, and its source exposes its bytes, they spell proofs
 abbrev pub ReadProofs : Option (List ℕ) → Status → Type 0
 ReadProofs left (status.Verified n) = (text : List ℕ) → left ≡ Some text → SpellsProofs n text
 ReadProofs left _ = Unit {0}

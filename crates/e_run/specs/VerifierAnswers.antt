@@ -22,7 +22,7 @@ line_of (judgements.Bad title step) = bad_line title step
 line_of (judgements.Garbled line) = garbled_line line
 
 -- The line that is due with an answer. The text has this judgement, or has more bytes than `verify`
--- takes; a fault of the source and want of memory say nothing of it.
+-- takes; a fault of the source and out of memory say nothing of it.
 abbrev pub TextAnswer : List ℕ → Status → List ℕ → Type 0
 TextAnswer text (status.Verified n) out = JudgesText text (judgements.Verified n) × (out ≡ verified_line n)
 TextAnswer text (status.Bad title step) out = JudgesText text (judgements.Bad title step) × (out ≡ bad_line title step)

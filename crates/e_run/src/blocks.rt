@@ -29,7 +29,7 @@ use std::mem;
 /// How the blocks of a book end.
 #[derive(Drop)]
 pub enum BookResult {
-    /// All theorems are taken; they have n step and close lines.
+    /// All theorems are taken: how many they are, and how many step and close lines they have.
     All { theorems: u32, steps: u32 },
     /// The next theorem stops.
     Stopped { title: Title, stop: Stop },

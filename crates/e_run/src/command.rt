@@ -30,9 +30,9 @@ pub enum Command {
     Figure,
     /// A derivation text is verified, and this is written of it.
     Rewrite(Job),
-    /// That many theorems are generated.
+    /// This many theorems are generated.
     Make(u32),
-    /// That many theorems are generated, checked and verified.
+    /// This many theorems are generated, checked and verified.
     Trial(u32),
     /// What may be applied at a step of the theorem with this title.
     Suggest(Title, u32),

@@ -10,7 +10,7 @@ use e_generate::generated;
 use e_io::Sink;
 use std::alloc::Global;
 
-/// Writes the generated book of n theorems.
+/// Writes the generated book of this many theorems.
 pub fn make<K: Sink>(alloc: Global, theorems: u32, sink: &mut K) -> Status
     requires { theorems ≤ 500 }
     ensures makes { Makes theorems (K.written sink.old) (K.written sink.new) result }

@@ -37,7 +37,7 @@ pub enum Status {
     Drawn {
         shown: u64,
     },
-    /// So many lines are suggested, and whether some are left out.
+    /// This many lines are suggested, and whether some are left out.
     Suggested {
         lines: u32,
         more: bool,

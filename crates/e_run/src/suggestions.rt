@@ -31,9 +31,9 @@ const MOST_DECLARED: usize = 6;
 /// What was written of the theorems.
 #[derive(Clone, Copy)]
 pub enum Listed {
-    /// So many lines, and none is left out.
+    /// This many lines, and none is left out.
     All(usize),
-    /// So many lines, and some are left out.
+    /// This many lines, and some are left out.
     Full(usize),
     /// A choice is too wide, and this is the width.
     TooWide(u128),

@@ -80,7 +80,7 @@ fn answer_to(alloc: Global, lines: &mut Lines) -> Result<Answer, AllocError>
     verified(alloc, &store.into_bytes(), theorems, steps)
 }
 
-/// The answer to the generated book of n theorems, with its line.
+/// The answer to the generated book of this many theorems, with its line.
 fn answer_for(alloc: Global, theorems: u32) -> Result<Answer, AllocError>
     requires { theorems ≤ 500 }
     ensures { IfOk result
@@ -95,8 +95,8 @@ fn answer_for(alloc: Global, theorems: u32) -> Result<Answer, AllocError>
     answer_to(alloc, &mut lines)
 }
 
-/// Checks the generated book of n theorems, verifies what `check` writes of it, and writes the line
-/// of the answer.
+/// Checks the generated book of this many theorems, verifies what `check` writes of it, and writes
+/// the line of the answer.
 pub fn trial<K: Sink>(alloc: Global, theorems: u32, sink: &mut K) -> Status
     requires { theorems ≤ 500 }
     ensures tries { Tries theorems (K.written sink.old) (K.written sink.new) result }

@@ -34,6 +34,7 @@ fn number(kept: &[Obj], sort: Sort, number: u16) -> u16
     less
 }
 
+/// The object with its new number.
 pub fn new_object(kept: &[Obj], object: Obj) -> Obj
     requires { length kept.now < 2 ^ 16 }
     ensures { result ≡ Trimmed.obj_at kept.now object }
@@ -44,6 +45,7 @@ pub fn new_object(kept: &[Obj], object: Obj) -> Obj
     }
 }
 
+/// The objects with their new numbers, in order.
 pub fn new_objects(alloc: Global, kept: &[Obj], objects: &[Obj]) -> Result<Items<Obj>, AllocError>
     requires { length kept.now < 2 ^ 16 }
     ensures { IfOk result (λ os. os ≡ map (Trimmed.obj_at kept.now) objects.now) }
@@ -55,6 +57,7 @@ pub fn new_objects(alloc: Global, kept: &[Obj], objects: &[Obj]) -> Result<Items
     Ok(Items::new(new))
 }
 
+/// The arguments with their new numbers; a blank stays one.
 pub fn new_args(
     alloc: Global,
     kept: &[Obj],
@@ -168,6 +171,7 @@ fn new_atom(alloc: Global, kept: &[Obj], atom: &Atom) -> Result<Atom, AllocError
     Ok(atom)
 }
 
+/// The literal over the kept objects.
 pub fn new_lit(alloc: Global, kept: &[Obj], lit: &Lit) -> Result<Lit, AllocError>
     requires { length kept.now < 2 ^ 16 }
     ensures { IfOk result (λ l. l ≡ Trimmed.lit_at kept.now lit.now) }
@@ -176,6 +180,7 @@ pub fn new_lit(alloc: Global, kept: &[Obj], lit: &Lit) -> Result<Lit, AllocError
     Ok(Lit { neg: lit.neg, atom })
 }
 
+/// The literals over the kept objects, in order.
 pub fn new_lits(alloc: Global, kept: &[Obj], lits: &[Lit]) -> Result<Items<Lit>, AllocError>
     requires { length kept.now < 2 ^ 16 }
     ensures { IfOk result (λ ls. ls ≡ map (Trimmed.lit_at kept.now) lits.now) }
@@ -287,6 +292,7 @@ fn new_transfer(
     })
 }
 
+/// The certificate over the kept objects.
 pub fn new_cert(alloc: Global, kept: &[Obj], cert: &Cert) -> Result<Cert, AllocError>
     requires { length kept.now < 2 ^ 16 }
     ensures { IfOk result (λ c. c ≡ Trimmed.cert_at kept.now cert.now) }
@@ -297,6 +303,7 @@ pub fn new_cert(alloc: Global, kept: &[Obj], cert: &Cert) -> Result<Cert, AllocE
     }
 }
 
+/// The certificates over the kept objects, in order.
 pub fn new_certs(alloc: Global, kept: &[Obj], certs: &[Cert]) -> Result<Items<Cert>, AllocError>
     requires { length kept.now < 2 ^ 16 }
     ensures { IfOk result (λ cs. cs ≡ map (Trimmed.cert_at kept.now) certs.now) }
@@ -308,6 +315,7 @@ pub fn new_certs(alloc: Global, kept: &[Obj], certs: &[Cert]) -> Result<Items<Ce
     Ok(Items::new(new))
 }
 
+/// The certificate of a contradiction over the kept objects.
 pub fn new_against(alloc: Global, kept: &[Obj], against: &Against) -> Result<Against, AllocError>
     requires { length kept.now < 2 ^ 16 }
     ensures { IfOk result (λ a. a ≡ Trimmed.against_at kept.now against.now) }
@@ -322,6 +330,7 @@ pub fn new_against(alloc: Global, kept: &[Obj], against: &Against) -> Result<Aga
 
 // ---- what steps are made of
 
+/// The citation over the kept objects.
 pub fn new_by(alloc: Global, kept: &[Obj], by: &By) -> Result<By, AllocError>
     requires { length kept.now < 2 ^ 16 }
     ensures { IfOk result (λ b. b ≡ Trimmed.by_at kept.now by.now) }
@@ -333,6 +342,7 @@ pub fn new_by(alloc: Global, kept: &[Obj], by: &By) -> Result<By, AllocError>
     })
 }
 
+/// The construction over the kept objects.
 pub fn new_construction(
     alloc: Global,
     kept: &[Obj],
@@ -348,6 +358,7 @@ pub fn new_construction(
     })
 }
 
+/// The superposition over the kept objects.
 pub fn new_superpose(kept: &[Obj], form: &Superpose) -> Superpose
     requires { length kept.now < 2 ^ 16 }
     ensures { result ≡ Trimmed.superpose_at kept.now form.now }

@@ -31,6 +31,7 @@ impl Model for Wanted {
     ghost view = { λ w. record { lits = w.lits.items; objects = w.objects.items } };
 }
 
+/// The point with this number.
 pub fn point(number: u16) -> Obj
     ensures { result ≡ obj PointSort number }
 {
@@ -40,6 +41,7 @@ pub fn point(number: u16) -> Obj
     }
 }
 
+/// The line with this number.
 pub fn line(number: u16) -> Obj
     ensures { result ≡ obj LineSort number }
 {
@@ -186,7 +188,8 @@ impl Wanted {
         self.objects.extend_from_slice(&objects)
     }
 
-    /// What of it is outside of a block that this holds before: facts, and objects in scope.
+    /// What of it is outside of a block, where this holds before the block: literals that are facts
+    /// there, and objects in scope.
     pub fn outside(self, alloc: Global, state: &StepState) -> Result<Wanted, AllocError>
         ensures { IfOk result (λ w. w ≡ outside state.now.scope state.now.facts self) }
     {

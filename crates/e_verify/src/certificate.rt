@@ -97,8 +97,8 @@ pub fn certifies_against(
     }
 }
 
-/// Whether the literal is among the facts, or at the place among them, or its sums show that it
-/// follows from them.
+/// Whether the part certifies the literal: that it is among the facts, or at the part's place among
+/// them, or follows from them by the part's sums.
 pub fn part_certifies(
     alloc: Global,
     facts: &Facts,

@@ -9,8 +9,8 @@ ghost use Rattle.e_verify.specs.inner.Fingerprint.{sum_weight, packed, atom_fing
 use crate::key::placed;
 use e_literal::{Atom, Lit, Mono, Term, canonical, is_degenerate};
 
-/// The square, by a prime below 2^30, so that a sum of such numbers with small coefficients stays
-/// far within 128 bits.
+/// The square modulo a prime below 2^30, so that a sum of such numbers with small coefficients
+/// stays far within 128 bits.
 #[tactic(auto, unfolding(crate::specs::inner::Fingerprint::square_residue))]
 fn mixed(n: u64) -> u64
     requires { n < 2 ^ 32 }

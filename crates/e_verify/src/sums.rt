@@ -14,8 +14,8 @@ use crate::totals::Totals;
 use e_clause::RowName;
 use std::alloc::{AllocError, Global};
 
-/// Whether the sum is of good size, each of its rows may be used here, and it is absurd: all terms
-/// cancel, no row that says at least or more is taken away, and one that says more is added.
+/// Whether the sum is of limited size, each of its rows may be used here, and it is absurd: all
+/// terms cancel, no row that says at least or more is taken away, and one that says more is added.
 pub fn refutes(
     alloc: Global,
     row_scope: &RowScope,

@@ -20,7 +20,7 @@ fn line(text: &str, at: usize) -> u16 {
     }
 }
 
-// `ab` is a segment, `abc` an angle, `^abc` an area, and `r` is right.
+/// `ab` is a segment, `abc` an angle, `^abc` an area, and `r` is right.
 pub fn term(word: &str) -> Term {
     match word.len() {
         2 => Term::Seg(point(word, 0), point(word, 1)),
@@ -69,7 +69,7 @@ fn atom(alloc: Global, text: &str) -> Result<Atom, AllocError> {
     }
 }
 
-// `!` stands for not.
+/// A literal: an atom, with `!` before it for not.
 pub fn lit(alloc: Global, text: &str) -> Result<Lit, AllocError> {
     let (neg, text) = match text.strip_prefix('!') {
         Some(rest) => (true, rest),
@@ -79,7 +79,7 @@ pub fn lit(alloc: Global, text: &str) -> Result<Lit, AllocError> {
     Ok(Lit { neg, atom })
 }
 
-// The facts between blanks.
+/// The facts of literals with a space between two.
 pub fn facts_of(alloc: Global, text: &str) -> Result<Facts, AllocError> {
     let mut facts = Facts::new(alloc);
     for word in text.split(' ') {

@@ -50,8 +50,8 @@ fn row(rt: &impl Abort, alloc: Global, text: &str) -> Result<Row, AllocError> {
     })
 }
 
-// A row is `=`, `+`, `>` or `!`, for 0, at least 0, more than 0 or not 0, and a sum of letters,
-// each of which stands for a term.
+/// Rows with a space between two: each is `=`, `+`, `>` or `!`, for 0, at least 0, more than 0 or
+/// not 0, and a sum of letters, each of which stands for a term.
 pub fn rows(rt: &impl Abort, alloc: Global, text: &str) -> Result<Vec<Row>, AllocError> {
     let mut rows = Vec::new(alloc);
     for word in text.split(' ') {

@@ -4,8 +4,8 @@ use e_literal::Lit;
 use std::alloc::{AllocError, Global};
 use std::fmt::{Debug, Write};
 
-/// Words, each after a space. Where memory is wanted for one, the answer goes on without it, and is
-/// not whole.
+/// Words, each after a space. Where there is no memory for one, the answer goes on without it, and
+/// is not whole.
 #[derive(Drop)]
 pub struct Answer {
     text: String,
@@ -13,6 +13,7 @@ pub struct Answer {
 }
 
 impl Answer {
+    /// No words.
     pub fn new(alloc: Global) -> Self {
         Answer {
             text: String::new(alloc),

@@ -23,6 +23,7 @@ static TRIANGLES: Superpose = Superpose {
     lines: [12, 13],
 };
 
+/// Puts what a superposition or a construction is, needs and gives.
 pub fn put(alloc: Global, out: &mut Answer, call: &str, on: &str) -> Result<(), AllocError> {
     match call {
         "superpose" => put_superposed(alloc, out),

@@ -7,6 +7,7 @@ use e_facts::{Added, Facts};
 use e_literal::{Lit, copy, normal, same};
 use std::alloc::{AllocError, Global};
 
+/// Puts which literals are the same, or what facts answer step by step.
 pub fn put(alloc: Global, out: &mut Answer, call: &str, on: &str) -> Result<(), AllocError> {
     match call {
         "same" => put_same(alloc, out, &literals(alloc, on)?),

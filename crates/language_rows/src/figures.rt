@@ -13,6 +13,7 @@ use e_figure::{
 };
 use std::alloc::{AllocError, Global};
 
+/// Puts what is answered on the figure of a row, or `none` where it is no figure.
 pub fn put(alloc: Global, out: &mut Answer, call: &str, on: &str) -> Result<(), AllocError> {
     let (points, on) = two(on, "|");
     let (lines, on) = two(on, "|");

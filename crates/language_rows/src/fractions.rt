@@ -13,6 +13,7 @@ const X: Term = Term::Seg(0, 1);
 
 const Y: Term = Term::Seg(2, 3);
 
+/// Puts whether a sum refutes, a width, what is known of coefficients, or the quotients.
 pub fn put(alloc: Global, out: &mut Answer, call: &str, on: &str) -> Result<(), AllocError> {
     match call {
         "sum" => put_sum(alloc, out, on),

@@ -12,6 +12,7 @@ use e_literal::{
 };
 use std::alloc::{AllocError, Global};
 
+/// Puts what is answered on literals: read, negated or renamed, or of lists and values.
 pub fn put(alloc: Global, out: &mut Answer, call: &str, on: &str) -> Result<(), AllocError> {
     match call {
         "read" => put_read(alloc, out, on),

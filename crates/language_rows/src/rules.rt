@@ -6,6 +6,7 @@ use e_clause::{RowName, Rule, Sum, instance};
 use e_literal::{Obj, Term};
 use std::alloc::{AllocError, Global};
 
+/// Puts a rule, an instance of one, or whether a sum has the rows that it was made of.
 pub fn put(alloc: Global, out: &mut Answer, call: &str, on: &str) -> Result<(), AllocError> {
     match call {
         "rule" => {
@@ -45,7 +46,7 @@ fn put_instance_at(alloc: Global, out: &mut Answer, rule: Rule, args: &[Obj]) {
     }
 }
 
-// A sum of two rows: how many it has, and whether they are those that it was made of.
+// Whether a sum has the two rows that it was made of.
 fn put_sum(alloc: Global, out: &mut Answer) -> Result<(), AllocError> {
     let sum = Sum::new(vec![in alloc; (1, RowName::Pos(Term::Seg(0, 1))), (-3, RowName::Goal)]?);
     let kept = matches!(

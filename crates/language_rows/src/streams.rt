@@ -9,6 +9,7 @@ use std::io::{self, Cursor, Read};
 /// What is written to a sink in memory.
 const TEXT: &[u8] = b"0123456789abcdefghijklmnopqrstuvwxyzABCD";
 
+/// Puts what the calls of a source or of a sink answer.
 pub fn put(alloc: Global, out: &mut Answer, call: &str, on: &str) -> Result<(), AllocError> {
     match call {
         "memory-source" => put_memory_source(alloc, out, on),

@@ -5,6 +5,7 @@ use crate::rows::{bytes_of, number, quoted, two};
 use e_text::{Lines, Name, Title, name_read_again, numeral, reserved, title_read_again, tokens};
 use std::alloc::{AllocError, Global};
 
+/// Puts what a text is read as: lines, tokens, a numeral, or a word.
 pub fn put(alloc: Global, out: &mut Answer, call: &str, on: &str) -> Result<(), AllocError> {
     match call {
         "lines" => put_lines_of(alloc, out, on),

@@ -14,6 +14,7 @@ const SCOPE: Scope = Scope {
     circles: 0,
 };
 
+/// Puts the use of the proposition at arguments, or whether they are a pattern.
 pub fn put(alloc: Global, out: &mut Answer, call: &str, letters: &str) -> Result<(), AllocError> {
     match call {
         "use" => put_use(alloc, out, letters),

@@ -2,7 +2,7 @@
 //! `bench/linear.sh` times it.
 //!
 //! The words are the number of rows, of terms, the seed, and `open` or `shut`: an open system has a
-//! solution, and a shut one has one more row that refutes it.
+//! solution, and a shut one has two more rows that contradict each other.
 #![tactic(auto)]
 
 ghost use Rattle.std.specs.Prelude.{◌<◌};

@@ -27,7 +27,7 @@ const READ: usize = 1 << 12;
 /// How many bytes are written at a time, where a row says nothing else.
 const WRITTEN: usize = 16;
 
-/// How many bytes of an answer are printed in full.
+/// The most bytes of an answer that is printed in full.
 const PRINTED: usize = 6_000;
 
 /// The part of a row between its marks.

@@ -31,7 +31,7 @@ fn without_numbers(alloc: Global, answer: &str) -> Result<String, AllocError> {
     Ok(text)
 }
 
-/// The number of the value line of this place.
+/// The number on the value line at this place, counted from 0.
 fn value(answer: &str, place: usize) -> Option<u128> {
     let line = answer
         .split('/')
@@ -40,7 +40,7 @@ fn value(answer: &str, place: usize) -> Option<u128> {
     line.rsplit_once(' ')?.1.parse::<u128>().ok()
 }
 
-/// Whether the values at two places stand so, as `0<1`.
+/// Whether the values at two places have this relation, as in `0<1`.
 fn stands(answer: &str, relation: &str) -> Option<bool> {
     let (first, second) = relation.split_once(['<', '=', '!'])?;
     let first = value(answer, first.parse::<usize>().ok()?)?;

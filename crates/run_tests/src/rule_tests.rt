@@ -108,7 +108,7 @@ fn declared(alloc: Global, rule: Rule) -> Result<String, AllocError> {
     Ok(text)
 }
 
-/// The lines that give the negation of each literal that is not the goal, but of the one at a
+/// The lines that give the negation of each literal that is not the goal, except the one at a
 /// place.
 fn given(alloc: Global, lits: &[Lit], goal: &Lit, left_out: usize) -> Result<String, AllocError> {
     let mut text = String::new(alloc);
@@ -122,7 +122,7 @@ fn given(alloc: Global, lits: &[Lit], goal: &Lit, left_out: usize) -> Result<Str
     Ok(text)
 }
 
-/// The names of the first objects of each sort, as many as the rule has variables.
+/// The name of the rule, and those of the first objects of each sort, as many as it has variables.
 fn cited_at(alloc: Global, rule: Rule) -> Result<String, AllocError> {
     let mut text = String::from_str(alloc, rule.name())?;
     for (names, sort) in [
@@ -147,8 +147,7 @@ fn step(alloc: Global, rule: Rule, goal: &str) -> Result<String, AllocError> {
     }
 }
 
-/// What is answered where the goal is inferred from the others but the one at a place: its steps
-/// and end, and what it lacks.
+/// What `check` answers where the goal is inferred from the others except the one at a place.
 fn inferred(
     alloc: Global,
     rule: Rule,

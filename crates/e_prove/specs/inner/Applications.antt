@@ -15,13 +15,14 @@ use Rattle.e_clause.specs.Versions.{is_cert_of}
 use Rattle.e_licence.specs.Contexts.{Basis}
 use Rattle.e_prove.specs.declared.application.Use.{Use}
 
--- the literals that the statement needs and gives at these arguments are good
+-- at these arguments the literals that the statement needs are in scope and well formed; so are the
+-- facts with those that it gives, and their terms are few
 pub record LitsFitAt (t : StatementView) (args : List Obj) (x : Basis) : Type 0 where
   pub needs : IsTrue (are_well_formed_in x.scope (needs_of_use t args x.scope))
   pub after : IsTrue (are_limited_facts (grown x.scope t.made) (joined_all x.facts (gives_of_use t args x.scope)))
 
--- the arguments fit the statement, whatever their blanks are filled with, and at each choice the
--- literals are good; there are numbers for all objects
+-- the arguments fit the statement, whatever their blanks are filled with, and at each choice its
+-- literals fit; there are numbers for all objects
 pub record CanApply (t : StatementView) (pattern : List (Option Obj)) (x : Basis) : Type 0 where
   pub fits : IsTrue (is_pattern t x.scope pattern)
   pub statement : IsTrue (is_small_statement t)

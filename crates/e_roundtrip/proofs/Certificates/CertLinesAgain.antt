@@ -1,4 +1,4 @@
--- The line of a mark is read as that mark.
+-- The spelling of a line of a certificate is read as that line.
 use Rattle.std.proofs.Common.{◌≡◌, ℕ, zero, suc, ◌≤◌, ◌<◌, ◌^◌, ℤ, pos, negsuc, Bool, true, false, not, ◌||◌, ltb, leb, eqb, List, [], ◌∷◌, ◌++◌, length, Ok, refl, sym, ap, subst, ◌∙◌, arith, rules, tests}
 use Rattle.std.specs.Prelude.{codes, unsigned_abs}
 use Rattle.std.specs.Fmt.{decimal, signed_decimal}
@@ -194,7 +194,7 @@ two_read ws t = subst (λ (x : List (List ℕ)). fact_row_of x ≡ (lit_of x >>=
 fact_again : (l : RawLit) → LitNamed l → fact_row_of (lit_words l) ≡ Ok (rows.Fact l)
 fact_again l h = two_read (lit_words l) (atom_two l.neg l.atom) ∙ rw (lit_again l h) refl
 
--- ---- the words of a mark
+-- ---- the words of a line of a certificate
 
 place_row_again : (k : ℕ) → ltb k (2 ^ 32) ≡ true → fact_row_of (decimal k ∷ []) ≡ Ok (rows.FactAt k)
 unfolding fact_row_of
@@ -269,7 +269,7 @@ cert_line_tokens (certlines.Row m r) h = (multiplier_token m h.0, row_tokens r h
 pub cert_line_tokens_again : (m : CertLine) → CertLineNamed m → tokens_of (cert_line_text m) ≡ codes "|" ∷ cert_line_words m
 cert_line_tokens_again m h = tokens_of-joined (codes "|" ∷ cert_line_words m) (refl, cert_line_tokens m h)
 
--- ---- the line is spelled as the mark is
+-- ---- the line is spelled as its form is
 
 strict_row : (r : RawRow) → RowNamed r → is_strict_row r ≡ true
 strict_row (rows.Fact l) h = h.1

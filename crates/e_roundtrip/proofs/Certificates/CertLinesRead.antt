@@ -56,7 +56,7 @@ cert_line_canonical (certlines.Clash l) d s = diagram_canonical l s
 cert_line_canonical (certlines.FactAt k) d s = s
 cert_line_canonical m d s = tt
 
--- a line of a certificate is that of its mark
+-- a line of a certificate is that of its form
 pub strict_cert_line_read : (line : List ℕ) (words : List (List ℕ)) (m : CertLine) → exact_cert_line line words ≡ Ok m → (line ≡ cert_line_text m) × CanonicalCertLine m
 unfolding exact_cert_line
 strict_cert_line_read line words m e =

@@ -1,4 +1,4 @@
--- Where reading ends with the last line of a text, that line stands ahead.
+-- Where reading ends with the last line of a text, that line comes next.
 use Rattle.std.proofs.Common.{◌≡◌, ℕ, true, false, cond, inl, inr, List, [], ◌∷◌, length, Option, Some, None, Result, Ok, Err, refl, sym, ap, ◌∙◌}
 use Rattle.std.specs.Str.{bytes_eq}
 use Rattle.std.proofs.lemmas.Slice.Eq.{bytes_eq-Decides}

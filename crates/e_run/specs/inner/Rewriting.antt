@@ -107,6 +107,6 @@ pub record Progress (job : Job) (v : Version) (last : ℕ) (lines : Rest) (old n
   pub second : AreOfSecond job [] theorems
   pub grew : Grew old new (blocks_of job [] theorems)
 
--- the last line of the judgement closes, or that of out of memory
+-- the run closes with the last line of the judgement, or with that of out of memory
 abbrev pub IsReported : Job → Option (List ℕ) → Option (List ℕ) → Judgement → Status → Type 0
 IsReported job old new j result = ClosesWith old new (line_of job j) (answer_of job j) result ⊎ ClosesWith old new no_memory_line status.NoMemory result

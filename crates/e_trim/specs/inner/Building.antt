@@ -50,7 +50,7 @@ TakesFlag pile left kept =
     (under inner : List Bool) (b : Bool) → pile ≡ under ++ flag b inner → (kept ≡ b) × (left ≡ under ++ (if b then inner else []))
 
 -- the flags of the script lie on the pile, over others, and are taken; after the steps that were
--- there stand what is left of it
+-- there comes what is left of the script
 abbrev pub IsBuilt : List StatementView → List Obj → Script → Scope → List Bool → List Bool → List Step → List Step → Close → Type 0
 IsBuilt before kept d s pile left done now close =
     (facts : List Lit) (goal : Goal) (under : List Bool) → pile ≡ under ++ flags_of before d s facts goal

@@ -10,7 +10,7 @@ use Rattle.e_literal.specs.declared.literal.Atom.TheVariants.{On, OnC, Inside, C
 use Rattle.e_literal.specs.Truth.{value_of}
 use Rattle.e_literal.specs.Solution.{carried}
 
--- the square, by a prime below 2^30
+-- the square modulo a prime below 2^30
 unfoldable pub square_residue : ℕ → ℕ
 square_residue n = n * n % 1073741789
 
