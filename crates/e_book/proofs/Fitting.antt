@@ -104,7 +104,7 @@ lits_said s (l ∷ ls) h k =
     let q = and_parts (is_well_formed l) (list_all is_well_formed ls) k in
     and_from _ _ (and_from _ _ q.0 p.0) (lits_said s ls p.1 q.1)
 
--- at most so many objects
+-- at most this many objects
 record FewObjects (s : Scope) : Type 0 where
   points : s.points ≤ 1000
   lines : s.lines ≤ 1000

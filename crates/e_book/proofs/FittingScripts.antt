@@ -78,7 +78,7 @@ line_fits before x = form_fits before x x.here
 abbrev pub Makes : Goal → List Sort → Type 0
 Makes goal sorts = map (λ (o : Obj). o.sort) goal.made ≡ sorts
 
--- A script that stands there, inside so many blocks, for a goal with made objects of these sorts.
+-- A script that stands there, inside this many blocks, for a goal with made objects of these sorts.
 pub record ScriptFits (at : Spot) (sorts : List Sort) (level : ℕ) (script : Script) : Type 0 where
   pub forms : (filled : Script) (known : List Lit) (goal : Goal) → Makes goal sorts → list_all (line_fits at.before) (lines at.before script filled (scope_at at) known goal) ≡ true
   pub new_names : NewNamesFit at.before at.names script

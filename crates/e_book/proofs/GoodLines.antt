@@ -57,7 +57,7 @@ use Rattle.e_book.proofs.Renaming.{renamed_good, made_moved}
 abbrev pub count_terms : List Lit → ℕ
 count_terms ls = length (terms_of_lits ls)
 
--- facts that are in scope and well formed, with at most so many terms
+-- facts that are in scope and well formed, with at most this many terms
 pub record GoodFacts (s : Scope) (facts : List Lit) (n : ℕ) : Type 0 where
   pub good : are_well_formed_in s facts ≡ true
   pub few : count_terms facts ≤ n

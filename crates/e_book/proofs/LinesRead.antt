@@ -65,7 +65,7 @@ proving d i = record d { in_scope = i.in_scope; steps = i.steps; lines = i.lines
 abbrev pub splitting : TheoremParser → Inside → TheoremParser
 splitting d i = record (proving d i) { place = Splitting }
 
--- after one more step, with so many more facts
+-- after one more step, with this many more facts
 abbrev pub after_step : Inside → PlainStep → ℕ → Inside
 after_step i s facts = record i { steps = i.steps ++ s ∷ []; lines = i.lines + 1; facts = i.facts + facts }
 
@@ -73,11 +73,11 @@ after_step i s facts = record i { steps = i.steps ++ s ∷ []; lines = i.lines +
 abbrev pub outer : Inside → BlockKind → OpenBlock
 outer i o = record { steps = i.steps; in_scope = i.in_scope; facts = i.facts; terms = i.terms; kind = o }
 
--- in an inner block, which begins with so many more facts
+-- in an inner block, which begins with this many more facts
 abbrev pub deep : Inside → BlockKind → ℕ → Inside
 deep i o facts = record i { blocks = outer i o ∷ i.blocks; steps = []; lines = i.lines + 1; facts = i.facts + facts }
 
--- with so many more monomials
+-- with this many more monomials
 abbrev pub written : Inside → ℕ → Inside
 written i terms = record i { terms = i.terms + terms }
 

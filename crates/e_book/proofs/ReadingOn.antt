@@ -171,7 +171,7 @@ good_after known old new lines left (Ok None) all b h = tt
 good_after known old new lines left (Ok (Some i)) all b h = read_is_well_formed known 0 (view_of i) (b.front ++ (lines ++ [])) (left ++ []) all (b.reads 0 (lines ++ []) ∙ h.2 0 [])
 good_after known old new lines left (Err f) all b h = tt
 
--- ---- where no lines come after those that are ahead
+-- ---- where no lines come after these
 
 -- before the first line
 pub from_none : (known : Known) (old new : Option Coming) (lines left : Rest) (o p : Option Item) → old ≡ None → o ≡ p → ReadsOn known old lines (Ok o) new left → ReadsOn known None lines (Ok p) new left

@@ -49,7 +49,7 @@ abbrev pub none_true : List Lit → List Fact
 none_true [] = []
 none_true (l ∷ ls) = cond l.neg (when_true l.atom) (when_false l.atom) ++ none_true ls
 
--- a line has a direction, and a circle an inside: of so many, from this number on
+-- a line has a direction, and a circle an inside: of this many, from this number on
 abbrev pub directions : ℕ → ℕ → List Fact
 directions k zero = []
 directions k (suc n) = positive (size (way k)) ∷ directions (suc k) n

@@ -42,7 +42,7 @@ pub total_grown : (s : Scope) (sorts : List Sort) → total (grown s sorts) ≡ 
 total_grown s [] = omega arith
 total_grown s (sort ∷ sorts) = omega (arith, total_grown (with_one s sort) sorts, total_grows s sort)
 
--- none is lost, and of each sort there are at most so many more
+-- none is lost, and of each sort there are at most this many more
 pub record Bounds (s t : Scope) (n : ℕ) : Type 0 where
   pub points : s.points ≤ t.points
   pub lines : s.lines ≤ t.lines

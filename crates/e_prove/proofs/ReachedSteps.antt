@@ -102,7 +102,7 @@ close_here before items seen done close i x y goal first n m same le at p r =
 
 -- ---- a step before the one that is sought
 
--- it ends where so many lines say
+-- it ends where this many lines say
 pub step_ends : (before : List StatementView) (s d : Step) (y z : StepState) (n m lines : ℕ) (rest : Script) → size (step_script s rest) ≡ lines + size rest → IsPassed before (step_script s) y n (step_script d) z m → m ≡ n + lines
 step_ends before s d y z n m lines rest many p = let count = p.number rest in omega (arith, count, many)
 

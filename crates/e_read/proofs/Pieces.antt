@@ -66,7 +66,7 @@ not_finished (Some d) kept e = rw e refl
 pub more_turn : (known : List TitledStatement) (old new : BlockParser) (line : LineView) → is_end known old.parser line ≡ false → garbled_at line.number (taken known old line) ≡ Ok new → is_finished new.parser ≡ false → ProgressIs known old line new (Ok turns.Continue)
 more_turn known old new line b h e = λ last rest. piece_next known last old new line rest b h (not_finished new.parser new.kept e)
 
--- ---- the lines ahead
+-- ---- the lines that come
 
 -- the line after which the theorem has ended
 pub read_ended : (known : List TitledStatement) (last : ℕ) (old new : BlockParser) (line : LineView) (lines rest : List (Result LineView LineFault)) (all : Result (Piece × List (Result LineView LineFault)) ℕ) (t : TheoremView) (turn : Progress) → turn ≡ turns.Complete

@@ -107,9 +107,9 @@ open_sum from zero le = refl
 open_sum from (suc n) le =
     open_append (added from) (flat_map added (numbers (from + 1) n)) (open_added from (omega (arith, le))) (open_sum (from + 1) n (omega (arith, le)))
 
--- ---- lines with so many titles
+-- ---- lines with this many titles
 
--- where these bytes come before others, and no line has a fault, their lines have so many titles, and the other lines come after them
+-- where these bytes come before others, and no line has a fault, their lines have this many titles, and the other lines come after them
 abbrev Adds : ℕ → List ℕ → Type 0
 Adds n text =
     (w : Bounds) (at : Spot) (rest : List ℕ) → HaveNoFault (lines_of w at (text ++ rest)) →
@@ -223,7 +223,7 @@ adds_show_less m lt =
     let o2 : OpenLine sign = line_more (codes " <") end refl o1 in
     adds_word (codes "show") (segment 0 1 ++ sign) 0 refl refl refl (line_more (segment 0 1) sign (open_segment 0 1 (omega arith) (omega arith)) o2) refl
 
--- so many lines, one for each number
+-- this many lines, one for each number
 adds_flat : (f : ℕ → List ℕ) (from n : ℕ) → ((i : ℕ) → i < from + n → Adds 0 (f i)) → Adds 0 (flat_map f (numbers from n))
 adds_flat f from zero h = adds_none
 adds_flat f from (suc n) h =

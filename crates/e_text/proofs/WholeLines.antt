@@ -20,7 +20,7 @@ before_lf text i lt = not-true (is_lf (get_or text i 0)) (prefix_len_passes (λ 
 pub at_lf : (text : List ℕ) → position_or_len is_lf text < length text → is_lf (get_or text (position_or_len is_lf text) 0) ≡ true
 at_lf text lt = not-false (is_lf (get_or text (position_or_len is_lf text) 0)) (prefix_len_stops (λ x. not (is_lf x)) text 0 lt)
 
--- where the line that begins after a part of so many bytes stands
+-- where the line that begins after a part of this many bytes stands
 abbrev pub next_spot : Spot → ℕ → Spot
 next_spot at n = record { line = at.line + 1; before = at.before + n + 1 }
 

@@ -74,6 +74,7 @@ fn true_row(alloc: Global, a: u16, b: u16, strict: bool) -> Result<Option<Row>, 
     }
 }
 
+/// The rows of a system of this size. Over no terms there are none.
 fn system(alloc: Global, size: Size) -> Result<Vec<Row>, AllocError> {
     let mut rows = Vec::new(alloc);
     let mut seed = size.seed;

@@ -38,7 +38,7 @@ use Rattle.e_roundtrip.proofs.Certificates.TransfersAgain.{GoodTransfer, part_wa
 
 -- ---- transfers
 
--- what is due after these parts of a transfer that has so many in all
+-- what is due after these parts of a transfer that has this many in all
 abbrev after : List Lit → List Cert → ℕ → List Obj → ℕ → List Part → Obligation
 after wanted certs rule args n done =
     let t = part_way rule args done n in

@@ -52,7 +52,7 @@ few_objects known t h =
 
 -- ---- groups of names
 
--- a group of at most so many short names
+-- a group of at most this many short names
 record IsGroup (n : ℕ) (g : Group) : Type 0 where
   words : AllWords g.names
   few : length g.names ≤ n

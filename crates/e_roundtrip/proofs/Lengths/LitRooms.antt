@@ -129,7 +129,7 @@ after_two word v w f g h = room_more 44 61 _ (omega arith) (room_word 9 34 word 
 after_three : (word u v w : List ℕ) → is_short 9 word ≡ true → is_short 16 u ≡ true → is_short 16 v ≡ true → is_short 16 w ≡ true → Room 61 (word ∷ u ∷ v ∷ w ∷ [])
 after_three word u v w e f g h = room_word 9 51 word (u ∷ v ∷ w ∷ []) e (three u v w f g h)
 
--- a comparison of sums, with at most so many bytes beside its monomials
+-- a comparison of sums, with at most this many bytes beside its monomials
 compared : (ns : Names) (x y : List Mono) (sign : List ℕ) → InOrder ns → is_short 2 sign ≡ true → is_well_formed_atom (atoms.MagEq x y) ≡ true → Room (61 + 66 * length (x ++ y)) (sums_words (raw_sum ns x) sign (raw_sum ns y))
 compared ns x y sign h s good =
     let g = good_sums x y good in

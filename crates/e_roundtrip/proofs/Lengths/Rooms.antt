@@ -14,7 +14,7 @@ use Rattle.e_text.proofs.Spaced.{spaced_append}
 
 -- ---- words
 
--- a word of allowed bytes, at most so many
+-- a word of allowed bytes, at most this many
 abbrev pub is_short : ℕ → List ℕ → Bool
 is_short k w = list_all is_allowed w && leb (length w) k
 
@@ -24,7 +24,7 @@ short_word k w h le = rw (h, le-leb (length w) k le) refl
 
 -- ---- words on a line
 
--- each with a space before it, they take at most so many bytes
+-- each with a space before it, they take at most this many bytes
 pub record Room (n : ℕ) (ws : List (List ℕ)) : Type 0 where
   pub allowed : list_all is_allowed (spaced ws) ≡ true
   pub few : length (spaced ws) ≤ n

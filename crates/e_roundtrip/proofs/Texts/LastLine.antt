@@ -86,7 +86,7 @@ at_end a b e = ap (λ (x : Answer). x.1) (inside (Last, a) (Last, b) e) where
   inside : (x y : Answer) → let r : Result Answer ℕ = Ok x in r ≡ Ok y → x ≡ y
   inside x y e = cc
 
--- where reading ends with the last line, the lines ahead begin with it
+-- where reading ends with the last line, the lines that come begin with it
 pub last_shown : (v : Version) (known : List TitledStatement) (last : ℕ) (lines rest : Rest) → piece_from known last (at_start v) lines ≡ ended rest → ShowsEnded lines (last_line_of (length known) ∷ []) rest
 unfolding piece_from
 last_shown v known last [] rest e = absurd cc
