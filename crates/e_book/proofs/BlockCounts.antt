@@ -17,7 +17,7 @@ use Rattle.e_names.specs.Scope.{scope_of_names}
 use Rattle.e_book.specs.Blocks.{is_claim, has_claim, made_in}
 use Rattle.e_book.specs.LineLimits.{FewNamed}
 use Rattle.e_book.specs.Open.{Head, Proving, has_goal, made_inside}
-use Rattle.e_book.specs.Counts.{LineContext, names_after, given_by, after_step, after_steps, first_context, lines_of, count_lines, lines_around, literals_on, blanks_on}
+use Rattle.e_book.specs.Counts.{LineContext, names_after_plain_step, given_by, after_step, after_steps, first_context, lines_of_step, count_lines, lines_around, literals_on, blanks_on}
 use Rattle.e_book.proofs.KeptSums.{monomials-append}
 use Rattle.e_book.proofs.ParserState.{opener_of, around_of, head_of, Counted, context_in, BlockTied, BlockOf, Alike}
 use Rattle.e_book.proofs.LimitTests.{all_tests, kept, then_limits, by_counts}
@@ -28,7 +28,7 @@ pub after_more : (known : List TitledStatement) (at : LineContext) (ss : List Pl
 after_more known at [] s = refl
 after_more known at (x ∷ ss) s = after_more known (after_step known at x) ss s
 
-pub lines_more : (ss : List PlainStep) (s : PlainStep) → count_lines (ss ++ s ∷ []) ≡ count_lines ss + lines_of s
+pub lines_more : (ss : List PlainStep) (s : PlainStep) → count_lines (ss ++ s ∷ []) ≡ count_lines ss + lines_of_step s
 lines_more [] s = omega arith
 lines_more (x ∷ ss) s = let h = lines_more ss s in omega (arith, h)
 
@@ -59,19 +59,19 @@ goal_made (o ∷ os) made = goal_by o.kind (has_claim os) (made_inside (around_o
 
 -- ---- the counts after a step
 
-next_counted : (known : List TitledStatement) (at : LineContext) (s : PlainStep) (ns ms : Names) (facts more terms sum : ℕ) → Counted ns facts terms at → names_after known ns s ≡ ms
+next_counted : (known : List TitledStatement) (at : LineContext) (s : PlainStep) (ns ms : Names) (facts more terms sum : ℕ) → Counted ns facts terms at → names_after_plain_step known ns s ≡ ms
     → facts + length (given_by known (scope_of_names ns) s) ≡ more → terms + count_monomials (given_by known (scope_of_names ns) s) ≡ sum → Counted ms more sum (after_step known at s)
 next_counted known at s ns ms facts more terms sum c e f t =
     let same : given_by known (scope_of_names ns) s ≡ given_by known (scope_of_names at.names) s = ap (λ (x : Names). given_by known (scope_of_names x) s) c.names in
     let n : length (given_by known (scope_of_names ns) s) ≡ length (given_by known (scope_of_names at.names) s) = ap (λ (ls : List Lit). length ls) same in
     let m : count_monomials (given_by known (scope_of_names ns) s) ≡ count_monomials (given_by known (scope_of_names at.names) s) = ap (λ (ls : List Lit). count_monomials ls) same in
     record {
-      names = sym e ∙ ap (λ (x : Names). names_after known x s) c.names;
+      names = sym e ∙ ap (λ (x : Names). names_after_plain_step known x s) c.names;
       facts = omega (arith, c.facts, f, n, length-append at.facts (given_by known (scope_of_names at.names) s));
       terms = omega (arith, c.terms, t, m, monomials-append at.facts (given_by known (scope_of_names at.names) s));
     }
 
-pub counted_more : (known : List TitledStatement) (h : Head) (os : List OpenBlock) (ss : List PlainStep) (s : PlainStep) (ns ms : Names) (facts more terms sum : ℕ) → Counted ns facts terms (context_in known h os ss) → names_after known ns s ≡ ms
+pub counted_more : (known : List TitledStatement) (h : Head) (os : List OpenBlock) (ss : List PlainStep) (s : PlainStep) (ns ms : Names) (facts more terms sum : ℕ) → Counted ns facts terms (context_in known h os ss) → names_after_plain_step known ns s ≡ ms
     → facts + length (given_by known (scope_of_names ns) s) ≡ more → terms + count_monomials (given_by known (scope_of_names ns) s) ≡ sum → Counted ms more sum (context_in known h os (ss ++ s ∷ []))
 counted_more known h os ss s ns ms facts more terms sum c e f t =
     subst (λ (at : LineContext). Counted ms more sum at) (sym (after_more known (first_context known h (around_of os)) ss s))
@@ -97,7 +97,7 @@ block_limits known r h os ss f ns lines depth facts terms c e d a =
     (let n = around_length os in omega (arith, d, n)) a
 
 -- the block with one more step, within the limits
-pub step_block : (known : List TitledStatement) (d : TheoremParser) (s : PlainStep) (ns : Names) (facts terms : ℕ) → BlockOf known d → lines_of s ≡ 1 → Counted ns facts terms (context_in known (head_of d) d.blocks (d.steps ++ s ∷ []))
+pub step_block : (known : List TitledStatement) (d : TheoremParser) (s : PlainStep) (ns : Names) (facts terms : ℕ) → BlockOf known d → lines_of_step s ≡ 1 → Counted ns facts terms (context_in known (head_of d) d.blocks (d.steps ++ s ∷ []))
     → FewNamed ns → d.lines + 1 ≤ most_steps → facts ≤ most_facts → terms ≤ most_terms → BlockTied known (head_of d) d.blocks (d.steps ++ s ∷ []) ns (d.lines + 1) facts terms
 step_block known d s ns facts terms t one c few short k m = record {
   counted = c;

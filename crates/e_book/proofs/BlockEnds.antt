@@ -28,7 +28,7 @@ use Rattle.e_book.specs.LineLimits.{FewNamed}
 use Rattle.e_book.specs.Steps.{begun_with, begun_terms, terms_after, counted_from, resumed, closed_inside, closed, shut, concluded}
 use Rattle.e_book.specs.ParserViews.{entry_of_parser, script_of_close}
 use Rattle.e_book.specs.Open.{Open, Proving, Splitting, Proved, Ended, after_inner_close, after_close}
-use Rattle.e_book.specs.Counts.{names_after, given_by, lines_first, count_lines, lines_around, literals_on, blanks_on}
+use Rattle.e_book.specs.Counts.{names_after_plain_step, given_by, lines_first, count_lines, lines_around, literals_on, blanks_on}
 use Rattle.e_book.specs.Grammar.{goes_on}
 use Rattle.e_line.proofs.Bound.{read_ok}
 use Rattle.e_names.proofs.ShortLits.{count_first}
@@ -51,7 +51,7 @@ silent_tests known r n f ns s d k m silent a =
 
 resumed_alike : (known : List TitledStatement) (d : TheoremParser) (k : ℕ) (o : OpenBlock) (os : List OpenBlock) (shown : List Lit) (s : PlainStep) (f : RawLine) → Silent f → d.place ≡ places.Proving → FewNamed d.names
     → Counted o.in_scope o.facts o.terms (context_in known (head_of d) os o.steps) → FewNamed o.in_scope → BlocksTied known (head_of d) os → length os + 1 ≤ most_depth
-    → k ≡ count_lines (o.steps ++ s ∷ []) + lines_around (around_of os) → names_after known o.in_scope s ≡ o.in_scope → given_by known (scope_of_names o.in_scope) s ≡ shown
+    → k ≡ count_lines (o.steps ++ s ∷ []) + lines_around (around_of os) → names_after_plain_step known o.in_scope s ≡ o.in_scope → given_by known (scope_of_names o.in_scope) s ≡ shown
     → Alike known (within k most_steps limits.Steps >>= λ few. resumed (record d { lines = k }) o os shown s) (then_limits known f (Proving (head_of d) (around_of os) (o.steps ++ s ∷ [])))
 unfolding resumed counted_from
 resumed_alike known d k o os shown s f silent at names counted few blocks deep lines same gives =

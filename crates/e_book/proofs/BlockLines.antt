@@ -38,8 +38,8 @@ use Rattle.e_line.specs.LineLimits.{are_short, are_small, count_monos, few_monos
 use Rattle.e_book.specs.LineLimits.{FewNamed, few_objects}
 use Rattle.e_book.specs.Steps.{begun_with, begun_terms, terms_after_raw, terms_after, with_terms, with_step, built, used_by, applied, outer_of, interrupted, deeper, claimed, superposed, split, cited, inferred}
 use Rattle.e_book.specs.Open.{Open, Proving, ByClaim, BySuperposition, ByCase}
-use Rattle.e_book.specs.Counts.{lines_of, lines_first, literals_on, blanks_on}
-use Rattle.e_book.specs.Grammar.{one_more, inner_block, goes_on}
+use Rattle.e_book.specs.Counts.{lines_of_step, lines_first, literals_on, blanks_on}
+use Rattle.e_book.specs.Grammar.{one_more_step, inner_block, goes_on}
 use Rattle.e_line.proofs.Bound.{bind_ok, ok_is, read_ok}
 use Rattle.e_names.proofs.ShortLits.{count_first}
 use Rattle.e_names.proofs.WellRead.{no_monomials}
@@ -91,7 +91,7 @@ terms_alike known y raws n h =
     (λ w. pass_le known (then sum) n 0 most_blanks limits.Blanks [] (omega arith) (h w)))
 
 -- the parser with one more step is what the lines have said
-step_ends : (known : List TitledStatement) (d : TheoremParser) (s : PlainStep) (ns : Names) (facts terms : ℕ) → BlockOf known d → d.place ≡ places.Proving → FewNamed d.names → lines_of s ≡ 1
+step_ends : (known : List TitledStatement) (d : TheoremParser) (s : PlainStep) (ns : Names) (facts terms : ℕ) → BlockOf known d → d.place ≡ places.Proving → FewNamed d.names → lines_of_step s ≡ 1
     → Counted ns facts terms (context_in known (head_of d) d.blocks (d.steps ++ s ∷ [])) → FewNamed ns → d.lines + 1 ≤ most_steps → facts ≤ most_facts → terms ≤ most_terms
     → Alike known (read_ok (record d { in_scope = ns; lines = d.lines + 1; steps = d.steps ++ s ∷ []; facts = facts; terms = terms })) (read_ok (Proving (head_of d) (around_of d.blocks) (d.steps ++ s ∷ [])))
 step_ends known d s ns facts terms t at names one c few short k m =
@@ -99,7 +99,7 @@ step_ends known d s ns facts terms t at names one c few short k m =
     tied_there known e (Proving (head_of d) (around_of d.blocks) (d.steps ++ s ∷ [])) places.Proving at names (step_block known d s ns facts terms t one c few short k m) refl
 
 -- the limits after one more step, by its counts
-step_limits : (known : List TitledStatement) (d : TheoremParser) (r : Result TheoremParser FaultKind) (s : PlainStep) (f : RawLine) (ns : Names) (facts terms : ℕ) → BlockOf known d → lines_of s ≡ 1
+step_limits : (known : List TitledStatement) (d : TheoremParser) (r : Result TheoremParser FaultKind) (s : PlainStep) (f : RawLine) (ns : Names) (facts terms : ℕ) → BlockOf known d → lines_of_step s ≡ 1
     → Counted ns facts terms (context_in known (head_of d) d.blocks (d.steps ++ s ∷ []))
     → Alike known r (kept (all_tests (literals_on f) ns (d.lines + 1) (length d.blocks + 1) facts terms (blanks_on f)) (Proving (head_of d) (around_of d.blocks) (d.steps ++ s ∷ [])))
     → Alike known r (then_limits known f (Proving (head_of d) (around_of d.blocks) (d.steps ++ s ∷ [])))
@@ -118,7 +118,7 @@ pub by_alike : (known : List TitledStatement) (d : TheoremParser) (rule : List �
     → Alike known (cited d rule names l) (goes_on known d.in_scope (head_of d) (around_of d.blocks) d.steps (rawlines.By rule names l) >>= then_limits known (rawlines.By rule names l))
 by_alike known d rule names l t at few plain =
     let f = rawlines.By rule names l in
-    both known (by_in d.in_scope rule names l) (λ b. with_step d (Cited b) 1) (λ b. one_more (head_of d) (around_of d.blocks) d.steps (Cited b)) (then_limits known f)
+    both known (by_in d.in_scope rule names l) (λ b. with_step d (Cited b) 1) (λ b. one_more_step (head_of d) (around_of d.blocks) d.steps (Cited b)) (then_limits known f)
     (λ b e.
     let s = Cited b in
     let n = Proving (head_of d) (around_of d.blocks) (d.steps ++ s ∷ []) in
@@ -138,7 +138,7 @@ pub hence_alike : (known : List TitledStatement) (d : TheoremParser) (r : RawLit
     → Alike known (inferred d r) (goes_on known d.in_scope (head_of d) (around_of d.blocks) d.steps (rawlines.Hence r) >>= then_limits known (rawlines.Hence r))
 hence_alike known d r t at few =
     let f = rawlines.Hence r in
-    both known (lit_in d.in_scope r) (λ l. with_step d (Inferred l None) 1 >>= λ e. with_terms e (r ∷ [])) (λ l. one_more (head_of d) (around_of d.blocks) d.steps (Inferred l None)) (then_limits known f)
+    both known (lit_in d.in_scope r) (λ l. with_step d (Inferred l None) 1 >>= λ e. with_terms e (r ∷ [])) (λ l. one_more_step (head_of d) (around_of d.blocks) d.steps (Inferred l None)) (then_limits known f)
     (λ l e.
     let s = Inferred l None in
     let n = Proving (head_of d) (around_of d.blocks) (d.steps ++ s ∷ []) in
@@ -178,7 +178,7 @@ unfolding built
 let_alike known d raw t at few =
     both known (let_in d.in_scope raw)
     (λ form. few_objects (named d.in_scope (sorts_made form) raw.new) >>= λ few. with_step (record d { in_scope = named d.in_scope (sorts_made form) raw.new }) (Made form raw.new []) (length (gives_of_construction form (scope_of_names d.in_scope))))
-    (λ form. one_more (head_of d) (around_of d.blocks) d.steps (Made form raw.new [])) (then_limits known (rawlines.Let raw))
+    (λ form. one_more_step (head_of d) (around_of d.blocks) d.steps (Made form raw.new [])) (then_limits known (rawlines.Let raw))
     (λ form e. made_alike known d raw form t at few e)
 
 -- ---- uses of earlier theorems
@@ -259,7 +259,7 @@ pub apply_alike : (known : List TitledStatement) (d : TheoremParser) (raw : RawA
     → Alike known (applied known d raw) (goes_on known d.in_scope (head_of d) (around_of d.blocks) d.steps (rawlines.Apply raw) >>= then_limits known (rawlines.Apply raw))
 unfolding applied
 apply_alike known d raw t at few =
-    both known (apply_in known d.in_scope raw) (λ a. used_by d (theorem_of known a.0) a.0 a.1 raw.new) (λ a. one_more (head_of d) (around_of d.blocks) d.steps (Applied a.0 a.1 raw.new [])) (then_limits known (rawlines.Apply raw))
+    both known (apply_in known d.in_scope raw) (λ a. used_by d (theorem_of known a.0) a.0 a.1 raw.new) (λ a. one_more_step (head_of d) (around_of d.blocks) d.steps (Applied a.0 a.1 raw.new [])) (then_limits known (rawlines.Apply raw))
     (λ a e. use_alike known d raw a.0 a.1 t at few (blanks_applied known d.in_scope raw a e))
 
 -- ---- inner blocks

@@ -38,7 +38,7 @@ use Rattle.e_book.specs.HasSpelling.{HasSpelling}
 use Rattle.e_book.specs.Laws.{Shows}
 use Rattle.e_book.specs.Steps.{begun, begin, step}
 use Rattle.e_book.specs.Book.{is_last}
-use Rattle.e_line.specs.Items.{is_as, begins_item, has_item, line_named, line_of}
+use Rattle.e_line.specs.Items.{is_as, begins_item, has_item, line_named, book_line_of}
 use Rattle.e_book.specs.Grammar.{Rest}
 use Rattle.e_book.specs.Definitions.{BookItem, OfTheorem, Answer}
 use Rattle.e_book.specs.Definitions as grammar
@@ -112,8 +112,8 @@ form_named_again : (w : List ℕ) (ws : List (List ℕ)) (g : RawLine) → raw_l
 unfolding raw_line_of
 form_named_again w ws g h = h
 
-pub plain_again : (f : RawLine) → GoodForm f → line_of (raw_line_words f) ≡ Ok (Plain (as_read f))
-unfolding line_of line_named raw_line_of
+pub plain_again : (f : RawLine) → GoodForm f → book_line_of (raw_line_words f) ≡ Ok (Plain (as_read f))
+unfolding book_line_of line_named raw_line_of
 plain_again (rawlines.Given []) h = absurd h
 plain_again (rawlines.Given (l ∷ [])) h = rw (lits_no_item (l ∷ []) (h, tt), form_again (rawlines.Given (l ∷ [])) h) refl
 plain_again (rawlines.Given (l ∷ m ∷ ls)) h = absurd h

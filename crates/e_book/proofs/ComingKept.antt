@@ -41,12 +41,12 @@ use Rattle.e_names.specs.Canonical.{raw_of}
 use Rattle.e_book.specs.ParserViews.{entry_of_parser}
 use Rattle.e_book.specs.Steps.{allowed, declared, declares, shows, begun, begin, step}
 use Rattle.e_book.specs.Book.{is_last}
-use Rattle.e_line.specs.Items.{line_of, listing_form, is_show}
+use Rattle.e_line.specs.Items.{book_line_of, listing_form, is_show}
 use Rattle.e_names.specs.Meanings.{items_in}
 use Rattle.e_book.specs.Grammar.{Rest, is_skipped, put_at}
 use Rattle.e_book.specs.Definitions.{BookItem, OfTheorem, OfNotion, Answer, has_notion_title, IsWellFormedItem}
 use Rattle.e_book.specs.inner.Machine as machine
-use Rattle.e_book.specs.inner.Machine.{names_there, is_ready, written, coming, begins_theorem, begins_definition, is_showing, defines_on, with_parser, goes_on, lists, line_step, notion_of_parser, item_of, item_from, is_done}
+use Rattle.e_book.specs.inner.Machine.{names_there, is_ready, line_written_out, coming, begins_theorem, begins_definition, is_showing, defines_on, with_parser, goes_on, lists, line_step, notion_of_parser, item_of_coming, item_from, is_done}
 use Rattle.e_line.proofs.Bound.{bind_ok, ok_is, read_ok, each_length}
 use Rattle.e_names.proofs.FreshTitles.{neither, was_free}
 use Rattle.e_book.proofs.ParserFits.{HeadOf, Body, Good}
@@ -205,7 +205,7 @@ plain_kept known c e f g s h = plain_by c.defines known c e f refl g s h
 -- ---- a line with items
 
 -- what spelling would say of the line as it is written out
-out_said : (known : Known) (d : TheoremParser) (line : Listing) (is : List RawItem) (w : RawLine × ℕ) → are_notions known.notions ≡ true → ListingSaid line → 0 < length is → ItemsSaid is → written known.notions d line is ≡ Ok w → Said w.0
+out_said : (known : Known) (d : TheoremParser) (line : Listing) (is : List RawItem) (w : RawLine × ℕ) → are_notions known.notions ≡ true → ListingSaid line → 0 < length is → ItemsSaid is → line_written_out known.notions d line is ≡ Ok w → Said w.0
 out_said known d line is w all head some said e =
     let ns = names_there d in
     let out : List Lit × ℕ → RawLine × ℕ = λ p. (listing_form line (map (raw_of ns) p.0), p.1) in
@@ -224,8 +224,8 @@ listed_kept : (known : Known) (c e : Coming) (line : Listing) (is : List RawItem
 unfolding lists
 listed_kept known c e line is all g head some said h =
     let add : (RawLine × ℕ) → Coming → Result Coming FaultKind = λ w x. within (x.expanded + w.1) most_expanded limits.Expanded >>= λ few. read_ok (record x { expanded = x.expanded + w.1 }) in
-    let r = bind_ok (right_count (not c.defines || is_show line)) (λ right. written known.notions c.parser line is >>= λ w. goes_on known c w.0 >>= λ x. add w x) e h in
-    let w = bind_ok (written known.notions c.parser line is) (λ w. goes_on known c w.0 >>= λ x. add w x) e r.2 in
+    let r = bind_ok (right_count (not c.defines || is_show line)) (λ right. line_written_out known.notions c.parser line is >>= λ w. goes_on known c w.0 >>= λ x. add w x) e h in
+    let w = bind_ok (line_written_out known.notions c.parser line is) (λ w. goes_on known c w.0 >>= λ x. add w x) e r.2 in
     let x = bind_ok (goes_on known c w.0.0) (λ x. add w.0 x) e w.2 in
     let f = bind_ok (within (x.0.expanded + w.0.1) most_expanded limits.Expanded) (λ few. read_ok (record x.0 { expanded = x.0.expanded + w.0.1 })) e x.2 in
     subst (λ (y : Coming). GoodComing known y) (ok_is (record x.0 { expanded = x.0.expanded + w.0.1 }) e f.2)
@@ -272,8 +272,8 @@ GoodSoFar known (Some c) = GoodComing known c
 
 line_kept : (known : Known) (o : Option Coming) (words : List (List ℕ)) (e : Coming) → are_notions known.notions ≡ true → GoodSoFar known o → line_step known o words ≡ Ok e → GoodComing known e
 unfolding line_step
-line_kept known None words e all g h = let l = bind_ok (line_of words) (λ l. machine.begins known l) e h in first_kept known e words l.0 (line_read_as words l.0 l.1) l.2
-line_kept known (Some c) words e all g h = let l = bind_ok (line_of words) (λ l. machine.step known c l) e h in next_kept known c e words l.0 all g (line_read_as words l.0 l.1) l.2
+line_kept known None words e all g h = let l = bind_ok (book_line_of words) (λ l. machine.begins known l) e h in first_kept known e words l.0 (line_read_as words l.0 l.1) l.2
+line_kept known (Some c) words e all g h = let l = bind_ok (book_line_of words) (λ l. machine.step known c l) e h in next_kept known c e words l.0 all g (line_read_as words l.0 l.1) l.2
 
 -- ---- what has come whole
 
@@ -307,7 +307,7 @@ whole_by : (b : Bool) (known : Known) (d : TheoremParser) → GoodBy known b d �
 whole_by true known d g a = definition_good known d g a
 whole_by false known d g a = (done_spelled known.theorems d g.good g.spelled a, g.title)
 
-whole_good : (known : Known) (c : Coming) → GoodComing known c → is_done c ≡ true → IsWellFormedItem known (item_of c)
+whole_good : (known : Known) (c : Coming) → GoodComing known c → is_done c ≡ true → IsWellFormedItem known (item_of_coming c)
 whole_good known c g a = whole_by c.defines known c.parser g a
 
 -- ---- all lines
@@ -335,14 +335,14 @@ reading_good known last o (Err f ∷ lines) rest i all g e = absurd cc
 reading_good known last o (Ok line ∷ lines) rest i all g e =
     let words = tokens_of line.bytes in
     let next : Result Coming BookFault = put_at line.number (line_step known o words) in
-    let then : Coming → Answer = λ c. cond (is_done c) (found (item_of c) lines) (item_from known last (Some c) lines) in
+    let then : Coming → Answer = λ c. cond (is_done c) (found (item_of_coming c) lines) (item_from known last (Some c) lines) in
     elim (either_read (is_skipped words) (item_from known last o lines) (next >>= then) (found i rest) e) [
       | inl s ↦ reading_good known last o lines rest i all g s.1
       | inr s ↦
           let c = bind_ok next then (Some (i, rest)) s.1 in
           let good = line_kept known o words c.0 all g (put_ok line.number (line_step known o words) c.0 c.1) in
-          elim (either_read (is_done c.0) (found (item_of c.0) lines) (item_from known last (Some c.0) lines) (found i rest) c.2) [
-            | inl q ↦ subst (λ (x : BookItem). IsWellFormedItem known x) (same_item (item_of c.0) i lines rest q.1) (whole_good known c.0 good q.0)
+          elim (either_read (is_done c.0) (found (item_of_coming c.0) lines) (item_from known last (Some c.0) lines) (found i rest) c.2) [
+            | inl q ↦ subst (λ (x : BookItem). IsWellFormedItem known x) (same_item (item_of_coming c.0) i lines rest q.1) (whole_good known c.0 good q.0)
             | inr q ↦ reading_good known last (Some c.0) lines rest i all good q.1
           ]
     ]

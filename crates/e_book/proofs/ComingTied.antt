@@ -32,17 +32,17 @@ use Rattle.e_names.specs.Scope.{right_count, fresh, lits_in}
 use Rattle.e_names.specs.Superposes.{placed_in, superpose_in}
 use Rattle.e_names.specs.Canonical.{raw_of}
 use Rattle.e_book.specs.Steps.{allowed, declares, shows, begun, begin, stepped, step}
-use Rattle.e_line.specs.Items.{line_of, listing_form, is_show}
+use Rattle.e_line.specs.Items.{book_line_of, listing_form, is_show}
 use Rattle.e_names.specs.Meanings.{items_in}
 use Rattle.e_book.specs.Open.{Head, Open, Stating, Proving, BySuperposition}
 use Rattle.e_book.specs.Counts.{context_at, limits_kept, all_kept}
 use Rattle.e_book.specs.Grammar.{nothing_said, begins, with_new, none_given, none_made, at_its_place, states, goes_on as goes_on_there, next, line_after, is_empty, Rest, is_skipped, put_at}
-use Rattle.e_book.specs.Definitions.{BookItem, Coming, InTheorem, InDefinition, Defined, has_notion_title, first_line, says_more, still_defined, ends_definition, plain_line, written_out, counted, listed_line, next_line, line_said, Answer, OfTheorem, OfNotion, whole, whole_or, item_from}
+use Rattle.e_book.specs.Definitions.{BookItem, Coming, InTheorem, InDefinition, Defined, has_notion_title, after_first_line, says_more, still_defined, ends_definition, plain_line, written_out, counted, after_listed_line, next_line, line_said, Answer, OfTheorem, OfNotion, whole, whole_or, item_from}
 use Rattle.e_line.specs.Faults.{at_line}
 use Rattle.e_book.specs.Book.{is_last}
 use Rattle.e_book.specs.ParserViews.{statement_of_parser, entry_of_parser}
 use Rattle.e_book.specs.inner.Machine as machine
-use Rattle.e_book.specs.inner.Machine.{names_at_place, head_names, written, coming, begins_theorem, begins_definition, is_showing, defines_on, with_parser, goes_on, lists, line_step, notion_of_parser, item_of}
+use Rattle.e_book.specs.inner.Machine.{names_at_place, head_names, line_written_out, coming, begins_theorem, begins_definition, is_showing, defines_on, with_parser, goes_on, lists, line_step, notion_of_parser, item_of_coming}
 use Rattle.e_line.proofs.Bound.{bind_ok, ok_is, read_ok}
 use Rattle.e_book.proofs.LimitTests.{by_test, then_limits}
 use Rattle.e_book.proofs.ParserState.{around_of, head_of, open_there, open_of, BlockOf, UnprovedOf, Stands, Body, Tied, Alike}
@@ -383,13 +383,13 @@ after_place true r q x y s e = same_then r q x y s (e refl)
 after_place false r (Ok a) x y s e = absurd s
 after_place false r (Err k) x y s e = ap (λ (z : FaultKind). fault z) s
 
-written_at : (known : Known) (p : Section) (d : TheoremParser) (line : Listing) (is : List RawItem) → d.place ≡ p → Body known.theorems p d → written known.notions d line is ≡ written_out known (open_there d p) line is
+written_at : (known : Known) (p : Section) (d : TheoremParser) (line : Listing) (is : List RawItem) → d.place ≡ p → Body known.theorems p d → line_written_out known.notions d line is ≡ written_out known (open_there d p) line is
 written_at known p d line is at b =
     subst (λ (q : Section). ((right_count (allowed q (listing_form line [])) >>= λ right. head_names d.in_scope line) >>= λ ready. put_out known line is (names_at_place q d.names d.in_scope)) ≡ written_out known (open_there d p) line is) (sym at)
     (after_place (allowed p (listing_form line [])) (head_names d.in_scope line) (next known.theorems (open_there d p) (listing_form line [])) (put_out known line is (names_at_place p d.names d.in_scope))
     (put_out known line is (context_at known.theorems (open_there d p)).names) (ready_at known.theorems p d line b) (λ may. ap (put_out known line is) (names_at known.theorems p d line b may)))
 
-written_alike : (known : Known) (d : TheoremParser) (line : Listing) (is : List RawItem) → Tied known.theorems d → written known.notions d line is ≡ written_out known (open_of d) line is
+written_alike : (known : Known) (d : TheoremParser) (line : Listing) (is : List RawItem) → Tied known.theorems d → line_written_out known.notions d line is ≡ written_out known (open_of d) line is
 written_alike known d line is t = written_at known d.place d line is refl t.body
 
 -- ---- what is written out
@@ -493,13 +493,13 @@ goes_on_stays known c e f show h = stays known c e c.defines f refl show h
 -- ---- a line with items, whole: it is written out, taken so, and counted
 
 abbrev take_out : Known → Held → Listing → List RawItem → Result Held FaultKind
-take_out known c line is = written known.notions c.parser line is >>= λ w. goes_on known c w.0 >>= λ e. add_count w.1 e
+take_out known c line is = line_written_out known.notions c.parser line is >>= λ w. goes_on known c w.0 >>= λ e. add_count w.1 e
 
 abbrev take_said : Known → Open → Coming → Listing → List RawItem → Result Coming FaultKind
 take_said known o n line is = written_out known o line is >>= λ w. plain_line known n w.0 >>= λ x. counted w.1 x
 
 listed_on : (known : Known) (c : Held) (o : Open) (line : Listing) (is : List RawItem) (n : Coming) → are_notions known.notions ≡ true → 0 < length is → TiedComing known c → said_of c ≡ n → (c.defines ≡ true → is_show line ≡ true)
-    → written known.notions c.parser line is ≡ written_out known o line is → AlikeComing known (take_out known c line is) (take_said known o n line is)
+    → line_written_out known.notions c.parser line is ≡ written_out known o line is → AlikeComing known (take_out known c line is) (take_said known o n line is)
 listed_on known c o line is n all some tied said show same =
     subst (λ (r : Result (RawLine × ℕ) FaultKind). AlikeComing known (r >>= λ w. goes_on known c w.0 >>= λ e. add_count w.1 e) (take_said known o n line is)) (sym same)
     (both known (written_out known o line is) (λ w. goes_on known c w.0 >>= λ e. add_count w.1 e) (λ w. plain_line known n w.0 >>= λ x. counted w.1 x)
@@ -528,13 +528,13 @@ listed_done known c line is false at = refl
 listed_done known c line is true at = subst (λ (r : Result Held FaultKind). AlikeComing known r (Err Malformed)) (sym (not_ready known c line is at)) refl
 
 listed_there : (known : Known) (c : Held) (p : Section) (line : Listing) (is : List RawItem) → c.parser.place ≡ p → IsStating p → are_notions known.notions ≡ true → 0 < length is → c.defines ≡ true → FewNamed c.parser.names → DefinitionTied p c.parser
-    → AlikeComing known (right_count (is_show line) >>= λ right. take_out known c line is) (listed_line known (definition_there c.parser c.expanded p) line is)
+    → AlikeComing known (right_count (is_show line) >>= λ right. take_out known c line is) (after_listed_line known (definition_there c.parser c.expanded p) line is)
 listed_there known c p line is at st all some t few body =
-    subst (λ (x : Coming). AlikeComing known (right_count (is_show line) >>= λ right. take_out known c line is) (listed_line known x line is)) (sym (definition_at c.parser c.expanded p st))
+    subst (λ (x : Coming). AlikeComing known (right_count (is_show line) >>= λ right. take_out known c line is) (after_listed_line known x line is)) (sym (definition_at c.parser c.expanded p st))
     (listed_stating known c line is (is_show line) refl all some (subst IsStating (sym at) st) t few (subst (λ (q : Section). DefinitionTied q c.parser) (sym at) body))
 
 listed_at : (known : Known) (c : Held) (p : Section) (line : Listing) (is : List RawItem) → c.parser.place ≡ p → are_notions known.notions ≡ true → 0 < length is → c.defines ≡ true → FewNamed c.parser.names → DefinitionTied p c.parser
-    → AlikeComing known (right_count (is_show line) >>= λ right. take_out known c line is) (listed_line known (definition_there c.parser c.expanded p) line is)
+    → AlikeComing known (right_count (is_show line) >>= λ right. take_out known c line is) (after_listed_line known (definition_there c.parser c.expanded p) line is)
 listed_at known c places.Done line is at all some t few body = listed_done known c line is (is_show line) at
 listed_at known c places.Declaring line is at all some t few body = listed_there known c places.Declaring line is at tt all some t few body
 listed_at known c places.Giving line is at all some t few body = listed_there known c places.Giving line is at tt all some t few body
@@ -545,13 +545,13 @@ listed_at known c places.Splitting line is at all some t few body = absurd body.
 listed_at known c places.Closed line is at all some t few body = absurd body.0
 
 listed_by : (b : Bool) (known : Known) (c : Held) (line : Listing) (is : List RawItem) → c.defines ≡ b → are_notions known.notions ≡ true → 0 < length is → TiedBy known.theorems b c.parser
-    → AlikeComing known (right_count (not b || is_show line) >>= λ right. take_out known c line is) (listed_line known (said_by b c.parser c.expanded) line is)
+    → AlikeComing known (right_count (not b || is_show line) >>= λ right. take_out known c line is) (after_listed_line known (said_by b c.parser c.expanded) line is)
 listed_by true known c line is t all some tied = listed_at known c c.parser.place line is refl all some t tied.0 tied.1
 listed_by false known c line is t all some tied =
     listed_on known c (open_of c.parser) line is (InTheorem (open_of c.parser) c.expanded) all some (subst (λ (b : Bool). TiedBy known.theorems b c.parser) (sym t) tied) (ap (λ (b : Bool). said_by b c.parser c.expanded) t)
     (λ h. absurd (let no : true ≡ false = sym h ∙ t in cc)) (written_alike known c.parser line is tied)
 
-listed_alike : (known : Known) (c : Held) (line : Listing) (is : List RawItem) → are_notions known.notions ≡ true → 0 < length is → TiedComing known c → AlikeComing known (lists known c line is) (listed_line known (said_of c) line is)
+listed_alike : (known : Known) (c : Held) (line : Listing) (is : List RawItem) → are_notions known.notions ≡ true → 0 < length is → TiedComing known c → AlikeComing known (lists known c line is) (after_listed_line known (said_of c) line is)
 unfolding lists
 listed_alike known c line is all some tied = listed_by c.defines known c line is refl all some tied
 
@@ -568,7 +568,7 @@ taken_or : (known : Known) (b : Bool) (r : Result Held FaultKind) (q : Result Co
 taken_or known true r q a = refl
 taken_or known false r q a = a
 
-first_theorem : (known : Known) (f : RawLine) → AlikeComing known (begins_theorem known f) (first_line known (Plain f))
+first_theorem : (known : Known) (f : RawLine) → AlikeComing known (begins_theorem known f) (after_first_line known (Plain f))
 unfolding begins_theorem
 first_theorem known f =
     taken_or known (has_notion_title known.notions f) (begin known.theorems f >>= λ d. Ok (coming false d)) (begins known.theorems f >>= λ o. Ok (InTheorem o 0)) (begun_by (begin known.theorems f) (begins known.theorems f) (begin_alike known.theorems f))
@@ -583,7 +583,7 @@ nothing_tied : (t : List ℕ) → FewNamed (begun t).names × DefinitionTied pla
 nothing_tied t =
     (record { points = omega arith; lines = omega arith; circles = omega arith }, (tt, (refl, refl, refl), record { steps = refl; blocks = refl; lines = refl; facts = refl; terms = refl; few_facts = omega arith; few_terms = omega arith }))
 
-first_definition : (known : Known) (t : List ℕ) → AlikeComing known (begins_definition known t) (first_line known (Define t))
+first_definition : (known : Known) (t : List ℕ) → AlikeComing known (begins_definition known t) (after_first_line known (Define t))
 unfolding begins_definition
 first_definition known t =
     let f : Held = coming true (begun t) in
@@ -592,7 +592,7 @@ first_definition known t =
     (by_test (λ (over under : Bool). AlikeComing known (cond over (Err (Limit limits.Notions)) (read_ok tt) >>= λ few. Ok f) (all_kept ((under, limits.Notions) ∷ []) >>= λ kept. Ok n)) (length known.notions + 1) most_notions refl
     (λ le. (refl, nothing_tied t)))
 
-first_alike : (known : Known) (l : BookLine) → AlikeComing known (machine.begins known l) (first_line known l)
+first_alike : (known : Known) (l : BookLine) → AlikeComing known (machine.begins known l) (after_first_line known l)
 unfolding machine.begins
 first_alike known (Plain f) = first_theorem known f
 first_alike known (Define t) = first_definition known t
@@ -610,8 +610,8 @@ TiedSoFar known (Some c) = TiedComing known c
 
 words_alike : (known : Known) (o : Option Held) (words : List (List ℕ)) → are_notions known.notions ≡ true → TiedSoFar known o → AlikeComing known (line_step known o words) (line_said known (said o) words)
 unfolding line_step
-words_alike known None words all t = both known (line_of words) (λ l. machine.begins known l) (λ l. first_line known l) (λ l e. first_alike known l)
-words_alike known (Some c) words all t = both known (line_of words) (λ l. machine.step known c l) (λ l. next_line known (said_of c) l) (λ l e. next_alike known c words l all t (line_read_as words l e))
+words_alike known None words all t = both known (book_line_of words) (λ l. machine.begins known l) (λ l. after_first_line known l) (λ l e. first_alike known l)
+words_alike known (Some c) words all t = both known (book_line_of words) (λ l. machine.step known c l) (λ l. next_line known (said_of c) l) (λ l e. next_alike known c words l all t (line_read_as words l e))
 
 -- ---- line after line
 
@@ -641,7 +641,7 @@ coming_ends false d n lines x y e = theorem_ends d n d.place lines x y e
 
 after_alike : (known : Known) (last number : ℕ) (lines : Rest) (r : Result Held FaultKind) (q : Result Coming FaultKind) → AlikeComing known r q
     → ((e : Held) → TiedComing known e → machine.item_from known last (Some e) lines ≡ item_from known last (Some (said_of e)) lines)
-    → (put_at number r >>= λ c. cond (machine.is_done c) (found (item_of c) lines) (machine.item_from known last (Some c) lines))
+    → (put_at number r >>= λ c. cond (machine.is_done c) (found (item_of_coming c) lines) (machine.item_from known last (Some c) lines))
     ≡ (put_at number q >>= λ n. whole_or (whole n) lines (item_from known last (Some n) lines))
 after_alike known last number lines (Ok e) (Ok n) a more =
     coming_ends e.defines e.parser e.expanded lines (machine.item_from known last (Some e) lines) (item_from known last (Some (said_of e)) lines) (more e a.1)
@@ -658,7 +658,7 @@ read_alike known last (Some c) (Err f ∷ lines) all t = refl
 read_alike known last None (Ok line ∷ lines) all t =
     let words = tokens_of line.bytes in
     in_case (is_skipped words) (machine.item_from known last None lines)
-    (put_at line.number (line_step known None words) >>= λ c. cond (machine.is_done c) (found (item_of c) lines) (machine.item_from known last (Some c) lines))
+    (put_at line.number (line_step known None words) >>= λ c. cond (machine.is_done c) (found (item_of_coming c) lines) (machine.item_from known last (Some c) lines))
     (item_from known last None lines) (put_at line.number (line_said known None words) >>= λ n. whole_or (whole n) lines (item_from known last (Some n) lines))
     (read_alike known last None lines all t)
     (after_alike known last line.number lines (line_step known None words) (line_said known None words) (words_alike known None words all t) (λ e u. read_alike known last (Some e) lines all u))
@@ -666,7 +666,7 @@ read_alike known last (Some c) (Ok line ∷ lines) all t =
     let words = tokens_of line.bytes in
     let n : Coming = said_of c in
     in_case (is_skipped words) (machine.item_from known last (Some c) lines)
-    (put_at line.number (line_step known (Some c) words) >>= λ x. cond (machine.is_done x) (found (item_of x) lines) (machine.item_from known last (Some x) lines))
+    (put_at line.number (line_step known (Some c) words) >>= λ x. cond (machine.is_done x) (found (item_of_coming x) lines) (machine.item_from known last (Some x) lines))
     (item_from known last (Some n) lines) (put_at line.number (line_said known (Some n) words) >>= λ x. whole_or (whole x) lines (item_from known last (Some x) lines))
     (read_alike known last (Some c) lines all t)
     (after_alike known last line.number lines (line_step known (Some c) words) (line_said known (Some n) words) (words_alike known (Some c) words all t) (λ e u. read_alike known last (Some e) lines all u))

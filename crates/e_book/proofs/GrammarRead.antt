@@ -23,7 +23,7 @@ use Rattle.e_book.specs.TheoremViews.{TheoremView}
 use Rattle.e_book.specs.LineLimits.{FewNamed}
 use Rattle.e_book.specs.Steps.{allowed, built, applied, claimed, superposed, split, cited, inferred, concluded, shut, stepped, step, begin, begun}
 use Rattle.e_book.specs.Open.{Open, Stating, Proving}
-use Rattle.e_book.specs.Grammar.{Rest, nothing_said, begins, goes_on, next, line_after, line_read, ended, or_more, is_skipped, put_at}
+use Rattle.e_book.specs.Grammar.{Rest, nothing_said, begins, goes_on, next, line_after, line_read, theorem_ended, or_more, is_skipped, put_at}
 use Rattle.e_book.specs.Grammar as grammar
 use Rattle.e_line.specs.Canonical.{line_of}
 use Rattle.e_book.specs.Canonical.{forms_of}
@@ -229,17 +229,17 @@ abbrev wrong_at : ℕ → FaultKind → Answer
 wrong_at number kind = Err (at_line number kind)
 
 -- a theorem ends, or its lines go on
-ends_alike : (d : TheoremParser) (p : Section) (lines : Rest) (x y : Answer) → x ≡ y → cond (is_last p) (whole (entry_of_parser d) lines) x ≡ or_more (ended (open_there d p)) lines y
+ends_alike : (d : TheoremParser) (p : Section) (lines : Rest) (x y : Answer) → x ≡ y → cond (is_last p) (whole (entry_of_parser d) lines) x ≡ or_more (theorem_ended (open_there d p)) lines y
 ends_alike d places.Done lines x y e = refl
 ends_alike d p lines x y e = e
 
 after_alike : (known : List TitledStatement) (last number : ℕ) (lines : Rest) (r : Result TheoremParser FaultKind) (q : Result Open FaultKind) → Alike known r q
     → ((e : TheoremParser) → Tied known e → book.read_from known last (Some e) lines ≡ grammar.read_from known last (Some (open_of e)) lines)
     → (put_at number r >>= λ d. cond (is_done d) (whole (entry_of_parser d) lines) (book.read_from known last (Some d) lines))
-    ≡ (put_at number q >>= λ n. or_more (ended n) lines (grammar.read_from known last (Some n) lines))
+    ≡ (put_at number q >>= λ n. or_more (theorem_ended n) lines (grammar.read_from known last (Some n) lines))
 after_alike known last number lines (Ok e) (Ok n) a more =
     ends_alike e e.place lines (book.read_from known last (Some e) lines) (grammar.read_from known last (Some (open_of e)) lines) (more e a.1)
-    ∙ ap (λ (o : Open). or_more (ended o) lines (grammar.read_from known last (Some o) lines)) a.0
+    ∙ ap (λ (o : Open). or_more (theorem_ended o) lines (grammar.read_from known last (Some o) lines)) a.0
 after_alike known last number lines (Err j) (Err k) a more = ap (λ (x : FaultKind). wrong_at number x) a
 after_alike known last number lines (Ok e) (Err k) a more = absurd a
 after_alike known last number lines (Err j) (Ok n) a more = absurd a
@@ -253,7 +253,7 @@ read_alike known last None (Ok line ∷ lines) t =
     let words = tokens_of line.bytes in
     in_case (is_skipped words) (book.read_from known last None lines)
     (put_at line.number (line_step known None words) >>= λ d. cond (is_done d) (whole (entry_of_parser d) lines) (book.read_from known last (Some d) lines))
-    (grammar.read_from known last None lines) (put_at line.number (line_read known None words) >>= λ n. or_more (ended n) lines (grammar.read_from known last (Some n) lines))
+    (grammar.read_from known last None lines) (put_at line.number (line_read known None words) >>= λ n. or_more (theorem_ended n) lines (grammar.read_from known last (Some n) lines))
     (read_alike known last None lines t)
     (after_alike known last line.number lines (line_step known None words) (line_read known None words) (words_alike known None words t) (λ e u. read_alike known last (Some e) lines u))
 read_alike known last (Some d) (Ok line ∷ lines) t =
@@ -261,7 +261,7 @@ read_alike known last (Some d) (Ok line ∷ lines) t =
     let o : Open = open_of d in
     in_case (is_skipped words) (book.read_from known last (Some d) lines)
     (put_at line.number (line_step known (Some d) words) >>= λ x. cond (is_done x) (whole (entry_of_parser x) lines) (book.read_from known last (Some x) lines))
-    (grammar.read_from known last (Some o) lines) (put_at line.number (line_read known (Some o) words) >>= λ n. or_more (ended n) lines (grammar.read_from known last (Some n) lines))
+    (grammar.read_from known last (Some o) lines) (put_at line.number (line_read known (Some o) words) >>= λ n. or_more (theorem_ended n) lines (grammar.read_from known last (Some n) lines))
     (read_alike known last (Some d) lines t)
     (after_alike known last line.number lines (line_step known (Some d) words) (line_read known (Some o) words) (words_alike known (Some d) words t) (λ e u. read_alike known last (Some e) lines u))
 

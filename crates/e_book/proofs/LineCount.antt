@@ -4,7 +4,7 @@ use Rattle.std.specs.Prelude.{is_ok}
 use Rattle.std.specs.List.{slice_split}
 use Rattle.std.proofs.lemmas.List.Splits.{length-slice_split}
 use Rattle.std.proofs.lemmas.List.Sums.{count_by-le-length}
-use Rattle.e_text.specs.Lines.{is_lf, Bounds, Spot, LineView, closed, lines_of_parts, lines_of}
+use Rattle.e_text.specs.Lines.{is_lf, Bounds, Spot, LineView, line_before_lf, lines_of_parts, lines_of}
 use Rattle.e_text.specs.declared.line.LineFault.{LineFault}
 
 abbrev Checked : Type 0
@@ -22,7 +22,7 @@ few_parts : (w : Bounds) (at : Spot) (parts : List (List ℕ)) → length (lines
 few_parts w at [] = omega arith
 few_parts w at (part ∷ []) = one_or_none _ _
 few_parts w at (part ∷ next ∷ parts) =
-    let first = closed w at part in
+    let first = line_before_lf w at part in
     let after : Spot = record { line = at.line + 1; before = at.before + length part + 1 } in
     let h = at_most (is_ok first) first (lines_of_parts w after (next ∷ parts)) (length (next ∷ parts)) (few_parts w after (next ∷ parts)) in
     omega (arith, h)

@@ -20,7 +20,7 @@ use Rattle.e_book.specs.Steps.{FitsScope}
 use Rattle.e_line.specs.Items.{listing_form}
 use Rattle.e_names.specs.Meanings.{items_in}
 use Rattle.e_names.specs.inner.Written.{Writes}
-use Rattle.e_book.specs.inner.Machine.{names_at_place, names_there, is_ready, written}
+use Rattle.e_book.specs.inner.Machine.{names_at_place, names_there, is_ready, line_written_out}
 use Rattle.e_names.proofs.ItemsWritten.{fails_on}
 
 enough : (ns : Names) → FewNamed ns → FewNames ns
@@ -43,13 +43,13 @@ abbrev then_out : Names → Listing → List Lit × ℕ → Result (RawLine × �
 then_out ns line p = Ok (listing_form line (map (raw_of ns) p.0), p.1)
 
 pub out_is : (notions : List Titled) (d : TheoremParser) (line : Listing) (is : List RawItem) (ns : Names) (none raws : List RawLit) (n : ℕ) (form : RawLine) → is_ready d line ≡ Ok tt → ns ≡ names_there d → none ≡ []
-    → Writes ns (Ok n) none raws (items_in notions ns 0 is) → form ≡ listing_form line raws → written notions d line is ≡ Ok (form, n)
+    → Writes ns (Ok n) none raws (items_in notions ns 0 is) → form ≡ listing_form line raws → line_written_out notions d line is ≡ Ok (form, n)
 out_is notions d line is ns none raws n form ready at empty w f =
     let read : items_in notions (names_there d) 0 is ≡ Ok (w.0, n) = subst (λ (x : Names). items_in notions x 0 is ≡ Ok (w.0, n)) at w.1 in
     let put : raws ≡ map (raw_of (names_there d)) w.0 = w.2 ∙ ap (λ (x : List RawLit). x ++ map (raw_of ns) w.0) empty ∙ ap (λ (x : Names). map (raw_of x) w.0) at in
     rw (ready, read) (ap (λ (x : List RawLit). Ok (listing_form line x, n)) (sym put) ∙ ap (λ (x : RawLine). Ok (x, n)) (sym f))
 
-pub out_fails : (notions : List Titled) (d : TheoremParser) (line : Listing) (is : List RawItem) (ns : Names) (e : LineError) → is_ready d line ≡ Ok tt → ns ≡ names_there d → Fails e (items_in notions ns 0 is) → Fails e (written notions d line is)
+pub out_fails : (notions : List Titled) (d : TheoremParser) (line : Listing) (is : List RawItem) (ns : Names) (e : LineError) → is_ready d line ≡ Ok tt → ns ≡ names_there d → Fails e (items_in notions ns 0 is) → Fails e (line_written_out notions d line is)
 out_fails notions d line is ns e ready at h =
     let here = subst (λ (x : Names). Fails e (items_in notions x 0 is)) at h in
     rw ready (fails_on e (items_in notions (names_there d) 0 is) (then_out (names_there d) line) here)

@@ -54,7 +54,7 @@ use Rattle.e_book.specs.Grammar.{is_skipped, put_at}
 use Rattle.e_book.specs.Book.{line_step, is_last, is_done, read_from}
 use Rattle.e_book.specs.Fits.{Fits}
 use Rattle.e_line.specs.HasSpelling.{AreNames}
-use Rattle.e_names.specs.HasSpelling.{is_place, is_named_by_title}
+use Rattle.e_names.specs.HasSpelling.{is_found_at, is_named_by_title}
 use Rattle.e_book.specs.HasSpelling.{HasSpelling, is_plain, names_theorems}
 use Rattle.e_book.proofs.Answered.{within_ok, passes, untaken, put_ok, answered, pair, first_is, skip_or, Answer}
 use Rattle.e_line.proofs.Bound.{bind_ok, ok_is, read_ok, each_length}
@@ -292,7 +292,7 @@ by_title known ns raw theorem args u h =
     let t = found_title known raw.title theorem u.place in
     let named_so : is_title (title_at known theorem) ≡ true = subst (λ (x : List ℕ). is_title x ≡ true) (sym t) h in
     let there : place_in known (title_at known theorem) ≡ Some theorem = ap (place_in known) t ∙ u.place in
-    let here : is_place theorem (place_in known (title_at known theorem)) ≡ true = ap (is_place theorem) there ∙ eqb_self theorem in
+    let here : is_found_at theorem (place_in known (title_at known theorem)) ≡ true = ap (is_found_at theorem) there ∙ eqb_self theorem in
     and_from _ _ named_so here
 
 spelled_used : (known : List TitledStatement) (d e : TheoremParser) (raw : RawApply) (theorem : ℕ) (args : List (Option Obj)) → Spelled known d → AreNames raw.new → is_named_by_title known theorem ≡ true

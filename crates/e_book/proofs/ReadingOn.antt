@@ -19,7 +19,7 @@ use Rattle.e_names.specs.declared.known.Known.{Known}
 use Rattle.e_names.specs.Titled.{are_notions}
 use Rattle.e_book.specs.Grammar.{is_skipped, put_at, BookFails}
 use Rattle.e_book.specs.Definitions.{BookItem, HasWellFormedView, view_of}
-use Rattle.e_book.specs.inner.Machine.{line_step, is_done, item_of, at_end, item_from, IsBegun, TakesWords, TakesLine, ReadsOn, end_of}
+use Rattle.e_book.specs.inner.Machine.{line_step, is_done, item_of_coming, at_end, item_from, IsBegun, TakesWords, TakesLine, ReadsOn, end_of}
 use Rattle.e_book.proofs.ComingKept.{read_is_well_formed}
 
 abbrev Rest : Type 0
@@ -50,7 +50,7 @@ put old l known = put_at l.number (line_step known old (tokens_of l.bytes))
 
 -- what follows
 abbrev then_on : Known → ℕ → Rest → Coming → Result Answer BookFault
-then_on known last more d = cond (is_done d) (answered (pair (item_of d) more)) (item_from known last (Some d) more)
+then_on known last more d = cond (is_done d) (answered (pair (item_of_coming d) more)) (item_from known last (Some d) more)
 
 skipped : (known : Known) (last : ℕ) (old : Option Coming) (l : LineView) (more : Rest) → is_skipped (tokens_of l.bytes) ≡ true → item_from known last old (Ok l ∷ more) ≡ item_from known last old more
 skipped known last old l more h =
@@ -104,11 +104,11 @@ takes_skipped known old l h = λ last more. skipped known last old l more h
 
 pub takes_words : (known : Known) (old new : Option Coming) (l : LineView) (r : Result (Option Item) BookFault) → is_skipped (tokens_of l.bytes) ≡ false → TakesWords known old l.number (tokens_of l.bytes) r new → TakesLine known old l r new
 takes_words known old new l (Ok None) h w =
-    λ last more. worded_as known last old l more w.0 h w.1 ∙ on_false (is_done w.0) (answered (pair (item_of w.0) more)) (item_from known last (Some w.0) more) w.2
+    λ last more. worded_as known last old l more w.0 h w.1 ∙ on_false (is_done w.0) (answered (pair (item_of_coming w.0) more)) (item_from known last (Some w.0) more) w.2
     ∙ ap (λ (d : Option Coming). item_from known last d more) (sym w.3)
 takes_words known old new l (Ok (Some t)) h w = (
   w.4,
-  λ last more. worded_as known last old l more w.0 h w.1 ∙ on_true (is_done w.0) (answered (pair (item_of w.0) more)) (item_from known last (Some w.0) more) w.2
+  λ last more. worded_as known last old l more w.0 h w.1 ∙ on_true (is_done w.0) (answered (pair (item_of_coming w.0) more)) (item_from known last (Some w.0) more) w.2
       ∙ ap (λ (e : BookItem). answered (pair e more)) (sym w.3),
 )
 takes_words known old new l (Err f) h w =

@@ -31,20 +31,20 @@ StepLine = (By ⊎ (Lit × Option Cert)) ⊎ (((Construction × Named) ⊎ (ℕ 
 abbrev pub CloseLine : Type 0
 CloseLine = (List Obj × List Cert) ⊎ (Option Against ⊎ Lit)
 
-abbrev pub Line : Type 0
-Line = StepLine ⊎ CloseLine
+abbrev pub CodedLine : Type 0
+CodedLine = StepLine ⊎ CloseLine
 
 -- the lines of a script, and more after them
-abbrev pub lines : Script → List Line → List Line
-lines (Cite by rest) more = inl (inl (inl by)) ∷ lines rest more
-lines (Hence lit cert rest) more = inl (inl (inr (lit, cert))) ∷ lines rest more
-lines (Make form names certs rest) more = inl (inr (inl (inl (form, (names, certs))))) ∷ lines rest more
-lines (Apply theorem args names certs rest) more = inl (inr (inl (inr (theorem, (args, (names, certs)))))) ∷ lines rest more
-lines (Claim shown inner rest) more = inl (inr (inr (inl shown))) ∷ lines inner (lines rest more)
-lines (Superposed form names shown certs inner rest) more = inl (inr (inr (inr (form, (shown, (names, certs)))))) ∷ lines inner (lines rest more)
-lines (Qed objects certs) more = inr (inl (objects, certs)) ∷ more
-lines (Contradiction cert) more = inr (inr (inl cert)) ∷ more
-lines (Cases lit first second) more = inr (inr (inr lit)) ∷ lines first (lines second more)
+abbrev pub coded_lines : Script → List CodedLine → List CodedLine
+coded_lines (Cite by rest) more = inl (inl (inl by)) ∷ coded_lines rest more
+coded_lines (Hence lit cert rest) more = inl (inl (inr (lit, cert))) ∷ coded_lines rest more
+coded_lines (Make form names certs rest) more = inl (inr (inl (inl (form, (names, certs))))) ∷ coded_lines rest more
+coded_lines (Apply theorem args names certs rest) more = inl (inr (inl (inr (theorem, (args, (names, certs)))))) ∷ coded_lines rest more
+coded_lines (Claim shown inner rest) more = inl (inr (inr (inl shown))) ∷ coded_lines inner (coded_lines rest more)
+coded_lines (Superposed form names shown certs inner rest) more = inl (inr (inr (inr (form, (shown, (names, certs)))))) ∷ coded_lines inner (coded_lines rest more)
+coded_lines (Qed objects certs) more = inr (inl (objects, certs)) ∷ more
+coded_lines (Contradiction cert) more = inr (inr (inl cert)) ∷ more
+coded_lines (Cases lit first second) more = inr (inr (inr lit)) ∷ coded_lines first (coded_lines second more)
 
 -- a line before the first of these scripts, or before the first two
 abbrev pub before_one : (Script → Script) → List Script → List Script
@@ -56,7 +56,7 @@ before_two f [] = []
 before_two f (s ∷ []) = []
 before_two f (s ∷ t ∷ ss) = f s t ∷ ss
 
-abbrev pub put : Line → List Script → List Script
+abbrev pub put : CodedLine → List Script → List Script
 put (inl (inl (inl by))) ss = before_one (Cite by) ss
 put (inl (inl (inr p))) ss = before_one (Hence p.0 p.1) ss
 put (inl (inr (inl (inl p)))) ss = before_one (Make p.0 p.1.0 p.1.1) ss
@@ -68,23 +68,23 @@ put (inr (inr (inl cert))) ss = Contradiction cert ∷ ss
 put (inr (inr (inr lit))) ss = before_two (Cases lit) ss
 
 -- the scripts whose lines these are
-abbrev pub scripts : List Line → List Script
+abbrev pub scripts : List CodedLine → List Script
 scripts [] = []
 scripts (l ∷ ls) = put l (scripts ls)
 
 pub scripts-two : (f : Script → Script → Script) (s t : Script) {ss ss' more : List Script} → ss ≡ s ∷ ss' → ss' ≡ t ∷ more → before_two f ss ≡ f s t ∷ more
 scripts-two f s t e e' = ap (before_two f) (e ∙ ap (λ ss. s ∷ ss) e')
 
-pub scripts-lines : (s : Script) (more : List Line) → scripts (lines s more) ≡ s ∷ scripts more
+pub scripts-lines : (s : Script) (more : List CodedLine) → scripts (coded_lines s more) ≡ s ∷ scripts more
 scripts-lines (Cite by rest) more = ap (before_one (Cite by)) (scripts-lines rest more)
 scripts-lines (Hence lit cert rest) more = ap (before_one (Hence lit cert)) (scripts-lines rest more)
 scripts-lines (Make form names certs rest) more = ap (before_one (Make form names certs)) (scripts-lines rest more)
 scripts-lines (Apply theorem args names certs rest) more = ap (before_one (Apply theorem args names certs)) (scripts-lines rest more)
-scripts-lines (Claim shown inner rest) more = scripts-two (Claim shown) inner rest (scripts-lines inner (lines rest more)) (scripts-lines rest more)
-scripts-lines (Superposed form names shown certs inner rest) more = scripts-two (Superposed form names shown certs) inner rest (scripts-lines inner (lines rest more)) (scripts-lines rest more)
+scripts-lines (Claim shown inner rest) more = scripts-two (Claim shown) inner rest (scripts-lines inner (coded_lines rest more)) (scripts-lines rest more)
+scripts-lines (Superposed form names shown certs inner rest) more = scripts-two (Superposed form names shown certs) inner rest (scripts-lines inner (coded_lines rest more)) (scripts-lines rest more)
 scripts-lines (Qed objects certs) more = refl
 scripts-lines (Contradiction cert) more = refl
-scripts-lines (Cases lit first second) more = scripts-two (Cases lit) first second (scripts-lines first (lines second more)) (scripts-lines second more)
+scripts-lines (Cases lit first second) more = scripts-two (Cases lit) first second (scripts-lines first (coded_lines second more)) (scripts-lines second more)
 
 abbrev pub first_script : List Script → Script
 first_script [] = Contradiction None
@@ -106,7 +106,7 @@ close_line_code =
 
 abbrev pub script_code : Coded Script
 script_code =
-    code_by (List Line) (coded_list (coded⊎ step_line_code close_line_code)) (λ s. lines s []) (λ ls. first_script (scripts ls))
+    code_by (List CodedLine) (coded_list (coded⊎ step_line_code close_line_code)) (λ s. coded_lines s []) (λ ls. first_script (scripts ls))
     (λ s. ap first_script (scripts-lines s []))
 
 -- a step is stored as a script that begins with it

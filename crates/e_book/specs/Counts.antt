@@ -27,10 +27,10 @@ use Rattle.e_book.specs.Open.{Head, Opener, ByClaim, BySuperposition, ByCase, By
 -- ---- names and facts on the path to a place
 
 -- the names in scope after a step
-abbrev pub names_after : List TitledStatement → Names → PlainStep → Names
-names_after known ns (Made form names certs) = named ns (sorts_made form) names
-names_after known ns (Applied theorem args names certs) = named ns (theorem_of known theorem).made names
-names_after known ns step = ns
+abbrev pub names_after_plain_step : List TitledStatement → Names → PlainStep → Names
+names_after_plain_step known ns (Made form names certs) = named ns (sorts_made form) names
+names_after_plain_step known ns (Applied theorem args names certs) = named ns (theorem_of known theorem).made names
+names_after_plain_step known ns step = ns
 
 -- what a step makes facts. A theorem that is applied gives as many literals as it shows, with as
 -- many monomials
@@ -48,23 +48,23 @@ pub record LineContext : Type 0 where
   pub facts : List Lit
 
 abbrev pub after_step : List TitledStatement → LineContext → PlainStep → LineContext
-after_step known at step = record { names = names_after known at.names step; facts = at.facts ++ given_by known (scope_of_names at.names) step }
+after_step known at step = record { names = names_after_plain_step known at.names step; facts = at.facts ++ given_by known (scope_of_names at.names) step }
 
 abbrev pub after_steps : List TitledStatement → LineContext → List PlainStep → LineContext
 after_steps known at [] = at
 after_steps known at (s ∷ steps) = after_steps known (after_step known at s) steps
 
 -- where an inner block begins
-abbrev pub inside : LineContext → Opener → LineContext
-inside at (ByClaim shown) = at
-inside at (BySuperposition form names shown) = record { names = named at.names superposing.sorts_copied names; facts = at.facts ++ superposing.gives_of_superposition form (scope_of_names at.names) }
-inside at (ByCase lit) = record at { facts = at.facts ++ lit ∷ [] }
-inside at (ByElse lit first) = record at { facts = at.facts ++ negation lit ∷ [] }
+abbrev pub context_inside : LineContext → Opener → LineContext
+context_inside at (ByClaim shown) = at
+context_inside at (BySuperposition form names shown) = record { names = named at.names superposing.sorts_copied names; facts = at.facts ++ superposing.gives_of_superposition form (scope_of_names at.names) }
+context_inside at (ByCase lit) = record at { facts = at.facts ++ lit ∷ [] }
+context_inside at (ByElse lit first) = record at { facts = at.facts ++ negation lit ∷ [] }
 
 -- where the block inside these begins
 abbrev pub first_context : List TitledStatement → Head → List Enclosing → LineContext
 first_context known h [] = record { names = declared_names (stated h.statement) h.names; facts = h.statement.given }
-first_context known h (a ∷ around) = inside (after_steps known (first_context known h around) a.steps) a.opener
+first_context known h (a ∷ around) = context_inside (after_steps known (first_context known h around) a.steps) a.opener
 
 -- before the next line
 abbrev pub context_at : List TitledStatement → Open → LineContext
@@ -76,14 +76,14 @@ context_at known (Ended t) = record { names = t.names; facts = [] }
 
 -- ---- step and close lines, and blocks
 
-abbrev pub lines_of : PlainStep → ℕ
-lines_of (Claimed shown inner) = 1 + size inner
-lines_of (Copied form names shown certs inner) = 1 + size inner
-lines_of step = 1
+abbrev pub lines_of_step : PlainStep → ℕ
+lines_of_step (Claimed shown inner) = 1 + size inner
+lines_of_step (Copied form names shown certs inner) = 1 + size inner
+lines_of_step step = 1
 
 abbrev pub count_lines : List PlainStep → ℕ
 count_lines [] = 0
-count_lines (s ∷ steps) = lines_of s + count_lines steps
+count_lines (s ∷ steps) = lines_of_step s + count_lines steps
 
 -- of a first block that is closed
 abbrev pub lines_first : Opener → ℕ

@@ -30,11 +30,11 @@ use Rattle.e_line.specs.Limits.{most_notions, most_expanded}
 use Rattle.e_names.specs.Canonical.{raw_of}
 use Rattle.e_book.specs.TheoremViews.{TheoremView, entry_of}
 use Rattle.e_book.specs.HasSpelling.{HasSpelling}
-use Rattle.e_line.specs.Items.{line_of, listing_form, is_show}
+use Rattle.e_line.specs.Items.{book_line_of, listing_form, is_show}
 use Rattle.e_names.specs.Meanings.{items_in}
 use Rattle.e_book.specs.Open.{Head, Open, Stating}
 use Rattle.e_book.specs.Counts.{context_at, all_kept}
-use Rattle.e_book.specs.Grammar.{Rest, nothing_said, begins, is_empty, next, line_after, ended, is_skipped, put_at, BookFails}
+use Rattle.e_book.specs.Grammar.{Rest, nothing_said, begins, is_empty, next, line_after, theorem_ended, is_skipped, put_at, BookFails}
 
 -- what a book consists of
 pub data BookItem : Type 0 where
@@ -54,12 +54,12 @@ abbrev pub has_notion_title : List Titled → RawLine → Bool
 has_notion_title notions (rawlines.Theorem t) = defines notions t
 has_notion_title notions f = false
 
-abbrev pub first_line : Known → BookLine → Result Coming FaultKind
-first_line known (Plain f) = if has_notion_title known.notions f then Err NameTaken else (begins known.theorems f >>= λ o. Ok (InTheorem o 0))
-first_line known (Define t) =
+abbrev pub after_first_line : Known → BookLine → Result Coming FaultKind
+after_first_line known (Plain f) = if has_notion_title known.notions f then Err NameTaken else (begins known.theorems f >>= λ o. Ok (InTheorem o 0))
+after_first_line known (Define t) =
     if is_taken known t then Err NameTaken else
     (all_kept ((nat_le (length known.notions + 1) most_notions, limits.Notions) ∷ []) >>= λ kept. Ok (InDefinition (nothing_said t) 0))
-first_line known (Listed line items) = Err Malformed
+after_first_line known (Listed line items) = Err Malformed
 
 -- ---- a line without items
 
@@ -102,29 +102,29 @@ counted n (InDefinition h m) = all_kept ((nat_le (m + n) most_expanded, limits.E
 counted n (Defined t) = Err Malformed
 
 -- it is taken as it is written out; the last limit is that of the literals that items stand for
-abbrev pub listed_line : Known → Coming → Listing → List RawItem → Result Coming FaultKind
-listed_line known (InTheorem o n) line is = written_out known o line is >>= λ w. plain_line known (InTheorem o n) w.0 >>= λ c. counted w.1 c
-listed_line known (InDefinition h n) line is =
+abbrev pub after_listed_line : Known → Coming → Listing → List RawItem → Result Coming FaultKind
+after_listed_line known (InTheorem o n) line is = written_out known o line is >>= λ w. plain_line known (InTheorem o n) w.0 >>= λ c. counted w.1 c
+after_listed_line known (InDefinition h n) line is =
     if is_show line then (written_out known (Stating h) line is >>= λ w. plain_line known (InDefinition h n) w.0 >>= λ c. counted w.1 c) else Err Malformed
-listed_line known (Defined t) line is = Err Malformed
+after_listed_line known (Defined t) line is = Err Malformed
 
 -- ---- lines
 
 abbrev pub next_line : Known → Coming → BookLine → Result Coming FaultKind
 next_line known c (Plain f) = plain_line known c f
 next_line known c (Define t) = Err Malformed
-next_line known c (Listed line is) = listed_line known c line is
+next_line known c (Listed line is) = after_listed_line known c line is
 
 abbrev pub line_said : Known → Option Coming → List (List ℕ) → Result Coming FaultKind
-line_said known None words = line_of words >>= λ l. first_line known l
-line_said known (Some c) words = line_of words >>= λ l. next_line known c l
+line_said known None words = book_line_of words >>= λ l. after_first_line known l
+line_said known (Some c) words = book_line_of words >>= λ l. next_line known c l
 
 abbrev pub put_there : ℕ → Result Coming FaultKind → Result Coming BookFault
 put_there line read = put_at line read
 
 -- a theorem or a definition whose last line has come
 abbrev pub whole : Coming → Option BookItem
-whole (InTheorem o n) = option_map OfTheorem (ended o)
+whole (InTheorem o n) = option_map OfTheorem (theorem_ended o)
 whole (InDefinition h n) = None
 whole (Defined t) = Some (OfNotion t)
 

@@ -72,8 +72,8 @@ states h rawlines.Proof = if is_empty h.statement.shown then Err Malformed else 
 states h f = Err Malformed
 
 -- one more step of the open block
-abbrev pub one_more : Head → List Enclosing → List PlainStep → PlainStep → Result Open FaultKind
-one_more h around steps s = Ok (Proving h around (steps ++ s ∷ []))
+abbrev pub one_more_step : Head → List Enclosing → List PlainStep → PlainStep → Result Open FaultKind
+one_more_step h around steps s = Ok (Proving h around (steps ++ s ∷ []))
 
 -- a block inside the open one
 abbrev pub inner_block : Head → List Enclosing → List PlainStep → Opener → Result Open FaultKind
@@ -81,10 +81,10 @@ inner_block h around steps opener = Ok (Proving h (record { steps = steps; opene
 
 -- a line of a block, where these names are in scope
 abbrev pub goes_on : List TitledStatement → Names → Head → List Enclosing → List PlainStep → RawLine → Result Open FaultKind
-goes_on known ns h around steps (rawlines.By rule args raw) = by_in ns rule args raw >>= λ b. one_more h around steps (Cited b)
-goes_on known ns h around steps (rawlines.Hence raw) = lit_in ns raw >>= λ l. one_more h around steps (Inferred l None)
-goes_on known ns h around steps (rawlines.Let raw) = let_in ns raw >>= λ form. one_more h around steps (Made form raw.new [])
-goes_on known ns h around steps (rawlines.Apply raw) = apply_in known ns raw >>= λ a. one_more h around steps (Applied a.0 a.1 raw.new [])
+goes_on known ns h around steps (rawlines.By rule args raw) = by_in ns rule args raw >>= λ b. one_more_step h around steps (Cited b)
+goes_on known ns h around steps (rawlines.Hence raw) = lit_in ns raw >>= λ l. one_more_step h around steps (Inferred l None)
+goes_on known ns h around steps (rawlines.Let raw) = let_in ns raw >>= λ form. one_more_step h around steps (Made form raw.new [])
+goes_on known ns h around steps (rawlines.Apply raw) = apply_in known ns raw >>= λ a. one_more_step h around steps (Applied a.0 a.1 raw.new [])
 goes_on known ns h around steps (rawlines.Claim raws) = lits_in ns raws >>= λ ls. inner_block h around steps (ByClaim ls)
 goes_on known ns h around steps (rawlines.Superpose raw) = superpose_in ns raw >>= λ p. inner_block h around steps (BySuperposition p.0 raw.new p.1)
 goes_on known ns h around steps (rawlines.Cases raw) = lit_in ns raw >>= λ l. inner_block h around steps (ByCase l)
@@ -126,9 +126,9 @@ put_at line (Err kind) = Err (at_line line kind)
 abbrev pub Rest : Type 0
 Rest = List (Result LineView LineFault)
 
-abbrev pub ended : Open → Option TheoremView
-ended (Ended t) = Some t
-ended o = None
+abbrev pub theorem_ended : Open → Option TheoremView
+theorem_ended (Ended t) = Some t
+theorem_ended o = None
 
 abbrev pub or_more : Option TheoremView → Rest → Result (Option (TheoremView × Rest)) BookFault → Result (Option (TheoremView × Rest)) BookFault
 or_more None lines more = more
@@ -145,7 +145,7 @@ read_from known last o [] = no_more last o
 read_from known last o (Err f ∷ lines) = Err (line_fault f)
 read_from known last o (Ok line ∷ lines) =
     if is_skipped (tokens_of line.bytes) then read_from known last o lines else
-    (put_at line.number (line_read known o (tokens_of line.bytes)) >>= λ n. or_more (ended n) lines (read_from known last (Some n) lines))
+    (put_at line.number (line_read known o (tokens_of line.bytes)) >>= λ n. or_more (theorem_ended n) lines (read_from known last (Some n) lines))
 
 -- ---- what is answered
 

@@ -3,13 +3,13 @@ ghost use Rattle.std.specs.Prelude.{◌≡◌, ◌≤◌, ◌+◌, [], IfOk, OnO
 ghost use Rattle.e_line.specs.Reading.{Gives, Moves};
 ghost use Rattle.e_line.specs.Limits.{most_expanded};
 ghost use Rattle.e_names.specs.Titled.{are_notions};
-ghost use Rattle.e_line.specs.Items.{listing_form, superpose_form, is_show};
+ghost use Rattle.e_line.specs.Items.{listing_form, raw_superpose_line, is_show};
 ghost use Rattle.e_names.specs.Scope.{right_count};
 ghost use Rattle.e_book.specs.Definitions.{has_notion_title, OfNotion, view_of};
 ghost use Rattle.e_book.specs.Steps.{allowed, FitsScope};
-ghost use Rattle.e_book.specs.inner.Machine.{FitsComing, is_ready, written, begins};
+ghost use Rattle.e_book.specs.inner.Machine.{FitsComing, is_ready, line_written_out, begins};
 ghost use Rattle.e_book.specs.inner.Machine.{begins_theorem, begins_definition, step, goes_on};
-ghost use Rattle.e_book.specs.inner.Machine.{defines_on, lists, item_of, notion_of_parser};
+ghost use Rattle.e_book.specs.inner.Machine.{defines_on, lists, item_of_coming, notion_of_parser};
 
 use crate::item::Item;
 use crate::limits::MAX_NOTIONS;
@@ -62,7 +62,7 @@ fn superpose_form(
     new: &[Name],
     shown: Items<RawLit>,
 ) -> Result<RawLine, AllocError>
-    ensures { IfOk result (λ f. f ≡ superpose_form args.now new.now shown) }
+    ensures { IfOk result (λ f. f ≡ raw_superpose_line args.now new.now shown) }
 {
     let args = Items::new(Vec::from_slice(alloc, args)?);
     let new = Items::new(Vec::from_slice(alloc, new)?);
@@ -235,7 +235,7 @@ impl Coming {
         requires coming { FitsComing known.now self.now }
         requires notions { IsTrue (are_notions known.now.notions) }
         ensures value { Gives (λ w. (w.form, w.count)) result
-            (written known.now.notions self.now.parser line.now items.now) }
+            (line_written_out known.now.notions self.now.parser line.now items.now) }
         ensures count { IfOk result (λ w. w.count ≤ most_expanded + 1) }
     {
         self.parser.ready(line)?;
@@ -248,7 +248,7 @@ impl Coming {
 
     /// What the lines make, where the last has come.
     pub(crate) fn into_item(self, alloc: Global) -> Item
-        ensures { view_of result ≡ item_of self }
+        ensures { view_of result ≡ item_of_coming self }
     {
         let Coming {
             defines,

@@ -6,7 +6,7 @@ use Rattle.e_line.specs.declared.fault.FaultKind.{FaultKind}
 use Rattle.e_line.specs.declared.fault.FaultKind.TheVariants.{Malformed}
 use Rattle.e_line.specs.declared.literal.RawLit.{RawLit}
 use Rattle.e_line.specs.declared.sum.RawTerm.{RawTerm}
-use Rattle.e_line.specs.Reading.{◌>>=◌, title_at, end_at, names_of}
+use Rattle.e_line.specs.Reading.{◌>>=◌, first_title, end_at, names_of}
 use Rattle.e_text.specs.Numerals.{number_of}
 use Rattle.e_line.specs.Sums.{term_of}
 use Rattle.e_line.specs.Literals.{lit_of, diagram_lit_of}
@@ -16,7 +16,7 @@ use Rattle.e_cert.specs.declared.cert_line.RawRow.{RawRow}
 use Rattle.e_cert.specs.declared.cert_line.RawRow.TheVariants as rows
 use Rattle.e_cert.specs.declared.cert_line.CertLine.{CertLine}
 use Rattle.e_cert.specs.declared.cert_line.CertLine.TheVariants as certlines
-use Rattle.e_cert.specs.CertLines.{multiplier_of, placed, place_of, fact_row_of, bare_row, row_named, row_of, may_differ, bare, differs_of, transfer_of, fact_cert_line_of, row_cert_line_of, cert_line_named, cert_line_of}
+use Rattle.e_cert.specs.CertLines.{multiplier_of, placed, place_of_digits, fact_row_of, bare_row, raw_row_named, raw_row_of, may_differ, bare_cert_line, differs_of, transfer_of, fact_cert_line_of, row_cert_line_of, cert_line_named, cert_line_of}
 
 -- what is said of a row's literal, where the row is a fact; a place has 32 bits
 abbrev pub OfRow : (RawLit → Type 0) → RawRow → Type 0
@@ -46,20 +46,20 @@ module _ (P : RawLit → Type 0) (literal : (ws : List (List ℕ)) (l : RawLit) 
   fact_lit : (ws : List (List ℕ)) (r : RawRow) → (lit_of ws >>= λ l. read_ok (rows.Fact l)) ≡ Ok r → OfRow P r
   fact_lit ws r e = let l = bind_ok (lit_of ws) (λ l. read_ok (rows.Fact l)) r e in subst (OfRow P) (ok_is (rows.Fact l.0) r l.2) (literal ws l.0 l.1)
 
-  place_row_lit : (w : List ℕ) (r : RawRow) → (place_of w >>= λ k. read_ok (rows.FactAt k)) ≡ Ok r → OfRow P r
-  place_row_lit w r e = let k = bind_ok (place_of w) (λ k. read_ok (rows.FactAt k)) r e in subst (OfRow P) (ok_is (rows.FactAt k.0) r k.2) (few_places (number_of w) k.0 k.1)
+  place_row_lit : (w : List ℕ) (r : RawRow) → (place_of_digits w >>= λ k. read_ok (rows.FactAt k)) ≡ Ok r → OfRow P r
+  place_row_lit w r e = let k = bind_ok (place_of_digits w) (λ k. read_ok (rows.FactAt k)) r e in subst (OfRow P) (ok_is (rows.FactAt k.0) r k.2) (few_places (number_of w) k.0 k.1)
 
   fact_row_lit : (ws : List (List ℕ)) (r : RawRow) → fact_row_of ws ≡ Ok r → OfRow P r
   unfolding fact_row_of
   fact_row_lit [] r e = absurd cc
   fact_row_lit (w ∷ ws) r e =
-      either (OfRow P) (length ws == 0) (place_of w >>= λ k. read_ok (rows.FactAt k)) (lit_of (w ∷ ws) >>= λ l. read_ok (rows.Fact l)) r e (place_row_lit w r) (fact_lit (w ∷ ws) r)
+      either (OfRow P) (length ws == 0) (place_of_digits w >>= λ k. read_ok (rows.FactAt k)) (lit_of (w ∷ ws) >>= λ l. read_ok (rows.Fact l)) r e (place_row_lit w r) (fact_lit (w ∷ ws) r)
 
   no_row : (r : RawRow) → let none : Result RawRow FaultKind = Err Malformed in none ≡ Ok r → OfRow P r
   no_row r h = absurd cc
 
-  row_named_lit : (w : List ℕ) (ws : List (List ℕ)) (r : RawRow) → row_named w ws ≡ Ok r → OfRow P r
-  unfolding row_named
+  row_named_lit : (w : List ℕ) (ws : List (List ℕ)) (r : RawRow) → raw_row_named w ws ≡ Ok r → OfRow P r
+  unfolding raw_row_named
   row_named_lit w ws r e =
       let none : Result RawRow FaultKind = Err Malformed in
       let r7 : Result RawRow FaultKind = cond (bytes_eq w (codes "below")) (bare_row ws rows.Below) none in
@@ -78,40 +78,40 @@ module _ (P : RawLit → Type 0) (literal : (ws : List (List ℕ)) (l : RawLit) 
       either (OfRow P) (bytes_eq w (codes "above")) (bare_row ws rows.Above) r7 r e6 (bare_row_lit ws rows.Above r tt) (λ e7.
       either (OfRow P) (bytes_eq w (codes "below")) (bare_row ws rows.Below) none r e7 (bare_row_lit ws rows.Below r tt) (no_row r))))))))
 
-  row_lit : (ws : List (List ℕ)) (r : RawRow) → row_of ws ≡ Ok r → OfRow P r
-  unfolding row_of
+  row_lit : (ws : List (List ℕ)) (r : RawRow) → raw_row_of ws ≡ Ok r → OfRow P r
+  unfolding raw_row_of
   row_lit [] r e = absurd cc
   row_lit (w ∷ ws) r e = row_named_lit w ws r e
 
   module _ (Q : RawLit → Type 0) (clashing : (ws : List (List ℕ)) (l : RawLit) → diagram_lit_of ws ≡ Ok l → Q l) where
-    bare_lit : (ws : List (List ℕ)) (cert_line m : CertLine) → OfCertLine P Q cert_line → bare ws cert_line ≡ Ok m → OfCertLine P Q m
+    bare_lit : (ws : List (List ℕ)) (cert_line m : CertLine) → OfCertLine P Q cert_line → bare_cert_line ws cert_line ≡ Ok m → OfCertLine P Q m
     bare_lit ws cert_line m h e = let n = bind_ok (end_at ws) (λ none. read_ok cert_line) m e in subst (OfCertLine P Q) (ok_is cert_line m n.2) h
 
     fact_cert_line_lit : (ws : List (List ℕ)) (m : CertLine) → fact_cert_line_of ws ≡ Ok m → OfCertLine P Q m
     unfolding fact_cert_line_of
     fact_cert_line_lit [] m e = subst (OfCertLine P Q) (ok_is certlines.Fact m e) tt
     fact_cert_line_lit (w ∷ ws) m e =
-        let n = bind_ok (end_at ws) (λ none. place_of w >>= λ k. read_ok (certlines.FactAt k)) m e in
-        let k = bind_ok (place_of w) (λ k. read_ok (certlines.FactAt k)) m n.2 in
+        let n = bind_ok (end_at ws) (λ none. place_of_digits w >>= λ k. read_ok (certlines.FactAt k)) m e in
+        let k = bind_ok (place_of_digits w) (λ k. read_ok (certlines.FactAt k)) m n.2 in
         subst (OfCertLine P Q) (ok_is (certlines.FactAt k.0) m k.2) (few_places (number_of w) k.0 k.1)
 
     differs_lit : (ws : List (List ℕ)) (m : CertLine) → differs_of ws ≡ Ok m → OfCertLine P Q m
     unfolding differs_of
     differs_lit ws m e =
-        let r = bind_ok (row_of ws) (λ r. cond (may_differ r) (read_ok (certlines.Differs r)) (Err Malformed)) m e in
+        let r = bind_ok (raw_row_of ws) (λ r. cond (may_differ r) (read_ok (certlines.Differs r)) (Err Malformed)) m e in
         subst (OfCertLine P Q) (ok_is (certlines.Differs r.0) m (passed (may_differ r.0) (read_ok (certlines.Differs r.0)) m r.2).1) (row_lit ws r.0 r.1)
 
     row_cert_line_lit : (w : List ℕ) (ws : List (List ℕ)) (m : CertLine) → row_cert_line_of w ws ≡ Ok m → OfCertLine P Q m
     unfolding row_cert_line_of
     row_cert_line_lit w ws m e =
-        let n = bind_ok (multiplier_of w) (λ n. row_of ws >>= λ r. read_ok (certlines.Row n r)) m e in
-        let r = bind_ok (row_of ws) (λ r. read_ok (certlines.Row n.0 r)) m n.2 in
+        let n = bind_ok (multiplier_of w) (λ n. raw_row_of ws >>= λ r. read_ok (certlines.Row n r)) m e in
+        let r = bind_ok (raw_row_of ws) (λ r. read_ok (certlines.Row n.0 r)) m n.2 in
         subst (OfCertLine P Q) (ok_is (certlines.Row n.0 r.0) m r.2) (row_lit ws r.0 r.1)
 
     transfer_lit : (ws : List (List ℕ)) (m : CertLine) → transfer_of ws ≡ Ok m → OfCertLine P Q m
     unfolding transfer_of
     transfer_lit ws m e =
-        let t = bind_ok (title_at ws) (λ t. names_of t.1 >>= λ ns. read_ok (certlines.Transfer t.0 ns)) m e in
+        let t = bind_ok (first_title ws) (λ t. names_of t.1 >>= λ ns. read_ok (certlines.Transfer t.0 ns)) m e in
         let ns = bind_ok (names_of t.0.1) (λ ns. read_ok (certlines.Transfer t.0.0 ns)) m t.2 in
         subst (OfCertLine P Q) (ok_is (certlines.Transfer t.0.0 ns.0) m ns.2) tt
 
@@ -124,15 +124,15 @@ module _ (P : RawLit → Type 0) (literal : (ws : List (List ℕ)) (l : RawLit) 
     unfolding cert_line_named
     cert_line_named_lit w ws m e =
         let m5 : Result CertLine FaultKind = cond (bytes_eq w (codes "differs")) (differs_of ws) (row_cert_line_of w ws) in
-        let m4 : Result CertLine FaultKind = cond (bytes_eq w (codes "sum")) (bare ws certlines.Sum) m5 in
+        let m4 : Result CertLine FaultKind = cond (bytes_eq w (codes "sum")) (bare_cert_line ws certlines.Sum) m5 in
         let m3 : Result CertLine FaultKind = cond (bytes_eq w (codes "clash")) (diagram_lit_of ws >>= λ l. read_ok (certlines.Clash l)) m4 in
         let m2 : Result CertLine FaultKind = cond (bytes_eq w (codes "transfer")) (transfer_of ws) m3 in
-        let m1 : Result CertLine FaultKind = cond (bytes_eq w (codes "metric")) (bare ws certlines.Metric) m2 in
+        let m1 : Result CertLine FaultKind = cond (bytes_eq w (codes "metric")) (bare_cert_line ws certlines.Metric) m2 in
         either (OfCertLine P Q) (bytes_eq w (codes "fact")) (fact_cert_line_of ws) m1 m e (fact_cert_line_lit ws m) (λ e1.
-        either (OfCertLine P Q) (bytes_eq w (codes "metric")) (bare ws certlines.Metric) m2 m e1 (bare_lit ws certlines.Metric m tt) (λ e2.
+        either (OfCertLine P Q) (bytes_eq w (codes "metric")) (bare_cert_line ws certlines.Metric) m2 m e1 (bare_lit ws certlines.Metric m tt) (λ e2.
         either (OfCertLine P Q) (bytes_eq w (codes "transfer")) (transfer_of ws) m3 m e2 (transfer_lit ws m) (λ e3.
         either (OfCertLine P Q) (bytes_eq w (codes "clash")) (diagram_lit_of ws >>= λ l. read_ok (certlines.Clash l)) m4 m e3 (clash_lit ws m) (λ e4.
-        either (OfCertLine P Q) (bytes_eq w (codes "sum")) (bare ws certlines.Sum) m5 m e4 (bare_lit ws certlines.Sum m tt) (λ e5.
+        either (OfCertLine P Q) (bytes_eq w (codes "sum")) (bare_cert_line ws certlines.Sum) m5 m e4 (bare_lit ws certlines.Sum m tt) (λ e5.
         either (OfCertLine P Q) (bytes_eq w (codes "differs")) (differs_of ws) (row_cert_line_of w ws) m e5 (differs_lit ws m) (row_cert_line_lit w ws m))))))
 
     pub cert_line_lit : (ws : List (List ℕ)) (m : CertLine) → cert_line_of ws ≡ Ok m → OfCertLine P Q m

@@ -48,7 +48,7 @@ use Rattle.e_cert.specs.declared.kept.StepCerts.{StepCerts}
 use Rattle.e_cert.specs.declared.kept.StepCerts.TheVariants as kept
 use Rattle.e_cert.specs.CertLines.{cert_line_of, cert_line_text, row_is_of, cert_line_is_of}
 use Rattle.e_cert.specs.Strict.{is_strict_cert_line, exact_cert_line}
-use Rattle.e_cert.specs.Owed.{most_rows, fact_in, row_in, with_row, row_put, sum_begun, differs_put, sums_ended, has_more, certificate, transfer_put, part_put, metric_put, takes_metric, clash_put, transfer_rule, count_others, transfer_at, transfer_in, transfer_begun, ended, sums_after, due_after, after_cert_line, kept_of, finish_certs}
+use Rattle.e_cert.specs.Owed.{most_rows, fact_in, row_in, with_row, row_put, sum_begun, differs_put, sums_ended, has_more, certificate, transfer_put, part_put, metric_put, takes_metric, clash_put, transfer_rule, count_others, transfer_at, open_transfer_in, transfer_begun, with_sums_ended, sums_after, due_after, after_cert_line, kept_of, finish_certs}
 use Rattle.e_clause.specs.Written.{is_writable_name}
 use Rattle.e_clause.specs.declared.cert.Version.{Version}
 use Rattle.e_clause.specs.Versions.{by_literals, by_places, is_name_of, is_sum_of, are_sums_of, is_part_of, is_cert_of, is_against_of}
@@ -231,8 +231,8 @@ module _ (v : Version) where
   clash_put_good d l new e = absurd cc
 
   -- a transfer that is begun has no part yet
-  no_parts : (ns : Names) (l : Lit) (title : List ℕ) (raws : List (List ℕ)) (t : OpenTransfer) → transfer_in ns l title raws ≡ Ok t → are_parts_of t.parts ≡ true
-  unfolding transfer_in transfer_at
+  no_parts : (ns : Names) (l : Lit) (title : List ℕ) (raws : List (List ℕ)) (t : OpenTransfer) → open_transfer_in ns l title raws ≡ Ok t → are_parts_of t.parts ≡ true
+  unfolding open_transfer_in transfer_at
   no_parts ns l title raws t e =
       let then : ℕ → List Obj → List Lit → OpenTransfer = λ r args lits. record { rule = r; args = args; parts = []; owed = count_others l lits } in
       let last : ℕ → List Obj → Result OpenTransfer FaultKind = λ r args. transfer_at l r args in
@@ -247,14 +247,14 @@ module _ (v : Version) where
 
   transfer_begun_good : (ns : Names) (d : Obligation) (title : List ℕ) (raws : List (List ℕ)) (new : Obligation) → GoodDue d → transfer_begun ns d title raws ≡ Ok new → GoodDue new
   transfer_begun_good ns (due.Literals wanted certs None) title raws new h e =
-      let l = bind_ok (or_malformed (slice_get wanted (length certs))) (λ l. transfer_in ns l title raws >>= λ t. transfer_put wanted certs t) new e in
-      let t = bind_ok (transfer_in ns l.0 title raws) (λ t. transfer_put wanted certs t) new l.2 in
+      let l = bind_ok (or_malformed (slice_get wanted (length certs))) (λ l. open_transfer_in ns l title raws >>= λ t. transfer_put wanted certs t) new e in
+      let t = bind_ok (open_transfer_in ns l.0 title raws) (λ t. transfer_put wanted certs t) new l.2 in
       transfer_put_good wanted certs t.0 new h (no_parts ns l.0 title raws t.0 t.1) t.2
   transfer_begun_good ns d title raws new h e = absurd cc
 
   -- ---- lines
 
-  ended_good : (o : Pending) (s : Option OpenSums) (e : Pending) → GoodOwed o → GoodOpen s → ended o s ≡ Ok e → GoodOwed e
+  ended_good : (o : Pending) (s : Option OpenSums) (e : Pending) → GoodOwed o → GoodOpen s → with_sums_ended o s ≡ Ok e → GoodOwed e
   ended_good o None e h k same = to_owed o e h same
   ended_good o (Some s) e h k same =
       let then : Obligation → Pending = λ d. record o { due = d; sums = None } in
@@ -266,27 +266,27 @@ module _ (v : Version) where
   after_cert_line_good : (o : Pending) (m : CertLine) (new : Pending) → GoodOwed o → cert_line_is_of v m ≡ true → CertLineSaid m → after_cert_line o m ≡ Ok new → GoodOwed new
   unfolding after_cert_line
   after_cert_line_good o certlines.Fact new h of said same =
-      let e = bind_ok (ended o o.sums) (λ e. part_put e.due parts.Fact >>= λ d. read_ok (due_after e d)) new same in
+      let e = bind_ok (with_sums_ended o o.sums) (λ e. part_put e.due parts.Fact >>= λ d. read_ok (due_after e d)) new same in
       let g = ended_good o o.sums e.0 h h.rows_of_sums e.1 in
       let d = bind_ok (part_put e.0.due parts.Fact) (λ d. read_ok (due_after e.0 d)) new e.2 in
       to_owed (due_after e.0 d.0) new (record { certs = part_put_good e.0.due parts.Fact d.0 g.certs of d.1; rows_of_sums = g.rows_of_sums }) d.2
   after_cert_line_good o (certlines.FactAt k) new h of said same =
-      let e = bind_ok (ended o o.sums) (λ e. part_put e.due (parts.FactAt k) >>= λ d. read_ok (due_after e d)) new same in
+      let e = bind_ok (with_sums_ended o o.sums) (λ e. part_put e.due (parts.FactAt k) >>= λ d. read_ok (due_after e d)) new same in
       let g = ended_good o o.sums e.0 h h.rows_of_sums e.1 in
       let d = bind_ok (part_put e.0.due (parts.FactAt k)) (λ d. read_ok (due_after e.0 d)) new e.2 in
       to_owed (due_after e.0 d.0) new (record { certs = part_put_good e.0.due (parts.FactAt k) d.0 g.certs (and_from (by_places v) (ltb k (2 ^ 32)) of said) d.1; rows_of_sums = g.rows_of_sums }) d.2
   after_cert_line_good o certlines.Metric new h of said same =
-      let e = bind_ok (ended o o.sums) (λ e. cond (takes_metric e.due) (read_ok (sums_after e sums.Begun)) (Err Malformed)) new same in
+      let e = bind_ok (with_sums_ended o o.sums) (λ e. cond (takes_metric e.due) (read_ok (sums_after e sums.Begun)) (Err Malformed)) new same in
       let g = ended_good o o.sums e.0 h h.rows_of_sums e.1 in
       let p = passed (takes_metric e.0.due) (read_ok (sums_after e.0 sums.Begun)) new e.2 in
       to_owed (sums_after e.0 sums.Begun) new (record { certs = g.certs; rows_of_sums = refl }) p.1
   after_cert_line_good o (certlines.Transfer title raws) new h of said same =
-      let e = bind_ok (ended o o.sums) (λ e. transfer_begun e.names e.due title raws >>= λ d. read_ok (due_after e d)) new same in
+      let e = bind_ok (with_sums_ended o o.sums) (λ e. transfer_begun e.names e.due title raws >>= λ d. read_ok (due_after e d)) new same in
       let g = ended_good o o.sums e.0 h h.rows_of_sums e.1 in
       let d = bind_ok (transfer_begun e.0.names e.0.due title raws) (λ d. read_ok (due_after e.0 d)) new e.2 in
       to_owed (due_after e.0 d.0) new (record { certs = transfer_begun_good e.0.names e.0.due title raws d.0 g.certs d.1; rows_of_sums = g.rows_of_sums }) d.2
   after_cert_line_good o (certlines.Clash raw) new h of said same =
-      let e = bind_ok (ended o o.sums) (λ e. lit_in e.names raw >>= λ l. clash_put e.due l >>= λ d. read_ok (due_after e d)) new same in
+      let e = bind_ok (with_sums_ended o o.sums) (λ e. lit_in e.names raw >>= λ l. clash_put e.due l >>= λ d. read_ok (due_after e d)) new same in
       let g = ended_good o o.sums e.0 h h.rows_of_sums e.1 in
       let l = bind_ok (lit_in e.0.names raw) (λ l. clash_put e.0.due l >>= λ d. read_ok (due_after e.0 d)) new e.2 in
       let d = bind_ok (clash_put e.0.due l.0) (λ d. read_ok (due_after e.0 d)) new l.2 in
@@ -323,5 +323,5 @@ module _ (v : Version) where
   pub settled_good : (o : Pending) (k : Option StepCerts) → GoodOwed o → finish_certs o ≡ Ok k → AreOfVersion v (option_to_list k)
   unfolding finish_certs
   settled_good o k h same =
-      let e = bind_ok (ended o o.sums) (λ e. kept_of e.due) k same in
+      let e = bind_ok (with_sums_ended o o.sums) (λ e. kept_of e.due) k same in
       kept_good e.0.due k (ended_good o o.sums e.0 h h.rows_of_sums e.1).certs e.2

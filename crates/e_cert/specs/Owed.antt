@@ -138,8 +138,8 @@ unfoldable pub transfer_at : Lit → ℕ → List Obj → Result OpenTransfer Fa
 transfer_at wanted r args = or_malformed (Inst r args) >>= λ lits. Ok (record { rule = r; args = args; parts = []; owed = count_others wanted lits })
 
 -- a rule with an object for each of its variables
-unfoldable pub transfer_in : Names → Lit → List ℕ → List (List ℕ) → Result OpenTransfer FaultKind
-transfer_in ns wanted title raws = do
+unfoldable pub open_transfer_in : Names → Lit → List ℕ → List (List ℕ) → Result OpenTransfer FaultKind
+open_transfer_in ns wanted title raws = do
   r ← transfer_rule (number_of_rule title)
   s ← variables_of (sig_of r)
   right ← right_count (length raws == s.points + s.lines + s.circles)
@@ -149,15 +149,15 @@ transfer_in ns wanted title raws = do
 -- a transfer is begun for the next literal, and is no part of another one
 abbrev pub transfer_begun : Names → Obligation → List ℕ → List (List ℕ) → Result Obligation FaultKind
 transfer_begun ns (due.Literals wanted certs None) title raws =
-    or_malformed (slice_get wanted (length certs)) >>= λ l. transfer_in ns l title raws >>= λ t. transfer_put wanted certs t
+    or_malformed (slice_get wanted (length certs)) >>= λ l. open_transfer_in ns l title raws >>= λ t. transfer_put wanted certs t
 transfer_begun ns d title raws = Err Malformed
 
 -- ---- lines
 
 -- a line that is no row and no sum ends the sums before it
-abbrev pub ended : Pending → Option OpenSums → Result Pending FaultKind
-ended o None = Ok o
-ended o (Some s) = sums_ended s >>= λ all. metric_put o.due (record { sums = all }) >>= λ d. Ok (record o { due = d; sums = None })
+abbrev pub with_sums_ended : Pending → Option OpenSums → Result Pending FaultKind
+with_sums_ended o None = Ok o
+with_sums_ended o (Some s) = sums_ended s >>= λ all. metric_put o.due (record { sums = all }) >>= λ d. Ok (record o { due = d; sums = None })
 
 abbrev pub sums_after : Pending → OpenSums → Pending
 sums_after o s = record o { sums = Some s }
@@ -167,11 +167,11 @@ due_after o d = record o { due = d }
 
 -- what is owed after a line of a certificate
 unfoldable pub after_cert_line : Pending → CertLine → Result Pending FaultKind
-after_cert_line o certlines.Fact = ended o o.sums >>= λ e. part_put e.due parts.Fact >>= λ d. Ok (due_after e d)
-after_cert_line o (certlines.FactAt k) = ended o o.sums >>= λ e. part_put e.due (parts.FactAt k) >>= λ d. Ok (due_after e d)
-after_cert_line o certlines.Metric = ended o o.sums >>= λ e. if takes_metric e.due then Ok (sums_after e sums.Begun) else Err Malformed
-after_cert_line o (certlines.Transfer title raws) = ended o o.sums >>= λ e. transfer_begun e.names e.due title raws >>= λ d. Ok (due_after e d)
-after_cert_line o (certlines.Clash raw) = ended o o.sums >>= λ e. lit_in e.names raw >>= λ l. clash_put e.due l >>= λ d. Ok (due_after e d)
+after_cert_line o certlines.Fact = with_sums_ended o o.sums >>= λ e. part_put e.due parts.Fact >>= λ d. Ok (due_after e d)
+after_cert_line o (certlines.FactAt k) = with_sums_ended o o.sums >>= λ e. part_put e.due (parts.FactAt k) >>= λ d. Ok (due_after e d)
+after_cert_line o certlines.Metric = with_sums_ended o o.sums >>= λ e. if takes_metric e.due then Ok (sums_after e sums.Begun) else Err Malformed
+after_cert_line o (certlines.Transfer title raws) = with_sums_ended o o.sums >>= λ e. transfer_begun e.names e.due title raws >>= λ d. Ok (due_after e d)
+after_cert_line o (certlines.Clash raw) = with_sums_ended o o.sums >>= λ e. lit_in e.names raw >>= λ l. clash_put e.due l >>= λ d. Ok (due_after e d)
 after_cert_line o certlines.Sum = sum_begun o.sums >>= λ s. Ok (sums_after o s)
 after_cert_line o (certlines.Differs raw) = row_in o.names raw >>= λ r. differs_put o.sums r >>= λ s. Ok (sums_after o s)
 after_cert_line o (certlines.Row m raw) = row_in o.names raw >>= λ r. row_put o.sums m r >>= λ s. Ok (sums_after o s)
@@ -185,7 +185,7 @@ kept_of (due.Contradiction None) = Err Malformed
 kept_of (due.Contradiction (Some a)) = Ok (Some (kept.Against a))
 
 unfoldable pub finish_certs : Pending → Result (Option StepCerts) FaultKind
-finish_certs o = ended o o.sums >>= λ e. kept_of e.due
+finish_certs o = with_sums_ended o o.sums >>= λ e. kept_of e.due
 
 -- the first of a line's certificates
 abbrev pub first_cert : List Cert → Option Cert

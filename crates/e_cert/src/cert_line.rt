@@ -1,10 +1,11 @@
 //! The lines of certificates, known from their words by spelling alone.
 ghost use Rattle.std.specs.Prelude.{◌≡◌};
 ghost use Rattle.e_line.specs.Reading.{texts, Gives};
-ghost use Rattle.e_cert.specs.CertLines.{size_of, multiplier_of, place_of, fact_row_of, bare_row};
-ghost use Rattle.e_cert.specs.CertLines.{row_named, row_of, may_differ, bare, differs_of};
-ghost use Rattle.e_cert.specs.CertLines.{transfer_of, fact_cert_line_of, row_cert_line_of};
-ghost use Rattle.e_cert.specs.CertLines.{cert_line_named, cert_line_of, row_is_of, cert_line_is_of};
+ghost use Rattle.e_cert.specs.CertLines.{size_of, multiplier_of, place_of_digits};
+ghost use Rattle.e_cert.specs.CertLines.{fact_row_of, bare_row, raw_row_named, raw_row_of};
+ghost use Rattle.e_cert.specs.CertLines.{may_differ, bare_cert_line, differs_of, transfer_of};
+ghost use Rattle.e_cert.specs.CertLines.{fact_cert_line_of, row_cert_line_of, cert_line_named};
+ghost use Rattle.e_cert.specs.CertLines.{cert_line_of, row_is_of, cert_line_is_of};
 ghost use Rattle.e_clause.specs.Versions.{by_literals, by_places};
 
 use e_clause::Version;
@@ -92,7 +93,7 @@ fn multiplier_of(word: &[u8]) -> Result<i128, LineError>
 
 /// A place among the facts.
 fn place_of(digits: &[u8]) -> Result<u32, LineError>
-    ensures { Gives (λ k. k) result (place_of digits.now) }
+    ensures { Gives (λ k. k) result (place_of_digits digits.now) }
 {
     match number(digits) {
         Some(place) if place < MAX_PLACES => Ok(place as u32),
@@ -129,9 +130,9 @@ fn bare_row(words: Words, row: RawRow) -> Result<RawRow, LineError>
 }
 
 /// A row, by its first word.
-#[tactic(auto, unfolding(crate::specs::CertLines::row_named))]
+#[tactic(auto, unfolding(crate::specs::CertLines::raw_row_named))]
 fn row_named(alloc: Global, word: &[u8], rest: &[&[u8]]) -> Result<RawRow, LineError>
-    ensures { Gives (λ r. r) result (row_named word.now (texts rest.now)) }
+    ensures { Gives (λ r. r) result (raw_row_named word.now (texts rest.now)) }
 {
     let words = Words::new(rest);
     if is(word, b"fact") {
@@ -161,9 +162,9 @@ fn row_named(alloc: Global, word: &[u8], rest: &[&[u8]]) -> Result<RawRow, LineE
     Err(LineError::Fault(FaultKind::Malformed))
 }
 
-#[tactic(auto, unfolding(crate::specs::CertLines::row_of))]
+#[tactic(auto, unfolding(crate::specs::CertLines::raw_row_of))]
 fn row_of(alloc: Global, words: &[&[u8]]) -> Result<RawRow, LineError>
-    ensures { Gives (λ r. r) result (row_of (texts words.now)) }
+    ensures { Gives (λ r. r) result (raw_row_of (texts words.now)) }
 {
     match words {
         [] => Err(LineError::Fault(FaultKind::Malformed)),
@@ -179,7 +180,7 @@ fn may_differ(row: &RawRow) -> bool
 }
 
 fn bare(words: Words, cert_line: CertLine) -> Result<CertLine, LineError>
-    ensures { Gives (λ m. m) result (bare words.entry cert_line) }
+    ensures { Gives (λ m. m) result (bare_cert_line words.entry cert_line) }
 {
     match words.end() {
         Ok(()) => Ok(cert_line),
@@ -204,7 +205,7 @@ fn differs_of(alloc: Global, words: &[&[u8]]) -> Result<CertLine, LineError>
 }
 
 /// A rule, and the names of its arguments.
-#[tactic(auto, unfolding(crate::specs::CertLines::transfer_of, e_line::specs::Reading::title_at, e_line::specs::Reading::word_at))]
+#[tactic(auto, unfolding(crate::specs::CertLines::transfer_of, e_line::specs::Reading::first_title, e_line::specs::Reading::word_at))]
 fn transfer_of(alloc: Global, words: &[&[u8]]) -> Result<CertLine, LineError>
     ensures { Gives (λ m. m) result (transfer_of (texts words.now)) }
 {

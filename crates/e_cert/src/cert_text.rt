@@ -2,7 +2,7 @@
 ghost use Rattle.std.specs.Prelude.{◌≡◌, ◌++◌, ◌∷◌, [], codes, decimal, OnOk};
 ghost use Rattle.e_text.specs.Tokens.{spaced};
 ghost use Rattle.e_line.specs.Canonical.{term_words};
-ghost use Rattle.e_cert.specs.CertLines.{row_words, cert_line_words, cert_line_text};
+ghost use Rattle.e_cert.specs.CertLines.{raw_row_words, cert_line_words, cert_line_text};
 
 use crate::cert_line::{CertLine, RawRow};
 use e_line::{RawTerm, put_literal, put_term};
@@ -28,7 +28,7 @@ fn put_place(out: &mut Vec<u8>, place: u32) -> Result<(), AllocError>
 }
 
 fn put_row(out: &mut Vec<u8>, row: &RawRow) -> Result<(), AllocError>
-    ensures { OnOk result (out.new.items ≡ out.old.items ++ spaced (row_words row.now)) }
+    ensures { OnOk result (out.new.items ≡ out.old.items ++ spaced (raw_row_words row.now)) }
 {
     match row {
         RawRow::Fact(lit) => {

@@ -7,8 +7,8 @@ ghost use Rattle.e_names.specs.Scope.{FewNames};
 ghost use Rattle.e_cert.specs.Owed.{fact_in, row_in, with_row, row_put, sum_begun};
 ghost use Rattle.e_cert.specs.Owed.{differs_put, sums_ended, has_more, transfer_put, part_put};
 ghost use Rattle.e_cert.specs.Owed.{metric_put, takes_metric, clash_put, transfer_rule};
-ghost use Rattle.e_cert.specs.Owed.{count_others, transfer_at, transfer_in, transfer_begun};
-ghost use Rattle.e_cert.specs.Owed.{ended, after_cert_line, kept_of, finish_certs};
+ghost use Rattle.e_cert.specs.Owed.{count_others, transfer_at, open_transfer_in, transfer_begun};
+ghost use Rattle.e_cert.specs.Owed.{with_sums_ended, after_cert_line, kept_of, finish_certs};
 
 use crate::cert_line::{CertLine, RawRow};
 use crate::kept::{Certs, Rows, StepCerts};
@@ -412,7 +412,7 @@ fn transfer_at(
 }
 
 /// A rule with an object for each of its variables.
-#[tactic(auto, unfolding(crate::specs::Owed::transfer_in))]
+#[tactic(auto, unfolding(crate::specs::Owed::open_transfer_in))]
 fn transfer_in(
     alloc: Global,
     names: &Names,
@@ -421,7 +421,7 @@ fn transfer_in(
     raws: &[Name],
 ) -> Result<OpenTransfer, LineError>
     requires { FewNames names.now }
-    ensures { Gives (λ t. t) result (transfer_in names.now wanted.now title raws.now) }
+    ensures { Gives (λ t. t) result (open_transfer_in names.now wanted.now title raws.now) }
 {
     let rule = transfer_rule(title)?;
     let sig = rule.sig();
@@ -467,7 +467,7 @@ impl Pending {
     /// A line that is no row and no sum ends the sums before it.
     fn ended(self) -> Result<Pending, LineError>
         requires { FewNames self.names }
-        ensures value { Gives (λ o. o) result (ended self self.sums) }
+        ensures value { Gives (λ o. o) result (with_sums_ended self self.sums) }
         ensures names { IfOk result (λ o. o.names ≡ self.names) }
     {
         let Pending { names, due, sums } = self;

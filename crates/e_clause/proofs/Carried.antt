@@ -33,7 +33,7 @@ use Rattle.e_clause.specs.declared.cert.RowName.{RowName}
 use Rattle.e_clause.specs.declared.cert.RowName.TheVariants.{Fact, Goal, Pos}
 use Rattle.e_clause.specs.Assignment.{terms_of_atom, terms_of_lits, terms_of_wanted, terms_of_step, is_within, is_zero_if_degenerate, is_positive_if_apart, agrees_with}
 use Rattle.e_clause.specs.Metric.{wanted_fails, IsCounterexample}
-use Rattle.e_clause.specs.System.{NamedRow, named, is_of_kind, of_kind, against_goal, rows_named, pos_row, top_row, rows_of_term, rows_of_kind, system, rows_of_system, by_kind}
+use Rattle.e_clause.specs.System.{NamedRow, named_row, is_of_kind, of_kind, against_goal, rows_named, pos_row, top_row, rows_of_term, rows_of_kind, system, rows_of_system, by_kind}
 use Rattle.e_clause.specs.Laws.{is_well_formed_metric, SolutionsRefute}
 use Rattle.e_clause.proofs.Spread.{Agree, terms_of_sum, holds_agrees, all_hold_agrees, fails_agrees, among_facts, among_wanted}
 use Rattle.e_clause.proofs.Refuted.{IsSoAt, negation_fails}
@@ -177,7 +177,7 @@ rest_so w which name l ls h = by (is_of_kind which l) h
     rest : List Lit
     rest = of_kind which ls
 
-    past : (o : Option Row) → SatisfyNamed w (cons_option (option_map (named (name l)) o) (rows_named name rest)) → SatisfyNamed w (rows_named name rest)
+    past : (o : Option Row) → SatisfyNamed w (cons_option (option_map (named_row (name l)) o) (rows_named name rest)) → SatisfyNamed w (rows_named name rest)
     past None k = k
     past (Some r) k = k.1
 
@@ -189,7 +189,7 @@ rest_so w which name l ls h = by (is_of_kind which l) h
 first_so : (w : Term → ℕ) (which : Kind) (name : Lit → RowName) (l : Lit) (ls : List Lit) (r : Row) → is_of_kind which l ≡ true → row_of_lit l ≡ Some r
     → SatisfyNamed w (rows_named name (of_kind which (l ∷ ls))) → IsSoAt w r
 first_so w which name l ls r k e h =
-    (subst (λ o. SatisfyNamed w (cons_option (option_map (named (name l)) o) (rows_named name (of_kind which ls)))) e
+    (subst (λ o. SatisfyNamed w (cons_option (option_map (named_row (name l)) o) (rows_named name (of_kind which ls)))) e
     (subst (λ b. SatisfyNamed w (rows_named name (cons_option (cond b (Some l) None) (of_kind which ls)))) k h)).0
 
 module _ (values : Kind → Term → ℕ) where
@@ -344,8 +344,8 @@ module _ (facts : List Lit) (wanted : Option Lit) (values : Kind → Term → �
     where
       rows_say : (s : Term) → canonical (Seg a b) ≡ canonical s → are_apart facts a b ≡ true → SatisfyNamed (values Segment) (rows_of_term facts s) → 1 ≤ all (Seg a b)
       rows_say (Seg d e) o far h =
-          let row : SatisfyNamed (values Segment) (named (Pos (Seg d e)) (pos_row (Seg d e)) ∷ []) =
-          subst (λ c. SatisfyNamed (values Segment) (cond c (named (Pos (Seg d e)) (pos_row (Seg d e)) ∷ []) [])) (apart_same facts a b d e o far) h in
+          let row : SatisfyNamed (values Segment) (named_row (Pos (Seg d e)) (pos_row (Seg d e)) ∷ []) =
+          subst (λ c. SatisfyNamed (values Segment) (cond c (named_row (Pos (Seg d e)) (pos_row (Seg d e)) ∷ []) [])) (apart_same facts a b d e o far) h in
           subst (λ n. 1 ≤ n) (sym (carried_same (values Segment) (Seg a b) (Seg d e) o)) (pos_is (Seg d e) (values Segment) row.0)
       rows_say (Ang d e f) o far h = absurd (true≢false (sym (equal_terms (canonical (Seg a b)) (canonical (Ang d e f)) o)))
       rows_say (Area d e f) o far h = absurd (true≢false (sym (equal_terms (canonical (Seg a b)) (canonical (Area d e f)) o)))

@@ -28,7 +28,7 @@ use Rattle.e_clause.specs.declared.cert.RowName.TheVariants.{Fact, Goal, Pos}
 use Rattle.e_clause.specs.Assignment.{terms_of_atom, terms_of_lits, terms_of_step}
 use Rattle.e_clause.specs.Sum.{Place, is_step_term, fact_row, goal_row, says_differ, unless_not, row_named}
 use Rattle.e_clause.specs.MetricCertificate.{differing}
-use Rattle.e_clause.specs.System.{NamedRow, named, is_of_kind, of_kind, against_goal, rows_named, pos_row, top_row, rows_of_term, rows_of_kind, system}
+use Rattle.e_clause.specs.System.{NamedRow, named_row, is_of_kind, of_kind, against_goal, rows_named, pos_row, top_row, rows_of_term, rows_of_kind, system}
 use Rattle.e_clause.proofs.Spread.{terms_of_sum}
 use Rattle.e_clause.proofs.Solved.{terms_of_system, system_among, first_among}
 
@@ -52,14 +52,14 @@ EachLit Q (l ∷ ls) = Q l × EachLit Q ls
 
 -- the row of each literal of a kind
 pub each_literal : (P : NamedRow → Type 0) (Q : Lit → Type 0) (which : Kind) (name : Lit → RowName) (ls : List Lit) → EachLit Q ls
-    → ((l : Lit) (r : Row) → Q l → is_of_kind which l ≡ true → row_of_lit l ≡ Some r → P (named (name l) r)) → Each P (rows_named name (of_kind which ls))
+    → ((l : Lit) (r : Row) → Q l → is_of_kind which l ≡ true → row_of_lit l ≡ Some r → P (named_row (name l) r)) → Each P (rows_named name (of_kind which ls))
 each_literal P Q which name [] h f = tt
 each_literal P Q which name (l ∷ ls) h f = by (is_of_kind which l) refl (each_literal P Q which name ls h.1 f)
   where
     rest : List Lit
     rest = of_kind which ls
 
-    one : (o : Option Row) → row_of_lit l ≡ o → is_of_kind which l ≡ true → Each P (rows_named name rest) → Each P (cons_option (option_map (named (name l)) o) (rows_named name rest))
+    one : (o : Option Row) → row_of_lit l ≡ o → is_of_kind which l ≡ true → Each P (rows_named name rest) → Each P (cons_option (option_map (named_row (name l)) o) (rows_named name rest))
     one None e k ih = ih
     one (Some r) e k ih = (f l r h.0 k e, ih)
 
@@ -99,7 +99,7 @@ says_so : (r : Row) → says_differ r.says ≡ true → option_and_then (λ (x :
 says_so r e = ap (λ b. cond b (Some r) None) e
 
 module _ (p : Place) where
-  fact_named : (l : Lit) (r : Row) → has p.facts l ≡ true → row_of_lit l ≡ Some r → IsNamed p (named (Fact l) r)
+  fact_named : (l : Lit) (r : Row) → has p.facts l ≡ true → row_of_lit l ≡ Some r → IsNamed p (named_row (Fact l) r)
   fact_named l r h e =
       let k : fact_row p.facts l ≡ Some r = ap (λ b. cond b (row_of_lit l) None) h ∙ e in
       record { by_name = ap unless_not k; differs = λ s. ap (option_and_then (λ (x : Row). cond (says_differ x.says) (Some x) None)) k ∙ says_so r s }
@@ -120,7 +120,7 @@ module _ (p : Place) where
   term_named : (t : Term) → is_among (terms_of_step p.facts p.wanted) t ≡ true → Each (IsNamed p) (rows_of_term p.facts t)
   term_named (Seg a b) h = by (are_apart p.facts a b) refl
     where
-      by : (c : Bool) → are_apart p.facts a b ≡ c → Each (IsNamed p) (cond c (named (Pos (Seg a b)) (pos_row (Seg a b)) ∷ []) [])
+      by : (c : Bool) → are_apart p.facts a b ≡ c → Each (IsNamed p) (cond c (named_row (Pos (Seg a b)) (pos_row (Seg a b)) ∷ []) [])
       by true e = (record { by_name = ap (λ c. cond c (Some (pos_row (Seg a b))) None) (and_from (is_step_term p (Seg a b)) (are_apart p.facts a b) h e); differs = λ s. absurd (true≢false (sym s)) }, tt)
       by false e = tt
   term_named (Ang a b c) h = (record { by_name = ap (λ k. cond k (Some (top_row (Ang a b c))) None) h; differs = λ s. absurd (true≢false (sym s)) }, tt)
@@ -277,7 +277,7 @@ system_misses which facts wanted u h =
     of_term : (t : Term) → is_among (terms_of_system which facts wanted) t ≡ true → Each (HasNot u) (rows_of_term facts t)
     of_term (Seg a b) k = by (are_apart facts a b)
       where
-        by : (c : Bool) → Each (HasNot u) (cond c (named (Pos (Seg a b)) (pos_row (Seg a b)) ∷ []) [])
+        by : (c : Bool) → Each (HasNot u) (cond c (named_row (Pos (Seg a b)) (pos_row (Seg a b)) ∷ []) [])
         by true = (one_misses (pos 1) (Seg a b) u (misses_at (Right ∷ terms_of_system which facts wanted) (Seg a b) u (among_rest Right (terms_of_system which facts wanted) (Seg a b) k) h), tt)
         by false = tt
     of_term (Ang a b c) k = (

@@ -12,7 +12,7 @@ use Rattle.e_literal.specs.declared.object.Term.TheVariants.{Seg, Ang, Area, Rig
 use Rattle.e_literal.specs.declared.literal.Lit.{Lit}
 use Rattle.e_literal.specs.Literal.{negation}
 use Rattle.e_literal.specs.Same.{same_lit}
-use Rattle.e_literal.specs.Truth.{atom_holds, holds, all_hold}
+use Rattle.e_literal.specs.Truth.{metric_atom_holds, holds, all_hold}
 use Rattle.e_literal.specs.Facts.{has, is_metric, are_apart}
 use Rattle.e_literal.specs.Rows.{Row, Says, Zero, AtLeast, More, Not, times, row, row_of_lit}
 use Rattle.e_literal.specs.Absurd.{Weighed, is_absurd}
@@ -89,8 +89,8 @@ pub negation_holds : (l : Lit) (v : Term → ℕ) → not (holds v l) ≡ true �
 negation_holds l v h = by (split l.atom)
   where
     by : (IsMagEq l.atom ⊎ IsMagLt l.atom) ⊎ IsDiagram l.atom → holds v (negation l) ≡ true
-    by (inl (inl p)) = ap (λ a. atom_holds v a (not l.neg)) p.2 ∙ sym (negated_cond l.neg _) ∙ sym (ap (λ a. not (atom_holds v a l.neg)) p.2) ∙ h
-    by (inl (inr p)) = ap (λ a. atom_holds v a (not l.neg)) p.2 ∙ sym (negated_cond l.neg _) ∙ sym (ap (λ a. not (atom_holds v a l.neg)) p.2) ∙ h
+    by (inl (inl p)) = ap (λ a. metric_atom_holds v a (not l.neg)) p.2 ∙ sym (negated_cond l.neg _) ∙ sym (ap (λ a. not (metric_atom_holds v a l.neg)) p.2) ∙ h
+    by (inl (inr p)) = ap (λ a. metric_atom_holds v a (not l.neg)) p.2 ∙ sym (negated_cond l.neg _) ∙ sym (ap (λ a. not (metric_atom_holds v a l.neg)) p.2) ∙ h
     by (inr d) = d.quiet v (not l.neg)
 
 -- and the other way, for a metric literal
@@ -98,8 +98,8 @@ pub negation_fails : (l : Lit) (v : Term → ℕ) → is_metric l ≡ true → h
 negation_fails l v m h = by (split l.atom)
   where
     by : (IsMagEq l.atom ⊎ IsMagLt l.atom) ⊎ IsDiagram l.atom → not (holds v l) ≡ true
-    by (inl (inl p)) = ap (λ a. not (atom_holds v a l.neg)) p.2 ∙ negated_cond l.neg _ ∙ sym (ap (λ a. atom_holds v a (not l.neg)) p.2) ∙ h
-    by (inl (inr p)) = ap (λ a. not (atom_holds v a l.neg)) p.2 ∙ negated_cond l.neg _ ∙ sym (ap (λ a. atom_holds v a (not l.neg)) p.2) ∙ h
+    by (inl (inl p)) = ap (λ a. not (metric_atom_holds v a l.neg)) p.2 ∙ negated_cond l.neg _ ∙ sym (ap (λ a. metric_atom_holds v a (not l.neg)) p.2) ∙ h
+    by (inl (inr p)) = ap (λ a. not (metric_atom_holds v a l.neg)) p.2 ∙ negated_cond l.neg _ ∙ sym (ap (λ a. metric_atom_holds v a (not l.neg)) p.2) ∙ h
     by (inr d) = absurd (true≢false (sym m ∙ ap is_some d.no_kind))
 
 pub pos_so : (t : Term) (w : Term → ℕ) → 1 ≤ carried w t → IsSoAt w (pos_row t)

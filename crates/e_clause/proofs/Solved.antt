@@ -23,7 +23,7 @@ use Rattle.e_clause.specs.declared.cert.RowName.{RowName}
 use Rattle.e_clause.specs.declared.cert.RowName.TheVariants.{Fact, Goal, Pos}
 use Rattle.e_clause.specs.Assignment.{terms_of_atom, terms_of_lits, terms_of_wanted, terms_of_step}
 use Rattle.e_clause.specs.Metric.{wanted_fails}
-use Rattle.e_clause.specs.System.{NamedRow, named, is_of_kind, of_kind, against_goal, rows_named, pos_row, rows_of_term, rows_of_kind, system}
+use Rattle.e_clause.specs.System.{NamedRow, named_row, is_of_kind, of_kind, against_goal, rows_named, pos_row, rows_of_term, rows_of_kind, system}
 use Rattle.e_clause.proofs.Spread.{IsModel, among_facts, among_wanted}
 use Rattle.e_clause.proofs.Refuted.{pos_so, top_so, negation_holds}
 
@@ -51,12 +51,12 @@ literals_so w which name (l ∷ ls) h =
     rest : List Lit
     rest = of_kind which ls
 
-    one : (o : Option Row) → row_of_lit l ≡ o → SatisfyNamed w (rows_named name rest) → SatisfyNamed w (cons_option (option_map (named (name l)) o) (rows_named name rest))
+    one : (o : Option Row) → row_of_lit l ≡ o → SatisfyNamed w (rows_named name rest) → SatisfyNamed w (cons_option (option_map (named_row (name l)) o) (rows_named name rest))
     one None e ih = ih
     one (Some r) e ih = (so_of_holds l r w e (and_left (holds (carried w) l) (all_hold (carried w) ls) h), ih)
 
     by : (b : Bool) (o : Option Row) → row_of_lit l ≡ o → SatisfyNamed w (rows_named name rest) → SatisfyNamed w (rows_named name (cons_option (cond b (Some l) None) rest))
-    by true o e ih = subst (λ p. SatisfyNamed w (cons_option (option_map (named (name l)) p) (rows_named name rest))) (sym e) (one o e ih)
+    by true o e ih = subst (λ p. SatisfyNamed w (cons_option (option_map (named_row (name l)) p) (rows_named name rest))) (sym e) (one o e ih)
     by false o e ih = ih
 
 -- ---- the terms of a system
@@ -113,7 +113,7 @@ module _ (facts : List Lit) (wanted : Option Lit) (w : Term → ℕ) (model : Is
   term_so : (t : Term) → is_among (terms_of_step facts wanted) t ≡ true → SatisfyNamed w (rows_of_term facts t)
   term_so (Seg a b) h = by (are_apart facts a b) refl
     where
-      by : (c : Bool) → are_apart facts a b ≡ c → SatisfyNamed w (cond c (named (Pos (Seg a b)) (pos_row (Seg a b)) ∷ []) [])
+      by : (c : Bool) → are_apart facts a b ≡ c → SatisfyNamed w (cond c (named_row (Pos (Seg a b)) (pos_row (Seg a b)) ∷ []) [])
       by true e = (pos_so (Seg a b) w (model.apart a b h e), tt)
       by false e = tt
   term_so (Ang a b c) h = (top_so (Ang a b c) w (model.within a b c h), tt)

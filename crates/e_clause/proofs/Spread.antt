@@ -11,7 +11,7 @@ use Rattle.e_literal.specs.declared.literal.Lit.{Lit}
 use Rattle.e_literal.specs.declared.literal.Atom.{Atom}
 use Rattle.e_literal.specs.Same.{canonical, term_eq, one_term}
 use Rattle.e_literal.specs.Width.{is_among}
-use Rattle.e_literal.specs.Truth.{value_of, atom_holds, holds, all_hold}
+use Rattle.e_literal.specs.Truth.{value_of, metric_atom_holds, holds, all_hold}
 use Rattle.e_literal.specs.Facts.{are_apart}
 use Rattle.e_literal.specs.Rows.{is_degenerate}
 use Rattle.e_literal.specs.Solution.{carried}
@@ -41,17 +41,17 @@ sums_agree x y v u h = (
   sum_agrees y v u (λ t a. h t (subst (λ ts. is_among ts t ≡ true) (sym (map-append (λ (m : Mono). m.term) x y)) (among_right (terms_of_sum x) (terms_of_sum y) t a))),
 )
 
-atom_agrees : (a : Atom) (neg : Bool) (v u : Term → ℕ) → (IsMagEq a ⊎ IsMagLt a) ⊎ IsDiagram a → Agree (terms_of_atom a) v u → atom_holds v a neg ≡ atom_holds u a neg
+atom_agrees : (a : Atom) (neg : Bool) (v u : Term → ℕ) → (IsMagEq a ⊎ IsMagLt a) ⊎ IsDiagram a → Agree (terms_of_atom a) v u → metric_atom_holds v a neg ≡ metric_atom_holds u a neg
 atom_agrees a neg v u (inl (inl p)) h =
     let e = sums_agree p.0 p.1 v u (subst (λ b. Agree (terms_of_atom b) v u) p.2 h) in
-    ap (λ b. atom_holds v b neg) p.2
+    ap (λ b. metric_atom_holds v b neg) p.2
     ∙ ap₂ {A = ℕ} {B = ℕ} (λ m n. cond neg (not (eqb m n)) (eqb m n)) e.0 e.1
-    ∙ sym (ap (λ b. atom_holds u b neg) p.2)
+    ∙ sym (ap (λ b. metric_atom_holds u b neg) p.2)
 atom_agrees a neg v u (inl (inr p)) h =
     let e = sums_agree p.0 p.1 v u (subst (λ b. Agree (terms_of_atom b) v u) p.2 h) in
-    ap (λ b. atom_holds v b neg) p.2
+    ap (λ b. metric_atom_holds v b neg) p.2
     ∙ ap₂ {A = ℕ} {B = ℕ} (λ m n. cond neg (not (nat_lt m n)) (nat_lt m n)) e.0 e.1
-    ∙ sym (ap (λ b. atom_holds u b neg) p.2)
+    ∙ sym (ap (λ b. metric_atom_holds u b neg) p.2)
 atom_agrees a neg v u (inr d) h = d.quiet v neg ∙ sym (d.quiet u neg)
 
 pub holds_agrees : (l : Lit) (v u : Term → ℕ) → Agree (terms_of_atom l.atom) v u → holds v l ≡ holds u l

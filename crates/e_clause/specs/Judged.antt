@@ -16,11 +16,11 @@ abbrev pub are_well_formed_in : Scope → List Lit → Bool
 are_well_formed_in s ls = list_all (is_well_formed_in s) ls
 
 -- this many terms may be in the facts of a step
-abbrev pub most_terms : ℕ
-most_terms = 1100
+abbrev pub most_terms_of_step : ℕ
+most_terms_of_step = 1100
 
 abbrev pub are_few : List Lit → Bool
-are_few facts = nat_le (length (terms_of_lits facts)) most_terms
+are_few facts = nat_le (length (terms_of_lits facts)) most_terms_of_step
 
 -- the facts are in scope and well formed, and their terms are few
 abbrev pub are_limited_facts : Scope → List Lit → Bool

@@ -20,7 +20,7 @@ use Rattle.e_clause.specs.Metric.{MetricConsequence, Unsatisfiable, IsCounterexa
 use Rattle.e_clause.specs.Transfer.{TransferConsequence}
 use Rattle.e_clause.specs.System.{rows_of_system, by_kind}
 use Rattle.e_clause.specs.MetricCertificate.{metric_certifies, metric_contradicts}
-use Rattle.e_clause.specs.TransferCertificate.{transfer_certifies, args_in}
+use Rattle.e_clause.specs.TransferCertificate.{transfer_certifies, are_args_in}
 
 -- ---- certificates
 
@@ -37,7 +37,7 @@ MetricContradictionIsSound = (facts : List Lit) (m : MetricCert) → IsTrue (met
 abbrev pub TransferCertificateIsSound : Type 0
 TransferCertificateIsSound =
     (scope : Scope) (facts : List Lit) (l : Lit) (t : TransferCert) →
-    IsTrue (args_in scope t) → IsTrue (transfer_certifies facts l t) → TransferConsequence scope facts l
+    IsTrue (are_args_in scope t) → IsTrue (transfer_certifies facts l t) → TransferConsequence scope facts l
 
 -- what certifies a contradiction shows that the facts contradict each other
 abbrev pub ContradictionCertificateIsSound : Type 0

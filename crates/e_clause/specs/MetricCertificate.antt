@@ -61,9 +61,9 @@ row_name_in s _ = true
 abbrev pub sum_in : Scope → List (ℤ × RowName) → Bool
 sum_in s xs = list_all (λ x. row_name_in s x.1) xs
 
-abbrev pub sums_in : Scope → Sums → Bool
-sums_in s (One sum) = sum_in s sum
-sums_in s (Two differs first second) = row_name_in s differs && (sum_in s first && sum_in s second)
+abbrev pub are_sums_in : Scope → Sums → Bool
+are_sums_in s (One sum) = sum_in s sum
+are_sums_in s (Two differs first second) = row_name_in s differs && (sum_in s first && sum_in s second)
 
 -- ---- what it certifies
 

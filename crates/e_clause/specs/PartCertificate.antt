@@ -7,7 +7,7 @@ use Rattle.e_literal.specs.Same.{same_lit}
 use Rattle.e_literal.specs.Facts.{has}
 use Rattle.e_clause.specs.declared.cert.Part.{Part}
 use Rattle.e_clause.specs.declared.cert.Part.TheVariants.{Fact, Metric, FactAt}
-use Rattle.e_clause.specs.MetricCertificate.{metric_certifies, sums_in}
+use Rattle.e_clause.specs.MetricCertificate.{metric_certifies, are_sums_in}
 
 -- the fact at this place, counted from 0, is the same as the literal
 abbrev pub is_fact_at : List Lit → Lit → ℕ → Bool
@@ -23,5 +23,5 @@ part_certifies facts l (FactAt k) = is_fact_at facts l k
 -- the objects that it names are in the scope before its step
 abbrev pub part_in : Scope → Part → Bool
 part_in s Fact = true
-part_in s (Metric m) = sums_in s m.sums
+part_in s (Metric m) = are_sums_in s m.sums
 part_in s (FactAt k) = true

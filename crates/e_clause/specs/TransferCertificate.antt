@@ -28,9 +28,9 @@ transfer_certifies facts l t =
     is_transfer t.rule && option_map_or (instance_certifies facts l t.parts) (Inst t.rule t.args) false
 
 -- the arguments are in the scope before the step
-abbrev pub args_in : Scope → TransferCert → Bool
-args_in s t = list_all (is_in_scope s) t.args
+abbrev pub are_args_in : Scope → TransferCert → Bool
+are_args_in s t = list_all (is_in_scope s) t.args
 
 -- the objects that it names, the arguments and those of its parts, are in the scope before the step
 abbrev pub transfer_in : Scope → TransferCert → Bool
-transfer_in s t = args_in s t && list_all (part_in s) t.parts
+transfer_in s t = are_args_in s t && list_all (part_in s) t.parts

@@ -3,7 +3,7 @@
 ghost use Rattle.std.specs.Prelude.{◌≡◌, false};
 ghost use Rattle.e_literal.specs.Rename.{image_in, paired, number_at, renamed};
 ghost use Rattle.e_literal.specs.declared.object.Sort.TheVariants.{Point, Line, Circle};
-ghost use Rattle.e_construct.specs.inner.Views.{atom_of, lit_of, image_of};
+ghost use Rattle.e_construct.specs.inner.Views.{atom_of_relation, lit_of_shape_pattern, image_of};
 
 use crate::pattern::{Pattern, Relation};
 use e_literal::{Atom, Lit, Obj, Sort, is_same_object};
@@ -20,7 +20,7 @@ pub struct Naming<'a> {
 impl<'a> Naming<'a> {
     /// The literal with the objects for its variables.
     pub fn literal(&self, pattern: &Pattern) -> Lit
-        ensures { result ≡ renamed (image_of self.now) (lit_of pattern.now) }
+        ensures { result ≡ renamed (image_of self.now) (lit_of_shape_pattern pattern.now) }
     {
         match pattern {
             Pattern::Is(relation) => Lit {
@@ -37,7 +37,7 @@ impl<'a> Naming<'a> {
     fn atom(&self, relation: &Relation) -> Atom
         ensures { result ≡ (renamed (image_of self.now) (record {
           neg = false;
-          atom = atom_of relation.now;
+          atom = atom_of_relation relation.now;
         })).atom }
     {
         match relation {

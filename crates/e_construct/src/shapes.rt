@@ -5,7 +5,7 @@
 ghost use Rattle.std.specs.Prelude.{◌≡◌, ◌≤◌, length};
 ghost use Rattle.e_construct.specs.Shapes.{shape_row};
 ghost use Rattle.e_construct.specs.Construct.{sorts_of};
-ghost use Rattle.e_construct.specs.inner.Views.{row_view};
+ghost use Rattle.e_construct.specs.inner.Views.{shape_row_view};
 
 use crate::construction::Shape;
 use crate::pattern::Avoids::{AnyApartFrom, AnyObject, NoObject};
@@ -92,7 +92,7 @@ static ROWS: [Row; 20] = [
 /// The row of a shape.
 #[tactic(auto, unfolding(crate::specs::Shapes::shape_row))]
 pub fn row(shape: Shape) -> &'static Row
-    ensures row { row_view result.now ≡ shape_row shape }
+    ensures row { shape_row_view result.now ≡ shape_row shape }
     ensures sorts { result.now.sorts.now ≡ sorts_of (shape_row shape).made }
     ensures few { length result.now.sorts.now ≤ 2 }
 {

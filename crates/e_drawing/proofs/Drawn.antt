@@ -6,11 +6,11 @@ use Rattle.e_line.specs.Reading.{◌>>=◌}
 use Rattle.e_book.specs.Grammar.{BookFails}
 use Rattle.e_drawing.specs.declared.plan.Plan.{Plan}
 use Rattle.e_drawing.specs.declared.drawing.Drawing.{Drawing}
-use Rattle.e_drawing.specs.Texts.{lines_of_text, plan_of}
+use Rattle.e_drawing.specs.Texts.{lines_of_figure_text, plan_of}
 use Rattle.e_drawing.specs.Answers.{answered, drawn_of, Draws}
 use Rattle.e_drawing.proofs.PlanLines.{fails_on}
 
-pub few_lines : (text : List ℕ) → length text < 2 ^ 31 → 1 + length (lines_of_text text) < 2 ^ 32
+pub few_lines : (text : List ℕ) → length text < 2 ^ 31 → 1 + length (lines_of_figure_text text) < 2 ^ 32
 few_lines text l = omega (arith, length-lines_of (record { longest = 1600; most = 4194304 }) (record { line = 1; before = 0 }) text, l)
 
 pub drawn_faulty : (text : List ℕ) (f : BookFault) → BookFails f (plan_of text) → Draws text (Err f)

@@ -14,7 +14,7 @@ use Rattle.e_line.specs.Reading.{◌>>=◌, Fails}
 use Rattle.e_book.specs.Grammar.{is_skipped, put_at, BookFails}
 use Rattle.e_line.proofs.Bound.{bind_ok}
 use Rattle.e_drawing.specs.declared.plan.Plan.{Plan}
-use Rattle.e_drawing.specs.Texts.{words_step, at_end, plan_from, PlanIs, TakesPlanLine}
+use Rattle.e_drawing.specs.Texts.{words_step, plan_at_end, plan_from, PlanIs, TakesPlanLine}
 
 abbrev Rest : Type 0
 Rest = List (Result LineView LineFault)
@@ -91,9 +91,9 @@ pub fails_at_line : (last : ℕ) (old now new : Plan) (lines left after : Rest) 
 fails_at_line last old now new lines left after l f e h t = subst (BookFails f) (ap (plan_from last now) (sym e) ∙ h) (t last after)
 
 pub all_taken : (last line : ℕ) (old now : Plan) (lines left : Rest) (r : Result (Unit {0}) BookFault) → left ≡ [] → line ≡ last → Alike last old lines now left
-    → PlanIs r now (at_end line now) → PlanIs r now (plan_from last old lines)
+    → PlanIs r now (plan_at_end line now) → PlanIs r now (plan_from last old lines)
 all_taken last line old now lines left r e s h p =
-    subst (PlanIs r now) (ap (λ n. at_end n now) s ∙ (ap (plan_from last now) (sym e) ∙ h)) p
+    subst (PlanIs r now) (ap (λ n. plan_at_end n now) s ∙ (ap (plan_from last now) (sym e) ∙ h)) p
 
 -- lines without a fault that no line may have
 pub good_plan : (last : ℕ) (p q : Plan) (lines : Rest) → plan_from last p lines ≡ Ok q → HaveNoFault lines

@@ -6,16 +6,16 @@ use Rattle.e_figure.specs.declared.figure.Round.{Round}
 use Rattle.e_figure.specs.Figure.{has_direction, has_inside}
 use Rattle.e_line.specs.declared.fault.FaultKind.{FaultKind}
 use Rattle.e_line.specs.declared.fault.FaultKind.TheVariants.{Malformed}
-use Rattle.e_line.specs.Reading.{◌>>=◌, name_at, end_at}
+use Rattle.e_line.specs.Reading.{◌>>=◌, first_name, end_at}
 use Rattle.e_line.specs.Literals.{diagram_lits_of}
 use Rattle.e_drawing.specs.declared.raw.RawLine.{RawLine}
 use Rattle.e_drawing.specs.declared.raw.RawLine.TheVariants as raw
 use Rattle.e_drawing.specs.Numbers.{coordinate_at, square_at}
 
 -- a name and two coordinates
-unfoldable pub point_of : List (List ℕ) → Result RawLine FaultKind
-point_of words = do
-  n ← name_at words
+unfoldable pub plan_point_of : List (List ℕ) → Result RawLine FaultKind
+plan_point_of words = do
+  n ← first_name words
   x ← coordinate_at n.1
   y ← coordinate_at x.1
   none ← end_at y.1
@@ -28,7 +28,7 @@ directed name l = if has_direction l then Ok (raw.Line name l) else Err Malforme
 -- a name, the coordinates of a point on it, and a direction
 unfoldable pub straight_of : List (List ℕ) → Result RawLine FaultKind
 straight_of words = do
-  n ← name_at words
+  n ← first_name words
   x ← coordinate_at n.1
   y ← coordinate_at x.1
   dx ← coordinate_at y.1
@@ -43,7 +43,7 @@ rounded name c = if has_inside c then Ok (raw.Circle name c) else Err Malformed
 -- a name, the coordinates of the center, and the square of the radius
 unfoldable pub round_of : List (List ℕ) → Result RawLine FaultKind
 round_of words = do
-  n ← name_at words
+  n ← first_name words
   x ← coordinate_at n.1
   y ← coordinate_at x.1
   q ← square_at y.1
@@ -54,16 +54,16 @@ abbrev pub alone : List (List ℕ) → RawLine → Result RawLine FaultKind
 alone words line = end_at words >>= λ none. Ok line
 
 -- by the first word
-unfoldable pub line_named : List ℕ → List (List ℕ) → Result RawLine FaultKind
-line_named w ws =
+unfoldable pub plan_line_named : List ℕ → List (List ℕ) → Result RawLine FaultKind
+plan_line_named w ws =
     if bytes_eq w (codes "figure") then alone ws raw.Figure else
-    if bytes_eq w (codes "point") then point_of ws else
+    if bytes_eq w (codes "point") then plan_point_of ws else
     if bytes_eq w (codes "line") then straight_of ws else
     if bytes_eq w (codes "circle") then round_of ws else
     if bytes_eq w (codes "given") then (diagram_lits_of ws >>= λ ls. Ok (raw.Given ls)) else
     if bytes_eq w (codes "show") then (diagram_lits_of ws >>= λ ls. Ok (raw.Show ls)) else
     if bytes_eq w (codes "end") then alone ws raw.End else Err Malformed
 
-unfoldable pub line_of : List (List ℕ) → Result RawLine FaultKind
-line_of [] = Err Malformed
-line_of (w ∷ ws) = line_named w ws
+unfoldable pub plan_line_of : List (List ℕ) → Result RawLine FaultKind
+plan_line_of [] = Err Malformed
+plan_line_of (w ∷ ws) = plan_line_named w ws

@@ -4,7 +4,7 @@ use Rattle.e_literal.specs.declared.object.Sort.TheVariants as sorts
 use Rattle.e_figure.specs.declared.figure.Point.{Point}
 use Rattle.e_figure.specs.declared.figure.Straight.{Straight}
 use Rattle.e_figure.specs.declared.figure.Round.{Round}
-use Rattle.e_figure.specs.Figure.{view_of, scope_of, is_small_point, is_small_line, is_small_circle, with_point, with_line, with_circle}
+use Rattle.e_figure.specs.Figure.{view_of_figure, scope_of_figure, is_small_point, is_small_line, is_small_circle, with_point, with_line, with_circle}
 use Rattle.e_line.specs.declared.fault.FaultKind.{FaultKind}
 use Rattle.e_line.specs.declared.fault.FaultKind.TheVariants.{Malformed}
 use Rattle.e_line.specs.declared.fault.What.TheVariants as limits
@@ -22,21 +22,21 @@ use Rattle.e_drawing.specs.declared.plan.Plan.{Plan}
 
 -- nothing has come
 abbrev pub no_plan : Plan
-no_plan = record { names = no_names; figure = view_of [] [] []; given = []; shown = []; place = Start }
+no_plan = record { names = no_names; figure = view_of_figure [] [] []; given = []; shown = []; place = Start }
 
 -- which lines may come at a place
-abbrev pub allowed : Place → RawLine → Bool
-allowed Start raw.Figure = true
-allowed Placing (raw.Point n a) = true
-allowed Placing (raw.Line n l) = true
-allowed Placing (raw.Circle n c) = true
-allowed Placing (raw.Given ls) = true
-allowed Placing (raw.Show ls) = true
-allowed Giving (raw.Given ls) = true
-allowed Giving (raw.Show ls) = true
-allowed Showing (raw.Show ls) = true
-allowed Showing raw.End = true
-allowed place line = false
+abbrev pub allowed_in_plan : Place → RawLine → Bool
+allowed_in_plan Start raw.Figure = true
+allowed_in_plan Placing (raw.Point n a) = true
+allowed_in_plan Placing (raw.Line n l) = true
+allowed_in_plan Placing (raw.Circle n c) = true
+allowed_in_plan Placing (raw.Given ls) = true
+allowed_in_plan Placing (raw.Show ls) = true
+allowed_in_plan Giving (raw.Given ls) = true
+allowed_in_plan Giving (raw.Show ls) = true
+allowed_in_plan Showing (raw.Show ls) = true
+allowed_in_plan Showing raw.End = true
+allowed_in_plan place line = false
 
 -- ---- what a line adds: its name, the limit of its sort, and last that of its numbers
 
@@ -66,27 +66,27 @@ with_given p raws = with_front p.given (lits_in p.names raws) >>= λ ls. Ok (rec
 abbrev pub with_shown : Plan → List RawLit → Result Plan FaultKind
 with_shown p raws = with_front p.shown (lits_in p.names raws) >>= λ ls. Ok (record p { shown = ls; place = Showing })
 
-abbrev pub stepped : Plan → RawLine → Result Plan FaultKind
-stepped p raw.Figure = Ok (record p { place = Placing })
-stepped p (raw.Point name a) = with_named_point p name a
-stepped p (raw.Line name l) = with_named_line p name l
-stepped p (raw.Circle name c) = with_named_circle p name c
-stepped p (raw.Given raws) = with_given p raws
-stepped p (raw.Show raws) = with_shown p raws
-stepped p raw.End = Ok (record p { place = Done })
+abbrev pub plan_with_line : Plan → RawLine → Result Plan FaultKind
+plan_with_line p raw.Figure = Ok (record p { place = Placing })
+plan_with_line p (raw.Point name a) = with_named_point p name a
+plan_with_line p (raw.Line name l) = with_named_line p name l
+plan_with_line p (raw.Circle name c) = with_named_circle p name c
+plan_with_line p (raw.Given raws) = with_given p raws
+plan_with_line p (raw.Show raws) = with_shown p raws
+plan_with_line p raw.End = Ok (record p { place = Done })
 
 -- a line, where it may come
-unfoldable pub step : Plan → RawLine → Result Plan FaultKind
-step p line = if allowed p.place line then stepped p line else Err Malformed
+unfoldable pub plan_after_line : Plan → RawLine → Result Plan FaultKind
+plan_after_line p line = if allowed_in_plan p.place line then plan_with_line p line else Err Malformed
 
-abbrev pub is_last : Place → Bool
-is_last Done = true
-is_last p = false
+abbrev pub is_last_place : Place → Bool
+is_last_place Done = true
+is_last_place p = false
 
-abbrev pub is_done : Plan → Bool
-is_done p = is_last p.place
+abbrev pub is_done_plan : Plan → Bool
+is_done_plan p = is_last_place p.place
 
 -- each object has a name, and there are not too many
 pub record FitsPlan (p : Plan) : Type 0 where
   pub few : FewNamed p.names
-  pub named : scope_of p.figure ≡ scope_of_names p.names
+  pub named : scope_of_figure p.figure ≡ scope_of_names p.names

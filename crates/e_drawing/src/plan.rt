@@ -4,7 +4,7 @@ ghost use Rattle.e_line.specs.Reading.{Gives, Moves};
 ghost use Rattle.e_line.specs.LineLimits.{or_limit};
 ghost use Rattle.e_line.specs.declared.fault.What.TheVariants as limits;
 ghost use Rattle.e_figure.specs.Figure.{has_direction, has_inside};
-ghost use Rattle.e_drawing.specs.Plans.{allowed, FitsPlan};
+ghost use Rattle.e_drawing.specs.Plans.{allowed_in_plan, FitsPlan};
 ghost use Rattle.e_drawing.specs.Plans as plans;
 ghost use Rattle.e_drawing.specs.inner.Nondegenerate.{IsNondegenerate};
 
@@ -44,7 +44,7 @@ pub struct Plan {
 }
 
 fn allowed(place: Place, line: &RawLine) -> bool
-    ensures { result ≡ allowed place line.now }
+    ensures { result ≡ allowed_in_plan place line.now }
 {
     match line {
         RawLine::Figure => matches!(place, Place::Start),
@@ -85,7 +85,7 @@ impl Plan {
 
     /// Whether the last line of the figure has come.
     pub fn is_done(&self) -> bool
-        ensures { result ≡ plans.is_done self.now }
+        ensures { result ≡ plans.is_done_plan self.now }
     {
         matches!(self.place, Place::Done)
     }
@@ -167,7 +167,7 @@ impl Plan {
     fn stepped(&mut self, alloc: Global, line: &RawLine) -> Result<(), LineError>
         requires fits { FitsPlan self.old }
         requires line { IsNondegenerate line.now }
-        ensures value { Moves result self.new (plans.stepped self.old line.now) }
+        ensures value { Moves result self.new (plans.plan_with_line self.old line.now) }
         ensures fits { OnOk result (FitsPlan self.new) }
     {
         match line {
@@ -188,11 +188,11 @@ impl Plan {
     }
 
     /// Takes a line, where it may come. After a fault the plan is not used again.
-    #[tactic(auto, unfolding(crate::specs::Plans::step))]
+    #[tactic(auto, unfolding(crate::specs::Plans::plan_after_line))]
     pub fn take(&mut self, alloc: Global, line: &RawLine) -> Result<(), LineError>
         requires fits { FitsPlan self.old }
         requires line { IsNondegenerate line.now }
-        ensures value { Moves result self.new (plans.step self.old line.now) }
+        ensures value { Moves result self.new (plans.plan_after_line self.old line.now) }
         ensures fits { OnOk result (FitsPlan self.new) }
     {
         if !allowed(self.place, line) {

@@ -2,8 +2,8 @@
 ghost use Rattle.std.specs.Prelude.{IfOk};
 ghost use Rattle.e_line.specs.Reading.{texts, Gives};
 ghost use Rattle.e_drawing.specs.inner.Nondegenerate.{IsNondegenerate};
-ghost use Rattle.e_drawing.specs.Lines.{point_of, straight_of, round_of};
-ghost use Rattle.e_drawing.specs.Lines.{alone, line_named, line_of};
+ghost use Rattle.e_drawing.specs.Lines.{plan_point_of, straight_of, round_of};
+ghost use Rattle.e_drawing.specs.Lines.{alone, plan_line_named, plan_line_of};
 
 use crate::number::{coordinate, square};
 use e_figure::{Point, Round, Straight, has_direction, has_inside};
@@ -27,9 +27,9 @@ pub enum RawLine {
 }
 
 /// A name and two coordinates.
-#[tactic(auto, unfolding(crate::specs::Lines::point_of))]
+#[tactic(auto, unfolding(crate::specs::Lines::plan_point_of))]
 fn point_of(words: &[&[u8]]) -> Result<RawLine, LineError>
-    ensures value { Gives (λ l. l) result (point_of (texts words.now)) }
+    ensures value { Gives (λ l. l) result (plan_point_of (texts words.now)) }
     ensures good { IfOk result IsNondegenerate }
 {
     let mut words = Words::new(words);
@@ -95,9 +95,9 @@ fn alone(words: &[&[u8]], line: RawLine) -> Result<RawLine, LineError>
 }
 
 /// A line, by its first word.
-#[tactic(auto, unfolding(crate::specs::Lines::line_named))]
+#[tactic(auto, unfolding(crate::specs::Lines::plan_line_named))]
 fn line_named(alloc: Global, word: &[u8], rest: &[&[u8]]) -> Result<RawLine, LineError>
-    ensures value { Gives (λ l. l) result (line_named word.now (texts rest.now)) }
+    ensures value { Gives (λ l. l) result (plan_line_named word.now (texts rest.now)) }
     ensures good { IfOk result IsNondegenerate }
 {
     if is(word, b"figure") {
@@ -127,9 +127,9 @@ fn line_named(alloc: Global, word: &[u8], rest: &[&[u8]]) -> Result<RawLine, Lin
 }
 
 /// What a line is by its words.
-#[tactic(auto, unfolding(crate::specs::Lines::line_of))]
+#[tactic(auto, unfolding(crate::specs::Lines::plan_line_of))]
 pub fn line_of(alloc: Global, words: &[&[u8]]) -> Result<RawLine, LineError>
-    ensures value { Gives (λ l. l) result (line_of (texts words.now)) }
+    ensures value { Gives (λ l. l) result (plan_line_of (texts words.now)) }
     ensures good { IfOk result IsNondegenerate }
 {
     match words {

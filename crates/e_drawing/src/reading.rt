@@ -5,7 +5,7 @@ ghost use Rattle.e_text.specs.Tokens.{tokens_of};
 ghost use Rattle.e_book.specs.Grammar.{last_line};
 ghost use Rattle.e_line.specs.Reading.{texts, Moves};
 ghost use Rattle.e_drawing.specs.Plans.{FitsPlan};
-ghost use Rattle.e_drawing.specs.Texts.{at_end, words_step, plan_from, PlanIs, TakesPlanLine};
+ghost use Rattle.e_drawing.specs.Texts.{plan_at_end, words_step, plan_from, PlanIs, TakesPlanLine};
 
 use crate::plan::Plan;
 use crate::raw::line_of;
@@ -65,7 +65,7 @@ fn take_line(alloc: Global, plan: &mut Plan, line: &Line) -> Result<(), BookFaul
 /// figure.
 fn end(plan: &Plan, line: u64) -> Result<(), BookFault>
     requires { line < 2 ^ 32 }
-    ensures { PlanIs result plan.now (at_end line plan.now) }
+    ensures { PlanIs result plan.now (plan_at_end line plan.now) }
 {
     if !plan.is_done() {
         return Err(BookFault::Unended { line: line as u32 });

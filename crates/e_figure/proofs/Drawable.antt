@@ -7,7 +7,7 @@ use Rattle.e_literal.proofs.Booleans.{all_both}
 use Rattle.e_figure.specs.declared.figure.Point.{Point}
 use Rattle.e_figure.specs.declared.figure.Straight.{Straight}
 use Rattle.e_figure.specs.declared.figure.Round.{Round}
-use Rattle.e_figure.specs.Figure.{FigureView, has_direction, has_inside, is_figure, is_small, is_small_point, is_small_line, is_small_circle, is_bounded, has_few_objects, HasFewObjects, can_be_drawn, with_point, with_line, with_circle}
+use Rattle.e_figure.specs.Figure.{FigureView, has_direction, has_inside, is_figure, is_small_number, is_small_point, is_small_line, is_small_circle, is_bounded, has_few_objects, HasFewObjects, can_be_drawn, with_point, with_line, with_circle}
 
 -- what holds of each figure
 abbrev pub Keeps : FigureView → Type 0
@@ -27,8 +27,8 @@ drawable_keeps d e =
 
 pub square_small : (c : Round) → is_small_circle c ≡ true → c.square ≤ 1000000000000
 square_small c e =
-    let h = and_parts (is_small c.x) (is_small c.y && nat_le c.square 1000000000000) e in
-    let k = and_parts (is_small c.y) (nat_le c.square 1000000000000) h.1 in
+    let h = and_parts (is_small_number c.x) (is_small_number c.y && nat_le c.square 1000000000000) e in
+    let k = and_parts (is_small_number c.y) (nat_le c.square 1000000000000) h.1 in
     leb-true c.square 1000000000000 k.1
 
 -- ---- one object more

@@ -15,7 +15,7 @@ use Rattle.e_literal.specs.Rename.{atom_at}
 use Rattle.e_literal.proofs.Arith.{sums}
 use Rattle.e_plane.proofs.Squares.{square-not_negative, square-positive}
 use Rattle.e_plane.proofs.Cone.{Fact, Hold}
-use Rattle.e_figure.specs.Figure.{FigureView, point_of, line_of, circle_of}
+use Rattle.e_figure.specs.Figure.{FigureView, point_of, line_of_figure, circle_of}
 use Rattle.e_figure.specs.Truth.{cross, dot, side, dist, atom_holds, is_true}
 use Rattle.e_figure.proofs.Facts.{when_true, when_false, none_true}
 
@@ -24,7 +24,7 @@ abbrev pub coordinates : FigureView → (p l c : ℕ → ℕ) → ℕ → ℕ �
 coordinates d p l c n k =
     get_or (
     (point_of d (p n)).x ∷ (point_of d (p n)).y
-    ∷ (line_of d (l n)).x ∷ (line_of d (l n)).y ∷ (line_of d (l n)).dx ∷ (line_of d (l n)).dy
+    ∷ (line_of_figure d (l n)).x ∷ (line_of_figure d (l n)).y ∷ (line_of_figure d (l n)).dx ∷ (line_of_figure d (l n)).dy
     ∷ (circle_of d (c n)).x ∷ (circle_of d (c n)).y ∷ pos (circle_of d (c n)).square ∷ []
     ) k (pos 0)
 
@@ -113,7 +113,7 @@ not_between x y e z =
 pub when_true_holds : (d : FigureView) (p l c : ℕ → ℕ) (t : Atom) → atom_holds d (atom_at p l c t) ≡ true → Hold (coordinates d p l c) (when_true t)
 when_true_holds d p l c (On a L) e =
     let one = point_of d (p a) in
-    let first = line_of d (l L) in
+    let first = line_of_figure d (l L) in
     (equal (side one.x one.y first) (pos 0) e, tt)
 when_true_holds d p l c (OnC a A) e =
     let one = point_of d (p a) in
@@ -137,14 +137,14 @@ when_true_holds d p l c (Between a b g) e =
 when_true_holds d p l c (Same a b L) e =
     let one = point_of d (p a) in
     let two = point_of d (p b) in
-    let first = line_of d (l L) in
+    let first = line_of_figure d (l L) in
     (positive_is ((side one.x one.y first) *ℤ (side two.x two.y first)) e, tt)
 when_true_holds d p l c (MeetLL L M) e =
-    let first = line_of d (l L) in
-    let second = line_of d (l M) in
+    let first = line_of_figure d (l L) in
+    let second = line_of_figure d (l M) in
     (not_zero_square (cross first.dx first.dy second.dx second.dy) (not-true (int_eq (cross first.dx first.dy second.dx second.dy) (pos 0)) e), tt)
 when_true_holds d p l c (MeetLC L A) e =
-    let first = line_of d (l L) in
+    let first = line_of_figure d (l L) in
     let inner = circle_of d (c A) in
     (less ((side inner.x inner.y first) *ℤ (side inner.x inner.y first)) (pos inner.square *ℤ dot first.dx first.dy first.dx first.dy) e, tt)
 when_true_holds d p l c (MeetCC A B) e =
@@ -157,8 +157,8 @@ when_true_holds d p l c (EqP a b) e =
     let h = and_parts (int_eq one.x two.x) (int_eq one.y two.y) e in
     (equal_zero one.x two.x h.0, (equal_zero one.y two.y h.1, tt))
 when_true_holds d p l c (EqL L M) e =
-    let first = line_of d (l L) in
-    let second = line_of d (l M) in
+    let first = line_of_figure d (l L) in
+    let second = line_of_figure d (l M) in
     let h = and_parts (int_eq (cross first.dx first.dy second.dx second.dy) (pos 0)) (int_eq (side second.x second.y first) (pos 0)) e in
     (equal (cross first.dx first.dy second.dx second.dy) (pos 0) h.0, (equal (side second.x second.y first) (pos 0) h.1, tt))
 when_true_holds d p l c (EqC A B) e =
@@ -173,7 +173,7 @@ when_true_holds d p l c (MagLt x y) e = tt
 pub when_false_holds : (d : FigureView) (p l c : ℕ → ℕ) (t : Atom) → atom_holds d (atom_at p l c t) ≡ false → Hold (coordinates d p l c) (when_false t)
 when_false_holds d p l c (On a L) e =
     let one = point_of d (p a) in
-    let first = line_of d (l L) in
+    let first = line_of_figure d (l L) in
     (not_zero_square (side one.x one.y first) e, tt)
 when_false_holds d p l c (OnC a A) e =
     let one = point_of d (p a) in
@@ -195,14 +195,14 @@ when_false_holds d p l c (Between a b g) e =
 when_false_holds d p l c (Same a b L) e =
     let one = point_of d (p a) in
     let two = point_of d (p b) in
-    let first = line_of d (l L) in
+    let first = line_of_figure d (l L) in
     (not_positive_is ((side one.x one.y first) *ℤ (side two.x two.y first)) e, tt)
 when_false_holds d p l c (MeetLL L M) e =
-    let first = line_of d (l L) in
-    let second = line_of d (l M) in
+    let first = line_of_figure d (l L) in
+    let second = line_of_figure d (l M) in
     (equal (cross first.dx first.dy second.dx second.dy) (pos 0) (not-false (int_eq (cross first.dx first.dy second.dx second.dy) (pos 0)) e), tt)
 when_false_holds d p l c (MeetLC L A) e =
-    let first = line_of d (l L) in
+    let first = line_of_figure d (l L) in
     let inner = circle_of d (c A) in
     (not_less ((side inner.x inner.y first) *ℤ (side inner.x inner.y first)) (pos inner.square *ℤ dot first.dx first.dy first.dx first.dy) e, tt)
 when_false_holds d p l c (MeetCC A B) e =
@@ -214,8 +214,8 @@ when_false_holds d p l c (EqP a b) e =
     let two = point_of d (p b) in
     (unequal_two one.x one.y two.x two.y e, tt)
 when_false_holds d p l c (EqL L M) e =
-    let first = line_of d (l L) in
-    let second = line_of d (l M) in
+    let first = line_of_figure d (l L) in
+    let second = line_of_figure d (l M) in
     (not_both_zero (cross first.dx first.dy second.dx second.dy) (side second.x second.y first) e, tt)
 when_false_holds d p l c (EqC A B) e =
     let inner = circle_of d (c A) in

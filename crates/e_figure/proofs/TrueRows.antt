@@ -16,12 +16,12 @@ use Rattle.e_clause.specs.Table.Circles.{circles}
 use Rattle.e_clause.specs.Table.Equality.{equality}
 use Rattle.e_clause.specs.Table.Lengths.{lengths}
 use Rattle.e_clause.specs.Table.Angles.{angles}
-use Rattle.e_clause.specs.Instance.{Inst, instance_of_row, arguments_fit, lit_at, number, line, circle, clause_of}
+use Rattle.e_clause.specs.Instance.{Inst, instance_of_row, arguments_fit, lit_at, number, line_arg, circle_arg, clause_of}
 use Rattle.e_plane.proofs.Cone.{Hold}
 use Rattle.e_plane.proofs.Steps.{Refutation, leads, refuted_by}
 use Rattle.e_figure.specs.declared.figure.Straight.{Straight}
 use Rattle.e_figure.specs.declared.figure.Round.{Round}
-use Rattle.e_figure.specs.Figure.{FigureView, line_of, circle_of, has_direction, has_inside, is_figure}
+use Rattle.e_figure.specs.Figure.{FigureView, line_of_figure, circle_of, has_direction, has_inside, is_figure}
 use Rattle.e_figure.specs.Truth.{is_true}
 use Rattle.e_figure.specs.Law.{EveryInstanceIsTrue}
 use Rattle.e_figure.proofs.Facts.{none_true, directions, insides, row_facts, all_refuted}
@@ -46,7 +46,7 @@ circle_has (x ∷ xs) (suc n) e = circle_has xs n (and_parts (has_inside x) (lis
 directions_hold : (d : FigureView) (p l c : ℕ → ℕ) → list_all has_direction d.lines ≡ true → (k n : ℕ) → Hold (coordinates d p l c) (directions k n)
 directions_hold d p l c e k zero = tt
 directions_hold d p l c e k (suc n) =
-    (not_both_zero (line_of d (l k)).dx (line_of d (l k)).dy (not-true _ (line_has d.lines (l k) e)), directions_hold d p l c e (suc k) n)
+    (not_both_zero (line_of_figure d (l k)).dx (line_of_figure d (l k)).dy (not-true _ (line_has d.lines (l k) e)), directions_hold d p l c e (suc k) n)
 
 positive_number : (n : ℕ) → nat_lt 0 n ≡ true → pos 0 <ℤ pos n
 positive_number n e = grind (arith, ints, e)
@@ -62,8 +62,8 @@ row_clause : (d : FigureView) (r : Row) (args : List Obj) (q : Refutation) → l
 row_clause d r args q e g n =
     let h = and_parts (list_all has_direction d.lines) (list_all has_inside d.circles) g in
     let p = number args in
-    let l = line r args in
-    let c = circle r args in
+    let l = line_arg r args in
+    let c = circle_arg r args in
     refuted_by (coordinates d p l c) (row_facts r) q.steps q.last
     (joined (coordinates d p l c) (none_true (clause_of r)) (directions 0 r.lines ++ insides 0 r.circles)
     (none_true_holds d p l c (clause_of r) n)

@@ -26,17 +26,17 @@ is_figure d = list_all has_direction d.lines && list_all has_inside d.circles
 
 -- ---- the numbers are in their bounds
 
-abbrev pub is_small : ℤ → Bool
-is_small z = nat_le (unsigned_abs z) 1000000
+abbrev pub is_small_number : ℤ → Bool
+is_small_number z = nat_le (unsigned_abs z) 1000000
 
 abbrev pub is_small_point : Point → Bool
-is_small_point a = is_small a.x && is_small a.y
+is_small_point a = is_small_number a.x && is_small_number a.y
 
 abbrev pub is_small_line : Straight → Bool
-is_small_line l = is_small l.x && (is_small l.y && (is_small l.dx && is_small l.dy))
+is_small_line l = is_small_number l.x && (is_small_number l.y && (is_small_number l.dx && is_small_number l.dy))
 
 abbrev pub is_small_circle : Round → Bool
-is_small_circle c = is_small c.x && (is_small c.y && nat_le c.square 1000000000000)
+is_small_circle c = is_small_number c.x && (is_small_number c.y && nat_le c.square 1000000000000)
 
 abbrev pub is_bounded : FigureView → Bool
 is_bounded d = list_all is_small_point d.points && (list_all is_small_line d.lines && list_all is_small_circle d.circles)
@@ -52,8 +52,8 @@ HasFewObjects d = (length d.points ≤ 40) × ((length d.lines ≤ 24) × (lengt
 
 -- ---- which objects make a figure
 
-abbrev pub view_of : List Point → List Straight → List Round → FigureView
-view_of points lines circles = record { points = points; lines = lines; circles = circles }
+abbrev pub view_of_figure : List Point → List Straight → List Round → FigureView
+view_of_figure points lines circles = record { points = points; lines = lines; circles = circles }
 
 abbrev pub can_be_drawn : FigureView → Bool
 can_be_drawn d = has_few_objects d && (is_bounded d && is_figure d)
@@ -62,7 +62,7 @@ can_be_drawn d = has_few_objects d && (is_bounded d && is_figure d)
 -- zeros, a square is 0, or there are too many
 abbrev pub figure_of : List Point → List Straight → List Round → Option FigureView
 figure_of points lines circles =
-    if can_be_drawn (view_of points lines circles) then Some (view_of points lines circles) else None
+    if can_be_drawn (view_of_figure points lines circles) then Some (view_of_figure points lines circles) else None
 
 -- ---- one object more, put after those of its sort
 
@@ -78,16 +78,16 @@ with_circle d c = record { points = d.points; lines = d.lines; circles = d.circl
 -- ---- its objects
 
 -- how many there are of each sort
-abbrev pub scope_of : FigureView → Scope
-scope_of d = record { points = length d.points; lines = length d.lines; circles = length d.circles }
+abbrev pub scope_of_figure : FigureView → Scope
+scope_of_figure d = record { points = length d.points; lines = length d.lines; circles = length d.circles }
 
 -- the objects with these numbers; what is put for others says nothing, since literals are asked of
 -- objects in scope alone
 abbrev pub point_of : FigureView → ℕ → Point
 point_of d n = get_or d.points n (record { x = pos 0; y = pos 0 })
 
-abbrev pub line_of : FigureView → ℕ → Straight
-line_of d n = get_or d.lines n (record { x = pos 0; y = pos 0; dx = pos 1; dy = pos 0 })
+abbrev pub line_of_figure : FigureView → ℕ → Straight
+line_of_figure d n = get_or d.lines n (record { x = pos 0; y = pos 0; dx = pos 1; dy = pos 0 })
 
 abbrev pub circle_of : FigureView → ℕ → Round
 circle_of d n = get_or d.circles n (record { x = pos 0; y = pos 0; square = 1 })

@@ -9,7 +9,7 @@ use Rattle.e_clause.specs.Instance.{Inst}
 use Rattle.e_clause.specs.RuleKinds.{diagram_rule_count}
 use Rattle.e_figure.specs.declared.witness.LawFault.{LawFault}
 use Rattle.e_figure.specs.declared.witness.LawFault.TheVariants.{BadArgs, NoMemory}
-use Rattle.e_figure.specs.Figure.{FigureView, is_figure, scope_of}
+use Rattle.e_figure.specs.Figure.{FigureView, is_figure, scope_of_figure}
 use Rattle.e_figure.specs.Truth.{is_true}
 
 -- some literal of each instance of a rule of diagrams and equality is true
@@ -24,7 +24,7 @@ true_at d rule args k = option_map_or (λ lits. option_map_or (is_true d) (slice
 
 -- the arguments are in the figure's scope
 abbrev pub are_in_figure : FigureView → List Obj → Bool
-are_in_figure d args = list_all (is_in_scope (scope_of d)) args
+are_in_figure d args = list_all (is_in_scope (scope_of_figure d)) args
 
 -- the rule has an instance at the arguments, and they are in the figure's scope
 abbrev pub has_instance : FigureView → ℕ → List Obj → Bool

@@ -7,7 +7,7 @@ use Rattle.e_literal.specs.declared.literal.Lit.{Lit}
 use Rattle.e_figure.specs.declared.figure.Point.{Point}
 use Rattle.e_figure.specs.declared.figure.Straight.{Straight}
 use Rattle.e_figure.specs.declared.figure.Round.{Round}
-use Rattle.e_figure.specs.Figure.{FigureView, point_of, line_of, circle_of}
+use Rattle.e_figure.specs.Figure.{FigureView, point_of, line_of_figure, circle_of}
 
 -- the cross and the dot product of two arrows, each by its two numbers
 abbrev pub cross : ℤ → ℤ → ℤ → ℤ → ℤ
@@ -47,8 +47,8 @@ is_same_side a b l = int_lt (pos 0) (side a.x a.y l *ℤ side b.x b.y l)
 abbrev pub lines_meet : Straight → Straight → Bool
 lines_meet l m = not (int_eq (cross l.dx l.dy m.dx m.dy) (pos 0))
 
-abbrev pub line_meets : Straight → Round → Bool
-line_meets l c = int_lt (side c.x c.y l *ℤ side c.x c.y l) (pos c.square *ℤ dot l.dx l.dy l.dx l.dy)
+abbrev pub line_meets_circle : Straight → Round → Bool
+line_meets_circle l c = int_lt (side c.x c.y l *ℤ side c.x c.y l) (pos c.square *ℤ dot l.dx l.dy l.dx l.dy)
 
 abbrev pub circles_meet : Round → Round → Bool
 circles_meet c e =
@@ -66,17 +66,17 @@ abbrev pub same_circle : Round → Round → Bool
 same_circle c e = int_eq c.x e.x && (int_eq c.y e.y && int_eq (pos c.square) (pos e.square))
 
 abbrev pub atom_holds : FigureView → Atom → Bool
-atom_holds d (On a l) = is_on (point_of d a) (line_of d l)
+atom_holds d (On a l) = is_on (point_of d a) (line_of_figure d l)
 atom_holds d (OnC a c) = is_on_circle (point_of d a) (circle_of d c)
 atom_holds d (Inside a c) = is_inside (point_of d a) (circle_of d c)
 atom_holds d (Center a c) = is_center (point_of d a) (circle_of d c)
 atom_holds d (Between a b c) = is_between (point_of d a) (point_of d b) (point_of d c)
-atom_holds d (Same a b l) = is_same_side (point_of d a) (point_of d b) (line_of d l)
-atom_holds d (MeetLL l m) = lines_meet (line_of d l) (line_of d m)
-atom_holds d (MeetLC l c) = line_meets (line_of d l) (circle_of d c)
+atom_holds d (Same a b l) = is_same_side (point_of d a) (point_of d b) (line_of_figure d l)
+atom_holds d (MeetLL l m) = lines_meet (line_of_figure d l) (line_of_figure d m)
+atom_holds d (MeetLC l c) = line_meets_circle (line_of_figure d l) (circle_of d c)
 atom_holds d (MeetCC c e) = circles_meet (circle_of d c) (circle_of d e)
 atom_holds d (EqP a b) = same_point (point_of d a) (point_of d b)
-atom_holds d (EqL l m) = same_line (line_of d l) (line_of d m)
+atom_holds d (EqL l m) = same_line (line_of_figure d l) (line_of_figure d m)
 atom_holds d (EqC c e) = same_circle (circle_of d c) (circle_of d e)
 atom_holds d (MagEq x y) = false
 atom_holds d (MagLt x y) = false

@@ -81,8 +81,8 @@ impl Figure {
 
     fn drawn(points: Vec<Point>, lines: Vec<Straight>, circles: Vec<Round>) -> Figure
         requires { IsTrue
-            (spec.can_be_drawn (spec.view_of points.items lines.items circles.items)) }
-        ensures { result ≡ spec.view_of points.items lines.items circles.items }
+            (spec.can_be_drawn (spec.view_of_figure points.items lines.items circles.items)) }
+        ensures { result ≡ spec.view_of_figure points.items lines.items circles.items }
     {
         Figure {
             points,
@@ -93,7 +93,7 @@ impl Figure {
 
     /// The figure without objects.
     pub fn empty(alloc: Global) -> Figure
-        ensures { result ≡ spec.view_of [] [] [] }
+        ensures { result ≡ spec.view_of_figure [] [] [] }
     {
         Figure {
             points: Vec::new(alloc),
@@ -148,7 +148,7 @@ impl Figure {
 
     /// How many objects of each sort it has.
     pub fn scope(&self) -> Scope
-        ensures { result ≡ spec.scope_of self.now }
+        ensures { result ≡ spec.scope_of_figure self.now }
     {
         Scope {
             points: self.points.len() as u16,
@@ -170,7 +170,7 @@ impl Figure {
 
     /// The line with this number; where there is none, one that says nothing.
     pub fn line(&self, n: u16) -> Straight
-        ensures value { result ≡ spec.line_of self.now n }
+        ensures value { result ≡ spec.line_of_figure self.now n }
         ensures small { IsTrue (spec.is_small_line result) }
     {
         match self.lines.get(usize::from(n)) {
@@ -202,7 +202,7 @@ impl Figure {
 
 /// Whether the objects make a figure.
 fn can_be_drawn(points: &[Point], lines: &[Straight], circles: &[Round]) -> bool
-    ensures { result ≡ spec.can_be_drawn (spec.view_of points.now lines.now circles.now) }
+    ensures { result ≡ spec.can_be_drawn (spec.view_of_figure points.now lines.now circles.now) }
 {
     are_few(points, lines, circles)
         && are_bounded(points, lines, circles)
@@ -211,14 +211,14 @@ fn can_be_drawn(points: &[Point], lines: &[Straight], circles: &[Round]) -> bool
 
 /// Whether there are not too many objects.
 fn are_few(points: &[Point], lines: &[Straight], circles: &[Round]) -> bool
-    ensures { result ≡ spec.has_few_objects (spec.view_of points.now lines.now circles.now) }
+    ensures { result ≡ spec.has_few_objects (spec.view_of_figure points.now lines.now circles.now) }
 {
     points.len() <= 40 && lines.len() <= 24 && circles.len() <= 16
 }
 
 /// Whether all numbers are in their bounds.
 fn are_bounded(points: &[Point], lines: &[Straight], circles: &[Round]) -> bool
-    ensures { result ≡ spec.is_bounded (spec.view_of points.now lines.now circles.now) }
+    ensures { result ≡ spec.is_bounded (spec.view_of_figure points.now lines.now circles.now) }
 {
     are_small_points(points) && are_small_lines(lines) && are_small_circles(circles)
 }
@@ -263,7 +263,7 @@ fn are_small_circles(circles: &[Round]) -> bool
 
 /// Whether a coordinate, or a number of a direction, is within plus or minus 1,000,000.
 fn is_small(n: i32) -> bool
-    ensures { result ≡ spec.is_small n }
+    ensures { result ≡ spec.is_small_number n }
 {
     n.unsigned_abs() <= 1_000_000
 }

@@ -3,7 +3,7 @@
 ghost use Rattle.std.specs.Prelude.{◌≡◌, IsTrue};
 ghost use Rattle.std.specs.List.{list_all};
 ghost use Rattle.e_figure.specs.Truth as truth;
-ghost use Rattle.e_figure.specs.Figure.{scope_of};
+ghost use Rattle.e_figure.specs.Figure.{scope_of_figure};
 ghost use Rattle.e_figure.specs.Cite.{is_refuted, IsUncited};
 
 use crate::figure::Figure;
@@ -15,7 +15,7 @@ use e_literal::Lit;
 /// asked of diagram literals in the figure's scope.
 pub fn refutes(figure: &Figure, facts: &[Lit], lit: &Lit) -> bool
     ensures value { result ≡ is_refuted figure.now facts.now lit.now }
-    ensures uncited { IsTrue result → IsUncited (scope_of figure.now) facts.now lit.now }
+    ensures uncited { IsTrue result → IsUncited (scope_of_figure figure.now) facts.now lit.now }
 {
     figure.is_one();
     only_it_fails(figure, facts, lit)

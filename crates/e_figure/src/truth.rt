@@ -2,7 +2,8 @@
 
 ghost use Rattle.std.specs.Ordering.{int_eq};
 ghost use Rattle.std.specs.Prelude.{pos, ◌≡◌, ◌≤◌, ◌^◌, ◌-ℤ◌, ◌*ℤ◌, IsTrue, int_lt, unsigned_abs};
-ghost use Rattle.e_figure.specs.Figure.{is_small, is_small_point, is_small_line, is_small_circle};
+ghost use Rattle.e_figure.specs.Figure.{is_small_number, is_small_point};
+ghost use Rattle.e_figure.specs.Figure.{is_small_line, is_small_circle};
 ghost use Rattle.e_figure.specs.Truth as truth;
 
 use crate::figure::{Figure, Point, Round, Straight};
@@ -46,8 +47,8 @@ fn atom_holds(figure: &Figure, atom: &Atom) -> bool
 
 /// On which side of the line, and how far.
 fn side(x: i32, y: i32, l: Straight) -> i128
-    requires x { IsTrue (is_small x) }
-    requires y { IsTrue (is_small y) }
+    requires x { IsTrue (is_small_number x) }
+    requires y { IsTrue (is_small_number y) }
     requires l { IsTrue (is_small_line l) }
     ensures value { result ≡ truth.side x y l }
     ensures size { unsigned_abs result ≤ 2 ^ 43 }
@@ -288,7 +289,7 @@ fn squared_reach(l: Straight, c: Round) -> i128
 fn line_meets(l: Straight, c: Round) -> bool
     requires l { IsTrue (is_small_line l) }
     requires c { IsTrue (is_small_circle c) }
-    ensures { result ≡ truth.line_meets l c }
+    ensures { result ≡ truth.line_meets_circle l c }
 {
     squared_side(l, c) < squared_reach(l, c)
 }

@@ -26,15 +26,15 @@ points_to n = flat_map point (numbers 0 n)
 abbrev pub points_line : ℕ → List ℕ
 points_line m = codes "points" ++ (points_to (m + 1) ++ codes "\n")
 
-abbrev pub given_line : ℕ → List ℕ
-given_line i = codes "given" ++ (between i (i + 1) (i + 2) ++ codes "\n")
+abbrev pub given_between_line : ℕ → List ℕ
+given_between_line i = codes "given" ++ (between i (i + 1) (i + 2) ++ codes "\n")
 
-abbrev pub added : ℕ → List ℕ
-added i = codes " +" ++ segment i (i + 1)
+abbrev pub plus_segment : ℕ → List ℕ
+plus_segment i = codes " +" ++ segment i (i + 1)
 
 -- the lengths between neighbours make the whole length
 abbrev pub show_sum : ℕ → List ℕ
-show_sum m = codes "show" ++ (segment 0 1 ++ (flat_map added (numbers 1 (m - 1)) ++ (codes " =" ++ (segment 0 m ++ codes "\n"))))
+show_sum m = codes "show" ++ (segment 0 1 ++ (flat_map plus_segment (numbers 1 (m - 1)) ++ (codes " =" ++ (segment 0 m ++ codes "\n"))))
 
 -- and the first is less than it
 abbrev pub show_less : ℕ → List ℕ
@@ -42,12 +42,12 @@ show_less m = codes "show" ++ (segment 0 1 ++ (codes " <" ++ (segment 0 m ++ cod
 
 -- ---- the proof
 
-abbrev pub apply_line : ℕ → ℕ → List ℕ
-apply_line k m = codes "apply G" ++ (decimal (k - 1) ++ (points_to m ++ codes "\n"))
+abbrev pub apply_previous_line : ℕ → ℕ → List ℕ
+apply_previous_line k m = codes "apply G" ++ (decimal (k - 1) ++ (points_to m ++ codes "\n"))
 
 -- the theorem before, where it has one point less
 abbrev pub earlier : ℕ → ℕ → List ℕ
-earlier k m = if nat_lt 3 m then apply_line k m else []
+earlier k m = if nat_lt 3 m then apply_previous_line k m else []
 
 -- three points in order are in order from the other end
 abbrev pub turned : ℕ → ℕ → ℕ → List ℕ
@@ -62,7 +62,7 @@ abbrev pub cites : ℕ → List ℕ
 cites i = turned (i - 1) i (i + 1) ++ (run i ++ turned (i + 1) i 0)
 
 abbrev pub hence_line : ℕ → List ℕ
-hence_line i = codes "hence" ++ (segment 0 i ++ (added i ++ (codes " =" ++ (segment 0 (i + 1) ++ codes "\n"))))
+hence_line i = codes "hence" ++ (segment 0 i ++ (plus_segment i ++ (codes " =" ++ (segment 0 (i + 1) ++ codes "\n"))))
 
 -- ---- theorem k
 
@@ -72,17 +72,17 @@ last k = 3 + (k - 1) % 6
 
 abbrev pub statement : ℕ → ℕ → List ℕ
 statement k m =
-    codes "theorem G" ++ (decimal k ++ (codes "\n" ++ (points_line m ++ (flat_map given_line (numbers 0 (m - 1)) ++ (show_sum m ++ show_less m)))))
+    codes "theorem G" ++ (decimal k ++ (codes "\n" ++ (points_line m ++ (flat_map given_between_line (numbers 0 (m - 1)) ++ (show_sum m ++ show_less m)))))
 
 abbrev pub proof : ℕ → ℕ → List ℕ
 proof k m =
     codes "proof\n" ++ (earlier k m ++ (codes "by b1b p1 p2 p3 : p1 != p2\n" ++ (turned 0 1 2
     ++ (flat_map cites (numbers 2 (m - 2)) ++ (flat_map hence_line (numbers 1 (m - 1)) ++ codes "qed\nend\n")))))
 
-abbrev pub theorem_text : ℕ → List ℕ
-theorem_text k = statement k (last k) ++ proof k (last k)
+abbrev pub generated_theorem_text : ℕ → List ℕ
+generated_theorem_text k = statement k (last k) ++ proof k (last k)
 
 -- ---- the book of n theorems
 
 abbrev pub generated_text : ℕ → List ℕ
-generated_text n = flat_map theorem_text (numbers 1 n)
+generated_text n = flat_map generated_theorem_text (numbers 1 n)

@@ -36,7 +36,8 @@ fn put_segment(out: &mut String, from: u32, to: u32) -> Result<(), AllocError>
 /// That a point is between its neighbours.
 fn put_given_line(out: &mut String, i: u32) -> Result<(), AllocError>
     requires { i < 2 ^ 16 }
-    ensures { OnOk result (string_bytes out.new ≡ string_bytes out.old ++ Generated.given_line i) }
+    ensures { OnOk result
+        (string_bytes out.new ≡ string_bytes out.old ++ Generated.given_between_line i) }
 {
     let (middle, after) = (i + 1, i + 2);
     write!(out, "given between p{i} p{middle} p{after}\n")
@@ -46,7 +47,7 @@ fn put_given_line(out: &mut String, i: u32) -> Result<(), AllocError>
 fn put_given(out: &mut String, last: u32) -> Result<(), AllocError>
     requires { (3 ≤ last) × (last < 2 ^ 16) }
     ensures { OnOk result (string_bytes out.new ≡ string_bytes out.old
-        ++ flat_map Generated.given_line (numbers 0 (last - 1))) }
+        ++ flat_map Generated.given_between_line (numbers 0 (last - 1))) }
 {
     for i in 0..last - 1 {
         put_given_line(out, i)?;
@@ -57,7 +58,8 @@ fn put_given(out: &mut String, last: u32) -> Result<(), AllocError>
 /// One more length of a sum.
 fn put_added(out: &mut String, i: u32) -> Result<(), AllocError>
     requires { i < 2 ^ 16 }
-    ensures { OnOk result (string_bytes out.new ≡ string_bytes out.old ++ Generated.added i) }
+    ensures { OnOk result
+        (string_bytes out.new ≡ string_bytes out.old ++ Generated.plus_segment i) }
 {
     let after = i + 1;
     write!(out, " + seg p{i} p{after}")
@@ -67,7 +69,7 @@ fn put_added(out: &mut String, i: u32) -> Result<(), AllocError>
 fn put_sum(out: &mut String, last: u32) -> Result<(), AllocError>
     requires { (3 ≤ last) × (last < 2 ^ 16) }
     ensures { OnOk result (string_bytes out.new ≡ string_bytes out.old
-        ++ flat_map Generated.added (numbers 1 (last - 1))) }
+        ++ flat_map Generated.plus_segment (numbers 1 (last - 1))) }
 {
     for i in 1..last {
         put_added(out, i)?;
@@ -214,7 +216,7 @@ fn put_proof(out: &mut String, number: u32, last: u32) -> Result<(), AllocError>
 fn put_theorem(out: &mut String, number: u32) -> Result<(), AllocError>
     requires { 1 ≤ number }
     ensures { OnOk result
-        (string_bytes out.new ≡ string_bytes out.old ++ Generated.theorem_text number) }
+        (string_bytes out.new ≡ string_bytes out.old ++ Generated.generated_theorem_text number) }
 {
     let last = 3 + (number - 1) % 6;
     put_statement(out, number, last)?;

@@ -8,7 +8,7 @@ use Rattle.e_names.specs.TitledStatements.{TitledStatement, stated_by}
 use Rattle.e_book.specs.TheoremViews.{TheoremView}
 use Rattle.e_line.proofs.Bound.{bind_ok}
 use Rattle.e_read.specs.declared.reading.BlockParser.{BlockParser}
-use Rattle.e_read.specs.Text.{Piece, Derived, Last, at_start, taken, garbled_at, finished, or_on, is_end, piece_from}
+use Rattle.e_read.specs.Text.{TextPiece, Derived, Last, at_start, parser_after_line, garbled_at, finished, or_on, is_end, piece_from}
 use Rattle.e_read.proofs.TakenLines.{either}
 use Rattle.e_verify.proofs.checking.PassedLines.{all_pass}
 use Rattle.e_judgement.specs.declared.judgement.Judgement.{Judgement}
@@ -19,26 +19,26 @@ use Rattle.e_judgement.specs.Laws.{EachTextIsJudged}
 -- ---- fewer lines are left after what is read
 
 abbrev Found : Type 0
-Found = Piece × Rest
+Found = TextPiece × Rest
 
-abbrev found : Piece → Rest → Result Found ℕ
+abbrev found : TextPiece → Rest → Result Found ℕ
 found p rest = Ok (p, rest)
 
-same_rest : (p q : Piece) (xs ys : Rest) → found p xs ≡ found q ys → xs ≡ ys
+same_rest : (p q : TextPiece) (xs ys : Rest) → found p xs ≡ found q ys → xs ≡ ys
 same_rest p q xs ys e = ap (λ (a : Found). a.1) (inside (p, xs) (q, ys) e) where
   inside : (a b : Found) → let x : Result Found ℕ = Ok a in x ≡ Ok b → a ≡ b
   inside a b e = cc
 
-shorter_on : (t : Option TheoremView) (lines rest : Rest) (more : Result Found ℕ) (p : Piece) → or_on t lines more ≡ found p rest → (more ≡ found p rest → length rest < length lines) → length rest < suc (length lines)
+shorter_on : (t : Option TheoremView) (lines rest : Rest) (more : Result Found ℕ) (p : TextPiece) → or_on t lines more ≡ found p rest → (more ≡ found p rest → length rest < length lines) → length rest < suc (length lines)
 shorter_on None lines rest more p e h = omega (arith, h e)
 shorter_on (Some x) lines rest more p e h = omega (arith, ap length (same_rest (Derived x) p lines rest e))
 
-shorter : (known : List TitledStatement) (last : ℕ) (r : BlockParser) (lines : Rest) (p : Piece) (rest : Rest) → piece_from known last r lines ≡ found p rest → length rest < length lines
+shorter : (known : List TitledStatement) (last : ℕ) (r : BlockParser) (lines : Rest) (p : TextPiece) (rest : Rest) → piece_from known last r lines ≡ found p rest → length rest < length lines
 unfolding piece_from
 shorter known last r [] p rest e = absurd cc
 shorter known last r (Err f ∷ lines) p rest e = absurd cc
 shorter known last r (Ok l ∷ lines) p rest e =
-    let next : Result BlockParser ℕ = garbled_at l.number (taken known r l) in
+    let next : Result BlockParser ℕ = garbled_at l.number (parser_after_line known r l) in
     let then : BlockParser → Result Found ℕ = λ x. or_on (finished x.parser x.kept) lines (piece_from known last x lines) in
     elim (either (is_end known r.parser l) (found Last lines) (next >>= then) (found p rest) e) [
       | inl q ↦ omega (arith, ap length (same_rest Last p lines rest q.1))

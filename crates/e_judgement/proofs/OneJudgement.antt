@@ -8,7 +8,7 @@ use Rattle.e_deriv.specs.Lines.{Line, first_failure}
 use Rattle.e_deriv.specs.Certified.{is_certified, derivation_lines, verdict}
 use Rattle.e_names.specs.TitledStatements.{TitledStatement, stated_by}
 use Rattle.e_book.specs.TheoremViews.{TheoremView}
-use Rattle.e_read.specs.Text.{Piece, Derived, Last}
+use Rattle.e_read.specs.Text.{TextPiece, Derived, Last}
 use Rattle.e_read.proofs.Bridge.{no_last, derived_is}
 use Rattle.e_judgement.specs.declared.judgement.Judgement.{Judgement}
 use Rattle.e_judgement.specs.declared.judgement.Judgement.TheVariants.{Bad, Garbled}
@@ -16,7 +16,7 @@ use Rattle.e_judgement.specs.Judged.{Rest, with_theorem, ReadsNext, IsCertified,
 
 -- what was read, and the lines after it
 abbrev Found : Type 0
-Found = Piece × Rest
+Found = TextPiece × Rest
 
 -- what reading gives
 abbrev Answer : Type 0

@@ -15,17 +15,17 @@ use Rattle.e_book.specs.HasSpelling.{HasSpelling}
 use Rattle.e_book.proofs.Fitting.{fitting}
 use Rattle.e_book.proofs.WrittenScripts.{erased_literals, written_well}
 use Rattle.e_verify.specs.Verdicts.{IsVerifiable}
-use Rattle.e_read.specs.Text.{at_start, piece_from, bare}
+use Rattle.e_read.specs.Text.{at_start, piece_from, without_certs}
 use Rattle.e_read.proofs.Bridge.{derives}
 use Rattle.e_read.proofs.GoodReadings.{good_certs_read}
 use Rattle.e_judgement.proofs.WithCertificates.{size_erased, small_with}
 
-pub verifiable : (v : Version) (known : List TitledStatement) (last : ℕ) (lines rest : List (Result LineView LineFault)) (t : TheoremView) → list_all is_small_statement (stated_by known) ≡ true → is_small_statement (stated t.statement) ≡ true → HasSpelling known (bare t)
+pub verifiable : (v : Version) (known : List TitledStatement) (last : ℕ) (lines rest : List (Result LineView LineFault)) (t : TheoremView) → list_all is_small_statement (stated_by known) ≡ true → is_small_statement (stated t.statement) ≡ true → HasSpelling known (without_certs t)
     → piece_from known last (at_start v) lines ≡ derives t rest → IsVerifiable (stated_by known) (stated t.statement) t.script
 verifiable v known last lines rest t states small spelled e =
     let bs = stated_by known in
     let st = stated t.statement in
-    let fit : IsFitting bs st (erased t.script) = fitting known (bare t) states spelled.fits in
+    let fit : IsFitting bs st (erased t.script) = fitting known (without_certs t) states spelled.fits in
     record {
       statements = states;
       statement = small;

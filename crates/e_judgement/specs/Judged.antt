@@ -2,7 +2,7 @@
 -- block in which a line has no form at its place or is not certified.
 use Rattle.std.specs.Prelude.{◌≡◌, ◌⊎◌, ℕ, ◌+◌, Bool, ◌&&◌, List, [], ◌∷◌, ◌++◌, length, codes, Option, Some, None, Result, Ok, Err, if◌then◌else◌}
 use Rattle.std.specs.Str.{bytes_eq}
-use Rattle.e_text.specs.Lines.{LineView, lines_of, fault_line}
+use Rattle.e_text.specs.Lines.{LineView, lines_of, line_of_fault}
 use Rattle.e_text.specs.declared.line.LineFault.{LineFault}
 use Rattle.e_clause.specs.declared.cert.Version.{Version}
 use Rattle.e_clause.specs.declared.cert.Version.TheVariants.{One, Two}
@@ -39,14 +39,14 @@ Passes v last known lines (t ∷ ts) now rest =
     (after : Rest) × ReadsNext v last known lines t after × IsCertified known t × Passes v last (with_theorem known t) after ts now rest
 
 -- the number of a line
-abbrev pub number_of : Result LineView LineFault → ℕ
-number_of (Ok l) = l.number
-number_of (Err f) = fault_line f
+abbrev pub number_of_line : Result LineView LineFault → ℕ
+number_of_line (Ok l) = l.number
+number_of_line (Err f) = line_of_fault f
 
 -- nothing stands after the last line
 abbrev pub JudgedAfter : ℕ → Rest → Judgement
 JudgedAfter n [] = Verified n
-JudgedAfter n (x ∷ xs) = Garbled (number_of x)
+JudgedAfter n (x ∷ xs) = Garbled (number_of_line x)
 
 -- the last line comes
 abbrev pub EndsThere : Version → ℕ → List TitledStatement → Rest → Judgement → Type 0

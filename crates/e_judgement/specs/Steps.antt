@@ -9,7 +9,7 @@ use Rattle.e_book.specs.Grammar.{last_line}
 use Rattle.e_names.specs.TitledStatements.{TitledStatement, stated_by}
 use Rattle.e_book.specs.TheoremViews.{TheoremView, entry_of}
 use Rattle.e_book.specs.HasSpelling.{HasSpelling}
-use Rattle.e_read.specs.Text.{bare}
+use Rattle.e_read.specs.Text.{without_certs}
 use Rattle.e_verify.specs.Verdicts.{IsVerifiable}
 use Rattle.e_judgement.specs.declared.next.NextItem.{NextItem}
 use Rattle.e_judgement.specs.declared.next.NextItem.TheVariants.{Theorem, End}
@@ -22,7 +22,7 @@ pub record IsNextCertified (v : Version) (known : List TitledStatement) (last : 
   pub certified : IsCertified known t
   pub verifiable : IsVerifiable (stated_by known) (stated t.statement) t.script
   pub version : IsTrue (has_certs_of v t.script)
-  pub spelled : HasSpelling known (bare t)
+  pub spelled : HasSpelling known (without_certs t)
   pub states : IsTrue (is_small_statement (stated t.statement))
 
 -- with this known, this is next

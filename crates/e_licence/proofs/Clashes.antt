@@ -13,7 +13,7 @@ use Rattle.e_clause.specs.declared.cert.Against.TheVariants.{Clash, Metric as Me
 use Rattle.e_clause.specs.declared.cert.MetricCert.{MetricCert}
 use Rattle.e_clause.specs.Clash.{clash, clashes_at}
 use Rattle.e_clause.specs.Judged.{are_limited_facts}
-use Rattle.e_clause.specs.MetricCertificate.{sums_in, metric_contradicts}
+use Rattle.e_clause.specs.MetricCertificate.{are_sums_in, metric_contradicts}
 use Rattle.e_clause.specs.Wide.{IsTooWideContradiction}
 use Rattle.e_metric.proofs.terms.FirstTerms.{take_one}
 use Rattle.e_metric.proofs.rows.SystemRows.{all_at}
@@ -65,7 +65,7 @@ by_clash b l g h = record {
 
 pub by_sums : (b : Basis) (m : MetricCert) → are_limited_facts b.scope b.facts ≡ true → IsMetricCertificate b.facts None m → IsCertifiedAgainst b (MetricAgainst m)
 by_sums b m g h = record {
-  certifies = and_from (sums_in b.scope m.sums) (metric_contradicts b.facts m) (h.scoped b.scope (in_scope b.scope b.facts g) refl) h.refutes;
+  certifies = and_from (are_sums_in b.scope m.sums) (metric_contradicts b.facts m) (h.scoped b.scope (in_scope b.scope b.facts g) refl) h.refutes;
   written = h.written;
 }
 

@@ -9,7 +9,7 @@ use Rattle.e_literal.specs.Literal.{all_in_scope}
 use Rattle.e_literal.specs.WellFormed.{is_well_formed}
 use Rattle.e_literal.proofs.Booleans.{and_left, and_right}
 use Rattle.e_clause.specs.Assignment.{terms_of_lits}
-use Rattle.e_clause.specs.Judged.{are_well_formed_in, are_few, most_terms, are_limited_facts}
+use Rattle.e_clause.specs.Judged.{are_well_formed_in, are_few, most_terms_of_step, are_limited_facts}
 use Rattle.e_transfer.proofs.Needs.{facts_well, facts_over}
 
 -- good facts are well formed
@@ -25,4 +25,4 @@ at_most : (n m : ℕ) → nat_le n m ≡ true → n ≤ m
 at_most n m h = grind (arith, nat_tests)
 
 pub few_terms : (s : Scope) (facts : List Lit) → are_limited_facts s facts ≡ true → length (terms_of_lits facts) ≤ 1100
-few_terms s facts h = at_most (length (terms_of_lits facts)) most_terms (and_right (are_well_formed_in s facts) (are_few facts) h)
+few_terms s facts h = at_most (length (terms_of_lits facts)) most_terms_of_step (and_right (are_well_formed_in s facts) (are_few facts) h)

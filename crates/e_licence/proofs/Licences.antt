@@ -14,7 +14,7 @@ use Rattle.e_clause.specs.declared.cert.Cert.TheVariants.{Plain, Transfer}
 use Rattle.e_clause.specs.declared.cert.TransferCert.{TransferCert}
 use Rattle.e_clause.specs.Judged.{is_well_formed_in, are_limited_facts}
 use Rattle.e_clause.specs.Metric.{MetricConsequence}
-use Rattle.e_clause.specs.MetricCertificate.{sums_in, sums_refute, metric_certifies}
+use Rattle.e_clause.specs.MetricCertificate.{are_sums_in, sums_refute, metric_certifies}
 use Rattle.e_clause.specs.Transfer.{Stands, NegationsStand, TransferConsequence}
 use Rattle.e_clause.specs.TransferCertificate.{transfer_certifies, transfer_in}
 use Rattle.e_clause.specs.Wide.{TransferFromFacts, IsPlain, IsTooWideLit}
@@ -32,7 +32,7 @@ use Rattle.e_licence.proofs.GoodLiterals.{in_scope}
 pub by_sums : (b : Basis) (l : Lit) (m : MetricCert) → are_limited_facts b.scope b.facts ≡ true → is_well_formed_in b.scope l ≡ true → has b.facts l ≡ false → is_metric l ≡ true
     → IsMetricCertificate b.facts (Some l) m → IsCertifiedBy b l (Plain (Metric m))
 by_sums b l m g k n e h = record {
-  certifies = and_from (sums_in b.scope m.sums) (metric_certifies b.facts l m)
+  certifies = and_from (are_sums_in b.scope m.sums) (metric_certifies b.facts l m)
       (h.scoped b.scope (in_scope b.scope b.facts g) (and_left (all_in_scope b.scope l) (is_well_formed l) k))
       (and_from (is_metric l) (sums_refute b.facts (Some l) m.sums) e h.refutes);
   as_fact = λ f. absurd (true≢false (sym f ∙ n));

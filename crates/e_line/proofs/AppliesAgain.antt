@@ -7,8 +7,8 @@ use Rattle.e_text.specs.Tokens.{AreTokens}
 use Rattle.e_text.proofs.TokenWords.{is_token-name, is_token-title}
 use Rattle.e_line.specs.declared.fault.FaultKind.{FaultKind}
 use Rattle.e_line.specs.declared.applies.RawApply.{RawApply}
-use Rattle.e_line.specs.Reading.{◌>>=◌, word_at, title_at, cut_at}
-use Rattle.e_line.specs.Applies.{is_blank, arguments_of, made_names, apply_of}
+use Rattle.e_line.specs.Reading.{◌>>=◌, word_at, first_title, cut_at}
+use Rattle.e_line.specs.Applies.{is_blank_argument, arguments_of, made_names, apply_of}
 use Rattle.e_line.specs.Canonical.{argument_word, made_words, apply_words}
 use Rattle.e_line.specs.HasSpelling.{AreNames}
 use Rattle.e_line.proofs.Bound.{name_differs}
@@ -55,7 +55,7 @@ arguments_again : (args : List (Option (List ℕ))) → AreArguments args → ar
 arguments_again [] h = refl
 arguments_again (None ∷ args) h = rw (arguments_again args h) refl
 arguments_again (Some n ∷ args) h =
-    let no_blank : is_blank n ≡ false = name_differs n (codes "_") h.0 refl in
+    let no_blank : is_blank_argument n ≡ false = name_differs n (codes "_") h.0 refl in
     rw (no_blank, named n h.0, arguments_again args h.1) refl
 
 abbrev raw : List ℕ → List (Option (List ℕ)) → List (List ℕ) → RawApply
@@ -65,7 +65,7 @@ abbrev apply_from : List ℕ → List (List ℕ) × List (List ℕ) × Bool → 
 apply_from title parts = arguments_of parts.0 >>= λ args. made_names parts.2 parts.1 >>= λ new. Ok (raw title args new)
 
 titled_first : (title : List ℕ) (ws : List (List ℕ)) → is_title title ≡ true → apply_of (title ∷ ws) ≡ apply_from title (cut_at (codes "as") ws)
-unfolding apply_of title_at word_at
+unfolding apply_of first_title word_at
 titled_first title ws h = rw (titled title h) refl
 
 read_line : (title : List ℕ) (args : List (Option (List ℕ))) (new : List (List ℕ)) → is_title title ≡ true → AreArguments args → AreNames new

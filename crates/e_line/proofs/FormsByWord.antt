@@ -12,18 +12,18 @@ use Rattle.e_line.specs.declared.superposes.RawSuperpose.{RawSuperpose}
 use Rattle.e_line.specs.declared.applies.RawApply.{RawApply}
 use Rattle.e_line.specs.declared.raw_line.RawLine.{RawLine}
 use Rattle.e_line.specs.declared.raw_line.RawLine.TheVariants as rawlines
-use Rattle.e_line.specs.Reading.{◌>>=◌, word_at, title_at, end_at, cut_at, names_of, some_names}
+use Rattle.e_line.specs.Reading.{◌>>=◌, word_at, first_title, end_at, cut_at, names_of, some_names}
 use Rattle.e_line.specs.Literals.{lit_of, diagram_lit_of, lits_of}
 use Rattle.e_line.specs.Superposes.{superpose_of}
 use Rattle.e_line.specs.Lets.{let_of}
 use Rattle.e_line.specs.Applies.{apply_of}
-use Rattle.e_line.specs.RawLines.{declare_of, sort_of, made_of, by_of, theorem_of, bare, raw_line_named, raw_line_of}
+use Rattle.e_line.specs.RawLines.{declare_of, sort_of, made_of, by_of, theorem_line_of, bare, raw_line_named, raw_line_of}
 use Rattle.e_line.proofs.Bound.{bind_ok, read_ok}
 use Rattle.e_line.proofs.Choices.{either, passed, of_reading}
 
 -- what holds of the forms of each kind, by what their words are read as
 pub record OfEachForm (P : RawLine → Type 0) : Type 0 where
-  pub of_theorem : (ws : List (List ℕ)) (t : List ℕ × List (List ℕ)) → title_at ws ≡ Ok t → P (rawlines.Theorem t.0)
+  pub of_theorem : (ws : List (List ℕ)) (t : List ℕ × List (List ℕ)) → first_title ws ≡ Ok t → P (rawlines.Theorem t.0)
   pub of_declare : (sort : Sort) (ws ns : List (List ℕ)) → some_names ws ≡ Ok ns → P (rawlines.Declare sort ns)
   pub of_made : (sort : Sort) (ws ns : List (List ℕ)) → some_names ws ≡ Ok ns → P (rawlines.Made sort ns)
   pub of_given : (ws : List (List ℕ)) (ls : List RawLit) → lits_of ws ≡ Ok ls → P (rawlines.Given ls)
@@ -41,10 +41,10 @@ pub record OfEachForm (P : RawLine → Type 0) : Type 0 where
   pub of_else : P rawlines.Else
   pub of_end : P rawlines.End
 
-theorem_by_word : (P : RawLine → Type 0) → OfEachForm P → (ws : List (List ℕ)) (f : RawLine) → theorem_of ws ≡ Ok f → P f
-unfolding theorem_of
+theorem_by_word : (P : RawLine → Type 0) → OfEachForm P → (ws : List (List ℕ)) (f : RawLine) → theorem_line_of ws ≡ Ok f → P f
+unfolding theorem_line_of
 theorem_by_word P h ws f e =
-    let a = bind_ok (title_at ws) (λ t. end_at t.1 >>= λ none. read_ok (rawlines.Theorem t.0)) f e in
+    let a = bind_ok (first_title ws) (λ t. end_at t.1 >>= λ none. read_ok (rawlines.Theorem t.0)) f e in
     of_reading P (end_at a.0.1) (λ none. rawlines.Theorem a.0.0) f (λ none k. h.of_theorem ws a.0 a.1) a.2
 
 declare_by_word : (P : RawLine → Type 0) → OfEachForm P → (sort : Sort) (ws : List (List ℕ)) (f : RawLine) → declare_of sort ws ≡ Ok f → P f
@@ -62,7 +62,7 @@ by_by_word : (P : RawLine → Type 0) → OfEachForm P → (ws : List (List ℕ)
 unfolding by_of
 by_by_word P h ws f e =
     let rest : List ℕ × List (List ℕ) → Result RawLine FaultKind = λ r. cond (cut_at (codes ":") r.1).2 (names_of (cut_at (codes ":") r.1).0 >>= λ ns. diagram_lit_of (cut_at (codes ":") r.1).1 >>= λ l. read_ok (rawlines.By r.0 ns l)) (Err Malformed) in
-    let a = bind_ok (title_at ws) rest f e in
+    let a = bind_ok (first_title ws) rest f e in
     let parts = cut_at (codes ":") a.0.1 in
     let b = passed parts.2 (names_of parts.0 >>= λ ns. diagram_lit_of parts.1 >>= λ l. read_ok (rawlines.By a.0.0 ns l)) f a.2 in
     let c = bind_ok (names_of parts.0) (λ ns. diagram_lit_of parts.1 >>= λ l. read_ok (rawlines.By a.0.0 ns l)) f b.1 in
@@ -97,7 +97,7 @@ named_by_word P h w ws f e =
     let r4 : Result RawLine FaultKind = cond (bytes_eq w (codes "circles")) (declare_of Circle ws) r5 in
     let r3 : Result RawLine FaultKind = cond (bytes_eq w (codes "lines")) (declare_of Line ws) r4 in
     let r2 : Result RawLine FaultKind = cond (bytes_eq w (codes "points")) (declare_of Point ws) r3 in
-    either P (bytes_eq w (codes "theorem")) (theorem_of ws) r2 f e (theorem_by_word P h ws f) (λ e1.
+    either P (bytes_eq w (codes "theorem")) (theorem_line_of ws) r2 f e (theorem_by_word P h ws f) (λ e1.
     either P (bytes_eq w (codes "points")) (declare_of Point ws) r3 f e1 (declare_by_word P h Point ws f) (λ e2.
     either P (bytes_eq w (codes "lines")) (declare_of Line ws) r4 f e2 (declare_by_word P h Line ws f) (λ e3.
     either P (bytes_eq w (codes "circles")) (declare_of Circle ws) r5 f e3 (declare_by_word P h Circle ws f) (λ e4.

@@ -12,13 +12,13 @@ use Rattle.e_line.specs.declared.items.Listing.{Listing}
 use Rattle.e_line.specs.declared.items.Listing.TheVariants as listings
 use Rattle.e_line.specs.declared.items.BookLine.{BookLine}
 use Rattle.e_line.specs.declared.items.BookLine.TheVariants.{Plain, Define, Listed}
-use Rattle.e_line.specs.Reading.{◌>>=◌, or_malformed, each, title_at, end_at, names_of}
+use Rattle.e_line.specs.Reading.{◌>>=◌, or_malformed, each, first_title, end_at, names_of}
 use Rattle.e_line.specs.Literals.{is_semicolon, lit_of}
 use Rattle.e_line.specs.Lets.{are_words_of, new_words, argument_words}
 use Rattle.e_line.specs.Superposes.{superpose_pieces}
 use Rattle.e_line.specs.RawLines.{raw_line_named, raw_line_of}
 use Rattle.e_line.specs.HasSpelling.{AreNames}
-use Rattle.e_line.specs.Items.{is_as, as_of, item_of, items_of, has_item, define_of, placing_of, listed, line_named, line_of}
+use Rattle.e_line.specs.Items.{is_as, as_of, item_of, items_of, has_item, define_of, placing_of, listed, line_named, book_line_of}
 use Rattle.e_line.proofs.Bound.{bind_ok, ok_is, read_ok, each_length}
 use Rattle.e_line.proofs.Choices.{either, passed, of_reading}
 use Rattle.e_line.proofs.SaidLits.{lit_said}
@@ -69,7 +69,7 @@ listed_said words line ws l h e = of_reading (LineSaid words) (items_of ws) (λ 
 define_said : (words ws : List (List ℕ)) (l : BookLine) → define_of ws ≡ Ok l → LineSaid words l
 unfolding define_of
 define_said words ws l e =
-    let t = bind_ok (title_at ws) (λ t. end_at t.1 >>= λ none. read_ok (Define t.0)) l e in
+    let t = bind_ok (first_title ws) (λ t. end_at t.1 >>= λ none. read_ok (Define t.0)) l e in
     of_reading (LineSaid words) (end_at t.0.1) (λ none. Define t.0.0) l (λ none k. title_said ws t.0 t.1) t.2
 
 placing_said : (head : List (List ℕ)) (line : Listing) → placing_of head ≡ Ok line → ListingSaid line
@@ -108,7 +108,7 @@ named_said w ws l e =
     (λ k. let a = bind_ok (placing_of (take 13 ws)) (λ line. listed line (drop 13 ws)) l k in listed_said (w ∷ ws) a.0 (drop 13 ws) l (placing_said (take 13 ws) a.0 a.1) a.2)
     (plain_said w ws l)))))
 
-pub line_read_as : (words : List (List ℕ)) (l : BookLine) → line_of words ≡ Ok l → LineSaid words l
-unfolding line_of
+pub line_read_as : (words : List (List ℕ)) (l : BookLine) → book_line_of words ≡ Ok l → LineSaid words l
+unfolding book_line_of
 line_read_as [] l e = absurd cc
 line_read_as (w ∷ ws) l e = named_said w ws l e

@@ -16,7 +16,7 @@ use Rattle.e_line.specs.declared.literal.RawLit.{RawLit}
 use Rattle.e_line.specs.declared.literal.RawAtom.{RawAtom}
 use Rattle.e_line.specs.declared.literal.RawAtom.TheVariants as raw
 use Rattle.e_line.specs.Reading.{each}
-use Rattle.e_line.specs.Literals.{sign_of, is_sign, object_of, sums_of, equal_sides, sides_of, negation_of, compared, signed, related, signed_of, lit_of, is_diagram_raw, diagram_lit_of, is_semicolon, lits_of}
+use Rattle.e_line.specs.Literals.{sign_of, is_sign, single_name, sums_of, equal_sides, sides_of, negation_of, compared, signed, related, signed_of, lit_of, is_diagram_raw, diagram_lit_of, is_semicolon, lits_of}
 use Rattle.e_line.specs.Canonical.{sum_words, sums_words, atom_words, signed_words, lit_words, more_words, lits_words}
 use Rattle.e_line.proofs.NamesAgain.{Without, named, first_place}
 use Rattle.e_line.proofs.LetsAgain.{append_tokens}
@@ -130,7 +130,7 @@ sides_again : (x y : List RawMono) → SidesNamed x y → sums_of (sum_words x) 
 unfolding sums_of
 sides_again x y h = rw (sum_again x h.left, sum_again y h.right, h.some) refl
 
-equal_again : (x y : List RawMono) → SidesNamed x y → equal_sides (object_of (sum_words x)) (object_of (sum_words y)) (sums_of (sum_words x) (sum_words y)) ≡ Ok (raw.SumsEqual x y)
+equal_again : (x y : List RawMono) → SidesNamed x y → equal_sides (single_name (sum_words x)) (single_name (sum_words y)) (sums_of (sum_words x) (sum_words y)) ≡ Ok (raw.SumsEqual x y)
 equal_again x y h = rw (sum_no_object x, sides_again x y h) refl
 
 sums_equal : (x y : List RawMono) → SidesNamed x y → compared false (sums_words x (codes "=") y) ≡ Ok (signed false (raw.SumsEqual x y))

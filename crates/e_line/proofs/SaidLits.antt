@@ -19,7 +19,7 @@ use Rattle.e_line.specs.declared.literal.RawAtom.{RawAtom}
 use Rattle.e_line.specs.declared.literal.RawAtom.TheVariants as raw
 use Rattle.e_line.specs.Reading.{◌>>=◌, each}
 use Rattle.e_line.specs.Sums.{term_named, term_of, coefficient_of, counted_term, mono_of, is_plus, is_zero, sum_of}
-use Rattle.e_line.specs.Literals.{is_sign, object_of, sums_of, equal_sides, sides_of, negation_of, sign_first, compared, signed, lit_of, is_diagram_raw, diagram_lit_of, is_semicolon, lits_of}
+use Rattle.e_line.specs.Literals.{is_sign, single_name, sums_of, equal_sides, sides_of, negation_of, sign_first, compared, signed, lit_of, is_diagram_raw, diagram_lit_of, is_semicolon, lits_of}
 use Rattle.e_line.proofs.Bound.{bind_ok, ok_is, read_ok}
 use Rattle.e_line.proofs.Choices.{passed}
 use Rattle.e_line.proofs.LitsByWord.{OfEachRelation, lit_by_word}
@@ -147,8 +147,8 @@ equal_said None y left right a e = from_sums raw.SumsEqual (λ x y h. h) left ri
 
 sides_said : (s : Sign) (left right : List (List ℕ)) (a : RawAtom) → sides_of s left right ≡ Ok a → AtomSaid a
 unfolding sides_of
-sides_said signs.Equal left right a e = equal_said (object_of left) (object_of right) left right a e
-sides_said signs.Differ left right a e = equal_said (object_of left) (object_of right) left right a e
+sides_said signs.Equal left right a e = equal_said (single_name left) (single_name right) left right a e
+sides_said signs.Differ left right a e = equal_said (single_name left) (single_name right) left right a e
 sides_said signs.Less left right a e = from_sums raw.SumsLess (λ x y h. h) left right a e
 sides_said signs.AtMost left right a e = from_sums raw.SumsAtMost (λ x y h. h) left right a e
 

@@ -17,9 +17,9 @@ use Rattle.e_line.specs.declared.sum.RawTerm.{RawTerm}
 use Rattle.e_line.specs.declared.sum.RawTerm.TheVariants.{Seg, Ang, Area, Right}
 use Rattle.e_line.specs.declared.sum.RawMono.{RawMono}
 use Rattle.e_line.specs.Limits.{most_coefficient}
-use Rattle.e_line.specs.Reading.{each, two_names, three_names, word_at, name_at, end_at}
+use Rattle.e_line.specs.Reading.{each, two_names, three_names, word_at, first_name, end_at}
 use Rattle.e_line.specs.Sums.{term_named, term_of, coefficient_of, counted_term, mono_of, is_plus, is_zero, sum_of}
-use Rattle.e_line.specs.Literals.{object_of}
+use Rattle.e_line.specs.Literals.{single_name}
 use Rattle.e_line.specs.Canonical.{term_words, coefficient_words, mono_words, more_monos, sum_words}
 use Rattle.e_line.proofs.NamesAgain.{Without, named}
 use Rattle.e_line.proofs.LetsAgain.{append_tokens}
@@ -142,11 +142,11 @@ sum_tokens (m ∷ ms) h = append_tokens (mono_words m) (more_monos ms) (mono_tok
 -- ---- terms and monomials are read again
 
 pub two_again : (x y : List ℕ) → is_name x ≡ true → is_name y ≡ true → two_names (x ∷ y ∷ []) ≡ Ok (x, y)
-unfolding two_names word_at name_at end_at
+unfolding two_names word_at first_name end_at
 two_again x y hx hy = rw (named x hx, named y hy) refl
 
 pub three_again : (x y z : List ℕ) → is_name x ≡ true → is_name y ≡ true → is_name z ≡ true → three_names (x ∷ y ∷ z ∷ []) ≡ Ok (x, y, z)
-unfolding three_names word_at name_at end_at
+unfolding three_names word_at first_name end_at
 three_again x y z hx hy hz = rw (named x hx, named y hy, named z hz) refl
 
 pub term_again : (t : RawTerm) → TermNamed t → term_of (term_words t) ≡ Ok t
@@ -241,24 +241,24 @@ right_no_name : is_name (codes "right") ≡ false
 unfolding reserved_words
 right_no_name = refl
 
-term_no_object : (t : RawTerm) (ws : List (List ℕ)) → object_of (term_words t ++ ws) ≡ None
+term_no_object : (t : RawTerm) (ws : List (List ℕ)) → single_name (term_words t ++ ws) ≡ None
 term_no_object (Seg x y) ws = refl
 term_no_object (Ang x y z) ws = refl
 term_no_object (Area x y z) ws = refl
 term_no_object Right [] = rw right_no_name refl
 term_no_object Right (w ∷ ws) = refl
 
-counted_no_object : (n : List ℕ) (t : RawTerm) (ws : List (List ℕ)) → object_of (n ∷ term_words t ++ ws) ≡ None
+counted_no_object : (n : List ℕ) (t : RawTerm) (ws : List (List ℕ)) → single_name (n ∷ term_words t ++ ws) ≡ None
 counted_no_object n (Seg x y) ws = refl
 counted_no_object n (Ang x y z) ws = refl
 counted_no_object n (Area x y z) ws = refl
 counted_no_object n Right ws = refl
 
-mono_no_object : (b : Bool) (n : List ℕ) (t : RawTerm) (ws : List (List ℕ)) → object_of ((cond b [] (n ∷ []) ++ term_words t) ++ ws) ≡ None
+mono_no_object : (b : Bool) (n : List ℕ) (t : RawTerm) (ws : List (List ℕ)) → single_name ((cond b [] (n ∷ []) ++ term_words t) ++ ws) ≡ None
 mono_no_object true n t ws = term_no_object t ws
 mono_no_object false n t ws = counted_no_object n t ws
 
-pub sum_no_object : (ms : List RawMono) → object_of (sum_words ms) ≡ None
+pub sum_no_object : (ms : List RawMono) → single_name (sum_words ms) ≡ None
 sum_no_object [] = refl
 sum_no_object (m ∷ ms) = mono_no_object (m.coeff == 1) (decimal m.coeff) m.term (more_monos ms)
 

@@ -5,7 +5,7 @@ use Rattle.e_text.specs.Names.{reserved_words}
 use Rattle.e_text.specs.Tokens.{is_token, AreTokens}
 use Rattle.e_text.proofs.TokenWords.{is_token-name}
 use Rattle.e_line.specs.declared.superposes.RawSuperpose.{RawSuperpose}
-use Rattle.e_line.specs.Superposes.{superpose_pieces, head_of, superpose_of}
+use Rattle.e_line.specs.Superposes.{superpose_pieces, raw_superpose_of, superpose_of}
 use Rattle.e_line.specs.Canonical.{filled, lits_words, superpose_words}
 use Rattle.e_line.specs.HasSpelling.{AreNames}
 use Rattle.e_line.proofs.NamesAgain.{names_again}
@@ -32,8 +32,8 @@ pub superpose_tokens : (s : RawSuperpose) → SuperposeNamed s → AreTokens (su
 superpose_tokens s g =
     append_tokens (front s) (lits_words s.shown) (all_filled (λ w. is_token w ≡ true) is_token-name own_word_token superpose_pieces s.new s.args own g.new_names g.argument_names) (lits_tokens s.shown g.shown)
 
-head_again : (s : RawSuperpose) → SuperposeNamed s → head_of (front s) (lits_words s.shown) ≡ Ok s
-unfolding head_of
+head_again : (s : RawSuperpose) → SuperposeNamed s → raw_superpose_of (front s) (lits_words s.shown) ≡ Ok s
+unfolding raw_superpose_of
 head_again s g =
     let ps = superpose_pieces in
     rw (filled_again ps s.new s.args g.new_names g.argument_names g.made g.arguments, new_again ps s.new s.args g.made g.arguments, arguments_again ps s.new s.args g.made g.arguments, names_again s.new g.new_names, names_again s.args g.argument_names, lits_again s.shown g.shown) refl
@@ -43,8 +43,8 @@ unfolding superpose_of
 superpose_again s g =
     let rest = lits_words s.shown in
     let n : length (front s) ≡ 13 = length-filled superpose_pieces s.new s.args g.made g.arguments in
-    ap (λ (ws : List (List ℕ)). head_of ws (drop 13 (front s ++ rest))) (take_at (front s) rest 13 n)
-    ∙ ap (λ (ws : List (List ℕ)). head_of (front s) ws) (drop_at (front s) rest 13 n) ∙ head_again s g
+    ap (λ (ws : List (List ℕ)). raw_superpose_of ws (drop 13 (front s ++ rest))) (take_at (front s) rest 13 n)
+    ∙ ap (λ (ws : List (List ℕ)). raw_superpose_of (front s) ws) (drop_at (front s) rest 13 n) ∙ head_again s g
 
 -- after the thirteen words before them
 pub lits_after : (s : RawSuperpose) → SuperposeNamed s → drop 13 (superpose_words s) ≡ lits_words s.shown

@@ -1,6 +1,6 @@
 -- The words of each form.
 use Rattle.std.specs.Prelude.{ℕ, Bool, true, false, Option, Some, None, List, [], ◌∷◌, ◌++◌, map, codes, decimal, ◌==◌, if◌then◌else◌}
-use Rattle.e_text.specs.Tokens.{joined}
+use Rattle.e_text.specs.Tokens.{joined_words}
 use Rattle.e_literal.specs.declared.object.Sort.{Sort}
 use Rattle.e_literal.specs.declared.object.Sort.TheVariants as sorts
 use Rattle.e_construct.specs.declared.construction.Shape.{Shape}
@@ -155,4 +155,4 @@ raw_line_words rawlines.End = codes "end" ∷ []
 
 -- a line without its end
 abbrev pub line_of : RawLine → List ℕ
-line_of form = joined (raw_line_words form)
+line_of form = joined_words (raw_line_words form)

@@ -15,7 +15,7 @@ use Rattle.e_line.specs.declared.items.Listing.{Listing}
 use Rattle.e_line.specs.declared.items.Listing.TheVariants.{Given, Show, Claim, Superpose}
 use Rattle.e_line.specs.declared.items.BookLine.{BookLine}
 use Rattle.e_line.specs.declared.items.BookLine.TheVariants.{Plain, Define, Listed}
-use Rattle.e_line.specs.Reading.{◌>>=◌, each, title_at, end_at, names_of}
+use Rattle.e_line.specs.Reading.{◌>>=◌, each, first_title, end_at, names_of}
 use Rattle.e_line.specs.Literals.{is_semicolon, lit_of}
 use Rattle.e_line.specs.Lets.{are_words_of, new_words, argument_words}
 use Rattle.e_line.specs.Superposes.{superpose_pieces}
@@ -29,7 +29,7 @@ is_as w = bytes_eq w (codes "as")
 -- after the word as: a title, and names, perhaps none
 unfoldable pub as_of : List (List ℕ) → Result RawAs FaultKind
 as_of words = do
-  t ← title_at words
+  t ← first_title words
   args ← names_of t.1
   Ok (record { title = t.0; args = args })
 
@@ -54,7 +54,7 @@ has_item words = list_any begins_item (slice_split is_semicolon words)
 
 unfoldable pub define_of : List (List ℕ) → Result BookLine FaultKind
 define_of words = do
-  t ← title_at words
+  t ← first_title words
   none ← end_at t.1
   Ok (Define t.0)
 
@@ -81,20 +81,20 @@ line_named w ws =
     if bytes_eq w (codes "superpose") && has_item (drop 13 ws) then (placing_of (take 13 ws) >>= λ line. listed line (drop 13 ws)) else
     (raw_line_named w ws >>= λ f. Ok (Plain f))
 
-unfoldable pub line_of : List (List ℕ) → Result BookLine FaultKind
-line_of [] = Err Malformed
-line_of (w ∷ ws) = line_named w ws
+unfoldable pub book_line_of : List (List ℕ) → Result BookLine FaultKind
+book_line_of [] = Err Malformed
+book_line_of (w ∷ ws) = line_named w ws
 
 -- ---- a line that takes literals, with these literals
 
-abbrev pub superpose_form : (args new : List (List ℕ)) → List RawLit → RawLine
-superpose_form args new shown = rawlines.Superpose (record { args = args; new = new; shown = shown })
+abbrev pub raw_superpose_line : (args new : List (List ℕ)) → List RawLit → RawLine
+raw_superpose_line args new shown = rawlines.Superpose (record { args = args; new = new; shown = shown })
 
 abbrev pub listing_form : Listing → List RawLit → RawLine
 listing_form Given raws = rawlines.Given raws
 listing_form Show raws = rawlines.Show raws
 listing_form Claim raws = rawlines.Claim raws
-listing_form (Superpose args new) raws = superpose_form args new raws
+listing_form (Superpose args new) raws = raw_superpose_line args new raws
 
 abbrev pub is_show : Listing → Bool
 is_show Show = true

@@ -29,10 +29,10 @@ abbrev pub is_sign : List ℕ → Bool
 is_sign w = is_some (sign_of w)
 
 -- a side that is one name
-abbrev pub object_of : List (List ℕ) → Option (List ℕ)
-object_of (w ∷ []) = name_of w
-object_of (w ∷ v ∷ ws) = None
-object_of [] = None
+abbrev pub single_name : List (List ℕ) → Option (List ℕ)
+single_name (w ∷ []) = name_of w
+single_name (w ∷ v ∷ ws) = None
+single_name [] = None
 
 -- a sum on each side, and a term in one of them
 unfoldable pub sums_of : List (List ℕ) → List (List ℕ) → Result (List RawMono × List RawMono) FaultKind
@@ -48,8 +48,8 @@ equal_sides (Some x) None sums = sums >>= λ p. Ok (SumsEqual p.0 p.1)
 equal_sides None y sums = sums >>= λ p. Ok (SumsEqual p.0 p.1)
 
 unfoldable pub sides_of : Sign → List (List ℕ) → List (List ℕ) → Result RawAtom FaultKind
-sides_of signs.Equal left right = equal_sides (object_of left) (object_of right) (sums_of left right)
-sides_of signs.Differ left right = equal_sides (object_of left) (object_of right) (sums_of left right)
+sides_of signs.Equal left right = equal_sides (single_name left) (single_name right) (sums_of left right)
+sides_of signs.Differ left right = equal_sides (single_name left) (single_name right) (sums_of left right)
 sides_of signs.Less left right = sums_of left right >>= λ p. Ok (SumsLess p.0 p.1)
 sides_of signs.AtMost left right = sums_of left right >>= λ p. Ok (SumsAtMost p.0 p.1)
 

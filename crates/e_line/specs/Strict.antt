@@ -26,19 +26,19 @@ abbrev pub are_direct : List RawLit → Bool
 are_direct ls = list_all is_direct ls
 
 -- given and show have one literal a line, and no argument is a blank
-abbrev pub is_strict : RawLine → Bool
-is_strict (rawlines.Given ls) = length ls == 1 && are_direct ls
-is_strict (rawlines.Show ls) = length ls == 1 && are_direct ls
-is_strict (rawlines.Hence l) = is_direct l
-is_strict (rawlines.Apply a) = list_all is_some a.args
-is_strict (rawlines.Claim ls) = are_direct ls
-is_strict (rawlines.Superpose s) = are_direct s.shown
-is_strict (rawlines.Cases l) = is_direct l
-is_strict form = true
+abbrev pub is_strict_line : RawLine → Bool
+is_strict_line (rawlines.Given ls) = length ls == 1 && are_direct ls
+is_strict_line (rawlines.Show ls) = length ls == 1 && are_direct ls
+is_strict_line (rawlines.Hence l) = is_direct l
+is_strict_line (rawlines.Apply a) = list_all is_some a.args
+is_strict_line (rawlines.Claim ls) = are_direct ls
+is_strict_line (rawlines.Superpose s) = are_direct s.shown
+is_strict_line (rawlines.Cases l) = is_direct l
+is_strict_line form = true
 
 -- the form of a line of these words that is spelled as this form is
 unfoldable pub exact_line_of : List ℕ → List (List ℕ) → Result RawLine FaultKind
-exact_line_of line words = raw_line_of words >>= λ f. if is_strict f && bytes_eq line (line_of f) then Ok f else Err Malformed
+exact_line_of line words = raw_line_of words >>= λ f. if is_strict_line f && bytes_eq line (line_of f) then Ok f else Err Malformed
 
 -- the words are those of the line
 abbrev pub exact_line : List ℕ → Result RawLine FaultKind

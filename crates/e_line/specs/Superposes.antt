@@ -16,12 +16,12 @@ superpose_pieces =
     ∷ New ∷ New ∷ Word (codes "show") ∷ []
 
 -- the words up to show, and those of the literals
-unfoldable pub head_of : List (List ℕ) → List (List ℕ) → Result RawSuperpose FaultKind
-head_of head rest =
+unfoldable pub raw_superpose_of : List (List ℕ) → List (List ℕ) → Result RawSuperpose FaultKind
+raw_superpose_of head rest =
     if are_words_of superpose_pieces head
     then (names_of (new_words superpose_pieces head) >>= λ new. names_of (argument_words superpose_pieces head) >>= λ args. lits_of rest >>= λ ls. Ok (record { args = args; new = new; shown = ls }))
     else Err Malformed
 
 -- what comes after superpose: a word for each piece, and then literals
 unfoldable pub superpose_of : List (List ℕ) → Result RawSuperpose FaultKind
-superpose_of words = head_of (take 13 words) (drop 13 words)
+superpose_of words = raw_superpose_of (take 13 words) (drop 13 words)

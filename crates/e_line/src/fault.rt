@@ -2,7 +2,7 @@
 ghost use Rattle.std.specs.Prelude.{◌≡◌, ◌<◌, ◌^◌};
 ghost use Rattle.e_line.specs.declared.fault.LineError.TheVariants.{NoMemory};
 ghost use Rattle.e_line.specs.Faults.{line_fault};
-ghost use Rattle.e_text.specs.Lines.{fault_line};
+ghost use Rattle.e_text.specs.Lines.{line_of_fault};
 
 use e_text::LineFault;
 use std::alloc::{AllocError, AllocFailed};
@@ -149,7 +149,7 @@ impl LineError {
 
 /// What a fault of a line's bytes is for a book.
 pub fn of_line(fault: LineFault) -> BookFault
-    requires { fault_line fault < 2 ^ 32 }
+    requires { line_of_fault fault < 2 ^ 32 }
     ensures { result ≡ line_fault fault }
 {
     match fault {

@@ -4,7 +4,7 @@ ghost use Rattle.std.specs.Prelude.{◌≡◌, ◌&&◌, [], ◌∷◌};
 ghost use Rattle.std.specs.Str.{bytes_eq};
 ghost use Rattle.e_line.specs.Reading.{texts, Gives, Moves, with_front};
 ghost use Rattle.e_line.specs.Items.{as_of, item_of, items_of, begins_item, has_item};
-ghost use Rattle.e_line.specs.Items.{define_of, placing_of, listed, line_named, line_of};
+ghost use Rattle.e_line.specs.Items.{define_of, placing_of, listed, line_named, book_line_of};
 
 use crate::fault::{FaultKind, LineError};
 use crate::lets::{are_words_of, names_at};
@@ -54,7 +54,7 @@ pub enum BookLine {
 }
 
 /// What comes after `as` in a list of literals: a title and names.
-#[tactic(auto, unfolding(crate::specs::Items::as_of, crate::specs::Reading::title_at, crate::specs::Reading::word_at))]
+#[tactic(auto, unfolding(crate::specs::Items::as_of, crate::specs::Reading::first_title, crate::specs::Reading::word_at))]
 fn as_of(alloc: Global, words: &[&[u8]]) -> Result<RawAs, LineError>
     ensures { Gives (λ a. a) result (as_of (texts words.now)) }
 {
@@ -207,9 +207,9 @@ fn line_named(
 }
 
 /// A line of a book, by its words alone.
-#[tactic(auto, unfolding(crate::specs::Items::line_of))]
+#[tactic(auto, unfolding(crate::specs::Items::book_line_of))]
 pub fn line_of(alloc: Global, words: &[&[u8]]) -> Result<BookLine, LineError>
-    ensures { Gives (λ l. l) result (line_of (texts words.now)) }
+    ensures { Gives (λ l. l) result (book_line_of (texts words.now)) }
 {
     match words {
         [] => Err(LineError::Fault(FaultKind::Malformed)),

@@ -2,7 +2,7 @@
 ghost use Rattle.std.specs.Prelude.{◌≡◌, ◌∷◌, ◌≤◌, List, length};
 ghost use Rattle.std.specs.List.{list_all, position_or_len};
 ghost use Rattle.e_line.specs.Reading.{texts, Gives, Moves, with_front};
-ghost use Rattle.e_line.specs.Literals.{sign_of, is_sign, object_of, sums_of, sides_of};
+ghost use Rattle.e_line.specs.Literals.{sign_of, is_sign, single_name, sums_of, sides_of};
 ghost use Rattle.e_line.specs.Literals.{equal_sides, negation_of, sign_first, compared};
 ghost use Rattle.e_line.specs.Literals.{related, signed_of, lit_of, is_diagram_raw};
 ghost use Rattle.e_line.specs.Literals.{diagram_lit_of, diagram_lits_of, lits_of};
@@ -100,7 +100,7 @@ fn place_of_sign(words: &[&[u8]]) -> usize
 
 /// A side that is one name.
 fn object_of(words: &[&[u8]]) -> Option<Name>
-    ensures { result ≡ object_of (texts words.now) }
+    ensures { result ≡ single_name (texts words.now) }
 {
     match words {
         [word] => Name::read(word),
@@ -129,8 +129,8 @@ fn sums_of(alloc: Global, left: &[&[u8]], right: &[&[u8]]) -> Result<Sums, LineE
 
 /// Two names are of equal objects, and else the sides are sums.
 fn equal_sides(alloc: Global, left: &[&[u8]], right: &[&[u8]]) -> Result<RawAtom, LineError>
-    ensures { Gives (λ a. a) result (equal_sides (object_of (texts left.now))
-        (object_of (texts right.now)) (sums_of (texts left.now) (texts right.now))) }
+    ensures { Gives (λ a. a) result (equal_sides (single_name (texts left.now))
+        (single_name (texts right.now)) (sums_of (texts left.now) (texts right.now))) }
 {
     if let (Some(x), Some(y)) = (object_of(left), object_of(right)) {
         return Ok(RawAtom::Equal(x, y));

@@ -2,7 +2,7 @@
 ghost use Rattle.std.specs.Prelude.{◌≡◌, List, length, IfOk, [], ◌∷◌, ◌==◌};
 ghost use Rattle.e_line.specs.Reading.{texts, Gives};
 ghost use Rattle.e_line.specs.RawLines.{declare_of, sort_of, made_of, by_of};
-ghost use Rattle.e_line.specs.RawLines.{raw_line_of, raw_line_named, theorem_of, bare};
+ghost use Rattle.e_line.specs.RawLines.{raw_line_of, raw_line_named, theorem_line_of, bare};
 
 use crate::applies::{RawApply, apply_of};
 use crate::fault::{FaultKind, LineError};
@@ -91,7 +91,7 @@ fn made_of(alloc: Global, words: &[&[u8]]) -> Result<RawLine, LineError>
     Ok(RawLine::Made(sort, names))
 }
 
-#[tactic(auto, unfolding(crate::specs::RawLines::by_of, crate::specs::Reading::title_at, crate::specs::Reading::word_at))]
+#[tactic(auto, unfolding(crate::specs::RawLines::by_of, crate::specs::Reading::first_title, crate::specs::Reading::word_at))]
 fn by_of(alloc: Global, words: &[&[u8]]) -> Result<RawLine, LineError>
     ensures { Gives (λ f. f) result (by_of (texts words.now)) }
 {
@@ -110,9 +110,9 @@ fn by_of(alloc: Global, words: &[&[u8]]) -> Result<RawLine, LineError>
     Ok(RawLine::By(rule, names, lit))
 }
 
-#[tactic(auto, unfolding(crate::specs::RawLines::theorem_of))]
+#[tactic(auto, unfolding(crate::specs::RawLines::theorem_line_of))]
 fn theorem_of(mut words: Words) -> Result<RawLine, LineError>
-    ensures { Gives (λ f. f) result (theorem_of words.entry) }
+    ensures { Gives (λ f. f) result (theorem_line_of words.entry) }
 {
     let title = words.title()?;
     words.end()?;

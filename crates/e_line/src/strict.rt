@@ -3,7 +3,8 @@ ghost use Rattle.std.specs.Prelude.{◌≡◌, is_some, IfOk};
 ghost use Rattle.std.specs.List.{list_all};
 ghost use Rattle.e_line.specs.Canonical.{line_of};
 ghost use Rattle.e_line.specs.Reading.{texts, Gives};
-ghost use Rattle.e_line.specs.Strict.{is_less, is_direct, are_direct, is_strict, exact_line_of};
+ghost use Rattle.e_line.specs.Strict.{is_less, is_direct, are_direct};
+ghost use Rattle.e_line.specs.Strict.{is_strict_line, exact_line_of};
 
 use crate::fault::{FaultKind, LineError};
 use crate::lines::put_raw_line;
@@ -41,7 +42,7 @@ fn have_no_blank(args: &[Option<Name>]) -> bool
 
 /// Whether the literals are direct, one on a given or show line, and no argument is a blank.
 fn is_strict(form: &RawLine) -> bool
-    ensures { result ≡ is_strict form.now }
+    ensures { result ≡ is_strict_line form.now }
 {
     match form {
         RawLine::Given(lits) => lits.len() == 1 && are_direct(lits.items()),

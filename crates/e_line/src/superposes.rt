@@ -2,7 +2,7 @@
 ghost use Rattle.std.specs.Prelude.{◌≡◌, map, take, drop};
 ghost use Rattle.e_construct.specs.Views.{piece_view};
 ghost use Rattle.e_line.specs.Reading.{texts, Gives};
-ghost use Rattle.e_line.specs.Superposes.{superpose_pieces, head_of, superpose_of};
+ghost use Rattle.e_line.specs.Superposes.{superpose_pieces, raw_superpose_of, superpose_of};
 
 use crate::fault::{FaultKind, LineError};
 use crate::lets::{are_words_of, names_at};
@@ -60,9 +60,9 @@ pub(crate) fn parted<'a, 'b>(words: &'a [&'b [u8]]) -> (&'a [&'b [u8]], &'a [&'b
 }
 
 /// The words up to `show`, and those of the literals.
-#[tactic(auto, unfolding(crate::specs::Superposes::head_of))]
+#[tactic(auto, unfolding(crate::specs::Superposes::raw_superpose_of))]
 fn head_of(alloc: Global, head: &[&[u8]], rest: &[&[u8]]) -> Result<RawSuperpose, LineError>
-    ensures { Gives (λ s. s) result (head_of (texts head.now) (texts rest.now)) }
+    ensures { Gives (λ s. s) result (raw_superpose_of (texts head.now) (texts rest.now)) }
 {
     if !are_words_of(superposition_pieces(), head) {
         return Err(LineError::Fault(FaultKind::Malformed));

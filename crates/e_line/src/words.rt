@@ -6,8 +6,9 @@ ghost use Rattle.e_text.specs.Tokens.{tokens_of};
 ghost use Rattle.std.specs.List.{position_or_len};
 ghost use Rattle.std.specs.Str.{bytes_eq};
 ghost use Rattle.e_line.specs.Canonical.{sort_word};
-ghost use Rattle.e_line.specs.Reading.{cut_at, texts, Gives, Reads, word_at, name_at, title_at};
-ghost use Rattle.e_line.specs.Reading.{end_at, names_of, some_names, two_names, three_names};
+ghost use Rattle.e_line.specs.Reading.{cut_at, texts, Gives, Reads, word_at};
+ghost use Rattle.e_line.specs.Reading.{first_name, first_title, end_at, names_of};
+ghost use Rattle.e_line.specs.Reading.{some_names, two_names, three_names};
 
 use crate::fault::{FaultKind, LineError};
 use e_literal::{Items, Sort};
@@ -129,9 +130,9 @@ impl<'b, 'a> Words<'b, 'a> {
     }
 
     /// The next word, a name.
-    #[tactic(auto, unfolding(crate::specs::Reading::name_at))]
+    #[tactic(auto, unfolding(crate::specs::Reading::first_name))]
     pub fn name(&mut self) -> Result<Name, LineError>
-        ensures { Reads (λ n. n) result self.new (name_at self.old) }
+        ensures { Reads (λ n. n) result self.new (first_name self.old) }
     {
         match Name::read(self.word()?) {
             Some(name) => Ok(name),
@@ -140,9 +141,9 @@ impl<'b, 'a> Words<'b, 'a> {
     }
 
     /// The next word, a title.
-    #[tactic(auto, unfolding(crate::specs::Reading::title_at))]
+    #[tactic(auto, unfolding(crate::specs::Reading::first_title))]
     pub fn title(&mut self) -> Result<Title, LineError>
-        ensures { Reads (λ n. n) result self.new (title_at self.old) }
+        ensures { Reads (λ n. n) result self.new (first_title self.old) }
     {
         match Title::read(self.word()?) {
             Some(title) => Ok(title),

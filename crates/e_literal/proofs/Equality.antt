@@ -19,7 +19,7 @@ use Rattle.e_literal.specs.contracts.normals.NormalAtomPartialEq.TheImpl.{eq-val
 use Rattle.e_literal.specs.contracts.normals.NormalPartialEq.TheImpl.{eq-value as test}
 use Rattle.e_literal.specs.Same.{term_eq, same_lit}
 use Rattle.e_literal.specs.NormalForm.{NormalAtom, Diagram, Equation, Inequality, normal_form}
-use Rattle.e_literal.specs.Normal.{atom_of, form_of}
+use Rattle.e_literal.specs.Normal.{normal_atom_of, form_of}
 use Rattle.e_literal.proofs.Terms.{term_eq_is, term_eq_same}
 use Rattle.e_literal.proofs.NormalLiterals.{two_are, three_are, two_itself, three_itself, normals_are_same}
 use Rattle.e_literal.proofs.Booleans.{and_left, and_right}
@@ -44,7 +44,7 @@ forms_decide m n = btree_map_eq-Decides term_decides Decides-int_eq m n _ refl
 
 -- ---- atoms
 
-atom_is : (a b : Kept) → atom_test.it a b ≡ true → atom_of a ≡ atom_of b
+atom_is : (a b : Kept) → atom_test.it a b ≡ true → normal_atom_of a ≡ normal_atom_of b
 atom_is (On a b) (On c d) h = let e = two_are a b c d h in cc
 atom_is (OnC a b) (OnC c d) h = let e = two_are a b c d h in cc
 atom_is (Inside a b) (Inside c d) h = let e = two_are a b c d h in cc
@@ -68,7 +68,7 @@ three_of : (a b c d e f : ℕ) → a ≡ d → b ≡ e → c ≡ f → (a == d &
 three_of a b c d e f p q r =
     ap (λ n. a == n && (b == e && c == f)) (sym p) ∙ ap (λ n. a == a && (b == n && c == f)) (sym q) ∙ ap (λ n. a == a && (b == b && c == n)) (sym r) ∙ three_itself a b c
 
-of_atom : (a b : Kept) → atom_of a ≡ atom_of b → atom_test.it a b ≡ true
+of_atom : (a b : Kept) → normal_atom_of a ≡ normal_atom_of b → atom_test.it a b ≡ true
 of_atom (On a b) (On c d) e = let p : a ≡ c = cc in let q : b ≡ d = cc in two_of a b c d p q
 of_atom (OnC a b) (OnC c d) e = let p : a ≡ c = cc in let q : b ≡ d = cc in two_of a b c d p q
 of_atom (Inside a b) (Inside c d) e = let p : a ≡ c = cc in let q : b ≡ d = cc in two_of a b c d p q

@@ -19,7 +19,7 @@ use Rattle.e_literal.specs.declared.literal.Atom.{Atom}
 use Rattle.e_literal.specs.declared.literal.Atom.TheVariants.{On, OnC, Inside, Center, Between, Same, MeetLL, MeetLC, MeetCC, EqP, EqL, EqC, MagEq, MagLt}
 use Rattle.e_literal.specs.Literal.{kind_of_atom}
 use Rattle.e_literal.specs.Same.{canonical, term_eq, one_term, coeff_of, agree, same_atom, same_neg, same_lit, EqualNormal}
-use Rattle.e_literal.specs.Truth.{value_of, atom_holds, holds}
+use Rattle.e_literal.specs.Truth.{value_of, metric_atom_holds, holds}
 use Rattle.e_literal.specs.Rows.{Row, Zero, AtLeast, More, Not, Summands, coefficient, times, is_degenerate, normal_summands, row, plus, minus, negative, row_of_atom, row_of_lit}
 use Rattle.e_literal.specs.Solution.{form_value, IsSo, carried}
 use Rattle.e_literal.proofs.Arith.{sums, neg_mul}
@@ -215,7 +215,7 @@ IsMagLt a = (x y : List Mono) × (a ≡ MagLt x y)
 
 -- an atom of diagrams says nothing of values
 pub record IsDiagram (a : Atom) : Type 0 where
-  pub quiet : (v : Term → ℕ) (neg : Bool) → atom_holds v a neg ≡ true
+  pub quiet : (v : Term → ℕ) (neg : Bool) → metric_atom_holds v a neg ≡ true
   pub no_kind : kind_of_atom a ≡ None
   pub no_row : (neg : Bool) → row_of_atom a neg ≡ None
 
@@ -280,12 +280,12 @@ lt_moved a b c d e = grind (arith, nat_tests)
 pub holds_same : (f l : Lit) (u : Term → ℕ) → same_lit f l ≡ true → holds (carried u) f ≡ true → holds (carried u) l ≡ true
 holds_same f l u h g =
     let sign : f.neg ≡ l.neg = same_neg_is f.neg l.neg (and_left (same_neg f.neg l.neg) (same_atom f.atom l.atom) h) in
-    atoms (split l.atom) (and_right (same_neg f.neg l.neg) (same_atom f.atom l.atom) h) (sym (ap (atom_holds (carried u) f.atom) sign) ∙ g)
+    atoms (split l.atom) (and_right (same_neg f.neg l.neg) (same_atom f.atom l.atom) h) (sym (ap (metric_atom_holds (carried u) f.atom) sign) ∙ g)
   where
     v : Term → ℕ
     v = carried u
 
-    equations : (x y z w : List Mono) → (agree x y z w || agree x y w z) ≡ true → atom_holds v (MagEq x y) l.neg ≡ atom_holds v (MagEq z w) l.neg
+    equations : (x y z w : List Mono) → (agree x y z w || agree x y w z) ≡ true → metric_atom_holds v (MagEq x y) l.neg ≡ metric_atom_holds v (MagEq z w) l.neg
     equations x y z w k =
         let e : eqb (value_of v x) (value_of v y) ≡ eqb (value_of v z) (value_of v w) = elim (or_cases (agree x y z w) (agree x y w z) k) [
           | inl c ↦ eqb_moved (value_of v x) (value_of v y) (value_of v z) (value_of v w) (same_difference x y z w u c)
@@ -293,17 +293,17 @@ holds_same f l u h g =
         ] in
         ap (λ b. cond l.neg (not b) b) e
 
-    orders : (x y z w : List Mono) → agree x y z w ≡ true → atom_holds v (MagLt x y) l.neg ≡ atom_holds v (MagLt z w) l.neg
+    orders : (x y z w : List Mono) → agree x y z w ≡ true → metric_atom_holds v (MagLt x y) l.neg ≡ metric_atom_holds v (MagLt z w) l.neg
     orders x y z w c = ap (λ b. cond l.neg (not b) b) (lt_moved (value_of v x) (value_of v y) (value_of v z) (value_of v w) (same_difference x y z w u c))
 
     atoms : (IsMagEq l.atom ⊎ IsMagLt l.atom) ⊎ IsDiagram l.atom → same_atom f.atom l.atom ≡ true
-        → atom_holds v f.atom l.neg ≡ true → atom_holds v l.atom l.neg ≡ true
+        → metric_atom_holds v f.atom l.neg ≡ true → metric_atom_holds v l.atom l.neg ≡ true
     atoms (inl (inl p)) k t =
         let q = same_as_equation f.atom p.0 p.1 (ap (same_atom f.atom) (sym p.2) ∙ k) in
-        ap (λ a. atom_holds v a l.neg) p.2 ∙ sym (equations q.0 q.1 p.0 p.1 q.3) ∙ sym (ap (λ a. atom_holds v a l.neg) q.2) ∙ t
+        ap (λ a. metric_atom_holds v a l.neg) p.2 ∙ sym (equations q.0 q.1 p.0 p.1 q.3) ∙ sym (ap (λ a. metric_atom_holds v a l.neg) q.2) ∙ t
     atoms (inl (inr p)) k t =
         let q = same_as_order f.atom p.0 p.1 (ap (same_atom f.atom) (sym p.2) ∙ k) in
-        ap (λ a. atom_holds v a l.neg) p.2 ∙ sym (orders q.0 q.1 p.0 p.1 q.3) ∙ sym (ap (λ a. atom_holds v a l.neg) q.2) ∙ t
+        ap (λ a. metric_atom_holds v a l.neg) p.2 ∙ sym (orders q.0 q.1 p.0 p.1 q.3) ∙ sym (ap (λ a. metric_atom_holds v a l.neg) q.2) ∙ t
     atoms (inr d) k t = d.quiet v l.neg
 
 -- ---- rows of literals
@@ -325,7 +325,7 @@ not_eqb_of a b h = elim (cases_Bool (eqb a b)) [
 
 -- what the row of an atom says is so exactly where the atom is true
 abbrev IsSoWhere : (Term → ℕ) → Atom → Bool → Row → Type 0
-IsSoWhere w a neg r = (atom_holds (carried w) a neg ≡ true → IsSo r.says (form_value r.form w)) × (IsSo r.says (form_value r.form w) → atom_holds (carried w) a neg ≡ true)
+IsSoWhere w a neg r = (metric_atom_holds (carried w) a neg ≡ true → IsSo r.says (form_value r.form w)) × (IsSo r.says (form_value r.form w) → metric_atom_holds (carried w) a neg ≡ true)
 
 row_value : (w : Term → ℕ) (x y : List Mono) → form_value (normal_summands (plus x ++ minus y)) w ≡ pos (value_of (carried w) x) -ℤ pos (value_of (carried w) y)
 row_value w x y = normal_value (plus x ++ minus y) w ∙ difference x y (carried w)

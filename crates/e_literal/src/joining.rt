@@ -5,7 +5,7 @@ ghost use Rattle.std.specs.List.{fold};
 ghost use Rattle.e_literal.specs.NormalForm;
 ghost use Rattle.e_literal.specs.NormalForm.{normal_form};
 ghost use Rattle.e_literal.specs.inner.Joining.{put_term};
-ghost use Rattle.e_literal.specs.Normal.{atom_of, form_of};
+ghost use Rattle.e_literal.specs.Normal.{normal_atom_of, form_of};
 
 use crate::compare::{canonical, coefficient_in};
 use crate::literal::{Atom, Lit};
@@ -26,7 +26,7 @@ pub fn normal(alloc: Global, lit: &Lit) -> Result<Normal, AllocError>
 }
 
 fn normal_atom(alloc: Global, atom: &Atom) -> Result<NormalAtom, AllocError>
-    ensures { IfOk result (λ a. atom_of a ≡ NormalForm.normal_atom atom.now) }
+    ensures { IfOk result (λ a. normal_atom_of a ≡ NormalForm.normal_atom atom.now) }
 {
     match atom {
         Atom::On(a, b) => Ok(NormalAtom::On(*a, *b)),

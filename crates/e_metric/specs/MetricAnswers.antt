@@ -10,7 +10,7 @@ use Rattle.e_literal.specs.Rows.{Row}
 use Rattle.e_literal.specs.Solution.{Satisfy, HasSolution}
 use Rattle.e_clause.specs.declared.cert.MetricCert.{MetricCert}
 use Rattle.e_clause.specs.System.{rows_of_system, metric_systems}
-use Rattle.e_clause.specs.MetricCertificate.{sums_refute, sums_in}
+use Rattle.e_clause.specs.MetricCertificate.{sums_refute, are_sums_in}
 use Rattle.e_clause.specs.Wide.{HasWidth}
 use Rattle.e_clause.specs.Counterexample.{ListsCounterexample}
 use Rattle.e_simplex.specs.Answer.{assigned}
@@ -28,7 +28,7 @@ wanted_in s None = true
 -- literal that is not well formed
 pub record IsMetricCertificate (facts : List Lit) (wanted : Option Lit) (m : MetricCert) : Type 0 where
   pub refutes : IsTrue (sums_refute facts wanted m.sums)
-  pub scoped : (s : Scope) → IsTrue (list_all (all_in_scope s) facts) → IsTrue (wanted_in s wanted) → IsTrue (sums_in s m.sums)
+  pub scoped : (s : Scope) → IsTrue (list_all (all_in_scope s) facts) → IsTrue (wanted_in s wanted) → IsTrue (are_sums_in s m.sums)
   pub written : IsTrue (are_sums_of version.One m.sums)
 
 -- the system of the kind has a solution, or is wide

@@ -17,7 +17,7 @@ use Rattle.e_names.specs.Scope.{scope_of_names, object_as, fresh}
 use Rattle.e_names.specs.Applies.{entries_in, apply_in}
 use Rattle.e_names.specs.Canonical.{name_of_object, argument_name}
 use Rattle.e_line.specs.HasSpelling.{AreNames}
-use Rattle.e_names.specs.HasSpelling.{is_place, is_named_by_title}
+use Rattle.e_names.specs.HasSpelling.{is_found_at, is_named_by_title}
 use Rattle.e_names.proofs.Lookups.{InOrder, object_again, objects_named}
 use Rattle.e_line.proofs.AppliesAgain.{AreArguments, ApplyNamed}
 
@@ -57,7 +57,7 @@ entries_named ns (sort ∷ sorts) (Some x ∷ os) o h =
 
 -- ---- the title
 
-found : (k : ℕ) (o : Option ℕ) → is_place k o ≡ true → o ≡ Some k
+found : (k : ℕ) (o : Option ℕ) → is_found_at k o ≡ true → o ≡ Some k
 found k None h = absurd cc
 found k (Some i) h = ap (λ (n : ℕ). Some n) (eqb-true i k h)
 
@@ -79,7 +79,7 @@ unfolding apply_in
 apply_number_again known ns theorem args names o g =
     let t = theorem_of known theorem in
     let s = scope_of_names ns in
-    let place : place_in known (title_at known theorem) ≡ Some theorem = found theorem (place_in known (title_at known theorem)) (and_parts (is_title (title_at known theorem)) (is_place theorem (place_in known (title_at known theorem))) g.title).1 in
+    let place : place_in known (title_at known theorem) ≡ Some theorem = found theorem (place_in known (title_at known theorem)) (and_parts (is_title (title_at known theorem)) (is_found_at theorem (place_in known (title_at known theorem))) g.title).1 in
     let some : eqb (length (map (argument_name ns) args)) (length t.declared) ≡ true = eq-eqb _ _ (length-map args (argument_name ns) ∙ entries_length s t.declared args g.entries) in
     let more : eqb (length names) (length t.made) ≡ true = eq-eqb _ _ g.count in
     rw (place, some, more, entries_again ns t.declared args o g.entries, g.free) refl
@@ -87,7 +87,7 @@ apply_number_again known ns theorem args names o g =
 pub apply_named : (known : List TitledStatement) (ns : Names) (theorem : ℕ) (args : List (Option Obj)) (names : List (List ℕ)) → InOrder ns → GoodApply known ns theorem args names → AreNames names
     → ApplyNamed (raw_apply known ns theorem args names)
 apply_named known ns theorem args names o g h = record {
-  title = (and_parts (is_title (title_at known theorem)) (is_place theorem (place_in known (title_at known theorem))) g.title).0;
+  title = (and_parts (is_title (title_at known theorem)) (is_found_at theorem (place_in known (title_at known theorem))) g.title).0;
   args = entries_named ns (theorem_of known theorem).declared args o g.entries;
   new_names = h;
 }

@@ -24,7 +24,7 @@ use Rattle.e_line.specs.declared.lets.RawLet.{RawLet}
 use Rattle.e_line.specs.declared.superposes.RawSuperpose.{RawSuperpose}
 use Rattle.e_line.specs.Reading.{◌>>=◌, each}
 use Rattle.e_names.specs.Superposes.{superpose, placed_in, superpose_in}
-use Rattle.e_names.specs.Scope.{scope_of_names, used, number_of, object_as, fresh, right_count, construction, arguments_in, first_fitting, let_in, lits_in, objects_of_sorts, qed_in}
+use Rattle.e_names.specs.Scope.{scope_of_names, used, number_of_name, object_as, fresh, right_count, construction, arguments_in, first_fitting, let_in, lits_in, objects_of_sorts, qed_in}
 use Rattle.e_line.proofs.Bound.{bind_ok, ok_is, read_ok}
 use Rattle.e_names.proofs.InScope.{number_in_scope}
 use Rattle.e_names.proofs.Citations.{object_scope, object_sort, counted}
@@ -78,27 +78,27 @@ pub record EachAfterName (ns : Names) (a b c k d g h l : List ℕ) (form : Super
   pub ng : ℕ
   pub nh : ℕ
   pub nl : ℕ
-  pub a_is : number_of ns Point a ≡ Ok na
-  pub b_is : number_of ns Point b ≡ Ok nb
-  pub c_is : number_of ns Point c ≡ Ok nc
-  pub k_is : number_of ns Line k ≡ Ok nk
-  pub d_is : number_of ns Point d ≡ Ok nd
-  pub g_is : number_of ns Point g ≡ Ok ng
-  pub h_is : number_of ns Point h ≡ Ok nh
-  pub l_is : number_of ns Line l ≡ Ok nl
+  pub a_is : number_of_name ns Point a ≡ Ok na
+  pub b_is : number_of_name ns Point b ≡ Ok nb
+  pub c_is : number_of_name ns Point c ≡ Ok nc
+  pub k_is : number_of_name ns Line k ≡ Ok nk
+  pub d_is : number_of_name ns Point d ≡ Ok nd
+  pub g_is : number_of_name ns Point g ≡ Ok ng
+  pub h_is : number_of_name ns Point h ≡ Ok nh
+  pub l_is : number_of_name ns Line l ≡ Ok nl
   pub form_is : superpose na nb nc nd ng nh nk nl ≡ form
 
 pub placed_after : (ns : Names) (a b c k d g h l : List ℕ) (form : Superpose) → placed_in ns (a ∷ b ∷ c ∷ k ∷ d ∷ g ∷ h ∷ l ∷ []) ≡ Ok form → EachAfterName ns a b c k d g h l form
 unfolding placed_in
 placed_after ns a b c k d g h l form e =
-    let na = bind_ok (number_of ns Point a) (λ na. number_of ns Point b >>= λ nb. number_of ns Point c >>= λ nc. number_of ns Line k >>= λ nk. number_of ns Point d >>= λ nd. number_of ns Point g >>= λ ng. number_of ns Point h >>= λ nh. number_of ns Line l >>= λ nl. read_ok (superpose na nb nc nd ng nh nk nl)) form e in
-    let nb = bind_ok (number_of ns Point b) (λ nb. number_of ns Point c >>= λ nc. number_of ns Line k >>= λ nk. number_of ns Point d >>= λ nd. number_of ns Point g >>= λ ng. number_of ns Point h >>= λ nh. number_of ns Line l >>= λ nl. read_ok (superpose na.0 nb nc nd ng nh nk nl)) form na.2 in
-    let nc = bind_ok (number_of ns Point c) (λ nc. number_of ns Line k >>= λ nk. number_of ns Point d >>= λ nd. number_of ns Point g >>= λ ng. number_of ns Point h >>= λ nh. number_of ns Line l >>= λ nl. read_ok (superpose na.0 nb.0 nc nd ng nh nk nl)) form nb.2 in
-    let nk = bind_ok (number_of ns Line k) (λ nk. number_of ns Point d >>= λ nd. number_of ns Point g >>= λ ng. number_of ns Point h >>= λ nh. number_of ns Line l >>= λ nl. read_ok (superpose na.0 nb.0 nc.0 nd ng nh nk nl)) form nc.2 in
-    let nd = bind_ok (number_of ns Point d) (λ nd. number_of ns Point g >>= λ ng. number_of ns Point h >>= λ nh. number_of ns Line l >>= λ nl. read_ok (superpose na.0 nb.0 nc.0 nd ng nh nk.0 nl)) form nk.2 in
-    let ng = bind_ok (number_of ns Point g) (λ ng. number_of ns Point h >>= λ nh. number_of ns Line l >>= λ nl. read_ok (superpose na.0 nb.0 nc.0 nd.0 ng nh nk.0 nl)) form nd.2 in
-    let nh = bind_ok (number_of ns Point h) (λ nh. number_of ns Line l >>= λ nl. read_ok (superpose na.0 nb.0 nc.0 nd.0 ng.0 nh nk.0 nl)) form ng.2 in
-    let nl = bind_ok (number_of ns Line l) (λ nl. read_ok (superpose na.0 nb.0 nc.0 nd.0 ng.0 nh.0 nk.0 nl)) form nh.2 in
+    let na = bind_ok (number_of_name ns Point a) (λ na. number_of_name ns Point b >>= λ nb. number_of_name ns Point c >>= λ nc. number_of_name ns Line k >>= λ nk. number_of_name ns Point d >>= λ nd. number_of_name ns Point g >>= λ ng. number_of_name ns Point h >>= λ nh. number_of_name ns Line l >>= λ nl. read_ok (superpose na nb nc nd ng nh nk nl)) form e in
+    let nb = bind_ok (number_of_name ns Point b) (λ nb. number_of_name ns Point c >>= λ nc. number_of_name ns Line k >>= λ nk. number_of_name ns Point d >>= λ nd. number_of_name ns Point g >>= λ ng. number_of_name ns Point h >>= λ nh. number_of_name ns Line l >>= λ nl. read_ok (superpose na.0 nb nc nd ng nh nk nl)) form na.2 in
+    let nc = bind_ok (number_of_name ns Point c) (λ nc. number_of_name ns Line k >>= λ nk. number_of_name ns Point d >>= λ nd. number_of_name ns Point g >>= λ ng. number_of_name ns Point h >>= λ nh. number_of_name ns Line l >>= λ nl. read_ok (superpose na.0 nb.0 nc nd ng nh nk nl)) form nb.2 in
+    let nk = bind_ok (number_of_name ns Line k) (λ nk. number_of_name ns Point d >>= λ nd. number_of_name ns Point g >>= λ ng. number_of_name ns Point h >>= λ nh. number_of_name ns Line l >>= λ nl. read_ok (superpose na.0 nb.0 nc.0 nd ng nh nk nl)) form nc.2 in
+    let nd = bind_ok (number_of_name ns Point d) (λ nd. number_of_name ns Point g >>= λ ng. number_of_name ns Point h >>= λ nh. number_of_name ns Line l >>= λ nl. read_ok (superpose na.0 nb.0 nc.0 nd ng nh nk.0 nl)) form nk.2 in
+    let ng = bind_ok (number_of_name ns Point g) (λ ng. number_of_name ns Point h >>= λ nh. number_of_name ns Line l >>= λ nl. read_ok (superpose na.0 nb.0 nc.0 nd.0 ng nh nk.0 nl)) form nd.2 in
+    let nh = bind_ok (number_of_name ns Point h) (λ nh. number_of_name ns Line l >>= λ nl. read_ok (superpose na.0 nb.0 nc.0 nd.0 ng.0 nh nk.0 nl)) form ng.2 in
+    let nl = bind_ok (number_of_name ns Line l) (λ nl. read_ok (superpose na.0 nb.0 nc.0 nd.0 ng.0 nh.0 nk.0 nl)) form nh.2 in
     record {
       na = na.0;
       nb = nb.0;
@@ -123,8 +123,8 @@ placed_fits : (ns : Names) (args : List (List ℕ)) (form : Superpose) → place
 unfolding placed_in
 placed_fits ns (a ∷ b ∷ c ∷ k ∷ d ∷ g ∷ h ∷ l ∷ []) form e =
     let p = placed_after ns a b c k d g h l form e in
-    let point : (name : List ℕ) (n : ℕ) → number_of ns Point name ≡ Ok n → ltb n (length ns.points) ≡ true = λ name n i. number_in_scope ns Point name n i in
-    let line : (name : List ℕ) (n : ℕ) → number_of ns Line name ≡ Ok n → ltb n (length ns.lines) ≡ true = λ name n i. number_in_scope ns Line name n i in
+    let point : (name : List ℕ) (n : ℕ) → number_of_name ns Point name ≡ Ok n → ltb n (length ns.points) ≡ true = λ name n i. number_in_scope ns Point name n i in
+    let line : (name : List ℕ) (n : ℕ) → number_of_name ns Line name ≡ Ok n → ltb n (length ns.lines) ≡ true = λ name n i. number_in_scope ns Line name n i in
     subst (λ (x : Superpose). superposing.fits_superposition x (scope_of_names ns) ≡ true) p.form_is
     (and_from _ _ (point a p.na p.a_is) (and_from _ _ (point b p.nb p.b_is) (and_from _ _ (point c p.nc p.c_is) (and_from _ _ (point d p.nd p.d_is)
     (and_from _ _ (point g p.ng p.g_is) (and_from _ _ (point h p.nh p.h_is) (and_from _ _ (line k p.nk p.k_is) (and_from _ _ (line l p.nl p.l_is) refl))))))))

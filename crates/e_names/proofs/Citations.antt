@@ -25,20 +25,20 @@ use Rattle.e_deriv.specs.Steps.{is_citation}
 use Rattle.e_line.specs.declared.fault.FaultKind.TheVariants.{UnknownName}
 use Rattle.e_line.specs.declared.literal.RawLit.{RawLit}
 use Rattle.e_line.specs.Reading.{◌>>=◌}
-use Rattle.e_names.specs.Scope.{number_of, object_as, objects_as, args_in, by_in, known_rule, variables_of, right_count, lit_in, scope_of_names}
+use Rattle.e_names.specs.Scope.{number_of_name, object_as, objects_as, args_in, by_in, known_rule, variables_of, right_count, lit_in, scope_of_names}
 use Rattle.e_line.proofs.Bound.{bind_ok, ok_is, read_ok, each_length}
 use Rattle.e_names.proofs.InScope.{number_in_scope, lit_in_scope, each_all}
 
 pub object_scope : (ns : Names) (sort : Sort) (name : List ℕ) (o : Obj) → object_as ns sort name ≡ Ok o → is_in_scope (scope_of_names ns) o ≡ true
 unfolding object_as
 object_scope ns sort name o e =
-    let n = bind_ok (number_of ns sort name) (λ n. read_ok (obj sort n)) o e in
+    let n = bind_ok (number_of_name ns sort name) (λ n. read_ok (obj sort n)) o e in
     subst (λ (x : Obj). is_in_scope (scope_of_names ns) x ≡ true) (ok_is (obj sort n.0) o n.2) (number_in_scope ns sort name n.0 n.1)
 
 pub object_sort : (ns : Names) (sort : Sort) (name : List ℕ) (o : Obj) → object_as ns sort name ≡ Ok o → same_sort o.sort sort ≡ true
 unfolding object_as
 object_sort ns sort name o e =
-    let n = bind_ok (number_of ns sort name) (λ n. read_ok (obj sort n)) o e in
+    let n = bind_ok (number_of_name ns sort name) (λ n. read_ok (obj sort n)) o e in
     subst (λ (x : Obj). same_sort x.sort sort ≡ true) (ok_is (obj sort n.0) o n.2) (same_sort_self sort)
 
 -- three parts of these lengths, one after the other

@@ -11,8 +11,8 @@ use Rattle.e_literal.proofs.Booleans.{same_bool}
 use Rattle.e_deriv.specs.declared.names.Names.{Names}
 use Rattle.e_line.specs.declared.fault.FaultKind.{FaultKind}
 use Rattle.e_line.specs.declared.fault.FaultKind.TheVariants.{NameTaken}
-use Rattle.e_names.specs.Scope.{has, is_taken, fresh, names_of_sort, with_names}
-use Rattle.e_names.specs.Fits.{are_distinct, are_apart, NamesDiffer}
+use Rattle.e_names.specs.Scope.{is_among_names, is_taken, fresh, names_of_sort, with_names}
+use Rattle.e_names.specs.Fits.{are_distinct, are_disjoint_names, NamesDiffer}
 
 turned : (a b : List ℕ) → bytes_eq a b ≡ true → bytes_eq b a ≡ true
 turned a b h = (bytes_eq-Decides b a).1 (sym ((bytes_eq-Decides a b).0 h))
@@ -20,47 +20,47 @@ turned a b h = (bytes_eq-Decides b a).1 (sym ((bytes_eq-Decides a b).0 h))
 same_turned : (a b : List ℕ) → bytes_eq a b ≡ bytes_eq b a
 same_turned a b = same_bool (bytes_eq a b) (bytes_eq b a) (turned a b) (turned b a)
 
-pub distinct_last : (xs : List (List ℕ)) (n : List ℕ) → are_distinct xs ≡ true → has xs n ≡ false → are_distinct (xs ++ n ∷ []) ≡ true
+pub distinct_last : (xs : List (List ℕ)) (n : List ℕ) → are_distinct xs ≡ true → is_among_names xs n ≡ false → are_distinct (xs ++ n ∷ []) ≡ true
 distinct_last [] n d h = refl
 distinct_last (x ∷ xs) n d h =
-    let p = and_parts (not (has xs x)) (are_distinct xs) d in
-    let q = or_parts (bytes_eq x n) (has xs n) h in
-    rw (list_any-append (λ m. bytes_eq m x) xs (n ∷ []), not-true (has xs x) p.0, same_turned n x, q.0, distinct_last xs n p.1 q.1) refl
+    let p = and_parts (not (is_among_names xs x)) (are_distinct xs) d in
+    let q = or_parts (bytes_eq x n) (is_among_names xs n) h in
+    rw (list_any-append (λ m. bytes_eq m x) xs (n ∷ []), not-true (is_among_names xs x) p.0, same_turned n x, q.0, distinct_last xs n p.1 q.1) refl
 
 -- apart from a longer list
-apart_first : (x : List ℕ) (xs ys : List (List ℕ)) → are_apart (x ∷ xs) ys ≡ true → (has ys x ≡ false) × (are_apart xs ys ≡ true)
+apart_first : (x : List ℕ) (xs ys : List (List ℕ)) → are_disjoint_names (x ∷ xs) ys ≡ true → (is_among_names ys x ≡ false) × (are_disjoint_names xs ys ≡ true)
 apart_first x xs [] h = (refl, refl)
 apart_first x xs (y ∷ ys) h =
-    let p = and_parts (not (bytes_eq x y || has xs y)) (are_apart (x ∷ xs) ys) h in
-    let q = or_parts (bytes_eq x y) (has xs y) (not-true (bytes_eq x y || has xs y) p.0) in
+    let p = and_parts (not (bytes_eq x y || is_among_names xs y)) (are_disjoint_names (x ∷ xs) ys) h in
+    let q = or_parts (bytes_eq x y) (is_among_names xs y) (not-true (bytes_eq x y || is_among_names xs y) p.0) in
     let r = apart_first x xs ys p.1 in
     (rw (same_turned y x, q.0, r.0) refl, rw (q.1, r.1) refl)
 
-apart_turned : (xs ys : List (List ℕ)) → are_apart xs ys ≡ true → are_apart ys xs ≡ true
+apart_turned : (xs ys : List (List ℕ)) → are_disjoint_names xs ys ≡ true → are_disjoint_names ys xs ≡ true
 apart_turned [] ys h = refl
 apart_turned (x ∷ xs) ys h = let p = apart_first x xs ys h in rw (p.0, apart_turned xs ys p.1) refl
 
-apart_after : (xs zs ys : List (List ℕ)) → are_apart xs ys ≡ true → are_apart zs ys ≡ true → are_apart (xs ++ zs) ys ≡ true
+apart_after : (xs zs ys : List (List ℕ)) → are_disjoint_names xs ys ≡ true → are_disjoint_names zs ys ≡ true → are_disjoint_names (xs ++ zs) ys ≡ true
 apart_after xs zs [] h k = refl
 apart_after xs zs (y ∷ ys) h k =
-    let p = and_parts (not (has xs y)) (are_apart xs ys) h in
-    let q = and_parts (not (has zs y)) (are_apart zs ys) k in
-    rw (list_any-append (λ m. bytes_eq m y) xs zs, not-true (has xs y) p.0, not-true (has zs y) q.0, apart_after xs zs ys p.1 q.1) refl
+    let p = and_parts (not (is_among_names xs y)) (are_disjoint_names xs ys) h in
+    let q = and_parts (not (is_among_names zs y)) (are_disjoint_names zs ys) k in
+    rw (list_any-append (λ m. bytes_eq m y) xs zs, not-true (is_among_names xs y) p.0, not-true (is_among_names zs y) q.0, apart_after xs zs ys p.1 q.1) refl
 
-apart_more : (xs ys zs : List (List ℕ)) → are_apart xs ys ≡ true → are_apart xs zs ≡ true → are_apart xs (ys ++ zs) ≡ true
-apart_more xs ys zs h k = list_all-append (λ n. not (has xs n)) ys zs ∙ rw (h, k) refl
+apart_more : (xs ys zs : List (List ℕ)) → are_disjoint_names xs ys ≡ true → are_disjoint_names xs zs ≡ true → are_disjoint_names xs (ys ++ zs) ≡ true
+apart_more xs ys zs h k = list_all-append (λ n. not (is_among_names xs n)) ys zs ∙ rw (h, k) refl
 
 pub record Untaken (ns : Names) (seen : List (List ℕ)) (n : List ℕ) : Type 0 where
-  pub points : has ns.points n ≡ false
-  pub lines : has ns.lines n ≡ false
-  pub circles : has ns.circles n ≡ false
-  pub among : has seen n ≡ false
+  pub points : is_among_names ns.points n ≡ false
+  pub lines : is_among_names ns.lines n ≡ false
+  pub circles : is_among_names ns.circles n ≡ false
+  pub among : is_among_names seen n ≡ false
 
 pub untaken : (ns : Names) (seen : List (List ℕ)) (n : List ℕ) → is_taken ns seen n ≡ false → Untaken ns seen n
 untaken ns seen n e =
-    let p = or_parts (has ns.points n) (has ns.lines n || (has ns.circles n || has seen n)) e in
-    let q = or_parts (has ns.lines n) (has ns.circles n || has seen n) p.1 in
-    let r = or_parts (has ns.circles n) (has seen n) q.1 in
+    let p = or_parts (is_among_names ns.points n) (is_among_names ns.lines n || (is_among_names ns.circles n || is_among_names seen n)) e in
+    let q = or_parts (is_among_names ns.lines n) (is_among_names ns.circles n || is_among_names seen n) p.1 in
+    let r = or_parts (is_among_names ns.circles n) (is_among_names seen n) q.1 in
     record { points = p.0; lines = q.0; circles = r.0; among = r.1 }
 
 pub passed : (b : Bool) (x : Result (Unit {0}) FaultKind) (u : Unit {0}) → cond b (Err NameTaken) x ≡ Ok u → (b ≡ false) × (x ≡ Ok u)
@@ -68,9 +68,9 @@ passed true x u e = absurd cc
 passed false x u e = (refl, e)
 
 record Fresh (ns : Names) (new : List (List ℕ)) : Type 0 where
-  points : are_apart ns.points new ≡ true
-  lines : are_apart ns.lines new ≡ true
-  circles : are_apart ns.circles new ≡ true
+  points : are_disjoint_names ns.points new ≡ true
+  lines : are_disjoint_names ns.lines new ≡ true
+  circles : are_disjoint_names ns.circles new ≡ true
 
 fresh_apart : (ns : Names) (seen new : List (List ℕ)) (u : Unit {0}) → fresh ns seen new ≡ Ok u → Fresh ns new
 fresh_apart ns seen [] u e = record { points = refl; lines = refl; circles = refl }
@@ -80,10 +80,10 @@ fresh_apart ns seen (n ∷ new) u e =
     let r = fresh_apart ns (seen ++ n ∷ []) new u p.1 in
     record { points = rw (t.points, r.points) refl; lines = rw (t.lines, r.lines) refl; circles = rw (t.circles, r.circles) refl }
 
-not_after : (old seen : List (List ℕ)) (n : List ℕ) → has old n ≡ false → has seen n ≡ false → has (old ++ seen) n ≡ false
+not_after : (old seen : List (List ℕ)) (n : List ℕ) → is_among_names old n ≡ false → is_among_names seen n ≡ false → is_among_names (old ++ seen) n ≡ false
 not_after old seen n h k = list_any-append (λ m. bytes_eq m n) old seen ∙ rw (h, k) refl
 
-fresh_distinct : (ns : Names) (old seen new : List (List ℕ)) (u : Unit {0}) → ((s : List (List ℕ)) (n : List ℕ) → Untaken ns s n → has old n ≡ false) → fresh ns seen new ≡ Ok u
+fresh_distinct : (ns : Names) (old seen new : List (List ℕ)) (u : Unit {0}) → ((s : List (List ℕ)) (n : List ℕ) → Untaken ns s n → is_among_names old n ≡ false) → fresh ns seen new ≡ Ok u
     → are_distinct (old ++ seen) ≡ true → are_distinct (old ++ seen ++ new) ≡ true
 fresh_distinct ns old seen [] u f e d = subst (λ (l : List (List ℕ)). are_distinct l ≡ true) (sym (append-nil (old ++ seen))) d
 fresh_distinct ns old seen (n ∷ new) u f e d =
@@ -95,7 +95,7 @@ fresh_distinct ns old seen (n ∷ new) u f e d =
     subst (λ (l : List (List ℕ)). are_distinct l ≡ true) regrouped all
 
 -- none is new twice, none is there already
-longer : (ns : Names) (old new : List (List ℕ)) (u : Unit {0}) → ((s : List (List ℕ)) (n : List ℕ) → Untaken ns s n → has old n ≡ false) → fresh ns [] new ≡ Ok u → are_distinct old ≡ true → are_distinct (old ++ new) ≡ true
+longer : (ns : Names) (old new : List (List ℕ)) (u : Unit {0}) → ((s : List (List ℕ)) (n : List ℕ) → Untaken ns s n → is_among_names old n ≡ false) → fresh ns [] new ≡ Ok u → are_distinct old ≡ true → are_distinct (old ++ new) ≡ true
 longer ns old new u f e d =
     let h = fresh_distinct ns old [] new u f e (subst (λ (l : List (List ℕ)). are_distinct l ≡ true) (sym (append-nil old)) d) in
     subst (λ (l : List (List ℕ)). are_distinct (l ++ new) ≡ true) (append-nil old) h

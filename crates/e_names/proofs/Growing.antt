@@ -23,7 +23,7 @@ use Rattle.e_line.specs.declared.sum.RawTerm.TheVariants as rawterms
 use Rattle.e_line.specs.declared.sum.RawMono.{RawMono}
 use Rattle.e_line.specs.declared.literal.RawAtom.{RawAtom}
 use Rattle.e_line.specs.declared.literal.RawAtom.TheVariants as raw
-use Rattle.e_names.specs.Scope.{has, is_taken, fresh}
+use Rattle.e_names.specs.Scope.{is_among_names, is_taken, fresh}
 use Rattle.e_names.specs.Fits.{are_distinct}
 use Rattle.e_names.specs.Canonical.{nameless, name_at, raw_term, raw_sum, raw_atom, raw_signed, raw_of}
 use Rattle.e_line.specs.HasSpelling.{AreNames}
@@ -43,8 +43,8 @@ front_distinct : (n : ℕ) (xs : List (List ℕ)) → are_distinct xs ≡ true �
 front_distinct zero xs h = refl
 front_distinct (suc n) [] h = refl
 front_distinct (suc n) (x ∷ xs) h =
-    let p = and_parts (not (has xs x)) (are_distinct xs) h in
-    rw (has_not_in_front xs n x (not-true (has xs x) p.0), front_distinct n xs p.1) refl
+    let p = and_parts (not (is_among_names xs x)) (are_distinct xs) h in
+    rw (has_not_in_front xs n x (not-true (is_among_names xs x) p.0), front_distinct n xs p.1) refl
 
 front_apart : (m n : ℕ) (others names : List (List ℕ)) → Apart others names → Apart (take m others) (take n names)
 front_apart m zero others names h = tt
@@ -63,11 +63,11 @@ push_names : (xs : List (List ℕ)) (n : List ℕ) → AreNames xs → is_name n
 push_names [] n h k = (k, tt)
 push_names (x ∷ xs) n h k = (h.0, push_names xs n h.1 k)
 
-push_apart : (others names : List (List ℕ)) (n : List ℕ) → Apart others names → has others n ≡ false → Apart others (names ++ n ∷ [])
+push_apart : (others names : List (List ℕ)) (n : List ℕ) → Apart others names → is_among_names others n ≡ false → Apart others (names ++ n ∷ [])
 push_apart others [] n h k = (k, tt)
 push_apart others (m ∷ names) n h k = (h.0, push_apart others names n h.1 k)
 
-apart_push : (others names : List (List ℕ)) (n : List ℕ) → Apart names others → has names n ≡ false → Apart (others ++ n ∷ []) names
+apart_push : (others names : List (List ℕ)) (n : List ℕ) → Apart names others → is_among_names names n ≡ false → Apart (others ++ n ∷ []) names
 apart_push others names n h k = Apart-sym names (others ++ n ∷ []) (push_apart names others n h k)
 
 pub plus_in_order : (ns : Names) (sort : Sort) (n : List ℕ) → InOrder ns → is_name n ≡ true → Free ns n → InOrder (plus ns sort n)

@@ -29,7 +29,7 @@ use Rattle.e_line.specs.declared.literal.RawLit.{RawLit}
 use Rattle.e_line.specs.declared.literal.RawAtom.{RawAtom}
 use Rattle.e_line.specs.declared.literal.RawAtom.TheVariants as raw
 use Rattle.e_line.specs.Reading.{◌>>=◌, each}
-use Rattle.e_names.specs.Scope.{object_at, or_else, object_in, object_of, known_object, used, number_at, number_of, on_sort, line_meets, meets_from, equal_at, term_in, kind_of_raw, first_kind, mono_in, sums_in, atom_in, negated_in, lit_in, scope_of_names}
+use Rattle.e_names.specs.Scope.{object_at, or_else, object_in, object_of, known_object, used, number_of_sort, number_of_name, on_sort, line_meets, meets_from, equal_at, term_in, kind_of_raw, first_kind, mono_in, sums_in, atom_in, negated_in, lit_in, scope_of_names}
 use Rattle.e_line.proofs.Bound.{ok_is, read_ok, bind_ok}
 
 abbrev pub Within : Scope → Sort → ℕ → Type 0
@@ -66,16 +66,16 @@ used_in_scope ns name o e =
     let c = object_in ns Circle name in
     either_found s p (or_else l c) o (in_found ns Point name o) (either_found s l c o (in_found ns Line name o) (in_found ns Circle name o)) (known_is (object_of ns name) o e)
 
-of_sort : (s : Scope) (t sort : Sort) (m n : ℕ) → Within s t m → number_at sort (obj t m) ≡ Ok n → Within s sort n
+of_sort : (s : Scope) (t sort : Sort) (m n : ℕ) → Within s t m → number_of_sort sort (obj t m) ≡ Ok n → Within s sort n
 of_sort s Point Point m n h e = subst (λ (k : ℕ). Within s Point k) (ok_is m n e) h
 of_sort s Line Line m n h e = subst (λ (k : ℕ). Within s Line k) (ok_is m n e) h
 of_sort s Circle Circle m n h e = subst (λ (k : ℕ). Within s Circle k) (ok_is m n e) h
 of_sort s t sort m n h e = absurd cc
 
-pub number_in_scope : (ns : Names) (sort : Sort) (name : List ℕ) (n : ℕ) → number_of ns sort name ≡ Ok n → Within (scope_of_names ns) sort n
-unfolding number_of
+pub number_in_scope : (ns : Names) (sort : Sort) (name : List ℕ) (n : ℕ) → number_of_name ns sort name ≡ Ok n → Within (scope_of_names ns) sort n
+unfolding number_of_name
 number_in_scope ns sort name n e =
-    let a = bind_ok (used ns name) (λ o. number_at sort o) n e in
+    let a = bind_ok (used ns name) (λ o. number_of_sort sort o) n e in
     of_sort (scope_of_names ns) a.0.sort sort a.0.num n (used_in_scope ns name a.0 a.1) a.2
 
 two : (s : Scope) (a b : Obj) → Within s a.sort a.num → Within s b.sort b.num → list_all (is_in_scope s) (a ∷ b ∷ []) ≡ true
@@ -103,7 +103,7 @@ meets_within ns Line n y a h e =
     let o = bind_ok (used ns y) (λ o. line_meets n o.sort o.num) a e in
     line_within (scope_of_names ns) n o.0.sort o.0.num a h (used_in_scope ns y o.0 o.1) o.2
 meets_within ns Circle n y a h e =
-    let k = bind_ok (number_of ns Circle y) (λ k. read_ok (atoms.MeetCC n k)) a e in
+    let k = bind_ok (number_of_name ns Circle y) (λ k. read_ok (atoms.MeetCC n k)) a e in
     to (scope_of_names ns) (atoms.MeetCC n k.0) a (two (scope_of_names ns) (obj Circle n) (obj Circle k.0) h (number_in_scope ns Circle y k.0 k.1)) k.2
 
 equal_within : (s : Scope) (t : Sort) (m n : ℕ) → Within s t m → Within s t n → AtomWithin s (equal_at t m n)
@@ -125,19 +125,19 @@ to_term s x t h e = subst (λ (y : Term). TermWithin s y) (ok_is x t e) h
 pub term_in_scope : (ns : Names) (r : RawTerm) (t : Term) → term_in ns r ≡ Ok t → TermWithin (scope_of_names ns) t
 unfolding term_in
 term_in_scope ns (rawterms.Seg x y) t e =
-    let p = bind_ok (number_of ns Point x) (λ p. number_of ns Point y >>= λ q. read_ok (terms.Seg p q)) t e in
-    let q = bind_ok (number_of ns Point y) (λ q. read_ok (terms.Seg p.0 q)) t p.2 in
+    let p = bind_ok (number_of_name ns Point x) (λ p. number_of_name ns Point y >>= λ q. read_ok (terms.Seg p q)) t e in
+    let q = bind_ok (number_of_name ns Point y) (λ q. read_ok (terms.Seg p.0 q)) t p.2 in
     to_term (scope_of_names ns) (terms.Seg p.0 q.0) t (two (scope_of_names ns) (obj Point p.0) (obj Point q.0) (number_in_scope ns Point x p.0 p.1) (number_in_scope ns Point y q.0 q.1)) q.2
 term_in_scope ns (rawterms.Ang x y z) t e =
-    let p = bind_ok (number_of ns Point x) (λ p. number_of ns Point y >>= λ q. number_of ns Point z >>= λ r. read_ok (terms.Ang p q r)) t e in
-    let q = bind_ok (number_of ns Point y) (λ q. number_of ns Point z >>= λ r. read_ok (terms.Ang p.0 q r)) t p.2 in
-    let r = bind_ok (number_of ns Point z) (λ r. read_ok (terms.Ang p.0 q.0 r)) t q.2 in
+    let p = bind_ok (number_of_name ns Point x) (λ p. number_of_name ns Point y >>= λ q. number_of_name ns Point z >>= λ r. read_ok (terms.Ang p q r)) t e in
+    let q = bind_ok (number_of_name ns Point y) (λ q. number_of_name ns Point z >>= λ r. read_ok (terms.Ang p.0 q r)) t p.2 in
+    let r = bind_ok (number_of_name ns Point z) (λ r. read_ok (terms.Ang p.0 q.0 r)) t q.2 in
     to_term (scope_of_names ns) (terms.Ang p.0 q.0 r.0) t
     (three (scope_of_names ns) (obj Point p.0) (obj Point q.0) (obj Point r.0) (number_in_scope ns Point x p.0 p.1) (number_in_scope ns Point y q.0 q.1) (number_in_scope ns Point z r.0 r.1)) r.2
 term_in_scope ns (rawterms.Area x y z) t e =
-    let p = bind_ok (number_of ns Point x) (λ p. number_of ns Point y >>= λ q. number_of ns Point z >>= λ r. read_ok (terms.Area p q r)) t e in
-    let q = bind_ok (number_of ns Point y) (λ q. number_of ns Point z >>= λ r. read_ok (terms.Area p.0 q r)) t p.2 in
-    let r = bind_ok (number_of ns Point z) (λ r. read_ok (terms.Area p.0 q.0 r)) t q.2 in
+    let p = bind_ok (number_of_name ns Point x) (λ p. number_of_name ns Point y >>= λ q. number_of_name ns Point z >>= λ r. read_ok (terms.Area p q r)) t e in
+    let q = bind_ok (number_of_name ns Point y) (λ q. number_of_name ns Point z >>= λ r. read_ok (terms.Area p.0 q r)) t p.2 in
+    let r = bind_ok (number_of_name ns Point z) (λ r. read_ok (terms.Area p.0 q.0 r)) t q.2 in
     to_term (scope_of_names ns) (terms.Area p.0 q.0 r.0) t
     (three (scope_of_names ns) (obj Point p.0) (obj Point q.0) (obj Point r.0) (number_in_scope ns Point x p.0 p.1) (number_in_scope ns Point y q.0 q.1) (number_in_scope ns Point z r.0 r.1)) r.2
 term_in_scope ns rawterms.Right t e = to_term (scope_of_names ns) terms.Right t refl e
@@ -203,35 +203,35 @@ sums_within ns x y p e =
 pub atom_in_scope : (ns : Names) (r : RawAtom) (a : Atom) → atom_in ns r ≡ Ok a → AtomWithin (scope_of_names ns) a
 unfolding atom_in
 atom_in_scope ns (raw.On x y) a e =
-    let p = bind_ok (number_of ns Point x) (λ p. used ns y >>= λ o. on_sort p o.sort o.num) a e in
+    let p = bind_ok (number_of_name ns Point x) (λ p. used ns y >>= λ o. on_sort p o.sort o.num) a e in
     let o = bind_ok (used ns y) (λ o. on_sort p.0 o.sort o.num) a p.2 in
     on_within (scope_of_names ns) p.0 o.0.sort o.0.num a (number_in_scope ns Point x p.0 p.1) (used_in_scope ns y o.0 o.1) o.2
 atom_in_scope ns (raw.Inside x y) a e =
-    let p = bind_ok (number_of ns Point x) (λ p. number_of ns Circle y >>= λ c. read_ok (atoms.Inside p c)) a e in
-    let c = bind_ok (number_of ns Circle y) (λ c. read_ok (atoms.Inside p.0 c)) a p.2 in
+    let p = bind_ok (number_of_name ns Point x) (λ p. number_of_name ns Circle y >>= λ c. read_ok (atoms.Inside p c)) a e in
+    let c = bind_ok (number_of_name ns Circle y) (λ c. read_ok (atoms.Inside p.0 c)) a p.2 in
     to (scope_of_names ns) (atoms.Inside p.0 c.0) a (two (scope_of_names ns) (obj Point p.0) (obj Circle c.0) (number_in_scope ns Point x p.0 p.1) (number_in_scope ns Circle y c.0 c.1)) c.2
 atom_in_scope ns (raw.Center x y) a e =
-    let p = bind_ok (number_of ns Point x) (λ p. number_of ns Circle y >>= λ c. read_ok (atoms.Center p c)) a e in
-    let c = bind_ok (number_of ns Circle y) (λ c. read_ok (atoms.Center p.0 c)) a p.2 in
+    let p = bind_ok (number_of_name ns Point x) (λ p. number_of_name ns Circle y >>= λ c. read_ok (atoms.Center p c)) a e in
+    let c = bind_ok (number_of_name ns Circle y) (λ c. read_ok (atoms.Center p.0 c)) a p.2 in
     to (scope_of_names ns) (atoms.Center p.0 c.0) a (two (scope_of_names ns) (obj Point p.0) (obj Circle c.0) (number_in_scope ns Point x p.0 p.1) (number_in_scope ns Circle y c.0 c.1)) c.2
 atom_in_scope ns (raw.Between x y z) a e =
-    let p = bind_ok (number_of ns Point x) (λ p. number_of ns Point y >>= λ q. number_of ns Point z >>= λ r. read_ok (atoms.Between p q r)) a e in
-    let q = bind_ok (number_of ns Point y) (λ q. number_of ns Point z >>= λ r. read_ok (atoms.Between p.0 q r)) a p.2 in
-    let r = bind_ok (number_of ns Point z) (λ r. read_ok (atoms.Between p.0 q.0 r)) a q.2 in
+    let p = bind_ok (number_of_name ns Point x) (λ p. number_of_name ns Point y >>= λ q. number_of_name ns Point z >>= λ r. read_ok (atoms.Between p q r)) a e in
+    let q = bind_ok (number_of_name ns Point y) (λ q. number_of_name ns Point z >>= λ r. read_ok (atoms.Between p.0 q r)) a p.2 in
+    let r = bind_ok (number_of_name ns Point z) (λ r. read_ok (atoms.Between p.0 q.0 r)) a q.2 in
     to (scope_of_names ns) (atoms.Between p.0 q.0 r.0) a
     (three (scope_of_names ns) (obj Point p.0) (obj Point q.0) (obj Point r.0) (number_in_scope ns Point x p.0 p.1) (number_in_scope ns Point y q.0 q.1) (number_in_scope ns Point z r.0 r.1)) r.2
 atom_in_scope ns (raw.Same x y z) a e =
-    let p = bind_ok (number_of ns Point x) (λ p. number_of ns Point y >>= λ q. number_of ns Line z >>= λ r. read_ok (atoms.Same p q r)) a e in
-    let q = bind_ok (number_of ns Point y) (λ q. number_of ns Line z >>= λ r. read_ok (atoms.Same p.0 q r)) a p.2 in
-    let r = bind_ok (number_of ns Line z) (λ r. read_ok (atoms.Same p.0 q.0 r)) a q.2 in
+    let p = bind_ok (number_of_name ns Point x) (λ p. number_of_name ns Point y >>= λ q. number_of_name ns Line z >>= λ r. read_ok (atoms.Same p q r)) a e in
+    let q = bind_ok (number_of_name ns Point y) (λ q. number_of_name ns Line z >>= λ r. read_ok (atoms.Same p.0 q r)) a p.2 in
+    let r = bind_ok (number_of_name ns Line z) (λ r. read_ok (atoms.Same p.0 q.0 r)) a q.2 in
     to (scope_of_names ns) (atoms.Same p.0 q.0 r.0) a
     (three (scope_of_names ns) (obj Point p.0) (obj Point q.0) (obj Line r.0) (number_in_scope ns Point x p.0 p.1) (number_in_scope ns Point y q.0 q.1) (number_in_scope ns Line z r.0 r.1)) r.2
 atom_in_scope ns (raw.Meets x y) a e =
     let o = bind_ok (used ns x) (λ o. meets_from ns o.sort o.num y) a e in
     meets_within ns o.0.sort o.0.num y a (used_in_scope ns x o.0 o.1) o.2
 atom_in_scope ns (raw.Equal x y) a e =
-    let o = bind_ok (used ns x) (λ o. number_of ns o.sort y >>= λ n. read_ok (equal_at o.sort o.num n)) a e in
-    let n = bind_ok (number_of ns o.0.sort y) (λ n. read_ok (equal_at o.0.sort o.0.num n)) a o.2 in
+    let o = bind_ok (used ns x) (λ o. number_of_name ns o.sort y >>= λ n. read_ok (equal_at o.sort o.num n)) a e in
+    let n = bind_ok (number_of_name ns o.0.sort y) (λ n. read_ok (equal_at o.0.sort o.0.num n)) a o.2 in
     to (scope_of_names ns) (equal_at o.0.sort o.0.num n.0) a
     (equal_within (scope_of_names ns) o.0.sort o.0.num n.0 (used_in_scope ns x o.0 o.1) (number_in_scope ns o.0.sort y n.0 n.1)) n.2
 atom_in_scope ns (raw.SumsEqual x y) a e =

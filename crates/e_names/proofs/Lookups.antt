@@ -13,7 +13,7 @@ use Rattle.e_deriv.specs.declared.names.Names.{Names}
 use Rattle.e_line.specs.declared.fault.FaultKind.{FaultKind}
 use Rattle.e_line.specs.Reading.{◌>>=◌}
 use Rattle.e_deriv.specs.Naming.{names_of_sort}
-use Rattle.e_names.specs.Scope.{scope_of_names, used, number_at, number_of, object_as, objects_as}
+use Rattle.e_names.specs.Scope.{scope_of_names, used, number_of_sort, number_of_name, object_as, objects_as}
 use Rattle.e_names.specs.Canonical.{name_at, name_of_object}
 use Rattle.e_names.specs.Fits.{are_distinct, NamesDiffer}
 use Rattle.e_line.specs.HasSpelling.{AreNames}
@@ -67,14 +67,14 @@ used_again ns Circle i s h =
     let lt = ltb-true i (length ns.circles) h in
     rw (not_there ns.points (name_at ns.circles i) (apart_at ns.points ns.circles i s.no_point_circle lt), not_there ns.lines (name_at ns.circles i) (apart_at ns.lines ns.circles i s.no_line_circle lt), there ns.circles i s.circles lt) refl
 
-same_number : (sort : Sort) (i : ℕ) → number_at sort (obj sort i) ≡ Ok i
+same_number : (sort : Sort) (i : ℕ) → number_of_sort sort (obj sort i) ≡ Ok i
 same_number Point i = refl
 same_number Line i = refl
 same_number Circle i = refl
 
-pub number_again : (ns : Names) (sort : Sort) (i : ℕ) → InOrder ns → Within ns sort i → number_of ns sort (name_at (names_of_sort ns sort) i) ≡ Ok i
-unfolding number_of
-number_again ns sort i s h = ap (λ (r : Result Obj FaultKind). r >>= λ o. number_at sort o) (used_again ns sort i s h) ∙ same_number sort i
+pub number_again : (ns : Names) (sort : Sort) (i : ℕ) → InOrder ns → Within ns sort i → number_of_name ns sort (name_at (names_of_sort ns sort) i) ≡ Ok i
+unfolding number_of_name
+number_again ns sort i s h = ap (λ (r : Result Obj FaultKind). r >>= λ o. number_of_sort sort o) (used_again ns sort i s h) ∙ same_number sort i
 
 pub named_at : (ns : Names) (sort : Sort) (i : ℕ) → InOrder ns → Within ns sort i → is_name (name_at (names_of_sort ns sort) i) ≡ true
 named_at ns Point i s h = name_there ns.points i s.point_names (ltb-true i (length ns.points) h)

@@ -8,7 +8,7 @@ use Rattle.e_deriv.specs.declared.names.Names.{Names}
 use Rattle.e_line.specs.declared.fault.FaultKind.{FaultKind}
 use Rattle.e_line.specs.declared.fault.FaultKind.TheVariants.{NameTaken}
 use Rattle.e_deriv.specs.Naming.{names_of_sort, with_names}
-use Rattle.e_names.specs.Scope.{has, is_taken, fresh}
+use Rattle.e_names.specs.Scope.{is_among_names, is_taken, fresh}
 
 -- with one name more
 abbrev pub plus : Names → Sort → List ℕ → Names
@@ -16,7 +16,7 @@ plus ns sort name = with_names ns sort (names_of_sort ns sort ++ name ∷ [])
 
 -- no object has this name
 abbrev pub Free : Names → List ℕ → Type 0
-Free ns n = (has ns.points n ≡ false) × (has ns.lines n ≡ false) × (has ns.circles n ≡ false)
+Free ns n = (is_among_names ns.points n ≡ false) × (is_among_names ns.lines n ≡ false) × (is_among_names ns.circles n ≡ false)
 
 -- ---- a name on a line of its own, or on the next line
 
@@ -24,9 +24,9 @@ or_assoc : (a b c : Bool) → (a || (b || c)) ≡ ((a || b) || c)
 or_assoc true b c = refl
 or_assoc false b c = refl
 
-has_push : (xs : List (List ℕ)) (n m : List ℕ) → has (xs ++ n ∷ []) m ≡ (has xs m || bytes_eq n m)
+has_push : (xs : List (List ℕ)) (n m : List ℕ) → is_among_names (xs ++ n ∷ []) m ≡ (is_among_names xs m || bytes_eq n m)
 has_push [] n m = or-false (bytes_eq n m)
-has_push (x ∷ xs) n m = ap (λ b. bytes_eq x m || b) (has_push xs n m) ∙ or_assoc (bytes_eq x m) (has xs m) (bytes_eq n m)
+has_push (x ∷ xs) n m = ap (λ b. bytes_eq x m || b) (has_push xs n m) ∙ or_assoc (bytes_eq x m) (is_among_names xs m) (bytes_eq n m)
 
 in_points : (p l c q s : Bool) → (p || (l || (c || (q || s)))) ≡ ((p || q) || (l || (c || s)))
 in_points true l c q s = refl
@@ -48,11 +48,11 @@ in_circles p l c q s = ap (λ b. p || (l || b)) (or_assoc c q s)
 
 same_taken : (ns : Names) (sort : Sort) (name : List ℕ) (seen : List (List ℕ)) (m : List ℕ) → is_taken ns (name ∷ seen) m ≡ is_taken (plus ns sort name) seen m
 same_taken ns Point name seen m =
-    in_points (has ns.points m) (has ns.lines m) (has ns.circles m) (bytes_eq name m) (has seen m) ∙ ap (λ b. b || (has ns.lines m || (has ns.circles m || has seen m))) (sym (has_push ns.points name m))
+    in_points (is_among_names ns.points m) (is_among_names ns.lines m) (is_among_names ns.circles m) (bytes_eq name m) (is_among_names seen m) ∙ ap (λ b. b || (is_among_names ns.lines m || (is_among_names ns.circles m || is_among_names seen m))) (sym (has_push ns.points name m))
 same_taken ns Line name seen m =
-    in_lines (has ns.points m) (has ns.lines m) (has ns.circles m) (bytes_eq name m) (has seen m) ∙ ap (λ b. has ns.points m || (b || (has ns.circles m || has seen m))) (sym (has_push ns.lines name m))
+    in_lines (is_among_names ns.points m) (is_among_names ns.lines m) (is_among_names ns.circles m) (bytes_eq name m) (is_among_names seen m) ∙ ap (λ b. is_among_names ns.points m || (b || (is_among_names ns.circles m || is_among_names seen m))) (sym (has_push ns.lines name m))
 same_taken ns Circle name seen m =
-    in_circles (has ns.points m) (has ns.lines m) (has ns.circles m) (bytes_eq name m) (has seen m) ∙ ap (λ b. has ns.points m || (has ns.lines m || (b || has seen m))) (sym (has_push ns.circles name m))
+    in_circles (is_among_names ns.points m) (is_among_names ns.lines m) (is_among_names ns.circles m) (bytes_eq name m) (is_among_names seen m) ∙ ap (λ b. is_among_names ns.points m || (is_among_names ns.lines m || (b || is_among_names seen m))) (sym (has_push ns.circles name m))
 
 abbrev taken_or : Bool → Result (Unit {0}) FaultKind → Result (Unit {0}) FaultKind
 taken_or b r = cond b (Err NameTaken) r

@@ -23,14 +23,14 @@ use Rattle.e_line.specs.declared.lets.RawLet.{RawLet}
 use Rattle.e_line.specs.declared.superposes.RawSuperpose.{RawSuperpose}
 use Rattle.e_line.specs.declared.raw_line.RawLine.{RawLine}
 use Rattle.e_line.specs.declared.raw_line.RawLine.TheVariants as rawlines
-use Rattle.e_line.specs.Reading.{◌>>=◌, or_malformed, title_at, cut_at, names_of, not_empty, some_names}
+use Rattle.e_line.specs.Reading.{◌>>=◌, or_malformed, first_title, cut_at, names_of, not_empty, some_names}
 use Rattle.e_line.specs.Literals.{lit_of, is_diagram_raw, is_semicolon, lits_of}
-use Rattle.e_line.specs.Superposes.{superpose_pieces, head_of, superpose_of}
+use Rattle.e_line.specs.Superposes.{superpose_pieces, raw_superpose_of, superpose_of}
 use Rattle.e_line.specs.Lets.{are_words_of, new_words, argument_words, shapes_of, avoided_of, let_named, let_of}
 use Rattle.e_line.specs.declared.applies.RawApply.{RawApply}
 use Rattle.e_line.specs.Applies.{arguments_of, made_names as names_after_as, apply_of}
 use Rattle.e_line.specs.RawLines.{raw_line_of}
-use Rattle.e_names.specs.Scope.{used, number_of, on_sort, line_meets, meets_from, equal_at, atom_in, negated_in, lit_in, args_in, by_in, known_rule, variables_of, right_count}
+use Rattle.e_names.specs.Scope.{used, number_of_name, on_sort, line_meets, meets_from, equal_at, atom_in, negated_in, lit_in, args_in, by_in, known_rule, variables_of, right_count}
 use Rattle.e_names.specs.Fits.{is_diagram_atom, is_diagram_lit}
 use Rattle.e_line.specs.HasSpelling.{AreNames}
 use Rattle.e_line.proofs.Bound.{bind_ok, ok_is, read_ok, each_length}
@@ -93,7 +93,7 @@ unfolding apply_of
 apply_said ws a e =
     let made : List ℕ → List (Option (List ℕ)) → List (List ℕ) → RawApply = λ t args new. record { title = t; args = args; new = new } in
     let rest : List ℕ × List (List ℕ) → Result RawApply FaultKind = λ t. arguments_of (cut_at (codes "as") t.1).0 >>= λ args. names_after_as (cut_at (codes "as") t.1).2 (cut_at (codes "as") t.1).1 >>= λ new. read_ok (made t.0 args new) in
-    let t = bind_ok (title_at ws) rest a e in
+    let t = bind_ok (first_title ws) rest a e in
     let parts = cut_at (codes "as") t.0.1 in
     let args = bind_ok (arguments_of parts.0) (λ args. names_after_as parts.2 parts.1 >>= λ new. read_ok (made t.0.0 args new)) a t.2 in
     let new = bind_ok (names_after_as parts.2 parts.1) (λ new. read_ok (made t.0.0 args.0 new)) a args.2 in
@@ -105,8 +105,8 @@ some_lits_said ws ls e =
     let n = each_length lit_of (slice_split is_semicolon ws) ls e in
     (omega (arith, n, length-slice_split is_semicolon ws), lits_said ws ls e)
 
-head_said : (head rest : List (List ℕ)) (s : RawSuperpose) → head_of head rest ≡ Ok s → Said (rawlines.Superpose s)
-unfolding head_of
+head_said : (head rest : List (List ℕ)) (s : RawSuperpose) → raw_superpose_of head rest ≡ Ok s → Said (rawlines.Superpose s)
+unfolding raw_superpose_of
 head_said head rest s e =
     let made : List (List ℕ) → List (List ℕ) → List RawLit → RawSuperpose = λ new args ls. record { args = args; new = new; shown = ls } in
     let news = new_words superpose_pieces head in
@@ -168,7 +168,7 @@ line_plain l Circle m a e = to (atoms.MeetLC l m) a refl e
 meets_plain : (ns : Names) (t : Sort) (n : ℕ) (y : List ℕ) (a : Atom) → meets_from ns t n y ≡ Ok a → Plain a
 meets_plain ns Point n y a e = absurd cc
 meets_plain ns Line n y a e = let o = bind_ok (used ns y) (λ o. line_meets n o.sort o.num) a e in line_plain n o.0.sort o.0.num a o.2
-meets_plain ns Circle n y a e = let k = bind_ok (number_of ns Circle y) (λ k. read_ok (atoms.MeetCC n k)) a e in to (atoms.MeetCC n k.0) a refl k.2
+meets_plain ns Circle n y a e = let k = bind_ok (number_of_name ns Circle y) (λ k. read_ok (atoms.MeetCC n k)) a e in to (atoms.MeetCC n k.0) a refl k.2
 
 equal_plain : (t : Sort) (m n : ℕ) → Plain (equal_at t m n)
 equal_plain Point m n = refl
@@ -178,33 +178,33 @@ equal_plain Circle m n = refl
 pub atom_plain : (ns : Names) (r : RawAtom) (a : Atom) → is_diagram_raw r ≡ true → atom_in ns r ≡ Ok a → Plain a
 unfolding atom_in
 atom_plain ns (raw.On x y) a d e =
-    let p = bind_ok (number_of ns Point x) (λ p. used ns y >>= λ o. on_sort p o.sort o.num) a e in
+    let p = bind_ok (number_of_name ns Point x) (λ p. used ns y >>= λ o. on_sort p o.sort o.num) a e in
     let o = bind_ok (used ns y) (λ o. on_sort p.0 o.sort o.num) a p.2 in
     on_plain p.0 o.0.sort o.0.num a o.2
 atom_plain ns (raw.Inside x y) a d e =
-    let p = bind_ok (number_of ns Point x) (λ p. number_of ns Circle y >>= λ c. read_ok (atoms.Inside p c)) a e in
-    let c = bind_ok (number_of ns Circle y) (λ c. read_ok (atoms.Inside p.0 c)) a p.2 in
+    let p = bind_ok (number_of_name ns Point x) (λ p. number_of_name ns Circle y >>= λ c. read_ok (atoms.Inside p c)) a e in
+    let c = bind_ok (number_of_name ns Circle y) (λ c. read_ok (atoms.Inside p.0 c)) a p.2 in
     to (atoms.Inside p.0 c.0) a refl c.2
 atom_plain ns (raw.Center x y) a d e =
-    let p = bind_ok (number_of ns Point x) (λ p. number_of ns Circle y >>= λ c. read_ok (atoms.Center p c)) a e in
-    let c = bind_ok (number_of ns Circle y) (λ c. read_ok (atoms.Center p.0 c)) a p.2 in
+    let p = bind_ok (number_of_name ns Point x) (λ p. number_of_name ns Circle y >>= λ c. read_ok (atoms.Center p c)) a e in
+    let c = bind_ok (number_of_name ns Circle y) (λ c. read_ok (atoms.Center p.0 c)) a p.2 in
     to (atoms.Center p.0 c.0) a refl c.2
 atom_plain ns (raw.Between x y z) a d e =
-    let p = bind_ok (number_of ns Point x) (λ p. number_of ns Point y >>= λ q. number_of ns Point z >>= λ r. read_ok (atoms.Between p q r)) a e in
-    let q = bind_ok (number_of ns Point y) (λ q. number_of ns Point z >>= λ r. read_ok (atoms.Between p.0 q r)) a p.2 in
-    let r = bind_ok (number_of ns Point z) (λ r. read_ok (atoms.Between p.0 q.0 r)) a q.2 in
+    let p = bind_ok (number_of_name ns Point x) (λ p. number_of_name ns Point y >>= λ q. number_of_name ns Point z >>= λ r. read_ok (atoms.Between p q r)) a e in
+    let q = bind_ok (number_of_name ns Point y) (λ q. number_of_name ns Point z >>= λ r. read_ok (atoms.Between p.0 q r)) a p.2 in
+    let r = bind_ok (number_of_name ns Point z) (λ r. read_ok (atoms.Between p.0 q.0 r)) a q.2 in
     to (atoms.Between p.0 q.0 r.0) a refl r.2
 atom_plain ns (raw.Same x y z) a d e =
-    let p = bind_ok (number_of ns Point x) (λ p. number_of ns Point y >>= λ q. number_of ns Line z >>= λ r. read_ok (atoms.Same p q r)) a e in
-    let q = bind_ok (number_of ns Point y) (λ q. number_of ns Line z >>= λ r. read_ok (atoms.Same p.0 q r)) a p.2 in
-    let r = bind_ok (number_of ns Line z) (λ r. read_ok (atoms.Same p.0 q.0 r)) a q.2 in
+    let p = bind_ok (number_of_name ns Point x) (λ p. number_of_name ns Point y >>= λ q. number_of_name ns Line z >>= λ r. read_ok (atoms.Same p q r)) a e in
+    let q = bind_ok (number_of_name ns Point y) (λ q. number_of_name ns Line z >>= λ r. read_ok (atoms.Same p.0 q r)) a p.2 in
+    let r = bind_ok (number_of_name ns Line z) (λ r. read_ok (atoms.Same p.0 q.0 r)) a q.2 in
     to (atoms.Same p.0 q.0 r.0) a refl r.2
 atom_plain ns (raw.Meets x y) a d e =
     let o = bind_ok (used ns x) (λ o. meets_from ns o.sort o.num y) a e in
     meets_plain ns o.0.sort o.0.num y a o.2
 atom_plain ns (raw.Equal x y) a d e =
-    let o = bind_ok (used ns x) (λ o. number_of ns o.sort y >>= λ n. read_ok (equal_at o.sort o.num n)) a e in
-    let n = bind_ok (number_of ns o.0.sort y) (λ n. read_ok (equal_at o.0.sort o.0.num n)) a o.2 in
+    let o = bind_ok (used ns x) (λ o. number_of_name ns o.sort y >>= λ n. read_ok (equal_at o.sort o.num n)) a e in
+    let n = bind_ok (number_of_name ns o.0.sort y) (λ n. read_ok (equal_at o.0.sort o.0.num n)) a o.2 in
     to (equal_at o.0.sort o.0.num n.0) a (equal_plain o.0.sort o.0.num n.0) n.2
 atom_plain ns (raw.SumsEqual x y) a d e = absurd cc
 atom_plain ns (raw.SumsLess x y) a d e = absurd cc

@@ -26,7 +26,7 @@ use Rattle.e_line.specs.declared.literal.RawAtom.TheVariants as raw
 use Rattle.e_line.specs.Limits.{most_monomials, most_coefficient, monomials, count_monomials}
 use Rattle.e_line.specs.Reading.{◌>>=◌, each}
 use Rattle.e_line.specs.Literals.{monos_of}
-use Rattle.e_names.specs.Scope.{number_of, term_in, kind_of_raw, first_kind, mono_in, sums_in, atom_in, negated_in, lit_in, lits_in}
+use Rattle.e_names.specs.Scope.{number_of_name, term_in, kind_of_raw, first_kind, mono_in, sums_in, atom_in, negated_in, lit_in, lits_in}
 use Rattle.e_line.specs.LineLimits.{are_short, are_small, count_monos}
 use Rattle.e_names.specs.Fits.{is_diagram_atom}
 use Rattle.e_line.proofs.Bound.{bind_ok, ok_is, read_ok, each_length}
@@ -46,18 +46,18 @@ to_kind x t k h e = subst (λ (y : Term). kind_of_term y ≡ k) (ok_is x t e) h
 term_kind : (ns : Names) (r : RawTerm) (t : Term) → term_in ns r ≡ Ok t → kind_of_term t ≡ kind_of_raw r
 unfolding term_in
 term_kind ns (rawterms.Seg x y) t e =
-    let p = bind_ok (number_of ns Point x) (λ p. number_of ns Point y >>= λ q. read_ok (terms.Seg p q)) t e in
-    let q = bind_ok (number_of ns Point y) (λ q. read_ok (terms.Seg p.0 q)) t p.2 in
+    let p = bind_ok (number_of_name ns Point x) (λ p. number_of_name ns Point y >>= λ q. read_ok (terms.Seg p q)) t e in
+    let q = bind_ok (number_of_name ns Point y) (λ q. read_ok (terms.Seg p.0 q)) t p.2 in
     to_kind (terms.Seg p.0 q.0) t (kind_of_raw (rawterms.Seg x y)) refl q.2
 term_kind ns (rawterms.Ang x y z) t e =
-    let p = bind_ok (number_of ns Point x) (λ p. number_of ns Point y >>= λ q. number_of ns Point z >>= λ r. read_ok (terms.Ang p q r)) t e in
-    let q = bind_ok (number_of ns Point y) (λ q. number_of ns Point z >>= λ r. read_ok (terms.Ang p.0 q r)) t p.2 in
-    let r = bind_ok (number_of ns Point z) (λ r. read_ok (terms.Ang p.0 q.0 r)) t q.2 in
+    let p = bind_ok (number_of_name ns Point x) (λ p. number_of_name ns Point y >>= λ q. number_of_name ns Point z >>= λ r. read_ok (terms.Ang p q r)) t e in
+    let q = bind_ok (number_of_name ns Point y) (λ q. number_of_name ns Point z >>= λ r. read_ok (terms.Ang p.0 q r)) t p.2 in
+    let r = bind_ok (number_of_name ns Point z) (λ r. read_ok (terms.Ang p.0 q.0 r)) t q.2 in
     to_kind (terms.Ang p.0 q.0 r.0) t (kind_of_raw (rawterms.Ang x y z)) refl r.2
 term_kind ns (rawterms.Area x y z) t e =
-    let p = bind_ok (number_of ns Point x) (λ p. number_of ns Point y >>= λ q. number_of ns Point z >>= λ r. read_ok (terms.Area p q r)) t e in
-    let q = bind_ok (number_of ns Point y) (λ q. number_of ns Point z >>= λ r. read_ok (terms.Area p.0 q r)) t p.2 in
-    let r = bind_ok (number_of ns Point z) (λ r. read_ok (terms.Area p.0 q.0 r)) t q.2 in
+    let p = bind_ok (number_of_name ns Point x) (λ p. number_of_name ns Point y >>= λ q. number_of_name ns Point z >>= λ r. read_ok (terms.Area p q r)) t e in
+    let q = bind_ok (number_of_name ns Point y) (λ q. number_of_name ns Point z >>= λ r. read_ok (terms.Area p.0 q r)) t p.2 in
+    let r = bind_ok (number_of_name ns Point z) (λ r. read_ok (terms.Area p.0 q.0 r)) t q.2 in
     to_kind (terms.Area p.0 q.0 r.0) t (kind_of_raw (rawterms.Area x y z)) refl r.2
 term_kind ns rawterms.Right t e = to_kind terms.Right t (kind_of_raw rawterms.Right) refl e
 

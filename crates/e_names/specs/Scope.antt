@@ -49,8 +49,8 @@ pub record FewNames (ns : Names) : Type 0 where
 abbrev pub scope_of_names : Names → Scope
 scope_of_names ns = record { points = length ns.points; lines = length ns.lines; circles = length ns.circles }
 
-abbrev pub has : List (List ℕ) → List ℕ → Bool
-has names name = list_any (λ n. bytes_eq n name) names
+abbrev pub is_among_names : List (List ℕ) → List ℕ → Bool
+is_among_names names name = list_any (λ n. bytes_eq n name) names
 
 abbrev pub object_at : Sort → Option ℕ → Option Obj
 object_at sort None = None
@@ -75,21 +75,21 @@ known_object (Some o) = Ok o
 abbrev pub used : Names → List ℕ → Result Obj FaultKind
 used ns name = known_object (object_of ns name)
 
-abbrev pub number_at : Sort → Obj → Result ℕ FaultKind
-number_at sort o = if same_sort o.sort sort then Ok o.num else Err WrongSort
+abbrev pub number_of_sort : Sort → Obj → Result ℕ FaultKind
+number_of_sort sort o = if same_sort o.sort sort then Ok o.num else Err WrongSort
 
 -- the number of an object of this sort
-unfoldable pub number_of : Names → Sort → List ℕ → Result ℕ FaultKind
-number_of ns sort name = used ns name >>= λ o. number_at sort o
+unfoldable pub number_of_name : Names → Sort → List ℕ → Result ℕ FaultKind
+number_of_name ns sort name = used ns name >>= λ o. number_of_sort sort o
 
 -- ---- sums
 
 unfoldable pub term_in : Names → RawTerm → Result Term FaultKind
-term_in ns (rawterms.Seg x y) = number_of ns sorts.Point x >>= λ a. number_of ns sorts.Point y >>= λ b. Ok (terms.Seg a b)
+term_in ns (rawterms.Seg x y) = number_of_name ns sorts.Point x >>= λ a. number_of_name ns sorts.Point y >>= λ b. Ok (terms.Seg a b)
 term_in ns (rawterms.Ang x y z) =
-    number_of ns sorts.Point x >>= λ a. number_of ns sorts.Point y >>= λ b. number_of ns sorts.Point z >>= λ c. Ok (terms.Ang a b c)
+    number_of_name ns sorts.Point x >>= λ a. number_of_name ns sorts.Point y >>= λ b. number_of_name ns sorts.Point z >>= λ c. Ok (terms.Ang a b c)
 term_in ns (rawterms.Area x y z) =
-    number_of ns sorts.Point x >>= λ a. number_of ns sorts.Point y >>= λ b. number_of ns sorts.Point z >>= λ c. Ok (terms.Area a b c)
+    number_of_name ns sorts.Point x >>= λ a. number_of_name ns sorts.Point y >>= λ b. number_of_name ns sorts.Point z >>= λ c. Ok (terms.Area a b c)
 term_in ns rawterms.Right = Ok terms.Right
 
 abbrev pub kind_of_raw : RawTerm → Magnitude
@@ -134,7 +134,7 @@ line_meets l sorts.Circle n = Ok (atoms.MeetLC l n)
 abbrev pub meets_from : Names → Sort → ℕ → List ℕ → Result Atom FaultKind
 meets_from ns sorts.Point n y = Err WrongSort
 meets_from ns sorts.Line n y = used ns y >>= λ o. line_meets n o.sort o.num
-meets_from ns sorts.Circle n y = number_of ns sorts.Circle y >>= λ k. Ok (atoms.MeetCC n k)
+meets_from ns sorts.Circle n y = number_of_name ns sorts.Circle y >>= λ k. Ok (atoms.MeetCC n k)
 
 -- two equal objects of a sort
 abbrev pub equal_at : Sort → ℕ → ℕ → Atom
@@ -143,15 +143,15 @@ equal_at sorts.Line a b = atoms.EqL a b
 equal_at sorts.Circle a b = atoms.EqC a b
 
 unfoldable pub atom_in : Names → RawAtom → Result Atom FaultKind
-atom_in ns (raw.On x y) = number_of ns sorts.Point x >>= λ a. used ns y >>= λ o. on_sort a o.sort o.num
-atom_in ns (raw.Inside x y) = number_of ns sorts.Point x >>= λ a. number_of ns sorts.Circle y >>= λ c. Ok (atoms.Inside a c)
-atom_in ns (raw.Center x y) = number_of ns sorts.Point x >>= λ a. number_of ns sorts.Circle y >>= λ c. Ok (atoms.Center a c)
+atom_in ns (raw.On x y) = number_of_name ns sorts.Point x >>= λ a. used ns y >>= λ o. on_sort a o.sort o.num
+atom_in ns (raw.Inside x y) = number_of_name ns sorts.Point x >>= λ a. number_of_name ns sorts.Circle y >>= λ c. Ok (atoms.Inside a c)
+atom_in ns (raw.Center x y) = number_of_name ns sorts.Point x >>= λ a. number_of_name ns sorts.Circle y >>= λ c. Ok (atoms.Center a c)
 atom_in ns (raw.Between x y z) =
-    number_of ns sorts.Point x >>= λ a. number_of ns sorts.Point y >>= λ b. number_of ns sorts.Point z >>= λ c. Ok (atoms.Between a b c)
+    number_of_name ns sorts.Point x >>= λ a. number_of_name ns sorts.Point y >>= λ b. number_of_name ns sorts.Point z >>= λ c. Ok (atoms.Between a b c)
 atom_in ns (raw.Same x y z) =
-    number_of ns sorts.Point x >>= λ a. number_of ns sorts.Point y >>= λ b. number_of ns sorts.Line z >>= λ l. Ok (atoms.Same a b l)
+    number_of_name ns sorts.Point x >>= λ a. number_of_name ns sorts.Point y >>= λ b. number_of_name ns sorts.Line z >>= λ l. Ok (atoms.Same a b l)
 atom_in ns (raw.Meets x y) = used ns x >>= λ o. meets_from ns o.sort o.num y
-atom_in ns (raw.Equal x y) = used ns x >>= λ o. number_of ns o.sort y >>= λ n. Ok (equal_at o.sort o.num n)
+atom_in ns (raw.Equal x y) = used ns x >>= λ o. number_of_name ns o.sort y >>= λ n. Ok (equal_at o.sort o.num n)
 atom_in ns (raw.SumsEqual x y) = sums_in ns x y >>= λ p. Ok (atoms.MagEq p.0 p.1)
 atom_in ns (raw.SumsLess x y) = sums_in ns x y >>= λ p. Ok (atoms.MagLt p.0 p.1)
 atom_in ns (raw.SumsAtMost x y) = sums_in ns x y >>= λ p. Ok (atoms.MagLt p.1 p.0)
@@ -169,14 +169,14 @@ lits_in ns raws = each (lit_in ns) raws
 
 -- an object of this sort
 unfoldable pub object_as : Names → Sort → List ℕ → Result Obj FaultKind
-object_as ns sort name = number_of ns sort name >>= λ n. Ok (obj sort n)
+object_as ns sort name = number_of_name ns sort name >>= λ n. Ok (obj sort n)
 
 abbrev pub objects_as : Names → Sort → List (List ℕ) → Result (List Obj) FaultKind
 objects_as ns sort names = each (object_as ns sort) names
 
 -- a name is that of an object in scope, or one of those that are new on the line before it
 abbrev pub is_taken : Names → List (List ℕ) → List ℕ → Bool
-is_taken ns seen name = has ns.points name || (has ns.lines name || (has ns.circles name || has seen name))
+is_taken ns seen name = is_among_names ns.points name || (is_among_names ns.lines name || (is_among_names ns.circles name || is_among_names seen name))
 
 -- none of the names is taken, and none is new twice
 abbrev pub fresh : Names → List (List ℕ) → List (List ℕ) → Result (Unit {0}) FaultKind

@@ -8,7 +8,7 @@ use Rattle.e_line.specs.declared.fault.FaultKind.{FaultKind}
 use Rattle.e_line.specs.declared.fault.FaultKind.TheVariants.{Malformed}
 use Rattle.e_line.specs.declared.superposes.RawSuperpose.{RawSuperpose}
 use Rattle.e_line.specs.Reading.{◌>>=◌}
-use Rattle.e_names.specs.Scope.{number_of, fresh, lits_in}
+use Rattle.e_names.specs.Scope.{number_of_name, fresh, lits_in}
 
 -- the superposition of these points and lines
 abbrev pub superpose : (a b c d g h K L : ℕ) → Superpose
@@ -17,14 +17,14 @@ superpose a b c d g h K L = record { points = a ∷ b ∷ c ∷ d ∷ g ∷ h �
 -- the triangle and its line, then the place and its line, in the order of the line of text
 unfoldable pub placed_in : Names → List (List ℕ) → Result Superpose FaultKind
 placed_in ns (a ∷ b ∷ c ∷ k ∷ d ∷ g ∷ h ∷ l ∷ []) = do
-  na ← number_of ns sorts.Point a
-  nb ← number_of ns sorts.Point b
-  nc ← number_of ns sorts.Point c
-  nk ← number_of ns sorts.Line k
-  nd ← number_of ns sorts.Point d
-  ng ← number_of ns sorts.Point g
-  nh ← number_of ns sorts.Point h
-  nl ← number_of ns sorts.Line l
+  na ← number_of_name ns sorts.Point a
+  nb ← number_of_name ns sorts.Point b
+  nc ← number_of_name ns sorts.Point c
+  nk ← number_of_name ns sorts.Line k
+  nd ← number_of_name ns sorts.Point d
+  ng ← number_of_name ns sorts.Point g
+  nh ← number_of_name ns sorts.Point h
+  nl ← number_of_name ns sorts.Line l
   Ok (superpose na nb nc nd ng nh nk nl)
 placed_in ns _ = Err Malformed
 

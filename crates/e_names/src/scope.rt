@@ -6,7 +6,7 @@ ghost use Rattle.e_clause.specs.Sigs.{sig_of};
 ghost use Rattle.std.specs.List.{list_any};
 ghost use Rattle.e_construct.specs.Lines;
 ghost use Rattle.e_line.specs.Reading.{Gives, Moves, each, with_front};
-ghost use Rattle.e_names.specs.Scope.{object_in, object_of, used, number_at, number_of};
+ghost use Rattle.e_names.specs.Scope.{object_in, object_of, used, number_of_sort, number_of_name};
 ghost use Rattle.e_names.specs.Scope.{on_sort, line_meets, meets_from, equal_at};
 ghost use Rattle.e_names.specs.Scope.{atom_in, negated_in, lit_in, lits_in, object_as};
 ghost use Rattle.e_names.specs.Scope.{objects_as, is_taken, fresh, args_in, by_in};
@@ -81,10 +81,10 @@ fn used(names: &Names, name: Name) -> Result<Obj, LineError>
 }
 
 /// The number of the object of this sort.
-#[tactic(auto, unfolding(crate::specs::Scope::number_of))]
+#[tactic(auto, unfolding(crate::specs::Scope::number_of_name))]
 pub(crate) fn number_of(names: &Names, sort: Sort, name: Name) -> Result<u16, LineError>
     requires { FewNames names.now }
-    ensures { Gives (λ n. n) result (number_of names.now sort name) }
+    ensures { Gives (λ n. n) result (number_of_name names.now sort name) }
 {
     let object = used(names, name)?;
     if is_same_sort(object.sort, sort) {

@@ -14,7 +14,7 @@ use std::alloc::Global;
 fn point(names: &Names, name: Name) -> Result<u16, LineError>
     requires { FewNames names.now }
     ensures { Gives (λ n. n) result
-        (Rattle.e_names.specs.Scope.number_of names.now Sort.Point name) }
+        (Rattle.e_names.specs.Scope.number_of_name names.now Sort.Point name) }
 {
     number_of(names, Sort::Point, name)
 }

@@ -36,7 +36,7 @@ use Rattle.e_deriv.specs.declared.stop.Wanted.TheVariants.{Literal, Match, Contr
 use Rattle.e_prove.specs.declared.step_state.StepState.{StepState}
 use Rattle.e_prove.specs.inner.StepStates.{after_literal, after_superposed, after_block}
 use Rattle.e_prove.specs.inner.StopsOfSteps.{StepStopsAt, StepStopsAmong}
-use Rattle.e_prove.specs.inner.LicensedSteps.{line_at, has_form}
+use Rattle.e_prove.specs.inner.LicensedSteps.{line_from_basis, has_form}
 use Rattle.e_prove.specs.inner.PassedSteps.{IsReadyFor, IsDerivedFrom, Arrival, IsReachedIn, ReachesWithin, StopsWithin, IsPassed}
 use Rattle.e_prove.proofs.StopsInLists.{reached_after, reached_left, reached_right, stops_by, names_length, all_both, lits_first, lits_second}
 use Rattle.e_deriv.specs.Versions.{has_certs_of}
@@ -57,7 +57,7 @@ unfolding lines
 claim_ready before shown inner rest x goal r =
     let s = x.context.scope in
     let facts = x.context.facts in
-    let y = line_at (Claim shown inner rest) (Claim shown inner rest) x.context goal in
+    let y = line_from_basis (Claim shown inner rest) (Claim shown inner rest) x.context goal in
     let one = lines before inner inner s facts (goal_of shown) in
     let other = lines before rest rest s (joined_all facts shown) goal in
     let over = and_left (has_form before y) (list_all (has_form before) (one ++ other)) r.forms in
@@ -77,7 +77,7 @@ unfolding lines
 claim_rest before shown inner derived rest x goal d r =
     let s = x.context.scope in
     let facts = x.context.facts in
-    let y = line_at (Claim shown inner rest) (Claim shown inner rest) x.context goal in
+    let y = line_from_basis (Claim shown inner rest) (Claim shown inner rest) x.context goal in
     let one = lines before inner inner s facts (goal_of shown) in
     let other = lines before rest rest s (joined_all facts shown) goal in
     let over = and_left (has_form before y) (list_all (has_form before) (one ++ other)) r.forms in
@@ -120,7 +120,7 @@ claim_reaches before shown inner rest x goal n a i seen over k =
     record {
       filled = Claim shown k.filled rest;
       reached =
-          reached_after before (line_at (Claim shown inner rest) (Claim shown k.filled rest) x.context goal) (one ++ other) x.names (ns ++ ms) n a i seen (record { fits = over; allowed = tt; beside = tt })
+          reached_after before (line_from_basis (Claim shown inner rest) (Claim shown k.filled rest) x.context goal) (one ++ other) x.names (ns ++ ms) n a i seen (record { fits = over; allowed = tt; beside = tt })
           (reached_left before one other ns ms (n + 1) a i seen k.reached);
     }
 
@@ -143,7 +143,7 @@ claim_reaches_later before shown inner derived rest x goal n next a i seen over 
     record {
       filled = Claim shown derived k.filled;
       reached =
-          reached_after before (line_at (Claim shown inner rest) (Claim shown derived k.filled) x.context goal) (one ++ other) x.names (ns ++ ms) n a i seen (record { fits = over; allowed = tt; beside = tt })
+          reached_after before (line_from_basis (Claim shown inner rest) (Claim shown derived k.filled) x.context goal) (one ++ other) x.names (ns ++ ms) n a i seen (record { fits = over; allowed = tt; beside = tt })
           (reached_right before one other ns ms (size inner) (n + 1) a i seen (lines_length before inner derived s facts (goal_of shown)) (names_length before x.names inner) d.licensed
           (subst (λ m. IsReachedIn before other ms m a i seen) count k.reached));
     }
@@ -186,7 +186,7 @@ superposed_ready before form names shown certs inner rest x goal r =
     let s = x.context.scope in
     let facts = x.context.facts in
     let here = Superposed form names shown certs inner rest in
-    let y = line_at here here x.context goal in
+    let y = line_from_basis here here x.context goal in
     let t = grown s superposing.sorts_copied in
     let given = joined_all facts (superposing.gives_of_superposition form s) in
     let one = lines before inner inner t given (goal_of shown) in
@@ -212,7 +212,7 @@ superposed_rest before form names shown certs inner derived rest x goal d r =
     let s = x.context.scope in
     let facts = x.context.facts in
     let here = Superposed form names shown certs inner rest in
-    let y = line_at here here x.context goal in
+    let y = line_from_basis here here x.context goal in
     let t = grown s superposing.sorts_copied in
     let given = joined_all facts (superposing.gives_of_superposition form s) in
     let one = lines before inner inner t given (goal_of shown) in
@@ -233,7 +233,7 @@ Certifies form x certs = IsTrue (certify_all x.context.scope x.context.facts (su
 
 superposed_licensed : (before : List StatementView) (form : Superpose) (names : List (List ℕ)) (shown : List Lit) (written certs : List Cert) (inner rest f : Script) (x : StepState) (goal : Goal) →
     superposing.fits_superposition form x.context.scope ≡ true → are_over x.context.scope shown ≡ true → Certifies form x certs →
-    Licensed before (line_at (Superposed form names shown written inner rest) f x.context goal)
+    Licensed before (line_from_basis (Superposed form names shown written inner rest) f x.context goal)
 superposed_licensed before form names shown written certs inner rest f x goal fit over c =
     record { fits = and_from _ _ fit over; allowed = all_allowed_of_certified x.context.scope x.context.facts (superposing.needs_of_superposition form) certs c.0; beside = tt }
 
@@ -276,7 +276,7 @@ superposed_reaches before form names shown written certs inner rest x goal n a i
     record {
       filled = f;
       reached =
-          reached_after before (line_at (Superposed form names shown written inner rest) f x.context goal) (one ++ other) x.names (ns ++ ms) n a i seen
+          reached_after before (line_from_basis (Superposed form names shown written inner rest) f x.context goal) (one ++ other) x.names (ns ++ ms) n a i seen
           (superposed_licensed before form names shown written certs inner rest f x goal fit over c) (reached_left before one other ns ms (n + 1) a i seen k.reached);
     }
 
@@ -304,7 +304,7 @@ superposed_reaches_later before form names shown written certs inner derived res
     record {
       filled = f;
       reached =
-          reached_after before (line_at (Superposed form names shown written inner rest) f x.context goal) (one ++ other) x.names (ns ++ ms) n a i seen
+          reached_after before (line_from_basis (Superposed form names shown written inner rest) f x.context goal) (one ++ other) x.names (ns ++ ms) n a i seen
           (superposed_licensed before form names shown written certs inner rest f x goal fit over c)
           (reached_right before one other ns ms (size inner) (n + 1) a i seen (lines_length before inner derived t given (goal_of shown)) (names_length before inside inner) d.licensed
           (subst (λ m. IsReachedIn before other ms m a i seen) count k.reached));
@@ -335,7 +335,7 @@ passed_superposed before form names shown written certs inner derived x n next f
 
 -- what stops at its needs
 pub superposed_step_stops : (before : List StatementView) (form : Superpose) (names : List (List ℕ)) (shown : List Lit) (written : List Cert) (inner rest f : Script) (x : StepState) (goal : Goal) (h : StepStop) → StepStopsAmong x.context (superposing.needs_of_superposition form) h →
-    StepStopsAt before (line_at (Superposed form names shown written inner rest) f x.context goal) h
+    StepStopsAt before (line_from_basis (Superposed form names shown written inner rest) f x.context goal) h
 superposed_step_stops before form names shown written inner rest f x goal (step_stop.Lacks (Literal l) values) k = k
 superposed_step_stops before form names shown written inner rest f x goal (step_stop.Lacks Match values) k = absurd k
 superposed_step_stops before form names shown written inner rest f x goal (step_stop.Lacks Contradiction values) k = absurd k
@@ -355,7 +355,7 @@ unfolding lines
 split_ready before lit first second x goal r =
     let s = x.context.scope in
     let facts = x.context.facts in
-    let y = line_at (Cases lit first second) (Cases lit first second) x.context goal in
+    let y = line_from_basis (Cases lit first second) (Cases lit first second) x.context goal in
     let one = lines before first first s (joined facts lit) goal in
     let other = lines before second second s (joined facts (negation lit)) goal in
     let over = and_left (has_form before y) (list_all (has_form before) (one ++ other)) r.forms in
@@ -376,7 +376,7 @@ unfolding lines
 split_other before lit first second derived x goal d r =
     let s = x.context.scope in
     let facts = x.context.facts in
-    let y = line_at (Cases lit first second) (Cases lit first second) x.context goal in
+    let y = line_from_basis (Cases lit first second) (Cases lit first second) x.context goal in
     let one = lines before first first s (joined facts lit) goal in
     let other = lines before second second s (joined facts (negation lit)) goal in
     let over = and_left (has_form before y) (list_all (has_form before) (one ++ other)) r.forms in
@@ -420,7 +420,7 @@ split_reaches_first before lit first second x goal n a i seen over k =
     record {
       filled = f;
       reached =
-          reached_after before (line_at (Cases lit first second) f x.context goal) (one ++ other) x.names (ns ++ ms) n a i seen (record { fits = over; allowed = tt; beside = tt })
+          reached_after before (line_from_basis (Cases lit first second) f x.context goal) (one ++ other) x.names (ns ++ ms) n a i seen (record { fits = over; allowed = tt; beside = tt })
           (reached_left before one other ns ms (n + 1) a i seen k.reached);
     }
 
@@ -445,7 +445,7 @@ split_reaches_second before lit first second derived x goal n next a i seen over
     record {
       filled = f;
       reached =
-          reached_after before (line_at (Cases lit first second) f x.context goal) (one ++ other) x.names (ns ++ ms) n a i seen (record { fits = over; allowed = tt; beside = tt })
+          reached_after before (line_from_basis (Cases lit first second) f x.context goal) (one ++ other) x.names (ns ++ ms) n a i seen (record { fits = over; allowed = tt; beside = tt })
           (reached_right before one other ns ms (size first) (n + 1) a i seen (lines_length before first derived s (joined facts lit) goal) (names_length before x.names first) d.licensed
           (subst (λ m. IsReachedIn before other ms m a i seen) count k.reached));
     }

@@ -26,7 +26,7 @@ use Rattle.e_prove.specs.declared.step_state.StepState.{StepState}
 use Rattle.e_prove.specs.declared.block.ProvedStep.{ProvedStep}
 use Rattle.e_prove.specs.declared.block.ProvedClose.{ProvedClose}
 use Rattle.e_prove.specs.inner.StopsOfSteps.{StepStopsAt, UnlessNoMemory, StopOf, IsWithNumber}
-use Rattle.e_prove.specs.inner.LicensedSteps.{IsLicensedStep, IsStopOfStep, IsLicensedClose, IsStopOfClose, line_at, lines_at, has_form}
+use Rattle.e_prove.specs.inner.LicensedSteps.{IsLicensedStep, IsStopOfStep, IsLicensedClose, IsStopOfClose, line_from_basis, lines_at, has_form}
 use Rattle.e_prove.specs.inner.PassedSteps.{IsReadyFor, IsDerivedFrom, KeepsHeld, Arrival, Stands, IsReachedIn, StopIn, ReachesWithin, ReachesStep, StopsWithin, IsPassed, StepStops}
 use Rattle.e_prove.proofs.StopsInLists.{reached_first, reached_after, stop_first, stops_by, stop_before, tests_again, form_is_blind, scope_is_blind}
 
@@ -75,10 +75,10 @@ more_certified : (before : List StatementView) (x : Line) (xs all : List Line) �
 more_certified before x xs all e h k = subst (λ ys. list_all (is_certified before) ys ≡ true) (sym e) (and_from (is_certified before x) (list_all (is_certified before) xs) h k)
 
 -- a step that is ready has its form, whatever its blanks are filled with
-pub has_form_first : (before : List StatementView) (d f : Script) (x : StepState) (goal : Goal) (xs : List Line) → lines_at before d f x.context goal ≡ line_at d f x.context goal ∷ xs → IsReadyFor before d x goal →
-    has_form before (line_at d f x.context goal) ≡ true
+pub has_form_first : (before : List StatementView) (d f : Script) (x : StepState) (goal : Goal) (xs : List Line) → lines_at before d f x.context goal ≡ line_from_basis d f x.context goal ∷ xs → IsReadyFor before d x goal →
+    has_form before (line_from_basis d f x.context goal) ≡ true
 has_form_first before d f x goal xs e r =
-    first_is (has_form before) (line_at d f x.context goal) xs (lines_at before d f x.context goal) e
+    first_is (has_form before) (line_from_basis d f x.context goal) xs (lines_at before d f x.context goal) e
     (tests_again before (has_form before) (form_is_blind before) d f d x.context.scope x.context.facts x.context.facts goal ∙ r.forms)
 
 -- what is found after a licensed step
@@ -87,7 +87,7 @@ licensed_reaches : (before : List StatementView) (step derived : Step) (x after 
 licensed_reaches before step derived x after n rest goal a i names j r h =
     let e = step_script step rest in
     let f = step_script derived h.filled in
-    let y = line_at e f x.context goal in
+    let y = line_from_basis e f x.context goal in
     let ys = lines_at before rest h.filled after.context goal in
     let form = has_form_first before e f x goal ys (j.next rest h.filled goal) r in
     record {
@@ -105,7 +105,7 @@ passed_of_licensed before step derived x after n one j =
       ready = λ rest goal r.
           let d = step_script step rest in
           let f = step_script derived rest in
-          let y = line_at d f x.context goal in
+          let y = line_from_basis d f x.context goal in
           let ys = lines_at before rest rest after.context goal in
           let all = lines_at before d f x.context goal in
           let s = x.context.scope in
@@ -125,7 +125,7 @@ passed_of_licensed before step derived x after n one j =
           let form = has_form_first before e f x goal (lines_at before rest more after.context goal) (j.next rest more goal) r in
           record {
             licensed = subst (AllLicensed before) (sym (j.next rest more goal)) (j.licensed rest more goal form, d.licensed);
-            certified = more_certified before (line_at f f x.context goal) (lines_at before more more after.context goal) (lines_at before f f x.context goal) (j.derived_next more goal) (j.certified rest more goal form) d.certified;
+            certified = more_certified before (line_from_basis f f x.context goal) (lines_at before more more after.context goal) (lines_at before f f x.context goal) (j.derived_next more goal) (j.certified rest more goal form) d.certified;
             erased = j.erased rest more d.erased;
             written = j.written more d.written;
           };
@@ -175,12 +175,12 @@ names_begin before ns (Contradiction against) = (_, refl)
 names_begin before ns (Cases lit first second) = (_, refl)
 
 -- licensing stops at the first step of a script
-pub stops_first : (before : List StatementView) (here : Script) (x : StepState) (goal : Goal) (n : ℕ) (h : StepStop) (s : Stop) → StepStopsAt before (line_at here here x.context goal) h → StopOf h n x.names s →
+pub stops_first : (before : List StatementView) (here : Script) (x : StepState) (goal : Goal) (n : ℕ) (h : StepStop) (s : Stop) → StepStopsAt before (line_from_basis here here x.context goal) h → StopOf h n x.names s →
     StopsWithin before here x goal n s
 stops_first before here x goal n h s k e =
     let a = lines_begin before here here x.context.scope x.context.facts goal in
     let b = names_begin before x.names here in
-    let y = line_at here here x.context goal in
+    let y = line_from_basis here here x.context goal in
     record {
       filled = here;
       stops =
@@ -193,7 +193,7 @@ pub reaches_first : (before : List StatementView) (here : Script) (x : StepState
 reaches_first before here x goal n =
     let a = lines_begin before here here x.context.scope x.context.facts goal in
     let b = names_begin before x.names here in
-    let y = line_at here here x.context goal in
+    let y = line_from_basis here here x.context goal in
     let at = Stands x.context.scope x.context.facts in
     record {
       filled = here;

@@ -32,7 +32,7 @@ use Rattle.e_deriv.proofs.Scripts.{step_script-Claim, step_script-Superposed}
 use Rattle.e_deriv.proofs.Smallness.{few_of_small}
 use Rattle.e_prove.specs.declared.step_state.StepState.{StepState}
 use Rattle.e_prove.specs.inner.StepStates.{HasRoomForMore, after_make, after_literal}
-use Rattle.e_prove.specs.inner.LicensedSteps.{lines_at, line_at, has_form}
+use Rattle.e_prove.specs.inner.LicensedSteps.{lines_at, line_from_basis, has_form}
 use Rattle.e_prove.specs.inner.PassedSteps.{IsReadyFor, IsReadyStep}
 use Rattle.e_prove.specs.inner.Applications.{LitsFitAt, CanApply}
 use Rattle.e_prove.proofs.PassedSteps.{lines_begin, first_is}
@@ -48,7 +48,7 @@ first_facts before here f s facts goal h =
 pub first_scope : (before : List StatementView) (here : Script) (x : StepState) (goal : Goal) → IsReadyFor before here x goal → is_small x.context.scope ≡ true
 first_scope before here x goal r =
     let begun = lines_begin before here here x.context.scope x.context.facts goal in
-    first_is (λ y. is_small y.scope) (line_at here here x.context goal) begun.0 (lines_at before here here x.context goal) begun.1 r.scopes
+    first_is (λ y. is_small y.scope) (line_from_basis here here x.context goal) begun.0 (lines_at before here here x.context goal) begun.1 r.scopes
 
 pub room_of_small : (s : Scope) → is_small s ≡ true → HasRoomForMore s
 room_of_small s h =
@@ -62,10 +62,10 @@ pub record LineReady (s : Scope) (needed : List Lit) (next : StepState) : Type 0
   pub after : are_limited_facts next.context.scope next.context.facts ≡ true
 
 -- the first step of a script that is ready has its form
-form_first : (before : List StatementView) (here : Script) (x : StepState) (goal : Goal) → IsReadyFor before here x goal → has_form before (line_at here here x.context goal) ≡ true
+form_first : (before : List StatementView) (here : Script) (x : StepState) (goal : Goal) → IsReadyFor before here x goal → has_form before (line_from_basis here here x.context goal) ≡ true
 form_first before here x goal r =
     let begun = lines_begin before here here x.context.scope x.context.facts goal in
-    first_is (has_form before) (line_at here here x.context goal) begun.0 (lines_at before here here x.context goal) begun.1 r.forms
+    first_is (has_form before) (line_from_basis here here x.context goal) begun.0 (lines_at before here here x.context goal) begun.1 r.forms
 
 cite_lits : (before : List StatementView) (by : By) (rest : Script) (x : StepState) (goal : Goal) → IsReadyFor before (Cite by rest) x goal → are_limited_facts x.context.scope (joined x.context.facts by.lit) ≡ true
 unfolding lines

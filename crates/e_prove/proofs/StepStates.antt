@@ -17,7 +17,7 @@ use Rattle.e_literal.specs.Use.{StatementView, gives_of_use}
 use Rattle.e_literal.proofs.Booleans.{and_left, and_right}
 use Rattle.e_literal.proofs.Growing.{grown_bounds}
 use Rattle.e_clause.specs.Assignment.{terms_of_atom, terms_of_lits}
-use Rattle.e_clause.specs.Judged.{is_well_formed_in, are_well_formed_in, are_few, most_terms, are_limited_facts}
+use Rattle.e_clause.specs.Judged.{is_well_formed_in, are_well_formed_in, are_few, most_terms_of_step, are_limited_facts}
 use Rattle.e_construct.specs.declared.construction.Construction.{Construction}
 use Rattle.e_construct.specs.Construct.{sorts_made, gives_of_construction}
 use Rattle.e_construct.specs.declared.superpose.Superpose.{Superpose}
@@ -92,7 +92,7 @@ good_unpushed s facts l h =
     let few = and_right (are_well_formed_in s (facts ++ l ∷ [])) (are_few (facts ++ l ∷ [])) h in
     and_from (are_well_formed_in s facts) (are_few facts)
     (and_left (are_well_formed_in s facts) (are_well_formed_in s (l ∷ [])) (sym (list_all-append (is_well_formed_in s) facts (l ∷ [])) ∙ good))
-    (fewer (length (terms_of_lits facts)) (length (terms_of_lits (facts ++ l ∷ []))) most_terms (more_terms facts l) few)
+    (fewer (length (terms_of_lits facts)) (length (terms_of_lits (facts ++ l ∷ []))) most_terms_of_step (more_terms facts l) few)
 
 good_unjoined : (s : Scope) (facts : List Lit) (l : Lit) → are_limited_facts s (joined facts l) ≡ true → are_limited_facts s facts ≡ true
 unfolding joined

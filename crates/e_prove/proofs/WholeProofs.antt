@@ -17,7 +17,7 @@ use Rattle.e_deriv.specs.Goal.{Goal, goal_of_statement, facts_of_statement}
 use Rattle.e_deriv.specs.Naming.{names_lines, declared_names}
 use Rattle.e_deriv.specs.Certified.{Certified}
 use Rattle.e_deriv.specs.Fitting.{IsFitting}
-use Rattle.e_prove.specs.inner.StepStates.{start_of}
+use Rattle.e_prove.specs.inner.StepStates.{start_with_names}
 use Rattle.e_prove.specs.declared.step_state.StepState.{StepState}
 use Rattle.e_prove.specs.inner.PassedSteps.{IsReadyFor, IsDerivedFrom, ReachesStep, StopsWithin}
 use Rattle.e_prove.specs.Places.{IsStepPlace}
@@ -56,10 +56,10 @@ made_fit before t script s same h = rw same (fit before t script h)
 pub given_good : (before : List StatementView) (t : StatementView) (script : Script) → IsFitting before t script → are_limited_facts (scope_of t) (facts_of_statement t) ≡ true
 given_good before t script h = first_facts before script script (scope_of t) (facts_of_statement t) (goal_of_statement t) (h.lits script)
 
-ready_start : (before : List StatementView) (t : StatementView) (names : Names) (script : Script) → IsFitting before t script → IsReadyFor before script (start_of t names) (goal_of_statement t)
+ready_start : (before : List StatementView) (t : StatementView) (names : Names) (script : Script) → IsFitting before t script → IsReadyFor before script (start_with_names t names) (goal_of_statement t)
 ready_start before t names script h = record { forms = h.forms; lits = h.lits; scopes = h.scopes; statements = h.statements }
 
-pub ready_at_start : (before : List StatementView) (t : StatementView) (names : Names) (script : Script) (x : _) (goal : Goal) → x ≡ start_of t names → goal ≡ goal_of_statement t → IsFitting before t script → IsReadyFor before script x goal
+pub ready_at_start : (before : List StatementView) (t : StatementView) (names : Names) (script : Script) (x : _) (goal : Goal) → x ≡ start_with_names t names → goal ≡ goal_of_statement t → IsFitting before t script → IsReadyFor before script x goal
 ready_at_start before t names script x goal is same h = rw (is, same) (ready_start before t names script h)
 
 -- the goal that the code writes
@@ -67,16 +67,16 @@ pub goal_is : (t : StatementView) (sorts : List Sort) (s : Scope) (kept made : L
     made ≡ next_objects s sorts → kept ≡ made → shown ≡ t.shown → let goal : Goal = record { made = kept; shown = shown } in goal ≡ goal_of_statement t
 goal_is t sorts s kept made shown a b c d e = rw (d, c, a, b, e) refl
 
-names_at : (before : List StatementView) (t : StatementView) (names : Names) (script : Script) (s : Stop) → StopsWithin before script (start_of t names) (goal_of_statement t) 1 s → HasNames before t names script s
+names_at : (before : List StatementView) (t : StatementView) (names : Names) (script : Script) (s : Stop) → StopsWithin before script (start_with_names t names) (goal_of_statement t) 1 s → HasNames before t names script s
 names_at before t names script (stop.Unlicensed n wanted values seen) k = sym (ap (slice_get (names_lines before (declared_names t names) script)) (omega (arith, k.stops.number)) ∙ k.stops.named)
 names_at before t names script (stop.TooWide n wanted width seen) k = sym (ap (slice_get (names_lines before (declared_names t names) script)) (omega (arith, k.stops.number)) ∙ k.stops.named)
 names_at before t names script stop.NoMemory k = tt
 
-pub names_are : (before : List StatementView) (t : StatementView) (names : Names) (script : Script) (x : _) (goal : Goal) (s : Stop) → x ≡ start_of t names → goal ≡ goal_of_statement t → StopsWithin before script x goal 1 s → HasNames before t names script s
+pub names_are : (before : List StatementView) (t : StatementView) (names : Names) (script : Script) (x : _) (goal : Goal) (s : Stop) → x ≡ start_with_names t names → goal ≡ goal_of_statement t → StopsWithin before script x goal 1 s → HasNames before t names script s
 names_are before t names script x goal s is same k =
     names_at before t names script s (subst (λ y. StopsWithin before script y (goal_of_statement t) 1 s) is (subst (λ g. StopsWithin before script x g 1 s) same k))
 
-stop_at : (before : List StatementView) (t : StatementView) (names : Names) (script : Script) (s : Stop) → StopsWithin before script (start_of t names) (goal_of_statement t) 1 s → StopIs before t script s
+stop_at : (before : List StatementView) (t : StatementView) (names : Names) (script : Script) (s : Stop) → StopsWithin before script (start_with_names t names) (goal_of_statement t) 1 s → StopIs before t script s
 stop_at before t names script (stop.Unlicensed n wanted values seen) k =
     record {
       line = k.stops.line;
@@ -92,13 +92,13 @@ stop_at before t names script (stop.TooWide n wanted width seen) k =
     }
 stop_at before t names script stop.NoMemory k = tt
 
-pub stop_is : (before : List StatementView) (t : StatementView) (names : Names) (script : Script) (x : _) (goal : Goal) (s : Stop) → x ≡ start_of t names → goal ≡ goal_of_statement t → StopsWithin before script x goal 1 s → StopIs before t script s
+pub stop_is : (before : List StatementView) (t : StatementView) (names : Names) (script : Script) (x : _) (goal : Goal) (s : Stop) → x ≡ start_with_names t names → goal ≡ goal_of_statement t → StopsWithin before script x goal 1 s → StopIs before t script s
 stop_is before t names script x goal s is same k =
     stop_at before t names script s (subst (λ y. StopsWithin before script y (goal_of_statement t) 1 s) is (subst (λ g. StopsWithin before script x g 1 s) same k))
 
 -- ---- the place
 
-place_at : (before : List StatementView) (t : StatementView) (names : Names) (script : Script) (n : ℕ) (y : StepState) → ReachesStep before script (start_of t names) (goal_of_statement t) 1 n y →
+place_at : (before : List StatementView) (t : StatementView) (names : Names) (script : Script) (n : ℕ) (y : StepState) → ReachesStep before script (start_with_names t names) (goal_of_statement t) 1 n y →
     IsStepPlace before t names script n (record { context = y.context; names = y.names })
 place_at before t names script n y k =
     let r = k.reached in
@@ -110,17 +110,17 @@ place_at before t names script n y k =
       named = sym (ap (slice_get (names_lines before (declared_names t names) script)) (omega (arith, r.number)) ∙ r.named);
     }
 
-pub place_is : (before : List StatementView) (t : StatementView) (names : Names) (script : Script) (n : ℕ) (x y : StepState) (goal : Goal) → x ≡ start_of t names → goal ≡ goal_of_statement t → ReachesStep before script x goal 1 n y →
+pub place_is : (before : List StatementView) (t : StatementView) (names : Names) (script : Script) (n : ℕ) (x y : StepState) (goal : Goal) → x ≡ start_with_names t names → goal ≡ goal_of_statement t → ReachesStep before script x goal 1 n y →
     IsStepPlace before t names script n (record { context = y.context; names = y.names })
 place_is before t names script n x y goal is same k =
     place_at before t names script n y (subst (λ z. ReachesStep before script z (goal_of_statement t) 1 n y) is (subst (λ g. ReachesStep before script x g 1 n y) same k))
 
 -- ---- the derivation
 
-derived_at : (before : List StatementView) (t : StatementView) (names : Names) (script derived : Script) (x : _) (goal : Goal) → x ≡ start_of t names → goal ≡ goal_of_statement t → IsDerivedFrom before script x goal derived →
-    IsDerivedFrom before script (start_of t names) (goal_of_statement t) derived
+derived_at : (before : List StatementView) (t : StatementView) (names : Names) (script derived : Script) (x : _) (goal : Goal) → x ≡ start_with_names t names → goal ≡ goal_of_statement t → IsDerivedFrom before script x goal derived →
+    IsDerivedFrom before script (start_with_names t names) (goal_of_statement t) derived
 derived_at before t names script derived x goal is same d =
     subst (λ y. IsDerivedFrom before script y (goal_of_statement t) derived) is (subst (λ g. IsDerivedFrom before script x g derived) same d)
 
-pub is_certified : (before : List StatementView) (t : StatementView) (names : Names) (script derived : Script) (x : _) (goal : Goal) → x ≡ start_of t names → goal ≡ goal_of_statement t → IsDerivedFrom before script x goal derived → Certified before t derived
+pub is_certified : (before : List StatementView) (t : StatementView) (names : Names) (script derived : Script) (x : _) (goal : Goal) → x ≡ start_with_names t names → goal ≡ goal_of_statement t → IsDerivedFrom before script x goal derived → Certified before t derived
 is_certified before t names script derived x goal is same d = (derived_at before t names script derived x goal is same d).certified

@@ -8,7 +8,7 @@ ghost use Rattle.e_clause.specs.Judged.{are_limited_facts};
 ghost use Rattle.e_theorem.specs.Statements.{stated};
 ghost use Rattle.e_deriv.specs.Goal.{facts_of_statement};
 ghost use Rattle.e_deriv.specs.Naming.{named};
-ghost use Rattle.e_prove.specs.inner.StepStates.{start_of, held_at, IsLeft, IsLeftWith};
+ghost use Rattle.e_prove.specs.inner.StepStates.{start_with_names, held_at, IsLeft, IsLeftWith};
 ghost use Rattle.e_prove.specs.inner.StepStates.{CanJoinLast, after_literal};
 
 use e_deriv::Names;
@@ -38,7 +38,7 @@ impl StepState {
         requires few { length statement.now.declared < 2 ^ 16 }
         requires good { IsTrue (are_limited_facts (scope_of (stated statement.now))
             (facts_of_statement (stated statement.now))) }
-        ensures { IfOk result (λ x. x ≡ start_of (stated statement.now) names.now) }
+        ensures { IfOk result (λ x. x ≡ start_with_names (stated statement.now) names.now) }
     {
         let scope = grown(NOTHING, statement.declared.items());
         let names = names.first(alloc, scope)?;

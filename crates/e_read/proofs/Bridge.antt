@@ -15,19 +15,19 @@ use Rattle.e_book.specs.Book.{line_step, is_done, read_from}
 use Rattle.e_line.proofs.Bound.{bind_ok}
 use Rattle.e_cert.specs.declared.kept.StepCerts.{StepCerts}
 use Rattle.e_read.specs.declared.reading.BlockParser.{BlockParser}
-use Rattle.e_read.specs.Filled.{filled}
+use Rattle.e_read.specs.Filled.{script_with_certs}
 use Rattle.e_read.specs.Laws.{begins_with_bar, is_of_theorem}
-use Rattle.e_read.specs.Text.{Piece, Derived, Last, taken, derived, garbled_at, is_finished, finished, or_on, is_end, piece_from}
+use Rattle.e_read.specs.Text.{TextPiece, Derived, Last, parser_after_line, derived, garbled_at, is_finished, finished, or_on, is_end, piece_from}
 use Rattle.e_read.proofs.TakenLines.{Stepped, line_taken, form_read, not_skipped, book_line, either}
 
 abbrev pub Answer : Type 0
-Answer = Piece × List (Result LineView LineFault)
+Answer = TextPiece × List (Result LineView LineFault)
 
 abbrev pub derives : TheoremView → List (Result LineView LineFault) → Result Answer ℕ
 derives t rest = Ok (Derived t, rest)
 
 abbrev pub with_certs : TheoremView → List StepCerts → TheoremView
-with_certs t kept = record t { script = (filled t.script kept).0 }
+with_certs t kept = record t { script = (script_with_certs t.script kept).0 }
 
 -- the theorem as the lines without certificates are read
 pub record Plainly (known : List TitledStatement) (last : ℕ) (parser : Option TheoremParser) (t : TheoremView) (lines rest : List (Result LineView LineFault)) : Type 0 where
@@ -104,13 +104,13 @@ unfolding piece_from
 plainly known last r [] rest t unended e = absurd cc
 plainly known last r (Err f ∷ lines) rest t unended e = absurd cc
 plainly known last r (Ok l ∷ lines) rest t unended e =
-    let next : Result BlockParser ℕ = garbled_at l.number (taken known r l) in
+    let next : Result BlockParser ℕ = garbled_at l.number (parser_after_line known r l) in
     let then : BlockParser → Result Answer ℕ = λ x. or_on (finished x.parser x.kept) lines (piece_from known last x lines) in
     elim (either (is_end known r.parser l) (Ok (Last, lines)) (next >>= then) (derives t rest) e) [
       | inl p ↦ absurd (no_last lines rest t p.1)
       | inr p ↦
           let x = bind_ok next then (Derived t, rest) p.1 in
-          let took = garbled_ok l.number (taken known r l) x.0 x.1 in
+          let took = garbled_ok l.number (parser_after_line known r l) x.0 x.1 in
           let goes = goes_on (finished x.0.parser x.0.kept) lines rest (piece_from known last x.0 lines) t x.2 in
           elim (line_taken known r x.0 l took) [
             | inl c ↦

@@ -18,9 +18,9 @@ use Rattle.e_book.proofs.ReadSpelled.{read_is_spelled}
 use Rattle.e_read.specs.declared.reader.Piece.{Piece}
 use Rattle.e_read.specs.declared.reader.Piece.TheVariants as pieces
 use Rattle.e_read.specs.declared.reader.TextFault.{TextFault}
-use Rattle.e_read.specs.Filled.{filled}
+use Rattle.e_read.specs.Filled.{script_with_certs}
 use Rattle.e_read.specs.Laws.{is_of_theorem, ReadsAsBook}
-use Rattle.e_read.specs.Text.{at_start, piece_from, bare, OfTheorem, TextReads}
+use Rattle.e_read.specs.Text.{at_start, piece_from, without_certs, OfTheorem, TextReads}
 use Rattle.e_read.proofs.Bridge.{derives, Plainly, plainly}
 use Rattle.e_read.proofs.GoodReadings.{version_read}
 use Rattle.e_read.proofs.Erased.{erased_filled, erased_plain}
@@ -29,21 +29,21 @@ use Rattle.e_read.proofs.Erased.{erased_filled, erased_plain}
 record Bare (known : List TitledStatement) (last : ℕ) (t : TheoremView) (lines rest : List (Result LineView LineFault)) : Type 0 where
   plain : Plainly known last None t lines rest
   spelled : HasSpelling known plain.entry
-  same : bare t ≡ plain.entry
+  same : without_certs t ≡ plain.entry
 
 bare_is : (v : Version) (known : List TitledStatement) (last : ℕ) (lines rest : List (Result LineView LineFault)) (t : TheoremView) → piece_from known last (at_start v) lines ≡ derives t rest → Bare known last t lines rest
 bare_is v known last lines rest t e =
     let p = plainly known last (at_start v) lines rest t refl e in
     let h = read_is_spelled known last p.entry (filter is_of_theorem p.front ++ rest) rest p.read in
-    let script : erased (filled p.entry.script p.kept).0 ≡ p.entry.script = erased_filled p.entry.script p.kept ∙ erased_plain p.entry.script h.script in
-    record { plain = p; spelled = h; same = ap bare p.same ∙ ap (λ (s : Script). record p.entry { script = s }) script }
+    let script : erased (script_with_certs p.entry.script p.kept).0 ≡ p.entry.script = erased_filled p.entry.script p.kept ∙ erased_plain p.entry.script h.script in
+    record { plain = p; spelled = h; same = ap without_certs p.same ∙ ap (λ (s : Script). record p.entry { script = s }) script }
 
 pub reads_as_book : (v : Version) (known : List TitledStatement) (last : ℕ) (t : TheoremView) (lines rest : List (Result LineView LineFault)) → piece_from known last (at_start v) lines ≡ derives t rest → ReadsAsBook known last t lines rest
 reads_as_book v known last t lines rest e =
     let b = bare_is v known last lines rest t e in
     record { front = b.plain.front; all = b.plain.all; read = sym (grammar_read known last (filter is_of_theorem b.plain.front ++ rest)) ∙ b.plain.read ∙ ap (λ (x : TheoremView). answered (pair x rest)) (sym b.same) }
 
-pub text_spelled : (v : Version) (known : List TitledStatement) (last : ℕ) (lines rest : List (Result LineView LineFault)) (t : TheoremView) → piece_from known last (at_start v) lines ≡ derives t rest → HasSpelling known (bare t)
+pub text_spelled : (v : Version) (known : List TitledStatement) (last : ℕ) (lines rest : List (Result LineView LineFault)) (t : TheoremView) → piece_from known last (at_start v) lines ≡ derives t rest → HasSpelling known (without_certs t)
 text_spelled v known last lines rest t e = let b = bare_is v known last lines rest t e in subst (λ (x : TheoremView). HasSpelling known x) (sym b.same) b.spelled
 
 pub text_states : (v : Version) (known : List TitledStatement) (last : ℕ) (lines rest : List (Result LineView LineFault)) (t : TheoremView) → piece_from known last (at_start v) lines ≡ derives t rest → is_small_statement (stated t.statement) ≡ true
@@ -51,7 +51,7 @@ text_states v known last lines rest t e = let b = bare_is v known last lines res
     subst (λ (x : TheoremView). is_small_statement (stated x.statement) ≡ true) (sym b.same) (reading_states known last (filter is_of_theorem b.plain.front ++ rest) rest b.plain.entry b.plain.read)
 
 pub answer_spelled : (v : Version) (known : List TitledStatement) (last : ℕ) (lines : List (Result LineView LineFault)) (result : Result Piece TextFault) (new : Ahead) → TextReads known result new (piece_from known last (at_start v) lines)
-    → IfOk result (OfTheorem (λ t. HasSpelling known (bare (entry_of t))))
+    → IfOk result (OfTheorem (λ t. HasSpelling known (without_certs (entry_of t))))
 answer_spelled v known last lines (Ok (pieces.Theorem t)) new e = text_spelled v known last lines new.lines (entry_of t) e
 answer_spelled v known last lines (Ok (pieces.Last n)) new e = tt
 answer_spelled v known last lines (Err f) new e = tt

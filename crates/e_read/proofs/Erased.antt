@@ -6,26 +6,26 @@ use Rattle.e_text.specs.Names.{is_name}
 use Rattle.e_deriv.specs.Script.{Script, Cite, Hence, Make, Apply, Claim, Superposed, Qed, Contradiction, Cases, erased}
 use Rattle.e_book.specs.HasSpelling.{is_plain}
 use Rattle.e_cert.specs.declared.kept.StepCerts.{StepCerts}
-use Rattle.e_read.specs.Filled.{after_next, filled}
+use Rattle.e_read.specs.Filled.{after_next, script_with_certs}
 
-pub erased_filled : (s : Script) (ks : List StepCerts) → erased (filled s ks).0 ≡ erased s
-unfolding erased filled
+pub erased_filled : (s : Script) (ks : List StepCerts) → erased (script_with_certs s ks).0 ≡ erased s
+unfolding erased script_with_certs
 erased_filled (Cite by rest) ks = ap (λ (x : Script). Cite by x) (erased_filled rest ks)
 erased_filled (Hence lit cert rest) ks = ap (λ (x : Script). Hence lit None x) (erased_filled rest (after_next ks))
 erased_filled (Make form names certs rest) ks = ap (λ (x : Script). Make form names [] x) (erased_filled rest (after_next ks))
 erased_filled (Apply theorem args names certs rest) ks = ap (λ (x : Script). Apply theorem args names [] x) (erased_filled rest (after_next ks))
 erased_filled (Claim shown inner rest) ks =
-    ap (λ (x : Script). Claim shown x (erased (filled rest (filled inner ks).1).0)) (erased_filled inner ks)
-    ∙ ap (λ (x : Script). Claim shown (erased inner) x) (erased_filled rest (filled inner ks).1)
+    ap (λ (x : Script). Claim shown x (erased (script_with_certs rest (script_with_certs inner ks).1).0)) (erased_filled inner ks)
+    ∙ ap (λ (x : Script). Claim shown (erased inner) x) (erased_filled rest (script_with_certs inner ks).1)
 erased_filled (Superposed form names shown certs inner rest) ks =
-    let i = filled inner (after_next ks) in
-    ap (λ (x : Script). Superposed form names shown [] x (erased (filled rest i.1).0)) (erased_filled inner (after_next ks))
+    let i = script_with_certs inner (after_next ks) in
+    ap (λ (x : Script). Superposed form names shown [] x (erased (script_with_certs rest i.1).0)) (erased_filled inner (after_next ks))
     ∙ ap (λ (x : Script). Superposed form names shown [] (erased inner) x) (erased_filled rest i.1)
 erased_filled (Qed objects certs) ks = refl
 erased_filled (Contradiction against) ks = refl
 erased_filled (Cases lit first second) ks =
-    ap (λ (x : Script). Cases lit x (erased (filled second (filled first ks).1).0)) (erased_filled first ks)
-    ∙ ap (λ (x : Script). Cases lit (erased first) x) (erased_filled second (filled first ks).1)
+    ap (λ (x : Script). Cases lit x (erased (script_with_certs second (script_with_certs first ks).1).0)) (erased_filled first ks)
+    ∙ ap (λ (x : Script). Cases lit (erased first) x) (erased_filled second (script_with_certs first ks).1)
 
 -- a line with a certificate is not plain
 no_cert : false ≡ true → ⊥

@@ -1,14 +1,14 @@
 -- The garbled line of a text is the first that has no form at its place, and whatever follows it is nothing to it.
 use Rattle.std.proofs.Common.{◌≡◌, ℕ, Bool, true, false, inl, inr, List, [], ◌∷◌, ◌++◌, Option, Some, None, Result, Ok, Err, refl, sym, ap, ◌∙◌}
 use Rattle.std.specs.Prelude.{◌⊎◌}
-use Rattle.e_text.specs.Lines.{LineView, fault_line}
+use Rattle.e_text.specs.Lines.{LineView, line_of_fault}
 use Rattle.e_text.specs.declared.line.LineFault.{LineFault}
 use Rattle.e_clause.specs.declared.cert.Version.{Version}
 use Rattle.e_names.specs.TitledStatements.{TitledStatement}
 use Rattle.e_book.specs.TheoremViews.{TheoremView}
 use Rattle.e_read.specs.declared.reading.BlockParser.{BlockParser}
 use Rattle.e_read.specs.Laws.{GarblesAt, EndsTooSoon}
-use Rattle.e_read.specs.Text.{Derived, Last, at_start, taken, garbled_at, finished, is_end, piece_from}
+use Rattle.e_read.specs.Text.{Derived, Last, at_start, parser_after_line, garbled_at, finished, is_end, piece_from}
 use Rattle.e_read.proofs.Bridge.{Answer}
 use Rattle.e_read.proofs.Pieces.{piece_none, piece_fault, piece_last, piece_garbled, piece_ended, piece_next}
 
@@ -64,13 +64,13 @@ by_line : (known : List TitledStatement) (last : ℕ) (r : BlockParser) (l : Lin
     → piece_from known last r (Ok l ∷ ls) ≡ wrong n → From known r (Ok l ∷ ls) n ⊎ TooSoon known r (Ok l ∷ ls) last n
 by_line known last r l ls n more e = by_end (is_end known r.parser l) refl
   where
-    by_finish : (next : BlockParser) (t : Option TheoremView) → is_end known r.parser l ≡ false → garbled_at l.number (taken known r l) ≡ Ok next → finished next.parser next.kept ≡ t → From known r (Ok l ∷ ls) n ⊎ TooSoon known r (Ok l ∷ ls) last n
+    by_finish : (next : BlockParser) (t : Option TheoremView) → is_end known r.parser l ≡ false → garbled_at l.number (parser_after_line known r l) ≡ Ok next → finished next.parser next.kept ≡ t → From known r (Ok l ∷ ls) n ⊎ TooSoon known r (Ok l ∷ ls) last n
     by_finish next (Some t) unended read is = absurd (not_read known last r l ls n (Derived t, ls) (piece_ended known last r next l ls t unended read is) e)
     by_finish next None unended read is =
         let on : (end : ℕ) (other : Rest) → piece_from known end r (Ok l ∷ other) ≡ piece_from known end next other = λ end other. piece_next known end r next l other unended read is in
         longer known last r next l ls n on (more next (sym (on last ls) ∙ e))
 
-    by_read : (q : Result BlockParser ℕ) → is_end known r.parser l ≡ false → garbled_at l.number (taken known r l) ≡ q → From known r (Ok l ∷ ls) n ⊎ TooSoon known r (Ok l ∷ ls) last n
+    by_read : (q : Result BlockParser ℕ) → is_end known r.parser l ≡ false → garbled_at l.number (parser_after_line known r l) ≡ q → From known r (Ok l ∷ ls) n ⊎ TooSoon known r (Ok l ∷ ls) last n
     by_read (Ok next) unended read = by_finish next (finished next.parser next.kept) unended read refl
     by_read (Err m) unended read =
         let is : m ≡ n = same_number m n (sym (piece_garbled known last r l ls m unended read) ∙ e) in
@@ -78,12 +78,12 @@ by_line known last r l ls n more e = by_end (is_end known r.parser l) refl
 
     by_end : (b : Bool) → is_end known r.parser l ≡ b → From known r (Ok l ∷ ls) n ⊎ TooSoon known r (Ok l ∷ ls) last n
     by_end true is = absurd (not_read known last r l ls n (Last, ls) (piece_last known last r l ls is) e)
-    by_end false unended = by_read (garbled_at l.number (taken known r l)) unended refl
+    by_end false unended = by_read (garbled_at l.number (parser_after_line known r l)) unended refl
 
 first_from : (known : List TitledStatement) (last : ℕ) (r : BlockParser) (lines : Rest) (n : ℕ) → piece_from known last r lines ≡ wrong n → From known r lines n ⊎ TooSoon known r lines last n
 first_from known last r [] n e = inr ((λ end. piece_none known end r), same_number n last (sym e ∙ piece_none known last r))
 first_from known last r (Err f ∷ ls) n e =
-    let is : fault_line f ≡ n = same_number (fault_line f) n (sym (piece_fault known last r f ls) ∙ e) in
+    let is : line_of_fault f ≡ n = same_number (line_of_fault f) n (sym (piece_fault known last r f ls) ∙ e) in
     inl (at_once known r (Err f) ls n (λ end other. piece_fault known end r f other ∙ ap wrong is))
 first_from known last r (Ok l ∷ ls) n e = by_line known last r l ls n (λ next h. first_from known last next ls n h) e
 

@@ -10,7 +10,7 @@ use Rattle.e_cert.proofs.GoodKept.{are_certs_of_version, AreOfVersion}
 use Rattle.e_cert.specs.declared.kept.StepCerts.{StepCerts}
 use Rattle.e_cert.specs.declared.kept.StepCerts.TheVariants as kept
 use Rattle.e_cert.specs.Owed.{first_cert}
-use Rattle.e_read.specs.Filled.{next_certs, next_against, after_next, filled}
+use Rattle.e_read.specs.Filled.{next_certs, next_against, after_next, script_with_certs}
 use Rattle.e_clause.specs.declared.cert.Version.{Version}
 use Rattle.e_clause.specs.Versions.{is_cert_of, is_against_of}
 
@@ -34,8 +34,8 @@ module _ (v : Version) where
   after_good (k ∷ ks) h = (and_parts (are_certs_of_version v k) (list_all (are_certs_of_version v) ks) h).1
 
   -- with good certificates the script has good ones, and good ones are left
-  pub filled_good : (d : Script) (ks : List StepCerts) → AreOfVersion v ks → (has_certs_of v (filled d ks).0 ≡ true) × AreOfVersion v (filled d ks).1
-  unfolding has_certs_of filled
+  pub filled_good : (d : Script) (ks : List StepCerts) → AreOfVersion v ks → (has_certs_of v (script_with_certs d ks).0 ≡ true) × AreOfVersion v (script_with_certs d ks).1
+  unfolding has_certs_of script_with_certs
   filled_good (Cite by rest) ks h = filled_good rest ks h
   filled_good (Hence lit cert rest) ks h =
       let r = filled_good rest (after_next ks) (after_good ks h) in
@@ -48,15 +48,15 @@ module _ (v : Version) where
       (and_from _ _ (certs_good ks h) r.0, r.1)
   filled_good (Claim shown inner rest) ks h =
       let i = filled_good inner ks h in
-      let r = filled_good rest (filled inner ks).1 i.1 in
+      let r = filled_good rest (script_with_certs inner ks).1 i.1 in
       (and_from _ _ i.0 r.0, r.1)
   filled_good (Superposed form names shown certs inner rest) ks h =
       let i = filled_good inner (after_next ks) (after_good ks h) in
-      let r = filled_good rest (filled inner (after_next ks)).1 i.1 in
+      let r = filled_good rest (script_with_certs inner (after_next ks)).1 i.1 in
       (and_from _ _ (certs_good ks h) (and_from _ _ i.0 r.0), r.1)
   filled_good (Qed objects certs) ks h = (certs_good ks h, after_good ks h)
   filled_good (Contradiction against) ks h = (against_good ks h, after_good ks h)
   filled_good (Cases lit first second) ks h =
       let i = filled_good first ks h in
-      let r = filled_good second (filled first ks).1 i.1 in
+      let r = filled_good second (script_with_certs first ks).1 i.1 in
       (and_from _ _ i.0 r.0, r.1)

@@ -27,8 +27,8 @@ use Rattle.e_cert.specs.declared.owed.Pending.{Pending}
 use Rattle.e_cert.specs.declared.kept.StepCerts.{StepCerts}
 use Rattle.e_read.specs.declared.reading.BlockParser.{BlockParser}
 use Rattle.e_read.specs.Strict.{is_apart}
-use Rattle.e_read.specs.Needs.{one_each, needs_of_use, needs_at_qed, due_of}
-use Rattle.e_read.specs.Text.{owes_nothing, at_start, owed_by, gone_on, taken, Derived, Last, derived, garbled_at, finished, or_on, is_end, piece_from}
+use Rattle.e_read.specs.Needs.{one_each, needs_of_raw_apply, needs_at_qed, due_of}
+use Rattle.e_read.specs.Text.{owes_nothing, at_start, owed_by, gone_on, parser_after_line, Derived, Last, derived, garbled_at, finished, or_on, is_end, piece_from}
 use Rattle.e_read.proofs.Bridge.{Answer, derives, no_last, garbled_ok, derived_is, goes_on}
 use Rattle.e_read.proofs.TakenLines.{Stepped, line_taken, either}
 use Rattle.e_cert.proofs.GoodKept.{are_certs_of_version, AreOfVersion}
@@ -53,7 +53,7 @@ module _ (v : Version) where
   unfolding due_of
   due_good known d (rawlines.Hence raw) new e = owes (lit_in d.in_scope raw) (λ l. l ∷ []) new e
   due_good known d (rawlines.Let raw) new e = owes (let_in d.in_scope raw) (λ form. needs_of_construction form) new e
-  due_good known d (rawlines.Apply raw) new e = owes (needs_of_use known d raw) (λ ls. ls) new e
+  due_good known d (rawlines.Apply raw) new e = owes (needs_of_raw_apply known d raw) (λ ls. ls) new e
   due_good known d (rawlines.Superpose raw) new e = owes (superpose_in d.in_scope raw) (λ p. superposing.needs_of_superposition p.0) new e
   due_good known d (rawlines.Qed ns) new e = owes (needs_at_qed d ns) (λ ls. ls) new e
   due_good known d rawlines.Contradiction new e = subst (GoodDue v) (ok_is (due.Contradiction None) new e) refl
@@ -87,7 +87,7 @@ module _ (v : Version) where
     kept : AreOfVersion v r.kept
     owed : GoodOwed v r.owed
 
-  taken_good : (known : List TitledStatement) (r next : BlockParser) (l : LineView) → GoodReading r → taken known r l ≡ Ok next → GoodReading next
+  taken_good : (known : List TitledStatement) (r next : BlockParser) (l : LineView) → GoodReading r → parser_after_line known r l ≡ Ok next → GoodReading next
   taken_good known r next l h e =
       elim (line_taken known r next l e) [
         | inl c ↦ record {
@@ -120,13 +120,13 @@ module _ (v : Version) where
   certs_read known last r [] rest t h e = absurd cc
   certs_read known last r (Err f ∷ lines) rest t h e = absurd cc
   certs_read known last r (Ok l ∷ lines) rest t h e =
-      let next : Result BlockParser ℕ = garbled_at l.number (taken known r l) in
+      let next : Result BlockParser ℕ = garbled_at l.number (parser_after_line known r l) in
       let then : BlockParser → Result Answer ℕ = λ x. or_on (finished x.parser x.kept) lines (piece_from known last x lines) in
       elim (either (is_end known r.parser l) (Ok (Last, lines)) (next >>= then) (derives t rest) e) [
         | inl p ↦ absurd (no_last lines rest t p.1)
         | inr p ↦
             let x = bind_ok next then (Derived t, rest) p.1 in
-            let good = taken_good known r x.0 l h (garbled_ok l.number (taken known r l) x.0 x.1) in
+            let good = taken_good known r x.0 l h (garbled_ok l.number (parser_after_line known r l) x.0 x.1) in
             elim (goes_on (finished x.0.parser x.0.kept) lines rest (piece_from known last x.0 lines) t x.2) [
               | inl q ↦ finished_good x.0.parser x.0.kept t good.kept (q.1 ∙ ap (λ (y : TheoremView). Some y) (derived_is q.0 t lines rest q.2).0)
               | inr q ↦ certs_read known last x.0 lines rest t good q.1

@@ -24,12 +24,12 @@ use Rattle.e_cert.specs.declared.owed.Pending.{Pending}
 use Rattle.e_cert.specs.declared.kept.StepCerts.{StepCerts}
 use Rattle.e_read.specs.declared.reading.BlockParser.{BlockParser}
 use Rattle.e_cert.specs.CertLines.{cert_line_is_of}
-use Rattle.e_line.specs.Strict.{is_strict, exact_line_of, exact_line}
+use Rattle.e_line.specs.Strict.{is_strict_line, exact_line_of, exact_line}
 use Rattle.e_cert.specs.Strict.{exact_cert_line}
 use Rattle.e_read.specs.Strict.{is_apart}
 use Rattle.e_cert.specs.Owed.{after_cert_line, finish_certs}
 use Rattle.e_read.specs.Laws.{begins_with_bar}
-use Rattle.e_read.specs.Text.{owes_nothing, with_cert_line, certified, owed_by, gone_on, finish_line, with_form, stepped, is_bar, worded, is_lf_end, spelled, taken}
+use Rattle.e_read.specs.Text.{owes_nothing, with_cert_line, certified, owed_by, gone_on, finish_line, with_form, parser_after_exact_line, is_bar, worded, is_lf_end, parser_after_bytes, parser_after_line}
 
 pub either : {A : Type 0} (b : Bool) (x y z : A) → cond b x y ≡ z → ((b ≡ true) × (x ≡ z)) ⊎ ((b ≡ false) × (y ≡ z))
 either true x y z e = inl (refl, e)
@@ -78,8 +78,8 @@ certified_line r next line words e =
       version = sym (ap (λ (x : BlockParser). x.version) is);
     }
 
-stepped_line : (known : List TitledStatement) (r next : BlockParser) (line : List ℕ) → stepped known r line ≡ Ok next → Stepped known r next line
-unfolding with_form stepped
+stepped_line : (known : List TitledStatement) (r next : BlockParser) (line : List ℕ) → parser_after_exact_line known r line ≡ Ok next → Stepped known r next line
+unfolding with_form parser_after_exact_line
 stepped_line known r next line e =
     let with_kept : Option StepCerts → BlockParser = λ k. record { version = r.version; parser = r.parser; owed = owes_nothing; kept = r.kept ++ option_to_list k } in
     let end : BlockParser → TheoremParser × Pending → BlockParser = λ s x. record { version = s.version; parser = Some x.0; owed = x.1; kept = s.kept } in
@@ -100,28 +100,28 @@ stepped_line known r next line e =
     }
 
 -- what a line is that is taken
-pub line_taken : (known : List TitledStatement) (r next : BlockParser) (l : LineView) → taken known r l ≡ Ok next
+pub line_taken : (known : List TitledStatement) (r next : BlockParser) (l : LineView) → parser_after_line known r l ≡ Ok next
     → ((ws : List (List ℕ)) × (begins_with_bar (tokens_of l.bytes) ≡ true) × Certified r next l.bytes ws) ⊎ ((begins_with_bar (tokens_of l.bytes) ≡ false) × Stepped known r next l.bytes)
-unfolding taken spelled worded
+unfolding parser_after_line parser_after_bytes worded
 line_taken known r next l e = by_words (tokens_of l.bytes) refl (passed (is_lf_end l.end) (worded known r l.bytes (tokens_of l.bytes)) next e).1
   where
     by_words : (words : List (List ℕ)) → tokens_of l.bytes ≡ words → worded known r l.bytes words ≡ Ok next
         → ((ws : List (List ℕ)) × (begins_with_bar (tokens_of l.bytes) ≡ true) × Certified r next l.bytes ws) ⊎ ((begins_with_bar (tokens_of l.bytes) ≡ false) × Stepped known r next l.bytes)
     by_words [] same h = absurd cc
     by_words (w ∷ ws) same h =
-        elim (either (is_bar w) (certified r l.bytes ws) (stepped known r l.bytes) (Ok next) h) [
+        elim (either (is_bar w) (certified r l.bytes ws) (parser_after_exact_line known r l.bytes) (Ok next) h) [
           | inl p ↦ inl (ws, ap begins_with_bar same ∙ p.0, certified_line r next l.bytes ws p.1)
           | inr p ↦ inr (ap begins_with_bar same ∙ p.0, stepped_line known r next l.bytes p.1)
         ]
 
 -- the form of a line in the one spelling is that of its words
-pub form_read : (line : List ℕ) (f : RawLine) → exact_line line ≡ Ok f → (raw_line_of (tokens_of line) ≡ Ok f) × ((is_strict f && bytes_eq line (line_of f)) ≡ true)
+pub form_read : (line : List ℕ) (f : RawLine) → exact_line line ≡ Ok f → (raw_line_of (tokens_of line) ≡ Ok f) × ((is_strict_line f && bytes_eq line (line_of f)) ≡ true)
 unfolding exact_line_of
 form_read line f e =
-    let g = bind_ok (raw_line_of (tokens_of line)) (λ f. cond (is_strict f && bytes_eq line (line_of f)) (Ok f) (Err Malformed)) f e in
-    let p = passed (is_strict g.0 && bytes_eq line (line_of g.0)) (Ok g.0) f g.2 in
+    let g = bind_ok (raw_line_of (tokens_of line)) (λ f. cond (is_strict_line f && bytes_eq line (line_of f)) (Ok f) (Err Malformed)) f e in
+    let p = passed (is_strict_line g.0 && bytes_eq line (line_of g.0)) (Ok g.0) f g.2 in
     let same : g.0 ≡ f = ok_is g.0 f p.1 in
-    subst (λ (x : RawLine). (raw_line_of (tokens_of line) ≡ Ok x) × ((is_strict x && bytes_eq line (line_of x)) ≡ true)) same (g.1, p.0)
+    subst (λ (x : RawLine). (raw_line_of (tokens_of line) ≡ Ok x) × ((is_strict_line x && bytes_eq line (line_of x)) ≡ true)) same (g.1, p.0)
 
 -- words that have a form say something
 pub not_skipped : (words : List (List ℕ)) (f : RawLine) → raw_line_of words ≡ Ok f → is_skipped words ≡ false

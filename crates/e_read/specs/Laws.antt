@@ -7,7 +7,7 @@ use Rattle.e_text.specs.declared.line.LineFault.{LineFault}
 use Rattle.e_names.specs.TitledStatements.{TitledStatement}
 use Rattle.e_book.specs.TheoremViews.{TheoremView}
 use Rattle.e_book.specs.Grammar.{read_from}
-use Rattle.e_read.specs.Text.{Derived, is_bar, at_start, piece_from, bare}
+use Rattle.e_read.specs.Text.{Derived, is_bar, at_start, piece_from, without_certs}
 
 -- a line of a certificate begins with the word `|`
 abbrev pub begins_with_bar : List (List ℕ) → Bool
@@ -23,7 +23,7 @@ is_of_theorem (Err f) = true
 pub record ReadsAsBook (known : List TitledStatement) (last : ℕ) (t : TheoremView) (lines rest : List (Result LineView LineFault)) : Type 0 where
   pub front : List (Result LineView LineFault)
   pub all : lines ≡ front ++ rest
-  pub read : read_from known last None (filter is_of_theorem front ++ rest) ≡ Ok (Some (bare t, rest))
+  pub read : read_from known last None (filter is_of_theorem front ++ rest) ≡ Ok (Some (without_certs t, rest))
 
 -- a theorem that is read with its derivation is that theorem of a book
 abbrev pub DerivationsAreOfBooks : Type 0

@@ -35,9 +35,9 @@ shown_inside (kind.First lit) around = around
 shown_inside (kind.Second lit first) around = around
 
 -- what the innermost claim or superposition of these blocks shows, if there is one
-abbrev pub claimed : List OpenBlock → Option (List Lit)
-claimed [] = None
-claimed (o ∷ os) = shown_inside o.kind (claimed os)
+abbrev pub shown_around : List OpenBlock → Option (List Lit)
+shown_around [] = None
+shown_around (o ∷ os) = shown_inside o.kind (shown_around os)
 
 abbrev pub goal_or : Option (List Lit) → Goal → Goal
 goal_or None goal = goal
@@ -46,7 +46,7 @@ goal_or (Some shown) goal = goal_of shown
 -- the goal of the block that is open: that of the claim or superposition that it is in, and else
 -- that of the whole proof
 abbrev pub open_goal : TheoremParser → Goal
-open_goal d = goal_or (claimed d.blocks) (goal_of_statement (stated (statement_of_parser d)))
+open_goal d = goal_or (shown_around d.blocks) (goal_of_statement (stated (statement_of_parser d)))
 
 -- one certificate for each of these literals
 abbrev pub one_each : List Lit → Obligation
@@ -56,8 +56,8 @@ one_each wanted = due.Literals wanted [] None
 abbrev pub needs_in : Scope → StatementView → List (Option Obj) → Result (List Lit) FaultKind
 needs_in s t pattern = each or_malformed pattern >>= λ args. or_malformed (use_of t args s) >>= λ u. Ok u.needs
 
-unfoldable pub needs_of_use : List TitledStatement → TheoremParser → RawApply → Result (List Lit) FaultKind
-needs_of_use known d raw = apply_in known d.in_scope raw >>= λ a. needs_in (scope_of_names d.in_scope) (theorem_of known a.0) a.1
+unfoldable pub needs_of_raw_apply : List TitledStatement → TheoremParser → RawApply → Result (List Lit) FaultKind
+needs_of_raw_apply known d raw = apply_in known d.in_scope raw >>= λ a. needs_in (scope_of_names d.in_scope) (theorem_of known a.0) a.1
 
 -- the literals of the goal, with the objects that are named for its made ones
 unfoldable pub needs_at_qed : TheoremParser → List (List ℕ) → Result (List Lit) FaultKind
@@ -69,7 +69,7 @@ needs_at_qed d ns = qed_in d.in_scope (made_in d.blocks d.made) ns >>= λ object
 unfoldable pub due_of : List TitledStatement → TheoremParser → RawLine → Result Obligation FaultKind
 due_of known d (rawlines.Hence raw) = lit_in d.in_scope raw >>= λ l. Ok (one_each (l ∷ []))
 due_of known d (rawlines.Let raw) = let_in d.in_scope raw >>= λ form. Ok (one_each (needs_of_construction form))
-due_of known d (rawlines.Apply raw) = needs_of_use known d raw >>= λ ls. Ok (one_each ls)
+due_of known d (rawlines.Apply raw) = needs_of_raw_apply known d raw >>= λ ls. Ok (one_each ls)
 due_of known d (rawlines.Superpose raw) = superpose_in d.in_scope raw >>= λ p. Ok (one_each (superposing.needs_of_superposition p.0))
 due_of known d (rawlines.Qed ns) = needs_at_qed d ns >>= λ ls. Ok (one_each ls)
 due_of known d rawlines.Contradiction = Ok (due.Contradiction None)

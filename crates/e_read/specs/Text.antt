@@ -2,8 +2,8 @@
 use Rattle.std.specs.Prelude.{◌≡◌, IfSome, IsTrue, ℕ, ◌≤◌, Bool, true, false, ◌∷◌, ◌++◌, List, [], length, decimal, codes, Option, Some, None, Result, Ok, Err, if◌then◌else◌}
 use Rattle.std.specs.Option.{option_to_list}
 use Rattle.std.specs.Str.{bytes_eq}
-use Rattle.e_text.specs.Tokens.{tokens_of, joined}
-use Rattle.e_text.specs.Lines.{LineView, Ahead, view_of_line, fault_line}
+use Rattle.e_text.specs.Tokens.{tokens_of, joined_words}
+use Rattle.e_text.specs.Lines.{LineView, Ahead, view_of_line, line_of_fault}
 use Rattle.e_text.specs.declared.line.Line.{Line}
 use Rattle.e_text.specs.declared.line.LineEnd.{LineEnd}
 use Rattle.e_text.specs.declared.line.LineEnd.TheVariants as ends
@@ -40,7 +40,7 @@ use Rattle.e_cert.specs.Strict.{exact_cert_line}
 use Rattle.e_read.specs.Strict.{is_apart}
 use Rattle.e_cert.specs.Owed.{after_cert_line, finish_certs}
 use Rattle.e_read.specs.Needs.{due_of}
-use Rattle.e_read.specs.Filled.{filled}
+use Rattle.e_read.specs.Filled.{script_with_certs}
 
 -- ---- lines
 
@@ -77,8 +77,8 @@ finish_line r = finish_certs r.owed >>= λ k. Ok (record { version = r.version; 
 unfoldable pub with_form : List TitledStatement → BlockParser → RawLine → Result BlockParser FaultKind
 with_form known r f = finish_line r >>= λ s. gone_on known s.parser f >>= λ e. Ok (record { version = s.version; parser = Some e.0; owed = e.1; kept = s.kept })
 
-unfoldable pub stepped : List TitledStatement → BlockParser → List ℕ → Result BlockParser FaultKind
-stepped known r line = exact_line line >>= λ f. with_form known r f
+unfoldable pub parser_after_exact_line : List TitledStatement → BlockParser → List ℕ → Result BlockParser FaultKind
+parser_after_exact_line known r line = exact_line line >>= λ f. with_form known r f
 
 abbrev pub is_bar : List ℕ → Bool
 is_bar word = bytes_eq word (codes "|")
@@ -86,37 +86,37 @@ is_bar word = bytes_eq word (codes "|")
 -- a line by its words: the sign `|` comes before each line of a certificate
 unfoldable pub worded : List TitledStatement → BlockParser → List ℕ → List (List ℕ) → Result BlockParser FaultKind
 worded known r line [] = Err Malformed
-worded known r line (w ∷ ws) = if is_bar w then certified r line ws else stepped known r line
+worded known r line (w ∷ ws) = if is_bar w then certified r line ws else parser_after_exact_line known r line
 
 abbrev pub is_lf_end : LineEnd → Bool
 is_lf_end ends.Lf = true
 is_lf_end end = false
 
 -- a line by its bytes
-unfoldable pub spelled : List TitledStatement → BlockParser → List ℕ → Result BlockParser FaultKind
-spelled known r line = worded known r line (tokens_of line)
+unfoldable pub parser_after_bytes : List TitledStatement → BlockParser → List ℕ → Result BlockParser FaultKind
+parser_after_bytes known r line = worded known r line (tokens_of line)
 
 -- each line ends with a line feed
-unfoldable pub taken : List TitledStatement → BlockParser → LineView → Result BlockParser FaultKind
-taken known r l = if is_lf_end l.end then spelled known r l.bytes else Err Malformed
+unfoldable pub parser_after_line : List TitledStatement → BlockParser → LineView → Result BlockParser FaultKind
+parser_after_line known r l = if is_lf_end l.end then parser_after_bytes known r l.bytes else Err Malformed
 
 -- ---- blocks
 
 -- what comes next: a theorem with its derivation for its script, or the last line
-pub data Piece : Type 0 where
-  Derived : (theorem : TheoremView) → Piece
-  Last : Piece
+pub data TextPiece : Type 0 where
+  Derived : (theorem : TheoremView) → TextPiece
+  Last : TextPiece
 
 -- the last line says how many theorems there are
 abbrev pub last_line_of : ℕ → List ℕ
-last_line_of n = joined (codes "accepted" ∷ decimal n ∷ [])
+last_line_of n = joined_words (codes "accepted" ∷ decimal n ∷ [])
 
 abbrev pub is_last_line : List TitledStatement → LineView → Bool
 is_last_line known l = if is_lf_end l.end then bytes_eq l.bytes (last_line_of (length known)) else false
 
 -- a theorem with its certificates at their lines
 abbrev pub derived : TheoremParser → List StepCerts → TheoremView
-derived d kept = let t = entry_of_parser d in record t { script = (filled t.script kept).0 }
+derived d kept = let t = entry_of_parser d in record t { script = (script_with_certs t.script kept).0 }
 
 abbrev pub garbled_at : {A : Type 0} → ℕ → Result A FaultKind → Result A ℕ
 garbled_at line (Ok x) = Ok x
@@ -131,7 +131,7 @@ abbrev pub finished : Option TheoremParser → List StepCerts → Option Theorem
 finished None kept = None
 finished (Some d) kept = if is_done d then Some (derived d kept) else None
 
-abbrev pub or_on : Option TheoremView → List (Result LineView LineFault) → Result (Piece × List (Result LineView LineFault)) ℕ → Result (Piece × List (Result LineView LineFault)) ℕ
+abbrev pub or_on : Option TheoremView → List (Result LineView LineFault) → Result (TextPiece × List (Result LineView LineFault)) ℕ → Result (TextPiece × List (Result LineView LineFault)) ℕ
 or_on None lines more = more
 or_on (Some t) lines more = Ok (Derived t, lines)
 
@@ -142,12 +142,12 @@ is_end known (Some d) l = false
 
 -- the rest of what comes next and the lines after it, or the first line that is malformed at its
 -- place; last is the number after the last line
-unfoldable pub piece_from : List TitledStatement → ℕ → BlockParser → List (Result LineView LineFault) → Result (Piece × List (Result LineView LineFault)) ℕ
+unfoldable pub piece_from : List TitledStatement → ℕ → BlockParser → List (Result LineView LineFault) → Result (TextPiece × List (Result LineView LineFault)) ℕ
 piece_from known last r [] = Err last
-piece_from known last r (Err f ∷ lines) = Err (fault_line f)
+piece_from known last r (Err f ∷ lines) = Err (line_of_fault f)
 piece_from known last r (Ok line ∷ lines) =
     if is_end known r.parser line then Ok (Last, lines) else
-    (garbled_at line.number (taken known r line) >>= λ next. or_on (finished next.parser next.kept) lines (piece_from known last next lines))
+    (garbled_at line.number (parser_after_line known r line) >>= λ next. or_on (finished next.parser next.kept) lines (piece_from known last next lines))
 
 -- what a line made of a block, unless memory ran out
 abbrev pub LineReads : Result (Unit {0}) TextFault → BlockParser → Result BlockParser ℕ → Type 0
@@ -173,15 +173,15 @@ ProgressIs known old line new (Err (faults.Garbled n)) = (last : ℕ) (rest : Li
 ProgressIs known old line new (Err faults.NoMemory) = Unit {0}
 
 -- what was answered is what comes next, unless memory ran out
-abbrev pub TextReads : List TitledStatement → Result PieceRead TextFault → Ahead → Result (Piece × List (Result LineView LineFault)) ℕ → Type 0
+abbrev pub TextReads : List TitledStatement → Result PieceRead TextFault → Ahead → Result (TextPiece × List (Result LineView LineFault)) ℕ → Type 0
 TextReads known (Ok (read.Theorem t)) new from = from ≡ Ok (Derived (entry_of t), new.lines)
 TextReads known (Ok (read.Last n)) new from = (n ≡ length known) × (from ≡ Ok (Last, new.lines))
 TextReads known (Err (faults.Garbled line)) new from = from ≡ Err line
 TextReads known (Err faults.NoMemory) new from = Unit {0}
 
 -- a theorem without its certificates
-abbrev pub bare : TheoremView → TheoremView
-bare t = record t { script = erased t.script }
+abbrev pub without_certs : TheoremView → TheoremView
+without_certs t = record t { script = erased t.script }
 
 -- what holds of a theorem, where one was read
 abbrev pub OfTheorem : (Theorem → Type 0) → PieceRead → Type 0

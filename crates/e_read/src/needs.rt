@@ -75,7 +75,7 @@ fn needs_in(
 }
 
 /// What an application owes.
-#[tactic(auto, unfolding(crate::specs::Needs::needs_of_use))]
+#[tactic(auto, unfolding(crate::specs::Needs::needs_of_raw_apply))]
 fn needs_of_use(
     alloc: Global,
     known: &Theorems,
@@ -85,7 +85,7 @@ fn needs_of_use(
     requires parser { FitsScope parser.now }
     requires few { length known.now ≤ most_theorems }
     requires known { IsTrue (list_all is_small_statement (stated_by known.now)) }
-    ensures { Gives (λ l. l) result (Needs.needs_of_use known.now parser.now raw.now) }
+    ensures { Gives (λ l. l) result (Needs.needs_of_raw_apply known.now parser.now raw.now) }
 {
     let used = apply_in(alloc, known, &parser.in_scope, raw)?;
     let statement = known.statement(used.theorem as usize);
@@ -99,7 +99,7 @@ fn needs_of_use(
 
 /// What the innermost claim or superposition of these blocks shows, if there is one.
 fn claimed(blocks: &[OpenBlock]) -> Option<&[Lit]>
-    ensures { option_map (λ l. l.now) result ≡ Needs.claimed (reverse blocks.now) }
+    ensures { option_map (λ l. l.now) result ≡ Needs.shown_around (reverse blocks.now) }
 {
     let [blocks @ .., outer] = blocks else {
         return None;

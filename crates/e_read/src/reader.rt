@@ -11,8 +11,9 @@ ghost use Rattle.e_names.specs.TitledStatements.{stated_by};
 ghost use Rattle.e_book.specs.Grammar.{last_line};
 ghost use Rattle.e_book.specs.TheoremViews.{entry_of};
 ghost use Rattle.e_book.specs.HasSpelling.{HasSpelling};
-ghost use Rattle.e_read.specs.Text.{at_start, garbled_at, taken, LineIs, LineReads, ProgressIs};
-ghost use Rattle.e_read.specs.Text.{FitsReading, piece_from, bare, OfTheorem, TextReads};
+ghost use Rattle.e_read.specs.Text.{at_start, garbled_at, parser_after_line};
+ghost use Rattle.e_read.specs.Text.{LineIs, LineReads, ProgressIs, FitsReading};
+ghost use Rattle.e_read.specs.Text.{piece_from, without_certs, OfTheorem, TextReads};
 
 use crate::reading::BlockParser;
 use e_book::Theorem;
@@ -90,8 +91,8 @@ fn take_line(
     requires reading { FitsReading reading.old }
     requires few { OnSome reading.old.parser (length known.now ≤ most_theorems) }
     requires known { IsTrue (list_all is_small_statement (stated_by known.now)) }
-    ensures value { LineReads result reading.new
-        (garbled_at line.entry.number (taken known.now reading.old (view_of_line line.entry))) }
+    ensures value { LineReads result reading.new (garbled_at line.entry.number
+        (parser_after_line known.now reading.old (view_of_line line.entry))) }
     ensures fits { OnOk result (FitsReading reading.new) }
     ensures few { OnOk result (OnSome reading.new.parser (length known.now ≤ most_theorems)) }
 {
@@ -189,7 +190,8 @@ pub fn read(
     ensures shorter { OnOk result (length lines.new.lines < length lines.old.lines) }
     // without its certificates a theorem that is read has a spelling in a book: its title is new,
     // and it is within the limits
-    ensures spelled { IfOk result (OfTheorem (λ t. HasSpelling known.now (bare (entry_of t)))) }
+    ensures spelled { IfOk result
+        (OfTheorem (λ t. HasSpelling known.now (without_certs (entry_of t)))) }
     // its certificates are of that version, and name literals that are well formed
     ensures version { IfOk result
         (OfTheorem (λ t. IsTrue (has_certs_of version (script_of t.block)))) }

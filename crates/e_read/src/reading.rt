@@ -10,11 +10,11 @@ ghost use Rattle.e_book.specs.TheoremViews.{entry_of};
 ghost use Rattle.e_line.specs.Reading.{texts, Gives, Moves};
 ghost use Rattle.e_names.specs.Scope.{FewNames};
 ghost use Rattle.e_book.specs.Steps.{no_names};
-ghost use Rattle.e_read.specs.Text.{owes_nothing, at_start, with_cert_line, certified};
-ghost use Rattle.e_read.specs.Text.{owed_by, gone_on, finish_line, with_form, stepped};
-ghost use Rattle.e_read.specs.Text.{is_bar, worded, is_lf_end, spelled, taken, derived};
-ghost use Rattle.e_read.specs.Text.{is_finished, finished, is_end, is_last_line};
-ghost use Rattle.e_read.specs.Text.{last_line_of, FitsParser, FitsReading, FitsBegun};
+ghost use Rattle.e_read.specs.Text.{owes_nothing, at_start, with_cert_line, certified, owed_by};
+ghost use Rattle.e_read.specs.Text.{gone_on, finish_line, with_form, parser_after_exact_line};
+ghost use Rattle.e_read.specs.Text.{is_bar, worded, is_lf_end, parser_after_bytes};
+ghost use Rattle.e_read.specs.Text.{parser_after_line, derived, is_finished, finished, is_end};
+ghost use Rattle.e_read.specs.Text.{is_last_line, last_line_of, FitsParser, FitsReading, FitsBegun};
 
 use crate::filling::fill;
 use crate::kept::AllCerts;
@@ -207,7 +207,7 @@ impl BlockParser {
     }
 
     /// Takes any other line: nothing is owed any more.
-    #[tactic(auto, unfolding(crate::specs::Text::stepped))]
+    #[tactic(auto, unfolding(crate::specs::Text::parser_after_exact_line))]
     fn take_step(
         &mut self,
         alloc: Global,
@@ -219,7 +219,8 @@ impl BlockParser {
         requires reading { FitsReading self.old }
         requires few { OnSome self.old.parser (length known.now ≤ most_theorems) }
         requires known { IsTrue (list_all is_small_statement (stated_by known.now)) }
-        ensures value { Moves result self.new (stepped known.now self.old line.now) }
+        ensures value { Moves result self.new
+            (parser_after_exact_line known.now self.old line.now) }
         ensures fits { OnOk result (FitsReading self.new) }
         ensures few { OnOk result (OnSome self.new.parser (length known.now ≤ most_theorems)) }
     {
@@ -294,12 +295,12 @@ impl BlockParser {
     }
 
     /// Takes a line by its bytes.
-    #[tactic(auto, unfolding(crate::specs::Text::spelled))]
+    #[tactic(auto, unfolding(crate::specs::Text::parser_after_bytes))]
     fn take_bytes(&mut self, alloc: Global, known: &Theorems, line: &[u8]) -> Result<(), LineError>
         requires reading { FitsReading self.old }
         requires few { OnSome self.old.parser (length known.now ≤ most_theorems) }
         requires known { IsTrue (list_all is_small_statement (stated_by known.now)) }
-        ensures value { Moves result self.new (spelled known.now self.old line.now) }
+        ensures value { Moves result self.new (parser_after_bytes known.now self.old line.now) }
         ensures fits { OnOk result (FitsReading self.new) }
         ensures few { OnOk result (OnSome self.new.parser (length known.now ≤ most_theorems)) }
     {
@@ -308,7 +309,7 @@ impl BlockParser {
     }
 
     /// Takes the next line, which ends with a line feed.
-    #[tactic(auto, unfolding(crate::specs::Text::taken))]
+    #[tactic(auto, unfolding(crate::specs::Text::parser_after_line))]
     pub(crate) fn take(
         &mut self,
         alloc: Global,
@@ -318,7 +319,8 @@ impl BlockParser {
         requires reading { FitsReading self.old }
         requires few { OnSome self.old.parser (length known.now ≤ most_theorems) }
         requires known { IsTrue (list_all is_small_statement (stated_by known.now)) }
-        ensures value { Moves result self.new (taken known.now self.old (view_of_line line.entry)) }
+        ensures value { Moves result self.new
+            (parser_after_line known.now self.old (view_of_line line.entry)) }
         ensures fits { OnOk result (FitsReading self.new) }
         ensures few { OnOk result (OnSome self.new.parser (length known.now ≤ most_theorems)) }
     {

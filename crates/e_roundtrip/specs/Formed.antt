@@ -22,7 +22,7 @@ use Rattle.e_clause.specs.Instance.{Inst}
 use Rattle.e_clause.specs.RuleKinds.{is_transfer}
 use Rattle.e_clause.specs.Sum.{is_limited_sum}
 use Rattle.e_clause.specs.MetricCertificate.{row_name_in, sum_in}
-use Rattle.e_clause.specs.TransferCertificate.{args_in}
+use Rattle.e_clause.specs.TransferCertificate.{are_args_in}
 use Rattle.e_clause.specs.Written.{is_writable_name, is_writable_sum}
 use Rattle.e_deriv.specs.Script.{Script, Apply, Contradiction}
 use Rattle.e_deriv.specs.Lines.{Line}
@@ -66,7 +66,7 @@ has_parts l parts lits = length parts == length (others lits l)
 abbrev pub cert_formed : Scope → Lit → Cert → Bool
 cert_formed s l (Plain p) = part_formed s p
 cert_formed s l (Transfer t) =
-    is_transfer t.rule && (option_map_or (has_parts l t.parts) (Inst t.rule t.args) false && (args_in s t && list_all (part_formed s) t.parts))
+    is_transfer t.rule && (option_map_or (has_parts l t.parts) (Inst t.rule t.args) false && (are_args_in s t && list_all (part_formed s) t.parts))
 
 -- as many certificates as literals, each of the form of one for its literal
 abbrev pub certs_formed : Scope → List Lit → List Cert → Bool

@@ -23,7 +23,7 @@ use Rattle.e_judgement.specs.declared.judgement.Judgement.TheVariants.{Verified}
 use Rattle.e_judgement.specs.Judged.{JudgesText}
 use Rattle.e_roundtrip.specs.Formed.{Formed}
 use Rattle.e_roundtrip.specs.Spelled.{ShowsEnded, CanBeSpelled}
-use Rattle.e_roundtrip.specs.Written.{AllCanBeSpelled, AllCanBeVerified, SpellsProofs, judgement_of, written}
+use Rattle.e_roundtrip.specs.Written.{AllCanBeSpelled, AllCanBeVerified, SpellsProofs, judgement_of, derivation_text}
 
 -- ---- what is read is spelled so
 
@@ -80,13 +80,13 @@ TrimmedHasSpelling =
 -- however long it is
 abbrev pub WrittenIsJudged : Type 0
 WrittenIsJudged =
-    (v : Version) (ps : List (TheoremView × Script)) → AllCanBeSpelled v [] ps → JudgesText (written v ps) (judgement_of [] ps)
+    (v : Version) (ps : List (TheoremView × Script)) → AllCanBeSpelled v [] ps → JudgesText (derivation_text v ps) (judgement_of [] ps)
 
 -- what is written of certified derivations is a derivation text that is judged verified, with their
 -- number
 abbrev pub WrittenIsVerified : Type 0
 WrittenIsVerified =
-    (v : Version) (ps : List (TheoremView × Script)) → AllCanBeVerified v [] ps → JudgesText (written v ps) (Verified (length ps))
+    (v : Version) (ps : List (TheoremView × Script)) → AllCanBeVerified v [] ps → JudgesText (derivation_text v ps) (Verified (length ps))
 
 -- and a text that is judged verified is so written: it spells proofs, and nothing else
 abbrev pub VerifiedIsWritten : Type 0

@@ -42,21 +42,21 @@ judgement_of known (p ∷ ps) =
     judged_after p.0.title (verdict (stated_by known) (stated p.0.statement) p.1) (judgement_of (with_theorem known p.0) ps)
 
 -- the blocks of derivations, one after the other
-abbrev pub blocks_of : List TitledStatement → List (TheoremView × Script) → List ℕ
-blocks_of known [] = []
-blocks_of known (p ∷ ps) = spelled known p.0 p.1 ++ blocks_of (with_theorem known p.0) ps
+abbrev pub spelled_blocks : List TitledStatement → List (TheoremView × Script) → List ℕ
+spelled_blocks known [] = []
+spelled_blocks known (p ∷ ps) = spelled known p.0 p.1 ++ spelled_blocks (with_theorem known p.0) ps
 
 -- the line that comes before the blocks
-abbrev pub head_line : Version → List ℕ
-head_line v = head_of v ++ codes "\n"
+abbrev pub version_line : Version → List ℕ
+version_line v = head_of v ++ codes "\n"
 
 -- the line after the blocks: how many they are
-abbrev pub accepted_line : ℕ → List ℕ
-accepted_line n = codes "accepted " ++ (decimal n ++ codes "\n")
+abbrev pub accepted_blocks_line : ℕ → List ℕ
+accepted_blocks_line n = codes "accepted " ++ (decimal n ++ codes "\n")
 
 -- the head line, the blocks, and the last line
-abbrev pub written : Version → List (TheoremView × Script) → List ℕ
-written v ps = head_line v ++ (blocks_of [] ps ++ accepted_line (length ps))
+abbrev pub derivation_text : Version → List (TheoremView × Script) → List ℕ
+derivation_text v ps = version_line v ++ (spelled_blocks [] ps ++ accepted_blocks_line (length ps))
 
 -- each derivation proves its theorem's statement from those of the theorems before it
 abbrev pub AllProved : List TitledStatement → List (TheoremView × Script) → Type 0
@@ -70,4 +70,4 @@ pub record SpellsProofs (n : ℕ) (text : List ℕ) : Type 0 where
   pub theorems : List (TheoremView × Script)
   pub count : length theorems ≡ n
   pub proved : AllProved [] theorems
-  pub bytes : text ≡ written version theorems
+  pub bytes : text ≡ derivation_text version theorems

@@ -9,7 +9,7 @@ use Rattle.e_line.specs.Reading.{◌>>=◌}
 use Rattle.e_book.specs.Grammar.{BookFails}
 use Rattle.e_line.proofs.Bound.{bind_ok}
 use Rattle.e_drawing.specs.Plans.{no_plan}
-use Rattle.e_drawing.specs.Texts.{lines_of_text, plan_from}
+use Rattle.e_drawing.specs.Texts.{lines_of_figure_text, plan_from}
 use Rattle.e_drawing.specs.Answers.{answered, drawn_of}
 use Rattle.e_drawing.proofs.PlanLines.{good_plan}
 use Rattle.e_run.specs.declared.status.Status.{Status}
@@ -61,7 +61,7 @@ read_figure (Some text) read old new answer e h = (text, refl, draws_alike read 
 
 short_figure : (text : List ℕ) (d : ℕ × List ℕ) → drawn_of text ≡ Ok d → length text ≤ 4194304
 short_figure text d e =
-    let lines = lines_of_text text in
+    let lines = lines_of_figure_text text in
     let a = bind_ok (plan_from (1 + length lines) no_plan lines) (λ p. Ok (length p.shown, answered p)) d e in
     let good = good_plan (1 + length lines) no_plan a.0 lines a.1 in
     omega (arith, short_by_size (length text) (record { longest = 1600; most = 4194304 }) (record { line = 1; before = 0 }) text (omega arith) (omega arith) good)

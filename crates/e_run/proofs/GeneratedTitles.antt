@@ -12,7 +12,7 @@ use Rattle.std.proofs.Math.Seq.{take-append-add}
 use Rattle.e_text.specs.declared.line.LineEnd.{LineEnd}
 use Rattle.e_text.specs.declared.line.LineEnd.TheVariants.{Lf, CrLf}
 use Rattle.e_text.specs.declared.line.LineFault.{LineFault}
-use Rattle.e_text.specs.Lines.{is_lf, IsOpen, ends_in_cr, Bounds, Spot, LineView, HaveNoFault, ended, closed, lines_of, lines_of_parts}
+use Rattle.e_text.specs.Lines.{is_lf, IsOpen, ends_in_cr, Bounds, Spot, LineView, HaveNoFault, ended, line_before_lf, lines_of, lines_of_parts}
 use Rattle.e_text.specs.Names.{is_digit}
 use Rattle.e_text.specs.Numerals.{is_numeral}
 use Rattle.e_text.specs.Tokens.{is_blank, has_bytes, is_token, tokens_of}
@@ -20,7 +20,7 @@ use Rattle.e_text.proofs.FirstLine.{then_lines, split_more, parts_of, seen-check
 use Rattle.e_text.proofs.WholeLines.{next_spot}
 use Rattle.e_text.proofs.TokenWords.{tokens_of-spaced}
 use Rattle.e_text.proofs.NumeralWords.{is_numeral-decimal}
-use Rattle.e_generate.specs.Generated.{numbers, point, segment, between, points_to, points_line, given_line, added, show_sum, show_less, apply_line, earlier, turned, run, cites, hence_line, last, statement, proof, theorem_text, generated_text}
+use Rattle.e_generate.specs.Generated.{numbers, point, segment, between, points_to, points_line, given_between_line, plus_segment, show_sum, show_less, apply_previous_line, earlier, turned, run, cites, hence_line, last, statement, proof, generated_theorem_text, generated_text}
 use Rattle.e_run.specs.Outcome.{Rest, lines_of_book}
 use Rattle.e_run.proofs.Titles.{has_title, one_if, titles}
 use Rattle.e_run.proofs.WholeBook.{good_rest}
@@ -99,13 +99,13 @@ open_between i j k a b c =
     open_append (codes " between") (point i ++ (point j ++ point k)) refl
     (open_append (point i) (point j ++ point k) (open_point i a) (open_append (point j) (point k) (open_point j b) (open_point k c)))
 
-open_added : (i : ℕ) → i < 999 → IsOpen (added i)
+open_added : (i : ℕ) → i < 999 → IsOpen (plus_segment i)
 open_added i lt = open_append (codes " +") (segment i (i + 1)) refl (open_segment i (i + 1) (omega (arith, lt)) (omega (arith, lt)))
 
-open_sum : (from n : ℕ) → from + n ≤ 999 → IsOpen (flat_map added (numbers from n))
+open_sum : (from n : ℕ) → from + n ≤ 999 → IsOpen (flat_map plus_segment (numbers from n))
 open_sum from zero le = refl
 open_sum from (suc n) le =
-    open_append (added from) (flat_map added (numbers (from + 1) n)) (open_added from (omega (arith, le))) (open_sum (from + 1) n (omega (arith, le)))
+    open_append (plus_segment from) (flat_map plus_segment (numbers (from + 1) n)) (open_added from (omega (arith, le))) (open_sum (from + 1) n (omega (arith, le)))
 
 -- ---- lines with this many titles
 
@@ -134,7 +134,7 @@ feeds_open [] e = tt
 feeds_open (b ∷ bs) e = let p = and_parts (not (is_lf b)) (list_all (λ x. not (is_lf x)) bs) e in (not-true (is_lf b) p.0, feeds_open bs p.1)
 
 -- the first line of bytes that have a line feed
-lines_front : (w : Bounds) (at : Spot) (part rest : List ℕ) → IsOpen part → lines_of w at (part ++ 10 ∷ rest) ≡ then_lines (closed w at part) (lines_of w (next_spot at (length part)) rest)
+lines_front : (w : Bounds) (at : Spot) (part rest : List ℕ) → IsOpen part → lines_of w at (part ++ 10 ∷ rest) ≡ then_lines (line_before_lf w at part) (lines_of w (next_spot at (length part)) rest)
 lines_front w at part rest h =
     let more = parts_of rest in
     let split : slice_split is_lf (part ++ 10 ∷ rest) ≡ part ∷ slice_split is_lf rest = slice_split_at is_lf part 10 rest (All-from_recursion (λ b. is_lf b ≡ false) part (feeds_open part h)) refl in
@@ -145,15 +145,15 @@ titles_by : (r : Result LineView LineFault) (more : Rest) (bytes : List ℕ) (k 
 titles_by (Ok l) more bytes k same c good = ap (λ (x : ℕ). x + titles more) (ap (λ (b : List ℕ). one_if (has_title (tokens_of b))) (same l refl) ∙ c)
 titles_by (Err f) more bytes k same c good = absurd good
 
-closed_bytes : (w : Bounds) (at : Spot) (part : List ℕ) (l : LineView) → closed w at part ≡ Ok l → l.bytes ≡ (ended part []).0
+closed_bytes : (w : Bounds) (at : Spot) (part : List ℕ) (l : LineView) → line_before_lf w at part ≡ Ok l → l.bytes ≡ (ended part []).0
 closed_bytes w at part l e = ap (λ (x : LineView). x.bytes) (sym (seen-checked w at (ended part []).0 (ended part []).1 (at.before + length part + 1) l e))
 
 adds_line : (part : List ℕ) (k : ℕ) → IsOpen part → one_if (has_title (tokens_of (ended part []).0)) ≡ k → Adds k (part ++ 10 ∷ [])
 adds_line part k h c = λ w at rest good.
     let next = next_spot at (length part) in
     let e = ap (λ (t : List ℕ). lines_of w at t) (append_assoc part (10 ∷ []) rest) ∙ lines_front w at part rest h in
-    let split : HaveNoFault (then_lines (closed w at part) (lines_of w next rest)) = subst HaveNoFault e good in
-    (next, good_rest (closed w at part) (lines_of w next rest) split, ap titles e ∙ titles_by (closed w at part) (lines_of w next rest) (ended part []).0 k (closed_bytes w at part) c split)
+    let split : HaveNoFault (then_lines (line_before_lf w at part) (lines_of w next rest)) = subst HaveNoFault e good in
+    (next, good_rest (line_before_lf w at part) (lines_of w next rest) split, ap titles e ∙ titles_by (line_before_lf w at part) (lines_of w next rest) (ended part []).0 k (closed_bytes w at part) c split)
 
 -- ---- a line by its first word
 
@@ -200,7 +200,7 @@ adds_points m lt =
     adds_word (codes "points") (points_to (m + 1) ++ codes "\n") 0 refl refl refl
     (line_more (points_to (m + 1)) (codes "\n") (open_points 0 (m + 1) (omega (arith, lt))) line_end) (spaced_points 0 (m + 1) (codes "\n") (omega arith))
 
-adds_given : (i : ℕ) → i < 900 → Adds 0 (given_line i)
+adds_given : (i : ℕ) → i < 900 → Adds 0 (given_between_line i)
 adds_given i lt =
     adds_word (codes "given") (between i (i + 1) (i + 2) ++ codes "\n") 0 refl refl refl
     (line_more (between i (i + 1) (i + 2)) (codes "\n") (open_between i (i + 1) (i + 2) (omega (arith, lt)) (omega (arith, lt)) (omega (arith, lt))) line_end) refl
@@ -209,10 +209,10 @@ adds_show_sum : (m : ℕ) → m < 900 → Adds 0 (show_sum m)
 adds_show_sum m lt =
     let end : List ℕ = segment 0 m ++ codes "\n" in
     let sign : List ℕ = codes " =" ++ end in
-    let sum : List ℕ = flat_map added (numbers 1 (m - 1)) ++ sign in
+    let sum : List ℕ = flat_map plus_segment (numbers 1 (m - 1)) ++ sign in
     let o1 : OpenLine end = line_more (segment 0 m) (codes "\n") (open_segment 0 m (omega arith) (omega (arith, lt))) line_end in
     let o2 : OpenLine sign = line_more (codes " =") end refl o1 in
-    let o3 : OpenLine sum = line_more (flat_map added (numbers 1 (m - 1))) sign (open_sum 1 (m - 1) (omega (arith, lt))) o2 in
+    let o3 : OpenLine sum = line_more (flat_map plus_segment (numbers 1 (m - 1))) sign (open_sum 1 (m - 1) (omega (arith, lt))) o2 in
     adds_word (codes "show") (segment 0 1 ++ sum) 0 refl refl refl (line_more (segment 0 1) sum (open_segment 0 1 (omega arith) (omega arith)) o3) refl
 
 adds_show_less : (m : ℕ) → m < 900 → Adds 0 (show_less m)
@@ -239,17 +239,17 @@ adds_title k lt =
 adds_statement : (k m : ℕ) → k < 1000 → m < 900 → Adds 1 (statement k m)
 adds_statement k m small lt =
     let shown : List ℕ = show_sum m ++ show_less m in
-    let given : List ℕ = flat_map given_line (numbers 0 (m - 1)) ++ shown in
+    let given : List ℕ = flat_map given_between_line (numbers 0 (m - 1)) ++ shown in
     let later : List ℕ = points_line m ++ given in
     let a1 : Adds 0 shown = adds_append 0 0 (show_sum m) (show_less m) (adds_show_sum m lt) (adds_show_less m lt) in
-    let a2 : Adds 0 given = adds_append 0 0 (flat_map given_line (numbers 0 (m - 1))) shown (adds_flat given_line 0 (m - 1) (λ i le. adds_given i (omega (arith, lt, le)))) a1 in
+    let a2 : Adds 0 given = adds_append 0 0 (flat_map given_between_line (numbers 0 (m - 1))) shown (adds_flat given_between_line 0 (m - 1) (λ i le. adds_given i (omega (arith, lt, le)))) a1 in
     let a3 : Adds 0 later = adds_append 0 0 (points_line m) given (adds_points m lt) a2 in
     let whole = adds_append 1 0 (codes "theorem" ++ (codes " G" ++ (decimal k ++ codes "\n"))) later (adds_title k small) a3 in
     subst (λ (t : List ℕ). Adds 1 t) (ap (λ (t : List ℕ). codes "theorem G" ++ t) (append_assoc (decimal k) (codes "\n") later)) whole
 
 -- ---- its proof
 
-adds_apply : (k m : ℕ) → k < 1000 → m < 900 → Adds 0 (apply_line k m)
+adds_apply : (k m : ℕ) → k < 1000 → m < 900 → Adds 0 (apply_previous_line k m)
 adds_apply k m small lt =
     let end : List ℕ = points_to m ++ codes "\n" in
     let named : List ℕ = decimal (k - 1) ++ end in
@@ -257,7 +257,7 @@ adds_apply k m small lt =
     let o2 : OpenLine named = line_more (decimal (k - 1)) end (open_number (k - 1) (omega (arith, small))) o1 in
     adds_word (codes "apply") (codes " G" ++ named) 0 refl refl refl (line_more (codes " G") named refl o2) refl
 
-earlier_by : (b : Bool) (k m : ℕ) → k < 1000 → m < 900 → Adds 0 (cond b (apply_line k m) [])
+earlier_by : (b : Bool) (k m : ℕ) → k < 1000 → m < 900 → Adds 0 (cond b (apply_previous_line k m) [])
 earlier_by true k m small lt = adds_apply k m small lt
 earlier_by false k m small lt = adds_none
 
@@ -298,10 +298,10 @@ adds_hence : (i : ℕ) → i < 900 → Adds 0 (hence_line i)
 adds_hence i lt =
     let end : List ℕ = segment 0 (i + 1) ++ codes "\n" in
     let sign : List ℕ = codes " =" ++ end in
-    let more : List ℕ = added i ++ sign in
+    let more : List ℕ = plus_segment i ++ sign in
     let o1 : OpenLine end = line_more (segment 0 (i + 1)) (codes "\n") (open_segment 0 (i + 1) (omega arith) (omega (arith, lt))) line_end in
     let o2 : OpenLine sign = line_more (codes " =") end refl o1 in
-    let o3 : OpenLine more = line_more (added i) sign (open_added i (omega (arith, lt))) o2 in
+    let o3 : OpenLine more = line_more (plus_segment i) sign (open_added i (omega (arith, lt))) o2 in
     adds_word (codes "hence") (segment 0 i ++ more) 0 refl refl refl (line_more (segment 0 i) more (open_segment 0 i (omega arith) (omega (arith, lt))) o3) refl
 
 adds_last : Adds 0 (codes "qed\nend\n")
@@ -325,16 +325,16 @@ adds_proof k m small lt =
 few_points : (k : ℕ) → last k < 900
 few_points k = let e : last k ≡ 3 + (k - 1) % 6 = refl in omega (arith, e)
 
-adds_theorem : (k : ℕ) → k < 1000 → Adds 1 (theorem_text k)
+adds_theorem : (k : ℕ) → k < 1000 → Adds 1 (generated_theorem_text k)
 adds_theorem k small =
     adds_append 1 0 (statement k (last k)) (proof k (last k)) (adds_statement k (last k) small (few_points k)) (adds_proof k (last k) small (few_points k))
 
-adds_theorems : (from n : ℕ) → from + n ≤ 1000 → Adds n (flat_map theorem_text (numbers from n))
+adds_theorems : (from n : ℕ) → from + n ≤ 1000 → Adds n (flat_map generated_theorem_text (numbers from n))
 adds_theorems from zero le = adds_none
 adds_theorems from (suc n) le =
     let one_more : 1 + n ≡ suc n = omega arith in
-    subst (λ (k : ℕ). Adds k (theorem_text from ++ flat_map theorem_text (numbers (from + 1) n))) one_more
-    (adds_append 1 n (theorem_text from) (flat_map theorem_text (numbers (from + 1) n)) (adds_theorem from (omega (arith, le))) (adds_theorems (from + 1) n (omega (arith, le))))
+    subst (λ (k : ℕ). Adds k (generated_theorem_text from ++ flat_map generated_theorem_text (numbers (from + 1) n))) one_more
+    (adds_append 1 n (generated_theorem_text from) (flat_map generated_theorem_text (numbers (from + 1) n)) (adds_theorem from (omega (arith, le))) (adds_theorems (from + 1) n (omega (arith, le))))
 
 -- the lines of the generated book have as many titles as it was asked for theorems
 pub generated_titles : (n : ℕ) → n ≤ 500 → HaveNoFault (lines_of_book (generated_text n)) → titles (lines_of_book (generated_text n)) ≡ n

@@ -30,7 +30,7 @@ use Rattle.e_run.specs.LastLines.{no_memory_line}
 use Rattle.e_run.specs.Answers.{IsReadFault, IsWriteFault}
 use Rattle.e_run.specs.Proofs.{RewroteProofs}
 use Rattle.e_run.specs.VerifierAnswers.{IsFailure}
-use Rattle.e_run.specs.Rewrites.{head_of, block_of, blocks_of, line_of, verified_answer, answer_of, written_with, read_as, AreFirstAfterHead, AreFirstTheorems, EndsAfterHead, EndsAfter, RewriteAnswer, Rewrites, RewritesText, JudgesLinesFor, JudgesFor, AnswersRewrite}
+use Rattle.e_run.specs.Rewrites.{head_of_job, block_of, rewritten_blocks, end_line_of_job, verified_answer, answer_of, written_with, read_as, AreFirstAfterHead, AreFirstTheorems, EndsAfterHead, EndsAfter, RewriteAnswer, Rewrites, RewritesText, JudgesLinesFor, JudgesFor, AnswersRewrite}
 use Rattle.e_run.specs.inner.BookResults.{ClosesWith}
 use Rattle.e_run.specs.declared.blocks.RunError.{RunError}
 use Rattle.e_run.specs.declared.blocks.RunError.TheVariants as errors
@@ -58,11 +58,11 @@ trimmable known t v c first = record { statements = v.statements; statement = v.
 
 module _ (job : Job) (v : Version) (last : ℕ) where
   blocks_more : (known : List TitledStatement) (lines : Rest) (ts : List TheoremView) (now : List TitledStatement) (rest : Rest) (t : TheoremView)
-      → Passes v last known lines ts now rest → blocks_of job known (ts ++ t ∷ []) ≡ blocks_of job known ts ++ block_of job now t
+      → Passes v last known lines ts now rest → rewritten_blocks job known (ts ++ t ∷ []) ≡ rewritten_blocks job known ts ++ block_of job now t
   blocks_more known lines [] now rest t r = append-nil (block_of job known t) ∙ ap (λ (k : List TitledStatement). block_of job k t) r.0
   blocks_more known lines (u ∷ us) now rest t r =
       let later = with_theorem known u in
-      ap (λ (x : List ℕ). block_of job known u ++ x) (blocks_more later r.0 us now rest t r.3) ∙ sym (append_assoc (block_of job known u) (blocks_of job later us) (block_of job now t))
+      ap (λ (x : List ℕ). block_of job known u ++ x) (blocks_more later r.0 us now rest t r.3) ∙ sym (append_assoc (block_of job known u) (rewritten_blocks job later us) (block_of job now t))
 
   second_more : (known : List TitledStatement) (lines : Rest) (ts : List TheoremView) (now : List TitledStatement) (rest : Rest) (t : TheoremView)
       → Passes v last known lines ts now rest → AreOfSecond job known ts → IsOfSecond job now t → AreOfSecond job known (ts ++ t ∷ [])
@@ -81,7 +81,7 @@ module _ (job : Job) (v : Version) (last : ℕ) where
     theorems = h.theorems ++ t ∷ [];
     passes = passes_more v last [] lines h.theorems known rest t after h.passes r c;
     second = second_more [] lines h.theorems known rest t h.passes h.second k;
-    grew = subst (λ (b : List ℕ). Grew old newer b) (sym (blocks_more [] lines h.theorems known rest t h.passes)) (grown old new newer (blocks_of job [] h.theorems) (block_of job known t) h.grew w);
+    grew = subst (λ (b : List ℕ). Grew old newer b) (sym (blocks_more [] lines h.theorems known rest t h.passes)) (grown old new newer (rewritten_blocks job [] h.theorems) (block_of job known t) h.grew w);
   }
 
   -- the theorems so far are some first ones
@@ -92,7 +92,7 @@ module _ (job : Job) (v : Version) (last : ℕ) where
   breaks_inside : (lines : Rest) (old new newer : Option (List ℕ)) (known : List TitledStatement) (rest : Rest) (t : TheoremView) (after : Rest)
       → Progress job v last lines old new known rest → ReadsNext v last known rest t after → IsCertified known t → GrewByFront new newer (block_of job known t) → WroteFrontOf job (ComeFirst v last lines) old newer
   breaks_inside lines old new newer known rest t after h r c w =
-      let blocks = blocks_of job [] h.theorems in
+      let blocks = rewritten_blocks job [] h.theorems in
       let same = blocks_more [] lines h.theorems known rest t h.passes in (
         h.theorems ++ t ∷ [],
         (with_theorem known t, after, passes_more v last [] lines h.theorems known rest t after h.passes r c),
@@ -107,11 +107,11 @@ module _ (job : Job) (v : Version) (last : ℕ) where
   pub breaks_at : (lines : Rest) (old new newer : Option (List ℕ)) (known : List TitledStatement) (rest : Rest) (t : TheoremView) (after : Rest) (e : RunError)
       → Progress job v last lines old new known rest → ReadsNext v last known rest t after → IsCertified known t → Broke job known t new newer e → TheoremsWritten job v last lines old newer (Err e)
   breaks_at lines old new newer known rest t after errors.NoMemory h r c (inl w) =
-      (h.theorems, (known, rest, h.passes), subst (λ (b : List ℕ). Grew old newer b) (append-nil (blocks_of job [] h.theorems)) (grown old new newer (blocks_of job [] h.theorems) [] h.grew w))
+      (h.theorems, (known, rest, h.passes), subst (λ (b : List ℕ). Grew old newer b) (append-nil (rewritten_blocks job [] h.theorems)) (grown old new newer (rewritten_blocks job [] h.theorems) [] h.grew w))
   breaks_at lines old new newer known rest t after errors.NoMemory h r c (inr w) = (
     h.theorems ++ t ∷ [],
     (with_theorem known t, after, passes_more v last [] lines h.theorems known rest t after h.passes r c),
-    subst (λ (b : List ℕ). Grew old newer b) (sym (blocks_more [] lines h.theorems known rest t h.passes)) (grown old new newer (blocks_of job [] h.theorems) (block_of job known t) h.grew w),
+    subst (λ (b : List ℕ). Grew old newer b) (sym (blocks_more [] lines h.theorems known rest t h.passes)) (grown old new newer (rewritten_blocks job [] h.theorems) (block_of job known t) h.grew w),
   )
   breaks_at lines old new newer known rest t after errors.WriteFault h r c w = breaks_inside lines old new newer known rest t after h r c w
   breaks_at lines old new newer known rest t after errors.ReadFault h r c w = absurd w
@@ -189,37 +189,37 @@ first_of_all job text ts j h = by (lines_of_text text) h
 
 -- ---- with the last line
 
-grew_all : (job : Job) (old s0 s1 s2 : Option (List ℕ)) (ts : List TheoremView) (last : List ℕ) → Grew old s0 (head_of job) → Grew s0 s1 (blocks_of job [] ts) → Grew s1 s2 last → Grew old s2 (written_with job ts last)
-grew_all job old s0 s1 s2 ts last h b l = grown old s0 s2 (head_of job) (blocks_of job [] ts ++ last) h (grown s0 s1 s2 (blocks_of job [] ts) last b l)
+grew_all : (job : Job) (old s0 s1 s2 : Option (List ℕ)) (ts : List TheoremView) (last : List ℕ) → Grew old s0 (head_of_job job) → Grew s0 s1 (rewritten_blocks job [] ts) → Grew s1 s2 last → Grew old s2 (written_with job ts last)
+grew_all job old s0 s1 s2 ts last h b l = grown old s0 s2 (head_of_job job) (rewritten_blocks job [] ts ++ last) h (grown s0 s1 s2 (rewritten_blocks job [] ts) last b l)
 
-grew_front : (job : Job) (old s0 s1 s2 : Option (List ℕ)) (ts : List TheoremView) (last : List ℕ) → Grew old s0 (head_of job) → Grew s0 s1 (blocks_of job [] ts) → GrewByFront s1 s2 last → GrewByFront old s2 (written_with job ts last)
+grew_front : (job : Job) (old s0 s1 s2 : Option (List ℕ)) (ts : List TheoremView) (last : List ℕ) → Grew old s0 (head_of_job job) → Grew s0 s1 (rewritten_blocks job [] ts) → GrewByFront s1 s2 last → GrewByFront old s2 (written_with job ts last)
 grew_front job old s0 s1 s2 ts last h b l =
     let n = l.0 in
-    let blocks = blocks_of job [] ts in
-    let size : length (written_with job ts last) ≡ length (head_of job) + (length blocks + length last) = length-append (head_of job) (blocks ++ last) ∙ ap (λ (k : ℕ). length (head_of job) + k) (length-append blocks last) in (
-      length (head_of job) + (length blocks + n),
+    let blocks = rewritten_blocks job [] ts in
+    let size : length (written_with job ts last) ≡ length (head_of_job job) + (length blocks + length last) = length-append (head_of_job job) (blocks ++ last) ∙ ap (λ (k : ℕ). length (head_of_job job) + k) (length-append blocks last) in (
+      length (head_of_job job) + (length blocks + n),
       omega (arith, l.1, size),
       subst (λ (x : List ℕ). Grew old s2 x)
-          (sym (take-append-add (head_of job) (blocks ++ last) (length blocks + n) ∙ ap (λ (x : List ℕ). head_of job ++ x) (take-append-add blocks last n)))
-          (grown old s0 s2 (head_of job) (blocks ++ take n last) h (grown s0 s1 s2 blocks (take n last) b l.2)),
+          (sym (take-append-add (head_of_job job) (blocks ++ last) (length blocks + n) ∙ ap (λ (x : List ℕ). head_of_job job ++ x) (take-append-add blocks last n)))
+          (grown old s0 s2 (head_of_job job) (blocks ++ take n last) h (grown s0 s1 s2 blocks (take n last) b l.2)),
     )
 
 -- the answer is right, by what its bytes are
 closed : (job : Job) (text : List ℕ) (old s0 s1 s2 : Option (List ℕ)) (ts : List TheoremView) (last : List ℕ) (answer result : Status)
-    → RewriteAnswer job text answer (written_with job ts last) → Grew old s0 (head_of job) → Grew s0 s1 (blocks_of job [] ts) → ClosesWith s1 s2 last answer result → Rewrites job text old s2 result
+    → RewriteAnswer job text answer (written_with job ts last) → Grew old s0 (head_of_job job) → Grew s0 s1 (rewritten_blocks job [] ts) → ClosesWith s1 s2 last answer result → Rewrites job text old s2 result
 closed job text old s0 s1 s2 ts last answer result due h b (inl c) =
     subst (Rewrites job text old s2) (sym c.0) (inl (record { out = written_with job ts last; due = due; grew = grew_all job old s0 s1 s2 ts last h b c.1 }))
 closed job text old s0 s1 s2 ts last answer result due h b (inr c) =
     inr (c.0, record { answer = answer; out = written_with job ts last; due = due; grew = grew_front job old s0 s1 s2 ts last h b c.1 })
 
 -- a front of what is due of the theorems was written
-pub closed_inside : (job : Job) (text : List ℕ) (old s0 s1 : Option (List ℕ)) → Grew old s0 (head_of job) → WroteFrontOf job (AreFirstTheorems job (lines_of_text text)) s0 s1 → Rewrites job text old s1 status.WriteFault
+pub closed_inside : (job : Job) (text : List ℕ) (old s0 s1 : Option (List ℕ)) → Grew old s0 (head_of_job job) → WroteFrontOf job (AreFirstTheorems job (lines_of_text text)) s0 s1 → Rewrites job text old s1 status.WriteFault
 closed_inside job text old s0 s1 h e =
     let ts = e.0 in
-    let blocks = blocks_of job [] ts in
+    let blocks = rewritten_blocks job [] ts in
     let n = e.2.0 in
-    let size : length (written_with job ts no_memory_line) ≡ length (head_of job) + (length blocks + length no_memory_line) =
-    length-append (head_of job) (blocks ++ no_memory_line) ∙ ap (λ (k : ℕ). length (head_of job) + k) (length-append blocks no_memory_line) in
+    let size : length (written_with job ts no_memory_line) ≡ length (head_of_job job) + (length blocks + length no_memory_line) =
+    length-append (head_of_job job) (blocks ++ no_memory_line) ∙ ap (λ (k : ℕ). length (head_of_job job) + k) (length-append blocks no_memory_line) in
     inr (
       refl,
       record {
@@ -227,45 +227,45 @@ closed_inside job text old s0 s1 h e =
         out = written_with job ts no_memory_line;
         due = record { theorems = ts; first = e.1; bytes = refl };
         grew = (
-          length (head_of job) + n,
+          length (head_of_job job) + n,
           omega (arith, e.2.1, size),
           subst (λ (x : List ℕ). Grew old s1 x)
-              (sym (take-append-add (head_of job) (blocks ++ no_memory_line) n ∙ ap (λ (x : List ℕ). head_of job ++ x) (take-append-le n blocks no_memory_line (omega (arith, e.2.1)))))
-              (grown old s0 s1 (head_of job) (take n blocks) h e.2.2),
+              (sym (take-append-add (head_of_job job) (blocks ++ no_memory_line) n ∙ ap (λ (x : List ℕ). head_of_job job ++ x) (take-append-le n blocks no_memory_line (omega (arith, e.2.1)))))
+              (grown old s0 s1 (head_of_job job) (take n blocks) h e.2.2),
         );
       },
     )
 
 -- a front of the head was written
-pub closed_head : (job : Job) (text : List ℕ) (old new : Option (List ℕ)) → GrewByFront old new (head_of job) → Rewrites job text old new status.WriteFault
+pub closed_head : (job : Job) (text : List ℕ) (old new : Option (List ℕ)) → GrewByFront old new (head_of_job job) → Rewrites job text old new status.WriteFault
 closed_head job text old new w =
-    let size : length (written_with job [] no_memory_line) ≡ length (head_of job) + length no_memory_line = length-append (head_of job) no_memory_line in
+    let size : length (written_with job [] no_memory_line) ≡ length (head_of_job job) + length no_memory_line = length-append (head_of_job job) no_memory_line in
     inr (
       refl,
       record {
         answer = status.NoMemory;
         out = written_with job [] no_memory_line;
         due = record { theorems = []; first = none_first job text; bytes = refl };
-        grew = (w.0, omega (arith, w.1, size), subst (λ (x : List ℕ). Grew old new x) (sym (take-append-le w.0 (head_of job) no_memory_line (omega (arith, w.1)))) w.2);
+        grew = (w.0, omega (arith, w.1, size), subst (λ (x : List ℕ). Grew old new x) (sym (take-append-le w.0 (head_of_job job) no_memory_line (omega (arith, w.1)))) w.2);
       },
     )
 
 -- nothing of the theorems was written before these last lines
-pub closed_first : (job : Job) (text : List ℕ) (old s0 s1 : Option (List ℕ)) (last : List ℕ) (answer result : Status) → RewriteAnswer job text answer (head_of job ++ last) → Grew old s0 (head_of job) → ClosesWith s0 s1 last answer result
+pub closed_first : (job : Job) (text : List ℕ) (old s0 s1 : Option (List ℕ)) (last : List ℕ) (answer result : Status) → RewriteAnswer job text answer (head_of_job job ++ last) → Grew old s0 (head_of_job job) → ClosesWith s0 s1 last answer result
     → Rewrites job text old s1 result
 closed_first job text old s0 s1 last answer result due h c = closed job text old s0 s0 s1 [] last answer result due h (grown-nothing s0) c
 
-pub closed_memory : (job : Job) (text : List ℕ) (old s0 s1 s2 : Option (List ℕ)) (result : Status) → Grew old s0 (head_of job) → WroteOf job (AreFirstTheorems job (lines_of_text text)) s0 s1 → ClosesWith s1 s2 no_memory_line status.NoMemory result
+pub closed_memory : (job : Job) (text : List ℕ) (old s0 s1 s2 : Option (List ℕ)) (result : Status) → Grew old s0 (head_of_job job) → WroteOf job (AreFirstTheorems job (lines_of_text text)) s0 s1 → ClosesWith s1 s2 no_memory_line status.NoMemory result
     → Rewrites job text old s2 result
 closed_memory job text old s0 s1 s2 result h e c = closed job text old s0 s1 s2 e.0 no_memory_line status.NoMemory result (record { theorems = e.0; first = e.1; bytes = refl }) h e.2 c
 
 -- nothing of the text was passed when memory gave out
-pub no_theorem : (job : Job) (text : List ℕ) → RewriteAnswer job text status.NoMemory (head_of job ++ no_memory_line)
+pub no_theorem : (job : Job) (text : List ℕ) → RewriteAnswer job text status.NoMemory (head_of_job job ++ no_memory_line)
 no_theorem job text = record { theorems = []; first = none_first job text; bytes = refl }
 
 -- ---- a judgement closes
 
-due_end : (job : Job) (text : List ℕ) (j : Judgement) (ts : List TheoremView) → EndsAfter job (lines_of_text text) ts j → AreOfSecond job [] ts → RewriteAnswer job text (answer_of job j) (written_with job ts (line_of job j))
+due_end : (job : Job) (text : List ℕ) (j : Judgement) (ts : List TheoremView) → EndsAfter job (lines_of_text text) ts j → AreOfSecond job [] ts → RewriteAnswer job text (answer_of job j) (written_with job ts (end_line_of_job job j))
 due_end Upgrade text (judgements.Verified n) ts e s = (refl, record { theorems = ts; ends = e; bytes = refl }, upgraded_is_verified text n ts e s)
 due_end Trim text (judgements.Verified n) ts e s = (refl, record { theorems = ts; ends = e; bytes = refl }, trimmed_is_verified text n ts e s)
 due_end Uses text (judgements.Verified n) ts e s = (refl, record { theorems = ts; ends = e; bytes = refl })
@@ -273,13 +273,13 @@ due_end job text (judgements.Bad title step) ts e s = record { theorems = ts; en
 due_end job text (judgements.Garbled line) ts e s = record { theorems = ts; ends = e; bytes = refl }
 
 -- the last line of a judgement, or that of want of memory
-pub closed_judgement : (job : Job) (text : List ℕ) (old s0 s1 s2 : Option (List ℕ)) (j : Judgement) (result : Status) → Grew old s0 (head_of job) → BlocksWritten job text s0 s1 (Ok j) → IsReported job s1 s2 j result → Rewrites job text old s2 result
-closed_judgement job text old s0 s1 s2 j result h e (inl c) = closed job text old s0 s1 s2 e.0 (line_of job j) (answer_of job j) result (due_end job text j e.0 e.1.0 e.1.1) h e.2 c
+pub closed_judgement : (job : Job) (text : List ℕ) (old s0 s1 s2 : Option (List ℕ)) (j : Judgement) (result : Status) → Grew old s0 (head_of_job job) → BlocksWritten job text s0 s1 (Ok j) → IsReported job s1 s2 j result → Rewrites job text old s2 result
+closed_judgement job text old s0 s1 s2 j result h e (inl c) = closed job text old s0 s1 s2 e.0 (end_line_of_job job j) (answer_of job j) result (due_end job text j e.0 e.1.0 e.1.1) h e.2 c
 closed_judgement job text old s0 s1 s2 j result h e (inr c) = closed_memory job text old s0 s1 s2 result h (e.0, first_of_all job text e.0 j e.1.0, e.2) c
 
 -- ---- what the calls gave
 
-pub reported : (job : Job) (old new : Option (List ℕ)) (last : List ℕ) (j : Judgement) (answer result : Status) → last ≡ line_of job j → answer ≡ answer_of job j → ClosesWith old new last answer result → IsReported job old new j result
+pub reported : (job : Job) (old new : Option (List ℕ)) (last : List ℕ) (j : Judgement) (answer result : Status) → last ≡ end_line_of_job job j → answer ≡ answer_of job j → ClosesWith old new last answer result → IsReported job old new j result
 reported job old new last j answer result e a c =
     inl (subst (λ (l : List ℕ). ClosesWith old new l (answer_of job j) result) e (subst (λ (x : Status). ClosesWith old new last x result) a c))
 

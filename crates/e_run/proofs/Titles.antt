@@ -20,22 +20,22 @@ use Rattle.e_line.specs.declared.items.Listing.TheVariants as listings
 use Rattle.e_line.specs.declared.items.BookLine.{BookLine}
 use Rattle.e_line.specs.declared.items.BookLine.TheVariants.{Plain, Define, Listed}
 use Rattle.e_names.specs.declared.known.Known.{Known}
-use Rattle.e_line.specs.Reading.{◌>>=◌, word_at, title_at, end_at, cut_at, names_of, some_names}
+use Rattle.e_line.specs.Reading.{◌>>=◌, word_at, first_title, end_at, cut_at, names_of, some_names}
 use Rattle.e_line.specs.Literals.{lit_of, diagram_lit_of, lits_of}
 use Rattle.e_line.specs.Superposes.{superpose_of}
 use Rattle.e_line.specs.Lets.{let_of}
 use Rattle.e_line.specs.Applies.{apply_of}
-use Rattle.e_line.specs.RawLines.{declare_of, sort_of, made_of, by_of, theorem_of, bare, raw_line_named}
+use Rattle.e_line.specs.RawLines.{declare_of, sort_of, made_of, by_of, theorem_line_of, bare, raw_line_named}
 use Rattle.e_names.specs.TitledStatements.{TitledStatement}
 use Rattle.e_book.specs.TheoremViews.{TheoremView}
 use Rattle.e_names.specs.Taken.{nothing_known, is_taken}
 use Rattle.e_names.specs.Titled.{Titled}
 use Rattle.e_line.specs.Limits.{most_notions, most_expanded}
-use Rattle.e_line.specs.Items.{has_item, items_of, define_of, placing_of, listed, line_named, line_of, is_show}
+use Rattle.e_line.specs.Items.{has_item, items_of, define_of, placing_of, listed, line_named, book_line_of, is_show}
 use Rattle.e_book.specs.Open.{Open, Head, Stating, Proving, Splitting, Proved, Ended}
 use Rattle.e_book.specs.Counts.{all_kept, limits_kept}
-use Rattle.e_book.specs.Grammar.{begins, nothing_said, is_empty, next, line_after, ended, is_skipped, put_at}
-use Rattle.e_book.specs.Definitions.{BookItem, OfTheorem, OfNotion, Coming, InTheorem, InDefinition, Defined, has_notion_title, first_line, says_more, still_defined, meant, ends_definition, plain_line, written_out, counted, listed_line, next_line, line_said, whole, whole_or, item_from}
+use Rattle.e_book.specs.Grammar.{begins, nothing_said, is_empty, next, line_after, theorem_ended, is_skipped, put_at}
+use Rattle.e_book.specs.Definitions.{BookItem, OfTheorem, OfNotion, Coming, InTheorem, InDefinition, Defined, has_notion_title, after_first_line, says_more, still_defined, meant, ends_definition, plain_line, written_out, counted, after_listed_line, next_line, line_said, whole, whole_or, item_from}
 use Rattle.e_line.proofs.Bound.{bind_ok, ok_is, read_ok}
 use Rattle.e_line.proofs.Choices.{either, passed, of_reading}
 use Rattle.e_names.proofs.FreshTitles.{was_free}
@@ -105,7 +105,7 @@ cited : (ws : List (List ℕ)) → IsNoTitle (by_of ws)
 unfolding by_of
 cited ws =
     let rest : List ℕ × List (List ℕ) → Result RawLine FaultKind = λ r. cond (cut_at (codes ":") r.1).2 (names_of (cut_at (codes ":") r.1).0 >>= λ ns. diagram_lit_of (cut_at (codes ":") r.1).1 >>= λ l. read_ok (rawlines.By r.0 ns l)) (Err Malformed) in
-    read_on (title_at ws) rest
+    read_on (first_title ws) rest
     (λ r.
     let parts = cut_at (codes ":") r.1 in
     chosen parts.2 (names_of parts.0 >>= λ ns. diagram_lit_of parts.1 >>= λ l. read_ok (rawlines.By r.0 ns l)) (Err Malformed)
@@ -138,7 +138,7 @@ no_title w ws e =
     let r4 : Result RawLine FaultKind = cond (bytes_eq w (codes "circles")) (declare_of Circle ws) r5 in
     let r3 : Result RawLine FaultKind = cond (bytes_eq w (codes "lines")) (declare_of Line ws) r4 in
     let r2 : Result RawLine FaultKind = cond (bytes_eq w (codes "points")) (declare_of Point ws) r3 in
-    second (bytes_eq w (codes "theorem")) (theorem_of ws) r2 e
+    second (bytes_eq w (codes "theorem")) (theorem_line_of ws) r2 e
     (chosen (bytes_eq w (codes "points")) (declare_of Point ws) r3 (declared Point ws)
     (chosen (bytes_eq w (codes "lines")) (declare_of Line ws) r4 (declared Line ws)
     (chosen (bytes_eq w (codes "circles")) (declare_of Circle ws) r5 (declared Circle ws)
@@ -171,7 +171,7 @@ listed_none line ws l e = of_reading (λ m. is_title_line m ≡ false) (items_of
 define_none : (ws : List (List ℕ)) (l : BookLine) → define_of ws ≡ Ok l → is_title_line l ≡ false
 unfolding define_of
 define_none ws l e =
-    let t = bind_ok (title_at ws) (λ t. end_at t.1 >>= λ none. read_ok (Define t.0)) l e in
+    let t = bind_ok (first_title ws) (λ t. end_at t.1 >>= λ none. read_ok (Define t.0)) l e in
     of_reading (λ m. is_title_line m ≡ false) (end_at t.0.1) (λ none. Define t.0.0) l (λ none k. refl) t.2
 
 plain_none : (w : List ℕ) (ws : List (List ℕ)) (l : BookLine) → bytes_eq w (codes "theorem") ≡ false → (raw_line_named w ws >>= λ f. read_ok (Plain f)) ≡ Ok l → is_title_line l ≡ false
@@ -200,25 +200,25 @@ line_none w ws l is e =
     (λ k. let a = bind_ok (placing_of (take 13 ws)) (λ line. listed line (drop 13 ws)) l k in listed_none a.0 (drop 13 ws) l a.2)
     (plain_none w ws l is)))))
 
-theorem_read : (ws : List (List ℕ)) (f : RawLine) → theorem_of ws ≡ Ok f → is_title_line (Plain f) ≡ true
-unfolding theorem_of
+theorem_read : (ws : List (List ℕ)) (f : RawLine) → theorem_line_of ws ≡ Ok f → is_title_line (Plain f) ≡ true
+unfolding theorem_line_of
 theorem_read ws f e =
-    let t = bind_ok (title_at ws) (λ t. end_at t.1 >>= λ none. read_ok (rawlines.Theorem t.0)) f e in
+    let t = bind_ok (first_title ws) (λ t. end_at t.1 >>= λ none. read_ok (rawlines.Theorem t.0)) f e in
     of_reading (λ g. is_title_line (Plain g) ≡ true) (end_at t.0.1) (λ none. rawlines.Theorem t.0.0) f (λ none k. refl) t.2
 
-theorem_line : (w : List ℕ) (ws : List (List ℕ)) → bytes_eq w (codes "theorem") ≡ true → line_named w ws ≡ (theorem_of ws >>= λ f. read_ok (Plain f))
+theorem_line : (w : List ℕ) (ws : List (List ℕ)) → bytes_eq w (codes "theorem") ≡ true → line_named w ws ≡ (theorem_line_of ws >>= λ f. read_ok (Plain f))
 unfolding line_named raw_line_named
 theorem_line w ws is =
-    subst (λ (x : List ℕ). line_named x ws ≡ (theorem_of ws >>= λ f. read_ok (Plain f))) (sym ((bytes_eq-Decides w (codes "theorem")).0 is)) refl
+    subst (λ (x : List ℕ). line_named x ws ≡ (theorem_line_of ws >>= λ f. read_ok (Plain f))) (sym ((bytes_eq-Decides w (codes "theorem")).0 is)) refl
 
 line_by : (w : List ℕ) (ws : List (List ℕ)) (l : BookLine) (b : Bool) → bytes_eq w (codes "theorem") ≡ b → line_named w ws ≡ Ok l → b ≡ is_title_line l
 line_by w ws l true is e =
-    of_reading (λ m. true ≡ is_title_line m) (theorem_of ws) (λ f. Plain f) l (λ f k. sym (theorem_read ws f k)) (sym (theorem_line w ws is) ∙ e)
+    of_reading (λ m. true ≡ is_title_line m) (theorem_line_of ws) (λ f. Plain f) l (λ f k. sym (theorem_read ws f k)) (sym (theorem_line w ws is) ∙ e)
 line_by w ws l false is e = sym (line_none w ws l is e)
 
 -- by its first word alone
-line_title : (words : List (List ℕ)) (l : BookLine) → line_of words ≡ Ok l → has_title words ≡ is_title_line l
-unfolding line_of
+line_title : (words : List (List ℕ)) (l : BookLine) → book_line_of words ≡ Ok l → has_title words ≡ is_title_line l
+unfolding book_line_of
 line_title [] l e = absurd cc
 line_title (w ∷ ws) l e = line_by w ws l (bytes_eq w (codes "theorem")) refl e
 
@@ -246,14 +246,14 @@ no_theorem_begun : (known : List TitledStatement) (f : RawLine) (o : Open) → i
 no_theorem_begun known (rawlines.Theorem t) o h e = absurd cc
 no_theorem_begun known f o h e = absurd cc
 
-plain_begun : (known : Known) (f : RawLine) (c : Coming) (b : Bool) → is_title_line (Plain f) ≡ b → first_line known (Plain f) ≡ Ok c → b ≡ says_theorem c
+plain_begun : (known : Known) (f : RawLine) (c : Coming) (b : Bool) → is_title_line (Plain f) ≡ b → after_first_line known (Plain f) ≡ Ok c → b ≡ says_theorem c
 plain_begun known f c true is e = sym (theorem_begun known (has_notion_title known.notions f) f c e)
 plain_begun known f c false is e =
     let free = was_free (has_notion_title known.notions f) (begins known.theorems f >>= λ o. coming_ok (InTheorem o 0)) c e in
     let o = bind_ok (begins known.theorems f) (λ o. coming_ok (InTheorem o 0)) c free.1 in
     absurd (no_theorem_begun known.theorems f o.0 is o.1)
 
-first_kind : (known : Known) (l : BookLine) (c : Coming) → first_line known l ≡ Ok c → is_title_line l ≡ says_theorem c
+first_kind : (known : Known) (l : BookLine) (c : Coming) → after_first_line known l ≡ Ok c → is_title_line l ≡ says_theorem c
 first_kind known (Plain f) c e = plain_begun known f c (is_title_line (Plain f)) refl e
 first_kind known (Define t) c e =
     sym (definition_begun known (is_taken known t) t (all_kept ((nat_le (length known.notions + 1) most_notions, limits.Notions) ∷ [])) c e)
@@ -289,7 +289,7 @@ then_counted known b w c e =
     let d = bind_ok (plain_line known b w.0) (λ d. counted w.1 d) c e in
     plain_kind known b w.0 d.0 d.1 ∙ counted_kind w.1 d.0 c d.2
 
-listed_kind : (known : Known) (b : Coming) (line : Listing) (is : List RawItem) (c : Coming) → listed_line known b line is ≡ Ok c → says_theorem b ≡ says_theorem c
+listed_kind : (known : Known) (b : Coming) (line : Listing) (is : List RawItem) (c : Coming) → after_listed_line known b line is ≡ Ok c → says_theorem b ≡ says_theorem c
 listed_kind known (InTheorem o n) line is c e =
     let w = bind_ok (written_out known o line is) (λ w. plain_line known (InTheorem o n) w.0 >>= λ d. counted w.1 d) c e in
     then_counted known (InTheorem o n) w.0 c w.2
@@ -352,10 +352,10 @@ IsOf (Some c) i = says_theorem c ≡ is_theorem i
 -- what a line says of what comes next: it has a title where a theorem begins, and is of what has come
 line_begun : (known : Known) (s : Option Coming) (words : List (List ℕ)) (c : Coming) (i : BookItem) → line_said known s words ≡ Ok c → says_theorem c ≡ is_theorem i → (one_if (has_title words) ≡ begun s i) × IsOf s i
 line_begun known None words c i e k =
-    let l = bind_ok (line_of words) (λ l. first_line known l) c e in
+    let l = bind_ok (book_line_of words) (λ l. after_first_line known l) c e in
     (ap one_if (line_title words l.0 l.1 ∙ first_kind known l.0 c l.2 ∙ k), tt)
 line_begun known (Some b) words c i e k =
-    let l = bind_ok (line_of words) (λ l. next_line known b l) c e in
+    let l = bind_ok (book_line_of words) (λ l. next_line known b l) c e in
     let p = later_kind known b l.0 c l.2 in
     (ap one_if (line_title words l.0 l.1 ∙ p.0), p.1 ∙ k)
 
@@ -368,7 +368,7 @@ ended_theorem None i e = absurd cc
 ended_theorem (Some t) i e = let j : OfTheorem t ≡ i = cc in ap is_theorem j
 
 whole_kind : (c : Coming) (i : BookItem) → whole c ≡ Some i → says_theorem c ≡ is_theorem i
-whole_kind (InTheorem o n) i e = ended_theorem (ended o) i e
+whole_kind (InTheorem o n) i e = ended_theorem (theorem_ended o) i e
 whole_kind (InDefinition h n) i e = absurd cc
 whole_kind (Defined t) i e = let j : OfNotion t ≡ i = cc in ap is_theorem j
 

@@ -11,7 +11,7 @@ use Rattle.e_book.specs.TheoremViews.{TheoremView}
 use Rattle.e_book.proofs.Fitting.{small_statement, one_more_stated}
 use Rattle.e_spell.specs.Spelling.{spelled}
 use Rattle.e_judgement.specs.declared.judgement.Judgement.TheVariants.{Verified, Bad, Garbled}
-use Rattle.e_judgement.specs.Judged.{Rest, with_theorem, ReadsNext, IsCertified, Passes, Closes, JudgedAfter, number_of, version_of, lines_of_text, JudgesText}
+use Rattle.e_judgement.specs.Judged.{Rest, with_theorem, ReadsNext, IsCertified, Passes, Closes, JudgedAfter, number_of_line, version_of, lines_of_text, JudgesText}
 use Rattle.e_roundtrip.specs.Written as texts
 use Rattle.e_roundtrip.specs.Written.{CanBeVerified, AllCanBeVerified}
 use Rattle.e_roundtrip.proofs.Texts.ReadIsSpelled.{read_is_formed_so}
@@ -19,7 +19,7 @@ use Rattle.e_roundtrip.proofs.Texts.WrittenIsVerified.{written_is_verified}
 use Rattle.e_run.specs.declared.command.Job.{Job}
 use Rattle.e_run.specs.declared.command.Job.TheVariants.{Upgrade, Trim, Uses}
 use Rattle.e_run.specs.Answers.{IsVerifiedText}
-use Rattle.e_run.specs.Rewrites.{block_of, blocks_of, head_of, verified_end, written_with, read_as, EndsAfter, EndsAfterHead}
+use Rattle.e_run.specs.Rewrites.{block_of, rewritten_blocks, head_of_job, verified_end, written_with, read_as, EndsAfter, EndsAfterHead}
 use Rattle.e_run.specs.inner.Rewriting.{IsReadFor, IsOfSecond, AreOfSecond}
 
 -- ---- the version
@@ -73,10 +73,10 @@ all_can job v w f can last known lines (t ∷ ts) now rest r h small =
 abbrev pub Same : Job → (List TitledStatement → TheoremView → Script) → Type 0
 Same job f = (known : List TitledStatement) (t : TheoremView) → block_of job known t ≡ spelled known t (f known t)
 
-blocks_same : (job : Job) (f : List TitledStatement → TheoremView → Script) → Same job f → (known : List TitledStatement) (ts : List TheoremView) → texts.blocks_of known (pairs f known ts) ≡ blocks_of job known ts
+blocks_same : (job : Job) (f : List TitledStatement → TheoremView → Script) → Same job f → (known : List TitledStatement) (ts : List TheoremView) → texts.spelled_blocks known (pairs f known ts) ≡ rewritten_blocks job known ts
 blocks_same job f same known [] = refl
 blocks_same job f same known (t ∷ ts) =
-    ap (λ (x : List ℕ). spelled known t (f known t) ++ x) (blocks_same job f same (with_theorem known t) ts) ∙ ap (λ (x : List ℕ). x ++ blocks_of job (with_theorem known t) ts) (sym (same known t))
+    ap (λ (x : List ℕ). spelled known t (f known t) ++ x) (blocks_same job f same (with_theorem known t) ts) ∙ ap (λ (x : List ℕ). x ++ rewritten_blocks job (with_theorem known t) ts) (sym (same known t))
 
 pairs_length : (f : List TitledStatement → TheoremView → Script) (known : List TitledStatement) (ts : List TheoremView) → length (pairs f known ts) ≡ length ts
 pairs_length f known [] = refl
@@ -100,7 +100,7 @@ same_count n k e = cc
 
 count_after : (n k : ℕ) (rest : Rest) → Verified n ≡ JudgedAfter k rest → n ≡ k
 count_after n k [] e = same_count n k e
-count_after n k (x ∷ xs) e = absurd (never_garbled n (number_of x) e)
+count_after n k (x ∷ xs) e = absurd (never_garbled n (number_of_line x) e)
 
 -- a text that is verified has as many theorems as are known at its end
 verified_count : (v : Version) (last n : ℕ) (known : List TitledStatement) (rest : Rest) → Closes v last known rest (Verified n) → n ≡ length known
@@ -110,20 +110,20 @@ verified_count v last n known rest (inr (inr e)) = absurd (never_bad n e.0.title
 
 -- ---- the whole
 
-passes_again : (job : Job) (v w : Version) (f : List TitledStatement → TheoremView → Script) → Again job v w f → Same job f → head_of job ≡ texts.head_line w → ((n : ℕ) → verified_end job n ≡ texts.accepted_line n)
+passes_again : (job : Job) (v w : Version) (f : List TitledStatement → TheoremView → Script) → Again job v w f → Same job f → head_of_job job ≡ texts.version_line w → ((n : ℕ) → verified_end job n ≡ texts.accepted_blocks_line n)
     → (last : ℕ) (lines : Rest) (ts : List TheoremView) (now : List TitledStatement) (rest : Rest) → Passes v last [] lines ts now rest → AreOfSecond job [] ts → IsVerifiedText (length ts) (written_with job ts (verified_end job (length ts)))
 passes_again job v w f can same head end last lines ts now rest r h =
     let ps = pairs f [] ts in
     let count : length ps ≡ length ts = pairs_length f [] ts in
-    let bytes : texts.written w ps ≡ written_with job ts (verified_end job (length ts)) =
-    ap (λ (b : List ℕ). texts.head_line w ++ (b ++ texts.accepted_line (length ps))) (blocks_same job f same [] ts)
-    ∙ ap (λ (k : ℕ). texts.head_line w ++ (blocks_of job [] ts ++ texts.accepted_line k)) count
-    ∙ ap (λ (b : List ℕ). b ++ (blocks_of job [] ts ++ texts.accepted_line (length ts))) (sym head)
-    ∙ ap (λ (b : List ℕ). head_of job ++ (blocks_of job [] ts ++ b)) (sym (end (length ts))) in
+    let bytes : texts.derivation_text w ps ≡ written_with job ts (verified_end job (length ts)) =
+    ap (λ (b : List ℕ). texts.version_line w ++ (b ++ texts.accepted_blocks_line (length ps))) (blocks_same job f same [] ts)
+    ∙ ap (λ (k : ℕ). texts.version_line w ++ (rewritten_blocks job [] ts ++ texts.accepted_blocks_line k)) count
+    ∙ ap (λ (b : List ℕ). b ++ (rewritten_blocks job [] ts ++ texts.accepted_blocks_line (length ts))) (sym head)
+    ∙ ap (λ (b : List ℕ). head_of_job job ++ (rewritten_blocks job [] ts ++ b)) (sym (end (length ts))) in
     subst (λ (k : ℕ). JudgesText (written_with job ts (verified_end job (length ts))) (Verified k)) count
     (subst (λ (out : List ℕ). JudgesText out (Verified (length ps))) bytes (written_is_verified w ps (all_can job v w f can last [] lines ts now rest r h refl)))
 
-pub verified_again : (job : Job) (w : Version) (f : List TitledStatement → TheoremView → Script) → ((v : Version) → IsReadFor job v → Again job v w f) → Same job f → head_of job ≡ texts.head_line w → ((n : ℕ) → verified_end job n ≡ texts.accepted_line n)
+pub verified_again : (job : Job) (w : Version) (f : List TitledStatement → TheoremView → Script) → ((v : Version) → IsReadFor job v → Again job v w f) → Same job f → head_of_job job ≡ texts.version_line w → ((n : ℕ) → verified_end job n ≡ texts.accepted_blocks_line n)
     → (text : List ℕ) (n : ℕ) (ts : List TheoremView) → EndsAfter job (lines_of_text text) ts (Verified n) → AreOfSecond job [] ts → IsVerifiedText n (written_with job ts (verified_end job n))
 verified_again job w f can same head end text n ts h second = by (lines_of_text text) h
   where

@@ -15,23 +15,23 @@ use Rattle.e_run.specs.Answers.{Checks, ChecksBook, IsAllOf, IsReadFault, IsWrit
 use Rattle.e_run.specs.Proofs.{WroteProofs, ReadProofs}
 use Rattle.e_run.specs.Input.{IsTextOf}
 use Rattle.e_run.specs.inner.BookResults.{ClosesWith}
-use Rattle.e_run.specs.VerifierAnswers.{answer_of, line_of, TextAnswer, Verifies, VerifiesText, IsFailure, AnswersText}
+use Rattle.e_run.specs.VerifierAnswers.{answer_of, judgement_line, TextAnswer, Verifies, VerifiesText, IsFailure, AnswersText}
 use Rattle.e_run.proofs.Wrote.{closed_wrote}
 
 -- the line of an answer is the last that is written
 pub answered_closed : (text : List ℕ) (old new : Option (List ℕ)) (last : List ℕ) (answer result : Status) → TextAnswer text answer last → ClosesWith old new last answer result → Verifies text old new result
 answered_closed text old new last answer result t c = closed_wrote (TextAnswer text) old new last answer result t c
 
-judgement_answers : (text : List ℕ) (j : Judgement) → JudgesText text j → TextAnswer text (answer_of j) (line_of j)
+judgement_answers : (text : List ℕ) (j : Judgement) → JudgesText text j → TextAnswer text (answer_of j) (judgement_line j)
 judgement_answers text (judgements.Verified n) h = (h, refl)
 judgement_answers text (judgements.Bad title step) h = (h, refl)
 judgement_answers text (judgements.Garbled line) h = (h, refl)
 
 -- a judgement is answered
 pub judgement_closed : (text : List ℕ) (old new : Option (List ℕ)) (last : List ℕ) (j : Judgement) (answer result : Status)
-    → JudgesText text j → last ≡ line_of j → answer ≡ answer_of j → ClosesWith old new last answer result → Verifies text old new result
+    → JudgesText text j → last ≡ judgement_line j → answer ≡ answer_of j → ClosesWith old new last answer result → Verifies text old new result
 judgement_closed text old new last j answer result h e a c =
-    answered_closed text old new (line_of j) (answer_of j) result (judgement_answers text j h)
+    answered_closed text old new (judgement_line j) (answer_of j) result (judgement_answers text j h)
     (subst (λ (l : List ℕ). ClosesWith old new l (answer_of j) result) e (subst (λ (x : Status). ClosesWith old new last x result) a c))
 
 -- the answer of a judgement is no fault of the source or the sink

@@ -7,7 +7,7 @@ use Rattle.e_text.specs.declared.line.LineEnd.{LineEnd}
 use Rattle.e_text.specs.declared.line.LineEnd.TheVariants.{TextEnd}
 use Rattle.e_text.specs.declared.line.LineFault.{LineFault}
 use Rattle.e_text.specs.Tokens.{tokens_of}
-use Rattle.e_text.specs.Lines.{is_lf, Bounds, Spot, LineView, HaveNoFault, checked, closed, ended, lines_of}
+use Rattle.e_text.specs.Lines.{is_lf, Bounds, Spot, LineView, HaveNoFault, checked, line_before_lf, ended, lines_of}
 use Rattle.e_text.proofs.FirstLine.{then_lines}
 use Rattle.e_text.proofs.WholeLines.{lines_of-closed, lines_of-open, next_spot}
 use Rattle.e_line.specs.declared.fault.BookFault.{BookFault}
@@ -128,7 +128,7 @@ short_by_size (suc size) w at (b ∷ bs) le within good =
           elim (cases_lt w.most (at.before + length part + 1)) [
             | inl far ↦ absurd (not_passed w at (ended part []).0 (ended part []).1 (at.before + length part + 1) (lines_of w (next_spot at (length part)) after) far split)
             | inr near ↦
-                let more = short_by_size size w (next_spot at (length part)) after (omega (arith, length-drop (n + 1) text)) near (good_rest (closed w at part) (lines_of w (next_spot at (length part)) after) split) in
+                let more = short_by_size size w (next_spot at (length part)) after (omega (arith, length-drop (n + 1) text)) near (good_rest (line_before_lf w at part) (lines_of w (next_spot at (length part)) after) split) in
                 omega (arith, more, length-drop (n + 1) text)
           ]
       | inr le' ↦

@@ -25,8 +25,8 @@ abbrev pub Rest : Type 0
 Rest = List (Result LineView LineFault)
 
 -- after a theorem it is known
-abbrev pub with_theorem : List TitledStatement → TheoremView → List TitledStatement
-with_theorem known t = known ++ headed t.title t.statement ∷ []
+abbrev pub known_after_theorem : List TitledStatement → TheoremView → List TitledStatement
+known_after_theorem known t = known ++ headed t.title t.statement ∷ []
 
 -- with this known, each line of the theorem's script is licensed, with its blanks filled
 pub record IsLicensed (known : List TitledStatement) (t : TheoremView) : Type 0 where
@@ -35,7 +35,7 @@ pub record IsLicensed (known : List TitledStatement) (t : TheoremView) : Type 0 
 
 -- after a theorem, and after a definition, this is known
 abbrev pub and_theorem : Known → TheoremView → Known
-and_theorem known t = record known { theorems = with_theorem known.theorems t }
+and_theorem known t = record known { theorems = known_after_theorem known.theorems t }
 
 abbrev pub and_notion : Known → Titled → Known
 and_notion known n = record known { notions = known.notions ++ n ∷ [] }

@@ -45,17 +45,17 @@ block_of Trim known t = trimmed_block known t
 block_of Uses known t = uses_line known t
 
 -- of theorems, each where those before it are known
-abbrev pub blocks_of : Job → List TitledStatement → List TheoremView → List ℕ
-blocks_of job known [] = []
-blocks_of job known (t ∷ ts) = block_of job known t ++ blocks_of job (with_theorem known t) ts
+abbrev pub rewritten_blocks : Job → List TitledStatement → List TheoremView → List ℕ
+rewritten_blocks job known [] = []
+rewritten_blocks job known (t ∷ ts) = block_of job known t ++ rewritten_blocks job (with_theorem known t) ts
 
 -- ---- what comes before and after
 
 -- the line that comes before anything is read
-abbrev pub head_of : Job → List ℕ
-head_of Upgrade = second_head_line
-head_of Trim = head_line
-head_of Uses = []
+abbrev pub head_of_job : Job → List ℕ
+head_of_job Upgrade = second_head_line
+head_of_job Trim = head_line
+head_of_job Uses = []
 
 -- the last line of a text that is verified
 abbrev pub verified_end : Job → ℕ → List ℕ
@@ -63,10 +63,10 @@ verified_end Upgrade n = accepted_line n
 verified_end Trim n = accepted_line n
 verified_end Uses n = listed_line n
 
-abbrev pub line_of : Job → Judgement → List ℕ
-line_of job (judgements.Verified n) = verified_end job n
-line_of job (judgements.Bad title step) = bad_line title step
-line_of job (judgements.Garbled line) = garbled_line line
+abbrev pub end_line_of_job : Job → Judgement → List ℕ
+end_line_of_job job (judgements.Verified n) = verified_end job n
+end_line_of_job job (judgements.Bad title step) = bad_line title step
+end_line_of_job job (judgements.Garbled line) = garbled_line line
 
 abbrev pub verified_answer : Job → ℕ → Status
 verified_answer Upgrade n = status.Upgraded n
@@ -80,7 +80,7 @@ answer_of job (judgements.Garbled line) = status.Garbled line
 
 -- the head, what is written of the theorems, and the last line
 abbrev pub written_with : Job → List TheoremView → List ℕ → List ℕ
-written_with job ts last = head_of job ++ (blocks_of job [] ts ++ last)
+written_with job ts last = head_of_job job ++ (rewritten_blocks job [] ts ++ last)
 
 -- ---- the theorems of a text
 
@@ -129,7 +129,7 @@ EndsAfter job (Ok l ∷ lines) ts j = EndsAfterHead (read_as job (version_of l))
 pub record RewroteUpTo (job : Job) (text : List ℕ) (j : Judgement) (out : List ℕ) : Type 0 where
   pub theorems : List TheoremView
   pub ends : EndsAfter job (lines_of_text text) theorems j
-  pub bytes : out ≡ written_with job theorems (line_of job j)
+  pub bytes : out ≡ written_with job theorems (end_line_of_job job j)
 
 -- some of the first theorems of the text, what is written of them, and the last line
 pub record RewroteSome (job : Job) (text : List ℕ) (last out : List ℕ) : Type 0 where
@@ -147,8 +147,8 @@ RewriteAnswer job text (status.Trimmed n) out = (job ≡ Trim) × RewroteUpTo jo
 RewriteAnswer job text (status.Listed n) out = (job ≡ Uses) × RewroteUpTo job text (judgements.Verified n) out
 RewriteAnswer job text (status.Bad title step) out = RewroteUpTo job text (judgements.Bad title step) out
 RewriteAnswer job text (status.Garbled line) out = RewroteUpTo job text (judgements.Garbled line) out
-RewriteAnswer job text status.TextLimit out = (2 ^ 60 < length text) × (out ≡ head_of job ++ text_limit_line)
-RewriteAnswer job text status.ReadFault out = out ≡ head_of job ++ read_fault_line
+RewriteAnswer job text status.TextLimit out = (2 ^ 60 < length text) × (out ≡ head_of_job job ++ text_limit_line)
+RewriteAnswer job text status.ReadFault out = out ≡ head_of_job job ++ read_fault_line
 RewriteAnswer job text status.NoMemory out = RewroteSome job text no_memory_line out
 RewriteAnswer job text _ out = ⊥
 

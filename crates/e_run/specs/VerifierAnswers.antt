@@ -16,10 +16,10 @@ answer_of (judgements.Bad title step) = status.Bad title step
 answer_of (judgements.Garbled line) = status.Garbled line
 
 -- its line
-abbrev pub line_of : Judgement → List ℕ
-line_of (judgements.Verified n) = verified_line n
-line_of (judgements.Bad title step) = bad_line title step
-line_of (judgements.Garbled line) = garbled_line line
+abbrev pub judgement_line : Judgement → List ℕ
+judgement_line (judgements.Verified n) = verified_line n
+judgement_line (judgements.Bad title step) = bad_line title step
+judgement_line (judgements.Garbled line) = garbled_line line
 
 -- The line that is due with an answer. The text has this judgement, or has more bytes than `verify`
 -- takes; a fault of the source and out of memory say nothing of it.

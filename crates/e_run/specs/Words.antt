@@ -8,8 +8,8 @@ use Rattle.e_run.specs.declared.command.Command.TheVariants.{Check, Verify, Figu
 use Rattle.e_run.specs.declared.command.Job.TheVariants.{Upgrade, Trim, Uses}
 
 -- how many theorems: a numeral from 1 to 500
-abbrev pub count_of : List ℕ → Option ℕ
-count_of word = option_and_then (λ n. if nat_le 1 n && nat_le n 500 then Some n else None) (number_of word)
+abbrev pub theorem_count_of : List ℕ → Option ℕ
+theorem_count_of word = option_and_then (λ n. if nat_le 1 n && nat_le n 500 then Some n else None) (number_of word)
 
 abbrev pub plain_command : List ℕ → Command
 plain_command word =
@@ -33,7 +33,7 @@ placed_command word _ _ = Unknown
 -- before a number, and `suggest` before a title and the number of a step
 abbrev pub command_of : List (List ℕ) → Command
 command_of (word ∷ []) = plain_command word
-command_of (word ∷ number ∷ []) = counted_command word (count_of number)
+command_of (word ∷ number ∷ []) = counted_command word (theorem_count_of number)
 command_of (word ∷ title ∷ number ∷ []) = placed_command word (title_of title) (step_of number)
 command_of _ = Unknown
 

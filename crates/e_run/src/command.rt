@@ -1,6 +1,6 @@
 //! The words of a command.
 ghost use Rattle.std.specs.Prelude.{◌≡◌, ◌≤◌, IfSome, map, string_bytes};
-ghost use Rattle.e_run.specs.Words.{count_of, step_of, plain_command, counted_command};
+ghost use Rattle.e_run.specs.Words.{theorem_count_of, step_of, plain_command, counted_command};
 ghost use Rattle.e_run.specs.Words.{placed_command, command_of, OfCount, OfStep};
 
 use e_text::{Title, number};
@@ -41,7 +41,7 @@ pub enum Command {
 
 /// How many theorems: a numeral from 1 to 500.
 fn count_of(word: &[u8]) -> Option<u32>
-    ensures value { result ≡ count_of word.now }
+    ensures value { result ≡ theorem_count_of word.now }
     ensures few { IfSome result (λ n. n ≤ 500) }
 {
     match number(word) {

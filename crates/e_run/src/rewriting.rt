@@ -28,7 +28,7 @@ use std::mem;
 
 /// What is written before anything is read.
 pub fn head_of(job: Job) -> &'static [u8]
-    ensures { result.now ≡ Rewrites.head_of job }
+    ensures { result.now ≡ Rewrites.head_of_job job }
 {
     match job {
         Job::Upgrade => b"derivation 2\n",
@@ -153,7 +153,7 @@ pub fn block_of(
 
 /// The last line of a text that is judged so.
 pub fn line_of(alloc: Global, job: Job, judgement: &Judgement) -> Result<Vec<u8>, AllocError>
-    ensures { IfOk result (λ v. v.items ≡ Rewrites.line_of job judgement.now) }
+    ensures { IfOk result (λ v. v.items ≡ Rewrites.end_line_of_job job judgement.now) }
 {
     match judgement {
         Judgement::Verified { theorems } => match job {

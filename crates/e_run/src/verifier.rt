@@ -28,7 +28,7 @@ fn answer_of(judgement: Judgement) -> Status
 /// The line of a judgement.
 fn line_of(alloc: Global, judgement: &Judgement) -> Result<Vec<u8>, AllocError>
     ensures { IfOk result
-        (λ v. v.items ≡ Rattle.e_run.specs.VerifierAnswers.line_of judgement.now) }
+        (λ v. v.items ≡ Rattle.e_run.specs.VerifierAnswers.judgement_line judgement.now) }
 {
     match judgement {
         Judgement::Verified { theorems } => verified(alloc, *theorems),
@@ -41,7 +41,8 @@ fn line_of(alloc: Global, judgement: &Judgement) -> Result<Vec<u8>, AllocError>
 fn judgement_of(alloc: Global, text: &[u8]) -> Result<(Judgement, Vec<u8>), AllocError>
     requires { length text.now ≤ 2 ^ 60 }
     ensures text { IfOk result (λ j. JudgesText text.now j.0) }
-    ensures line { IfOk result (λ j. j.1.items ≡ Rattle.e_run.specs.VerifierAnswers.line_of j.0) }
+    ensures line { IfOk result
+        (λ j. j.1.items ≡ Rattle.e_run.specs.VerifierAnswers.judgement_line j.0) }
 {
     let judgement = judge(alloc, text)?;
     let line = line_of(alloc, &judgement)?;

@@ -13,7 +13,7 @@ use Rattle.e_literal.specs.Rows.{Row, Says, Zero, AtLeast, More, Not, Summands}
 use Rattle.e_literal.specs.Solution.{IsSo, Satisfy, HasSolution}
 use Rattle.e_simplex.specs.declared.constraints.Constraint.{Constraint}
 use Rattle.e_simplex.specs.declared.constraints.Sense.TheVariants.{More as SenseMore}
-use Rattle.e_simplex.specs.Constraints.{form_value, ConstraintHolds, IsSolution, IsAbsurd}
+use Rattle.e_simplex.specs.Constraints.{value_of_monomials, ConstraintHolds, IsSolution, IsAbsurd}
 use Rattle.e_simplex.specs.Naming.{place_of, IsIn, AreOnce, FormNamed, AllNamed, named_form, named_constraint, named_constraints, sense_of, keeps}
 use Rattle.e_simplex.specs.Answer.{assigned, AreValuesOf}
 use Rattle.e_simplex.specs.inner.Paired.{PairedTo}
@@ -64,7 +64,7 @@ Values ts values v = (t : Term) → IsIn ts t → pos (v t) ≡ get_or values (s
 
 -- a form has the value of its line's form
 form_same : (ts : List Term) (form : Summands) (values : List ℤ) (v : Term → ℕ) → Values ts values v → FormNamed ts form
-    → Rattle.e_literal.specs.Solution.form_value form v ≡ form_value (named_form ts form) values
+    → Rattle.e_literal.specs.Solution.form_value form v ≡ value_of_monomials (named_form ts form) values
 form_same ts [] values v h f = refl
 form_same ts (p ∷ ps) values v h f =
     ap₂ {A = ℤ} {B = ℤ} (λ a b. a +ℤ b) (ap (λ z. p.0 *ℤ z) (h p.1 f.0)) (form_same ts ps values v h f.1)
@@ -79,19 +79,19 @@ so_of Not z e h = absurd (true≢false e)
 
 module _ (ts : List Term) (values : List ℤ) (v : Term → ℕ) (same : Values ts values v) where
   satisfied : (rows : List Row) → AllNamed ts rows
-      → ((i : ℕ) (d : Constraint) → i < length (named_constraints false ts rows) → ConstraintHolds (get_or (named_constraints false ts rows) i d).sense (form_value (get_or (named_constraints false ts rows) i d).form values))
-      → ((j : ℕ) (d : Constraint) → j < length (named_constraints true ts rows) → form_value (get_or (named_constraints true ts rows) j d).form values ≢ pos 0) → Satisfy v rows
+      → ((i : ℕ) (d : Constraint) → i < length (named_constraints false ts rows) → ConstraintHolds (get_or (named_constraints false ts rows) i d).sense (value_of_monomials (get_or (named_constraints false ts rows) i d).form values))
+      → ((j : ℕ) (d : Constraint) → j < length (named_constraints true ts rows) → value_of_monomials (get_or (named_constraints true ts rows) j d).form values ≢ pos 0) → Satisfy v rows
   satisfied [] a h g = tt
   satisfied (r ∷ rs) a h g =
       by (keeps true r.says) refl
-      (subst (λ ls. (i : ℕ) (d : Constraint) → i < length ls → ConstraintHolds (get_or ls i d).sense (form_value (get_or ls i d).form values)) (main_cons ts r rs) h) g (λ p q. satisfied rs a.1 p q)
+      (subst (λ ls. (i : ℕ) (d : Constraint) → i < length ls → ConstraintHolds (get_or ls i d).sense (value_of_monomials (get_or ls i d).form values)) (main_cons ts r rs) h) g (λ p q. satisfied rs a.1 p q)
     where
       by : (b : Bool) → keeps true r.says ≡ b
           → ((i : ℕ) (d : Constraint) → i < length (cond b (named_constraints false ts rs) (named_constraint ts r ∷ named_constraints false ts rs))
-          → ConstraintHolds (get_or (cond b (named_constraints false ts rs) (named_constraint ts r ∷ named_constraints false ts rs)) i d).sense (form_value (get_or (cond b (named_constraints false ts rs) (named_constraint ts r ∷ named_constraints false ts rs)) i d).form values))
-          → ((j : ℕ) (d : Constraint) → j < length (cond b (named_constraint ts r ∷ named_constraints true ts rs) (named_constraints true ts rs)) → form_value (get_or (cond b (named_constraint ts r ∷ named_constraints true ts rs) (named_constraints true ts rs)) j d).form values ≢ pos 0)
-          → (((i : ℕ) (d : Constraint) → i < length (named_constraints false ts rs) → ConstraintHolds (get_or (named_constraints false ts rs) i d).sense (form_value (get_or (named_constraints false ts rs) i d).form values))
-          → ((j : ℕ) (d : Constraint) → j < length (named_constraints true ts rs) → form_value (get_or (named_constraints true ts rs) j d).form values ≢ pos 0) → Satisfy v rs)
+          → ConstraintHolds (get_or (cond b (named_constraints false ts rs) (named_constraint ts r ∷ named_constraints false ts rs)) i d).sense (value_of_monomials (get_or (cond b (named_constraints false ts rs) (named_constraint ts r ∷ named_constraints false ts rs)) i d).form values))
+          → ((j : ℕ) (d : Constraint) → j < length (cond b (named_constraint ts r ∷ named_constraints true ts rs) (named_constraints true ts rs)) → value_of_monomials (get_or (cond b (named_constraint ts r ∷ named_constraints true ts rs) (named_constraints true ts rs)) j d).form values ≢ pos 0)
+          → (((i : ℕ) (d : Constraint) → i < length (named_constraints false ts rs) → ConstraintHolds (get_or (named_constraints false ts rs) i d).sense (value_of_monomials (get_or (named_constraints false ts rs) i d).form values))
+          → ((j : ℕ) (d : Constraint) → j < length (named_constraints true ts rs) → value_of_monomials (get_or (named_constraints true ts rs) j d).form values ≢ pos 0) → Satisfy v rs)
           → Satisfy v (r ∷ rs)
       by true e p q ih = (
         subst (λ s. IsSo s (Rattle.e_literal.specs.Solution.form_value r.form v)) (sym (kept_not r.says e)) (λ z. q 0 (named_constraint ts r) (omega arith) (sym (form_same ts r.form values v same a.0) ∙ z)),
@@ -112,27 +112,27 @@ module _ (ts : List Term) (values : List ℤ) (v : Term → ℕ) (same : Values 
   holds_of Not z e h = absurd (true≢false e)
 
   constraints_hold : (rows : List Row) → AllNamed ts rows → Satisfy v rows → (i : ℕ) (d : Constraint) → i < length (named_constraints false ts rows)
-      → ConstraintHolds (get_or (named_constraints false ts rows) i d).sense (form_value (get_or (named_constraints false ts rows) i d).form values)
+      → ConstraintHolds (get_or (named_constraints false ts rows) i d).sense (value_of_monomials (get_or (named_constraints false ts rows) i d).form values)
   constraints_hold [] a s i d l = absurd (omega (arith, l))
   constraints_hold (r ∷ rs) a s i d l =
-      subst (λ ls. (i : ℕ) (d : Constraint) → i < length ls → ConstraintHolds (get_or ls i d).sense (form_value (get_or ls i d).form values)) (sym (main_cons ts r rs))
+      subst (λ ls. (i : ℕ) (d : Constraint) → i < length ls → ConstraintHolds (get_or ls i d).sense (value_of_monomials (get_or ls i d).form values)) (sym (main_cons ts r rs))
       (by (keeps true r.says) refl (constraints_hold rs a.1 s.1)) i d l
     where
       by : (b : Bool) → keeps true r.says ≡ b
-          → ((i : ℕ) (d : Constraint) → i < length (named_constraints false ts rs) → ConstraintHolds (get_or (named_constraints false ts rs) i d).sense (form_value (get_or (named_constraints false ts rs) i d).form values))
+          → ((i : ℕ) (d : Constraint) → i < length (named_constraints false ts rs) → ConstraintHolds (get_or (named_constraints false ts rs) i d).sense (value_of_monomials (get_or (named_constraints false ts rs) i d).form values))
           → (i : ℕ) (d : Constraint) → i < length (cond b (named_constraints false ts rs) (named_constraint ts r ∷ named_constraints false ts rs))
-          → ConstraintHolds (get_or (cond b (named_constraints false ts rs) (named_constraint ts r ∷ named_constraints false ts rs)) i d).sense (form_value (get_or (cond b (named_constraints false ts rs) (named_constraint ts r ∷ named_constraints false ts rs)) i d).form values)
+          → ConstraintHolds (get_or (cond b (named_constraints false ts rs) (named_constraint ts r ∷ named_constraints false ts rs)) i d).sense (value_of_monomials (get_or (cond b (named_constraints false ts rs) (named_constraint ts r ∷ named_constraints false ts rs)) i d).form values)
       by true e h i d l = h i d l
       by false e h zero d l = subst (ConstraintHolds (sense_of r.says)) (form_same ts r.form values v same a.0) (holds_of r.says (Rattle.e_literal.specs.Solution.form_value r.form v) e s.0)
       by false e h (suc i) d l = h i d (omega (arith, l))
 
-  forms_differ : (rows : List Row) → AllNamed ts rows → Satisfy v rows → (j : ℕ) (d : Constraint) → j < length (named_constraints true ts rows) → form_value (get_or (named_constraints true ts rows) j d).form values ≢ pos 0
+  forms_differ : (rows : List Row) → AllNamed ts rows → Satisfy v rows → (j : ℕ) (d : Constraint) → j < length (named_constraints true ts rows) → value_of_monomials (get_or (named_constraints true ts rows) j d).form values ≢ pos 0
   forms_differ [] a s j d l = absurd (omega (arith, l))
   forms_differ (r ∷ rs) a s j d l = by (keeps true r.says) refl j l (forms_differ rs a.1 s.1)
     where
       by : (b : Bool) → keeps true r.says ≡ b → (i : ℕ) → i < length (cond b (named_constraint ts r ∷ named_constraints true ts rs) (named_constraints true ts rs))
-          → ((i : ℕ) (d : Constraint) → i < length (named_constraints true ts rs) → form_value (get_or (named_constraints true ts rs) i d).form values ≢ pos 0)
-          → form_value (get_or (cond b (named_constraint ts r ∷ named_constraints true ts rs) (named_constraints true ts rs)) i d).form values ≢ pos 0
+          → ((i : ℕ) (d : Constraint) → i < length (named_constraints true ts rs) → value_of_monomials (get_or (named_constraints true ts rs) i d).form values ≢ pos 0)
+          → value_of_monomials (get_or (cond b (named_constraint ts r ∷ named_constraints true ts rs) (named_constraints true ts rs)) i d).form values ≢ pos 0
       by true e zero m h = λ z. (subst (λ u. IsSo u (Rattle.e_literal.specs.Solution.form_value r.form v)) (kept_not r.says e) s.0) (form_same ts r.form values v same a.0 ∙ z)
       by true e (suc i) m h = h i d (omega (arith, m))
       by false e i m h = h i d m
@@ -189,13 +189,13 @@ module _ (ts : List Term) (rows : List Row) (a : AllNamed ts rows) (h : HasSolut
     holds = constraints_hold ts all_values h.values same_values rows a h.satisfy;
   }
 
-  solved_push : (l : Constraint) → ConstraintHolds l.sense (form_value l.form all_values) → IsSolution (length ts + 1) (named_constraints false ts rows ++ l ∷ []) all_values
+  solved_push : (l : Constraint) → ConstraintHolds l.sense (value_of_monomials l.form all_values) → IsSolution (length ts + 1) (named_constraints false ts rows ++ l ∷ []) all_values
   solved_push l g = record {
     shape = constraints_solved.shape;
     not_negative = not_less;
     holds = λ i d n. elim (cases_lt i (length (named_constraints false ts rows))) [
-      | inl m ↦ subst (λ x. ConstraintHolds x.sense (form_value x.form all_values)) (sym (get_or_append_left (named_constraints false ts rows) (l ∷ []) d i m)) (constraints_solved.holds i d m)
-      | inr m ↦ subst (λ x. ConstraintHolds x.sense (form_value x.form all_values))
+      | inl m ↦ subst (λ x. ConstraintHolds x.sense (value_of_monomials x.form all_values)) (sym (get_or_append_left (named_constraints false ts rows) (l ∷ []) d i m)) (constraints_solved.holds i d m)
+      | inr m ↦ subst (λ x. ConstraintHolds x.sense (value_of_monomials x.form all_values))
           (sym (get_or_push (named_constraints false ts rows) l d i (omega (arith, n, m, length_push (named_constraints false ts rows) l)))) g
     ];
   }
@@ -205,12 +205,12 @@ module _ (ts : List Term) (rows : List Row) (a : AllNamed ts rows) (h : HasSolut
 
   pub none_two : (k : ℕ) (above below : List ℤ) → AreBothRefuted (length ts + 1) (named_constraints false ts rows) (named_constraints true ts rows) k above below → ⊥
   none_two k above below b =
-      elim (signs (form_value (get_or (named_constraints true ts rows) k dummy).form all_values) (forms_differ ts all_values h.values same_values rows a h.satisfy k dummy b.here)) [
+      elim (signs (value_of_monomials (get_or (named_constraints true ts rows) k dummy).form all_values) (forms_differ ts all_values h.values same_values rows a h.satisfy k dummy b.here)) [
         | inl p ↦ no_solution (length ts + 1) (named_constraints false ts rows ++ get_or (named_constraints true ts rows) k dummy ∷ []) above all_values
             (forms_push (length ts + 1) (named_constraints false ts rows) (get_or (named_constraints true ts rows) k dummy) (within_constraints false ts rows a) (within_constraints true ts rows a k dummy b.here))
             (b.above_absurd dummy)
             (solved_push (get_or (named_constraints true ts rows) k dummy)
-            (subst (λ x. ConstraintHolds x (form_value (get_or (named_constraints true ts rows) k dummy).form all_values)) (sym (more_constraints ts rows k dummy b.here)) p))
+            (subst (λ x. ConstraintHolds x (value_of_monomials (get_or (named_constraints true ts rows) k dummy).form all_values)) (sym (more_constraints ts rows k dummy b.here)) p))
         | inr p ↦ no_solution (length ts + 1) (named_constraints false ts rows ++ negative_constraint (get_or (named_constraints true ts rows) k dummy) ∷ []) below all_values
             (forms_push (length ts + 1) (named_constraints false ts rows) (negative_constraint (get_or (named_constraints true ts rows) k dummy)) (within_constraints false ts rows a)
             (negative_within (length ts + 1) (get_or (named_constraints true ts rows) k dummy) (within_constraints true ts rows a k dummy b.here)))

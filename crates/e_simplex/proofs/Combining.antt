@@ -8,13 +8,13 @@ use Rattle.e_simplex.specs.declared.constraints.Monomial.{Monomial}
 use Rattle.e_simplex.specs.declared.constraints.Constraint.{Constraint}
 use Rattle.e_simplex.specs.declared.constraints.Sense.{Sense}
 use Rattle.e_simplex.specs.declared.constraints.Sense.TheVariants.{Zero, AtLeast, More}
-use Rattle.e_simplex.specs.Constraints.{form_value, ConstraintHolds, IsSolution, AllFormsWithin}
+use Rattle.e_simplex.specs.Constraints.{value_of_monomials, ConstraintHolds, IsSolution, AllFormsWithin}
 use Rattle.e_simplex.specs.inner.Multiple.{AddedTo}
 use Rattle.e_simplex.specs.inner.Tried.{AreValues}
 use Rattle.e_literal.proofs.Arith.{sums, mul_add, mul_swap, mul-not_negative}
 
 pub combined_form : (xs : List Monomial) (w : ℕ) (a b c : List ℤ) (t : ℕ) → ((k : ℕ) (d : Monomial) → k < length xs → (get_or xs k d).column < w) → AddedTo w a b t c
-    → form_value xs c ≡ form_value xs a +ℤ pos t *ℤ form_value xs b
+    → value_of_monomials xs c ≡ value_of_monomials xs a +ℤ pos t *ℤ value_of_monomials xs b
 combined_form [] w a b c t h s = omega (arith, sums, *ℤ-zero (pos t))
 combined_form (x ∷ xs) w a b c t h s =
     omega (
@@ -23,7 +23,7 @@ combined_form (x ∷ xs) w a b c t h s =
       ap (λ v. x.coefficient *ℤ v) (s.each x.column (h 0 x (omega arith))),
       mul_add x.coefficient (get_or a x.column (pos 0)) (pos t *ℤ get_or b x.column (pos 0)),
       mul_swap (pos t) x.coefficient (get_or b x.column (pos 0)),
-      mul_add (pos t) (x.coefficient *ℤ get_or b x.column (pos 0)) (form_value xs b),
+      mul_add (pos t) (x.coefficient *ℤ get_or b x.column (pos 0)) (value_of_monomials xs b),
       combined_form xs w a b c t (λ k d l. h (suc k) d (omega (arith, l))) s,
     )
 
@@ -40,7 +40,7 @@ combined_solution w constraints a b c t h p q s = record {
   not_negative = λ i l. subst (λ v. pos 0 ≤ℤ v) (sym (s.each i l))
       (omega (arith, sums, p.not_negative i l, mul-not_negative (pos t) (get_or b i (pos 0)) (omega (arith, sums)) (q.not_negative i l)));
   holds = λ i d l. subst (ConstraintHolds (get_or constraints i d).sense) (sym (combined_form (get_or constraints i d).form w a b c t (λ k e m. (h i d l k e m).1) s))
-      (combined_constraint (get_or constraints i d).sense (form_value (get_or constraints i d).form a) (form_value (get_or constraints i d).form b) t (p.holds i d l) (q.holds i d l));
+      (combined_constraint (get_or constraints i d).sense (value_of_monomials (get_or constraints i d).form a) (value_of_monomials (get_or constraints i d).form b) t (p.holds i d l) (q.holds i d l));
 }
 
 -- the values of forms go with them
@@ -59,11 +59,11 @@ combined_values w forms a b c t x y z h s p q r = record {
 }
 
 pub values_more : (n : ℕ) (forms : List Constraint) (values : List ℤ) (xs ys : List ℤ) (v : ℤ) → ys ≡ xs ++ v ∷ [] → AreValues n forms values xs
-    → ((d : Constraint) → v ≡ form_value (get_or forms n d).form values) → AreValues (n + 1) forms values ys
+    → ((d : Constraint) → v ≡ value_of_monomials (get_or forms n d).form values) → AreValues (n + 1) forms values ys
 values_more n forms values xs ys v g h e = subst (AreValues (n + 1) forms values) (sym g) (record {
   shape = omega (arith, length_push xs v, h.shape);
   each = λ j d l. elim (cases_eq j n) [
-    | inl q ↦ get_or_push xs v (pos 0) j (omega (arith, h.shape, q)) ∙ e d ∙ ap (λ i. form_value (get_or forms i d).form values) (sym q)
+    | inl q ↦ get_or_push xs v (pos 0) j (omega (arith, h.shape, q)) ∙ e d ∙ ap (λ i. value_of_monomials (get_or forms i d).form values) (sym q)
     | inr m ↦ get_or_append_left xs (v ∷ []) (pos 0) j (omega (arith, l, m, h.shape)) ∙ h.each j d (omega (arith, l, m))
   ];
 })

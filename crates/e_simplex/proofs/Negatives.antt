@@ -10,7 +10,7 @@ use Rattle.e_simplex.specs.declared.constraints.Sense.TheVariants.{More}
 use Rattle.e_simplex.specs.declared.table.Table.{Table}
 use Rattle.e_fraction.specs.Tableau.{unit}
 use Rattle.e_simplex.specs.Entries.{AllSmall}
-use Rattle.e_simplex.specs.Constraints.{form_at, form_value, FormWithin, IsSmallConstraint, AllSmallConstraints, AllFormsWithin, IsSolution, ConstraintHolds}
+use Rattle.e_simplex.specs.Constraints.{form_at, value_of_monomials, FormWithin, IsSmallConstraint, AllSmallConstraints, AllFormsWithin, IsSolution, ConstraintHolds}
 use Rattle.e_simplex.specs.Solved.{IsSolved, IsFit, columns_of, constraints_of, AreBelow, WideFurther}
 use Rattle.e_simplex.specs.inner.Tried.{negated, negative_constraint, AreFoundValues}
 use Rattle.e_literal.proofs.Arith.{sums, neg_mul, size_negative}
@@ -38,7 +38,7 @@ get_or-negated [] k d l = absurd (omega (arith, l))
 get_or-negated (x ∷ xs) zero d l = refl
 get_or-negated (x ∷ xs) (suc k) d l = get_or-negated xs k d (omega (arith, l))
 
-pub negated_value : (xs : List Monomial) (values : List ℤ) → form_value (negated xs) values ≡ neg_ℤ (form_value xs values)
+pub negated_value : (xs : List Monomial) (values : List ℤ) → value_of_monomials (negated xs) values ≡ neg_ℤ (value_of_monomials xs values)
 negated_value [] values = refl
 negated_value (x ∷ xs) values = omega (arith, sums, neg_mul x.coefficient (get_or values x.column (pos 0)), negated_value xs values)
 
@@ -91,16 +91,16 @@ first_constraints : (w : ℕ) (constraints : List Constraint) (l : Constraint) (
 first_constraints w constraints l values h = record {
   shape = h.shape;
   not_negative = h.not_negative;
-  holds = λ i d n. subst (λ x. ConstraintHolds x.sense (form_value x.form values)) (get_or_append_left constraints (l ∷ []) d i n) (h.holds i d (omega (arith, n, length_push constraints l)));
+  holds = λ i d n. subst (λ x. ConstraintHolds x.sense (value_of_monomials x.form values)) (get_or_append_left constraints (l ∷ []) d i n) (h.holds i d (omega (arith, n, length_push constraints l)));
 }
 
-last_holds : (w : ℕ) (constraints : List Constraint) (l : Constraint) (values : List ℤ) → l.sense ≡ More → IsSolution w (constraints ++ l ∷ []) values → ConstraintHolds More (form_value l.form values)
+last_holds : (w : ℕ) (constraints : List Constraint) (l : Constraint) (values : List ℤ) → l.sense ≡ More → IsSolution w (constraints ++ l ∷ []) values → ConstraintHolds More (value_of_monomials l.form values)
 last_holds w constraints l values k h =
-    subst (λ x. ConstraintHolds x (form_value l.form values)) k
-    (subst (λ x. ConstraintHolds x.sense (form_value x.form values)) (get_or_push constraints l l (length constraints) refl) (h.holds (length constraints) l (omega (arith, length_push constraints l))))
+    subst (λ x. ConstraintHolds x (value_of_monomials l.form values)) k
+    (subst (λ x. ConstraintHolds x.sense (value_of_monomials x.form values)) (get_or_push constraints l l (length constraints) refl) (h.holds (length constraints) l (omega (arith, length_push constraints l))))
 
-last_below : (constraints : List Constraint) (l : Constraint) (values : List ℤ) → AreBelow (2 ^ 64) (constraints ++ l ∷ []) values → unsigned_abs (form_value l.form values) < 2 ^ 64
-last_below constraints l values h = subst (λ x. unsigned_abs (form_value x.form values) < 2 ^ 64) (get_or_push constraints l l (length constraints) refl) (h (length constraints) l (omega (arith, length_push constraints l)))
+last_below : (constraints : List Constraint) (l : Constraint) (values : List ℤ) → AreBelow (2 ^ 64) (constraints ++ l ∷ []) values → unsigned_abs (value_of_monomials l.form values) < 2 ^ 64
+last_below constraints l values h = subst (λ x. unsigned_abs (value_of_monomials x.form values) < 2 ^ 64) (get_or_push constraints l l (length constraints) refl) (h (length constraints) l (omega (arith, length_push constraints l)))
 
 -- values of the table of the constraints and one more, which says more
 module _ (w : ℕ) (constraints : List Constraint) (l : Constraint) (s : Table) (values : List ℤ) (more : l.sense ≡ More) (h : IsSolved w (constraints ++ l ∷ []) s)
@@ -128,12 +128,12 @@ module _ (w : ℕ) (constraints : List Constraint) (l : Constraint) (s : Table) 
     solution = first_constraints w constraints l values a2;
     small = b;
     unequal = λ z. omega (arith, sums, z, turned, last_holds w constraints l values more a2);
-    below = omega (arith, ap unsigned_abs turned, size_negative (form_value k.form values), last_below constraints l values c2);
+    below = omega (arith, ap unsigned_abs turned, size_negative (value_of_monomials k.form values), last_below constraints l values c2);
     further = inr (subst (λ v. WideFurther w (constraints ++ v ∷ []) values) e f2);
   }
     where
-      turned : form_value l.form values ≡ neg_ℤ (form_value k.form values)
-      turned = ap (λ v. form_value v.form values) e ∙ negated_value k.form values
+      turned : value_of_monomials l.form values ≡ neg_ℤ (value_of_monomials k.form values)
+      turned = ap (λ v. value_of_monomials v.form values) e ∙ negated_value k.form values
 
 pub one_constraint : (l k : Constraint) → l.sense ≡ More → l.form ≡ negated k.form → l ≡ negative_constraint k
 one_constraint l k e f = ap₂ {A = Sense} {B = List Monomial} (λ a b. let m : Constraint = record { sense = a; form = b } in m) e f

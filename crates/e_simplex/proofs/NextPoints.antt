@@ -8,7 +8,7 @@ use Rattle.e_simplex.specs.declared.constraints.Constraint.{Constraint}
 use Rattle.e_simplex.specs.declared.constraints.Sense.TheVariants.{More}
 use Rattle.e_simplex.specs.declared.disequalities.Point.{Point}
 use Rattle.e_fraction.specs.Det.{HasWideMinor}
-use Rattle.e_simplex.specs.Constraints.{rows_of, form_value, AllFormsWithin}
+use Rattle.e_simplex.specs.Constraints.{rows_of, value_of_monomials, AllFormsWithin}
 use Rattle.e_simplex.specs.inner.Multiple.{AddedTo}
 use Rattle.e_simplex.specs.Solved.{WideFurther}
 use Rattle.e_simplex.specs.inner.Tried.{AreFoundValues, negative_constraint, AreValues, AreBelowBut}
@@ -20,9 +20,9 @@ some_constraint : Constraint
 some_constraint = record { sense = More; form = [] }
 
 pub all_below : (forms : List Constraint) (k : ℕ) (found second : List ℤ) → AreValues (length forms) forms found second → AreBelowBut second k
-    → ((d : Constraint) → unsigned_abs (form_value (get_or forms k d).form found) < 2 ^ 64) → (j : ℕ) → j < length forms → unsigned_abs (get_or second j (pos 0)) < 2 ^ 64
+    → ((d : Constraint) → unsigned_abs (value_of_monomials (get_or forms k d).form found) < 2 ^ 64) → (j : ℕ) → j < length forms → unsigned_abs (get_or second j (pos 0)) < 2 ^ 64
 all_below forms k found second v b h j l = elim (cases_eq j k) [
-  | inl e ↦ subst (λ z. unsigned_abs z < 2 ^ 64) (sym (v.each j some_constraint l ∙ ap (λ i. form_value (get_or forms i some_constraint).form found) e)) (h some_constraint)
+  | inl e ↦ subst (λ z. unsigned_abs z < 2 ^ 64) (sym (v.each j some_constraint l ∙ ap (λ i. value_of_monomials (get_or forms i some_constraint).form found) e)) (h some_constraint)
   | inr d ↦ b j (omega (arith, l, v.shape)) d
 ]
 
@@ -33,8 +33,8 @@ module _ (w : ℕ) (constraints forms : List Constraint) (k : ℕ) (l : Constrai
   next_point_is values form_values found second t m wl af point none f s =
       point_step w constraints forms k values form_values found second t m.values.items m.form_values.items wl af.within here (omega (arith, af.few, here)) s.some s.few point none
       f.solution f.small s.second_are
-      (all_below forms k found second s.second_are s.below (λ d. subst (λ v. unsigned_abs (form_value v.form found) < 2 ^ 64) (at d) f.below))
-      (λ z. f.unequal (ap (λ v. form_value v.form found) (at some_constraint) ∙ sym (s.second_are.each k some_constraint here) ∙ z))
+      (all_below forms k found second s.second_are s.below (λ d. subst (λ v. unsigned_abs (value_of_monomials v.form found) < 2 ^ 64) (at d) f.below))
+      (λ z. f.unequal (ap (λ v. value_of_monomials v.form found) (at some_constraint) ∙ sym (s.second_are.each k some_constraint here) ∙ z))
       s.good (subst (λ n. AddedTo n values found t m.values.items) point.solution.shape s.values_are)
       (subst (λ n. AddedTo n form_values second t m.form_values.items) point.form_values_are.shape s.form_values_are)
 

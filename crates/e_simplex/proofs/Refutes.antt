@@ -8,7 +8,7 @@ use Rattle.e_simplex.specs.declared.constraints.Constraint.{Constraint}
 use Rattle.e_simplex.specs.declared.constraints.Sense.{Sense}
 use Rattle.e_simplex.specs.declared.constraints.Sense.TheVariants.{Zero, AtLeast, More}
 use Rattle.e_fraction.specs.Tableau.{unit}
-use Rattle.e_simplex.specs.Constraints.{form_at, form_value, ConstraintHolds, weighed_at, MayWeigh, IsSolution, IsAbsurd, FormWithin, AllFormsWithin}
+use Rattle.e_simplex.specs.Constraints.{form_at, value_of_monomials, ConstraintHolds, weighed_at, MayWeigh, IsSolution, IsAbsurd, FormWithin, AllFormsWithin}
 use Rattle.e_literal.proofs.Arith.{sums, one_mul, mul_add, add_mul, mul_assoc, mul-not_negative, mul-positive}
 use Rattle.e_fraction.proofs.Minors.{unit-same, unit-other}
 
@@ -48,7 +48,7 @@ over-unit (suc n) k v l = elim (cases_eq k n) [
   | inr d ↦ omega (arith, sums, ap (λ z. z *ℤ get_or v n (pos 0)) (unit-other k n d), zero-*ℤ (get_or v n (pos 0)), over-unit n k v (omega (arith, l, d)))
 ]
 
-over-form : (w : ℕ) (form : List Monomial) (v : List ℤ) → FormWithin w form → over w (form_at form) v ≡ form_value form v
+over-form : (w : ℕ) (form : List Monomial) (v : List ℤ) → FormWithin w form → over w (form_at form) v ≡ value_of_monomials form v
 over-form w [] v h = over-none w v
 over-form w (x ∷ xs) v h =
     omega (
@@ -64,7 +64,7 @@ over-form w (x ∷ xs) v h =
 abbrev constraints_total : List Constraint → List ℤ → List ℤ → ℤ
 constraints_total [] ms v = pos 0
 constraints_total (l ∷ ls) [] v = pos 0
-constraints_total (l ∷ ls) (m ∷ ms) v = m *ℤ form_value l.form v +ℤ constraints_total ls ms v
+constraints_total (l ∷ ls) (m ∷ ms) v = m *ℤ value_of_monomials l.form v +ℤ constraints_total ls ms v
 
 over-weighed : (w : ℕ) (constraints : List Constraint) (ms v : List ℤ) → AllFormsWithin w constraints → over w (weighed_at constraints ms) v ≡ constraints_total constraints ms v
 over-weighed w [] ms v h = over-none w v
@@ -125,14 +125,14 @@ one_constraint AtLeast m z a b = mul-not_negative m z a b
 one_constraint More m z a b = mul-not_negative m z a (omega (arith, sums, b))
 
 total-not_negative : (constraints : List Constraint) (ms v : List ℤ) → ((i : ℕ) (d : Constraint) → i < length constraints → MayWeigh (get_or constraints i d).sense (get_or ms i (pos 0)))
-    → ((i : ℕ) (d : Constraint) → i < length constraints → ConstraintHolds (get_or constraints i d).sense (form_value (get_or constraints i d).form v)) → pos 0 ≤ℤ constraints_total constraints ms v
+    → ((i : ℕ) (d : Constraint) → i < length constraints → ConstraintHolds (get_or constraints i d).sense (value_of_monomials (get_or constraints i d).form v)) → pos 0 ≤ℤ constraints_total constraints ms v
 total-not_negative [] ms v a b = omega (arith, sums)
 total-not_negative (l ∷ ls) [] v a b = omega (arith, sums)
 total-not_negative (l ∷ ls) (m ∷ ms) v a b =
     omega (
       arith,
       sums,
-      one_constraint l.sense m (form_value l.form v) (a 0 l (omega arith)) (b 0 l (omega arith)),
+      one_constraint l.sense m (value_of_monomials l.form v) (a 0 l (omega arith)) (b 0 l (omega arith)),
       total-not_negative ls ms v (λ i d n. a (suc i) d (omega (arith, n))) (λ i d n. b (suc i) d (omega (arith, n))),
     )
 
@@ -141,7 +141,7 @@ more_holds k z e h = subst (λ x. ConstraintHolds x z) e h
 
 total-positive : (constraints : List Constraint) (ms v : List ℤ) → length ms ≡ length constraints
     → ((i : ℕ) (d : Constraint) → i < length constraints → MayWeigh (get_or constraints i d).sense (get_or ms i (pos 0)))
-    → ((i : ℕ) (d : Constraint) → i < length constraints → ConstraintHolds (get_or constraints i d).sense (form_value (get_or constraints i d).form v))
+    → ((i : ℕ) (d : Constraint) → i < length constraints → ConstraintHolds (get_or constraints i d).sense (value_of_monomials (get_or constraints i d).form v))
     → (p : ℕ) → p < length constraints → ((d : Constraint) → (get_or constraints p d).sense ≡ More) → pos 0 <ℤ get_or ms p (pos 0) → pos 0 <ℤ constraints_total constraints ms v
 total-positive [] ms v e a b p l k h = absurd (omega (arith, l))
 total-positive (x ∷ ls) [] v e a b p l k h = absurd (omega (arith, e))
@@ -149,14 +149,14 @@ total-positive (x ∷ ls) (m ∷ ms) v e a b zero l k h =
     omega (
       arith,
       sums,
-      mul-positive m (form_value x.form v) h (more_holds x.sense (form_value x.form v) (k x) (b 0 x (omega arith))),
+      mul-positive m (value_of_monomials x.form v) h (more_holds x.sense (value_of_monomials x.form v) (k x) (b 0 x (omega arith))),
       total-not_negative ls ms v (λ i d n. a (suc i) d (omega (arith, n))) (λ i d n. b (suc i) d (omega (arith, n))),
     )
 total-positive (x ∷ ls) (m ∷ ms) v e a b (suc p) l k h =
     omega (
       arith,
       sums,
-      one_constraint x.sense m (form_value x.form v) (a 0 x (omega arith)) (b 0 x (omega arith)),
+      one_constraint x.sense m (value_of_monomials x.form v) (a 0 x (omega arith)) (b 0 x (omega arith)),
       total-positive ls ms v (omega (arith, e)) (λ i d n. a (suc i) d (omega (arith, n))) (λ i d n. b (suc i) d (omega (arith, n))) p (omega (arith, l)) k h,
     )
 

@@ -7,7 +7,7 @@ use Rattle.e_fraction.specs.declared.row.Row.{Row as GivenRow}
 use Rattle.e_fraction.specs.Views.{seen, all_seen}
 use Rattle.e_simplex.specs.Naming.{keeps}
 use Rattle.e_simplex.specs.Answer.{IsNotAt}
-use Rattle.e_simplex.specs.inner.RowMultipliers.{row_multipliers, count_nots, multiplier_of}
+use Rattle.e_simplex.specs.inner.RowMultipliers.{row_multipliers, count_nots, multiplier_of_row}
 use Rattle.e_simplex.proofs.NamedConstraints.{kept_not}
 
 eqb_suc : (a b : ℕ) → eqb a b ≡ eqb (suc a) (suc b)
@@ -52,63 +52,63 @@ nots_most (q ∷ qs) = by (keeps true (seen q).says) (nots_most qs)
 -- m rows do not say `not 0`
 row_multipliers_push : (rows : List GivenRow) (r : GivenRow) (ws : List ℤ) (n k m : ℕ) (last : ℤ) → m + count_nots (all_seen rows) ≡ length rows
     → row_multipliers (all_seen (rows ++ r ∷ [])) ws n k last
-    ≡ row_multipliers (all_seen rows) ws n k last ++ multiplier_of (keeps true (seen r).says) (count_nots (all_seen rows)) k last (get_or ws (n + m) (pos 0)) ∷ []
+    ≡ row_multipliers (all_seen rows) ws n k last ++ multiplier_of_row (keeps true (seen r).says) (count_nots (all_seen rows)) k last (get_or ws (n + m) (pos 0)) ∷ []
 row_multipliers_push [] r ws n zero m last h = by (keeps true (seen r).says)
   where
-    by : (b : Bool) → cond b (pos 0 ∷ []) (get_or ws n (pos 0) ∷ []) ≡ multiplier_of b 0 0 last (get_or ws (n + m) (pos 0)) ∷ []
+    by : (b : Bool) → cond b (pos 0 ∷ []) (get_or ws n (pos 0) ∷ []) ≡ multiplier_of_row b 0 0 last (get_or ws (n + m) (pos 0)) ∷ []
     by true = refl
     by false = ap (λ v. get_or ws v (pos 0) ∷ []) (omega (arith, h))
 row_multipliers_push [] r ws n (suc k) m last h = by (keeps true (seen r).says)
   where
-    by : (b : Bool) → cond b (cond (eqb k 0) last (pos 0) ∷ []) (get_or ws n (pos 0) ∷ []) ≡ multiplier_of b 0 (suc k) last (get_or ws (n + m) (pos 0)) ∷ []
+    by : (b : Bool) → cond b (cond (eqb k 0) last (pos 0) ∷ []) (get_or ws n (pos 0) ∷ []) ≡ multiplier_of_row b 0 (suc k) last (get_or ws (n + m) (pos 0)) ∷ []
     by true = ap (λ v. cond v last (pos 0) ∷ []) (eqb_turned k ∙ eqb_suc 0 k)
     by false = ap (λ v. get_or ws v (pos 0) ∷ []) (omega (arith, h))
 row_multipliers_push (q ∷ qs) r ws n zero m last h = by (keeps true (seen q).says) h (λ p j g. row_multipliers_push qs r ws p zero j last g)
   where
     by : (b : Bool) → m + cond b (suc (count_nots (all_seen qs))) (count_nots (all_seen qs)) ≡ suc (length qs)
         → ((p j : ℕ) → j + count_nots (all_seen qs) ≡ length qs → row_multipliers (all_seen (qs ++ r ∷ [])) ws p zero last
-        ≡ row_multipliers (all_seen qs) ws p zero last ++ multiplier_of (keeps true (seen r).says) (count_nots (all_seen qs)) zero last (get_or ws (p + j) (pos 0)) ∷ [])
+        ≡ row_multipliers (all_seen qs) ws p zero last ++ multiplier_of_row (keeps true (seen r).says) (count_nots (all_seen qs)) zero last (get_or ws (p + j) (pos 0)) ∷ [])
         → cond b (pos 0 ∷ row_multipliers (all_seen (qs ++ r ∷ [])) ws n zero last) (get_or ws n (pos 0) ∷ row_multipliers (all_seen (qs ++ r ∷ [])) ws (suc n) zero last)
         ≡ cond b (pos 0 ∷ row_multipliers (all_seen qs) ws n zero last) (get_or ws n (pos 0) ∷ row_multipliers (all_seen qs) ws (suc n) zero last)
-        ++ multiplier_of (keeps true (seen r).says) (cond b (suc (count_nots (all_seen qs))) (count_nots (all_seen qs))) zero last (get_or ws (n + m) (pos 0)) ∷ []
+        ++ multiplier_of_row (keeps true (seen r).says) (cond b (suc (count_nots (all_seen qs))) (count_nots (all_seen qs))) zero last (get_or ws (n + m) (pos 0)) ∷ []
     by true g ih = ap (λ v. pos 0 ∷ v) (ih n m (omega (arith, g)))
         ∙ ap (λ v. (pos 0 ∷ row_multipliers (all_seen qs) ws n zero last) ++ cond (keeps true (seen r).says) (cond v last (pos 0)) (get_or ws (n + m) (pos 0)) ∷ []) (eqb_none (count_nots (all_seen qs)))
     by false g ih = none m g
       where
         none : (i : ℕ) → i + count_nots (all_seen qs) ≡ suc (length qs)
             → get_or ws n (pos 0) ∷ row_multipliers (all_seen (qs ++ r ∷ [])) ws (suc n) zero last
-            ≡ (get_or ws n (pos 0) ∷ row_multipliers (all_seen qs) ws (suc n) zero last) ++ multiplier_of (keeps true (seen r).says) (count_nots (all_seen qs)) zero last (get_or ws (n + i) (pos 0)) ∷ []
+            ≡ (get_or ws n (pos 0) ∷ row_multipliers (all_seen qs) ws (suc n) zero last) ++ multiplier_of_row (keeps true (seen r).says) (count_nots (all_seen qs)) zero last (get_or ws (n + i) (pos 0)) ∷ []
         none zero f = absurd (omega (arith, f, nots_most qs))
         none (suc i) f = ap (λ v. get_or ws n (pos 0) ∷ v) (ih (suc n) i (omega (arith, f)))
-            ∙ ap (λ v. (get_or ws n (pos 0) ∷ row_multipliers (all_seen qs) ws (suc n) zero last) ++ multiplier_of (keeps true (seen r).says) (count_nots (all_seen qs)) zero last (get_or ws v (pos 0)) ∷ []) (omega arith)
+            ∙ ap (λ v. (get_or ws n (pos 0) ∷ row_multipliers (all_seen qs) ws (suc n) zero last) ++ multiplier_of_row (keeps true (seen r).says) (count_nots (all_seen qs)) zero last (get_or ws v (pos 0)) ∷ []) (omega arith)
 row_multipliers_push (q ∷ qs) r ws n (suc k) m last h = by (keeps true (seen q).says) h (λ p j g. row_multipliers_push qs r ws p k j last g) (λ p j g. row_multipliers_push qs r ws p (suc k) j last g)
   where
     by : (b : Bool) → m + cond b (suc (count_nots (all_seen qs))) (count_nots (all_seen qs)) ≡ suc (length qs)
         → ((p j : ℕ) → j + count_nots (all_seen qs) ≡ length qs → row_multipliers (all_seen (qs ++ r ∷ [])) ws p k last
-        ≡ row_multipliers (all_seen qs) ws p k last ++ multiplier_of (keeps true (seen r).says) (count_nots (all_seen qs)) k last (get_or ws (p + j) (pos 0)) ∷ [])
+        ≡ row_multipliers (all_seen qs) ws p k last ++ multiplier_of_row (keeps true (seen r).says) (count_nots (all_seen qs)) k last (get_or ws (p + j) (pos 0)) ∷ [])
         → ((p j : ℕ) → j + count_nots (all_seen qs) ≡ length qs → row_multipliers (all_seen (qs ++ r ∷ [])) ws p (suc k) last
-        ≡ row_multipliers (all_seen qs) ws p (suc k) last ++ multiplier_of (keeps true (seen r).says) (count_nots (all_seen qs)) (suc k) last (get_or ws (p + j) (pos 0)) ∷ [])
+        ≡ row_multipliers (all_seen qs) ws p (suc k) last ++ multiplier_of_row (keeps true (seen r).says) (count_nots (all_seen qs)) (suc k) last (get_or ws (p + j) (pos 0)) ∷ [])
         → cond b (cond (eqb k 0) last (pos 0) ∷ row_multipliers (all_seen (qs ++ r ∷ [])) ws n k last) (get_or ws n (pos 0) ∷ row_multipliers (all_seen (qs ++ r ∷ [])) ws (suc n) (suc k) last)
         ≡ cond b (cond (eqb k 0) last (pos 0) ∷ row_multipliers (all_seen qs) ws n k last) (get_or ws n (pos 0) ∷ row_multipliers (all_seen qs) ws (suc n) (suc k) last)
-        ++ multiplier_of (keeps true (seen r).says) (cond b (suc (count_nots (all_seen qs))) (count_nots (all_seen qs))) (suc k) last (get_or ws (n + m) (pos 0)) ∷ []
+        ++ multiplier_of_row (keeps true (seen r).says) (cond b (suc (count_nots (all_seen qs))) (count_nots (all_seen qs))) (suc k) last (get_or ws (n + m) (pos 0)) ∷ []
     by true g ih jh = ap (λ v. cond (eqb k 0) last (pos 0) ∷ v) (ih n m (omega (arith, g)))
         ∙ ap (λ v. (cond (eqb k 0) last (pos 0) ∷ row_multipliers (all_seen qs) ws n k last) ++ cond (keeps true (seen r).says) (cond v last (pos 0)) (get_or ws (n + m) (pos 0)) ∷ []) (eqb_suc (suc (count_nots (all_seen qs))) k)
     by false g ih jh = none m g
       where
         none : (i : ℕ) → i + count_nots (all_seen qs) ≡ suc (length qs)
             → get_or ws n (pos 0) ∷ row_multipliers (all_seen (qs ++ r ∷ [])) ws (suc n) (suc k) last
-            ≡ (get_or ws n (pos 0) ∷ row_multipliers (all_seen qs) ws (suc n) (suc k) last) ++ multiplier_of (keeps true (seen r).says) (count_nots (all_seen qs)) (suc k) last (get_or ws (n + i) (pos 0)) ∷ []
+            ≡ (get_or ws n (pos 0) ∷ row_multipliers (all_seen qs) ws (suc n) (suc k) last) ++ multiplier_of_row (keeps true (seen r).says) (count_nots (all_seen qs)) (suc k) last (get_or ws (n + i) (pos 0)) ∷ []
         none zero f = absurd (omega (arith, f, nots_most qs))
         none (suc i) f = ap (λ v. get_or ws n (pos 0) ∷ v) (jh (suc n) i (omega (arith, f)))
-            ∙ ap (λ v. (get_or ws n (pos 0) ∷ row_multipliers (all_seen qs) ws (suc n) (suc k) last) ++ multiplier_of (keeps true (seen r).says) (count_nots (all_seen qs)) (suc k) last (get_or ws v (pos 0)) ∷ []) (omega arith)
+            ∙ ap (λ v. (get_or ws n (pos 0) ∷ row_multipliers (all_seen qs) ws (suc n) (suc k) last) ++ multiplier_of_row (keeps true (seen r).says) (count_nots (all_seen qs)) (suc k) last (get_or ws v (pos 0)) ∷ []) (omega arith)
 
 pub row_multipliers_more : (rows : List GivenRow) (i : ℕ) (d : GivenRow) (ws : List ℤ) (k m nots : ℕ) (last v : ℤ) (old new : List ℤ) → i < length rows → m + nots ≡ i
     → nots ≡ count_nots (all_seen (take i rows)) → length (take i rows) ≡ i
     → old ≡ row_multipliers (all_seen (take i rows)) ws 0 k last → new ≡ old ++ v ∷ []
-    → v ≡ multiplier_of (keeps true (seen (get_or rows i d)).says) nots k last (get_or ws m (pos 0)) → new ≡ row_multipliers (all_seen (take (i + 1) rows)) ws 0 k last
+    → v ≡ multiplier_of_row (keeps true (seen (get_or rows i d)).says) nots k last (get_or ws m (pos 0)) → new ≡ row_multipliers (all_seen (take (i + 1) rows)) ws 0 k last
 row_multipliers_more rows i d ws k m nots last v old new l h c t e f g =
-    f ∙ ap₂ {A = List ℤ} {B = ℤ} (λ a b. a ++ b ∷ []) e (g ∙ ap (λ s. multiplier_of (keeps true (seen (get_or rows i d)).says) s k last (get_or ws m (pos 0))) c
-    ∙ ap (λ j. multiplier_of (keeps true (seen (get_or rows i d)).says) (count_nots (all_seen (take i rows))) k last (get_or ws j (pos 0))) (omega arith))
+    f ∙ ap₂ {A = List ℤ} {B = ℤ} (λ a b. a ++ b ∷ []) e (g ∙ ap (λ s. multiplier_of_row (keeps true (seen (get_or rows i d)).says) s k last (get_or ws m (pos 0))) c
+    ∙ ap (λ j. multiplier_of_row (keeps true (seen (get_or rows i d)).says) (count_nots (all_seen (take i rows))) k last (get_or ws j (pos 0))) (omega arith))
     ∙ sym (row_multipliers_push (take i rows) (get_or rows i d) ws 0 k m last (omega (arith, h, c, t)))
     ∙ ap (λ a. row_multipliers (all_seen a) ws 0 k last) (sym (take_more rows i d l))
 

@@ -6,7 +6,7 @@ ghost use Rattle.e_fraction.specs.Tableau.{unit};
 ghost use Rattle.e_simplex.specs.declared.constraints.Monomial.{Monomial};
 ghost use Rattle.e_simplex.specs.Entries.{AllSmall};
 ghost use Rattle.e_simplex.specs.Constraints.{form_at, constraint_row, constant_of};
-ghost use Rattle.e_simplex.specs.Constraints.{is_zero_sense, IsSmallConstraint, form_value};
+ghost use Rattle.e_simplex.specs.Constraints.{is_zero_sense, IsSmallConstraint, value_of_monomials};
 
 use crate::number::times;
 use e_literal::Items;
@@ -108,7 +108,7 @@ pub fn value_of(form: &[Monomial], values: &[i128]) -> i128
     requires within { (k : ℕ) (d : Monomial) → k < length form.now
         → (get_or form.now k d).column < length values.now }
     requires values { AllSmall values.now }
-    ensures value { result ≡ form_value form.now values.now }
+    ensures value { result ≡ value_of_monomials form.now values.now }
 {
     let mut sum: i128 = 0;
     for x in form {

@@ -4,7 +4,8 @@ ghost use Rattle.std.specs.Prelude.{◌≡◌, ◌≢◌, ℕ, ℤ, List, ◌^�
 ghost use Rattle.std.specs.Prelude.{unsigned_abs, IfOk, MatchOption};
 ghost use Rattle.e_simplex.specs.declared.constraints.Constraint.{Constraint};
 ghost use Rattle.e_simplex.specs.Entries.{AllSmall};
-ghost use Rattle.e_simplex.specs.Constraints.{AllSmallConstraints, AllFormsWithin, form_value};
+ghost use Rattle.e_simplex.specs.Constraints.{AllSmallConstraints};
+ghost use Rattle.e_simplex.specs.Constraints.{AllFormsWithin, value_of_monomials};
 ghost use Rattle.e_simplex.specs.Solved.{IsSolved, columns_of, constraints_of};
 ghost use Rattle.e_simplex.specs.inner.Points.{IsPoint};
 ghost use Rattle.e_simplex.specs.inner.Disequalities.{AreFurther, IsMoved, LargeForm};
@@ -61,7 +62,7 @@ fn moved_point(
     requires small_form_values { (j : ℕ) → j < length form_values.now →
         unsigned_abs (get_or form_values.now j (pos 0)) < 2 ^ 90 }
     requires below { (d : Constraint) →
-        unsigned_abs (form_value (get_or forms.now k d).form found.now) < 2 ^ 64 }
+        unsigned_abs (value_of_monomials (get_or forms.now k d).form found.now) < 2 ^ 64 }
     requires none_before { (j : ℕ) → j < k → get_or form_values.now j (pos 0) ≢ pos 0 }
     ensures { IfOk result (λ o. MatchOption o (LargeForm forms.now k found.now)
         (λ m. (second : List ℤ) × (t : ℕ)

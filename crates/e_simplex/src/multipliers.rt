@@ -4,7 +4,8 @@ ghost use Rattle.std.specs.Prelude.{◌≡◌, ◌+◌, ◌<◌, ◌≤◌, ◌^
 ghost use Rattle.std.specs.Prelude.{get_or, take};
 ghost use Rattle.e_fraction.specs.Views.{all_seen};
 ghost use Rattle.e_simplex.specs.Answer.{IsNotAt};
-ghost use Rattle.e_simplex.specs.inner.RowMultipliers.{row_multipliers, multiplier_of, count_nots};
+ghost use Rattle.e_simplex.specs.inner.RowMultipliers.{row_multipliers};
+ghost use Rattle.e_simplex.specs.inner.RowMultipliers.{multiplier_of_row, count_nots};
 
 use crate::naming::is_kept;
 use e_fraction::Row;
@@ -31,7 +32,7 @@ fn counted(is_not: bool, seen: usize) -> usize
 
 fn multiplier(is_not: bool, seen: usize, tried: usize, last: i128, weight: i128) -> i128
     requires { seen < 2 ^ 63 }
-    ensures { result ≡ multiplier_of is_not seen tried last weight }
+    ensures { result ≡ multiplier_of_row is_not seen tried last weight }
 {
     if is_not {
         if seen + 1 == tried { last } else { 0 }

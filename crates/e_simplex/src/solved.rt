@@ -1,7 +1,7 @@
 //! Tables in which every row is satisfied, and what comes of more constraints.
 
 ghost use Rattle.std.specs.Prelude.{◌≡◌, ◌+◌, ◌^◌, ◌<◌, ◌++◌, ◌∷◌, [], length, IfOk};
-ghost use Rattle.e_simplex.specs.Constraints.{numbers, FixedTo};
+ghost use Rattle.e_simplex.specs.Constraints.{numbers_from, FixedTo};
 ghost use Rattle.e_simplex.specs.Solved.{IsBegunTable, IsSolved, IsSolvedAs, IsTableOutcome, IsFit};
 ghost use Rattle.e_simplex.specs.Solved.{constraints_of, columns_of};
 
@@ -22,7 +22,7 @@ pub enum Outcome {
 
 /// `count` numbers from 0 on.
 fn count_up(alloc: Global, count: usize) -> Result<Vec<usize>, AllocError>
-    ensures { IfOk result (λ v. v.items ≡ numbers 0 count) }
+    ensures { IfOk result (λ v. v.items ≡ numbers_from 0 count) }
 {
     let mut all = Vec::with_capacity(alloc, count)?;
     for i in 0..count {

@@ -13,21 +13,21 @@ use Rattle.e_clause.specs.declared.cert.Cert.TheVariants.{Plain, Transfer}
 use Rattle.e_clause.specs.declared.cert.Against.{Against}
 use Rattle.e_clause.specs.declared.cert.Against.TheVariants.{Clash, Metric as MetricAgainst}
 use Rattle.e_deriv.specs.declared.names.Names.{Names}
-use Rattle.e_text.specs.Tokens.{joined}
+use Rattle.e_text.specs.Tokens.{joined_words}
 use Rattle.e_spell.specs.Certificates.{row_line, sum_lines, sums_lines, part_lines, cert_lines, certs_lines, contradiction_lines}
-use Rattle.e_spell.specs.Laws.{is_plain}
+use Rattle.e_spell.specs.Laws.{is_plain_line}
 
 -- none of the lines with these words stays
 abbrev pub Go : List (List (List ℕ)) → Type 0
-Go ls = filter is_plain (map joined ls) ≡ []
+Go ls = filter is_plain_line (map joined_words ls) ≡ []
 
-joined_append : (xs ys : List (List (List ℕ))) → map joined (xs ++ ys) ≡ map joined xs ++ map joined ys
+joined_append : (xs ys : List (List (List ℕ))) → map joined_words (xs ++ ys) ≡ map joined_words xs ++ map joined_words ys
 joined_append [] ys = refl
-joined_append (x ∷ xs) ys = ap (λ (l : List (List ℕ)). joined x ∷ l) (joined_append xs ys)
+joined_append (x ∷ xs) ys = ap (λ (l : List (List ℕ)). joined_words x ∷ l) (joined_append xs ys)
 
 both_go : (xs ys : List (List (List ℕ))) → Go xs → Go ys → Go (xs ++ ys)
 both_go xs ys x y =
-    ap (filter is_plain) (joined_append xs ys) ∙ filter-append is_plain (map joined xs) (map joined ys) ∙ ap (λ (l : List (List ℕ)). l ++ filter is_plain (map joined ys)) x ∙ y
+    ap (filter is_plain_line) (joined_append xs ys) ∙ filter-append is_plain_line (map joined_words xs) (map joined_words ys) ∙ ap (λ (l : List (List ℕ)). l ++ filter is_plain_line (map joined_words ys)) x ∙ y
 
 rows_go : (ns : Names) (rs : List (ℤ × RowName)) → Go (map (row_line ns) rs)
 rows_go ns [] = refl
@@ -50,11 +50,11 @@ cert_goes : (ns : Names) (c : Cert) → Go (cert_lines ns c)
 cert_goes ns (Plain p) = part_goes ns p
 cert_goes ns (Transfer t) = parts_go ns t.parts
 
-pub certs_go : (ns : Names) (cs : List Cert) → filter is_plain (certs_lines ns cs) ≡ []
+pub certs_go : (ns : Names) (cs : List Cert) → filter is_plain_line (certs_lines ns cs) ≡ []
 certs_go ns [] = refl
 certs_go ns (c ∷ cs) = both_go (cert_lines ns c) (flat_map (cert_lines ns) cs) (cert_goes ns c) (certs_go ns cs)
 
-pub contradiction_goes : (ns : Names) (a : Option Against) → filter is_plain (contradiction_lines ns a) ≡ []
+pub contradiction_goes : (ns : Names) (a : Option Against) → filter is_plain_line (contradiction_lines ns a) ≡ []
 contradiction_goes ns None = refl
 contradiction_goes ns (Some (Clash l)) = refl
 contradiction_goes ns (Some (MetricAgainst m)) = sums_go ns m.sums

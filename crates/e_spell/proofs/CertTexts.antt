@@ -14,18 +14,18 @@ use Rattle.e_clause.specs.declared.cert.Cert.TheVariants.{Plain, Transfer}
 use Rattle.e_clause.specs.declared.cert.Against.{Against}
 use Rattle.e_clause.specs.declared.cert.Against.TheVariants.{Clash, Metric as MetricAgainst}
 use Rattle.e_deriv.specs.declared.names.Names.{Names}
-use Rattle.e_text.specs.Tokens.{joined}
+use Rattle.e_text.specs.Tokens.{joined_words}
 use Rattle.e_book.specs.Canonical.{text_of}
 use Rattle.e_spell.specs.Certificates.{row_line, sum_lines, sums_lines, metric_lines, part_lines, cert_lines, certs_lines, contradiction_lines}
 use Rattle.e_spell.specs.inner.Parts.{bar_text, row_text, rows_text, sum_text, differs_text, sums_text, metric_text, part_text, parts_text, instance_text, cert_text, certs_text, against_text, contradiction_text}
 
 -- the text of lines that are given by their words
 abbrev pub words_text : List (List (List ℕ)) → List ℕ
-words_text ls = text_of (map joined ls)
+words_text ls = text_of (map joined_words ls)
 
 pub of_words : (xs ys : List (List (List ℕ))) → words_text (xs ++ ys) ≡ words_text xs ++ words_text ys
 of_words [] ys = refl
-of_words (x ∷ xs) ys = ap (λ (t : List ℕ). (joined x ++ 10 ∷ []) ++ t) (of_words xs ys) ∙ sym (append_assoc (joined x ++ 10 ∷ []) (words_text xs) (words_text ys))
+of_words (x ∷ xs) ys = ap (λ (t : List ℕ). (joined_words x ++ 10 ∷ []) ++ t) (of_words xs ys) ∙ sym (append_assoc (joined_words x ++ 10 ∷ []) (words_text xs) (words_text ys))
 
 of_rows : (ns : Names) (rs : List (ℤ × RowName)) → words_text (map (row_line ns) rs) ≡ rows_text ns rs
 of_rows ns [] = refl

@@ -20,10 +20,10 @@ use Rattle.e_names.specs.Canonical.{by_form, hence_form, let_form, apply_form, c
 use Rattle.e_book.specs.Canonical.{head_forms, script_forms, names_of_proof, forms_of}
 use Rattle.e_spell.specs.Certificates.{certs_lines}
 use Rattle.e_spell.specs.Spelling.{script_lines, spelled_lines}
-use Rattle.e_spell.specs.Laws.{is_plain, filled_entry}
+use Rattle.e_spell.specs.Laws.{is_plain_line, filled_entry}
 use Rattle.e_spell.proofs.CertLines.{certs_go, contradiction_goes}
 
-form_is_plain : (f : RawLine) → is_plain (line_of f) ≡ true
+form_is_plain : (f : RawLine) → is_plain_line (line_of f) ≡ true
 form_is_plain (rawlines.Theorem t) = refl
 form_is_plain (rawlines.Declare Point ns) = refl
 form_is_plain (rawlines.Declare Line ns) = refl
@@ -44,10 +44,10 @@ form_is_plain (rawlines.Cases l) = refl
 form_is_plain rawlines.Else = refl
 form_is_plain rawlines.End = refl
 
-keep : (line : List ℕ) (lines : List (List ℕ)) → is_plain line ≡ true → filter is_plain (line ∷ lines) ≡ line ∷ filter is_plain lines
+keep : (line : List ℕ) (lines : List (List ℕ)) → is_plain_line line ≡ true → filter is_plain_line (line ∷ lines) ≡ line ∷ filter is_plain_line lines
 keep line lines e = rw e refl
 
-forms_stay : (fs : List RawLine) → filter is_plain (map line_of fs) ≡ map line_of fs
+forms_stay : (fs : List RawLine) → filter is_plain_line (map line_of fs) ≡ map line_of fs
 forms_stay [] = refl
 forms_stay (f ∷ fs) = keep (line_of f) (map line_of fs) (form_is_plain f) ∙ ap (λ (x : List (List ℕ)). line_of f ∷ x) (forms_stay fs)
 
@@ -56,15 +56,15 @@ lines_append [] gs = refl
 lines_append (f ∷ fs) gs = ap (λ (x : List (List ℕ)). line_of f ∷ x) (lines_append fs gs)
 
 -- lines after certificates
-certified_stay : (ns : Names) (cs : List Cert) (lines : List (List ℕ)) → filter is_plain (certs_lines ns cs ++ lines) ≡ filter is_plain lines
-certified_stay ns cs lines = filter-append is_plain (certs_lines ns cs) lines ∙ ap (λ (x : List (List ℕ)). x ++ filter is_plain lines) (certs_go ns cs)
+certified_stay : (ns : Names) (cs : List Cert) (lines : List (List ℕ)) → filter is_plain_line (certs_lines ns cs ++ lines) ≡ filter is_plain_line lines
+certified_stay ns cs lines = filter-append is_plain_line (certs_lines ns cs) lines ∙ ap (λ (x : List (List ℕ)). x ++ filter is_plain_line lines) (certs_go ns cs)
 
 -- lines of two parts
-both_stay : (xs ys : List (List ℕ)) (fs gs : List RawLine) → filter is_plain xs ≡ map line_of fs → filter is_plain ys ≡ map line_of gs → filter is_plain (xs ++ ys) ≡ map line_of (fs ++ gs)
+both_stay : (xs ys : List (List ℕ)) (fs gs : List RawLine) → filter is_plain_line xs ≡ map line_of fs → filter is_plain_line ys ≡ map line_of gs → filter is_plain_line (xs ++ ys) ≡ map line_of (fs ++ gs)
 both_stay xs ys fs gs x y =
-    filter-append is_plain xs ys ∙ ap (λ (l : List (List ℕ)). l ++ filter is_plain ys) x ∙ ap (λ (l : List (List ℕ)). map line_of fs ++ l) y ∙ sym (lines_append fs gs)
+    filter-append is_plain_line xs ys ∙ ap (λ (l : List (List ℕ)). l ++ filter is_plain_line ys) x ∙ ap (λ (l : List (List ℕ)). map line_of fs ++ l) y ∙ sym (lines_append fs gs)
 
-script_stays : (known : List TitledStatement) (ns : Names) (d : Script) → filter is_plain (script_lines known ns d) ≡ map line_of (script_forms known ns (erased d))
+script_stays : (known : List TitledStatement) (ns : Names) (d : Script) → filter is_plain_line (script_lines known ns d) ≡ map line_of (script_forms known ns (erased d))
 unfolding script_lines script_forms erased
 script_stays known ns (Cite by rest) = ap (λ (x : List (List ℕ)). line_of (by_form ns by) ∷ x) (script_stays known ns rest)
 script_stays known ns (Hence lit cert rest) =
@@ -90,13 +90,13 @@ script_stays known ns (Cases lit first second) =
     (both_stay (script_lines known ns first) (line_of else_form ∷ script_lines known ns second) (script_forms known ns (erased first)) (else_form ∷ script_forms known ns (erased second)) (script_stays known ns first)
     (ap (λ (x : List (List ℕ)). line_of else_form ∷ x) (script_stays known ns second)))
 
-pub plain_lines : (known : List TitledStatement) (t : TheoremView) (d : Script) → erased d ≡ filled_by t.script d → filter is_plain (spelled_lines known t d) ≡ map line_of (forms_of known (filled_entry t d))
+pub plain_lines : (known : List TitledStatement) (t : TheoremView) (d : Script) → erased d ≡ filled_by t.script d → filter is_plain_line (spelled_lines known t d) ≡ map line_of (forms_of known (filled_entry t d))
 plain_lines known t d e =
     let end = line_of end_form ∷ [] in
     let ns = names_of_proof t in
     let script = filled_by t.script d in
-    filter-append is_plain (map line_of (head_forms t)) (script_lines known ns d ++ end)
-    ∙ ap (λ (x : List (List ℕ)). x ++ filter is_plain (script_lines known ns d ++ end)) (forms_stay (head_forms t))
+    filter-append is_plain_line (map line_of (head_forms t)) (script_lines known ns d ++ end)
+    ∙ ap (λ (x : List (List ℕ)). x ++ filter is_plain_line (script_lines known ns d ++ end)) (forms_stay (head_forms t))
     ∙ ap (λ (x : List (List ℕ)). map line_of (head_forms t) ++ x)
-    (filter-append is_plain (script_lines known ns d) end ∙ ap (λ (x : List (List ℕ)). x ++ end) (script_stays known ns d ∙ ap (λ (s : Script). map line_of (script_forms known ns s)) e) ∙ sym (lines_append (script_forms known ns script) (end_form ∷ [])))
+    (filter-append is_plain_line (script_lines known ns d) end ∙ ap (λ (x : List (List ℕ)). x ++ end) (script_stays known ns d ∙ ap (λ (s : Script). map line_of (script_forms known ns s)) e) ∙ sym (lines_append (script_forms known ns script) (end_form ∷ [])))
     ∙ sym (lines_append (head_forms t) (script_forms known ns script ++ end_form ∷ []))

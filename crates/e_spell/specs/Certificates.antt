@@ -16,7 +16,7 @@ use Rattle.e_clause.specs.declared.cert.Against.{Against}
 use Rattle.e_clause.specs.declared.cert.Against.TheVariants.{Clash, Metric as MetricAgainst}
 use Rattle.e_deriv.specs.declared.names.Names.{Names}
 use Rattle.e_literal.specs.declared.object.Term.{Term}
-use Rattle.e_text.specs.Tokens.{joined}
+use Rattle.e_text.specs.Tokens.{joined_words}
 use Rattle.e_line.specs.Canonical.{term_words, lit_words}
 use Rattle.e_names.specs.Canonical.{raw_term, raw_of, rule_name, name_of_object}
 
@@ -71,7 +71,7 @@ cert_lines ns (Transfer t) = transfer_lines ns t
 
 -- the lines of certificates, one after the other
 abbrev pub certs_lines : Names → List Cert → List (List ℕ)
-certs_lines ns cs = map joined (flat_map (cert_lines ns) cs)
+certs_lines ns cs = map joined_words (flat_map (cert_lines ns) cs)
 
 -- ---- contradictions
 
@@ -82,4 +82,4 @@ against_lines ns (MetricAgainst m) = metric_lines ns m
 -- the lines of the certificate of a contradiction, where it has one
 abbrev pub contradiction_lines : Names → Option Against → List (List ℕ)
 contradiction_lines ns None = []
-contradiction_lines ns (Some a) = map joined (against_lines ns a)
+contradiction_lines ns (Some a) = map joined_words (against_lines ns a)

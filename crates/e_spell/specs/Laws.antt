@@ -9,9 +9,9 @@ use Rattle.e_book.specs.Canonical.{forms_of}
 use Rattle.e_spell.specs.Spelling.{spelled_lines}
 
 -- a certificate's line begins with `|`
-abbrev pub is_plain : List ℕ → Bool
-is_plain [] = true
-is_plain (b ∷ bs) = not (b == 124)
+abbrev pub is_plain_line : List ℕ → Bool
+is_plain_line [] = true
+is_plain_line (b ∷ bs) = not (b == 124)
 
 -- the theorem with the blanks of its script filled by the arguments that a derivation has in the
 -- same places
@@ -23,4 +23,4 @@ filled_entry t d = record t { script = filled_by t.script d }
 abbrev pub LinesAreTheTheorem : Type 0
 LinesAreTheTheorem =
     (known : List TitledStatement) (t : TheoremView) (d : Script) → erased d ≡ filled_by t.script d →
-    filter is_plain (spelled_lines known t d) ≡ map line_of (forms_of known (filled_entry t d))
+    filter is_plain_line (spelled_lines known t d) ≡ map line_of (forms_of known (filled_entry t d))

@@ -14,7 +14,7 @@ use Rattle.e_deriv.specs.Naming.{named}
 use Rattle.e_deriv.specs.Script.{Script, Cite, Hence, Make, Apply, Claim, Superposed, Qed, Contradiction, Cases}
 use Rattle.e_names.specs.TitledStatements.{TitledStatement, theorem_of}
 use Rattle.e_book.specs.TheoremViews.{TheoremView}
-use Rattle.e_text.specs.Tokens.{joined}
+use Rattle.e_text.specs.Tokens.{joined_words}
 use Rattle.e_line.specs.Canonical.{line_of, lit_words}
 use Rattle.e_names.specs.Canonical.{raw_of, by_form, hence_form, let_form, apply_form, claim_form, superpose_form, qed_form, contradiction_form, cases_form, else_form, end_form}
 use Rattle.e_book.specs.Canonical.{head_forms, names_of_proof, text_of}
@@ -77,7 +77,7 @@ unlicensed_words title step wanted values ns =
     place_words (codes "unlicensed") title step ∷ wanted_line_words ns wanted ∷ values_words ns values
 
 abbrev pub unlicensed_text : List ℕ → ℕ → Wanted → Option (List (Term × ℕ)) → Names → List ℕ
-unlicensed_text title step wanted values ns = text_of (map joined (unlicensed_words title step wanted values ns))
+unlicensed_text title step wanted values ns = text_of (map joined_words (unlicensed_words title step wanted values ns))
 
 -- the line that is too wide, what is wanted there, and the width
 abbrev pub too_wide_words : List ℕ → ℕ → Wanted → ℕ → Names → List (List (List ℕ))
@@ -85,7 +85,7 @@ too_wide_words title step wanted width ns =
     place_words (codes "too-wide") title step ∷ wanted_line_words ns wanted ∷ (codes "|" ∷ codes "width" ∷ decimal width ∷ []) ∷ []
 
 abbrev pub too_wide_text : List ℕ → ℕ → Wanted → ℕ → Names → List ℕ
-too_wide_text title step wanted width ns = text_of (map joined (too_wide_words title step wanted width ns))
+too_wide_text title step wanted width ns = text_of (map joined_words (too_wide_words title step wanted width ns))
 
 -- the last lines of a stop; out of memory has none here
 abbrev pub stop_text : List ℕ → Stop → List ℕ

@@ -5,7 +5,7 @@ use Rattle.std.proofs.lemmas.Bool.{cases_lt}
 use Rattle.std.proofs.lemmas.Grind.{common_steps}
 use Rattle.std.proofs.lemmas.List.Sums.{position_or_len_is, fails_before_first, passes_at_first}
 use Rattle.e_text.specs.declared.line.LineFault.{LineFault}
-use Rattle.e_text.specs.Lines.{is_lf, Bounds, Spot, LineView, closed, lines_of, IsClosed, then_more, spot_after}
+use Rattle.e_text.specs.Lines.{is_lf, Bounds, Spot, LineView, line_before_lf, lines_of, IsClosed, then_more, spot_after}
 use Rattle.e_text.proofs.FirstLine.{then_lines}
 use Rattle.e_text.proofs.WholeLines.{next_spot, lines_of-closed}
 
@@ -81,10 +81,10 @@ front_by_size (suc size) w at (b ∷ bs) more le h =
     let left = length-drop (n + 1) front in
     let ih = front_by_size size w next (drop (n + 1) front) more (omega (arith, left)) (drop_closed front (n + 1) (omega arith) h) in
     lines_of-closed w at (front ++ more) (omega (arith, same, length-append front more))
-    ∙ ap (λ (p : List ℕ). then_lines (closed w at p) (lines_of w (next_spot at (length p)) (drop (position_or_len is_lf (front ++ more) + 1) (front ++ more)))) part
-    ∙ ap (λ (t : List ℕ). then_lines (closed w at (take n front)) (lines_of w next t)) after
-    ∙ ap (λ (ls : Rest). then_lines (closed w at (take n front)) ls) ih
-    ∙ by_line (closed w at (take n front)) w at next front (drop (n + 1) front) more refl (omega (arith, left)) (lines_of-closed w at front lt)
+    ∙ ap (λ (p : List ℕ). then_lines (line_before_lf w at p) (lines_of w (next_spot at (length p)) (drop (position_or_len is_lf (front ++ more) + 1) (front ++ more)))) part
+    ∙ ap (λ (t : List ℕ). then_lines (line_before_lf w at (take n front)) (lines_of w next t)) after
+    ∙ ap (λ (ls : Rest). then_lines (line_before_lf w at (take n front)) ls) ih
+    ∙ by_line (line_before_lf w at (take n front)) w at next front (drop (n + 1) front) more refl (omega (arith, left)) (lines_of-closed w at front lt)
 
 -- the lines of a text whose front is closed: those of the front, and those after it
 pub lines_of-front : (w : Bounds) (at : Spot) (front more : List ℕ) → IsClosed front

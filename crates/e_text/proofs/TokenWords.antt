@@ -6,7 +6,7 @@ use Rattle.std.proofs.lemmas.Bool.{not-true, eqb-true, and_parts}
 use Rattle.std.proofs.lemmas.List.{append-nil}
 use Rattle.std.proofs.lemmas.List.Elements.{All-from_recursion}
 use Rattle.std.proofs.lemmas.List.Splits.{slice_split_none, slice_split_at}
-use Rattle.e_text.specs.Tokens.{is_blank, has_bytes, tokens_of, is_token, AreTokens, spaced, joined}
+use Rattle.e_text.specs.Tokens.{is_blank, has_bytes, tokens_of, is_token, AreTokens, spaced, joined_words}
 use Rattle.e_text.specs.Names.{is_letter, is_name_byte, is_title_byte, is_reserved, is_name, is_title}
 
 no_blank : (w : List ℕ) → list_all (λ b. not (is_blank b)) w ≡ true → AllByRecursion (λ b. is_blank b ≡ false) w
@@ -25,7 +25,7 @@ tokens_of-spaced w (v ∷ vs) e es =
     ap (filter has_bytes) (slice_split_at is_blank w 32 (v ++ spaced vs) (all_no_blank w e) refl) ∙ first_kept w (slice_split is_blank (v ++ spaced vs)) e ∙ ap (λ xs. w ∷ xs) (tokens_of-spaced v vs es.0 es.1)
 
 -- the tokens of joined words are these words
-pub tokens_of-joined : (ws : List (List ℕ)) → AreTokens ws → tokens_of (joined ws) ≡ ws
+pub tokens_of-joined : (ws : List (List ℕ)) → AreTokens ws → tokens_of (joined_words ws) ≡ ws
 tokens_of-joined [] es = refl
 tokens_of-joined (w ∷ ws) es = tokens_of-spaced w ws es.0 es.1
 

@@ -10,7 +10,7 @@ use Rattle.std.proofs.lemmas.List.Sums.{prefix_len_passes, prefix_len_stops, pos
 use Rattle.e_text.specs.declared.line.LineEnd.TheVariants.{TextEnd}
 use Rattle.e_text.specs.declared.line.LineFault.{LineFault}
 use Rattle.e_text.specs.declared.line.LineFault.TheVariants.{Bytes}
-use Rattle.e_text.specs.Lines.{is_lf, Bounds, Spot, LineView, checked, closed, lines_of, lines_of_parts}
+use Rattle.e_text.specs.Lines.{is_lf, Bounds, Spot, LineView, checked, line_before_lf, lines_of, lines_of_parts}
 use Rattle.e_text.proofs.FirstLine.{then_lines, split_more, parts_of}
 
 -- no line feed stands before the first
@@ -26,7 +26,7 @@ next_spot at n = record { line = at.line + 1; before = at.before + n + 1 }
 
 -- a line that has a line feed, and the lines after it
 pub lines_of-closed : (w : Bounds) (at : Spot) (text : List ℕ) → position_or_len is_lf text < length text
-    → lines_of w at text ≡ then_lines (closed w at (take (position_or_len is_lf text) text)) (lines_of w (next_spot at (length (take (position_or_len is_lf text) text))) (drop (position_or_len is_lf text + 1) text))
+    → lines_of w at text ≡ then_lines (line_before_lf w at (take (position_or_len is_lf text) text)) (lines_of w (next_spot at (length (take (position_or_len is_lf text) text))) (drop (position_or_len is_lf text + 1) text))
 lines_of-closed w at text lt =
     let part = take (position_or_len is_lf text) text in
     let more = parts_of (drop (position_or_len is_lf text + 1) text) in
@@ -57,7 +57,7 @@ count_by_size (suc size) w at (b ∷ bs) le =
           let part = take n text in
           let rest = count_by_size size w (next_spot at (length part)) after (omega (arith, length-drop (n + 1) text)) in
           let e = lines_of-closed w at text lt in
-          omega (arith, ap length e, length-then_lines (closed w at part) (lines_of w (next_spot at (length part)) after), rest, length-drop (n + 1) text)
+          omega (arith, ap length e, length-then_lines (line_before_lf w at part) (lines_of w (next_spot at (length part)) after), rest, length-drop (n + 1) text)
       | inr le' ↦ omega (arith, ap length (lines_of-open w at text (omega arith) le'))
     ]
 
@@ -114,7 +114,7 @@ cut_by_size (suc size) w at text le within =
                 let left : n + 1 + (w.most + 1 - next.before) ≡ k = omega arith in
                 let after : drop (position_or_len is_lf (take k text) + 1) (take k text) ≡ take (w.most + 1 - next.before) (drop (n + 1) text) = ap (λ m. drop (m + 1) (take k text)) same ∙ ap (λ m. drop (n + 1) (take m text)) (sym left) ∙ drop-take (n + 1) (w.most + 1 - next.before) text in
                 let rest = cut_by_size size w next (drop (n + 1) text) (omega (arith, length-drop (n + 1) text)) (omega arith) in
-                lines_of-closed w at (take k text) (omega arith) ∙ ap (λ (p : List ℕ). then_lines (closed w at p) (lines_of w (next_spot at (length p)) (drop (position_or_len is_lf (take k text) + 1) (take k text)))) part ∙ ap (λ (t : List ℕ). then_lines (closed w at (take n text)) (lines_of w next t)) after ∙ ap (λ ls. then_lines (closed w at (take n text)) ls) rest ∙ sym (lines_of-closed w at text (omega arith))
+                lines_of-closed w at (take k text) (omega arith) ∙ ap (λ (p : List ℕ). then_lines (line_before_lf w at p) (lines_of w (next_spot at (length p)) (drop (position_or_len is_lf (take k text) + 1) (take k text)))) part ∙ ap (λ (t : List ℕ). then_lines (line_before_lf w at (take n text)) (lines_of w next t)) after ∙ ap (λ ls. then_lines (line_before_lf w at (take n text)) ls) rest ∙ sym (lines_of-closed w at text (omega arith))
             | inr far ↦
                 let whole = passed w at text (omega arith) (omega arith) (omega arith) in
                 elim (cases_lt n k) [

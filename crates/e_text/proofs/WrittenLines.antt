@@ -9,7 +9,7 @@ use Rattle.std.proofs.lemmas.List.Splits.{slice_split_at}
 use Rattle.std.proofs.lemmas.List.Sums.{split_at_first}
 use Rattle.e_text.specs.declared.line.LineEnd.TheVariants.{Lf, TextEnd}
 use Rattle.e_text.specs.declared.line.LineFault.{LineFault}
-use Rattle.e_text.specs.Lines.{is_lf, is_allowed, ends_in_cr, Bounds, Spot, LineView, checked, closed, ended, lines_of, lines_of_parts, end_bytes, HaveNoFault, AreShort, text_of_lines, lf_text, numbered}
+use Rattle.e_text.specs.Lines.{is_lf, is_allowed, ends_in_cr, Bounds, Spot, LineView, checked, line_before_lf, ended, lines_of, lines_of_parts, end_bytes, HaveNoFault, AreShort, text_of_lines, lf_text, numbered}
 use Rattle.e_text.proofs.FirstLine.{then_lines, split_more, parts_of, seen-checked}
 use Rattle.e_text.proofs.WholeLines.{at_lf, next_spot, lines_of-closed, lines_of-open}
 
@@ -29,7 +29,7 @@ ended_bytes : (part : List ℕ) (t : Bool) → ends_in_cr part ≡ t → (ended 
 ended_bytes part true e = rw e (sym (append_assoc (take (length part - 1) part) (13 ∷ []) (10 ∷ [])) ∙ ap (λ (l : List ℕ). l ++ 10 ∷ []) (cr_part part e))
 ended_bytes part false e = rw e refl
 
-closed_bytes : (w : Bounds) (at : Spot) (part : List ℕ) (l : LineView) → closed w at part ≡ Ok l → l.bytes ++ end_bytes l.end ≡ part ++ 10 ∷ []
+closed_bytes : (w : Bounds) (at : Spot) (part : List ℕ) (l : LineView) → line_before_lf w at part ≡ Ok l → l.bytes ++ end_bytes l.end ≡ part ++ 10 ∷ []
 closed_bytes w at part l e =
     let is = seen-checked w at (ended part []).0 (ended part []).1 (at.before + length part + 1) l e in
     ap (λ (k : LineView). k.bytes ++ end_bytes k.end) (sym is) ∙ ended_bytes part (ends_in_cr part) refl
@@ -56,10 +56,10 @@ whole_by_size (suc size) w at (b ∷ bs) le good =
           let after = drop (n + 1) text in
           let rest = lines_of w (next_spot at (length part)) after in
           let e = lines_of-closed w at text lt in
-          let good' : HaveNoFault (then_lines (closed w at part) rest) = subst HaveNoFault e good in
+          let good' : HaveNoFault (then_lines (line_before_lf w at part) rest) = subst HaveNoFault e good in
           let feed : get_or text n 0 ≡ 10 = eqb-true _ 10 (at_lf text lt) in
           let cut : part ++ 10 ∷ after ≡ text = ap (λ (x : ℕ). part ++ x ∷ after) (sym feed) ∙ sym (split_at_first is_lf text 0 lt) in
-          ap text_of_lines e ∙ put_closed (closed w at part) rest part after (closed_bytes w at part) (λ g. whole_by_size size w (next_spot at (length part)) after (omega (arith, length-drop (n + 1) text)) g) good' ∙ cut
+          ap text_of_lines e ∙ put_closed (line_before_lf w at part) rest part after (closed_bytes w at part) (λ g. whole_by_size size w (next_spot at (length part)) after (omega (arith, length-drop (n + 1) text)) g) good' ∙ cut
       | inr le' ↦
           let e = lines_of-open w at text (omega arith) le' in
           let good' : HaveNoFault (checked w at text TextEnd (at.before + length text) ∷ []) = subst HaveNoFault e good in

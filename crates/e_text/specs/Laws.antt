@@ -1,7 +1,7 @@
 -- What holds of lines, tokens, names and numerals, whatever the code does.
 use Rattle.std.specs.Prelude.{◌≡◌, ℕ, ◌+◌, ◌-◌, ◌^◌, ◌<◌, ◌≤◌, List, ◌++◌, length, take, Some, decimal}
 use Rattle.e_text.specs.Lines.{Bounds, Spot, HaveNoFault, AreShort, lines_of, text_of_lines, lf_text, numbered, IsClosed, then_more, spot_after}
-use Rattle.e_text.specs.Tokens.{AreTokens, tokens_of, joined}
+use Rattle.e_text.specs.Tokens.{AreTokens, tokens_of, joined_words}
 use Rattle.e_text.specs.Numerals.{number_of}
 
 -- where no line has a fault, the lines with their ends, put together, are the text
@@ -34,7 +34,7 @@ TokensHoldNoBlank = (line : List ℕ) → AreTokens (tokens_of line)
 
 -- words with one space between two are read as these words
 abbrev pub JoinedWordsAreRead : Type 0
-JoinedWordsAreRead = (words : List (List ℕ)) → AreTokens words → tokens_of (joined words) ≡ words
+JoinedWordsAreRead = (words : List (List ℕ)) → AreTokens words → tokens_of (joined_words words) ≡ words
 
 -- a number below 2 ^ 128 that is printed is read as itself
 abbrev pub PrintedNumbersAreRead : Type 0

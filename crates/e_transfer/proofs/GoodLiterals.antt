@@ -21,7 +21,7 @@ use Rattle.e_literal.specs.WellFormed.{is_well_formed_atom, is_well_formed}
 use Rattle.e_literal.proofs.WithImages.{good_atom_stays}
 use Rattle.e_literal.proofs.Booleans.{and_left, and_right}
 use Rattle.e_clause.specs.Rows.{Row}
-use Rattle.e_clause.specs.Instance.{Inst, instance_of_row, number, line, circle, lit_at, clause_of}
+use Rattle.e_clause.specs.Instance.{Inst, instance_of_row, number, line_arg, circle_arg, lit_at, clause_of}
 use Rattle.e_clause.specs.RuleKinds.{is_transfer}
 use Rattle.e_clause.specs.Table.{table}
 use Rattle.e_clause.specs.Table.Lengths.{lengths}
@@ -104,12 +104,12 @@ point_in : (r : Row) (scope : Scope) (args : List Obj) (x : ℕ) → AreOver r s
 point_in r scope args x are ok =
     let less = ltb-true x r.points ok in number_in r scope args Point x are (omega (arith, less)) (sort_of_point r x less)
 
-line_in : (r : Row) (scope : Scope) (args : List Obj) (l : ℕ) → AreOver r scope args → nat_lt l r.lines ≡ true → is_in_scope scope (obj Line (line r args l)) ≡ true
+line_in : (r : Row) (scope : Scope) (args : List Obj) (l : ℕ) → AreOver r scope args → nat_lt l r.lines ≡ true → is_in_scope scope (obj Line (line_arg r args l)) ≡ true
 line_in r scope args l are ok =
     let less = ltb-true l r.lines ok in
     number_in r scope args Line (r.points + l) are (omega (arith, less)) (sort_of_line r (r.points + l) (omega arith) (omega (arith, less)))
 
-circle_in : (r : Row) (scope : Scope) (args : List Obj) (c : ℕ) → AreOver r scope args → nat_lt c r.circles ≡ true → is_in_scope scope (obj Circle (circle r args c)) ≡ true
+circle_in : (r : Row) (scope : Scope) (args : List Obj) (c : ℕ) → AreOver r scope args → nat_lt c r.circles ≡ true → is_in_scope scope (obj Circle (circle_arg r args c)) ≡ true
 circle_in r scope args c are ok =
     let less = ltb-true c r.circles ok in
     number_in r scope args Circle (r.points + r.lines + c) are (omega (arith, less)) (sort_of_circle r (r.points + r.lines + c) (omega arith))
@@ -148,7 +148,7 @@ sums_in r scope args are x y ok =
     ∙ and_from _ _ (sum_in r scope args are x (and_left (sum_ok r x) (sum_ok r y) ok)) (sum_in r scope args are y (and_right (sum_ok r x) (sum_ok r y) ok))
 
 atom_in : (r : Row) (scope : Scope) (args : List Obj) → AreOver r scope args → (a : Atom) → atom_ok r a ≡ true
-    → Within scope (objects_of_atom (atom_at (number args) (line r args) (circle r args) a))
+    → Within scope (objects_of_atom (atom_at (number args) (line_arg r args) (circle_arg r args) a))
 atom_in r scope args are (On x l) ok = two_in _ _ (point_in r scope args x are (and_left _ _ ok)) (line_in r scope args l are (and_right _ _ ok))
 atom_in r scope args are (OnC x c) ok = two_in _ _ (point_in r scope args x are (and_left _ _ ok)) (circle_in r scope args c are (and_right _ _ ok))
 atom_in r scope args are (Inside x c) ok = two_in _ _ (point_in r scope args x are (and_left _ _ ok)) (circle_in r scope args c are (and_right _ _ ok))
@@ -180,7 +180,7 @@ all_well : (r : Row) (args : List Obj) (ls : List Lit) → list_all (lit_ok r) l
 all_well r args [] ok = refl
 all_well r args (l ∷ ls) ok =
     let here = and_left (lit_ok r l) (list_all (lit_ok r) ls) ok in
-    and_from _ _ (good_atom_stays (number args) (line r args) (circle r args) l.atom ∙ and_right (atom_ok r l.atom) (is_well_formed_atom l.atom) here)
+    and_from _ _ (good_atom_stays (number args) (line_arg r args) (circle_arg r args) l.atom ∙ and_right (atom_ok r l.atom) (is_well_formed_atom l.atom) here)
     (all_well r args ls (and_right (lit_ok r l) (list_all (lit_ok r) ls) ok))
 
 with_one : (q : Lit → Bool) (l : Lit) (rest : List Lit) (b : Bool) → q (negation l) ≡ true → list_all q (map negation rest) ≡ true

@@ -19,7 +19,7 @@ use Rattle.e_literal.specs.Rows.{is_degenerate}
 use Rattle.e_literal.specs.Same.{same_neg, same_atom, same_lit}
 use Rattle.e_literal.specs.Truth.{value_of}
 use Rattle.e_literal.proofs.Booleans.{and_left, and_right, same_neg_is}
-use Rattle.e_clause.specs.Instance.{number, line, circle, lit_at, clause_of}
+use Rattle.e_clause.specs.Instance.{number, line_arg, circle_arg, lit_at, clause_of}
 use Rattle.e_clause.specs.Metric.{MetricConsequence}
 use Rattle.e_clause.specs.Rows.{Row}
 use Rattle.e_clause.specs.Table.{table}
@@ -243,8 +243,8 @@ pub none_holds : (m : Strength) (facts : List Lit) (goal : Lit) (r : Row) (at : 
 none_holds m facts goal r at neg a here unlike none = λ l is args fits.
     let e : record { neg = neg; atom = a } ≡ l = same_Some (record { neg = neg; atom = a }) l (sym here ∙ is) in
     let p = number args in
-    let q = line r args in
-    let c = circle r args in
+    let q = line_arg r args in
+    let c = circle_arg r args in
     elim (subst (λ (k : Lit). IsFittingLiteral m facts goal false (lit_at r args k)) (sym e) fits) [
       | inl same ↦ unlike (ap (λ n. mark_number n neg) (sym (relation_at p q c a)) ∙ mark_alike (record { neg = neg; atom = atom_at p q c a }) goal same)
       | inr enough ↦ none p q c enough

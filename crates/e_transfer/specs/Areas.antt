@@ -9,7 +9,7 @@ use Rattle.e_literal.specs.Same.{canonical, term_eq}
 use Rattle.e_clause.specs.Assignment.{terms_of_lits}
 use Rattle.e_clause.specs.Metric.{MetricConsequence}
 use Rattle.e_clause.specs.declared.pattern.Pattern.{Pattern}
-use Rattle.e_clause.specs.Views.{lit_of}
+use Rattle.e_clause.specs.Views.{lit_of_pattern}
 use Rattle.e_transfer.specs.Marks.{is_area_term}
 
 -- the term, in the one way of writing it, is one of the list
@@ -48,7 +48,7 @@ pub record AreOneEach (x y : List Mono) (t : Term) : Type 0 where
 pub record AreEqualAreas (p : Pattern) (t : Term) : Type 0 where
   pub coeff : ℕ
   pub other : Term
-  pub is : lit_of p ≡ record { neg = false; atom = MagEq (record { coeff = coeff; term = t } ∷ []) (record { coeff = coeff; term = other } ∷ []) }
+  pub is : lit_of_pattern p ≡ record { neg = false; atom = MagEq (record { coeff = coeff; term = t } ∷ []) (record { coeff = coeff; term = other } ∷ []) }
   pub first : IsTrue (is_area_term t)
   pub second : IsTrue (is_area_term other)
 

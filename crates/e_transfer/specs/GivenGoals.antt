@@ -16,7 +16,7 @@ use Rattle.e_clause.specs.Instance.{Inst, number}
 use Rattle.e_clause.specs.Metric.{MetricConsequence}
 use Rattle.e_clause.specs.RuleKinds.{is_transfer}
 use Rattle.e_clause.specs.Transfer.{Stands, TransferOf}
-use Rattle.e_clause.specs.Views.{lit_of}
+use Rattle.e_clause.specs.Views.{lit_of_pattern}
 use Rattle.e_clause.specs.Wide.{IsTransferSystem, HasWidth}
 use Rattle.e_clause.specs.PartCertificate.{part_certifies, part_in}
 use Rattle.e_clause.specs.TransferCertificate.{transfer_certifies, transfer_in}
@@ -34,7 +34,7 @@ use Rattle.e_transfer.specs.inner.Bindings.{BindingsAgree}
 
 -- the literal of a pattern, or its negation
 abbrev pub signed_literal : Bool → Pattern → Lit
-signed_literal negated p = (if negated then negation (lit_of p) else lit_of p)
+signed_literal negated p = (if negated then negation (lit_of_pattern p) else lit_of_pattern p)
 
 -- what an instance that has the goal needs: the negations of its other literals
 abbrev pub needs_beside : List Lit → Lit → List Lit

@@ -3,7 +3,7 @@
 ghost use Rattle.std.specs.Prelude.{◌≡◌, ◌⊎◌, ◌++◌, map, if◌then◌else◌};
 ghost use Rattle.std.specs.Prelude.{option_to_list, IfOk, OnOk, IsTrue, [], ◌∷◌};
 ghost use Rattle.e_literal.specs.Literal.{negation};
-ghost use Rattle.e_clause.specs.Views.{atom_of, lit_of, row_of};
+ghost use Rattle.e_clause.specs.Views.{atom_of, lit_of_pattern, row_of};
 ghost use Rattle.e_transfer.specs.inner.Matches;
 ghost use Rattle.e_transfer.specs.inner.Matches.{Cover, CoverAtom, CoverSums, all_cancel};
 ghost use Rattle.e_transfer.specs.inner.Matches.{none_cancels, matches_of_term, matches_of_sum};
@@ -259,8 +259,8 @@ pub fn matches(
     negated: bool,
     goal: &Lit,
 ) -> Result<MatchList, AllocError>
-    ensures { IfOk result (λ v. Cover (row_of row.now)
-        (if negated then negation (lit_of pattern.now) else lit_of pattern.now) goal.now v.items) }
+    ensures { IfOk result (λ v. Cover (row_of row.now) (if negated then negation
+        (lit_of_pattern pattern.now) else lit_of_pattern pattern.now) goal.now v.items) }
 {
     let (neg, shape) = match pattern {
         Pattern::Is(shape) => (negated, shape),

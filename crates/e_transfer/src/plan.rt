@@ -3,7 +3,7 @@
 ghost use Rattle.std.specs.Prelude.{◌≡◌, ◌<◌, ◌++◌, map, ◌==◌, IfOk, OnOk};
 ghost use Rattle.std.specs.Prelude.{IsTrue, length, slice_index, nat_lt};
 ghost use Rattle.std.specs.List.{list_all};
-ghost use Rattle.e_clause.specs.Views.{atom_of, lit_of, row_of};
+ghost use Rattle.e_clause.specs.Views.{atom_of, lit_of_pattern, row_of};
 ghost use Rattle.e_transfer.specs.inner.Equations;
 ghost use Rattle.e_transfer.specs.inner.PartsOfChoices;
 ghost use Rattle.e_transfer.specs.inner.PartsOfChoices.{sum_last, term_last, atom_last};
@@ -261,7 +261,7 @@ fn last_of_shape(row: &Row, positions: &[usize], shape: &Shape) -> usize
 }
 
 fn last_of_pattern(row: &Row, positions: &[usize], pattern: &Pattern) -> usize
-    ensures { result ≡ atom_last (row_of row.now) positions.now (lit_of pattern.now).atom }
+    ensures { result ≡ atom_last (row_of row.now) positions.now (lit_of_pattern pattern.now).atom }
 {
     match pattern {
         Pattern::Is(shape) | Pattern::Not(shape) => last_of_shape(row, positions, shape),
@@ -274,8 +274,8 @@ fn add_ready_at(
     positions: &[usize],
     patterns: &[Pattern],
 ) -> Result<(), AllocError>
-    ensures { OnOk result (ready_at.new.items ≡ ready_at.old.items
-        ++ map (λ l. atom_last (row_of row.now) positions.now l.atom) (map lit_of patterns.now)) }
+    ensures { OnOk result (ready_at.new.items ≡ ready_at.old.items ++ map
+        (λ l. atom_last (row_of row.now) positions.now l.atom) (map lit_of_pattern patterns.now)) }
 {
     for p in patterns {
         ready_at.push(last_of_pattern(row, positions, p))?;

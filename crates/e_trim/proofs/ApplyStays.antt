@@ -26,7 +26,7 @@ use Rattle.e_deriv.specs.Goal.{Goal}
 use Rattle.e_deriv.specs.Lines.{lines, theorem_at}
 use Rattle.e_deriv.specs.Certified.{is_certified}
 use Rattle.e_trim.specs.Looked.{Wants, no_wants, both, needed, of_line, of_certs}
-use Rattle.e_trim.specs.Trimmed.{joins_at, supplies, is_needed, is_kept, line_at, wants, obj_at, lit_at, cert_at, args_at, trimmed_from}
+use Rattle.e_trim.specs.Trimmed.{joins_at, supplies, is_needed, is_kept, line_at, wants, obj_at, lit_among_kept, cert_at, args_at, trimmed_from}
 use Rattle.e_trim.proofs.Members.{in_left, in_right, in_either}
 use Rattle.e_trim.proofs.Counting.{scope_kept, scope_more}
 use Rattle.e_trim.proofs.LitsAt.{AllKept, OverLits}
@@ -151,17 +151,17 @@ apply_goes before st kept s facts goal theorem args names certs rest v h more no
         let os' = map (obj_at kept) os in
         let fit' = arguments_at kept th s os fit objects in
         let needs_is = needs_declared th os s states fit in
-        let needs_move : needs_of_use th os' (scope_kept kept) ≡ map (lit_at kept) needs
-        = needs_declared th os' (scope_kept kept) states fit' ∙ at_vars kept vars os th.given z speaks ∙ ap (map (lit_at kept)) (sym needs_is) in
+        let needs_move : needs_of_use th os' (scope_kept kept) ≡ map (lit_among_kept kept) needs
+        = needs_declared th os' (scope_kept kept) states fit' ∙ at_vars kept vars os th.given z speaks ∙ ap (map (lit_among_kept kept)) (sym needs_is) in
         let over : OverLits kept needs = subst (OverLits kept) (sym needs_is) (vars_over kept vars os th.given z speaks objects) in
         let done = certs_stay kept s facts now own.lits needs certs v line_ready.stays over own_certs q.0 in
         let shown_scope = good_scope (grown (scope_of th) th.made) th.shown halves.1 in
-        let gives_move : gives_of_use th os' (scope_kept kept) ≡ map (lit_at wide) given = use_at kept th s os th.shown line_ready.bound objects fit shown_scope in
+        let gives_move : gives_of_use th os' (scope_kept kept) ≡ map (lit_among_kept wide) given = use_at kept th s os th.shown line_ready.bound objects fit shown_scope in
         let targets_kept : AllKept wide (targets th os s)
         = λ o i. elim (in_either o os (next_objects s th.made) i) [ inl j ↦ in_left o kept (next_objects s th.made) (objects o j) | inr j ↦ in_right o kept (next_objects s th.made) j ] in
         let given_over : OverLits wide given
         = subst (OverLits wide) (sym (use_pairs th os s th.shown fit)) (vars_over wide (sources th) (targets th os s) th.shown (sorts_agree th os s fit) (speak_all th th.shown shown_scope) targets_kept) in
-        let next = more wide (joined_all now (map (lit_at wide) given)) goal' (made_ready kept s th.made facts now given goal goal' w given_over (first kept s facts now goal goal' w (both own no_wants) k)) in
+        let next = more wide (joined_all now (map (lit_among_kept wide) given)) goal' (made_ready kept s th.made facts now given goal goal' w given_over (first kept s facts now goal goal' w (both own no_wants) k)) in
         let args' = written_at kept args in
         let filled : is_choice th (scope_kept kept) (args_at kept args) (written (args_at kept args)) ≡ true
         = and_from (fills (args_at kept args) (written (args_at kept args))) (are_arguments th (scope_kept kept) (written (args_at kept args))) (fills_own (args_at kept args) (blanks_at kept args ∙ q.1)) (ap (are_arguments th (scope_kept kept)) args' ∙ fit') in

@@ -31,9 +31,9 @@ use Rattle.e_deriv.specs.Fitting.{is_small}
 use Rattle.e_deriv.proofs.Keeping.{stay_all}
 use Rattle.e_deriv.proofs.Scripts.{step_script-Claim, step_script-Superposed, close_script-Cases}
 use Rattle.e_trim.specs.Looked.{Wants, no_wants, both, of_line}
-use Rattle.e_trim.specs.Trimmed.{line_at, outside, wants}
+use Rattle.e_trim.specs.Trimmed.{line_at, wants_outside, wants}
 use Rattle.e_trim.specs.inner.Flags.{flags_of, inside_of, step_flags}
-use Rattle.e_trim.specs.inner.StepState.{IsReady, CloseFits, StepWants, StepFlags, KeepsFacts, opened, outer_of, left_for}
+use Rattle.e_trim.specs.inner.StepState.{IsReady, CloseFits, StepWants, StepFlags, KeepsFacts, opened, outer_of_state, left_for}
 use Rattle.e_trim.specs.declared.step_state.StepState.{StepState}
 use Rattle.e_trim.specs.declared.step_state.Outer.{Outer}
 use Rattle.e_trim.proofs.Both.{both-none, both-assoc}
@@ -45,22 +45,22 @@ use Rattle.e_trim.proofs.StepForms.{keeps_on, keeps_enough, left_back}
 pub opened_keeps : (sorts : List Sort) (lits : List Lit) (x after : StepState) → after ≡ opened sorts lits x → KeepsFacts x after
 opened_keeps sorts lits x after e = subst (λ (y : StepState). KeepsFacts x y) (sym e) (stay_all x.facts lits)
 
-pub block_enough : (sorts : List Sort) (lits : List Lit) (x after last : StepState) (outer : Outer) → after ≡ opened sorts lits x → KeepsFacts after last → outer ≡ outer_of x → outer.facts ≤ length last.facts
+pub block_enough : (sorts : List Sort) (lits : List Lit) (x after last : StepState) (outer : Outer) → after ≡ opened sorts lits x → KeepsFacts after last → outer ≡ outer_of_state x → outer.facts ≤ length last.facts
 block_enough sorts lits x after last outer e k o =
     let n = keeps_enough x last (keeps_on x after last (opened_keeps sorts lits x after e) k) in
     let m = ap (λ (y : Outer). y.facts) o in
     omega (arith, n, m)
 
-pub block_back : (sorts : List Sort) (lits : List Lit) (x after last left : StepState) (outer : Outer) → after ≡ opened sorts lits x → KeepsFacts after last → outer ≡ outer_of x → left ≡ left_for outer last → left ≡ x
+pub block_back : (sorts : List Sort) (lits : List Lit) (x after last left : StepState) (outer : Outer) → after ≡ opened sorts lits x → KeepsFacts after last → outer ≡ outer_of_state x → left ≡ left_for outer last → left ≡ x
 block_back sorts lits x after last left outer e k o f = f ∙ ap (λ y. left_for y last) o ∙ left_back x last (keeps_on x after last (opened_keeps sorts lits x after e) k)
 
 pub block_ready : (before : List StatementView) (d : Script) (goal : Goal) (sorts : List Sort) (lits : List Lit) (x after : StepState) → after ≡ opened sorts lits x → IsReady before d (grown x.scope sorts) (joined_all x.facts lits) goal → IsReady before d after.scope after.facts goal
 block_ready before d goal sorts lits x after e r = subst (λ (y : StepState). IsReady before d y.scope y.facts goal) (sym e) r
 
 pub block_wants : (before : List StatementView) (d : Script) (goal : Goal) (sorts : List Sort) (lits : List Lit) (x after left : StepState) (w out : Wants) → after ≡ opened sorts lits x → left ≡ x → w ≡ wants before d after.scope after.facts goal
-    → out ≡ outside left.scope left.facts w → out ≡ outside x.scope x.facts (wants before d (grown x.scope sorts) (joined_all x.facts lits) goal)
+    → out ≡ wants_outside left.scope left.facts w → out ≡ wants_outside x.scope x.facts (wants before d (grown x.scope sorts) (joined_all x.facts lits) goal)
 block_wants before d goal sorts lits x after left w out e b f o =
-    o ∙ ap (λ (y : StepState). outside y.scope y.facts w) b ∙ ap (outside x.scope x.facts) (f ∙ ap (λ (y : StepState). wants before d y.scope y.facts goal) e)
+    o ∙ ap (λ (y : StepState). wants_outside y.scope y.facts w) b ∙ ap (wants_outside x.scope x.facts) (f ∙ ap (λ (y : StepState). wants before d y.scope y.facts goal) e)
 
 pub block_flags : (before : List StatementView) (d : Script) (goal : Goal) (sorts : List Sort) (lits : List Lit) (x after : StepState) (old new : List Bool) → after ≡ opened sorts lits x → new ≡ old ++ flags_of before d after.scope after.facts goal
     → new ≡ old ++ flags_of before d (grown x.scope sorts) (joined_all x.facts lits) goal
@@ -102,14 +102,14 @@ plain_flags before step x old n rest = sym (append-nil old) ∙ ap (λ xs. old +
 -- ---- a claim, a superposition
 
 pub claim_inside : (before : List StatementView) (step : Step) (shown : List Lit) (inner : Box Block Global) (x : StepState) (rest : Script) → step ≡ ClaimBlock shown inner
-    → (inside_of before (step_script step rest) x.scope x.facts ≡ outside x.scope x.facts (wants before (script_of inner.value) x.scope x.facts (goal_of shown)))
+    → (inside_of before (step_script step rest) x.scope x.facts ≡ wants_outside x.scope x.facts (wants before (script_of inner.value) x.scope x.facts (goal_of shown)))
     × (step_flags before (step_script step rest) x.scope x.facts ≡ flags_of before (script_of inner.value) x.scope x.facts (goal_of shown))
 claim_inside before step shown inner x rest is =
     let e = ap (λ s. step_script s rest) is ∙ step_script-Claim shown inner rest in
     (ap (λ d. inside_of before d x.scope x.facts) e, ap (λ d. step_flags before d x.scope x.facts) e)
 
 pub superposed_inside : (before : List StatementView) (step : Step) (form : Superpose) (names : List (List ℕ)) (shown : List Lit) (certs : List Cert) (inner : Box Block Global) (x : StepState) (rest : Script) → step ≡ SuperposedBlock form names shown certs inner
-    → (inside_of before (step_script step rest) x.scope x.facts ≡ outside x.scope x.facts (wants before (script_of inner.value) (grown x.scope superposing.sorts_copied) (joined_all x.facts (superposing.gives_of_superposition form x.scope)) (goal_of shown)))
+    → (inside_of before (step_script step rest) x.scope x.facts ≡ wants_outside x.scope x.facts (wants before (script_of inner.value) (grown x.scope superposing.sorts_copied) (joined_all x.facts (superposing.gives_of_superposition form x.scope)) (goal_of shown)))
     × (step_flags before (step_script step rest) x.scope x.facts ≡ flags_of before (script_of inner.value) (grown x.scope superposing.sorts_copied) (joined_all x.facts (superposing.gives_of_superposition form x.scope)) (goal_of shown))
 superposed_inside before step form names shown certs inner x rest is =
     let e = ap (λ s. step_script s rest) is ∙ step_script-Superposed form names shown certs inner rest in
@@ -138,7 +138,7 @@ contradiction_wants before against s facts goal = (refl, refl)
 
 cases_forms : (before : List StatementView) (lit : Lit) (first second : Script) (s : Scope) (facts : List Lit) (goal : Goal)
     → (wants before (Cases lit first second) s facts goal
-    ≡ both (of_line before (line_at (Cases lit first second) s facts goal)) (both (outside s facts (wants before second s (joined facts (negation lit)) goal)) (outside s facts (wants before first s (joined facts lit) goal))))
+    ≡ both (of_line before (line_at (Cases lit first second) s facts goal)) (both (wants_outside s facts (wants before second s (joined facts (negation lit)) goal)) (wants_outside s facts (wants before first s (joined facts lit) goal))))
     × (flags_of before (Cases lit first second) s facts goal ≡ flags_of before second s (joined facts (negation lit)) goal ++ flags_of before first s (joined facts lit) goal)
 unfolding wants flags_of
 cases_forms before lit first second s facts goal = (refl, refl)
@@ -164,15 +164,15 @@ close_flags before close s facts goal old n = sym (append-nil old) ∙ ap (λ xs
 
 pub cases_wanted : (before : List StatementView) (close : Close) (lit : Lit) (first second : Box Block Global) (s : Scope) (facts : List Lit) (goal : Goal) (none line other one w v : Wants) → close ≡ CasesBlock lit first second → none ≡ no_wants
     → line ≡ both none (of_line before (line_at (close_script close) s facts goal))
-    → other ≡ outside s facts (wants before (script_of second.value) s (joined facts (negation lit)) goal) → one ≡ outside s facts (wants before (script_of first.value) s (joined facts lit) goal) → v ≡ both line other → w ≡ both v one
+    → other ≡ wants_outside s facts (wants before (script_of second.value) s (joined facts (negation lit)) goal) → one ≡ wants_outside s facts (wants before (script_of first.value) s (joined facts lit) goal) → v ≡ both line other → w ≡ both v one
     → w ≡ wants before (close_script close) s facts goal
 cases_wanted before close lit first second s facts goal none line other one w v is z l o p a b =
     let e = ap close_script is ∙ close_script-Cases lit first second in
     let own = of_line before (line_at (close_script close) s facts goal) in
     let f = cases_forms before lit (script_of first.value) (script_of second.value) s facts goal in
     b ∙ ap (λ x. both x one) (a ∙ ap (λ x. both x other) (l ∙ ap (λ x. both x own) z)) ∙ both-assoc own other one
-    ∙ ap (λ x. both own (both x one)) o ∙ ap (λ x. both own (both (outside s facts (wants before (script_of second.value) s (joined facts (negation lit)) goal)) x)) p
-    ∙ ap (λ d. both (of_line before (line_at d s facts goal)) (both (outside s facts (wants before (script_of second.value) s (joined facts (negation lit)) goal)) (outside s facts (wants before (script_of first.value) s (joined facts lit) goal)))) e
+    ∙ ap (λ x. both own (both x one)) o ∙ ap (λ x. both own (both (wants_outside s facts (wants before (script_of second.value) s (joined facts (negation lit)) goal)) x)) p
+    ∙ ap (λ d. both (of_line before (line_at d s facts goal)) (both (wants_outside s facts (wants before (script_of second.value) s (joined facts (negation lit)) goal)) (wants_outside s facts (wants before (script_of first.value) s (joined facts lit) goal)))) e
     ∙ sym (ap (λ d. wants before d s facts goal) e ∙ f.0)
 
 pub cases_flags : (before : List StatementView) (close : Close) (lit : Lit) (first second : Box Block Global) (s : Scope) (facts : List Lit) (goal : Goal) (old mid new : List Bool) → close ≡ CasesBlock lit first second

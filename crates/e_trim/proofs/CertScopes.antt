@@ -19,9 +19,9 @@ use Rattle.e_clause.specs.declared.cert.RowName.TheVariants.{Fact, Pos, Top, Lea
 use Rattle.e_clause.specs.declared.cert.Sums.{Sums}
 use Rattle.e_clause.specs.declared.cert.Sums.TheVariants.{One, Two}
 use Rattle.e_clause.specs.Instance.{Inst}
-use Rattle.e_clause.specs.MetricCertificate.{row_name_in, sum_in, sums_in}
+use Rattle.e_clause.specs.MetricCertificate.{row_name_in, sum_in, are_sums_in}
 use Rattle.e_clause.specs.PartCertificate.{part_in}
-use Rattle.e_clause.specs.TransferCertificate.{args_in}
+use Rattle.e_clause.specs.TransferCertificate.{are_args_in}
 use Rattle.e_clause.specs.Certify.{cert_in, certifies, certify_all, against_in}
 use Rattle.e_trim.specs.Looked.{no_wants, of_row, of_sum, of_sums, of_part, of_parts, of_cert, of_certs, of_against}
 use Rattle.e_trim.proofs.Members.{In, in_either, all_in}
@@ -55,7 +55,7 @@ rows_in s facts wanted (x ∷ xs) h =
     let p = and_parts (row_name_in s x.1) (sum_in s xs) h in
     both_in s (of_row facts wanted x.1).objects (of_sum facts wanted xs).objects (row_in s facts wanted x.1 p.0) (rows_in s facts wanted xs p.1)
 
-pub sums_scope : (s : Scope) (facts : List Lit) (wanted : Option Lit) (sums : Sums) → sums_in s sums ≡ true → AllIn s (of_sums facts wanted sums).objects
+pub sums_scope : (s : Scope) (facts : List Lit) (wanted : Option Lit) (sums : Sums) → are_sums_in s sums ≡ true → AllIn s (of_sums facts wanted sums).objects
 sums_scope s facts wanted (One sum) h = rows_in s facts wanted sum h
 sums_scope s facts wanted (Two differs first second) h =
     let p = and_parts (row_name_in s differs) (sum_in s first && sum_in s second) h in
@@ -83,7 +83,7 @@ instance_scope s facts l ps (Some lits) h = parts_scope s facts (others lits l) 
 cert_scope : (s : Scope) (facts : List Lit) (l : Lit) (c : Cert) → cert_in s c ≡ true → AllIn s (of_cert facts l c).objects
 cert_scope s facts l (Plain p) h = part_scope s facts l p h
 cert_scope s facts l (Transfer t) h =
-    let q = and_parts (args_in s t) (list_all (part_in s) t.parts) h in
+    let q = and_parts (are_args_in s t) (list_all (part_in s) t.parts) h in
     both_in s t.args (option_map_or (λ lits. of_parts facts (others lits l) t.parts) (Inst t.rule t.args) no_wants).objects
     (listed_in s t.args q.0) (instance_scope s facts l t.parts (Inst t.rule t.args) q.1)
 

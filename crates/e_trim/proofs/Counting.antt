@@ -10,7 +10,7 @@ use Rattle.e_literal.specs.declared.object.Sort.TheVariants.{Point, Line, Circle
 use Rattle.e_literal.specs.Literal.{obj, count_of, is_in_scope}
 use Rattle.e_literal.specs.Scopes.{same_sort, with_one, grown, next_objects}
 use Rattle.e_literal.proofs.Sorts.{same_sort_is, same_sort_self}
-use Rattle.e_trim.specs.Trimmed.{is_less, number, obj_at}
+use Rattle.e_trim.specs.Trimmed.{is_lesser_of_sort, kept_before, obj_at}
 use Rattle.e_trim.proofs.Members.{In, in_either}
 use Rattle.e_trim.proofs.TermsAt.{Keeps}
 
@@ -35,45 +35,45 @@ one_at_most false = omega arith
 
 -- ---- less
 
-pub less_from : (k : Obj) (sort : Sort) (n : ℕ) → k.sort ≡ sort → k.num < n → is_less k sort n ≡ true
+pub less_from : (k : Obj) (sort : Sort) (n : ℕ) → k.sort ≡ sort → k.num < n → is_lesser_of_sort k sort n ≡ true
 less_from k sort n e h = and_from (same_sort k.sort sort) (ltb k.num n) (ap (λ s. same_sort s sort) e ∙ same_sort_self sort) (lt-ltb k.num n h)
 
-less_is : (k : Obj) (sort : Sort) (n : ℕ) → is_less k sort n ≡ true → (k.sort ≡ sort) × (k.num < n)
+less_is : (k : Obj) (sort : Sort) (n : ℕ) → is_lesser_of_sort k sort n ≡ true → (k.sort ≡ sort) × (k.num < n)
 less_is k sort n h =
     let p = and_parts (same_sort k.sort sort) (ltb k.num n) h in (same_sort_is k.sort sort p.0, ltb-true k.num n p.1)
 
-pub not_less : (k : Obj) (sort : Sort) (n : ℕ) → (k.sort ≡ sort → n ≤ k.num) → is_less k sort n ≡ false
-not_less k sort n h = false_from_ne_true (is_less k sort n) (λ t. let p = less_is k sort n t in omega (arith, h p.0, p.1))
+pub not_less : (k : Obj) (sort : Sort) (n : ℕ) → (k.sort ≡ sort → n ≤ k.num) → is_lesser_of_sort k sort n ≡ false
+not_less k sort n h = false_from_ne_true (is_lesser_of_sort k sort n) (λ t. let p = less_is k sort n t in omega (arith, h p.0, p.1))
 
 -- ---- numbers grow with the old ones
 
-pub number_grows : (kept : List Obj) (sort : Sort) (m n : ℕ) → m ≤ n → number kept sort m ≤ number kept sort n
+pub number_grows : (kept : List Obj) (sort : Sort) (m n : ℕ) → m ≤ n → kept_before kept sort m ≤ kept_before kept sort n
 number_grows [] sort m n h = omega arith
 number_grows (k ∷ kept) sort m n h =
-    let here = weight (is_less k sort m) (is_less k sort n) (λ e. let p = less_is k sort m e in less_from k sort n p.0 (omega (arith, p.1, h))) in
+    let here = weight (is_lesser_of_sort k sort m) (is_lesser_of_sort k sort n) (λ e. let p = less_is k sort m e in less_from k sort n p.0 (omega (arith, p.1, h))) in
     let more = number_grows kept sort m n h in
     omega (arith, here, more)
 
-pub number_less : (kept : List Obj) (sort : Sort) (m n : ℕ) → In (obj sort m) kept → m < n → number kept sort m < number kept sort n
+pub number_less : (kept : List Obj) (sort : Sort) (m n : ℕ) → In (obj sort m) kept → m < n → kept_before kept sort m < kept_before kept sort n
 number_less [] sort m n i h = absurd i
 number_less (k ∷ kept) sort m n (inl e) h =
     let s = ap (λ (o : Obj). o.sort) e in
     let num = ap (λ (o : Obj). o.num) e in
-    let no = is_none (is_less k sort m) (not_less k sort m (λ f. omega (arith, num))) in
-    let yes = is_one (is_less k sort n) (less_from k sort n s (omega (arith, num, h))) in
+    let no = is_none (is_lesser_of_sort k sort m) (not_less k sort m (λ f. omega (arith, num))) in
+    let yes = is_one (is_lesser_of_sort k sort n) (less_from k sort n s (omega (arith, num, h))) in
     let more = number_grows kept sort m n (omega (arith, h)) in
     omega (arith, no, yes, more)
 number_less (k ∷ kept) sort m n (inr i) h =
-    let here = weight (is_less k sort m) (is_less k sort n) (λ e. let p = less_is k sort m e in less_from k sort n p.0 (omega (arith, p.1, h))) in
+    let here = weight (is_lesser_of_sort k sort m) (is_lesser_of_sort k sort n) (λ e. let p = less_is k sort m e in less_from k sort n p.0 (omega (arith, p.1, h))) in
     let more = number_less kept sort m n i h in
     omega (arith, here, more)
 
-pub same_number : (kept : List Obj) (sort : Sort) (m n : ℕ) → In (obj sort m) kept → In (obj sort n) kept → eqb (number kept sort m) (number kept sort n) ≡ eqb m n
+pub same_number : (kept : List Obj) (sort : Sort) (m n : ℕ) → In (obj sort m) kept → In (obj sort n) kept → eqb (kept_before kept sort m) (kept_before kept sort n) ≡ eqb m n
 same_number kept sort m n i j = elim (cases_order m n) [
-  | inl e ↦ eq-eqb (number kept sort m) (number kept sort n) (ap (number kept sort) e) ∙ sym (eq-eqb m n e)
+  | inl e ↦ eq-eqb (kept_before kept sort m) (kept_before kept sort n) (ap (kept_before kept sort) e) ∙ sym (eq-eqb m n e)
   | inr h ↦ elim h [
-    | inl l ↦ ne_eqb (number kept sort m) (number kept sort n) (λ e. omega (arith, e, number_less kept sort m n i l)) ∙ sym (ne_eqb m n (λ e. omega (arith, e, l)))
-    | inr l ↦ ne_eqb (number kept sort m) (number kept sort n) (λ e. omega (arith, e, number_less kept sort n m j l)) ∙ sym (ne_eqb m n (λ e. omega (arith, e, l)))
+    | inl l ↦ ne_eqb (kept_before kept sort m) (kept_before kept sort n) (λ e. omega (arith, e, number_less kept sort m n i l)) ∙ sym (ne_eqb m n (λ e. omega (arith, e, l)))
+    | inr l ↦ ne_eqb (kept_before kept sort m) (kept_before kept sort n) (λ e. omega (arith, e, number_less kept sort n m j l)) ∙ sym (ne_eqb m n (λ e. omega (arith, e, l)))
   ]
 ]
 
@@ -82,7 +82,7 @@ abbrev pub OfSort : List Obj → Sort → ℕ → Type 0
 OfSort kept sort n = In (obj sort n) kept
 
 -- the order stays, and kept points stay distinct
-pub keeps : (kept : List Obj) → Keeps (number kept Point) (OfSort kept Point)
+pub keeps : (kept : List Obj) → Keeps (kept_before kept Point) (OfSort kept Point)
 keeps kept = record { grows = number_grows kept Point; same = λ m n i j. same_number kept Point m n i j }
 
 -- ---- how many are kept
@@ -101,42 +101,42 @@ count_kept kept Point = refl
 count_kept kept Line = refl
 count_kept kept Circle = refl
 
-number_tallied : (kept : List Obj) (sort : Sort) (n : ℕ) → number kept sort n ≤ tally kept sort
+number_tallied : (kept : List Obj) (sort : Sort) (n : ℕ) → kept_before kept sort n ≤ tally kept sort
 number_tallied [] sort n = omega arith
 number_tallied (k ∷ kept) sort n =
-    let here = weight (is_less k sort n) (same_sort k.sort sort) (λ e. (and_parts (same_sort k.sort sort) (ltb k.num n) e).0) in
+    let here = weight (is_lesser_of_sort k sort n) (same_sort k.sort sort) (λ e. (and_parts (same_sort k.sort sort) (ltb k.num n) e).0) in
     let more = number_tallied kept sort n in
     omega (arith, here, more)
 
 -- a kept object has a number below their count
-pub number_bounded : (kept : List Obj) (o : Obj) → In o kept → number kept o.sort o.num < tally kept o.sort
+pub number_bounded : (kept : List Obj) (o : Obj) → In o kept → kept_before kept o.sort o.num < tally kept o.sort
 number_bounded [] o i = absurd i
 number_bounded (k ∷ kept) o (inl e) =
     let s = ap (λ (x : Obj). x.sort) e in
     let num = ap (λ (x : Obj). x.num) e in
-    let no = is_none (is_less k o.sort o.num) (not_less k o.sort o.num (λ f. omega (arith, num))) in
+    let no = is_none (is_lesser_of_sort k o.sort o.num) (not_less k o.sort o.num (λ f. omega (arith, num))) in
     let yes = is_one (same_sort k.sort o.sort) (ap (λ x. same_sort x o.sort) s ∙ same_sort_self o.sort) in
     let more = number_tallied kept o.sort o.num in
     omega (arith, no, yes, more)
 number_bounded (k ∷ kept) o (inr i) =
-    let here = weight (is_less k o.sort o.num) (same_sort k.sort o.sort) (λ e. (and_parts (same_sort k.sort o.sort) (ltb k.num o.num) e).0) in
+    let here = weight (is_lesser_of_sort k o.sort o.num) (same_sort k.sort o.sort) (λ e. (and_parts (same_sort k.sort o.sort) (ltb k.num o.num) e).0) in
     let more = number_bounded kept o i in
     omega (arith, here, more)
 
 pub in_scope_kept : (kept : List Obj) (o : Obj) → In o kept → is_in_scope (scope_kept kept) (obj_at kept o) ≡ true
-in_scope_kept kept o i = lt-ltb (number kept o.sort o.num) (count_of (scope_kept kept) o.sort) (subst (λ n. number kept o.sort o.num < n) (sym (count_kept kept o.sort)) (number_bounded kept o i))
+in_scope_kept kept o i = lt-ltb (kept_before kept o.sort o.num) (count_of (scope_kept kept) o.sort) (subst (λ n. kept_before kept o.sort o.num < n) (sym (count_kept kept o.sort)) (number_bounded kept o i))
 
 -- where all kept objects of the sort have lesser numbers, the next number is their count
-pub number_next : (kept : List Obj) (sort : Sort) (n : ℕ) → ((k : Obj) → In k kept → k.sort ≡ sort → k.num < n) → number kept sort n ≡ tally kept sort
+pub number_next : (kept : List Obj) (sort : Sort) (n : ℕ) → ((k : Obj) → In k kept → k.sort ≡ sort → k.num < n) → kept_before kept sort n ≡ tally kept sort
 number_next [] sort n h = refl
 number_next (k ∷ kept) sort n h = elim (cases_Bool (same_sort k.sort sort)) [
   | inl e ↦
-      let yes = is_one (is_less k sort n) (less_from k sort n (same_sort_is k.sort sort e) (h k (inl refl) (same_sort_is k.sort sort e))) in
+      let yes = is_one (is_lesser_of_sort k sort n) (less_from k sort n (same_sort_is k.sort sort e) (h k (inl refl) (same_sort_is k.sort sort e))) in
       let one = is_one (same_sort k.sort sort) e in
       let more = number_next kept sort n (λ j i. h j (inr i)) in
       omega (arith, yes, one, more)
   | inr e ↦
-      let no = is_none (is_less k sort n) (ap (λ b. b && ltb k.num n) e) in
+      let no = is_none (is_lesser_of_sort k sort n) (ap (λ b. b && ltb k.num n) e) in
       let none = is_none (same_sort k.sort sort) e in
       let more = number_next kept sort n (λ j i. h j (inr i)) in
       omega (arith, no, none, more)
@@ -144,7 +144,7 @@ number_next (k ∷ kept) sort n h = elim (cases_Bool (same_sort k.sort sort)) [
 
 -- ---- more objects are kept
 
-pub number-append : (ks js : List Obj) (sort : Sort) (n : ℕ) → number (ks ++ js) sort n ≡ number ks sort n + number js sort n
+pub number-append : (ks js : List Obj) (sort : Sort) (n : ℕ) → kept_before (ks ++ js) sort n ≡ kept_before ks sort n + kept_before js sort n
 number-append [] js sort n = omega arith
 number-append (k ∷ ks) js sort n = let more = number-append ks js sort n in omega (arith, more)
 
@@ -152,15 +152,15 @@ tally-append : (ks js : List Obj) (sort : Sort) → tally (ks ++ js) sort ≡ ta
 tally-append [] js sort = omega arith
 tally-append (k ∷ ks) js sort = let more = tally-append ks js sort in omega (arith, more)
 
-pub none_less : (js : List Obj) (sort : Sort) (n : ℕ) → ((k : Obj) → In k js → k.sort ≡ sort → n ≤ k.num) → number js sort n ≡ 0
+pub none_less : (js : List Obj) (sort : Sort) (n : ℕ) → ((k : Obj) → In k js → k.sort ≡ sort → n ≤ k.num) → kept_before js sort n ≡ 0
 none_less [] sort n h = refl
 none_less (j ∷ js) sort n h =
-    let no = is_none (is_less j sort n) (not_less j sort n (h j (inl refl))) in
+    let no = is_none (is_lesser_of_sort j sort n) (not_less j sort n (h j (inl refl))) in
     let more = none_less js sort n (λ k i. h k (inr i)) in
     omega (arith, no, more)
 
 -- objects with greater numbers change no number up to theirs
-pub number_stays : (ks js : List Obj) (sort : Sort) (n : ℕ) → ((k : Obj) → In k js → k.sort ≡ sort → n ≤ k.num) → number (ks ++ js) sort n ≡ number ks sort n
+pub number_stays : (ks js : List Obj) (sort : Sort) (n : ℕ) → ((k : Obj) → In k js → k.sort ≡ sort → n ≤ k.num) → kept_before (ks ++ js) sort n ≡ kept_before ks sort n
 number_stays ks js sort n h = let a = number-append ks js sort n in let b = none_less js sort n h in omega (arith, a, b)
 
 -- ---- the next objects of a scope
@@ -259,16 +259,16 @@ next_at kept s (x ∷ sorts) h =
 
 -- ---- one by one
 
-pub counted : (kept : List Obj) (sort : Sort) (i n : ℕ) (d : Obj) → i < length kept → is_less (get_or kept i d) sort n ≡ true → number (take (i + 1) kept) sort n ≡ number (take i kept) sort n + 1
+pub counted : (kept : List Obj) (sort : Sort) (i n : ℕ) (d : Obj) → i < length kept → is_lesser_of_sort (get_or kept i d) sort n ≡ true → kept_before (take (i + 1) kept) sort n ≡ kept_before (take i kept) sort n + 1
 counted kept sort i n d h k =
-    let e = ap (λ ks. number ks sort n) (take_more kept i d h) ∙ number-append (take i kept) (get_or kept i d ∷ []) sort n in
-    let yes = is_one (is_less (get_or kept i d) sort n) k in
+    let e = ap (λ ks. kept_before ks sort n) (take_more kept i d h) ∙ number-append (take i kept) (get_or kept i d ∷ []) sort n in
+    let yes = is_one (is_lesser_of_sort (get_or kept i d) sort n) k in
     omega (arith, e, yes)
 
-pub passed : (kept : List Obj) (sort : Sort) (i n : ℕ) (d : Obj) → i < length kept → is_less (get_or kept i d) sort n ≡ false → number (take (i + 1) kept) sort n ≡ number (take i kept) sort n
+pub passed : (kept : List Obj) (sort : Sort) (i n : ℕ) (d : Obj) → i < length kept → is_lesser_of_sort (get_or kept i d) sort n ≡ false → kept_before (take (i + 1) kept) sort n ≡ kept_before (take i kept) sort n
 passed kept sort i n d h k =
-    let e = ap (λ ks. number ks sort n) (take_more kept i d h) ∙ number-append (take i kept) (get_or kept i d ∷ []) sort n in
-    let none = is_none (is_less (get_or kept i d) sort n) k in
+    let e = ap (λ ks. kept_before ks sort n) (take_more kept i d h) ∙ number-append (take i kept) (get_or kept i d ∷ []) sort n in
+    let none = is_none (is_lesser_of_sort (get_or kept i d) sort n) k in
     omega (arith, e, none)
 
 pub ruleset counting = (common_steps, counted, passed)

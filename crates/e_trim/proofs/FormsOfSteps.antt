@@ -31,7 +31,7 @@ use Rattle.e_construct.specs.Construct.{row_of_construction, sorts_of, unequal, 
 use Rattle.e_construct.specs.Superposing as superposing
 use Rattle.e_literal.proofs.Growing.{sorts_next, counts_nothing}
 use Rattle.e_theorem.proofs.Imaging.{counted_here, counted_other, this_one, sources, targets, imaged, sorts_agree, same_images}
-use Rattle.e_trim.specs.Trimmed.{number, obj_at, lit_at, form_at, superpose_at}
+use Rattle.e_trim.specs.Trimmed.{kept_before, obj_at, lit_among_kept, construction_among_kept, superpose_at}
 use Rattle.e_trim.proofs.Members.{In, in_left, in_right, in_either, all_in}
 use Rattle.e_trim.proofs.Counting.{Bound, scope_kept, in_scope_kept, next_at, next_above, number_stays}
 use Rattle.e_trim.proofs.LitsAt.{AllKept, OverLit, OverLits, objects_scope}
@@ -95,7 +95,7 @@ lits_images vars args (l ∷ ls) s h =
 
 -- literals that speak of variables, at arguments over the kept objects
 pub at_vars : (kept vars args : List Obj) (ls : List Lit) → sorts vars ≡ sorts args → list_all (speaks_of vars) ls ≡ true
-    → map (renamed (image_in (paired vars (map (obj_at kept) args)))) ls ≡ map (lit_at kept) (map (renamed (image_in (paired vars args))) ls)
+    → map (renamed (image_in (paired vars (map (obj_at kept) args)))) ls ≡ map (lit_among_kept kept) (map (renamed (image_in (paired vars args))) ls)
 at_vars kept vars args ls s h = all_through kept vars args ls s (lits_images vars args ls s h)
 
 -- ---- the twenty constructions
@@ -142,7 +142,7 @@ avoids_at kept s NoObject os h k = ap (λ n. eqb n 0) (length-map os (obj_at kep
 avoids_at kept s AnyObject os h k = objects_scope kept os k
 avoids_at kept s (AnyApartFrom o) os h k = objects_scope kept os k
 
-pub fits_at : (kept : List Obj) (s : Scope) (form : Construction) → fits_construction form s ≡ true → AllKept kept (form.args ++ form.avoid) → fits_construction (form_at kept form) (scope_kept kept) ≡ true
+pub fits_at : (kept : List Obj) (s : Scope) (form : Construction) → fits_construction form s ≡ true → AllKept kept (form.args ++ form.avoid) → fits_construction (construction_among_kept kept form) (scope_kept kept) ≡ true
 fits_at kept s form h k =
     let r = row_of_construction form in
     let p = and_parts (are_of_sorts s (sorts_of r.args) form.args) (avoids_well s r.avoids form.avoid) h in
@@ -168,29 +168,29 @@ are_of_sort s (o ∷ os) y i = by (same_sort s o.sort) refl (are_of_sort s os y)
     by true e more (inr j) = more j
     by false e more j = more j
 
-unequal_at : (kept : List Obj) (x y : Obj) → x.sort ≡ y.sort → unequal (obj_at kept x) (obj_at kept y) ≡ lit_at kept (unequal x y)
-unequal_at kept x y e = ap (λ s. unequal (obj_at kept x) (obj s (number kept s y.num))) (sym e) ∙ by x.sort x.num y.num
+unequal_at : (kept : List Obj) (x y : Obj) → x.sort ≡ y.sort → unequal (obj_at kept x) (obj_at kept y) ≡ lit_among_kept kept (unequal x y)
+unequal_at kept x y e = ap (λ s. unequal (obj_at kept x) (obj s (kept_before kept s y.num))) (sym e) ∙ by x.sort x.num y.num
   where
-    by : (s : Sort) (m n : ℕ) → unequal (obj s (number kept s m)) (obj s (number kept s n)) ≡ lit_at kept (unequal (obj s m) (obj s n))
+    by : (s : Sort) (m n : ℕ) → unequal (obj s (kept_before kept s m)) (obj s (kept_before kept s n)) ≡ lit_among_kept kept (unequal (obj s m) (obj s n))
     by Point m n = refl
     by Line m n = refl
     by Circle m n = refl
 
-unequals_at : (kept : List Obj) (x : Obj) (os : List Obj) → ((y : Obj) → In y os → x.sort ≡ y.sort) → map (unequal (obj_at kept x)) (map (obj_at kept) os) ≡ map (lit_at kept) (map (unequal x) os)
+unequals_at : (kept : List Obj) (x : Obj) (os : List Obj) → ((y : Obj) → In y os → x.sort ≡ y.sort) → map (unequal (obj_at kept x)) (map (obj_at kept) os) ≡ map (lit_among_kept kept) (map (unequal x) os)
 unequals_at kept x [] h = refl
-unequals_at kept x (o ∷ os) h = ap (λ l. l ∷ map (unequal (obj_at kept x)) (map (obj_at kept) os)) (unequal_at kept x o (h o (inl refl))) ∙ ap (λ ls. lit_at kept (unequal x o) ∷ ls) (unequals_at kept x os (λ y i. h y (inr i)))
+unequals_at kept x (o ∷ os) h = ap (λ l. l ∷ map (unequal (obj_at kept x)) (map (obj_at kept) os)) (unequal_at kept x o (h o (inl refl))) ∙ ap (λ ls. lit_among_kept kept (unequal x o) ∷ ls) (unequals_at kept x os (λ y i. h y (inr i)))
 
-avoiding_at : (kept : List Obj) (p y : Obj) → p.sort ≡ Point → avoiding (obj_at kept p) (obj_at kept y) ≡ lit_at kept (avoiding p y)
-avoiding_at kept p y e = ap (λ s. avoiding (obj s (number kept s p.num)) (obj_at kept y)) e ∙ by y.sort p.num y.num
+avoiding_at : (kept : List Obj) (p y : Obj) → p.sort ≡ Point → avoiding (obj_at kept p) (obj_at kept y) ≡ lit_among_kept kept (avoiding p y)
+avoiding_at kept p y e = ap (λ s. avoiding (obj s (kept_before kept s p.num)) (obj_at kept y)) e ∙ by y.sort p.num y.num
   where
-    by : (s : Sort) (m n : ℕ) → avoiding (obj Point (number kept Point m)) (obj s (number kept s n)) ≡ lit_at kept (avoiding (obj Point m) (obj s n))
+    by : (s : Sort) (m n : ℕ) → avoiding (obj Point (kept_before kept Point m)) (obj s (kept_before kept s n)) ≡ lit_among_kept kept (avoiding (obj Point m) (obj s n))
     by Point m n = refl
     by Line m n = refl
     by Circle m n = refl
 
-avoidings_at : (kept : List Obj) (p : Obj) (os : List Obj) → p.sort ≡ Point → map (avoiding (obj_at kept p)) (map (obj_at kept) os) ≡ map (lit_at kept) (map (avoiding p) os)
+avoidings_at : (kept : List Obj) (p : Obj) (os : List Obj) → p.sort ≡ Point → map (avoiding (obj_at kept p)) (map (obj_at kept) os) ≡ map (lit_among_kept kept) (map (avoiding p) os)
 avoidings_at kept p [] e = refl
-avoidings_at kept p (o ∷ os) e = ap (λ l. l ∷ map (avoiding (obj_at kept p)) (map (obj_at kept) os)) (avoiding_at kept p o e) ∙ ap (λ ls. lit_at kept (avoiding p o) ∷ ls) (avoidings_at kept p os e)
+avoidings_at kept p (o ∷ os) e = ap (λ l. l ∷ map (avoiding (obj_at kept p)) (map (obj_at kept) os)) (avoiding_at kept p o e) ∙ ap (λ ls. lit_among_kept kept (avoiding p o) ∷ ls) (avoidings_at kept p os e)
 
 -- the argument for a variable has its sort, and is the argument over the kept objects
 argument_at : (kept : List Obj) (r : ShapeRow) (args : List Obj) (o : Obj) → sorts r.args ≡ sorts args → is_var r.args o ≡ true
@@ -207,7 +207,7 @@ argument_at kept r args o s h =
     there (Some y) k = (y, refl)
 
 apart_at : (kept : List Obj) (r : ShapeRow) (a : Avoids) (args os : List Obj) → sorts r.args ≡ sorts args → avoids_closed r a ≡ true
-    → needs_of_avoided a (argument r (map (obj_at kept) args)) (map (obj_at kept) os) ≡ map (lit_at kept) (needs_of_avoided a (argument r args) os)
+    → needs_of_avoided a (argument r (map (obj_at kept) args)) (map (obj_at kept) os) ≡ map (lit_among_kept kept) (needs_of_avoided a (argument r args) os)
 apart_at kept r NoObject args os s h = refl
 apart_at kept r AnyObject args os s h = refl
 apart_at kept r (AnyApartFrom o) args os s h =
@@ -217,7 +217,7 @@ apart_at kept r (AnyApartFrom o) args os s h =
     ∙ unequals_at kept (argument r args o) (of_sort o.sort os) (λ y i. q.1 ∙ are_of_sort o.sort os y i)
 
 -- what it needs, over the kept objects
-pub needs_at : (kept : List Obj) (s : Scope) (form : Construction) → fits_construction form s ≡ true → needs_of_construction (form_at kept form) ≡ map (lit_at kept) (needs_of_construction form)
+pub needs_at : (kept : List Obj) (s : Scope) (form : Construction) → fits_construction form s ≡ true → needs_of_construction (construction_among_kept kept form) ≡ map (lit_among_kept kept) (needs_of_construction form)
 needs_at kept s form h =
     let r = row_of_construction form in
     let p = and_parts (are_of_sorts s (sorts_of r.args) form.args) (avoids_well s r.avoids form.avoid) h in
@@ -225,8 +225,8 @@ needs_at kept s form h =
     let q = and_parts (list_all (speaks_of r.args) r.needs) (list_all (speaks_of (r.args ++ r.made)) r.gives && avoids_closed r r.avoids) (closed form.shape) in
     let w = and_parts (list_all (speaks_of (r.args ++ r.made)) r.gives) (avoids_closed r r.avoids) q.1 in
     ap (λ ls. ls ++ needs_of_avoided r.avoids (argument r (map (obj_at kept) form.args)) (map (obj_at kept) form.avoid)) (at_vars kept r.args form.args r.needs z q.0)
-    ∙ ap (λ ls. map (lit_at kept) (map (renamed (image_in (paired r.args form.args))) r.needs) ++ ls) (apart_at kept r r.avoids form.args form.avoid z w.1)
-    ∙ sym (map-append (lit_at kept) (map (renamed (image_in (paired r.args form.args))) r.needs) (needs_of_avoided r.avoids (argument r form.args) form.avoid))
+    ∙ ap (λ ls. map (lit_among_kept kept) (map (renamed (image_in (paired r.args form.args))) r.needs) ++ ls) (apart_at kept r r.avoids form.args form.avoid z w.1)
+    ∙ sym (map-append (lit_among_kept kept) (map (renamed (image_in (paired r.args form.args))) r.needs) (needs_of_avoided r.avoids (argument r form.args) form.avoid))
 
 -- old objects keep their numbers
 pub object_stays : (kept : List Obj) (s : Scope) (made : List Sort) (o : Obj) → Bound s kept → In o kept → obj_at (kept ++ next_objects s made) o ≡ obj_at kept o
@@ -257,7 +257,7 @@ pairs_both (x ∷ xs) ys (a ∷ as') bs s = ap (λ ps. record { source = x; targ
 -- literals that speak of arguments and of new objects, over more kept objects
 pub at_new_vars : (kept : List Obj) (s : Scope) (vars new args : List Obj) (ls : List Lit) → Bound s kept → AllKept kept args → sorts vars ≡ sorts args → list_all (speaks_of (vars ++ new)) ls ≡ true
     → map (renamed (image_in (paired vars (map (obj_at kept) args) ++ paired new (next_objects (scope_kept kept) (sorts new))))) ls
-    ≡ map (lit_at (kept ++ next_objects s (sorts new))) (map (renamed (image_in (paired vars args ++ paired new (next_objects s (sorts new))))) ls)
+    ≡ map (lit_among_kept (kept ++ next_objects s (sorts new))) (map (renamed (image_in (paired vars args ++ paired new (next_objects s (sorts new))))) ls)
 at_new_vars kept s vars new args ls b k z h =
     let next = next_objects s (sorts new) in
     let more = kept ++ next in
@@ -268,10 +268,10 @@ at_new_vars kept s vars new args ls b k z h =
     let kept_sorts : sorts vars ≡ sorts (map (obj_at kept) args) = z ∙ sorts_stay kept args in
     ap (λ ps. map (renamed (image_in ps)) ls) (sym (pairs_both vars new (map (obj_at kept) args) (next_objects (scope_kept kept) (sorts new)) kept_sorts) ∙ ap (paired (vars ++ new)) (sym moved))
     ∙ at_vars more (vars ++ new) (args ++ next) ls same_sorts h
-    ∙ ap (λ ps. map (lit_at more) (map (renamed (image_in ps)) ls)) (pairs_both vars new args next z)
+    ∙ ap (λ ps. map (lit_among_kept more) (map (renamed (image_in ps)) ls)) (pairs_both vars new args next z)
 
 kept_avoided : (kept : List Obj) (s : Scope) (new os : List Obj) → Bound s kept → AllKept kept os → begins_with_point new ≡ true
-    → gives_of_avoided (next_objects (scope_kept kept) (sorts new)) (map (obj_at kept) os) ≡ map (lit_at (kept ++ next_objects s (sorts new))) (gives_of_avoided (next_objects s (sorts new)) os)
+    → gives_of_avoided (next_objects (scope_kept kept) (sorts new)) (map (obj_at kept) os) ≡ map (lit_among_kept (kept ++ next_objects s (sorts new))) (gives_of_avoided (next_objects s (sorts new)) os)
 kept_avoided kept s [] os b k h = absurd (true≢false (sym h))
 kept_avoided kept s (p ∷ new) os b k h =
     let more = kept ++ next_objects s (sorts (p ∷ new)) in
@@ -295,17 +295,17 @@ no_objects [] h = refl
 no_objects (o ∷ os) h = let n = eqb-true (length (o ∷ os)) 0 h in absurd (omega (arith, n))
 
 avoided_at : (kept : List Obj) (s : Scope) (r : ShapeRow) (a : Avoids) (os : List Obj) → Bound s kept → AllKept kept os → avoids_closed r a ≡ true → avoids_well s a os ≡ true
-    → gives_of_avoided (next_objects (scope_kept kept) (sorts r.made)) (map (obj_at kept) os) ≡ map (lit_at (kept ++ next_objects s (sorts r.made))) (gives_of_avoided (next_objects s (sorts r.made)) os)
+    → gives_of_avoided (next_objects (scope_kept kept) (sorts r.made)) (map (obj_at kept) os) ≡ map (lit_among_kept (kept ++ next_objects s (sorts r.made))) (gives_of_avoided (next_objects s (sorts r.made)) os)
 avoided_at kept s r NoObject os b k h w =
     let e = no_objects os w in
     ap (λ xs. gives_of_avoided (next_objects (scope_kept kept) (sorts r.made)) (map (obj_at kept) xs)) e ∙ none_avoided (next_objects (scope_kept kept) (sorts r.made))
-    ∙ sym (ap (λ xs. map (lit_at (kept ++ next_objects s (sorts r.made))) (gives_of_avoided (next_objects s (sorts r.made)) xs)) e ∙ ap (map (lit_at (kept ++ next_objects s (sorts r.made)))) (none_avoided (next_objects s (sorts r.made))))
+    ∙ sym (ap (λ xs. map (lit_among_kept (kept ++ next_objects s (sorts r.made))) (gives_of_avoided (next_objects s (sorts r.made)) xs)) e ∙ ap (map (lit_among_kept (kept ++ next_objects s (sorts r.made)))) (none_avoided (next_objects s (sorts r.made))))
 avoided_at kept s r AnyObject os b k h w = kept_avoided kept s r.made os b k h
 avoided_at kept s r (AnyApartFrom o) os b k h w = kept_avoided kept s r.made os b k (and_parts (begins_with_point r.made) (is_var r.args o) h).0
 
 -- what it gives, over the kept objects and the new ones
 pub gives_at : (kept : List Obj) (s : Scope) (form : Construction) → Bound s kept → AllKept kept (form.args ++ form.avoid) → fits_construction form s ≡ true
-    → gives_of_construction (form_at kept form) (scope_kept kept) ≡ map (lit_at (kept ++ next_objects s (sorts_made form))) (gives_of_construction form s)
+    → gives_of_construction (construction_among_kept kept form) (scope_kept kept) ≡ map (lit_among_kept (kept ++ next_objects s (sorts_made form))) (gives_of_construction form s)
 gives_at kept s form b k h =
     let r = row_of_construction form in
     let more = kept ++ next_objects s (sorts_made form) in
@@ -315,19 +315,19 @@ gives_at kept s form b k h =
     let w = and_parts (list_all (speaks_of (r.args ++ r.made)) r.gives) (avoids_closed r r.avoids) q.1 in
     let own = at_new_vars kept s r.args r.made form.args r.gives b (λ o i. k o (in_left o form.args form.avoid i)) z w.0 in
     ap (λ ls. ls ++ gives_of_avoided (next_objects (scope_kept kept) (sorts r.made)) (map (obj_at kept) form.avoid)) own
-    ∙ ap (λ ls. map (lit_at more) (map (renamed (image_in (paired r.args form.args ++ paired r.made (made_by_row r s)))) r.gives) ++ ls)
+    ∙ ap (λ ls. map (lit_among_kept more) (map (renamed (image_in (paired r.args form.args ++ paired r.made (made_by_row r s)))) r.gives) ++ ls)
     (avoided_at kept s r r.avoids form.avoid b (λ o i. k o (in_right o form.args form.avoid i)) w.1 p.1)
-    ∙ sym (map-append (lit_at more) (map (renamed (image_in (paired r.args form.args ++ paired r.made (made_by_row r s)))) r.gives) (gives_of_avoided (made_by_row r s) form.avoid))
+    ∙ sym (map-append (lit_among_kept more) (map (renamed (image_in (paired r.args form.args ++ paired r.made (made_by_row r s)))) r.gives) (gives_of_avoided (made_by_row r s) form.avoid))
 
 -- ---- superposition
 
-numbers_at : (kept : List Obj) (sort : Sort) (ns : List ℕ) → map (obj sort) (map (number kept sort) ns) ≡ map (obj_at kept) (map (obj sort) ns)
+numbers_at : (kept : List Obj) (sort : Sort) (ns : List ℕ) → map (obj sort) (map (kept_before kept sort) ns) ≡ map (obj_at kept) (map (obj sort) ns)
 numbers_at kept sort [] = refl
-numbers_at kept sort (n ∷ ns) = ap (λ os. obj sort (number kept sort n) ∷ os) (numbers_at kept sort ns)
+numbers_at kept sort (n ∷ ns) = ap (λ os. obj sort (kept_before kept sort n) ∷ os) (numbers_at kept sort ns)
 
 pub superposed_objects : (kept : List Obj) (x : Superpose) → superposing.objects_of (superpose_at kept x) ≡ map (obj_at kept) (superposing.objects_of x)
 superposed_objects kept x =
-    ap (λ os. os ++ map (obj Line) (map (number kept Line) x.lines)) (numbers_at kept Point x.points) ∙ ap (λ os. map (obj_at kept) (map (obj Point) x.points) ++ os) (numbers_at kept Line x.lines)
+    ap (λ os. os ++ map (obj Line) (map (kept_before kept Line) x.lines)) (numbers_at kept Point x.points) ∙ ap (λ os. map (obj_at kept) (map (obj Point) x.points) ++ os) (numbers_at kept Line x.lines)
     ∙ sym (map-append (obj_at kept) (map (obj Point) x.points) (map (obj Line) x.lines))
 
 closed_needs : list_all (speaks_of superposing.superposed_args) superposing.superposed_needs ≡ true
@@ -340,13 +340,13 @@ pub superposition_fits : (kept : List Obj) (s : Scope) (x : Superpose) → super
 superposition_fits kept s x h k =
     ap (are_of_sorts (scope_kept kept) (sorts_of superposing.superposed_args)) (superposed_objects kept x) ∙ of_sorts_at kept s (sorts_of superposing.superposed_args) (superposing.objects_of x) h k
 
-pub superposition_needs : (kept : List Obj) (s : Scope) (x : Superpose) → superposing.fits_superposition x s ≡ true → superposing.needs_of_superposition (superpose_at kept x) ≡ map (lit_at kept) (superposing.needs_of_superposition x)
+pub superposition_needs : (kept : List Obj) (s : Scope) (x : Superpose) → superposing.fits_superposition x s ≡ true → superposing.needs_of_superposition (superpose_at kept x) ≡ map (lit_among_kept kept) (superposing.needs_of_superposition x)
 superposition_needs kept s x h =
     ap (λ os. map (renamed (image_in (paired superposing.superposed_args os))) superposing.superposed_needs) (superposed_objects kept x)
     ∙ at_vars kept superposing.superposed_args (superposing.objects_of x) superposing.superposed_needs (sorts_are s (sorts_of superposing.superposed_args) (superposing.objects_of x) h) closed_needs
 
 pub superposition_gives : (kept : List Obj) (s : Scope) (x : Superpose) → Bound s kept → AllKept kept (superposing.objects_of x) → superposing.fits_superposition x s ≡ true
-    → superposing.gives_of_superposition (superpose_at kept x) (scope_kept kept) ≡ map (lit_at (kept ++ next_objects s superposing.sorts_copied)) (superposing.gives_of_superposition x s)
+    → superposing.gives_of_superposition (superpose_at kept x) (scope_kept kept) ≡ map (lit_among_kept (kept ++ next_objects s superposing.sorts_copied)) (superposing.gives_of_superposition x s)
 superposition_gives kept s x b k h =
     ap (λ os. map (renamed (image_in (paired superposing.superposed_args os ++ paired superposing.copies (next_objects (scope_kept kept) superposing.sorts_copied)))) superposing.superposed_gives) (superposed_objects kept x)
     ∙ at_new_vars kept s superposing.superposed_args superposing.copies (superposing.objects_of x) superposing.superposed_gives b k (sorts_are s (sorts_of superposing.superposed_args) (superposing.objects_of x) h) closed_gives
@@ -420,13 +420,13 @@ arguments_at kept t s args h k = of_sorts_at kept s t.declared args h k
 
 -- literals of a statement at a use, over the kept objects and the new ones
 pub use_at : (kept : List Obj) (t : StatementView) (s : Scope) (args : List Obj) (ls : List Lit) → Bound s kept → AllKept kept args → are_arguments t s args ≡ true → list_all (all_in_scope (grown (scope_of t) t.made)) ls ≡ true
-    → map (renamed (image t (map (obj_at kept) args) (scope_kept kept))) ls ≡ map (lit_at (kept ++ next_objects s t.made)) (map (renamed (image t args s)) ls)
+    → map (renamed (image t (map (obj_at kept) args) (scope_kept kept))) ls ≡ map (lit_among_kept (kept ++ next_objects s t.made)) (map (renamed (image t args s)) ls)
 use_at kept t s args ls b k h spoken =
     let more = kept ++ next_objects s t.made in
     use_pairs t (map (obj_at kept) args) (scope_kept kept) ls (arguments_at kept t s args h k)
     ∙ ap (λ os. map (renamed (image_in (paired (sources t) os))) ls) (sym (map_targets kept t args s b k))
     ∙ at_vars more (sources t) (targets t args s) ls (sorts_agree t args s h) (speak_all t ls spoken)
-    ∙ ap (map (lit_at more)) (sym (use_pairs t args s ls h))
+    ∙ ap (map (lit_among_kept more)) (sym (use_pairs t args s ls h))
 
 -- ---- goals
 
@@ -451,8 +451,8 @@ unmoved [] = refl
 unmoved (l ∷ ls) = ap (λ a. record { neg = l.neg; atom = a } ∷ map (renamed (image_in [])) ls) (unmoved_atom l.atom) ∙ ap (λ xs. l ∷ xs) (unmoved ls)
 
 -- the literals of a goal without made objects
-pub goal_plain : (kept : List Obj) (shown : List Lit) → map (renamed (image_in [])) (map (lit_at kept) shown) ≡ map (lit_at kept) (map (renamed (image_in [])) shown)
-goal_plain kept shown = unmoved (map (lit_at kept) shown) ∙ ap (map (lit_at kept)) (sym (unmoved shown))
+pub goal_plain : (kept : List Obj) (shown : List Lit) → map (renamed (image_in [])) (map (lit_among_kept kept) shown) ≡ map (lit_among_kept kept) (map (renamed (image_in [])) shown)
+goal_plain kept shown = unmoved (map (lit_among_kept kept) shown) ∙ ap (map (lit_among_kept kept)) (sym (unmoved shown))
 
 -- ---- what literals at images speak of
 

@@ -120,8 +120,8 @@ of_sort_at s (o ∷ os) (suc k) h l = of_sort_at s os k (and_parts (same_sort o.
 -- the number that takes the place of a variable
 abbrev numbers : Row → List Obj → Numbers
 numbers r args Point k = instances.number args k
-numbers r args Line k = instances.line r args k
-numbers r args Circle k = instances.circle r args k
+numbers r args Line k = instances.line_arg r args k
+numbers r args Circle k = instances.circle_arg r args k
 
 -- the argument for a variable
 abbrev place : Row → Sort → ℕ → ℕ
@@ -162,14 +162,14 @@ argument_at r args Circle k h l =
     (a.0, sym (slice_drop args (r.points + r.lines) k) ∙ a.1, a.2)
 
 number_moves : (kept : List Obj) (r : Row) (args : List Obj) (s : Sort) (k : ℕ) → arguments_fit r args ≡ true → k < count_of (range r) s
-    → numbers r (map (obj_at kept) args) s k ≡ trimmed.number kept s (numbers r args s k)
+    → numbers r (map (obj_at kept) args) s k ≡ trimmed.kept_before kept s (numbers r args s k)
 number_moves kept r args s k h l =
     let a = argument_at r args s k h l in
     let is = ap (option_map_or (λ (o : Obj). o.num)) a.1 in
     at_place r (map (obj_at kept) args) s k
     ∙ ap (λ x. option_map_or (λ (o : Obj). o.num) x 0) (slice_map (obj_at kept) args (place r s k) ∙ ap (option_map (obj_at kept)) a.1)
-    ∙ ap (λ y. trimmed.number kept y a.0.num) a.2
-    ∙ ap (trimmed.number kept s) (sym (at_place r args s k ∙ ap (λ x. option_map_or (λ (o : Obj). o.num) x 0) a.1))
+    ∙ ap (λ y. trimmed.kept_before kept y a.0.num) a.2
+    ∙ ap (trimmed.kept_before kept s) (sym (at_place r args s k ∙ ap (λ x. option_map_or (λ (o : Obj). o.num) x 0) a.1))
 
 all_of_moves : (kept : List Obj) (s : Sort) (os : List Obj) → all_of s (map (obj_at kept) os) ≡ all_of s os
 all_of_moves kept s [] = refl
@@ -188,17 +188,17 @@ fits_moves kept r args =
 in_range : (r : Row) (l : Lit) (o : Obj) → all_in_scope (range r) l ≡ true → In o (objects_of_atom l.atom) → o.num < count_of (range r) o.sort
 in_range r l o h i = ltb-true o.num (count_of (range r) o.sort) (all_in (is_in_scope (range r)) (objects_of_atom l.atom) o h i)
 
-lit_moves : (kept : List Obj) (r : Row) (args : List Obj) (l : Lit) → arguments_fit r args ≡ true → all_in_scope (range r) l ≡ true → lit_at r (map (obj_at kept) args) l ≡ trimmed.lit_at kept (lit_at r args l)
+lit_moves : (kept : List Obj) (r : Row) (args : List Obj) (l : Lit) → arguments_fit r args ≡ true → all_in_scope (range r) l ≡ true → lit_at r (map (obj_at kept) args) l ≡ trimmed.lit_among_kept kept (lit_at r args l)
 lit_moves kept r args l f h =
     ap (λ a. record { neg = l.neg; atom = a })
     (moved_atom kept (numbers r args) (numbers r (map (obj_at kept) args)) l.atom (λ o i. number_moves kept r args o.sort o.num f (in_range r l o h i)))
 
 lits_move : (kept : List Obj) (r : Row) (args : List Obj) (ls : List Lit) → arguments_fit r args ≡ true → list_all (all_in_scope (range r)) ls ≡ true
-    → map (lit_at r (map (obj_at kept) args)) ls ≡ map (trimmed.lit_at kept) (map (lit_at r args) ls)
+    → map (lit_at r (map (obj_at kept) args)) ls ≡ map (trimmed.lit_among_kept kept) (map (lit_at r args) ls)
 lits_move kept r args [] f h = refl
 lits_move kept r args (l ∷ ls) f h =
     let p = and_parts (all_in_scope (range r) l) (list_all (all_in_scope (range r)) ls) h in
-    ap (λ x. x ∷ map (lit_at r (map (obj_at kept) args)) ls) (lit_moves kept r args l f p.0) ∙ ap (λ xs. trimmed.lit_at kept (lit_at r args l) ∷ xs) (lits_move kept r args ls f p.1)
+    ap (λ x. x ∷ map (lit_at r (map (obj_at kept) args)) ls) (lit_moves kept r args l f p.0) ∙ ap (λ xs. trimmed.lit_among_kept kept (lit_at r args l) ∷ xs) (lits_move kept r args ls f p.1)
 
 lit_over : (kept : List Obj) (r : Row) (args : List Obj) (l : Lit) → arguments_fit r args ≡ true → all_in_scope (range r) l ≡ true → AllKept kept args → OverLit kept (lit_at r args l)
 lit_over kept r args l f h k x i =
@@ -234,14 +234,14 @@ row_of rule args lits e =
     (a.0, a.1, b.0, b.1)
 
 -- the instance at the arguments over the kept objects
-pub inst_at : (kept : List Obj) (rule : ℕ) (args : List Obj) (lits : List Lit) → AllKept kept args → Inst rule args ≡ Some lits → Inst rule (map (obj_at kept) args) ≡ Some (map (trimmed.lit_at kept) lits)
+pub inst_at : (kept : List Obj) (rule : ℕ) (args : List Obj) (lits : List Lit) → AllKept kept args → Inst rule args ≡ Some lits → Inst rule (map (obj_at kept) args) ≡ Some (map (trimmed.lit_among_kept kept) lits)
 unfolding Inst
 inst_at kept rule args lits k e =
     let r = row_of rule args lits e in
     let args' = map (obj_at kept) args in
     ap (option_and_then (λ x. instance_of_row x args')) r.1
     ∙ ap (λ b. cond b (Some (map (lit_at r.0 args') (clause_of r.0))) None) (fits_moves kept r.0 args ∙ r.2)
-    ∙ ap Some (lits_move kept r.0 args (clause_of r.0) r.2 (closed_row rule r.0 r.1) ∙ ap (map (trimmed.lit_at kept)) r.3)
+    ∙ ap Some (lits_move kept r.0 args (clause_of r.0) r.2 (closed_row rule r.0 r.1) ∙ ap (map (trimmed.lit_among_kept kept)) r.3)
 
 -- its literals are over the kept objects where the arguments are
 pub inst_over : (kept : List Obj) (rule : ℕ) (args : List Obj) (lits : List Lit) → AllKept kept args → Inst rule args ≡ Some lits → OverLits kept lits

@@ -25,7 +25,7 @@ use Rattle.e_deriv.specs.Script.{Script, Cite, Hence, Make, Apply, Claim, Superp
 use Rattle.e_deriv.specs.Goal.{Goal, goal_of}
 use Rattle.e_deriv.specs.Fitting.{is_small}
 use Rattle.e_deriv.proofs.Scripts.{step_script-Claim, step_script-Superposed, close_script-Cases}
-use Rattle.e_trim.specs.Trimmed.{obj_at, lit_at, cert_at, against_at, by_at, form_at, superpose_at, args_at, trimmed_from}
+use Rattle.e_trim.specs.Trimmed.{obj_at, lit_among_kept, cert_at, against_at, by_at, construction_among_kept, superpose_at, args_at, trimmed_from}
 use Rattle.e_trim.specs.inner.Flags.{flags_of, step_flags}
 use Rattle.e_trim.specs.inner.Building.{StepIsBuilt, CloseIsBuilt, BlockIsBuilt, kept_step}
 use Rattle.e_trim.proofs.BuiltSteps.{room}
@@ -37,19 +37,19 @@ unfolding step_script
 cite_built before kept step by new s pile is e =
     subst (λ st. StepIsBuilt before kept st s pile pile (CiteStep new)) (sym is) (λ rest more facts under h. (ap (λ x. Cite x more) e, h ∙ append-nil under))
 
-pub hence_built : (before : List StatementView) (kept : List Obj) (step : Step) (lit new : Lit) (cert now : Option Cert) (s : Scope) (pile : List Bool) → step ≡ HenceStep lit cert → new ≡ lit_at kept lit → now ≡ option_map (cert_at kept) cert
+pub hence_built : (before : List StatementView) (kept : List Obj) (step : Step) (lit new : Lit) (cert now : Option Cert) (s : Scope) (pile : List Bool) → step ≡ HenceStep lit cert → new ≡ lit_among_kept kept lit → now ≡ option_map (cert_at kept) cert
     → StepIsBuilt before kept step s pile pile (HenceStep new now)
 unfolding step_script
 hence_built before kept step lit new cert now s pile is e f =
     subst (λ st. StepIsBuilt before kept st s pile pile (HenceStep new now)) (sym is)
-    (λ rest more facts under h. (ap (λ x. Hence x now more) e ∙ ap (λ x. Hence (lit_at kept lit) x more) f, h ∙ append-nil under))
+    (λ rest more facts under h. (ap (λ x. Hence x now more) e ∙ ap (λ x. Hence (lit_among_kept kept lit) x more) f, h ∙ append-nil under))
 
-pub make_built : (before : List StatementView) (kept : List Obj) (step : Step) (form new : Construction) (names same : List (List ℕ)) (certs now : List Cert) (s : Scope) (pile : List Bool) → step ≡ MakeStep form names certs → new ≡ form_at kept form → same ≡ names → now ≡ map (cert_at kept) certs
+pub make_built : (before : List StatementView) (kept : List Obj) (step : Step) (form new : Construction) (names same : List (List ℕ)) (certs now : List Cert) (s : Scope) (pile : List Bool) → step ≡ MakeStep form names certs → new ≡ construction_among_kept kept form → same ≡ names → now ≡ map (cert_at kept) certs
     → StepIsBuilt before kept step s pile pile (MakeStep new same now)
 unfolding step_script
 make_built before kept step form new names same certs now s pile is e n f =
     subst (λ st. StepIsBuilt before kept st s pile pile (MakeStep new same now)) (sym is)
-    (λ rest more facts under h. (ap (λ x. Make x same now more) e ∙ ap (λ x. Make (form_at kept form) x now more) n ∙ ap (λ x. Make (form_at kept form) names x more) f, h ∙ append-nil under))
+    (λ rest more facts under h. (ap (λ x. Make x same now more) e ∙ ap (λ x. Make (construction_among_kept kept form) x now more) n ∙ ap (λ x. Make (construction_among_kept kept form) names x more) f, h ∙ append-nil under))
 
 pub apply_built : (before : List StatementView) (kept : List Obj) (step : Step) (theorem : ℕ) (args new : List (Option Obj)) (names same : List (List ℕ)) (certs now : List Cert) (s : Scope) (pile : List Bool) → step ≡ ApplyStep theorem args names certs → new ≡ args_at kept args → same ≡ names
     → now ≡ map (cert_at kept) certs → StepIsBuilt before kept step s pile pile (ApplyStep theorem new same now)
@@ -58,14 +58,14 @@ apply_built before kept step theorem args new names same certs now s pile is e n
     subst (λ st. StepIsBuilt before kept st s pile pile (ApplyStep theorem new same now)) (sym is)
     (λ rest more facts under h. (ap (λ x. Apply theorem x same now more) e ∙ ap (λ x. Apply theorem (args_at kept args) x now more) n ∙ ap (λ x. Apply theorem (args_at kept args) names x more) f, h ∙ append-nil under))
 
-claim_done : (before : List StatementView) (kept : List Obj) (shown new : List Lit) (inner box : Box Block Global) (s : Scope) (pile left : List Bool) → new ≡ map (lit_at kept) shown → BlockIsBuilt before kept (script_of inner.value) s pile left box.value
+claim_done : (before : List StatementView) (kept : List Obj) (shown new : List Lit) (inner box : Box Block Global) (s : Scope) (pile left : List Bool) → new ≡ map (lit_among_kept kept) shown → BlockIsBuilt before kept (script_of inner.value) s pile left box.value
     → (rest more : Script) (facts : List Lit) (under : List Bool) → pile ≡ under ++ step_flags before (Claim shown (script_of inner.value) rest) s facts
     → (Claim new (script_of box.value) more ≡ kept_step before kept (Claim shown (script_of inner.value) rest) s facts more) × (left ≡ under)
 claim_done before kept shown new inner box s pile left e built rest more facts under h =
     let r = built facts (goal_of shown) under h in
-    (ap (λ x. Claim x (script_of box.value) more) e ∙ ap (λ x. Claim (map (lit_at kept) shown) x more) r.0, r.1)
+    (ap (λ x. Claim x (script_of box.value) more) e ∙ ap (λ x. Claim (map (lit_among_kept kept) shown) x more) r.0, r.1)
 
-pub claim_built : (before : List StatementView) (kept : List Obj) (step : Step) (shown new : List Lit) (inner box : Box Block Global) (s : Scope) (pile left : List Bool) → step ≡ ClaimBlock shown inner → new ≡ map (lit_at kept) shown
+pub claim_built : (before : List StatementView) (kept : List Obj) (step : Step) (shown new : List Lit) (inner box : Box Block Global) (s : Scope) (pile left : List Bool) → step ≡ ClaimBlock shown inner → new ≡ map (lit_among_kept kept) shown
     → BlockIsBuilt before kept (script_of inner.value) s pile left box.value → StepIsBuilt before kept step s pile left (ClaimBlock new box)
 claim_built before kept step shown new inner box s pile left is e built =
     subst (λ st. StepIsBuilt before kept st s pile left (ClaimBlock new box)) (sym is)
@@ -75,7 +75,7 @@ claim_built before kept step shown new inner box s pile left is e built =
     (step_script-Claim new box more ∙ r.0 ∙ ap (λ d. kept_step before kept d s facts more) (sym old), r.1))
 
 superposed_done : (before : List StatementView) (kept wide : List Obj) (form : Superpose) (now : Superpose) (names same : List (List ℕ)) (shown new : List Lit) (certs cs : List Cert) (inner box : Box Block Global) (s : Scope) (pile left : List Bool)
-    → wide ≡ kept ++ next_objects s superposing.sorts_copied → now ≡ superpose_at kept form → same ≡ names → new ≡ map (lit_at kept) shown → cs ≡ map (cert_at kept) certs
+    → wide ≡ kept ++ next_objects s superposing.sorts_copied → now ≡ superpose_at kept form → same ≡ names → new ≡ map (lit_among_kept kept) shown → cs ≡ map (cert_at kept) certs
     → BlockIsBuilt before wide (script_of inner.value) (grown s superposing.sorts_copied) pile left box.value
     → (rest more : Script) (facts : List Lit) (under : List Bool) → pile ≡ under ++ step_flags before (Superposed form names shown certs (script_of inner.value) rest) s facts
     → (Superposed now same new cs (script_of box.value) more ≡ kept_step before kept (Superposed form names shown certs (script_of inner.value) rest) s facts more) × (left ≡ under)
@@ -85,14 +85,14 @@ superposed_done before kept wide form now names same shown new certs cs inner bo
       ap (λ x. Superposed x same new cs (script_of box.value) more) f
           ∙ ap (λ x. Superposed (superpose_at kept form) x new cs (script_of box.value) more) n
           ∙ ap (λ x. Superposed (superpose_at kept form) names x cs (script_of box.value) more) e
-          ∙ ap (λ x. Superposed (superpose_at kept form) names (map (lit_at kept) shown) x (script_of box.value) more) g
-          ∙ ap (λ x. Superposed (superpose_at kept form) names (map (lit_at kept) shown) (map (cert_at kept) certs) x more)
+          ∙ ap (λ x. Superposed (superpose_at kept form) names (map (lit_among_kept kept) shown) x (script_of box.value) more) g
+          ∙ ap (λ x. Superposed (superpose_at kept form) names (map (lit_among_kept kept) shown) (map (cert_at kept) certs) x more)
           (r.0 ∙ ap (λ ks. trimmed_from before ks (script_of inner.value) (grown s superposing.sorts_copied) opened (goal_of shown)) w),
       r.1,
     )
 
 pub superposed_built : (before : List StatementView) (kept wide : List Obj) (step : Step) (form now : Superpose) (names same : List (List ℕ)) (shown new : List Lit) (certs cs : List Cert) (inner box : Box Block Global) (s : Scope) (pile left : List Bool)
-    → step ≡ SuperposedBlock form names shown certs inner → wide ≡ kept ++ next_objects s superposing.sorts_copied → now ≡ superpose_at kept form → same ≡ names → new ≡ map (lit_at kept) shown → cs ≡ map (cert_at kept) certs
+    → step ≡ SuperposedBlock form names shown certs inner → wide ≡ kept ++ next_objects s superposing.sorts_copied → now ≡ superpose_at kept form → same ≡ names → new ≡ map (lit_among_kept kept) shown → cs ≡ map (cert_at kept) certs
     → BlockIsBuilt before wide (script_of inner.value) (grown s superposing.sorts_copied) pile left box.value → StepIsBuilt before kept step s pile left (SuperposedBlock now same new cs box)
 superposed_built before kept wide step form now names same shown new certs cs inner box s pile left is w f n e g built =
     subst (λ st. StepIsBuilt before kept st s pile left (SuperposedBlock now same new cs box)) (sym is)
@@ -116,7 +116,7 @@ unfolding close_script flags_of trimmed_from
 contradiction_built before kept close against new s pile is e =
     subst (λ cl. CloseIsBuilt before kept (close_script cl) s pile pile (ContradictionClose new)) (sym is) (λ facts goal under h. (ap Contradiction e, h ∙ append-nil under))
 
-cases_done : (before : List StatementView) (kept : List Obj) (lit new : Lit) (first second one other : Box Block Global) (s : Scope) (pile over left : List Bool) → new ≡ lit_at kept lit
+cases_done : (before : List StatementView) (kept : List Obj) (lit new : Lit) (first second one other : Box Block Global) (s : Scope) (pile over left : List Bool) → new ≡ lit_among_kept kept lit
     → BlockIsBuilt before kept (script_of first.value) s pile over one.value → BlockIsBuilt before kept (script_of second.value) s over left other.value
     → (facts : List Lit) (goal : Goal) (under : List Bool) → pile ≡ under ++ flags_of before (Cases lit (script_of first.value) (script_of second.value)) s facts goal
     → (Cases new (script_of one.value) (script_of other.value) ≡ trimmed_from before kept (Cases lit (script_of first.value) (script_of second.value)) s facts goal) × (left ≡ under)
@@ -125,12 +125,12 @@ cases_done before kept lit new first second one other s pile over left e built b
     let lower = flags_of before (script_of second.value) s (joined facts (negation lit)) goal in
     let a = built (joined facts lit) goal (under ++ lower) (h ∙ sym (append_assoc under lower (flags_of before (script_of first.value) s (joined facts lit) goal))) in
     let b = built_other (joined facts (negation lit)) goal under a.1 in (
-      ap (λ x. Cases x (script_of one.value) (script_of other.value)) e ∙ ap (λ x. Cases (lit_at kept lit) x (script_of other.value)) a.0
-          ∙ ap (λ x. Cases (lit_at kept lit) (trimmed_from before kept (script_of first.value) s (joined facts lit) goal) x) b.0,
+      ap (λ x. Cases x (script_of one.value) (script_of other.value)) e ∙ ap (λ x. Cases (lit_among_kept kept lit) x (script_of other.value)) a.0
+          ∙ ap (λ x. Cases (lit_among_kept kept lit) (trimmed_from before kept (script_of first.value) s (joined facts lit) goal) x) b.0,
       b.1,
     )
 
-pub cases_built : (before : List StatementView) (kept : List Obj) (close : Close) (lit new : Lit) (first second one other : Box Block Global) (s : Scope) (pile over left : List Bool) → close ≡ CasesBlock lit first second → new ≡ lit_at kept lit
+pub cases_built : (before : List StatementView) (kept : List Obj) (close : Close) (lit new : Lit) (first second one other : Box Block Global) (s : Scope) (pile over left : List Bool) → close ≡ CasesBlock lit first second → new ≡ lit_among_kept kept lit
     → BlockIsBuilt before kept (script_of first.value) s pile over one.value → BlockIsBuilt before kept (script_of second.value) s over left other.value
     → CloseIsBuilt before kept (close_script close) s pile left (CasesBlock new one other)
 cases_built before kept close lit new first second one other s pile over left is e built built_other =

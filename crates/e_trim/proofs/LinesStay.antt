@@ -22,7 +22,7 @@ use Rattle.e_clause.specs.RuleKinds.{is_diagram_rule}
 use Rattle.e_clause.specs.Citing.{is_citation, instance_gives, is_cited}
 use Rattle.e_deriv.specs.Goal.{Goal, goal_of, goal_of_statement}
 use Rattle.e_trim.specs.Looked.{Wants, of_citation}
-use Rattle.e_trim.specs.Trimmed.{supplies, is_needed, obj_at, lit_at, by_at, declared_of}
+use Rattle.e_trim.specs.Trimmed.{supplies, is_needed, obj_at, lit_among_kept, by_at, declared_of}
 use Rattle.e_trim.proofs.FormsOfSteps.{next_in}
 use Rattle.e_trim.proofs.Members.{In, in_left, in_right, in_either, any_in, of_filter}
 use Rattle.e_trim.proofs.Counting.{Bound, scope_kept, bound_more, bound_wide, next_above}
@@ -38,11 +38,11 @@ map_or_is f (Some x) e = (x, refl, e)
 -- ---- citations
 
 -- each of the literals is looked up, and was a fact: it is one still
-all_still : (kept : List Obj) (facts now looked ls : List Lit) → Stays kept facts now looked → OverLits kept ls → ((l : Lit) → In l ls → has looked l ≡ true) → has_all facts ls ≡ true → has_all now (map (lit_at kept) ls) ≡ true
+all_still : (kept : List Obj) (facts now looked ls : List Lit) → Stays kept facts now looked → OverLits kept ls → ((l : Lit) → In l ls → has looked l ≡ true) → has_all facts ls ≡ true → has_all now (map (lit_among_kept kept) ls) ≡ true
 all_still kept facts now looked [] st o up h = refl
 all_still kept facts now looked (l ∷ ls) st o up h =
     let p = and_parts (has facts l) (has_all facts ls) h in
-    and_from (has now (lit_at kept l)) (has_all now (map (lit_at kept) ls)) (still_has kept facts now looked l st (up l (inl refl)) (o l (inl refl)) p.0)
+    and_from (has now (lit_among_kept kept l)) (has_all now (map (lit_among_kept kept) ls)) (still_has kept facts now looked l st (up l (inl refl)) (o l (inl refl)) p.0)
     (all_still kept facts now looked ls st (λ m i. o m (inr i)) (λ m i. up m (inr i)) p.1)
 
 negated_over : (kept : List Obj) (ls : List Lit) → OverLits kept ls → OverLits kept (map negation ls)
@@ -56,9 +56,9 @@ citation_fits kept s by h k o =
     let q = and_parts (list_all (is_in_scope s) by.args) (all_in_scope s by.lit && is_some (Inst by.rule by.args)) p.1 in
     let r = and_parts (all_in_scope s by.lit) (is_some (Inst by.rule by.args)) q.1 in
     let i = there (Inst by.rule by.args) r.1 in
-    and_from (is_diagram_rule by.rule) (list_all (is_in_scope (scope_kept kept)) (map (obj_at kept) by.args) && (all_in_scope (scope_kept kept) (lit_at kept by.lit) && is_some (Inst by.rule (map (obj_at kept) by.args)))) p.0
-    (and_from (list_all (is_in_scope (scope_kept kept)) (map (obj_at kept) by.args)) (all_in_scope (scope_kept kept) (lit_at kept by.lit) && is_some (Inst by.rule (map (obj_at kept) by.args))) (objects_scope kept by.args k)
-    (and_from (all_in_scope (scope_kept kept) (lit_at kept by.lit)) (is_some (Inst by.rule (map (obj_at kept) by.args))) (scope_over kept by.lit o)
+    and_from (is_diagram_rule by.rule) (list_all (is_in_scope (scope_kept kept)) (map (obj_at kept) by.args) && (all_in_scope (scope_kept kept) (lit_among_kept kept by.lit) && is_some (Inst by.rule (map (obj_at kept) by.args)))) p.0
+    (and_from (list_all (is_in_scope (scope_kept kept)) (map (obj_at kept) by.args)) (all_in_scope (scope_kept kept) (lit_among_kept kept by.lit) && is_some (Inst by.rule (map (obj_at kept) by.args))) (objects_scope kept by.args k)
+    (and_from (all_in_scope (scope_kept kept) (lit_among_kept kept by.lit)) (is_some (Inst by.rule (map (obj_at kept) by.args))) (scope_over kept by.lit o)
     (ap is_some (inst_at kept by.rule by.args i.0 k i.1))))
   where
     there : (x : Option (List Lit)) → is_some x ≡ true → (ls : List Lit) × (x ≡ Some ls)
@@ -75,10 +75,10 @@ cited_still kept facts now looked by st k o c h =
     let rest_over : OverLits kept rest = λ m i. over m (of_filter (λ (x : Lit). not (Rattle.e_literal.specs.Same.same_lit x by.lit)) m lits i).0 in
     let up : (l : Lit) → In l (map negation rest) → has looked l ≡ true
     = λ l i. c.lits l (subst (λ x. In l (option_map_or (λ ls. map negation (others ls by.lit)) x [])) (sym a.1) i) in
-    let lits' = map (lit_at kept) lits in
-    let moved : map negation (others lits' (lit_at kept by.lit)) ≡ map (lit_at kept) (map negation rest) = ap (map negation) (others_at kept lits by.lit over o) ∙ negations_at kept rest in
-    ap (λ x. option_map_or (instance_gives now (lit_at kept by.lit)) x false) (inst_at kept by.rule by.args lits k a.1)
-    ∙ and_from (has lits' (lit_at kept by.lit)) (has_all now (map negation (others lits' (lit_at kept by.lit)))) (has_at kept lits by.lit over o ∙ p.0)
+    let lits' = map (lit_among_kept kept) lits in
+    let moved : map negation (others lits' (lit_among_kept kept by.lit)) ≡ map (lit_among_kept kept) (map negation rest) = ap (map negation) (others_at kept lits by.lit over o) ∙ negations_at kept rest in
+    ap (λ x. option_map_or (instance_gives now (lit_among_kept kept by.lit)) x false) (inst_at kept by.rule by.args lits k a.1)
+    ∙ and_from (has lits' (lit_among_kept kept by.lit)) (has_all now (map negation (others lits' (lit_among_kept kept by.lit)))) (has_at kept lits by.lit over o ∙ p.0)
     (ap (has_all now) moved ∙ all_still kept facts now looked (map negation rest) st (negated_over kept rest rest_over) up p.1)
 
 -- ---- the goal of a block, before and now
@@ -87,7 +87,7 @@ cited_still kept facts now looked by st k o c h =
 pub record ShownGoes (kept : List Obj) (goal now : Goal) : Type 0 where
   pub shown : List Lit
   pub before : goal ≡ goal_of shown
-  pub after : now ≡ goal_of (map (lit_at kept) shown)
+  pub after : now ≡ goal_of (map (lit_among_kept kept) shown)
   pub over : OverLits kept shown
 
 -- or that of the statement, whose declared objects are the first kept ones
@@ -119,10 +119,10 @@ pub goal_grows : (kept : List Obj) (s : Scope) (xs : List Sort) (goal now : Goal
 goal_grows kept s xs goal now b (inl g) =
     inl (record { shown = g.shown; before = g.before; after = g.after ∙ ap goal_of (old_lits kept s xs g.shown b g.over); over = λ l i. over_more kept (next_objects s xs) l (g.over l i) })
   where
-    old_lits : (kept : List Obj) (s : Scope) (xs : List Sort) (ls : List Lit) → Bound s kept → OverLits kept ls → map (lit_at kept) ls ≡ map (lit_at (kept ++ next_objects s xs)) ls
+    old_lits : (kept : List Obj) (s : Scope) (xs : List Sort) (ls : List Lit) → Bound s kept → OverLits kept ls → map (lit_among_kept kept) ls ≡ map (lit_among_kept (kept ++ next_objects s xs)) ls
     old_lits kept s xs [] b o = refl
     old_lits kept s xs (l ∷ ls) b o =
-        ap (λ x. x ∷ map (lit_at kept) ls) (sym (lit_stays kept s xs l b (o l (inl refl)))) ∙ ap (λ ys. lit_at (kept ++ next_objects s xs) l ∷ ys) (old_lits kept s xs ls b (λ m i. o m (inr i)))
+        ap (λ x. x ∷ map (lit_among_kept kept) ls) (sym (lit_stays kept s xs l b (o l (inl refl)))) ∙ ap (λ ys. lit_among_kept (kept ++ next_objects s xs) l ∷ ys) (old_lits kept s xs ls b (λ m i. o m (inr i)))
 goal_grows kept s xs goal now b (inr g) = inr (record {
   statement = g.statement;
   before = g.before;
@@ -153,7 +153,7 @@ goal_widens kept s xs goal now (inr g) = inr (record {
 
 -- a kept step that makes objects: what it gives joins on both sides, over the new objects too
 pub made_ready : (kept : List Obj) (s : Scope) (xs : List Sort) (facts now ls : List Lit) (goal goal' : Goal) (w : Wants) → OverLits (kept ++ next_objects s xs) ls → Ready kept s facts now goal goal' w
-    → Ready (kept ++ next_objects s xs) (grown s xs) (joined_all facts ls) (joined_all now (map (lit_at (kept ++ next_objects s xs)) ls)) goal goal' w
+    → Ready (kept ++ next_objects s xs) (grown s xs) (joined_all facts ls) (joined_all now (map (lit_among_kept (kept ++ next_objects s xs)) ls)) goal goal' w
 made_ready kept s xs facts now ls goal goal' w o r = record {
   stays = joins_all (kept ++ next_objects s xs) facts now w.lits ls o (comes kept s xs facts now w.lits r.bound r.stays);
   needed = λ x i h. elim (cases_lt x.num (count_of s x.sort)) [

@@ -18,7 +18,7 @@ use Rattle.e_literal.specs.Facts.{has, others}
 use Rattle.e_literal.proofs.WithImages.{is_moved_in, renamed_scope}
 use Rattle.e_literal.proofs.Agreeing.{same_lit_self}
 use Rattle.e_literal.proofs.NormalLiterals.{normals_are_same}
-use Rattle.e_trim.specs.Trimmed.{number, obj_at, image_of, lit_at}
+use Rattle.e_trim.specs.Trimmed.{kept_before, obj_at, image_among_kept, lit_among_kept}
 use Rattle.e_trim.proofs.Members.{In, in_left, in_right, in_either, any_in, in_any, in_all}
 use Rattle.e_trim.proofs.Counting.{OfSort, same_number, keeps, scope_kept, in_scope_kept}
 use Rattle.e_trim.proofs.TermsAt.{Over}
@@ -55,14 +55,14 @@ over_sum kept (m ∷ ms) h =
     (over_term kept m.term (left_kept kept (objects_of_term m.term) (objects_of_sum ms) h), over_sum kept ms (right_kept kept (objects_of_term m.term) (objects_of_sum ms) h))
 
 -- a literal over kept objects is in scope of them
-pub scope_over : (kept : List Obj) (l : Lit) → OverLit kept l → all_in_scope (scope_kept kept) (lit_at kept l) ≡ true
+pub scope_over : (kept : List Obj) (l : Lit) → OverLit kept l → all_in_scope (scope_kept kept) (lit_among_kept kept l) ≡ true
 scope_over kept l h =
-    renamed_scope (scope_kept kept) (image_of kept) l ∙ in_all (is_moved_in (scope_kept kept) (image_of kept)) (objects_of_atom l.atom) (λ o i. in_scope_kept kept o (h o i))
+    renamed_scope (scope_kept kept) (image_among_kept kept) l ∙ in_all (is_moved_in (scope_kept kept) (image_among_kept kept)) (objects_of_atom l.atom) (λ o i. in_scope_kept kept o (h o i))
 
-pub term_scope : (kept : List Obj) (t : Term) → AllKept kept (objects_of_term t) → list_all (is_in_scope (scope_kept kept)) (objects_of_term (term_at (number kept Point) t)) ≡ true
-term_scope kept t h = moved t ∙ in_all (is_moved_in (scope_kept kept) (image_of kept)) (objects_of_term t) (λ o i. in_scope_kept kept o (h o i))
+pub term_scope : (kept : List Obj) (t : Term) → AllKept kept (objects_of_term t) → list_all (is_in_scope (scope_kept kept)) (objects_of_term (term_at (kept_before kept Point) t)) ≡ true
+term_scope kept t h = moved t ∙ in_all (is_moved_in (scope_kept kept) (image_among_kept kept)) (objects_of_term t) (λ o i. in_scope_kept kept o (h o i))
   where
-    moved : (t : Term) → list_all (is_in_scope (scope_kept kept)) (objects_of_term (term_at (number kept Point) t)) ≡ list_all (is_moved_in (scope_kept kept) (image_of kept)) (objects_of_term t)
+    moved : (t : Term) → list_all (is_in_scope (scope_kept kept)) (objects_of_term (term_at (kept_before kept Point) t)) ≡ list_all (is_moved_in (scope_kept kept) (image_among_kept kept)) (objects_of_term t)
     moved (Seg a b) = refl
     moved (Ang a b c) = refl
     moved (Area a b c) = refl
@@ -74,29 +74,29 @@ objects_scope kept (o ∷ os) h =
     and_from (is_in_scope (scope_kept kept) (obj_at kept o)) (list_all (is_in_scope (scope_kept kept)) (map (obj_at kept) os))
     (in_scope_kept kept o (h o (inl refl))) (objects_scope kept os (λ k i. h k (inr i)))
 
-pub lits_scope : (kept : List Obj) (ls : List Lit) → OverLits kept ls → list_all (all_in_scope (scope_kept kept)) (map (lit_at kept) ls) ≡ true
+pub lits_scope : (kept : List Obj) (ls : List Lit) → OverLits kept ls → list_all (all_in_scope (scope_kept kept)) (map (lit_among_kept kept) ls) ≡ true
 lits_scope kept [] h = refl
 lits_scope kept (l ∷ ls) h =
-    and_from (all_in_scope (scope_kept kept) (lit_at kept l)) (list_all (all_in_scope (scope_kept kept)) (map (lit_at kept) ls))
+    and_from (all_in_scope (scope_kept kept) (lit_among_kept kept l)) (list_all (all_in_scope (scope_kept kept)) (map (lit_among_kept kept) ls))
     (scope_over kept l (h l (inl refl))) (lits_scope kept ls (λ k i. h k (inr i)))
 
 -- ---- the same
 
 two_at : (kept : List Obj) (x y : Sort) (a b c d : ℕ) → In (obj x a) kept → In (obj y b) kept → In (obj x c) kept → In (obj y d) kept
-    → (eqb (number kept x a) (number kept x c) && eqb (number kept y b) (number kept y d)) ≡ (eqb a c && eqb b d)
+    → (eqb (kept_before kept x a) (kept_before kept x c) && eqb (kept_before kept y b) (kept_before kept y d)) ≡ (eqb a c && eqb b d)
 two_at kept x y a b c d ha hb hc hd =
-    ap (λ t. t && eqb (number kept y b) (number kept y d)) (same_number kept x a c ha hc) ∙ ap (λ t. eqb a c && t) (same_number kept y b d hb hd)
+    ap (λ t. t && eqb (kept_before kept y b) (kept_before kept y d)) (same_number kept x a c ha hc) ∙ ap (λ t. eqb a c && t) (same_number kept y b d hb hd)
 
 three_at : (kept : List Obj) (x y z : Sort) (a b c d e f : ℕ) → In (obj x a) kept → In (obj y b) kept → In (obj z c) kept → In (obj x d) kept → In (obj y e) kept → In (obj z f) kept
-    → (eqb (number kept x a) (number kept x d) && (eqb (number kept y b) (number kept y e) && eqb (number kept z c) (number kept z f))) ≡ (eqb a d && (eqb b e && eqb c f))
+    → (eqb (kept_before kept x a) (kept_before kept x d) && (eqb (kept_before kept y b) (kept_before kept y e) && eqb (kept_before kept z c) (kept_before kept z f))) ≡ (eqb a d && (eqb b e && eqb c f))
 three_at kept x y z a b c d e f ha hb hc hd he hf =
-    ap (λ t. t && (eqb (number kept y b) (number kept y e) && eqb (number kept z c) (number kept z f))) (same_number kept x a d ha hd)
+    ap (λ t. t && (eqb (kept_before kept y b) (kept_before kept y e) && eqb (kept_before kept z c) (kept_before kept z f))) (same_number kept x a d ha hd)
     ∙ ap (λ t. eqb a d && t) (two_at kept y z b c e f hb hc he hf)
 
 agree_at : (kept : List Obj) (x y z w : List Mono) → AllKept kept (objects_of_sum x ++ objects_of_sum y) → AllKept kept (objects_of_sum z ++ objects_of_sum w)
-    → agree (map (mono_at (number kept Point)) x) (map (mono_at (number kept Point)) y) (map (mono_at (number kept Point)) z) (map (mono_at (number kept Point)) w) ≡ agree x y z w
+    → agree (map (mono_at (kept_before kept Point)) x) (map (mono_at (kept_before kept Point)) y) (map (mono_at (kept_before kept Point)) z) (map (mono_at (kept_before kept Point)) w) ≡ agree x y z w
 agree_at kept x y z w h k =
-    agree_stays (number kept Point) (OfSort kept Point) (keeps kept) x y z w
+    agree_stays (kept_before kept Point) (OfSort kept Point) (keeps kept) x y z w
     (over_sum kept x (left_kept kept (objects_of_sum x) (objects_of_sum y) h)) (over_sum kept y (right_kept kept (objects_of_sum x) (objects_of_sum y) h))
     (over_sum kept z (left_kept kept (objects_of_sum z) (objects_of_sum w) k)) (over_sum kept w (right_kept kept (objects_of_sum z) (objects_of_sum w) k))
 
@@ -107,7 +107,7 @@ turned_kept kept x y h o i = elim (in_either o (objects_of_sum y) (objects_of_su
 ]
 
 abbrev at : List Obj → Atom → Atom
-at kept a = atom_at (number kept Point) (number kept Line) (number kept Circle) a
+at kept a = atom_at (kept_before kept Point) (kept_before kept Line) (kept_before kept Circle) a
 
 atoms_at : (kept : List Obj) (a b : Atom) → AllKept kept (objects_of_atom a) → AllKept kept (objects_of_atom b) → same_atom (at kept a) (at kept b) ≡ same_atom a b
 atoms_at kept (On a l) (On b m) h k = two_at kept Point Line a l b m (h (obj Point a) (inl refl)) (h (obj Line l) (inr (inl refl))) (k (obj Point b) (inl refl)) (k (obj Line m) (inr (inl refl)))
@@ -129,7 +129,7 @@ atoms_at kept (MagLt x y) (MagLt z w) h k = agree_at kept x y z w h k
 atoms_at kept a b h k = refl
 
 -- literals over kept objects are the same where they were
-pub same_at : (kept : List Obj) (x y : Lit) → OverLit kept x → OverLit kept y → same_lit (lit_at kept x) (lit_at kept y) ≡ same_lit x y
+pub same_at : (kept : List Obj) (x y : Lit) → OverLit kept x → OverLit kept y → same_lit (lit_among_kept kept x) (lit_among_kept kept y) ≡ same_lit x y
 same_at kept x y h k = ap (λ b. same_neg x.neg y.neg && b) (atoms_at kept x.atom y.atom h k)
 
 pub same_turned : (x y : Lit) → same_lit x y ≡ true → same_lit y x ≡ true
@@ -153,22 +153,22 @@ pub has_same : (facts : List Lit) (m l : Lit) → has facts m ≡ true → same_
 has_same facts m l h e = let r = has_in facts m h in in_has facts r.0 l r.1 (same_along r.0 m l r.2 e)
 
 -- among literals over kept objects
-pub has_at : (kept : List Obj) (ls : List Lit) (l : Lit) → OverLits kept ls → OverLit kept l → has (map (lit_at kept) ls) (lit_at kept l) ≡ has ls l
+pub has_at : (kept : List Obj) (ls : List Lit) (l : Lit) → OverLits kept ls → OverLit kept l → has (map (lit_among_kept kept) ls) (lit_among_kept kept l) ≡ has ls l
 has_at kept [] l h k = refl
 has_at kept (m ∷ ls) l h k =
-    ap (λ b. b || has (map (lit_at kept) ls) (lit_at kept l)) (same_at kept m l (h m (inl refl)) k)
+    ap (λ b. b || has (map (lit_among_kept kept) ls) (lit_among_kept kept l)) (same_at kept m l (h m (inl refl)) k)
     ∙ ap (λ b. same_lit m l || b) (has_at kept ls l (λ x i. h x (inr i)) k)
 
-others_step : (kept : List Obj) (b : Bool) (m : Lit) (ms ns : List Lit) → ns ≡ map (lit_at kept) ms → cond b (lit_at kept m ∷ ns) ns ≡ map (lit_at kept) (cond b (m ∷ ms) ms)
-others_step kept true m ms ns e = ap (λ xs. lit_at kept m ∷ xs) e
+others_step : (kept : List Obj) (b : Bool) (m : Lit) (ms ns : List Lit) → ns ≡ map (lit_among_kept kept) ms → cond b (lit_among_kept kept m ∷ ns) ns ≡ map (lit_among_kept kept) (cond b (m ∷ ms) ms)
+others_step kept true m ms ns e = ap (λ xs. lit_among_kept kept m ∷ xs) e
 others_step kept false m ms ns e = e
 
-pub others_at : (kept : List Obj) (ls : List Lit) (l : Lit) → OverLits kept ls → OverLit kept l → others (map (lit_at kept) ls) (lit_at kept l) ≡ map (lit_at kept) (others ls l)
+pub others_at : (kept : List Obj) (ls : List Lit) (l : Lit) → OverLits kept ls → OverLit kept l → others (map (lit_among_kept kept) ls) (lit_among_kept kept l) ≡ map (lit_among_kept kept) (others ls l)
 others_at kept [] l h k = refl
 others_at kept (m ∷ ls) l h k =
-    ap (λ b. cond (not b) (lit_at kept m ∷ others (map (lit_at kept) ls) (lit_at kept l)) (others (map (lit_at kept) ls) (lit_at kept l))) (same_at kept m l (h m (inl refl)) k)
-    ∙ others_step kept (not (same_lit m l)) m (others ls l) (others (map (lit_at kept) ls) (lit_at kept l)) (others_at kept ls l (λ x i. h x (inr i)) k)
+    ap (λ b. cond (not b) (lit_among_kept kept m ∷ others (map (lit_among_kept kept) ls) (lit_among_kept kept l)) (others (map (lit_among_kept kept) ls) (lit_among_kept kept l))) (same_at kept m l (h m (inl refl)) k)
+    ∙ others_step kept (not (same_lit m l)) m (others ls l) (others (map (lit_among_kept kept) ls) (lit_among_kept kept l)) (others_at kept ls l (λ x i. h x (inr i)) k)
 
-pub negations_at : (kept : List Obj) (ls : List Lit) → map negation (map (lit_at kept) ls) ≡ map (lit_at kept) (map negation ls)
+pub negations_at : (kept : List Obj) (ls : List Lit) → map negation (map (lit_among_kept kept) ls) ≡ map (lit_among_kept kept) (map negation ls)
 negations_at kept [] = refl
-negations_at kept (l ∷ ls) = ap (λ xs. lit_at kept (negation l) ∷ xs) (negations_at kept ls)
+negations_at kept (l ∷ ls) = ap (λ xs. lit_among_kept kept (negation l) ∷ xs) (negations_at kept ls)

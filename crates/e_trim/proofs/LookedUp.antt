@@ -11,7 +11,7 @@ use Rattle.e_literal.specs.Facts.{others}
 use Rattle.e_clause.specs.declared.cert.Part.{Part}
 use Rattle.e_clause.specs.Instance.{Inst}
 use Rattle.e_trim.specs.Looked.{Wants, no_wants, both, needed, first_that, of_part, of_parts}
-use Rattle.e_trim.specs.inner.Wanted.{negated_in, of_negated}
+use Rattle.e_trim.specs.inner.Wanted.{negations_of_others, of_negated}
 use Rattle.e_trim.proofs.Both.{both-none, both-assoc}
 
 -- ---- the first fact that is so
@@ -47,7 +47,7 @@ negated_parts facts (l ∷ ls) [] = refl
 negated_parts facts (l ∷ ls) (p ∷ ps) = ap (both (of_part facts (negation l) p)) (negated_parts facts ls ps)
 
 -- the parts of a transfer
-pub transfer_parts : (facts : List Lit) (rule : ℕ) (args : List Obj) (l : Lit) (ps : List Part) → of_negated facts (negated_in rule args l) ps ≡ option_map_or (λ lits. of_parts facts (others lits l) ps) (Inst rule args) no_wants
+pub transfer_parts : (facts : List Lit) (rule : ℕ) (args : List Obj) (l : Lit) (ps : List Part) → of_negated facts (negations_of_others rule args l) ps ≡ option_map_or (λ lits. of_parts facts (others lits l) ps) (Inst rule args) no_wants
 transfer_parts facts rule args l ps = by (Inst rule args)
   where
     none : (ps : List Part) → of_negated facts [] ps ≡ no_wants

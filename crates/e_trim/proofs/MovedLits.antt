@@ -12,7 +12,7 @@ use Rattle.e_literal.specs.declared.literal.Atom.TheVariants.{On, OnC, Inside, C
 use Rattle.e_literal.specs.declared.literal.Lit.{Lit}
 use Rattle.e_literal.specs.Literal.{obj, objects_of_term, objects_of_sum, objects_of_atom}
 use Rattle.e_literal.specs.Rename.{term_at, mono_at, atom_at}
-use Rattle.e_trim.specs.Trimmed.{number, lit_at}
+use Rattle.e_trim.specs.Trimmed.{kept_before, lit_among_kept}
 use Rattle.e_trim.proofs.Members.{In, in_left, in_right}
 
 -- the number that takes the place of one of a sort
@@ -70,8 +70,8 @@ same_atom_by f g (MagLt x y) h =
     ∙ ap (MagLt (map (mono_at (g Point)) x)) (same_sum f g y (right_agree f g (objects_of_sum x) (objects_of_sum y) h))
 
 -- with the same numbers a literal is the same
-pub with_numbers : (kept more : List Obj) (l : Lit) → Agree (number more) (number kept) (objects_of_atom l.atom) → lit_at more l ≡ lit_at kept l
-with_numbers kept more l h = ap (λ a. record { neg = l.neg; atom = a }) (same_atom_by (number more) (number kept) l.atom h)
+pub with_numbers : (kept more : List Obj) (l : Lit) → Agree (kept_before more) (kept_before kept) (objects_of_atom l.atom) → lit_among_kept more l ≡ lit_among_kept kept l
+with_numbers kept more l h = ap (λ a. record { neg = l.neg; atom = a }) (same_atom_by (kept_before more) (kept_before kept) l.atom h)
 
 -- ---- numbers after numbers
 
@@ -96,8 +96,8 @@ atom_after g f (MagLt x y) = ap (λ n. MagLt n (map (mono_at (g Point)) (map (mo
 atom_after g f a = refl
 
 -- a literal by some numbers, over the kept objects, is the literal by others, where these are the new numbers of those
-pub moved_atom : (kept : List Obj) (f g : Numbers) (a : Atom) → Agree g (after (number kept) f) (objects_of_atom a) → atom_by g a ≡ atom_by (number kept) (atom_by f a)
-moved_atom kept f g a h = same_atom_by g (after (number kept) f) a h ∙ sym (atom_after (number kept) f a)
+pub moved_atom : (kept : List Obj) (f g : Numbers) (a : Atom) → Agree g (after (kept_before kept) f) (objects_of_atom a) → atom_by g a ≡ atom_by (kept_before kept) (atom_by f a)
+moved_atom kept f g a h = same_atom_by g (after (kept_before kept) f) a h ∙ sym (atom_after (kept_before kept) f a)
 
 -- ---- the objects of a literal by some numbers
 

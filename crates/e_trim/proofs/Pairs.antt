@@ -10,7 +10,7 @@ use Rattle.e_literal.specs.declared.literal.Lit.{Lit}
 use Rattle.e_literal.specs.Literal.{objects_of_atom}
 use Rattle.e_literal.specs.Rename.{renamed, number_at, same_obj, image_in, paired, has_images}
 use Rattle.e_literal.proofs.Sorts.{same_obj_is}
-use Rattle.e_trim.specs.Trimmed.{number, obj_at, lit_at}
+use Rattle.e_trim.specs.Trimmed.{kept_before, obj_at, lit_among_kept}
 use Rattle.e_trim.proofs.Members.{all_in}
 use Rattle.e_trim.proofs.MovedLits.{moved_atom}
 
@@ -52,26 +52,26 @@ is_there None h = absurd (true≢false (sym h))
 is_there (Some x) h = (x, refl)
 
 pub number_moves : (kept vars args : List Obj) (o : Obj) → sorts vars ≡ sorts args → is_some (image_in (paired vars args) o) ≡ true
-    → number_at (image_in (paired vars (map (obj_at kept) args))) o.sort o.num ≡ number kept o.sort (number_at (image_in (paired vars args)) o.sort o.num)
+    → number_at (image_in (paired vars (map (obj_at kept) args))) o.sort o.num ≡ kept_before kept o.sort (number_at (image_in (paired vars args)) o.sort o.num)
 number_moves kept vars args o s h =
     let i = is_there (image_in (paired vars args) o) h in
     let sort = image_sort vars args o i.0 s i.1 in
     ap (λ x. option_map_or (λ (y : Obj). y.num) x o.num) (image_at kept vars args o ∙ ap (option_map (obj_at kept)) i.1)
-    ∙ ap (λ y. number kept y i.0.num) sort
-    ∙ sym (ap (λ x. number kept o.sort (option_map_or (λ (y : Obj). y.num) x o.num)) i.1)
+    ∙ ap (λ y. kept_before kept y i.0.num) sort
+    ∙ sym (ap (λ x. kept_before kept o.sort (option_map_or (λ (y : Obj). y.num) x o.num)) i.1)
 
 -- the literal at the images over the kept objects is the literal at the images, over them
 pub through_pairs : (kept vars args : List Obj) (l : Lit) → sorts vars ≡ sorts args → has_images (image_in (paired vars args)) l ≡ true
-    → renamed (image_in (paired vars (map (obj_at kept) args))) l ≡ lit_at kept (renamed (image_in (paired vars args)) l)
+    → renamed (image_in (paired vars (map (obj_at kept) args))) l ≡ lit_among_kept kept (renamed (image_in (paired vars args)) l)
 through_pairs kept vars args l s h =
     ap (λ a. record { neg = l.neg; atom = a })
     (moved_atom kept (number_at (image_in (paired vars args))) (number_at (image_in (paired vars (map (obj_at kept) args)))) l.atom
     (λ o i. number_moves kept vars args o s (all_in (λ (x : Obj). is_some (image_in (paired vars args) x)) (objects_of_atom l.atom) o h i)))
 
 pub all_through : (kept vars args : List Obj) (ls : List Lit) → sorts vars ≡ sorts args → list_all (has_images (image_in (paired vars args))) ls ≡ true
-    → map (renamed (image_in (paired vars (map (obj_at kept) args)))) ls ≡ map (lit_at kept) (map (renamed (image_in (paired vars args))) ls)
+    → map (renamed (image_in (paired vars (map (obj_at kept) args)))) ls ≡ map (lit_among_kept kept) (map (renamed (image_in (paired vars args))) ls)
 all_through kept vars args [] s h = refl
 all_through kept vars args (l ∷ ls) s h =
     let p = and_parts (has_images (image_in (paired vars args)) l) (list_all (has_images (image_in (paired vars args))) ls) h in
     ap (λ x. x ∷ map (renamed (image_in (paired vars (map (obj_at kept) args)))) ls) (through_pairs kept vars args l s p.0)
-    ∙ ap (λ xs. lit_at kept (renamed (image_in (paired vars args)) l) ∷ xs) (all_through kept vars args ls s p.1)
+    ∙ ap (λ xs. lit_among_kept kept (renamed (image_in (paired vars args)) l) ∷ xs) (all_through kept vars args ls s p.1)

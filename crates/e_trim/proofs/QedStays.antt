@@ -25,7 +25,7 @@ use Rattle.e_deriv.specs.Goal.{Goal, goal_of, goal_of_statement, are_for, goal_w
 use Rattle.e_deriv.specs.Lines.{lines}
 use Rattle.e_deriv.specs.Certified.{is_certified}
 use Rattle.e_trim.specs.Looked.{no_wants, both, needed, of_line, of_certs}
-use Rattle.e_trim.specs.Trimmed.{is_less, number, obj_at, lit_at, cert_at, line_at, wants, trimmed_from, declared_of}
+use Rattle.e_trim.specs.Trimmed.{is_lesser_of_sort, kept_before, obj_at, lit_among_kept, cert_at, line_at, wants, trimmed_from, declared_of}
 use Rattle.e_trim.proofs.Members.{In, in_left, all_in}
 use Rattle.e_trim.proofs.Counting.{scope_kept, is_one, is_none, none_less, number_stays, next_above, less_from, not_less}
 use Rattle.e_trim.proofs.MovedLits.{atom_by, own_atom, moved_atom, same_atom_by, object_from}
@@ -40,7 +40,7 @@ use Rattle.e_trim.proofs.TrimmedScripts.{Goes, covered}
 
 -- ---- declared objects keep their numbers
 
-own_number : (b : Scope) (xs : List Sort) (sort : Sort) (n : ℕ) → count_of b sort ≤ n → n ≤ count_of (grown b xs) sort → number (next_objects b xs) sort n + count_of b sort ≡ n
+own_number : (b : Scope) (xs : List Sort) (sort : Sort) (n : ℕ) → count_of b sort ≤ n → n ≤ count_of (grown b xs) sort → kept_before (next_objects b xs) sort n + count_of b sort ≡ n
 own_number b [] sort n h k = omega (arith, h, k)
 own_number b (x ∷ xs) sort n h k = elim (cases_Bool (same_sort x sort)) [
   | inr f ↦
@@ -53,21 +53,21 @@ own_number b (x ∷ xs) sort n h k = elim (cases_Bool (same_sort x sort)) [
         let same = counted_here b x sort t in
         let e = Rattle.e_literal.proofs.Sorts.same_sort_is x sort t in
         let c = ap (λ s. count_of b s) e in
-        let yes = is_one (is_less (obj x (count_of b x)) sort n) (less_from (obj x (count_of b x)) sort n e (omega (arith, c, l))) in
+        let yes = is_one (is_lesser_of_sort (obj x (count_of b x)) sort n) (less_from (obj x (count_of b x)) sort n e (omega (arith, c, l))) in
         let more = own_number (with_one b x) xs sort n (omega (arith, same, l)) k in
         omega (arith, yes, more, same)
     | inr l ↦
         let same = counted_here b x sort t in
         let e = Rattle.e_literal.proofs.Sorts.same_sort_is x sort t in
         let c = ap (λ s. count_of b s) e in
-        let no = is_none (is_less (obj x (count_of b x)) sort n) (not_less (obj x (count_of b x)) sort n (λ f. omega (arith, c, l, h))) in
+        let no = is_none (is_lesser_of_sort (obj x (count_of b x)) sort n) (not_less (obj x (count_of b x)) sort n (λ f. omega (arith, c, l, h))) in
         let none = none_less (next_objects (with_one b x) xs) sort n (λ o i f. (let a = next_above (with_one b x) xs o i in let g = ap (λ s. count_of (with_one b x) s) f in omega (arith, a, g, same, l))) in
         omega (arith, no, none, h, l)
   ]
 ]
 
 -- also where more objects are kept after them
-pub declared_number : (t : StatementView) (more : List Obj) (o : Obj) → ((k : Obj) → In k more → count_of (scope_of t) k.sort ≤ k.num) → o.num < count_of (scope_of t) o.sort → number (declared_of t ++ more) o.sort o.num ≡ o.num
+pub declared_number : (t : StatementView) (more : List Obj) (o : Obj) → ((k : Obj) → In k more → count_of (scope_of t) k.sort ≤ k.num) → o.num < count_of (scope_of t) o.sort → kept_before (declared_of t ++ more) o.sort o.num ≡ o.num
 declared_number t more o above h =
     let stays = number_stays (declared_of t) more o.sort o.num (λ k i e. (let a = above k i in let c = ap (λ s. count_of (scope_of t) s) e in omega (arith, a, c, h))) in
     let own = own_number nothing t.declared o.sort o.num (omega (arith, counts_nothing o.sort)) (omega (arith, h)) in
@@ -79,10 +79,10 @@ unmoved_lit : (l : Lit) → record { neg = l.neg; atom = atom_by (λ sort n. n) 
 unmoved_lit l = ap (λ a. record { neg = l.neg; atom = a }) (own_atom l.atom)
 
 -- a literal over the declared objects stays
-pub own_lit : (t : StatementView) (l : Lit) → all_in_scope (scope_of t) l ≡ true → lit_at (declared_of t) l ≡ l
+pub own_lit : (t : StatementView) (l : Lit) → all_in_scope (scope_of t) l ≡ true → lit_among_kept (declared_of t) l ≡ l
 own_lit t l h =
     ap (λ a. record { neg = l.neg; atom = a })
-    (same_atom_by (number (declared_of t)) (λ sort n. n) l.atom (λ o i. ap (λ ks. number ks o.sort o.num) (sym (append-nil (declared_of t)))
+    (same_atom_by (kept_before (declared_of t)) (λ sort n. n) l.atom (λ o i. ap (λ ks. kept_before ks o.sort o.num) (sym (append-nil (declared_of t)))
     ∙ declared_number t [] o (λ k j. absurd j) (ltb-true o.num (count_of (scope_of t) o.sort) (all_in (is_in_scope (scope_of t)) (objects_of_atom l.atom) o h i))))
     ∙ unmoved_lit l
 
@@ -90,10 +90,10 @@ own_lit t l h =
 
 abbrev Holds : List Obj → Scope → List Obj → Goal → Goal → Type 0
 Holds kept s os goal now = are_for goal s os ≡ true → AllKept kept os
-    → (are_for now (scope_kept kept) (map (obj_at kept) os) ≡ true) × (goal_with now (map (obj_at kept) os) ≡ map (lit_at kept) (goal_with goal os)) × OverLits kept (goal_with goal os)
+    → (are_for now (scope_kept kept) (map (obj_at kept) os) ≡ true) × (goal_with now (map (obj_at kept) os) ≡ map (lit_among_kept kept) (goal_with goal os)) × OverLits kept (goal_with goal os)
 
-shown_holds : (kept : List Obj) (s : Scope) (os : List Obj) (shown : List Lit) → OverLits kept shown → Holds kept s os (goal_of shown) (goal_of (map (lit_at kept) shown))
-shown_holds kept s [] shown o h k = (refl, unmoved (map (lit_at kept) shown) ∙ ap (map (lit_at kept)) (sym (unmoved shown)), subst (OverLits kept) (sym (unmoved shown)) o)
+shown_holds : (kept : List Obj) (s : Scope) (os : List Obj) (shown : List Lit) → OverLits kept shown → Holds kept s os (goal_of shown) (goal_of (map (lit_among_kept kept) shown))
+shown_holds kept s [] shown o h k = (refl, unmoved (map (lit_among_kept kept) shown) ∙ ap (map (lit_among_kept kept)) (sym (unmoved shown)), subst (OverLits kept) (sym (unmoved shown)) o)
 shown_holds kept s (x ∷ os) shown o h k = absurd (true≢false (sym h))
 
 -- the object is made, or declared
@@ -114,18 +114,18 @@ made_or_declared t os o z h = by (image_in (paired (next_objects (scope_of t) t.
 
 number_goes : (kept : List Obj) (t : StatementView) (more os : List Obj) (o : Obj) → kept ≡ declared_of t ++ more → ((k : Obj) → In k more → count_of (scope_of t) k.sort ≤ k.num) → sorts (next_objects (scope_of t) t.made) ≡ sorts os
     → is_in_scope (grown (scope_of t) t.made) o ≡ true
-    → number_at (image_in (paired (next_objects (scope_of t) t.made) (map (obj_at kept) os))) o.sort o.num ≡ number kept o.sort (number_at (image_in (paired (next_objects (scope_of t) t.made) os)) o.sort o.num)
+    → number_at (image_in (paired (next_objects (scope_of t) t.made) (map (obj_at kept) os))) o.sort o.num ≡ kept_before kept o.sort (number_at (image_in (paired (next_objects (scope_of t) t.made) os)) o.sort o.num)
 number_goes kept t more os o first above z h = elim (made_or_declared t os o z h) [
   | inl y ↦ number_moves kept (next_objects (scope_of t) t.made) os o z (ap is_some y.1)
   | inr d ↦
       ap (λ x. option_map_or (λ (y : Obj). y.num) x o.num) (image_at kept (next_objects (scope_of t) t.made) os o ∙ ap (option_map (obj_at kept)) d.0)
-      ∙ sym (ap (λ ks. number ks o.sort o.num) first ∙ declared_number t more o above d.1)
-      ∙ ap (number kept o.sort) (sym (ap (λ x. option_map_or (λ (y : Obj). y.num) x o.num) d.0))
+      ∙ sym (ap (λ ks. kept_before ks o.sort o.num) first ∙ declared_number t more o above d.1)
+      ∙ ap (kept_before kept o.sort) (sym (ap (λ x. option_map_or (λ (y : Obj). y.num) x o.num) d.0))
 ]
 
 shown_move : (kept : List Obj) (t : StatementView) (more os : List Obj) (ls : List Lit) → kept ≡ declared_of t ++ more → ((k : Obj) → In k more → count_of (scope_of t) k.sort ≤ k.num) → sorts (next_objects (scope_of t) t.made) ≡ sorts os
     → list_all (λ (l : Lit). is_well_formed l && all_in_scope (grown (scope_of t) t.made) l) ls ≡ true
-    → map (renamed (image_in (paired (next_objects (scope_of t) t.made) (map (obj_at kept) os)))) ls ≡ map (lit_at kept) (map (renamed (image_in (paired (next_objects (scope_of t) t.made) os))) ls)
+    → map (renamed (image_in (paired (next_objects (scope_of t) t.made) (map (obj_at kept) os)))) ls ≡ map (lit_among_kept kept) (map (renamed (image_in (paired (next_objects (scope_of t) t.made) os))) ls)
 shown_move kept t more os [] first above z h = refl
 shown_move kept t more os (l ∷ ls) first above z h =
     let made = next_objects (scope_of t) t.made in
@@ -133,7 +133,7 @@ shown_move kept t more os (l ∷ ls) first above z h =
     let q = and_parts (is_well_formed l) (all_in_scope (grown (scope_of t) t.made) l) p.0 in
     let one = ap (λ a. record { neg = l.neg; atom = a }) (moved_atom kept (number_at (image_in (paired made os))) (number_at (image_in (paired made (map (obj_at kept) os)))) l.atom
     (λ o i. number_goes kept t more os o first above z (all_in (is_in_scope (grown (scope_of t) t.made)) (objects_of_atom l.atom) o q.1 i))) in
-    ap (λ x. x ∷ map (renamed (image_in (paired made (map (obj_at kept) os)))) ls) one ∙ ap (λ xs. lit_at kept (renamed (image_in (paired made os)) l) ∷ xs) (shown_move kept t more os ls first above z p.1)
+    ap (λ x. x ∷ map (renamed (image_in (paired made (map (obj_at kept) os)))) ls) one ∙ ap (λ xs. lit_among_kept kept (renamed (image_in (paired made os)) l) ∷ xs) (shown_move kept t more os ls first above z p.1)
 
 shown_over : (kept : List Obj) (t : StatementView) (more os : List Obj) (ls : List Lit) → kept ≡ declared_of t ++ more → AllKept kept os → sorts (next_objects (scope_of t) t.made) ≡ sorts os
     → list_all (λ (l : Lit). is_well_formed l && all_in_scope (grown (scope_of t) t.made) l) ls ≡ true → OverLits kept (map (renamed (image_in (paired (next_objects (scope_of t) t.made) os))) ls)

@@ -13,7 +13,7 @@ use Rattle.e_literal.specs.Rename.{term_at, mono_at, atom_at}
 use Rattle.e_literal.specs.Same.{canonical}
 use Rattle.e_literal.specs.Facts.{is_metric}
 use Rattle.e_literal.specs.Rows.{Row, Says, Zero, AtLeast, More, Not, Summands, times, is_degenerate, normal_summands, row, plus, minus, negative, row_of_atom, row_of_lit}
-use Rattle.e_trim.specs.Trimmed.{number, lit_at}
+use Rattle.e_trim.specs.Trimmed.{kept_before, lit_among_kept}
 use Rattle.e_trim.proofs.Members.{in_left, in_right}
 use Rattle.e_trim.proofs.Counting.{OfSort, keeps}
 use Rattle.e_trim.proofs.TermsAt.{Over, canonical_over}
@@ -23,7 +23,7 @@ use Rattle.e_trim.proofs.LitsAt.{AllKept, OverLit, over_sum}
 
 -- the row over the kept points
 abbrev pub moved : List Obj → Row → Row
-moved kept r = row_at (number kept Point) (OfSort kept Point) (keeps kept) r
+moved kept r = row_at (kept_before kept Point) (OfSort kept Point) (keeps kept) r
 
 abbrev pub OverRow : List Obj → Row → Type 0
 OverRow kept r = OverForm (OfSort kept Point) r.form
@@ -59,8 +59,8 @@ pub over_normal : (K : ℕ → Type 0) (form : Summands) → OverForm K form →
 over_normal K [] h = tt
 over_normal K (q ∷ form) h = over_step K (not (is_degenerate q.1)) q form h.0 (over_normal K form h.1)
 
-pub row_moves : (kept : List Obj) (says : Says) (form : Summands) → OverForm (OfSort kept Point) form → row says (form_at (number kept Point) form) ≡ moved kept (row says form)
-row_moves kept says form h = ap (λ f. record { says = says; form = f }) (normal_stays (number kept Point) (OfSort kept Point) (keeps kept) form h)
+pub row_moves : (kept : List Obj) (says : Says) (form : Summands) → OverForm (OfSort kept Point) form → row says (form_at (kept_before kept Point) form) ≡ moved kept (row says form)
+row_moves kept says form h = ap (λ f. record { says = says; form = f }) (normal_stays (kept_before kept Point) (OfSort kept Point) (keeps kept) form h)
 
 difference_at : (p : ℕ → ℕ) (x y : List Mono) → plus (map (mono_at p) x) ++ minus (map (mono_at p) y) ≡ form_at p (plus x ++ minus y)
 difference_at p x y =
@@ -71,8 +71,8 @@ over_difference kept x y h k =
     over_both (OfSort kept Point) (plus x) (minus y) (over_plus (OfSort kept Point) x (over_sum kept x h)) (over_minus (OfSort kept Point) y (over_sum kept y k))
 
 difference_moves : (kept : List Obj) (says : Says) (x y : List Mono) → AllKept kept (objects_of_sum x) → AllKept kept (objects_of_sum y)
-    → row says (plus (map (mono_at (number kept Point)) x) ++ minus (map (mono_at (number kept Point)) y)) ≡ moved kept (row says (plus x ++ minus y))
-difference_moves kept says x y h k = ap (row says) (difference_at (number kept Point) x y) ∙ row_moves kept says (plus x ++ minus y) (over_difference kept x y h k)
+    → row says (plus (map (mono_at (kept_before kept Point)) x) ++ minus (map (mono_at (kept_before kept Point)) y)) ≡ moved kept (row says (plus x ++ minus y))
+difference_moves kept says x y h k = ap (row says) (difference_at (kept_before kept Point) x y) ∙ row_moves kept says (plus x ++ minus y) (over_difference kept x y h k)
 
 -- ---- the row of a literal
 
@@ -80,7 +80,7 @@ some_is : {X : Type 0} (x y : X) → Some x ≡ Some y → x ≡ y
 some_is x y e = cc
 
 one_row : (kept : List Obj) (says : Says) (x y : List Mono) (r : Row) → AllKept kept (objects_of_sum x) → AllKept kept (objects_of_sum y) → Some (row says (plus x ++ minus y)) ≡ Some r
-    → (Some (row says (plus (map (mono_at (number kept Point)) x) ++ minus (map (mono_at (number kept Point)) y))) ≡ Some (moved kept r)) × OverRow kept r
+    → (Some (row says (plus (map (mono_at (kept_before kept Point)) x) ++ minus (map (mono_at (kept_before kept Point)) y))) ≡ Some (moved kept r)) × OverRow kept r
 one_row kept says x y r h k e =
     let is = some_is (row says (plus x ++ minus y)) r e in (
       ap Some (difference_moves kept says x y h k ∙ ap (moved kept) is),
@@ -88,20 +88,20 @@ one_row kept says x y r h k e =
     )
 
 atom_moves : (kept : List Obj) (a : Atom) (neg : Bool) → AllKept kept (objects_of_atom a)
-    → Moves kept (row_of_atom a neg) (row_of_atom (atom_at (number kept Point) (number kept Line) (number kept Circle) a) neg)
+    → Moves kept (row_of_atom a neg) (row_of_atom (atom_at (kept_before kept Point) (kept_before kept Line) (kept_before kept Circle) a) neg)
 atom_moves kept (MagEq x y) neg h r e = one_row kept (cond neg Not Zero) x y r (λ o i. h o (in_left o (objects_of_sum x) (objects_of_sum y) i)) (λ o i. h o (in_right o (objects_of_sum x) (objects_of_sum y) i)) e
 atom_moves kept (MagLt x y) true h r e = one_row kept AtLeast x y r (λ o i. h o (in_left o (objects_of_sum x) (objects_of_sum y) i)) (λ o i. h o (in_right o (objects_of_sum x) (objects_of_sum y) i)) e
 atom_moves kept (MagLt x y) false h r e = one_row kept More y x r (λ o i. h o (in_right o (objects_of_sum x) (objects_of_sum y) i)) (λ o i. h o (in_left o (objects_of_sum x) (objects_of_sum y) i)) e
 atom_moves kept a neg h r e = absurd cc
 
-pub lit_moves : (kept : List Obj) (l : Lit) → OverLit kept l → Moves kept (row_of_lit l) (row_of_lit (lit_at kept l))
+pub lit_moves : (kept : List Obj) (l : Lit) → OverLit kept l → Moves kept (row_of_lit l) (row_of_lit (lit_among_kept kept l))
 lit_moves kept l h = atom_moves kept l.atom l.neg h
 
 -- a literal compares magnitudes where it did
-pub metric_at_is : (kept : List Obj) (l : Lit) → is_metric (lit_at kept l) ≡ is_metric l
+pub metric_at_is : (kept : List Obj) (l : Lit) → is_metric (lit_among_kept kept l) ≡ is_metric l
 metric_at_is kept l = by l.atom
   where
-    by : (a : Atom) → is_metric (record { neg = l.neg; atom = atom_at (number kept Point) (number kept Line) (number kept Circle) a }) ≡ is_metric (record { neg = l.neg; atom = a })
+    by : (a : Atom) → is_metric (record { neg = l.neg; atom = atom_at (kept_before kept Point) (kept_before kept Line) (kept_before kept Circle) a }) ≡ is_metric (record { neg = l.neg; atom = a })
     by (MagEq x y) = refl
     by (MagLt x y) = refl
     by a = refl

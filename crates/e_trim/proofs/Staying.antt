@@ -11,7 +11,7 @@ use Rattle.e_literal.specs.Scopes.{next_objects}
 use Rattle.e_literal.specs.Same.{same_lit}
 use Rattle.e_literal.specs.Facts.{has, joined, joined_all}
 use Rattle.e_trim.specs.Looked.{Wants}
-use Rattle.e_trim.specs.Trimmed.{lit_at, supplies, outside}
+use Rattle.e_trim.specs.Trimmed.{lit_among_kept, supplies, wants_outside}
 use Rattle.e_trim.proofs.Members.{In, in_left, in_right, in_either, in_filter}
 use Rattle.e_trim.proofs.Counting.{Bound, number_stays, next_above}
 use Rattle.e_trim.proofs.MovedLits.{with_numbers}
@@ -65,21 +65,21 @@ has_new facts l = elim (cases_Bool (has facts l)) [
 
 -- the facts that are looked up are there as they are written, over the kept objects, and none is there that was none before
 pub record Stays (kept : List Obj) (facts now looked : List Lit) : Type 0 where
-  pub there : (m : Lit) → In m facts → has looked m ≡ true → In (lit_at kept m) now × OverLit kept m
-  pub only : (n : Lit) → In n now → (m : Lit) × (lit_at kept m ≡ n) × (has facts m ≡ true) × OverLit kept m
+  pub there : (m : Lit) → In m facts → has looked m ≡ true → In (lit_among_kept kept m) now × OverLit kept m
+  pub only : (n : Lit) → In n now → (m : Lit) × (lit_among_kept kept m ≡ n) × (has facts m ≡ true) × OverLit kept m
 
 -- what is looked up and had is still had
-pub still_has : (kept : List Obj) (facts now looked : List Lit) (l : Lit) → Stays kept facts now looked → has looked l ≡ true → OverLit kept l → has facts l ≡ true → has now (lit_at kept l) ≡ true
+pub still_has : (kept : List Obj) (facts now looked : List Lit) (l : Lit) → Stays kept facts now looked → has looked l ≡ true → OverLit kept l → has facts l ≡ true → has now (lit_among_kept kept l) ≡ true
 still_has kept facts now looked l st i o h =
     let r = has_in facts l h in
     let t = st.there r.0 r.1 (has_same looked l r.0 i (same_turned r.0 l r.2)) in
-    in_has now (lit_at kept r.0) (lit_at kept l) t.0 (same_at kept r.0 l t.1 o ∙ r.2)
+    in_has now (lit_among_kept kept r.0) (lit_among_kept kept l) t.0 (same_at kept r.0 l t.1 o ∙ r.2)
 
-pub had_before : (kept : List Obj) (facts now looked : List Lit) (l : Lit) → Stays kept facts now looked → OverLit kept l → has now (lit_at kept l) ≡ true → has facts l ≡ true
+pub had_before : (kept : List Obj) (facts now looked : List Lit) (l : Lit) → Stays kept facts now looked → OverLit kept l → has now (lit_among_kept kept l) ≡ true → has facts l ≡ true
 had_before kept facts now looked l st o h =
-    let r = has_in now (lit_at kept l) h in
+    let r = has_in now (lit_among_kept kept l) h in
     let t = st.only r.0 r.1 in
-    has_same facts t.0 l t.2 (sym (same_at kept t.0 l t.3 o) ∙ ap (λ n. same_lit n (lit_at kept l)) t.1 ∙ r.2)
+    has_same facts t.0 l t.2 (sym (same_at kept t.0 l t.3 o) ∙ ap (λ n. same_lit n (lit_among_kept kept l)) t.1 ∙ r.2)
 
 abbrev pub Within : List Lit → List Lit → Type 0
 Within looked more = (m : Lit) → has looked m ≡ true → has more m ≡ true
@@ -89,40 +89,40 @@ pub fewer : (kept : List Obj) (facts now looked less : List Lit) → Within less
 fewer kept facts now looked less w st = record { there = λ m i h. st.there m i (w m h); only = st.only }
 
 -- a step is kept
-pub joins : (kept : List Obj) (facts now looked : List Lit) (l : Lit) → OverLit kept l → Stays kept facts now looked → Stays kept (joined facts l) (joined now (lit_at kept l)) looked
+pub joins : (kept : List Obj) (facts now looked : List Lit) (l : Lit) → OverLit kept l → Stays kept facts now looked → Stays kept (joined facts l) (joined now (lit_among_kept kept l)) looked
 joins kept facts now looked l o st = record { there = there'; only = only' }
   where
-    new : has facts l ≡ false → has now (lit_at kept l) ≡ false
-    new e = false_from_ne_true (has now (lit_at kept l)) (λ t. true≢false (sym (had_before kept facts now looked l st o t) ∙ e))
+    new : has facts l ≡ false → has now (lit_among_kept kept l) ≡ false
+    new e = false_from_ne_true (has now (lit_among_kept kept l)) (λ t. true≢false (sym (had_before kept facts now looked l st o t) ∙ e))
 
-    there' : (m : Lit) → In m (joined facts l) → has looked m ≡ true → In (lit_at kept m) (joined now (lit_at kept l)) × OverLit kept m
+    there' : (m : Lit) → In m (joined facts l) → has looked m ≡ true → In (lit_among_kept kept m) (joined now (lit_among_kept kept l)) × OverLit kept m
     there' m i h = elim (joined_either facts l m i) [
-      | inl k ↦ let t = st.there m k h in (in_joined now (lit_at kept l) (lit_at kept m) t.0, t.1)
-      | inr k ↦ (subst (λ x. In (lit_at kept x) (joined now (lit_at kept l))) k.0 (new_joined now (lit_at kept l) (new k.1)), subst (OverLit kept) k.0 o)
+      | inl k ↦ let t = st.there m k h in (in_joined now (lit_among_kept kept l) (lit_among_kept kept m) t.0, t.1)
+      | inr k ↦ (subst (λ x. In (lit_among_kept kept x) (joined now (lit_among_kept kept l))) k.0 (new_joined now (lit_among_kept kept l) (new k.1)), subst (OverLit kept) k.0 o)
     ]
 
-    only' : (n : Lit) → In n (joined now (lit_at kept l)) → (m : Lit) × (lit_at kept m ≡ n) × (has (joined facts l) m ≡ true) × OverLit kept m
-    only' n i = elim (joined_either now (lit_at kept l) n i) [
+    only' : (n : Lit) → In n (joined now (lit_among_kept kept l)) → (m : Lit) × (lit_among_kept kept m ≡ n) × (has (joined facts l) m ≡ true) × OverLit kept m
+    only' n i = elim (joined_either now (lit_among_kept kept l) n i) [
       | inl k ↦ let t = st.only n k in (t.0, t.1, has_more facts l t.0 t.2, t.3)
       | inr k ↦ (l, k.0, has_new facts l, o)
     ]
 
-pub joins_all : (kept : List Obj) (facts now looked ls : List Lit) → OverLits kept ls → Stays kept facts now looked → Stays kept (joined_all facts ls) (joined_all now (map (lit_at kept) ls)) looked
+pub joins_all : (kept : List Obj) (facts now looked ls : List Lit) → OverLits kept ls → Stays kept facts now looked → Stays kept (joined_all facts ls) (joined_all now (map (lit_among_kept kept) ls)) looked
 joins_all kept facts now looked [] o st = st
 joins_all kept facts now looked (l ∷ ls) o st =
-    joins_all kept (joined facts l) (joined now (lit_at kept l)) looked ls (λ x i. o x (inr i)) (joins kept facts now looked l (o l (inl refl)) st)
+    joins_all kept (joined facts l) (joined now (lit_among_kept kept l)) looked ls (λ x i. o x (inr i)) (joins kept facts now looked l (o l (inl refl)) st)
 
 -- a literal of a dropped step joins
 pub dropped : (kept : List Obj) (facts now looked : List Lit) (l : Lit) → (has facts l ≡ false → has looked l ≡ false) → Stays kept facts now looked → Stays kept (joined facts l) now looked
 dropped kept facts now looked l none st = record { there = there'; only = only' }
   where
-    there' : (m : Lit) → In m (joined facts l) → has looked m ≡ true → In (lit_at kept m) now × OverLit kept m
+    there' : (m : Lit) → In m (joined facts l) → has looked m ≡ true → In (lit_among_kept kept m) now × OverLit kept m
     there' m i h = elim (joined_either facts l m i) [
       | inl k ↦ st.there m k h
       | inr k ↦ absurd (true≢false (sym h ∙ sym (ap (has looked) k.0) ∙ none k.1))
     ]
 
-    only' : (n : Lit) → In n now → (m : Lit) × (lit_at kept m ≡ n) × (has (joined facts l) m ≡ true) × OverLit kept m
+    only' : (n : Lit) → In n now → (m : Lit) × (lit_among_kept kept m ≡ n) × (has (joined facts l) m ≡ true) × OverLit kept m
     only' n i = let t = st.only n i in (t.0, t.1, has_more facts l t.0 t.2, t.3)
 
 no_supply : (facts : List Lit) (w : Wants) (l : Lit) → supplies facts w l ≡ false → has facts l ≡ false → has w.lits l ≡ false
@@ -160,7 +160,7 @@ dropped_all kept facts now w (l ∷ ls) e st =
 
 -- ---- objects come
 
-pub lit_stays : (kept : List Obj) (s : Scope) (sorts : List Sort) (l : Lit) → Bound s kept → OverLit kept l → lit_at (kept ++ next_objects s sorts) l ≡ lit_at kept l
+pub lit_stays : (kept : List Obj) (s : Scope) (sorts : List Sort) (l : Lit) → Bound s kept → OverLit kept l → lit_among_kept (kept ++ next_objects s sorts) l ≡ lit_among_kept kept l
 lit_stays kept s sorts l bound o =
     with_numbers kept (kept ++ next_objects s sorts) l (λ x i.
     number_stays kept (next_objects s sorts) x.sort x.num (λ k j e.
@@ -181,10 +181,10 @@ comes kept s sorts facts now looked bound st = record {
 
 -- ---- what an inner block looks up of the facts before it is looked up outside of it
 
-pub inside_stays : (kept : List Obj) (s : Scope) (facts now : List Lit) (w : Wants) → Stays kept facts now (outside s facts w).lits → Stays kept facts now w.lits
+pub inside_stays : (kept : List Obj) (s : Scope) (facts now : List Lit) (w : Wants) → Stays kept facts now (wants_outside s facts w).lits → Stays kept facts now w.lits
 inside_stays kept s facts now w st = record { there = there'; only = st.only }
   where
-    there' : (m : Lit) → In m facts → has w.lits m ≡ true → In (lit_at kept m) now × OverLit kept m
+    there' : (m : Lit) → In m facts → has w.lits m ≡ true → In (lit_among_kept kept m) now × OverLit kept m
     there' m i h =
         let x = has_in w.lits m h in
         let known = in_has facts m x.0 i (same_turned x.0 m x.2) in

@@ -27,9 +27,9 @@ use Rattle.e_deriv.specs.Steps.{fits}
 use Rattle.e_deriv.specs.Fitting.{is_small}
 use Rattle.e_deriv.proofs.Keeping.{stay_on, stay_all, no_fewer}
 use Rattle.e_deriv.proofs.Scripts.{step_script-Claim, step_script-Superposed, close_script-Cases}
-use Rattle.e_trim.specs.Trimmed.{lit_at, cert_at, by_at, joins_at, makes_at, is_kept, line_at, with_step, wants, trimmed_from}
+use Rattle.e_trim.specs.Trimmed.{lit_among_kept, cert_at, by_at, joins_at, makes_at, is_kept, line_at, wants_with_step, wants, trimmed_from}
 use Rattle.e_trim.specs.inner.Flags.{flag, flags_of, inside_of, step_flags}
-use Rattle.e_trim.specs.inner.StepState.{IsReady, IsReadyToTrim, StepFits, KeepsFacts, passed, outer_of, left_for}
+use Rattle.e_trim.specs.inner.StepState.{IsReady, IsReadyToTrim, StepFits, KeepsFacts, passed, outer_of_state, left_for}
 use Rattle.e_trim.specs.inner.Building.{kept_step}
 use Rattle.e_trim.specs.declared.step_state.StepState.{StepState}
 
@@ -140,7 +140,7 @@ cases_ready before lit first second s facts goal r =
 
 pub wants_step : (before : List StatementView) (step : Step) (rest : Script) (x : StepState) (goal : Goal)
     → wants before (step_script step rest) x.scope x.facts goal
-    ≡ with_step before (step_script step rest) x.scope x.facts goal (inside_of before (step_script step rest) x.scope x.facts)
+    ≡ wants_with_step before (step_script step rest) x.scope x.facts goal (inside_of before (step_script step rest) x.scope x.facts)
     (wants before rest (passed before (step_script step rest) x).scope (passed before (step_script step rest) x).facts goal)
 unfolding wants step_script
 wants_step before (CiteStep by) rest x goal = refl
@@ -187,7 +187,7 @@ trimmed_step before kept (CiteStep by) rest x goal =
     no_more kept (λ ks. Cite (by_at kept by) (trimmed_from before ks rest x.scope after goal)) (trimmed_from before kept rest x.scope after goal) (is_kept before (Cite by rest) x.scope x.facts (wants before rest x.scope after goal))
 trimmed_step before kept (HenceStep lit cert) rest x goal =
     let after = joined x.facts lit in
-    no_more kept (λ ks. Hence (lit_at kept lit) (option_map (cert_at kept) cert) (trimmed_from before ks rest x.scope after goal)) (trimmed_from before kept rest x.scope after goal)
+    no_more kept (λ ks. Hence (lit_among_kept kept lit) (option_map (cert_at kept) cert) (trimmed_from before ks rest x.scope after goal)) (trimmed_from before kept rest x.scope after goal)
     (is_kept before (Hence lit cert rest) x.scope x.facts (wants before rest x.scope after goal))
 trimmed_step before kept (MakeStep form names certs) rest x goal = refl
 trimmed_step before kept (ApplyStep theorem args names certs) rest x goal = refl
@@ -212,5 +212,5 @@ pub keeps_enough : (x y : StepState) → KeepsFacts x y → length x.facts ≤ l
 keeps_enough x y h = no_fewer x.facts y.facts h
 
 -- back to where it was
-pub left_back : (x y : StepState) → KeepsFacts x y → left_for (outer_of x) y ≡ x
+pub left_back : (x y : StepState) → KeepsFacts x y → left_for (outer_of_state x) y ≡ x
 left_back x y h = ap (λ fs. record { scope = x.scope; facts = fs }) h

@@ -8,9 +8,9 @@ use Rattle.e_deriv.specs.Goal.{Goal}
 use Rattle.e_deriv.specs.Fitting.{is_small}
 use Rattle.e_deriv.proofs.Keeping.{all_stay}
 use Rattle.e_trim.specs.Looked.{Wants, both, of_line}
-use Rattle.e_trim.specs.Trimmed.{is_kept, line_at, with_step, wants}
+use Rattle.e_trim.specs.Trimmed.{is_kept, line_at, wants_with_step, wants}
 use Rattle.e_trim.specs.inner.Flags.{flag, flags_of, inside_of, step_flags}
-use Rattle.e_trim.specs.inner.StepState.{IsReady, IsReadyToTrim, StepFits, StepAdds, FlagsAdded, StepWants, StepFlags, KeepsFacts, passed, outer_of, left_for}
+use Rattle.e_trim.specs.inner.StepState.{IsReady, IsReadyToTrim, StepFits, StepAdds, FlagsAdded, StepWants, StepFlags, KeepsFacts, passed, outer_of_state, left_for}
 use Rattle.e_trim.specs.declared.step_state.StepState.{StepState}
 use Rattle.e_trim.specs.declared.step_state.Outer.{Outer}
 use Rattle.e_trim.proofs.StepForms.{ready_rest, ready_fits, ready_small, wants_step, flags_step, passed_keeps, keeps_on, keeps_enough, left_back}
@@ -50,13 +50,13 @@ past_keeps : (before : List StatementView) (head : Step) (x after : StepState) �
 past_keeps before head x after e =
     let rest = Rattle.e_deriv.specs.Script.Qed [] [] in subst (λ (y : StepState). KeepsFacts x y) (sym (e rest)) (passed_keeps before (step_script head rest) x)
 
-pub look_enough : (before : List StatementView) (head : Step) (x after last : StepState) (outer : Outer) → IsPast before head x after → KeepsFacts after last → outer ≡ outer_of x → outer.facts ≤ length last.facts
+pub look_enough : (before : List StatementView) (head : Step) (x after last : StepState) (outer : Outer) → IsPast before head x after → KeepsFacts after last → outer ≡ outer_of_state x → outer.facts ≤ length last.facts
 look_enough before head x after last outer e k o =
     let n = keeps_enough x last (keeps_on x after last (past_keeps before head x after e) k) in
     let m = ap (λ (y : Outer). y.facts) o in
     omega (arith, n, m)
 
-pub look_back_is : (before : List StatementView) (head : Step) (x after last left : StepState) (outer : Outer) → IsPast before head x after → KeepsFacts after last → outer ≡ outer_of x → left ≡ left_for outer last → left ≡ x
+pub look_back_is : (before : List StatementView) (head : Step) (x after last left : StepState) (outer : Outer) → IsPast before head x after → KeepsFacts after last → outer ≡ outer_of_state x → left ≡ left_for outer last → left ≡ x
 look_back_is before head x after last left outer e k o f = f ∙ ap (λ y. left_for y last) o ∙ left_back x last (keeps_on x after last (past_keeps before head x after e) k)
 
 pub still_keeps : (x left : StepState) → left ≡ x → KeepsFacts x left
@@ -97,8 +97,8 @@ wanted_whole before steps head x after left goal close w new l e b f h =
     let rest = steps_script (later_steps steps) close in
     let here = step_script head rest in
     let own = f ∙ ap (λ (y : StepState). wants before rest y.scope y.facts goal) (e rest) in
-    h rest goal ∙ ap (λ (y : StepState). with_step before here y.scope y.facts goal (inside_of before here y.scope y.facts) w) b
-    ∙ ap (with_step before here x.scope x.facts goal (inside_of before here x.scope x.facts)) own
+    h rest goal ∙ ap (λ (y : StepState). wants_with_step before here y.scope y.facts goal (inside_of before here y.scope y.facts) w) b
+    ∙ ap (wants_with_step before here x.scope x.facts goal (inside_of before here x.scope x.facts)) own
     ∙ sym (ap (λ d. wants before d x.scope x.facts goal) (whole_is steps head close l.some l.first) ∙ wants_step before head rest x goal)
 
 pub flags_whole : (before : List StatementView) (steps : List Step) (head : Step) (x after left : StepState) (goal : Goal) (close : Script) (w : Wants) (under over now : List Bool) → Looking before steps head x goal close → IsPast before head x after → left ≡ x

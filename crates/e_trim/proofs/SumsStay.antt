@@ -26,7 +26,7 @@ use Rattle.e_clause.specs.Sum.{Place, is_step_term, fact_row, goal_row, says_dif
 use Rattle.e_clause.specs.MetricCertificate.{differing_of, differing, above_row, below_row, both_refute, sums_refute}
 use Rattle.e_trim.specs.Looked.{Wants, both, looked_up, first_that, parts_ends, of_term, of_row, of_sum, of_sums}
 use Rattle.e_trim.specs.Trimmed as trimmed
-use Rattle.e_trim.specs.Trimmed.{number, lit_at, sum_at, sums_at}
+use Rattle.e_trim.specs.Trimmed.{kept_before, lit_among_kept, sum_at, sums_at}
 use Rattle.e_trim.proofs.Members.{in_left, in_right}
 use Rattle.e_trim.proofs.Counting.{OfSort, keeps}
 use Rattle.e_trim.proofs.FormsAt.{OverForm, OverRows, weighed_at, negative_at}
@@ -77,70 +77,70 @@ if_some : (b : Bool) (o : Option Row) (x : Row) → cond b o None ≡ Some x →
 if_some true o x e = (refl, e)
 if_some false o x e = none_some x e
 
-fact_moves : (kept : List Obj) (facts now looked : List Lit) (l : Lit) → Stays kept facts now looked → has looked l ≡ true → OverLit kept l → Moves kept (fact_row facts l) (fact_row now (lit_at kept l))
+fact_moves : (kept : List Obj) (facts now looked : List Lit) (l : Lit) → Stays kept facts now looked → has looked l ≡ true → OverLit kept l → Moves kept (fact_row facts l) (fact_row now (lit_among_kept kept l))
 fact_moves kept facts now looked l st up o x e =
     let s = if_some (has facts l) (row_of_lit l) x e in
     let m = lit_moves kept l o x s.1 in
-    (ap (λ b. cond b (row_of_lit (lit_at kept l)) None) (still_has kept facts now looked l st up o s.0) ∙ m.0, m.1)
+    (ap (λ b. cond b (row_of_lit (lit_among_kept kept l)) None) (still_has kept facts now looked l st up o s.0) ∙ m.0, m.1)
 
 goal_moves : (kept : List Obj) (wanted : Option Lit) → ((l : Lit) → wanted ≡ Some l → OverLit kept l) → Moves kept (goal_row wanted) (goal_row (wanted_at kept wanted))
 goal_moves kept None h x e = none_some x e
 goal_moves kept (Some l) h x e = lit_moves kept (negation l) (h l refl) x e
 
 -- the row of one term
-term_row : (kept : List Obj) (says : Says) (t : Term) (n : ℤ) → AllKept kept (objects_of_term t) → Rattle.e_literal.specs.Rows.row says (times n (term_at (number kept Point) t) ∷ []) ≡ moved kept (Rattle.e_literal.specs.Rows.row says (times n t ∷ []))
+term_row : (kept : List Obj) (says : Says) (t : Term) (n : ℤ) → AllKept kept (objects_of_term t) → Rattle.e_literal.specs.Rows.row says (times n (term_at (kept_before kept Point) t) ∷ []) ≡ moved kept (Rattle.e_literal.specs.Rows.row says (times n t ∷ []))
 term_row kept says t n o = row_moves kept says (times n t ∷ []) (over_term kept t o, tt)
 
 over_term_row : (kept : List Obj) (t : Term) (n : ℤ) → AllKept kept (objects_of_term t) → OverForm (OfSort kept Point) (Rattle.e_literal.specs.Rows.normal_summands (times n t ∷ []))
 over_term_row kept t n o = over_normal (OfSort kept Point) (times n t ∷ []) (over_term kept t o, tt)
 
-least_moves : (kept : List Obj) (looked : List Lit) (p now : Place) (t : Term) → Placed kept looked p now → Covered kept looked (of_term p.facts p.wanted t) → Moves kept (row_named p (Least t)) (row_named now (Least (term_at (number kept Point) t)))
+least_moves : (kept : List Obj) (looked : List Lit) (p now : Place) (t : Term) → Placed kept looked p now → Covered kept looked (of_term p.facts p.wanted t) → Moves kept (row_named p (Least t)) (row_named now (Least (term_at (kept_before kept Point) t)))
 least_moves kept looked p now t pl c x e =
     let s = if_some (is_step_term p t) (Some (least_row t)) x e in
-    let here = subst (λ w. stands now.facts w (term_at (number kept Point) t) ≡ true) (sym pl.wanted) (term_stays kept p.facts now.facts looked p.wanted t pl.stays c s.0) in
+    let here = subst (λ w. stands now.facts w (term_at (kept_before kept Point) t) ≡ true) (sym pl.wanted) (term_stays kept p.facts now.facts looked p.wanted t pl.stays c s.0) in
     let is = some_is (least_row t) x s.1 in (
-      ap (λ b. cond b (Some (least_row (term_at (number kept Point) t))) None) here ∙ ap Some (term_row kept AtLeast t (pos 1) c.objects ∙ ap (moved kept) is),
+      ap (λ b. cond b (Some (least_row (term_at (kept_before kept Point) t))) None) here ∙ ap Some (term_row kept AtLeast t (pos 1) c.objects ∙ ap (moved kept) is),
       subst (OverRow kept) is (over_term_row kept t (pos 1) c.objects),
     )
 
 -- two right angles less the angle
-top_row_moves : (kept : List Obj) (t : Term) → AllKept kept (objects_of_term t) → top_row (term_at (number kept Point) t) ≡ moved kept (top_row t)
+top_row_moves : (kept : List Obj) (t : Term) → AllKept kept (objects_of_term t) → top_row (term_at (kept_before kept Point) t) ≡ moved kept (top_row t)
 top_row_moves kept t o = row_moves kept AtLeast (times (pos 2) Right ∷ times (negsuc 0) t ∷ []) (tt, (over_term kept t o, tt))
 
 over_top_row : (kept : List Obj) (t : Term) → AllKept kept (objects_of_term t) → OverRow kept (top_row t)
 over_top_row kept t o = over_normal (OfSort kept Point) (times (pos 2) Right ∷ times (negsuc 0) t ∷ []) (tt, (over_term kept t o, tt))
 
-top_moves : (kept : List Obj) (looked : List Lit) (p now : Place) (t : Term) → Placed kept looked p now → Covered kept looked (of_term p.facts p.wanted t) → Moves kept (row_named p (Top t)) (row_named now (Top (term_at (number kept Point) t)))
+top_moves : (kept : List Obj) (looked : List Lit) (p now : Place) (t : Term) → Placed kept looked p now → Covered kept looked (of_term p.facts p.wanted t) → Moves kept (row_named p (Top t)) (row_named now (Top (term_at (kept_before kept Point) t)))
 top_moves kept looked p now (Ang a b d) pl c x e =
     let t = Ang a b d in
     let s = if_some (is_step_term p t) (Some (top_row t)) x e in
-    let here = subst (λ w. stands now.facts w (term_at (number kept Point) t) ≡ true) (sym pl.wanted) (term_stays kept p.facts now.facts looked p.wanted t pl.stays c s.0) in
+    let here = subst (λ w. stands now.facts w (term_at (kept_before kept Point) t) ≡ true) (sym pl.wanted) (term_stays kept p.facts now.facts looked p.wanted t pl.stays c s.0) in
     let is = some_is (top_row t) x s.1 in (
-      ap (λ b. cond b (Some (top_row (term_at (number kept Point) t))) None) here ∙ ap Some (top_row_moves kept t c.objects ∙ ap (moved kept) is),
+      ap (λ b. cond b (Some (top_row (term_at (kept_before kept Point) t))) None) here ∙ ap Some (top_row_moves kept t c.objects ∙ ap (moved kept) is),
       subst (OverRow kept) is (over_top_row kept t c.objects),
     )
 top_moves kept looked p now t pl c x e = none_some x e
 
 pos_moves : (kept : List Obj) (looked : List Lit) (p now : Place) (t : Term) → Placed kept looked p now → Covered kept looked (both (looked_up (first_that (parts_ends t) p.facts)) (of_term p.facts p.wanted t))
-    → Moves kept (row_named p (Pos t)) (row_named now (Pos (term_at (number kept Point) t)))
+    → Moves kept (row_named p (Pos t)) (row_named now (Pos (term_at (kept_before kept Point) t)))
 pos_moves kept looked p now (Seg a b) pl c x e =
     let t = Seg a b in
     let own = cover_right kept looked (looked_up (first_that (parts_ends t) p.facts)) (of_term p.facts p.wanted t) c in
     let parted = cover_left kept looked (looked_up (first_that (parts_ends t) p.facts)) (of_term p.facts p.wanted t) c in
     let s = if_some (is_step_term p t && are_apart p.facts a b) (Some (pos_row t)) x e in
     let q = and_parts (is_step_term p t) (are_apart p.facts a b) s.0 in
-    let here = subst (λ w. stands now.facts w (term_at (number kept Point) t) ≡ true) (sym pl.wanted) (term_stays kept p.facts now.facts looked p.wanted t pl.stays own q.0) in
+    let here = subst (λ w. stands now.facts w (term_at (kept_before kept Point) t) ≡ true) (sym pl.wanted) (term_stays kept p.facts now.facts looked p.wanted t pl.stays own q.0) in
     let apart = apart_stays kept p.facts now.facts looked a b pl.stays parted.lits own.objects q.1 in
     let is = some_is (pos_row t) x s.1 in (
-      ap (λ b. cond b (Some (pos_row (term_at (number kept Point) t))) None) (and_from (is_step_term now (term_at (number kept Point) t)) (are_apart now.facts (number kept Point a) (number kept Point b)) here apart)
+      ap (λ b. cond b (Some (pos_row (term_at (kept_before kept Point) t))) None) (and_from (is_step_term now (term_at (kept_before kept Point) t)) (are_apart now.facts (kept_before kept Point a) (kept_before kept Point b)) here apart)
           ∙ ap Some (term_row kept More t (pos 1) own.objects ∙ ap (moved kept) is),
       subst (OverRow kept) is (over_term_row kept t (pos 1) own.objects),
     )
 pos_moves kept looked p now t pl c x e = none_some x e
 
 -- a row that may be used may be used still
-pub name_moves : (kept : List Obj) (looked : List Lit) (p now : Place) (name : RowName) → is_name_of version.One name ≡ true → Placed kept looked p now → Covered kept looked (of_row p.facts p.wanted name) → Moves kept (row_named p name) (row_named now (trimmed.row_at kept name))
-name_moves kept looked p now (Fact l) v pl c = unless_moves kept (fact_row p.facts l) (fact_row now.facts (lit_at kept l)) (fact_moves kept p.facts now.facts looked l pl.stays (c.lits l (inl refl)) c.objects)
+pub name_moves : (kept : List Obj) (looked : List Lit) (p now : Place) (name : RowName) → is_name_of version.One name ≡ true → Placed kept looked p now → Covered kept looked (of_row p.facts p.wanted name) → Moves kept (row_named p name) (row_named now (trimmed.row_name_among_kept kept name))
+name_moves kept looked p now (Fact l) v pl c = unless_moves kept (fact_row p.facts l) (fact_row now.facts (lit_among_kept kept l)) (fact_moves kept p.facts now.facts looked l pl.stays (c.lits l (inl refl)) c.objects)
 name_moves kept looked p now Goal v pl c =
     unless_moves kept (goal_row p.wanted) (goal_row now.wanted) (subst (λ w. Moves kept (goal_row p.wanted) (goal_row w)) (sym pl.wanted) (goal_moves kept p.wanted pl.goal))
 name_moves kept looked p now (Pos t) v pl c = pos_moves kept looked p now t pl c
@@ -154,10 +154,10 @@ name_moves kept looked p now (FactAt k) v pl c = absurd (true≢false (sym v))
 -- ---- a sum
 
 abbrev weigh : List Obj → List Weighed → List Weighed
-weigh kept ws = map (weighed_at (number kept Point) (OfSort kept Point) (keeps kept)) ws
+weigh kept ws = map (weighed_at (kept_before kept Point) (OfSort kept Point) (keeps kept)) ws
 
 abbrev OverAll : List Obj → List Weighed → Type 0
-OverAll kept ws = OverRows (number kept Point) (OfSort kept Point) (keeps kept) ws
+OverAll kept ws = OverRows (kept_before kept Point) (OfSort kept Point) (keeps kept) ws
 
 and_then_is : {X Y : Type 0} (f : X → Option Y) (o : Option X) (y : Y) → option_and_then f o ≡ Some y → (x : X) × (o ≡ Some x) × (f x ≡ Some y)
 and_then_is f None y e = none_some y e
@@ -188,7 +188,7 @@ good_multipliers kept [] = refl
 good_multipliers kept (x ∷ xs) = ap (λ b. is_nonzero_bounded x.0 && b) (good_multipliers kept xs)
 
 abbrev moved_row : List Obj → ℤ × RowName → ℤ × RowName
-moved_row kept x = (x.0, trimmed.row_at kept x.1)
+moved_row kept x = (x.0, trimmed.row_name_among_kept kept x.1)
 
 pub size_stays : (kept : List Obj) (xs : List (ℤ × RowName)) → is_limited_sum (sum_at kept xs) ≡ is_limited_sum xs
 size_stays kept xs =
@@ -207,7 +207,7 @@ refutes_still kept looked p now xs v pl c h =
     let a = map_or_is is_absurd (weighed_rows p xs) q.1 in
     let m = rows_move kept looked p now xs v pl c a.0 a.1 in
     and_from (is_limited_sum (sum_at kept xs)) (option_map_or is_absurd (weighed_rows now (sum_at kept xs)) false) (size_stays kept xs ∙ q.0)
-    (ap (λ o. option_map_or is_absurd o false) m.0 ∙ absurd_stays (number kept Point) (OfSort kept Point) (keeps kept) a.0 m.1 ∙ a.2)
+    (ap (λ o. option_map_or is_absurd o false) m.0 ∙ absurd_stays (kept_before kept Point) (OfSort kept Point) (keeps kept) a.0 m.1 ∙ a.2)
 
 -- ---- two sums
 
@@ -219,14 +219,14 @@ differs_step true r x e = (refl, some_is r x e)
 differs_step false r x e = none_some x e
 
 differing_of_moves : (kept : List Obj) (facts now looked : List Lit) (wanted : Option Lit) (name : RowName) → is_name_of version.One name ≡ true → Stays kept facts now looked → ((l : Lit) → wanted ≡ Some l → OverLit kept l)
-    → Covered kept looked (of_row facts wanted name) → Moves kept (differing_of facts wanted name) (differing_of now (wanted_at kept wanted) (trimmed.row_at kept name))
+    → Covered kept looked (of_row facts wanted name) → Moves kept (differing_of facts wanted name) (differing_of now (wanted_at kept wanted) (trimmed.row_name_among_kept kept name))
 differing_of_moves kept facts now looked wanted (Fact l) v st g c = fact_moves kept facts now looked l st (c.lits l (inl refl)) c.objects
 differing_of_moves kept facts now looked wanted Goal v st g c = goal_moves kept wanted g
 differing_of_moves kept facts now looked wanted (FactAt k) v st g c = absurd (true≢false (sym v))
 differing_of_moves kept facts now looked wanted name v st g c = λ x e. none_some x e
 
 differing_moves : (kept : List Obj) (facts now looked : List Lit) (wanted : Option Lit) (name : RowName) → is_name_of version.One name ≡ true → Stays kept facts now looked → ((l : Lit) → wanted ≡ Some l → OverLit kept l)
-    → Covered kept looked (of_row facts wanted name) → Moves kept (differing facts wanted name) (differing now (wanted_at kept wanted) (trimmed.row_at kept name))
+    → Covered kept looked (of_row facts wanted name) → Moves kept (differing facts wanted name) (differing now (wanted_at kept wanted) (trimmed.row_name_among_kept kept name))
 differing_moves kept facts now looked wanted name v st g c x e =
     let a = and_then_is (λ (r : Row). cond (says_differ r.says) (Some r) None) (differing_of facts wanted name) x e in
     let s = differs_step (says_differ a.0.says) a.0 x a.2 in
@@ -241,7 +241,7 @@ above_moves kept r o x e = let is = some_is (above_row r) x e in (ap (λ y. Some
 below_moves : (kept : List Obj) (r : Row) → OverRow kept r → Moves kept (Some (below_row r)) (Some (below_row (moved kept r)))
 below_moves kept r o x e =
     let is = some_is (below_row r) x e in (
-      ap (λ f. Some (record { says = More; form = f })) (negative_at (number kept Point) r.form) ∙ ap (λ y. Some (moved kept y)) is,
+      ap (λ f. Some (record { says = More; form = f })) (negative_at (kept_before kept Point) r.form) ∙ ap (λ y. Some (moved kept y)) is,
       subst (OverRow kept) is (over_negative (OfSort kept Point) r.form o),
     )
 

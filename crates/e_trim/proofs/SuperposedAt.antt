@@ -6,18 +6,18 @@ use Rattle.e_construct.specs.declared.superpose.Superpose.{Superpose}
 use Rattle.e_literal.specs.Literal.{obj}
 use Rattle.e_construct.specs.Superposing as superposing
 use Rattle.e_construct.proofs.Superposing.{of_eight, at}
-use Rattle.e_trim.specs.Trimmed.{number, superpose_at}
+use Rattle.e_trim.specs.Trimmed.{kept_before, superpose_at}
 
 abbrev pub numbered : List Obj → List ℕ → List ℕ → Superpose
 numbered kept xs ys = record {
   points =
-      number kept Point (get_or xs 0 0)
-      ∷ number kept Point (get_or xs 1 0)
-      ∷ number kept Point (get_or xs 2 0)
-      ∷ number kept Point (get_or xs 3 0)
-      ∷ number kept Point (get_or xs 4 0)
-      ∷ number kept Point (get_or xs 5 0) ∷ [];
-  lines = number kept ALine (get_or ys 0 0) ∷ number kept ALine (get_or ys 1 0) ∷ [];
+      kept_before kept Point (get_or xs 0 0)
+      ∷ kept_before kept Point (get_or xs 1 0)
+      ∷ kept_before kept Point (get_or xs 2 0)
+      ∷ kept_before kept Point (get_or xs 3 0)
+      ∷ kept_before kept Point (get_or xs 4 0)
+      ∷ kept_before kept Point (get_or xs 5 0) ∷ [];
+  lines = kept_before kept ALine (get_or ys 0 0) ∷ kept_before kept ALine (get_or ys 1 0) ∷ [];
 }
 
 pub numbered_is : (kept : List Obj) (x : Superpose) → length x.points ≡ 6 → length x.lines ≡ 2 → numbered kept x.points x.lines ≡ superpose_at kept x

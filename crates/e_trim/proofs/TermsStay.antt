@@ -20,7 +20,7 @@ use Rattle.e_literal.specs.Facts.{has, are_apart, are_equal_points}
 use Rattle.e_literal.proofs.Terms.{term_eq_is, term_eq_same}
 use Rattle.e_clause.specs.Assignment.{terms_of_atom, terms_of_lits, terms_of_wanted, terms_of_step}
 use Rattle.e_trim.specs.Looked.{Wants, first_that, has_written, parts_ends, of_term}
-use Rattle.e_trim.specs.Trimmed.{number, lit_at}
+use Rattle.e_trim.specs.Trimmed.{kept_before, lit_among_kept}
 use Rattle.e_trim.proofs.Members.{In, any_in}
 use Rattle.e_trim.proofs.LitsAt.{AllKept, OverLit, same_at, has_in, in_has}
 use Rattle.e_trim.proofs.Staying.{Stays}
@@ -46,16 +46,16 @@ first_in p (f ∷ facts) h = by (p f) refl (first_in p facts)
 -- ---- terms as they are written
 
 abbrev at : List Obj → Term → Term
-at kept t = term_at (number kept Point) t
+at kept t = term_at (kept_before kept Point) t
 
-terms_map : (kept : List Obj) (ms : List Mono) → map (λ (m : Mono). m.term) (map (mono_at (number kept Point)) ms) ≡ map (at kept) (map (λ (m : Mono). m.term) ms)
+terms_map : (kept : List Obj) (ms : List Mono) → map (λ (m : Mono). m.term) (map (mono_at (kept_before kept Point)) ms) ≡ map (at kept) (map (λ (m : Mono). m.term) ms)
 terms_map kept [] = refl
 terms_map kept (m ∷ ms) = ap (λ ts. at kept m.term ∷ ts) (terms_map kept ms)
 
-sums_map : (kept : List Obj) (x y : List Mono) → map (λ (m : Mono). m.term) (map (mono_at (number kept Point)) x ++ map (mono_at (number kept Point)) y) ≡ map (at kept) (map (λ (m : Mono). m.term) (x ++ y))
-sums_map kept x y = ap (λ ms. map (λ (m : Mono). m.term) ms) (sym (map-append (mono_at (number kept Point)) x y)) ∙ terms_map kept (x ++ y)
+sums_map : (kept : List Obj) (x y : List Mono) → map (λ (m : Mono). m.term) (map (mono_at (kept_before kept Point)) x ++ map (mono_at (kept_before kept Point)) y) ≡ map (at kept) (map (λ (m : Mono). m.term) (x ++ y))
+sums_map kept x y = ap (λ ms. map (λ (m : Mono). m.term) ms) (sym (map-append (mono_at (kept_before kept Point)) x y)) ∙ terms_map kept (x ++ y)
 
-terms_at : (kept : List Obj) (a : Atom) → terms_of_atom (atom_at (number kept Point) (number kept Line) (number kept Circle) a) ≡ map (at kept) (terms_of_atom a)
+terms_at : (kept : List Obj) (a : Atom) → terms_of_atom (atom_at (kept_before kept Point) (kept_before kept Line) (kept_before kept Circle) a) ≡ map (at kept) (terms_of_atom a)
 terms_at kept (MagEq x y) = sums_map kept x y
 terms_at kept (MagLt x y) = sums_map kept x y
 terms_at kept a = refl
@@ -68,7 +68,7 @@ any_at kept t (u ∷ ts) h = elim (or_cases (term_eq t u) (list_any (term_eq t) 
 ]
 
 -- a literal that has the term has it over the kept points
-pub written_at : (kept : List Obj) (t : Term) (l : Lit) → has_written t l ≡ true → has_written (at kept t) (lit_at kept l) ≡ true
+pub written_at : (kept : List Obj) (t : Term) (l : Lit) → has_written t l ≡ true → has_written (at kept t) (lit_among_kept kept l) ≡ true
 written_at kept t l h = ap (list_any (term_eq (at kept t))) (terms_at kept l.atom) ∙ any_at kept t (terms_of_atom l.atom) h
 
 in_lits : (t : Term) (ls : List Lit) → list_any (term_eq t) (terms_of_lits ls) ≡ list_any (has_written t) ls
@@ -76,7 +76,7 @@ in_lits t [] = refl
 in_lits t (l ∷ ls) = list_any-append (term_eq t) (terms_of_atom l.atom) (terms_of_lits ls) ∙ ap (λ b. list_any (term_eq t) (terms_of_atom l.atom) || b) (in_lits t ls)
 
 abbrev pub wanted_at : List Obj → Option Lit → Option Lit
-wanted_at kept wanted = option_map (lit_at kept) wanted
+wanted_at kept wanted = option_map (lit_among_kept kept) wanted
 
 wanted_stays : (kept : List Obj) (t : Term) (wanted : Option Lit) → list_any (term_eq t) (terms_of_wanted wanted) ≡ true → list_any (term_eq (at kept t)) (terms_of_wanted (wanted_at kept wanted)) ≡ true
 wanted_stays kept t None h = absurd (true≢false (sym h))
@@ -111,7 +111,7 @@ term_stays kept facts now looked wanted t st c h = elim (or_cases (term_eq t Rig
         let r = first_in (has_written t) facts (sym (in_lits t facts) ∙ k) in
         let up = c.lits r.0 (looked_unless (list_any (term_eq t) (terms_of_wanted wanted)) (first_that (has_written t) facts) r.0 none r.3) in
         let n = st.there r.0 r.1 up in
-        in_lits (at kept t) now ∙ any_in (has_written (at kept t)) (lit_at kept r.0) now n.0 (written_at kept t r.0 r.2)
+        in_lits (at kept t) now ∙ any_in (has_written (at kept t)) (lit_among_kept kept r.0) now n.0 (written_at kept t r.0 r.2)
 
     in_either_list : (list_any (term_eq t) (terms_of_lits facts) || list_any (term_eq t) (terms_of_wanted wanted)) ≡ true
         → (list_any (term_eq (at kept t)) (terms_of_lits now) || list_any (term_eq (at kept t)) (terms_of_wanted (wanted_at kept wanted))) ≡ true
@@ -139,16 +139,16 @@ parting facts a b h = elim (or_cases (has facts (differ a b)) (has facts (differ
 
 -- ends that a looked-up fact parts are apart still
 pub apart_stays : (kept : List Obj) (facts now looked : List Lit) (a b : ℕ) → Stays kept facts now looked → ((l : Lit) → In l (first_that (parts_ends (Seg a b)) facts) → has looked l ≡ true)
-    → AllKept kept (objects_of_term (Seg a b)) → are_apart facts a b ≡ true → are_apart now (number kept Point a) (number kept Point b) ≡ true
+    → AllKept kept (objects_of_term (Seg a b)) → are_apart facts a b ≡ true → are_apart now (kept_before kept Point a) (kept_before kept Point b) ≡ true
 apart_stays kept facts now looked a b st up o h =
     let r = first_in (parts_ends (Seg a b)) facts (parting facts a b h) in
     let n = st.there r.0 r.1 (up r.0 r.3) in
     elim (or_cases (same_lit r.0 (differ a b)) (same_lit r.0 (differ b a)) r.2) [
-      | inl e ↦ or_left (has now (differ (number kept Point a) (number kept Point b))) (has now (differ (number kept Point b) (number kept Point a)) || false)
-          (in_has now (lit_at kept r.0) (differ (number kept Point a) (number kept Point b)) n.0 (same_at kept r.0 (differ a b) n.1 one ∙ e))
-      | inr e ↦ or_right (has now (differ (number kept Point a) (number kept Point b))) (has now (differ (number kept Point b) (number kept Point a)) || false)
-          (or_left (has now (differ (number kept Point b) (number kept Point a))) false
-          (in_has now (lit_at kept r.0) (differ (number kept Point b) (number kept Point a)) n.0 (same_at kept r.0 (differ b a) n.1 other ∙ e)))
+      | inl e ↦ or_left (has now (differ (kept_before kept Point a) (kept_before kept Point b))) (has now (differ (kept_before kept Point b) (kept_before kept Point a)) || false)
+          (in_has now (lit_among_kept kept r.0) (differ (kept_before kept Point a) (kept_before kept Point b)) n.0 (same_at kept r.0 (differ a b) n.1 one ∙ e))
+      | inr e ↦ or_right (has now (differ (kept_before kept Point a) (kept_before kept Point b))) (has now (differ (kept_before kept Point b) (kept_before kept Point a)) || false)
+          (or_left (has now (differ (kept_before kept Point b) (kept_before kept Point a))) false
+          (in_has now (lit_among_kept kept r.0) (differ (kept_before kept Point b) (kept_before kept Point a)) n.0 (same_at kept r.0 (differ b a) n.1 other ∙ e)))
     ]
   where
     one : OverLit kept (differ a b)

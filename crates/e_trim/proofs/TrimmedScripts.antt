@@ -26,7 +26,7 @@ use Rattle.e_deriv.specs.Lines.{lines}
 use Rattle.e_deriv.specs.Steps.{are_over}
 use Rattle.e_deriv.specs.Certified.{is_certified}
 use Rattle.e_trim.specs.Looked.{Wants, no_wants, both, needed, of_line, of_certs, of_beside, objects_of_lits}
-use Rattle.e_trim.specs.Trimmed.{supplies, is_needed, is_kept, outside, line_at, wants, lit_at, cert_at, by_at, against_at, form_at, superpose_at, trimmed_from}
+use Rattle.e_trim.specs.Trimmed.{supplies, is_needed, is_kept, wants_outside, line_at, wants, lit_among_kept, cert_at, by_at, against_at, construction_among_kept, superpose_at, trimmed_from}
 use Rattle.e_trim.proofs.Members.{in_left, in_right, in_filter, in_flat}
 use Rattle.e_trim.proofs.Counting.{scope_kept, scope_more}
 use Rattle.e_trim.proofs.LitsAt.{AllKept, OverLit, OverLits, scope_over, lits_scope, has_in, in_has, in_has_own}
@@ -77,7 +77,7 @@ second kept s facts now goal goal' v w r = record {
 }
 
 -- what an inner block wants of what was before it is wanted outside of it
-pub inside : (kept : List Obj) (s : Scope) (facts now : List Lit) (goal goal' : Goal) (w : Wants) → Ready kept s facts now goal goal' (outside s facts w) → Ready kept s facts now goal goal' w
+pub inside : (kept : List Obj) (s : Scope) (facts now : List Lit) (goal goal' : Goal) (w : Wants) → Ready kept s facts now goal goal' (wants_outside s facts w) → Ready kept s facts now goal goal' w
 inside kept s facts now goal goal' w r = record {
   stays = inside_stays kept s facts now w r.stays;
   needed = λ o i h. r.needed o (in_filter (is_in_scope s) o w.objects h i) h;
@@ -94,7 +94,7 @@ covered kept s facts now goal goal' w r h = record { lits = λ l i. in_has_own w
 
 -- the literals of a kept step without new objects join on both sides
 pub joined_ready : (kept : List Obj) (s : Scope) (facts now ls : List Lit) (goal goal' : Goal) (w : Wants) → OverLits kept ls → Ready kept s facts now goal goal' w
-    → Ready kept s (joined_all facts ls) (joined_all now (map (lit_at kept) ls)) goal goal' w
+    → Ready kept s (joined_all facts ls) (joined_all now (map (lit_among_kept kept) ls)) goal goal' w
 joined_ready kept s facts now ls goal goal' w o r = record { stays = joins_all kept facts now w.lits ls o r.stays; needed = r.needed; bound = r.bound; goes = r.goes }
 
 -- those of a dropped step without new objects join on one
@@ -113,7 +113,7 @@ over_all_named kept looked ls more c l i o j = (cover_left kept looked (needed (
 
 hence_line : (before : List StatementView) (kept : List Obj) (s : Scope) (facts now : List Lit) (goal goal' : Goal) (l : Lit) (cert : Option Cert) (rest t : Script)
     → option_map_or (is_cert_of version.One) cert true ≡ true → is_certified before (line_at (Hence l cert rest) s facts goal) ≡ true → Ready kept s facts now goal goal' (of_line before (line_at (Hence l cert rest) s facts goal))
-    → (is_certified before (line_at (Hence (lit_at kept l) (option_map (cert_at kept) cert) t) (scope_kept kept) now goal') ≡ true) × OverLit kept l
+    → (is_certified before (line_at (Hence (lit_among_kept kept l) (option_map (cert_at kept) cert) t) (scope_kept kept) now goal') ≡ true) × OverLit kept l
 hence_line before kept s facts now goal goal' l None rest t v h r =
     let p = and_parts (all_in_scope s l) (certify_all s facts (l ∷ []) [] && true) h in
     let q = and_parts (certify_all s facts (l ∷ []) []) true p.1 in
@@ -130,8 +130,8 @@ hence_line before kept s facts now goal goal' l (Some x) rest t v h r =
     let own = cover_left kept w.lits certs no_wants (cover_right kept w.lits (needed (objects_of_atom l.atom)) (both certs no_wants) c) in
     let over : OverLits kept (l ∷ []) = λ m i. elim i [ inl e ↦ subst (OverLit kept) e o | inr f ↦ absurd f ] in
     let done = certs_stay kept s facts now w.lits (l ∷ []) (x ∷ []) (and_from (is_cert_of version.One x) true v refl) r.stays over own q.0 in (
-      and_from (all_in_scope (scope_kept kept) (lit_at kept l)) (certify_all (scope_kept kept) now (lit_at kept l ∷ []) (cert_at kept x ∷ []) && true) (scope_over kept l o)
-          (and_from (certify_all (scope_kept kept) now (lit_at kept l ∷ []) (cert_at kept x ∷ [])) true done refl),
+      and_from (all_in_scope (scope_kept kept) (lit_among_kept kept l)) (certify_all (scope_kept kept) now (lit_among_kept kept l ∷ []) (cert_at kept x ∷ []) && true) (scope_over kept l o)
+          (and_from (certify_all (scope_kept kept) now (lit_among_kept kept l ∷ []) (cert_at kept x ∷ [])) true done refl),
       o,
     )
 
@@ -152,12 +152,12 @@ hence_goes before kept s facts goal l cert rest v h more now goal' r = by (is_ke
     own = of_line before (line_at (Hence l cert rest) s facts goal)
 
     by : (b : Bool) → is_kept before (Hence l cert rest) s facts w ≡ b → Ready kept s facts now goal goal' (cond b (both w (both own no_wants)) w)
-        → certified_from before (cond b (Hence (lit_at kept l) (option_map (cert_at kept) cert) t) t) (scope_kept kept) now goal' ≡ true
+        → certified_from before (cond b (Hence (lit_among_kept kept l) (option_map (cert_at kept) cert) t) t) (scope_kept kept) now goal' ≡ true
     by true e k =
         let x = hence_line before kept s facts now goal goal' l cert rest t v h (first kept s facts now goal goal' own no_wants (second kept s facts now goal goal' w (both own no_wants) k)) in
         let over : OverLits kept (l ∷ []) = λ m i. elim i [ inl f ↦ subst (OverLit kept) f x.1 | inr f ↦ absurd f ] in
-        and_from (is_certified before (line_at (Hence (lit_at kept l) (option_map (cert_at kept) cert) t) (scope_kept kept) now goal')) (certified_from before t (scope_kept kept) (joined now (lit_at kept l)) goal') x.0
-        (more (joined now (lit_at kept l)) goal' (joined_ready kept s facts now (l ∷ []) goal goal' w over (first kept s facts now goal goal' w (both own no_wants) k)))
+        and_from (is_certified before (line_at (Hence (lit_among_kept kept l) (option_map (cert_at kept) cert) t) (scope_kept kept) now goal')) (certified_from before t (scope_kept kept) (joined now (lit_among_kept kept l)) goal') x.0
+        (more (joined now (lit_among_kept kept l)) goal' (joined_ready kept s facts now (l ∷ []) goal goal' w over (first kept s facts now goal goal' w (both own no_wants) k)))
     by false e k =
         let p = or_parts (list_any (supplies facts w) (l ∷ [])) false e in
         more now goal' (dropped_ready kept s facts now (l ∷ []) goal goal' w p.0 k)
@@ -203,9 +203,9 @@ cite_goes before kept s facts goal x rest h more now goal' r = by (is_kept befor
         let beside = cover_right kept own.lits no_wants (of_beside (Cite x rest) facts) (cover_right kept own.lits (needed named) (both no_wants (of_beside (Cite x rest) facts)) c) in
         let cited = cited_still kept facts now own.lits x rw'.stays args lit beside (and_parts true (is_cited facts x) p.1).1 in
         let over : OverLits kept (x.lit ∷ []) = λ m i. elim i [ inl f ↦ subst (OverLit kept) f lit | inr f ↦ absurd f ] in
-        and_from (is_certified before (line_at (Cite (by_at kept x) t) (scope_kept kept) now goal')) (certified_from before t (scope_kept kept) (joined now (lit_at kept x.lit)) goal')
+        and_from (is_certified before (line_at (Cite (by_at kept x) t) (scope_kept kept) now goal')) (certified_from before t (scope_kept kept) (joined now (lit_among_kept kept x.lit)) goal')
         (and_from (is_citation (scope_kept kept) (by_at kept x)) (true && is_cited now (by_at kept x)) (citation_fits kept s x p.0 args lit) (and_from true (is_cited now (by_at kept x)) refl cited))
-        (more (joined now (lit_at kept x.lit)) goal' (joined_ready kept s facts now (x.lit ∷ []) goal goal' w over (first kept s facts now goal goal' w (both own no_wants) k)))
+        (more (joined now (lit_among_kept kept x.lit)) goal' (joined_ready kept s facts now (x.lit ∷ []) goal goal' w over (first kept s facts now goal goal' w (both own no_wants) k)))
     by false e k =
         let p = or_parts (list_any (supplies facts w) (x.lit ∷ [])) false e in
         more now goal' (dropped_ready kept s facts now (x.lit ∷ []) goal goal' w p.0 k)
@@ -243,20 +243,20 @@ claim_goes before kept s facts goal shown inner rest h block more now goal' r = 
     own = of_line before (line_at (Claim shown inner rest) s facts goal)
 
     shown' : List Lit
-    shown' = map (lit_at kept) shown
+    shown' = map (lit_among_kept kept) shown
 
-    by : (b : Bool) → is_kept before (Claim shown inner rest) s facts w ≡ b → Ready kept s facts now goal goal' (cond b (both w (both own (outside s facts v))) w)
+    by : (b : Bool) → is_kept before (Claim shown inner rest) s facts w ≡ b → Ready kept s facts now goal goal' (cond b (both w (both own (wants_outside s facts v))) w)
         → certified_from before (cond b (Claim shown' i t) t) (scope_kept kept) now goal' ≡ true
     by true e k =
-        let line_and_block = second kept s facts now goal goal' w (both own (outside s facts v)) k in
-        let own_ready = first kept s facts now goal goal' own (outside s facts v) line_and_block in
+        let line_and_block = second kept s facts now goal goal' w (both own (wants_outside s facts v)) k in
+        let own_ready = first kept s facts now goal goal' own (wants_outside s facts v) line_and_block in
         let p = and_parts (are_over s shown) (true && true) h in
         let c = covered kept s facts now goal goal' own own_ready (both_in s (objects_of_lits shown) [] (lits_in s shown p.0) (λ o j. absurd j)) in
         let over = over_all_named kept own.lits shown (both no_wants no_wants) c in
-        let inner_ready = inside kept s facts now goal goal' v (second kept s facts now goal goal' own (outside s facts v) line_and_block) in
+        let inner_ready = inside kept s facts now goal goal' v (second kept s facts now goal goal' own (wants_outside s facts v) line_and_block) in
         let goes : GoalGoes kept s (goal_of shown) (goal_of shown') = inl (record { shown = shown; before = refl; after = refl; over = over }) in
         let done = block now (goal_of shown') (with_goal kept s facts now goal goal' (goal_of shown) (goal_of shown') v goes inner_ready) in
-        let next = more (joined_all now shown') goal' (joined_ready kept s facts now shown goal goal' w over (first kept s facts now goal goal' w (both own (outside s facts v)) k)) in
+        let next = more (joined_all now shown') goal' (joined_ready kept s facts now shown goal goal' w over (first kept s facts now goal goal' w (both own (wants_outside s facts v)) k)) in
         and_from (is_certified before (line_at (Claim shown' i t) (scope_kept kept) now goal')) _
         (and_from (are_over (scope_kept kept) shown') (true && true) (lits_scope kept shown over) refl)
         (list_all-append (is_certified before) (lines before i i (scope_kept kept) now (goal_of shown')) (lines before t t (scope_kept kept) (joined_all now shown') goal') ∙ and_from _ _ done next)
@@ -276,7 +276,7 @@ cases_goes before kept s facts goal l one other h first_goes second_goes now goa
     let own = of_line before (line_at (Cases l one other) s facts goal) in
     let v = wants before one s (joined facts l) goal in
     let w = wants before other s (joined facts (negation l)) goal in
-    let blocks = both (outside s facts w) (outside s facts v) in
+    let blocks = both (wants_outside s facts w) (wants_outside s facts v) in
     let p = and_parts (all_in_scope s l) (true && true) h in
     let own_ready = first kept s facts now goal goal' own blocks r in
     let c = covered kept s facts now goal goal' own own_ready (both_in s (objects_of_atom l.atom) [] (listed_in s (objects_of_atom l.atom) p.0) (λ o j. absurd j)) in
@@ -284,16 +284,16 @@ cases_goes before kept s facts goal l one other h first_goes second_goes now goa
     let over : OverLits kept (l ∷ []) = λ m i. elim i [ inl f ↦ subst (OverLit kept) f o | inr f ↦ absurd f ] in
     let over_not : OverLits kept (negation l ∷ []) = λ m i. elim i [ inl f ↦ subst (OverLit kept) f o | inr f ↦ absurd f ] in
     let inner = second kept s facts now goal goal' own blocks r in
-    let b = inside kept s facts now goal goal' w (first kept s facts now goal goal' (outside s facts w) (outside s facts v) inner) in
-    let a = inside kept s facts now goal goal' v (second kept s facts now goal goal' (outside s facts w) (outside s facts v) inner) in
-    let x = first_goes (joined now (lit_at kept l)) goal' (joined_ready kept s facts now (l ∷ []) goal goal' v over a) in
-    let y = second_goes (joined now (lit_at kept (negation l))) goal' (joined_ready kept s facts now (negation l ∷ []) goal goal' w over_not b) in
+    let b = inside kept s facts now goal goal' w (first kept s facts now goal goal' (wants_outside s facts w) (wants_outside s facts v) inner) in
+    let a = inside kept s facts now goal goal' v (second kept s facts now goal goal' (wants_outside s facts w) (wants_outside s facts v) inner) in
+    let x = first_goes (joined now (lit_among_kept kept l)) goal' (joined_ready kept s facts now (l ∷ []) goal goal' v over a) in
+    let y = second_goes (joined now (lit_among_kept kept (negation l))) goal' (joined_ready kept s facts now (negation l ∷ []) goal goal' w over_not b) in
     let v' = trimmed_from before kept one s (joined facts l) goal in
     let w' = trimmed_from before kept other s (joined facts (negation l)) goal in
-    let one_lines = lines before v' v' (scope_kept kept) (joined now (lit_at kept l)) goal' in
-    let other_lines = lines before w' w' (scope_kept kept) (joined now (negation (lit_at kept l))) goal' in
-    and_from (is_certified before (line_at (Cases (lit_at kept l) v' w') (scope_kept kept) now goal')) (list_all (is_certified before) (one_lines ++ other_lines))
-    (and_from (all_in_scope (scope_kept kept) (lit_at kept l)) (true && true) (scope_over kept l o) refl)
+    let one_lines = lines before v' v' (scope_kept kept) (joined now (lit_among_kept kept l)) goal' in
+    let other_lines = lines before w' w' (scope_kept kept) (joined now (negation (lit_among_kept kept l))) goal' in
+    and_from (is_certified before (line_at (Cases (lit_among_kept kept l) v' w') (scope_kept kept) now goal')) (list_all (is_certified before) (one_lines ++ other_lines))
+    (and_from (all_in_scope (scope_kept kept) (lit_among_kept kept l)) (true && true) (scope_over kept l o) refl)
     (list_all-append (is_certified before) one_lines other_lines ∙ and_from (list_all (is_certified before) one_lines) (list_all (is_certified before) other_lines) x y)
 
 -- ---- closes
@@ -367,7 +367,7 @@ make_goes before kept s facts goal form names certs rest v h more now goal' r = 
     t = trimmed_from before wide rest (grown s new) after goal
 
     by : (b : Bool) → is_kept before here s facts w ≡ b → Ready kept s facts now goal goal' (cond b (both w (both own no_wants)) w)
-        → certified_from before (cond b (Make (form_at kept form) names (map (cert_at kept) certs) t) (trimmed_from before kept rest (grown s new) after goal)) (scope_kept kept) now goal' ≡ true
+        → certified_from before (cond b (Make (construction_among_kept kept form) names (map (cert_at kept) certs) t) (trimmed_from before kept rest (grown s new) after goal)) (scope_kept kept) now goal' ≡ true
     by true e k =
         let line_ready = first kept s facts now goal goal' own no_wants (second kept s facts now goal goal' w (both own no_wants) k) in
         let looked = of_certs facts (needs_of_form form) certs in
@@ -379,12 +379,12 @@ make_goes before kept s facts goal form names certs rest v h more now goal' r = 
         let own_certs = cover_left kept own.lits looked no_wants (cover_right kept own.lits (needed named) (both looked no_wants) c) in
         let done = certs_stay kept s facts now own.lits (needs_of_form form) certs v line_ready.stays (needs_over kept s form p.0 objects) own_certs q.0 in
         let given = gives_at kept s form line_ready.bound objects p.0 in
-        let next = more wide (joined_all now (map (lit_at wide) (gives_of_construction form s))) goal'
+        let next = more wide (joined_all now (map (lit_among_kept wide) (gives_of_construction form s))) goal'
         (made_ready kept s new facts now (gives_of_construction form s) goal goal' w (gives_over kept s form p.0 objects) (first kept s facts now goal goal' w (both own no_wants) k)) in
-        and_from (is_certified before (line_at (Make (form_at kept form) names (map (cert_at kept) certs) t) (scope_kept kept) now goal')) _
-        (and_from (fits_form (form_at kept form) (scope_kept kept)) _ (fits_at kept s form p.0 objects)
+        and_from (is_certified before (line_at (Make (construction_among_kept kept form) names (map (cert_at kept) certs) t) (scope_kept kept) now goal')) _
+        (and_from (fits_form (construction_among_kept kept form) (scope_kept kept)) _ (fits_at kept s form p.0 objects)
         (and_from _ true (ap (λ ls. certify_all (scope_kept kept) now ls (map (cert_at kept) certs)) (needs_at kept s form p.0) ∙ done) refl))
-        (ap (λ z. certified_from before t z (joined_all now (gives_of_construction (form_at kept form) (scope_kept kept))) goal') (sym (scope_more kept s new))
+        (ap (λ z. certified_from before t z (joined_all now (gives_of_construction (construction_among_kept kept form) (scope_kept kept))) goal') (sym (scope_more kept s new))
         ∙ ap (λ ls. certified_from before t (scope_kept wide) (joined_all now ls) goal') given ∙ next)
     by false e k =
         let p = or_parts (list_any (supplies facts w) (gives_of_construction form s)) (list_any (is_needed w) (next_objects s new)) e in
@@ -439,16 +439,16 @@ superposed_goes before kept s facts goal form names shown certs inner rest one h
     own = of_line before (line_at here s facts goal)
 
     shown' : List Lit
-    shown' = map (lit_at kept) shown
+    shown' = map (lit_among_kept kept) shown
 
     named : List Obj
     named = superposing.objects_of form ++ objects_of_lits shown
 
-    by : (b : Bool) → is_kept before here s facts w ≡ b → Ready kept s facts now goal goal' (cond b (both w (both own (outside s facts v))) w)
+    by : (b : Bool) → is_kept before here s facts w ≡ b → Ready kept s facts now goal goal' (cond b (both w (both own (wants_outside s facts v))) w)
         → certified_from before (cond b (Superposed (superpose_at kept form) names shown' (map (cert_at kept) certs) i t) t) (scope_kept kept) now goal' ≡ true
     by true e k =
-        let line_and_block = second kept s facts now goal goal' w (both own (outside s facts v)) k in
-        let line_ready = first kept s facts now goal goal' own (outside s facts v) line_and_block in
+        let line_and_block = second kept s facts now goal goal' w (both own (wants_outside s facts v)) k in
+        let line_ready = first kept s facts now goal goal' own (wants_outside s facts v) line_and_block in
         let looked = of_certs facts (superposing.needs_of_superposition form) certs in
         let p = and_parts (superposing.fits_superposition form s && are_over s shown) (certify_all s facts (superposing.needs_of_superposition form) certs && true) h in
         let f = and_parts (superposing.fits_superposition form s) (are_over s shown) p.0 in
@@ -462,11 +462,11 @@ superposed_goes before kept s facts goal form names shown certs inner rest one h
         let own_certs = cover_left kept own.lits looked no_wants (cover_right kept own.lits (needed named) (both looked no_wants) c) in
         let done = certs_stay kept s facts now own.lits (superposing.needs_of_superposition form) certs one line_ready.stays (superposition_needs_over kept s form f.0 args) own_certs q.0 in
         let gives' = superposition_gives kept s form line_ready.bound args f.0 in
-        let inner_ready = inside kept s facts now goal goal' v (second kept s facts now goal goal' own (outside s facts v) line_and_block) in
+        let inner_ready = inside kept s facts now goal goal' v (second kept s facts now goal goal' own (wants_outside s facts v) line_and_block) in
         let goes : GoalGoes kept s (goal_of shown) (goal_of shown') = inl (record { shown = shown; before = refl; after = refl; over = over }) in
         let opened = made_ready kept s superposing.sorts_copied facts now given (goal_of shown) (goal_of shown') v (superposition_gives_over kept s form f.0 args) (with_goal kept s facts now goal goal' (goal_of shown) (goal_of shown') v goes inner_ready) in
-        let block_done = block (joined_all now (map (lit_at wide) given)) (goal_of shown') opened in
-        let next = more (joined_all now shown') goal' (joined_ready kept s facts now shown goal goal' w over (first kept s facts now goal goal' w (both own (outside s facts v)) k)) in
+        let block_done = block (joined_all now (map (lit_among_kept wide) given)) (goal_of shown') opened in
+        let next = more (joined_all now shown') goal' (joined_ready kept s facts now shown goal goal' w over (first kept s facts now goal goal' w (both own (wants_outside s facts v)) k)) in
         and_from (is_certified before (line_at (Superposed (superpose_at kept form) names shown' (map (cert_at kept) certs) i t) (scope_kept kept) now goal'))
         (list_all (is_certified before) (lines before i i (grown (scope_kept kept) superposing.sorts_copied) (joined_all now (superposing.gives_of_superposition (superpose_at kept form) (scope_kept kept))) (goal_of shown') ++ lines before t t (scope_kept kept) (joined_all now shown') goal'))
         (and_from (superposing.fits_superposition (superpose_at kept form) (scope_kept kept) && are_over (scope_kept kept) shown') (certify_all (scope_kept kept) now (superposing.needs_of_superposition (superpose_at kept form)) (map (cert_at kept) certs) && true)

@@ -68,8 +68,8 @@ is_kept before here s facts w =
 
 -- of what a block wants, what is outside of it: facts that stood before it, and objects that were
 -- in scope
-abbrev pub outside : Scope → List Lit → Wants → Wants
-outside s facts w = record { lits = filter (has facts) w.lits; objects = filter (is_in_scope s) w.objects }
+abbrev pub wants_outside : Scope → List Lit → Wants → Wants
+wants_outside s facts w = record { lits = filter (has facts) w.lits; objects = filter (is_in_scope s) w.objects }
 
 -- ---- from the close backwards
 
@@ -79,69 +79,69 @@ line_at here s facts goal = line here here s facts goal
 
 -- Where this is wanted after a step, and that by the block inside it, what is wanted from the step
 -- on: a step that is not kept wants nothing.
-abbrev pub with_step : List StatementView → Script → Scope → List Lit → Goal → Wants → Wants → Wants
-with_step before here s facts goal inner w =
+abbrev pub wants_with_step : List StatementView → Script → Scope → List Lit → Goal → Wants → Wants → Wants
+wants_with_step before here s facts goal inner w =
     if is_kept before here s facts w then both w (both (of_line before (line_at here s facts goal)) inner) else w
 
 -- what the kept steps and the close look up and need, from here to the end of the block
 unfoldable pub wants : List StatementView → Script → Scope → List Lit → Goal → Wants
 wants before (Cite by rest) s facts goal =
-    with_step before (Cite by rest) s facts goal no_wants (wants before rest s (joined facts by.lit) goal)
+    wants_with_step before (Cite by rest) s facts goal no_wants (wants before rest s (joined facts by.lit) goal)
 wants before (Hence lit cert rest) s facts goal =
-    with_step before (Hence lit cert rest) s facts goal no_wants (wants before rest s (joined facts lit) goal)
+    wants_with_step before (Hence lit cert rest) s facts goal no_wants (wants before rest s (joined facts lit) goal)
 wants before (Make form names certs rest) s facts goal =
-    with_step before (Make form names certs rest) s facts goal no_wants
+    wants_with_step before (Make form names certs rest) s facts goal no_wants
     (wants before rest (grown s (sorts_made form)) (joined_all facts (gives_of_construction form s)) goal)
 wants before (Apply theorem args names certs rest) s facts goal =
     let here = Apply theorem args names certs rest in
-    with_step before here s facts goal no_wants
+    wants_with_step before here s facts goal no_wants
     (wants before rest (grown s (theorem_at before theorem).made) (joined_all facts (joins_at before here s)) goal)
 wants before (Claim shown inner rest) s facts goal =
-    with_step before (Claim shown inner rest) s facts goal (outside s facts (wants before inner s facts (goal_of shown)))
+    wants_with_step before (Claim shown inner rest) s facts goal (wants_outside s facts (wants before inner s facts (goal_of shown)))
     (wants before rest s (joined_all facts shown) goal)
 wants before (Superposed form names shown certs inner rest) s facts goal =
-    with_step before (Superposed form names shown certs inner rest) s facts goal
-    (outside s facts (wants before inner (grown s superposing.sorts_copied) (joined_all facts (superposing.gives_of_superposition form s)) (goal_of shown)))
+    wants_with_step before (Superposed form names shown certs inner rest) s facts goal
+    (wants_outside s facts (wants before inner (grown s superposing.sorts_copied) (joined_all facts (superposing.gives_of_superposition form s)) (goal_of shown)))
     (wants before rest s (joined_all facts shown) goal)
 wants before (Qed objects certs) s facts goal = of_line before (line_at (Qed objects certs) s facts goal)
 wants before (Contradiction against) s facts goal = of_line before (line_at (Contradiction against) s facts goal)
 wants before (Cases lit first second) s facts goal =
     both (of_line before (line_at (Cases lit first second) s facts goal))
-    (both (outside s facts (wants before second s (joined facts (negation lit)) goal))
-    (outside s facts (wants before first s (joined facts lit) goal)))
+    (both (wants_outside s facts (wants before second s (joined facts (negation lit)) goal))
+    (wants_outside s facts (wants before first s (joined facts lit) goal)))
 
 -- ---- the objects take the next numbers anew
 
-abbrev pub is_less : Obj → Sort → ℕ → Bool
-is_less k sort n = same_sort k.sort sort && nat_lt k.num n
+abbrev pub is_lesser_of_sort : Obj → Sort → ℕ → Bool
+is_lesser_of_sort k sort n = same_sort k.sort sort && nat_lt k.num n
 
 -- how many of the kept objects of the sort have a lesser number
-abbrev pub number : List Obj → Sort → ℕ → ℕ
-number [] sort n = 0
-number (k ∷ kept) sort n = (if is_less k sort n then 1 else 0) + number kept sort n
+abbrev pub kept_before : List Obj → Sort → ℕ → ℕ
+kept_before [] sort n = 0
+kept_before (k ∷ kept) sort n = (if is_lesser_of_sort k sort n then 1 else 0) + kept_before kept sort n
 
 abbrev pub obj_at : List Obj → Obj → Obj
-obj_at kept o = obj o.sort (number kept o.sort o.num)
+obj_at kept o = obj o.sort (kept_before kept o.sort o.num)
 
-abbrev pub image_of : List Obj → Obj → Option Obj
-image_of kept o = Some (obj_at kept o)
+abbrev pub image_among_kept : List Obj → Obj → Option Obj
+image_among_kept kept o = Some (obj_at kept o)
 
-abbrev pub lit_at : List Obj → Lit → Lit
-lit_at kept l = renamed (image_of kept) l
+abbrev pub lit_among_kept : List Obj → Lit → Lit
+lit_among_kept kept l = renamed (image_among_kept kept) l
 
-abbrev pub row_at : List Obj → RowName → RowName
-row_at kept (Fact l) = Fact (lit_at kept l)
-row_at kept (Pos t) = Pos (term_at (number kept Point) t)
-row_at kept (Top t) = Top (term_at (number kept Point) t)
-row_at kept (Least t) = Least (term_at (number kept Point) t)
-row_at kept name = name
+abbrev pub row_name_among_kept : List Obj → RowName → RowName
+row_name_among_kept kept (Fact l) = Fact (lit_among_kept kept l)
+row_name_among_kept kept (Pos t) = Pos (term_at (kept_before kept Point) t)
+row_name_among_kept kept (Top t) = Top (term_at (kept_before kept Point) t)
+row_name_among_kept kept (Least t) = Least (term_at (kept_before kept Point) t)
+row_name_among_kept kept name = name
 
 abbrev pub sum_at : List Obj → List (ℤ × RowName) → List (ℤ × RowName)
-sum_at kept xs = map (λ x. (x.0, row_at kept x.1)) xs
+sum_at kept xs = map (λ x. (x.0, row_name_among_kept kept x.1)) xs
 
 abbrev pub sums_at : List Obj → Sums → Sums
 sums_at kept (One sum) = One (sum_at kept sum)
-sums_at kept (Two differs above below) = Two (row_at kept differs) (sum_at kept above) (sum_at kept below)
+sums_at kept (Two differs above below) = Two (row_name_among_kept kept differs) (sum_at kept above) (sum_at kept below)
 
 abbrev pub metric_at : List Obj → MetricCert → MetricCert
 metric_at kept m = record { sums = sums_at kept m.sums }
@@ -151,25 +151,25 @@ part_at kept FactPart = FactPart
 part_at kept (Metric m) = Metric (metric_at kept m)
 part_at kept (FactPartAt k) = FactPartAt k
 
-abbrev pub transfer_at : List Obj → TransferCert → TransferCert
-transfer_at kept t = record { rule = t.rule; args = map (obj_at kept) t.args; parts = map (part_at kept) t.parts }
+abbrev pub transfer_among_kept : List Obj → TransferCert → TransferCert
+transfer_among_kept kept t = record { rule = t.rule; args = map (obj_at kept) t.args; parts = map (part_at kept) t.parts }
 
 abbrev pub cert_at : List Obj → Cert → Cert
 cert_at kept (Plain p) = Plain (part_at kept p)
-cert_at kept (Transfer t) = Transfer (transfer_at kept t)
+cert_at kept (Transfer t) = Transfer (transfer_among_kept kept t)
 
 abbrev pub against_at : List Obj → Against → Against
-against_at kept (Clash l) = Clash (lit_at kept l)
+against_at kept (Clash l) = Clash (lit_among_kept kept l)
 against_at kept (MetricAgainst m) = MetricAgainst (metric_at kept m)
 
 abbrev pub by_at : List Obj → By → By
-by_at kept by = record { rule = by.rule; args = map (obj_at kept) by.args; lit = lit_at kept by.lit }
+by_at kept by = record { rule = by.rule; args = map (obj_at kept) by.args; lit = lit_among_kept kept by.lit }
 
-abbrev pub form_at : List Obj → Construction → Construction
-form_at kept form = record { shape = form.shape; args = map (obj_at kept) form.args; avoid = map (obj_at kept) form.avoid }
+abbrev pub construction_among_kept : List Obj → Construction → Construction
+construction_among_kept kept form = record { shape = form.shape; args = map (obj_at kept) form.args; avoid = map (obj_at kept) form.avoid }
 
 abbrev pub superpose_at : List Obj → Superpose → Superpose
-superpose_at kept form = record form { points = map (number kept Point) form.points; lines = map (number kept ALine) form.lines }
+superpose_at kept form = record form { points = map (kept_before kept Point) form.points; lines = map (kept_before kept ALine) form.lines }
 
 abbrev pub args_at : List Obj → List (Option Obj) → List (Option Obj)
 args_at kept args = map (option_map (obj_at kept)) args
@@ -184,12 +184,12 @@ trimmed_from before kept (Cite by rest) s facts goal =
 trimmed_from before kept (Hence lit cert rest) s facts goal =
     let more = trimmed_from before kept rest s (joined facts lit) goal in
     if is_kept before (Hence lit cert rest) s facts (wants before rest s (joined facts lit) goal)
-    then Hence (lit_at kept lit) (option_map (cert_at kept) cert) more else more
+    then Hence (lit_among_kept kept lit) (option_map (cert_at kept) cert) more else more
 trimmed_from before kept (Make form names certs rest) s facts goal =
     let after = joined_all facts (gives_of_construction form s) in
     let wide = grown s (sorts_made form) in
     if is_kept before (Make form names certs rest) s facts (wants before rest wide after goal)
-    then Make (form_at kept form) names (map (cert_at kept) certs)
+    then Make (construction_among_kept kept form) names (map (cert_at kept) certs)
     (trimmed_from before (kept ++ next_objects s (sorts_made form)) rest wide after goal)
     else trimmed_from before kept rest wide after goal
 trimmed_from before kept (Apply theorem args names certs rest) s facts goal =
@@ -203,18 +203,18 @@ trimmed_from before kept (Apply theorem args names certs rest) s facts goal =
 trimmed_from before kept (Claim shown inner rest) s facts goal =
     let more = trimmed_from before kept rest s (joined_all facts shown) goal in
     if is_kept before (Claim shown inner rest) s facts (wants before rest s (joined_all facts shown) goal)
-    then Claim (map (lit_at kept) shown) (trimmed_from before kept inner s facts (goal_of shown)) more else more
+    then Claim (map (lit_among_kept kept) shown) (trimmed_from before kept inner s facts (goal_of shown)) more else more
 trimmed_from before kept (Superposed form names shown certs inner rest) s facts goal =
     let more = trimmed_from before kept rest s (joined_all facts shown) goal in
     let opened = joined_all facts (superposing.gives_of_superposition form s) in
     if is_kept before (Superposed form names shown certs inner rest) s facts (wants before rest s (joined_all facts shown) goal)
-    then Superposed (superpose_at kept form) names (map (lit_at kept) shown) (map (cert_at kept) certs)
+    then Superposed (superpose_at kept form) names (map (lit_among_kept kept) shown) (map (cert_at kept) certs)
     (trimmed_from before (kept ++ next_objects s superposing.sorts_copied) inner (grown s superposing.sorts_copied) opened (goal_of shown)) more
     else more
 trimmed_from before kept (Qed objects certs) s facts goal = Qed (map (obj_at kept) objects) (map (cert_at kept) certs)
 trimmed_from before kept (Contradiction against) s facts goal = Contradiction (option_map (against_at kept) against)
 trimmed_from before kept (Cases lit first second) s facts goal =
-    Cases (lit_at kept lit) (trimmed_from before kept first s (joined facts lit) goal)
+    Cases (lit_among_kept kept lit) (trimmed_from before kept first s (joined facts lit) goal)
     (trimmed_from before kept second s (joined facts (negation lit)) goal)
 
 -- the declared objects are kept

@@ -5,7 +5,7 @@ ghost use Rattle.std.specs.Option.{option_map};
 ghost use Rattle.e_literal.specs.Facts;
 ghost use Rattle.e_literal.specs.Literal.{negation};
 ghost use Rattle.e_clause.specs.Instance.{Inst};
-ghost use Rattle.e_trim.specs.inner.Wanted.{negated_in};
+ghost use Rattle.e_trim.specs.inner.Wanted.{negations_of_others};
 
 use e_clause::{InstanceFault, Rule, instance};
 use e_literal::{Lit, Obj, negate, same};
@@ -45,7 +45,7 @@ pub fn negated_others(
     args: &[Obj],
     lit: &Lit,
 ) -> Result<Vec<Lit>, AllocError>
-    ensures { IfOk result (λ v. v.items ≡ negated_in rule args.now lit.now) }
+    ensures { IfOk result (λ v. v.items ≡ negations_of_others rule args.now lit.now) }
 {
     match instance_of(alloc, rule, args)? {
         Some(lits) => negated_among(alloc, lits, lit),

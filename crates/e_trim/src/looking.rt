@@ -7,7 +7,7 @@ ghost use Rattle.e_literal.specs.Scopes.{grown};
 ghost use Rattle.e_theorem.specs.Statements.{all_stated};
 ghost use Rattle.e_deriv.specs.Fitting.{is_small, is_small_statement};
 ghost use Rattle.e_deriv.specs.Script.{script_of, steps_script, close_script};
-ghost use Rattle.e_trim.specs.Trimmed.{outside, wants};
+ghost use Rattle.e_trim.specs.Trimmed.{wants_outside, wants};
 ghost use Rattle.e_trim.specs.inner.Flags.{flags_of};
 ghost use Rattle.e_trim.specs.inner.StepState.{IsReady, IsReadyToTrim, StepAdds, FlagsAdded};
 ghost use Rattle.e_trim.specs.inner.StepState.{StepWants, StepFlags, KeepsFacts, goal_said};
@@ -153,7 +153,7 @@ fn look_inside(
         (grown state.old.scope sorts.now) (joined_all state.old.facts lits.now)
         (goal_said goal.now) }
     requires statements { IsTrue (list_all is_small_statement (all_stated before.now)) }
-    ensures wanted { IfOk result (λ w. w ≡ outside state.old.scope state.old.facts
+    ensures wanted { IfOk result (λ w. w ≡ wants_outside state.old.scope state.old.facts
         (wants (all_stated before.now) (script_of block.now) (grown state.old.scope sorts.now)
         (joined_all state.old.facts lits.now) (goal_said goal.now))) }
     ensures flags { OnOk result (flags.new.items ≡ flags.old.items

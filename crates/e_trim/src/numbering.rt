@@ -5,7 +5,7 @@ ghost use Rattle.std.specs.Option.{option_map};
 ghost use Rattle.e_literal.specs.declared.object.Sort.TheVariants.{Point, Line, Circle};
 ghost use Rattle.e_literal.specs.Rename.{term_at, mono_at, atom_at};
 ghost use Rattle.e_trim.specs.Trimmed;
-ghost use Rattle.e_trim.specs.Trimmed.{is_less};
+ghost use Rattle.e_trim.specs.Trimmed.{is_lesser_of_sort};
 
 use e_clause::{Against, By, Cert, MetricCert, Part, RowName, Sum, Sums, TransferCert};
 use e_construct::{Construction, Superpose};
@@ -14,7 +14,7 @@ use std::alloc::{AllocError, Global};
 
 /// Whether the object is of the sort, and has a lesser number.
 fn is_less(object: Obj, sort: Sort, number: u16) -> bool
-    ensures { result ≡ is_less object sort number }
+    ensures { result ≡ is_lesser_of_sort object sort number }
 {
     object.sort == sort && object.num < number
 }
@@ -23,7 +23,7 @@ fn is_less(object: Obj, sort: Sort, number: u16) -> bool
 #[tactic(auto, using(crate::proofs::Counting::counting))]
 fn number(kept: &[Obj], sort: Sort, number: u16) -> u16
     requires { length kept.now < 2 ^ 16 }
-    ensures { result ≡ Trimmed.number kept.now sort number }
+    ensures { result ≡ Trimmed.kept_before kept.now sort number }
 {
     let mut less = 0u16;
     for object in kept {
@@ -87,28 +87,28 @@ fn new_arg(kept: &[Obj], arg: Option<Obj>) -> Option<Obj>
 
 fn point(kept: &[Obj], n: u16) -> u16
     requires { length kept.now < 2 ^ 16 }
-    ensures { result ≡ Trimmed.number kept.now Point n }
+    ensures { result ≡ Trimmed.kept_before kept.now Point n }
 {
     number(kept, Sort::Point, n)
 }
 
 fn line(kept: &[Obj], n: u16) -> u16
     requires { length kept.now < 2 ^ 16 }
-    ensures { result ≡ Trimmed.number kept.now Line n }
+    ensures { result ≡ Trimmed.kept_before kept.now Line n }
 {
     number(kept, Sort::Line, n)
 }
 
 fn circle(kept: &[Obj], n: u16) -> u16
     requires { length kept.now < 2 ^ 16 }
-    ensures { result ≡ Trimmed.number kept.now Circle n }
+    ensures { result ≡ Trimmed.kept_before kept.now Circle n }
 {
     number(kept, Sort::Circle, n)
 }
 
 fn new_term(kept: &[Obj], term: Term) -> Term
     requires { length kept.now < 2 ^ 16 }
-    ensures { result ≡ term_at (Trimmed.number kept.now Point) term }
+    ensures { result ≡ term_at (Trimmed.kept_before kept.now Point) term }
 {
     match term {
         Term::Seg(a, b) => Term::Seg(point(kept, a), point(kept, b)),
@@ -120,7 +120,7 @@ fn new_term(kept: &[Obj], term: Term) -> Term
 
 fn new_mono(kept: &[Obj], mono: Mono) -> Mono
     requires { length kept.now < 2 ^ 16 }
-    ensures { result ≡ mono_at (Trimmed.number kept.now Point) mono }
+    ensures { result ≡ mono_at (Trimmed.kept_before kept.now Point) mono }
 {
     Mono {
         coeff: mono.coeff,
@@ -130,7 +130,7 @@ fn new_mono(kept: &[Obj], mono: Mono) -> Mono
 
 fn new_form(alloc: Global, kept: &[Obj], form: &Form) -> Result<Form, AllocError>
     requires { length kept.now < 2 ^ 16 }
-    ensures { IfOk result (λ f. f ≡ map (mono_at (Trimmed.number kept.now Point)) form.now) }
+    ensures { IfOk result (λ f. f ≡ map (mono_at (Trimmed.kept_before kept.now Point)) form.now) }
 {
     let mut new = Vec::new(alloc);
     for mono in form.items() {
@@ -141,8 +141,8 @@ fn new_form(alloc: Global, kept: &[Obj], form: &Form) -> Result<Form, AllocError
 
 fn new_atom(alloc: Global, kept: &[Obj], atom: &Atom) -> Result<Atom, AllocError>
     requires { length kept.now < 2 ^ 16 }
-    ensures { IfOk result (λ a. a ≡ atom_at (Trimmed.number kept.now Point)
-        (Trimmed.number kept.now Line) (Trimmed.number kept.now Circle) atom.now) }
+    ensures { IfOk result (λ a. a ≡ atom_at (Trimmed.kept_before kept.now Point)
+        (Trimmed.kept_before kept.now Line) (Trimmed.kept_before kept.now Circle) atom.now) }
 {
     let atom = match atom {
         Atom::On(a, l) => Atom::On(point(kept, *a), line(kept, *l)),
@@ -174,7 +174,7 @@ fn new_atom(alloc: Global, kept: &[Obj], atom: &Atom) -> Result<Atom, AllocError
 /// The literal over the kept objects.
 pub fn new_lit(alloc: Global, kept: &[Obj], lit: &Lit) -> Result<Lit, AllocError>
     requires { length kept.now < 2 ^ 16 }
-    ensures { IfOk result (λ l. l ≡ Trimmed.lit_at kept.now lit.now) }
+    ensures { IfOk result (λ l. l ≡ Trimmed.lit_among_kept kept.now lit.now) }
 {
     let atom = new_atom(alloc, kept, &lit.atom)?;
     Ok(Lit { neg: lit.neg, atom })
@@ -183,7 +183,7 @@ pub fn new_lit(alloc: Global, kept: &[Obj], lit: &Lit) -> Result<Lit, AllocError
 /// The literals over the kept objects, in order.
 pub fn new_lits(alloc: Global, kept: &[Obj], lits: &[Lit]) -> Result<Items<Lit>, AllocError>
     requires { length kept.now < 2 ^ 16 }
-    ensures { IfOk result (λ ls. ls ≡ map (Trimmed.lit_at kept.now) lits.now) }
+    ensures { IfOk result (λ ls. ls ≡ map (Trimmed.lit_among_kept kept.now) lits.now) }
 {
     let mut new = Vec::new(alloc);
     for lit in lits {
@@ -196,7 +196,7 @@ pub fn new_lits(alloc: Global, kept: &[Obj], lits: &[Lit]) -> Result<Items<Lit>,
 
 fn new_row(alloc: Global, kept: &[Obj], name: &RowName) -> Result<RowName, AllocError>
     requires { length kept.now < 2 ^ 16 }
-    ensures { IfOk result (λ n. n ≡ Trimmed.row_at kept.now name.now) }
+    ensures { IfOk result (λ n. n ≡ Trimmed.row_name_among_kept kept.now name.now) }
 {
     match name {
         RowName::Fact(lit) => Ok(RowName::Fact(new_lit(alloc, kept, lit)?)),
@@ -283,7 +283,7 @@ fn new_transfer(
     cert: &TransferCert,
 ) -> Result<TransferCert, AllocError>
     requires { length kept.now < 2 ^ 16 }
-    ensures { IfOk result (λ t. t ≡ Trimmed.transfer_at kept.now cert.now) }
+    ensures { IfOk result (λ t. t ≡ Trimmed.transfer_among_kept kept.now cert.now) }
 {
     Ok(TransferCert {
         rule: cert.rule,
@@ -349,7 +349,7 @@ pub fn new_construction(
     form: &Construction,
 ) -> Result<Construction, AllocError>
     requires { length kept.now < 2 ^ 16 }
-    ensures { IfOk result (λ f. f ≡ Trimmed.form_at kept.now form.now) }
+    ensures { IfOk result (λ f. f ≡ Trimmed.construction_among_kept kept.now form.now) }
 {
     Ok(Construction {
         shape: form.shape,

@@ -3,7 +3,7 @@
 ghost use Rattle.std.specs.Prelude.{◌≡◌, ◌≤◌, ◌<◌, ◌+◌, ◌^◌, length, OnOk, IsTrue};
 ghost use Rattle.e_literal.specs.Facts.{joined_all};
 ghost use Rattle.e_deriv.specs.Fitting.{is_small};
-ghost use Rattle.e_trim.specs.inner.StepState.{outer_of, left_for, opened};
+ghost use Rattle.e_trim.specs.inner.StepState.{outer_of_state, left_for, opened};
 
 use e_facts::Facts;
 use e_literal::{Lit, Obj, Scope, Sort, copy, grown};
@@ -33,7 +33,7 @@ pub struct Goal<'a> {
 impl StepState {
     /// What a line, or an inner block, is entered from.
     pub fn hold(&self) -> Outer
-        ensures { result ≡ outer_of self.now }
+        ensures { result ≡ outer_of_state self.now }
     {
         Outer {
             scope: self.scope,

@@ -8,7 +8,7 @@ ghost use Rattle.e_literal.specs.declared.object.Sort.TheVariants.{Circle as Cir
 ghost use Rattle.e_literal.specs.Literal.{obj, objects_of_atom, objects_of_sum, objects_of_term};
 ghost use Rattle.e_literal.specs.Rename.{same_obj};
 ghost use Rattle.e_trim.specs.Looked.{no_wants, both, looked_up, needed, of_lit, objects_of_lits};
-ghost use Rattle.e_trim.specs.Trimmed.{outside, is_needed};
+ghost use Rattle.e_trim.specs.Trimmed.{wants_outside, is_needed};
 
 use crate::step_state::StepState;
 use e_literal::{Atom, Lit, Mono, Obj, Sort, Term, copy, count, same};
@@ -191,7 +191,7 @@ impl Wanted {
     /// What of it is outside of a block, where this holds before the block: literals that are facts
     /// there, and objects in scope.
     pub fn outside(self, alloc: Global, state: &StepState) -> Result<Wanted, AllocError>
-        ensures { IfOk result (λ w. w ≡ outside state.now.scope state.now.facts self) }
+        ensures { IfOk result (λ w. w ≡ wants_outside state.now.scope state.now.facts self) }
     {
         let Wanted { lits, objects } = self;
         let mut outer = Wanted::new(alloc);

@@ -53,7 +53,7 @@ fn part_in(scope: Scope, part: &Part) -> bool
 
 /// Whether the objects that the sums name are in scope.
 pub fn sums_in(scope: Scope, sums: &Sums) -> bool
-    ensures { result ≡ MetricCertificate.sums_in scope sums.now }
+    ensures { result ≡ MetricCertificate.are_sums_in scope sums.now }
 {
     match sums {
         Sums::One(sum) => sum_in(scope, sum.rows()),

@@ -33,7 +33,7 @@ use Rattle.e_book.specs.Steps.{allowed, declares, shows, begun, begin, FitsScope
 use Rattle.e_book.specs.Steps as steps
 use Rattle.e_book.specs.Book.{is_last}
 use Rattle.e_book.specs.ParserViews.{entry_of_parser}
-use Rattle.e_line.specs.Items.{line_of, listing_form, is_show}
+use Rattle.e_line.specs.Items.{book_line_of, listing_form, is_show}
 use Rattle.e_names.specs.Meanings.{items_in}
 use Rattle.e_book.specs.Grammar.{Rest, is_skipped, put_at, BookFails}
 use Rattle.e_book.specs.Definitions.{BookItem, OfTheorem, OfNotion, Answer, has_notion_title, view_of}
@@ -58,8 +58,8 @@ abbrev pub is_ready : TheoremParser → Listing → Result (Unit {0}) FaultKind
 is_ready d line = right_count (allowed d.place (listing_form line [])) >>= λ right. head_names d.in_scope line
 
 -- the line with its items written out, and how many literals are of notions
-abbrev pub written : List Titled → TheoremParser → Listing → List RawItem → Result (RawLine × ℕ) FaultKind
-written notions d line is =
+abbrev pub line_written_out : List Titled → TheoremParser → Listing → List RawItem → Result (RawLine × ℕ) FaultKind
+line_written_out notions d line is =
     is_ready d line >>= λ ready. items_in notions (names_there d) 0 is >>= λ p. Ok (listing_form line (map (raw_of (names_there d)) p.0), p.1)
 
 -- ---- the first line
@@ -102,7 +102,7 @@ goes_on known c f =
 unfoldable pub lists : Known → Coming → Listing → List RawItem → Result Coming FaultKind
 lists known c line is = do
   right ← right_count (not c.defines || is_show line)
-  w ← written known.notions c.parser line is
+  w ← line_written_out known.notions c.parser line is
   e ← goes_on known c w.0
   few ← within (e.expanded + w.1) most_expanded limits.Expanded
   Ok (record e { expanded = e.expanded + w.1 })
@@ -120,8 +120,8 @@ pub record FitsComing (known : Known) (c : Coming) : Type 0 where
 -- ---- lines
 
 unfoldable pub line_step : Known → Option Coming → List (List ℕ) → Result Coming FaultKind
-line_step known None words = line_of words >>= λ l. begins known l
-line_step known (Some c) words = line_of words >>= λ l. step known c l
+line_step known None words = book_line_of words >>= λ l. begins known l
+line_step known (Some c) words = book_line_of words >>= λ l. step known c l
 
 abbrev pub is_done : Coming → Bool
 is_done c = is_last c.parser.place
@@ -130,8 +130,8 @@ abbrev pub notion_of_parser : TheoremParser → Titled
 notion_of_parser d = titled d.title (record { declared = d.declared; means = d.shown })
 
 -- what the lines make
-abbrev pub item_of : Coming → BookItem
-item_of c = if c.defines then OfNotion (notion_of_parser c.parser) else OfTheorem (entry_of_parser c.parser)
+abbrev pub item_of_coming : Coming → BookItem
+item_of_coming c = if c.defines then OfNotion (notion_of_parser c.parser) else OfTheorem (entry_of_parser c.parser)
 
 abbrev pub at_end : ℕ → Option Coming → Answer
 at_end last None = Ok None
@@ -143,7 +143,7 @@ item_from known last c [] = at_end last c
 item_from known last c (Err f ∷ lines) = Err (line_fault f)
 item_from known last c (Ok line ∷ lines) =
     if is_skipped (tokens_of line.bytes) then item_from known last c lines else
-    (put_at line.number (line_step known c (tokens_of line.bytes)) >>= λ d. if is_done d then Ok (Some (item_of d, lines)) else item_from known last (Some d) lines)
+    (put_at line.number (line_step known c (tokens_of line.bytes)) >>= λ d. if is_done d then Ok (Some (item_of_coming d, lines)) else item_from known last (Some d) lines)
 
 -- ---- reading on from what has come, whatever lines come
 
@@ -155,7 +155,7 @@ pub record IsBegun (known : Known) (c : Option Coming) : Type 0 where
 -- what the words of a line make of it
 abbrev pub TakesWords : Known → Option Coming → ℕ → List (List ℕ) → Result (Option Item) BookFault → Option Coming → Type 0
 TakesWords known old number words (Ok None) new = (c : Coming) × (line_step known old words ≡ Ok c) × (is_done c ≡ false) × (new ≡ Some c)
-TakesWords known old number words (Ok (Some i)) new = (c : Coming) × (line_step known old words ≡ Ok c) × (is_done c ≡ true) × (view_of i ≡ item_of c) × (new ≡ None)
+TakesWords known old number words (Ok (Some i)) new = (c : Coming) × (line_step known old words ≡ Ok c) × (is_done c ≡ true) × (view_of i ≡ item_of_coming c) × (new ≡ None)
 TakesWords known old number words (Err f) new = BookFails f (put_at number (line_step known old words))
 
 -- what a line makes of it: to read on from here through the line is to read on from there; or the

@@ -15,30 +15,30 @@ use Rattle.e_construct.specs.declared.pattern.Row.{Row}
 use Rattle.e_construct.specs.declared.naming.Naming.{Naming}
 use Rattle.e_construct.specs.Shapes.{ShapeRow, Avoids, NoObject, AnyObject, AnyApartFrom}
 
-abbrev pub atom_of : Relation → Atom
-atom_of (On x y) = atom.On x.num y.num
-atom_of (OnC x y) = atom.OnC x.num y.num
-atom_of (Inside x y) = atom.Inside x.num y.num
-atom_of (Center x y) = atom.Center x.num y.num
-atom_of (Between x y z) = atom.Between x.num y.num z.num
-atom_of (Same x y z) = atom.Same x.num y.num z.num
-atom_of (MeetLL x y) = atom.MeetLL x.num y.num
-atom_of (MeetLC x y) = atom.MeetLC x.num y.num
-atom_of (MeetCC x y) = atom.MeetCC x.num y.num
-atom_of (EqP x y) = atom.EqP x.num y.num
+abbrev pub atom_of_relation : Relation → Atom
+atom_of_relation (On x y) = atom.On x.num y.num
+atom_of_relation (OnC x y) = atom.OnC x.num y.num
+atom_of_relation (Inside x y) = atom.Inside x.num y.num
+atom_of_relation (Center x y) = atom.Center x.num y.num
+atom_of_relation (Between x y z) = atom.Between x.num y.num z.num
+atom_of_relation (Same x y z) = atom.Same x.num y.num z.num
+atom_of_relation (MeetLL x y) = atom.MeetLL x.num y.num
+atom_of_relation (MeetLC x y) = atom.MeetLC x.num y.num
+atom_of_relation (MeetCC x y) = atom.MeetCC x.num y.num
+atom_of_relation (EqP x y) = atom.EqP x.num y.num
 
-abbrev pub lit_of : Pattern → Lit
-lit_of (Is r) = record { neg = false; atom = atom_of r }
-lit_of (Not r) = record { neg = true; atom = atom_of r }
+abbrev pub lit_of_shape_pattern : Pattern → Lit
+lit_of_shape_pattern (Is r) = record { neg = false; atom = atom_of_relation r }
+lit_of_shape_pattern (Not r) = record { neg = true; atom = atom_of_relation r }
 
 abbrev pub avoids_of : CodeAvoids → Avoids
 avoids_of avoids.NoObject = NoObject
 avoids_of avoids.AnyObject = AnyObject
 avoids_of (avoids.AnyApartFrom o) = AnyApartFrom o
 
-abbrev pub row_view : Row → ShapeRow
-row_view r =
-    record { args = r.args.now; needs = map lit_of r.needs.now; made = r.made.now; gives = map lit_of r.gives.now; avoids = avoids_of r.avoids }
+abbrev pub shape_row_view : Row → ShapeRow
+shape_row_view r =
+    record { args = r.args.now; needs = map lit_of_shape_pattern r.needs.now; made = r.made.now; gives = map lit_of_shape_pattern r.gives.now; avoids = avoids_of r.avoids }
 
 -- the objects for the variables: the arguments, and the new objects
 abbrev pub image_of : Naming → Obj → Option Obj

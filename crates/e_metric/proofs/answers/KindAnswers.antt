@@ -16,7 +16,7 @@ use Rattle.e_literal.specs.WellFormed.{is_well_formed}
 use Rattle.e_clause.specs.declared.cert.RowName.{RowName}
 use Rattle.e_clause.specs.declared.cert.Sums.{Sums}
 use Rattle.e_clause.specs.Assignment.{terms_of_lits}
-use Rattle.e_clause.specs.MetricCertificate.{sums_refute, sums_in}
+use Rattle.e_clause.specs.MetricCertificate.{sums_refute, are_sums_in}
 use Rattle.e_clause.specs.Laws.{is_well_formed_metric}
 use Rattle.e_clause.specs.System.{NamedRow, system, rows_of_system, metric_systems}
 use Rattle.e_clause.specs.Wide.{HasWidth}
@@ -102,7 +102,7 @@ module _ (which : Kind) (facts : List Lit) (wanted : Option Lit) where
         e ∙ ap (λ ns. certificate_sums ns rows terms a) n ∙ ap (λ rs. certificate_sums (names_given ps) rs terms a) rows_are ∙ ap (λ ts. certificate_sums (names_given ps) (rows_given ps) ts a) t in
         record {
           refutes = ap (sums_refute facts wanted) sums_are ∙ certified which facts wanted ns order ps are together a (subst (λ rs. IsAbsurdity (all_seen rs) a) rows_are h);
-          scoped = λ s k g. ap (sums_in s) sums_are ∙ in_scope s facts wanted k g which ns order (names_given ps) (rows_given ps) a (names_are ns ps are);
+          scoped = λ s k g. ap (are_sums_in s) sums_are ∙ in_scope s facts wanted k g which ns order (names_given ps) (rows_given ps) a (names_are ns ps are);
           written = ap (are_sums_of version.One) sums_are ∙ written_well which facts wanted ns order (names_given ps) (rows_given ps) (with_listed (distinct_terms which facts wanted) (Right ∷ [])) a (names_are ns ps are) good;
         })
 

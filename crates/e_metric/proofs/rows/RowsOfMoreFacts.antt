@@ -14,7 +14,7 @@ use Rattle.e_literal.specs.Literal.{negation}
 use Rattle.e_literal.specs.Rows.{row_of_lit}
 use Rattle.e_clause.specs.declared.cert.RowName.TheVariants.{Fact, Pos}
 use Rattle.e_clause.specs.Assignment.{terms_of_lits}
-use Rattle.e_clause.specs.System.{NamedRow, named, pos_row, of_kind, rows_named, rows_of_term, rows_of_kind, system}
+use Rattle.e_clause.specs.System.{NamedRow, named_row, pos_row, of_kind, rows_named, rows_of_term, rows_of_kind, system}
 use Rattle.e_metric.specs.inner.FurtherRows.{terms_added, rows_added_by_facts, joining}
 use Rattle.e_metric.specs.ListedTerms.{with_listed, distinct_terms}
 use Rattle.e_metric.proofs.terms.FirstTerms.{listed_append, listed_first, none_wanted, kind_append, lits_append}
@@ -50,7 +50,7 @@ same_either false true x h = absurd (omega (arith, h))
 same_either false false x h = refl
 
 no_fewer_one : (t : Term) (facts more : List Lit) → length (rows_of_term facts t) ≤ length (rows_of_term (facts ++ more) t)
-no_fewer_one (Seg a b) facts more = longer (are_apart facts a b) (are_apart (facts ++ more) a b) (named (Pos (Seg a b)) (pos_row (Seg a b))) (more_apart facts more a b)
+no_fewer_one (Seg a b) facts more = longer (are_apart facts a b) (are_apart (facts ++ more) a b) (named_row (Pos (Seg a b)) (pos_row (Seg a b))) (more_apart facts more a b)
 no_fewer_one (Ang a b c) facts more = omega arith
 no_fewer_one (Area a b c) facts more = omega arith
 no_fewer_one Right facts more = omega arith
@@ -67,7 +67,7 @@ no_fewer facts more (t ∷ ts) = omega (
 )
 
 same_one : (t : Term) (facts more : List Lit) → length (rows_of_term (facts ++ more) t) ≡ length (rows_of_term facts t) → rows_of_term (facts ++ more) t ≡ rows_of_term facts t
-same_one (Seg a b) facts more h = same_either (are_apart facts a b) (are_apart (facts ++ more) a b) (named (Pos (Seg a b)) (pos_row (Seg a b))) h
+same_one (Seg a b) facts more h = same_either (are_apart facts a b) (are_apart (facts ++ more) a b) (named_row (Pos (Seg a b)) (pos_row (Seg a b))) h
 same_one (Ang a b c) facts more h = refl
 same_one (Area a b c) facts more h = refl
 same_one Right facts more h = refl
@@ -111,7 +111,7 @@ with_brought which facts more same =
     let n = flat_map f fresh in
     let r = rows_of_kind which in
     let names : rows_named Fact (of_kind which (facts ++ more)) ≡ a ++ g =
-    ap (rows_named Fact) (kind_append which facts more) ∙ filter_map-append (λ l. option_map (named (Fact l)) (row_of_lit l)) (of_kind which facts) (of_kind which more) in
+    ap (rows_named Fact) (kind_append which facts more) ∙ filter_map-append (λ l. option_map (named_row (Fact l)) (row_of_lit l)) (of_kind which facts) (of_kind which more) in
     let terms : flat_map f (distinct_terms which (facts ++ more) None) ≡ t ++ n =
     ap (flat_map f) (all_terms which facts more) ∙ flat_append f known fresh ∙ ap (λ v. v ++ n) same in
     subst (AreReordered (system which facts None ++ brought which facts more (facts ++ more)))
@@ -146,9 +146,9 @@ module _ (which : Kind) (facts : List Lit) (from : ℕ) where
 -- a segment brings a row where its ends are apart
 pub segment_count : (facts : List Lit) (t : Term) (a b : ℕ) (c : Bool) → t ≡ Seg a b → are_apart facts a b ≡ c → length (rows_of_term facts t) ≡ cond c 1 0
 segment_count facts t a b c e h =
-    ap (λ u. length (rows_of_term facts u)) e ∙ ap (λ x. length (cond x (named (Pos (Seg a b)) (pos_row (Seg a b)) ∷ []) [])) h ∙ by c
+    ap (λ u. length (rows_of_term facts u)) e ∙ ap (λ x. length (cond x (named_row (Pos (Seg a b)) (pos_row (Seg a b)) ∷ []) [])) h ∙ by c
   where
-    by : (d : Bool) → length (cond d (named (Pos (Seg a b)) (pos_row (Seg a b)) ∷ []) []) ≡ cond d 1 0
+    by : (d : Bool) → length (cond d (named_row (Pos (Seg a b)) (pos_row (Seg a b)) ∷ []) []) ≡ cond d 1 0
     by true = refl
     by false = refl
 

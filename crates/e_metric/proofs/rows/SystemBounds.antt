@@ -20,7 +20,7 @@ use Rattle.e_clause.specs.declared.cert.RowName.{RowName}
 use Rattle.e_clause.specs.declared.cert.RowName.TheVariants.{Fact, Goal, Pos}
 use Rattle.e_clause.specs.Assignment.{terms_of_atom, terms_of_lits}
 use Rattle.e_clause.specs.Laws.{is_well_formed_metric}
-use Rattle.e_clause.specs.System.{NamedRow, named, is_of_kind, of_kind, against_goal, rows_named, rows_of_term, rows_of_kind, pos_row, system}
+use Rattle.e_clause.specs.System.{NamedRow, named_row, is_of_kind, of_kind, against_goal, rows_named, rows_of_term, rows_of_kind, pos_row, system}
 use Rattle.e_clause.proofs.Carried.{good_against}
 use Rattle.e_metric.specs.ListedTerms.{with_listed, distinct_terms}
 use Rattle.e_metric.proofs.terms.FirstTerms.{with_right}
@@ -79,7 +79,7 @@ literal_rows which name (l ∷ ls) h = by (is_of_kind which l) refl (literal_row
     by true e ih = omega (
       arith,
       ih,
-      one (option_map (named (name l)) (row_of_lit l)),
+      one (option_map (named_row (name l)) (row_of_lit l)),
       length-append (terms_of_atom l.atom) (terms_of_lits rest),
       some_terms which l (and_left (is_well_formed l) (list_all is_well_formed ls) h) e,
     )
@@ -111,7 +111,7 @@ term_rows facts (t ∷ ts) = omega (arith, length-append (rows_of_term facts t) 
     one : (u : Term) → length (rows_of_term facts u) ≤ 1
     one (Seg a b) = by (are_apart facts a b)
       where
-        by : (c : Bool) → length (cond c (named (Pos (Seg a b)) (pos_row (Seg a b)) ∷ []) []) ≤ 1
+        by : (c : Bool) → length (cond c (named_row (Pos (Seg a b)) (pos_row (Seg a b)) ∷ []) []) ≤ 1
         by true = omega arith
         by false = omega arith
     one (Ang a b c) = omega arith

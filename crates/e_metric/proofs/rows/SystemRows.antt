@@ -14,7 +14,7 @@ use Rattle.e_literal.specs.Rows.{Row, row_of_lit}
 use Rattle.e_literal.proofs.Booleans.{and_left, and_right}
 use Rattle.e_clause.specs.declared.cert.RowName.{RowName}
 use Rattle.e_clause.specs.declared.cert.RowName.TheVariants.{Fact, Goal, Pos, Top, Right as RightRow}
-use Rattle.e_clause.specs.System.{NamedRow, named, is_of_kind, of_kind, against_goal, system, rows_named, rows_of_term, rows_of_kind, pos_row, top_row, right_row}
+use Rattle.e_clause.specs.System.{NamedRow, named_row, is_of_kind, of_kind, against_goal, system, rows_named, rows_of_term, rows_of_kind, pos_row, top_row, right_row}
 use Rattle.e_fraction.specs.declared.row.Row.{Row as GivenRow}
 use Rattle.e_metric.specs.AgreeingRows.{IsRow, IsRowOrNone, IsLimited, IsLimitedOrNone, AreRows, AllLimited, GrowBy}
 use Rattle.e_metric.specs.ListedTerms.{distinct_terms}
@@ -60,8 +60,8 @@ limited_there : (given : Option GivenRow) (g : GivenRow) → given ≡ Some g �
 limited_there None g e h = absurd (cc)
 limited_there (Some k) g e h = subst IsLimited (let s : k ≡ g = cc in s) h
 
-one_named : (name : Lit → RowName) (l : Lit) (r : Row) → row_of_lit l ≡ Some r → rows_named name (l ∷ []) ≡ named (name l) r ∷ []
-one_named name l r e = ap (λ o. cons_option (option_map (named (name l)) o) []) e
+one_named : (name : Lit → RowName) (l : Lit) (r : Row) → row_of_lit l ≡ Some r → rows_named name (l ∷ []) ≡ named_row (name l) r ∷ []
+one_named name l r e = ap (λ o. cons_option (option_map (named_row (name l)) o) []) e
 
 -- the row of a literal of the kind
 pub literal_grows : (which : Kind) (name : Lit → RowName) (l : Lit) (old new : List (RowName × GivenRow)) (n : RowName) (given : Option GivenRow) (g : GivenRow)
@@ -71,7 +71,7 @@ literal_grows which name l old new n given g k e s h m is =
     let w = row_there (row_of_lit l) given g s h in
     subst (λ rs. GrowBy rs old new)
     (sym (ap (rows_named name) (kind_one which l ∙ ap (λ b. cond b (l ∷ []) []) k) ∙ one_named name l w.0 w.1))
-    (grow_one (named (name l) w.0) old new n g e w.2 (limited_there given g s m) is)
+    (grow_one (named_row (name l) w.0) old new n g e w.2 (limited_there given g s m) is)
 
 -- ---- rows of terms
 
@@ -79,17 +79,17 @@ pub segment_grows : (facts : List Lit) (t : Term) (a b : ℕ) (old new : List (R
     → new ≡ old ++ (Pos (Seg a b), g) ∷ [] → GrowBy (rows_of_term facts t) old new
 segment_grows facts t a b old new g e k h l is =
     subst (λ rs. GrowBy rs old new)
-    (sym (ap (rows_of_term facts) e ∙ ap (λ x. cond x (named (Pos (Seg a b)) (pos_row (Seg a b)) ∷ []) []) k))
-    (grow_one (named (Pos (Seg a b)) (pos_row (Seg a b))) old new (Pos (Seg a b)) g refl h l is)
+    (sym (ap (rows_of_term facts) e ∙ ap (λ x. cond x (named_row (Pos (Seg a b)) (pos_row (Seg a b)) ∷ []) []) k))
+    (grow_one (named_row (Pos (Seg a b)) (pos_row (Seg a b))) old new (Pos (Seg a b)) g refl h l is)
 
 pub angle_grows : (facts : List Lit) (t : Term) (a b c : ℕ) (old new : List (RowName × GivenRow)) (g : GivenRow) → t ≡ Ang a b c → IsRow g (top_row (Ang a b c)) → IsLimited g
     → new ≡ old ++ (Top (Ang a b c), g) ∷ [] → GrowBy (rows_of_term facts t) old new
 angle_grows facts t a b c old new g e h l is =
     subst (λ rs. GrowBy rs old new) (sym (ap (rows_of_term facts) e))
-    (grow_one (named (Top (Ang a b c)) (top_row (Ang a b c))) old new (Top (Ang a b c)) g refl h l is)
+    (grow_one (named_row (Top (Ang a b c)) (top_row (Ang a b c))) old new (Top (Ang a b c)) g refl h l is)
 
 pub right_grows : (which : Kind) (old new : List (RowName × GivenRow)) (g : GivenRow) → which ≡ Angle → IsRow g (pos_row Right) → IsLimited g → new ≡ old ++ (RightRow, g) ∷ [] → GrowBy (rows_of_kind which) old new
-right_grows which old new g e h l is = subst (λ rs. GrowBy rs old new) (sym (ap rows_of_kind e)) (grow_one (named RightRow right_row) old new RightRow g refl h l is)
+right_grows which old new g e h l is = subst (λ rs. GrowBy rs old new) (sym (ap rows_of_kind e)) (grow_one (named_row RightRow right_row) old new RightRow g refl h l is)
 
 -- ---- one more of a list
 
@@ -103,7 +103,7 @@ pub facts_grow : (which : Kind) (name : Lit → RowName) (facts : List Lit) (i :
     → GrowBy (rows_named name (of_kind which (take (i + 1) facts))) x z
 facts_grow which name facts i l x y z e h k =
     subst (λ rs. GrowBy rs x z)
-    (sym (ap (rows_named name) (kind_more which facts i l e) ∙ filter_map-append (λ f. option_map (named (name f)) (row_of_lit f)) (of_kind which (take i facts)) (of_kind which (l ∷ []))))
+    (sym (ap (rows_named name) (kind_more which facts i l e) ∙ filter_map-append (λ f. option_map (named_row (name f)) (row_of_lit f)) (of_kind which (take i facts)) (of_kind which (l ∷ []))))
     (grow_more (rows_named name (of_kind which (take i facts))) (rows_named name (of_kind which (l ∷ []))) x y z h k)
 
 pub flat_append : (f : Term → List NamedRow) (xs ys : List Term) → flat_map f (xs ++ ys) ≡ flat_map f xs ++ flat_map f ys

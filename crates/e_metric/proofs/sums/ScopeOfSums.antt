@@ -25,8 +25,8 @@ use Rattle.e_clause.specs.declared.cert.RowName.TheVariants.{Fact, Goal, Pos}
 use Rattle.e_clause.specs.declared.cert.Sums.{Sums}
 use Rattle.e_clause.specs.declared.cert.Sums.TheVariants.{One as OneSum, Two as TwoSums}
 use Rattle.e_clause.specs.Assignment.{terms_of_atom, terms_of_lits, terms_of_wanted, terms_of_step}
-use Rattle.e_clause.specs.System.{NamedRow, named, against_goal, rows_of_term, rows_of_kind, pos_row, system}
-use Rattle.e_clause.specs.MetricCertificate.{row_name_in, sums_in}
+use Rattle.e_clause.specs.System.{NamedRow, named_row, against_goal, rows_of_term, rows_of_kind, pos_row, system}
+use Rattle.e_clause.specs.MetricCertificate.{row_name_in, are_sums_in}
 use Rattle.e_clause.proofs.Named.{Each, EachLit, each_literal, each_system}
 use Rattle.e_clause.proofs.Solved.{terms_of_system, system_among, first_among}
 use Rattle.e_fraction.specs.declared.row.Row.{Row as GivenRow}
@@ -110,7 +110,7 @@ module _ (s : Scope) where
     term_named : (t : Term) → is_among (terms_of_step facts wanted) t ≡ true → Each InScope (rows_of_term facts t)
     term_named (Seg a b) h = by (are_apart facts a b)
       where
-        by : (c : Bool) → Each InScope (cond c (named (Pos (Seg a b)) (pos_row (Seg a b)) ∷ []) [])
+        by : (c : Bool) → Each InScope (cond c (named_row (Pos (Seg a b)) (pos_row (Seg a b)) ∷ []) [])
         by true = (step_term (Seg a b) h, tt)
         by false = tt
     term_named (Ang a b c) h = (step_term (Ang a b c) h, tt)
@@ -131,7 +131,7 @@ module _ (s : Scope) where
 
     -- ---- the sums
 
-    sums_scoped : (x : Sums) → sums_in s x ≡ each_of (row_name_in s) x
+    sums_scoped : (x : Sums) → are_sums_in s x ≡ each_of (row_name_in s) x
     sums_scoped (OneSum sum) = refl
     sums_scoped (TwoSums differs above below) = refl
 
@@ -141,7 +141,7 @@ module _ (s : Scope) where
 
     -- the sums of a system
     pub in_scope : (which : Kind) (ns : List NamedRow) (order : AreReordered ns (system which facts wanted)) (names : List RowName) (gs : List GivenRow) (a : Absurdity) → names ≡ map (λ (n : NamedRow). n.name) ns
-        → sums_in s (certificate_sums names gs (with_listed (distinct_terms which facts wanted) (Right ∷ [])) a) ≡ true
+        → are_sums_in s (certificate_sums names gs (with_listed (distinct_terms which facts wanted) (Right ∷ [])) a) ≡ true
     in_scope which ns order names gs a e =
         (let written = terms_of_system which facts wanted in
         sums_scoped (certificate_sums names gs (with_listed (distinct_terms which facts wanted) (Right ∷ [])) a)

@@ -13,7 +13,7 @@ use Rattle.e_clause.specs.declared.cert.RowName.{RowName}
 use Rattle.e_clause.specs.declared.cert.RowName.TheVariants.{Fact, Goal, Pos}
 use Rattle.e_clause.specs.declared.cert.Sums.{Sums}
 use Rattle.e_clause.specs.declared.cert.Sums.TheVariants.{One as OneSum, Two as TwoSums}
-use Rattle.e_clause.specs.System.{NamedRow, named, against_goal, rows_of_term, rows_of_kind, pos_row, system}
+use Rattle.e_clause.specs.System.{NamedRow, named_row, against_goal, rows_of_term, rows_of_kind, pos_row, system}
 use Rattle.e_clause.proofs.Named.{Each, EachLit, each_literal, each_system}
 use Rattle.e_fraction.specs.declared.row.Row.{Row as GivenRow}
 use Rattle.e_simplex.specs.declared.decision.Absurdity.{Absurdity}
@@ -38,7 +38,7 @@ each_any (l ∷ ls) = (tt, each_any ls)
 term_good : (facts : List Lit) (t : Term) → Each IsNameOfOne (rows_of_term facts t)
 term_good facts (Seg a b) = by (are_apart facts a b)
   where
-    by : (c : Bool) → Each IsNameOfOne (cond c (named (Pos (Seg a b)) (pos_row (Seg a b)) ∷ []) [])
+    by : (c : Bool) → Each IsNameOfOne (cond c (named_row (Pos (Seg a b)) (pos_row (Seg a b)) ∷ []) [])
     by true = (refl, tt)
     by false = tt
 term_good facts (Ang a b c) = (refl, tt)

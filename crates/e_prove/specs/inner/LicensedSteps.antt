@@ -24,8 +24,8 @@ abbrev pub lines_at : List StatementView → Script → Script → Basis → Goa
 lines_at before script filled x goal = lines before script filled x.scope x.facts goal
 
 -- the first of them
-abbrev pub line_at : Script → Script → Basis → Goal → Line
-line_at script filled x goal = line script filled x.scope x.facts goal
+abbrev pub line_from_basis : Script → Script → Basis → Goal → Line
+line_from_basis script filled x goal = line script filled x.scope x.facts goal
 
 -- the step's form fits, whatever its blanks are filled with
 abbrev pub has_form : List StatementView → Line → Bool
@@ -36,26 +36,26 @@ has_form before y = form_fits before y y.here
 -- filled; its certificates name literals that are well formed; this holds after
 pub record IsLicensedStep (before : List StatementView) (step : Step) (x : StepState) (derived : Step) (after : StepState) : Type 0 where
   pub licensed : (rest more : Script) (goal : Goal) →
-      IsTrue (has_form before (line_at (step_script step rest) (step_script derived more) x.context goal)) →
-      Licensed before (line_at (step_script step rest) (step_script derived more) x.context goal)
+      IsTrue (has_form before (line_from_basis (step_script step rest) (step_script derived more) x.context goal)) →
+      Licensed before (line_from_basis (step_script step rest) (step_script derived more) x.context goal)
   pub certified : (rest more : Script) (goal : Goal) →
-      IsTrue (has_form before (line_at (step_script step rest) (step_script derived more) x.context goal)) →
-      IsTrue (is_certified before (line_at (step_script derived more) (step_script derived more) x.context goal))
+      IsTrue (has_form before (line_from_basis (step_script step rest) (step_script derived more) x.context goal)) →
+      IsTrue (is_certified before (line_from_basis (step_script derived more) (step_script derived more) x.context goal))
   pub erased : (rest more : Script) → erased more ≡ filled_by (erased rest) more →
       erased (step_script derived more) ≡ filled_by (erased (step_script step rest)) (step_script derived more)
   pub written : (more : Script) → IsTrue (has_certs_of version.One more) → IsTrue (has_certs_of version.One (step_script derived more))
   pub next : (rest more : Script) (goal : Goal) →
       lines_at before (step_script step rest) (step_script derived more) x.context goal
-      ≡ line_at (step_script step rest) (step_script derived more) x.context goal ∷ lines_at before rest more after.context goal
+      ≡ line_from_basis (step_script step rest) (step_script derived more) x.context goal ∷ lines_at before rest more after.context goal
   pub derived_next : (more : Script) (goal : Goal) →
       lines_at before (step_script derived more) (step_script derived more) x.context goal
-      ≡ line_at (step_script derived more) (step_script derived more) x.context goal ∷ lines_at before more more after.context goal
+      ≡ line_from_basis (step_script derived more) (step_script derived more) x.context goal ∷ lines_at before more more after.context goal
   pub named : (rest : Script) → names_lines before x.names (step_script step rest) ≡ x.names ∷ names_lines before after.names rest
   pub kept : after.context.held ≡ x.context.held
 
 -- where this holds licensing stops so at the step, however its blanks are filled
 abbrev pub IsStopOfStep : List StatementView → Step → StepState → StepStop → Type 0
-IsStopOfStep before step x h = (rest filled : Script) (goal : Goal) → StepStopsAt before (line_at (step_script step rest) filled x.context goal) h
+IsStopOfStep before step x h = (rest filled : Script) (goal : Goal) → StepStopsAt before (line_from_basis (step_script step rest) filled x.context goal) h
 
 -- where this holds the close is licensed, and the derived one certified, by certificates that name
 -- literals that are well formed; both are one without certificates
@@ -67,4 +67,4 @@ pub record IsLicensedClose (before : List StatementView) (close : Close) (x : Ba
 
 -- where this holds licensing stops so at the close
 abbrev pub IsStopOfClose : List StatementView → Close → Basis → Goal → StepStop → Type 0
-IsStopOfClose before close x goal h = (filled : Script) → StepStopsAt before (line_at (close_script close) filled x goal) h
+IsStopOfClose before close x goal h = (filled : Script) → StepStopsAt before (line_from_basis (close_script close) filled x goal) h

@@ -20,8 +20,8 @@ use Rattle.e_prove.specs.declared.close.Goal.{Goal as CodeGoal}
 
 -- before the first step of a statement's proof, where these are the names of its declared and made
 -- objects
-abbrev pub start_of : StatementView → Names → StepState
-start_of t names = record { context = record { scope = scope_of t; facts = facts_of_statement t; held = [] }; names = declared_names t names }
+abbrev pub start_with_names : StatementView → Names → StepState
+start_with_names t names = record { context = record { scope = scope_of t; facts = facts_of_statement t; held = [] }; names = declared_names t names }
 
 -- after a step that gives one literal
 abbrev pub after_literal : Lit → StepState → StepState

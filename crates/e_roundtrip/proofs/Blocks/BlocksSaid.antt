@@ -36,7 +36,7 @@ use Rattle.e_names.specs.Canonical.{claim_form, superpose_form, cases_form, else
 use Rattle.e_line.proofs.Bound.{bind_ok, ok_is, read_ok}
 use Rattle.e_cert.specs.declared.kept.StepCerts.{StepCerts}
 use Rattle.e_cert.specs.declared.kept.StepCerts.TheVariants.{Certs}
-use Rattle.e_read.specs.Needs.{shown_inside, claimed as shown_around, goal_or}
+use Rattle.e_read.specs.Needs.{shown_inside, shown_around, goal_or}
 use Rattle.e_spell.specs.Certificates.{certs_lines}
 use Rattle.e_roundtrip.proofs.Formed.FormedLines.{CopyFormed}
 use Rattle.e_roundtrip.proofs.Blocks.ScriptsSaid.{StepsSaid, ScriptSaid, no_steps, steps_as, script_as, steps_more, steps_closed, claimed_said, copied_said, cases_said}

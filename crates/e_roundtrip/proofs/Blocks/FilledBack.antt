@@ -5,7 +5,7 @@ use Rattle.e_clause.specs.declared.cert.Against.{Against}
 use Rattle.e_deriv.specs.Script.{Script, Cite, Hence, Make, Apply, Claim, Superposed, Qed, Contradiction, Cases, erased}
 use Rattle.e_cert.specs.declared.kept.StepCerts.{StepCerts}
 use Rattle.e_cert.specs.declared.kept.StepCerts.TheVariants.{Certs, Against as OfContradiction}
-use Rattle.e_read.specs.Filled.{filled}
+use Rattle.e_read.specs.Filled.{script_with_certs}
 
 -- a contradiction without its certificate keeps none
 abbrev pub kept_against : Option Against → StepCerts
@@ -24,8 +24,8 @@ kepts (Qed objects certs) = Certs certs ∷ []
 kepts (Contradiction against) = kept_against against ∷ []
 kepts (Cases lit first second) = kepts first ++ kepts second
 
-pub filled_back : (d : Script) (ks : List StepCerts) → filled (erased d) (kepts d ++ ks) ≡ (d, ks)
-unfolding erased filled kepts
+pub filled_back : (d : Script) (ks : List StepCerts) → script_with_certs (erased d) (kepts d ++ ks) ≡ (d, ks)
+unfolding erased script_with_certs kepts
 filled_back (Cite by rest) ks = rw (filled_back rest ks) refl
 filled_back (Hence lit None rest) ks = rw (filled_back rest ks) refl
 filled_back (Hence lit (Some cert) rest) ks = rw (filled_back rest ks) refl

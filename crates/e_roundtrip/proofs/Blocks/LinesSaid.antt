@@ -38,9 +38,9 @@ use Rattle.e_cert.specs.declared.owed.Obligation.{Obligation}
 use Rattle.e_cert.specs.declared.owed.Obligation.TheVariants as due
 use Rattle.e_cert.specs.declared.kept.StepCerts.{StepCerts}
 use Rattle.e_cert.specs.declared.kept.StepCerts.TheVariants as kept
-use Rattle.e_line.specs.Strict.{are_direct, is_strict}
+use Rattle.e_line.specs.Strict.{are_direct, is_strict_line}
 use Rattle.e_read.specs.Strict.{is_apart}
-use Rattle.e_read.specs.Needs.{one_each, needs_of_use, needs_at_qed, due_of}
+use Rattle.e_read.specs.Needs.{one_each, needs_of_raw_apply, needs_at_qed, due_of}
 use Rattle.e_roundtrip.specs.Formed.{certs_formed}
 use Rattle.e_roundtrip.proofs.Certificates.KeptFormed.{DueFormed, KeptIsFormed}
 use Rattle.e_roundtrip.proofs.OneLine.FormsRead.{Read}
@@ -178,7 +178,7 @@ puts_end known d e ks ls i h =
       body = (i.said, i.body, refl);
     })
 
-pub line_left : (known : List TitledStatement) (d e : TheoremParser) (f : RawLine) (owes : Obligation) (ks : List StepCerts) (ls : List (List ℕ)) → ParserSaid known d.place d ks ls → Read f → is_strict f ≡ true → is_apart d f ≡ true
+pub line_left : (known : List TitledStatement) (d e : TheoremParser) (f : RawLine) (owes : Obligation) (ks : List StepCerts) (ls : List (List ℕ)) → ParserSaid known d.place d ks ls → Read f → is_strict_line f ≡ true → is_apart d f ≡ true
     → due_of known d f ≡ Ok owes → allowed d.place f ≡ true → stepped known d f ≡ Ok e → Leaves known d e f owes ks ls
 unfolding due_of
 line_left known d e (rawlines.Theorem t) owes ks ls g r s n o a h = absurd (no_title known d e t h)
@@ -224,7 +224,7 @@ line_left known d e rawlines.Else owes ks ls g r s n o a h =
 line_left known d e rawlines.End owes ks ls g r s n o a h = head_left known d e rawlines.End owes ks ls o (puts_end known d e ks ls (at_end known d.place d ks ls a g) h)
 
 -- a line at its place
-pub step_left : (known : List TitledStatement) (d e : TheoremParser) (f : RawLine) (owes : Obligation) (ks : List StepCerts) (ls : List (List ℕ)) → ParserSaid known d.place d ks ls → Read f → is_strict f ≡ true → is_apart d f ≡ true
+pub step_left : (known : List TitledStatement) (d e : TheoremParser) (f : RawLine) (owes : Obligation) (ks : List StepCerts) (ls : List (List ℕ)) → ParserSaid known d.place d ks ls → Read f → is_strict_line f ≡ true → is_apart d f ≡ true
     → due_of known d f ≡ Ok owes → step known d f ≡ Ok e → Leaves known d e f owes ks ls
 unfolding step
 step_left known d e f owes ks ls g r s n o h = let p = passes (allowed d.place f) (stepped known d f) e h in line_left known d e f owes ks ls g r s n o p.0 p.1
@@ -247,7 +247,7 @@ pub due_at_start : (known : List TitledStatement) (d : TheoremParser) (f : RawLi
 unfolding due_of
 due_at_start known d (rawlines.Hence raw) owes ns o = let w = bind_ok (lit_in d.in_scope raw) (λ l. read_ok (one_each (l ∷ []))) owes o in each_at_first ns (w.0 ∷ []) owes w.2
 due_at_start known d (rawlines.Let raw) owes ns o = let w = bind_ok (let_in d.in_scope raw) (λ form. read_ok (one_each (needs_of_construction form))) owes o in each_at_first ns (needs_of_construction w.0) owes w.2
-due_at_start known d (rawlines.Apply raw) owes ns o = let w = bind_ok (needs_of_use known d raw) (λ ls. read_ok (one_each ls)) owes o in each_at_first ns w.0 owes w.2
+due_at_start known d (rawlines.Apply raw) owes ns o = let w = bind_ok (needs_of_raw_apply known d raw) (λ ls. read_ok (one_each ls)) owes o in each_at_first ns w.0 owes w.2
 due_at_start known d (rawlines.Superpose raw) owes ns o =
     let w = bind_ok (superpose_in d.in_scope raw) (λ p. read_ok (one_each (superposing.needs_of_superposition p.0))) owes o in each_at_first ns (superposing.needs_of_superposition w.0.0) owes w.2
 due_at_start known d (rawlines.Qed names) owes ns o = let w = bind_ok (needs_at_qed d names) (λ ls. read_ok (one_each ls)) owes o in each_at_first ns w.0 owes w.2

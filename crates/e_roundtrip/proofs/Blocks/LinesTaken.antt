@@ -6,7 +6,7 @@ use Rattle.std.specs.Str.{bytes_eq}
 use Rattle.std.specs.List.{list_all}
 use Rattle.std.proofs.lemmas.List.Folds.{list_all-append}
 use Rattle.std.proofs.lemmas.Bool.{and_parts}
-use Rattle.e_text.specs.Tokens.{tokens_of, joined}
+use Rattle.e_text.specs.Tokens.{tokens_of, joined_words}
 use Rattle.e_literal.specs.declared.object.Sort.TheVariants as sorts
 use Rattle.e_construct.specs.declared.construction.Shape.{Shape}
 use Rattle.e_construct.specs.Lines.{Piece, pieces}
@@ -31,11 +31,11 @@ use Rattle.e_read.specs.declared.reading.BlockParser.{BlockParser}
 use Rattle.e_clause.specs.declared.cert.Version.{Version}
 use Rattle.e_cert.specs.CertLines.{cert_line_text, cert_line_is_of}
 use Rattle.e_cert.proofs.GoodKept.{are_certs_of_version, AreOfVersion}
-use Rattle.e_line.specs.Strict.{is_strict, exact_line_of, exact_line}
+use Rattle.e_line.specs.Strict.{is_strict_line, exact_line_of, exact_line}
 use Rattle.e_read.specs.Strict.{is_apart}
 use Rattle.e_cert.specs.Owed.{after_cert_line, finish_certs}
 use Rattle.e_read.specs.Needs.{due_of}
-use Rattle.e_read.specs.Text.{certified, with_cert_line, owed_by, with_form, stepped, worded}
+use Rattle.e_read.specs.Text.{certified, with_cert_line, owed_by, with_form, parser_after_exact_line, worded}
 use Rattle.e_roundtrip.proofs.Certificates.CertLinesAgain.{CertLineNamed, cert_line_tokens_again, strict_cert_line_again}
 use Rattle.e_roundtrip.proofs.Certificates.Feeding.{OneCertLine, Fed, owing}
 use Rattle.e_roundtrip.proofs.Certificates.CertsPut.{Keeps}
@@ -59,7 +59,7 @@ let_line l g =
 
 -- a form is spelled as it is read
 line_again : (f : RawLine) → GoodForm f → line_of (as_read f) ≡ line_of f
-line_again (rawlines.Let l) g = ap (λ (ws : List (List ℕ)). joined (codes "let" ∷ ws)) (let_line l g)
+line_again (rawlines.Let l) g = ap (λ (ws : List (List ℕ)). joined_words (codes "let" ∷ ws)) (let_line l g)
 line_again (rawlines.Theorem t) g = refl
 line_again (rawlines.Declare sort ns) g = refl
 line_again (rawlines.Given ls) g = refl
@@ -77,14 +77,14 @@ line_again (rawlines.Cases l) g = refl
 line_again rawlines.Else g = refl
 line_again rawlines.End g = refl
 
-pub strict_form_again : (f : RawLine) → GoodForm f → is_strict (as_read f) ≡ true → exact_line (line_of f) ≡ Ok (as_read f)
+pub strict_form_again : (f : RawLine) → GoodForm f → is_strict_line (as_read f) ≡ true → exact_line (line_of f) ≡ Ok (as_read f)
 unfolding exact_line_of
 strict_form_again f g s =
     let same : bytes_eq (line_of f) (line_of (as_read f)) ≡ true = ap (bytes_eq (line_of f)) (line_again f g) ∙ same_bytes (line_of f) in
     rw (words_again f g, form_again f g, s, same) refl
 
 -- no such line begins with the sign of certificates
-pub no_bar : (known : List TitledStatement) (r : BlockParser) (line : List ℕ) (f : RawLine) → worded known r line (raw_line_words f) ≡ stepped known r line
+pub no_bar : (known : List TitledStatement) (r : BlockParser) (line : List ℕ) (f : RawLine) → worded known r line (raw_line_words f) ≡ parser_after_exact_line known r line
 unfolding worded
 no_bar known r line (rawlines.Theorem t) = refl
 no_bar known r line (rawlines.Declare sorts.Point ns) = refl
@@ -164,13 +164,13 @@ unfolding with_cert_line certified worded
 cert_line_leads known r m o h of e =
     ap (λ (ws : List (List ℕ)). worded known r (cert_line_text m) ws) (cert_line_tokens_again m h) ∙ rw (strict_cert_line_again m h, of, e) refl
 
-words_lead : (known : List TitledStatement) (r : BlockParser) (words : List (List ℕ)) (o : Pending) → LineOf r.version words → OneCertLine r.owed words o → worded known r (joined words) (tokens_of (joined words)) ≡ Ok (record r { owed = o })
+words_lead : (known : List TitledStatement) (r : BlockParser) (words : List (List ℕ)) (o : Pending) → LineOf r.version words → OneCertLine r.owed words o → worded known r (joined_words words) (tokens_of (joined_words words)) ≡ Ok (record r { owed = o })
 words_lead known r words o l m =
     let same : l.0 ≡ m.cert_line = same_cert_line l.0 m.cert_line l.2 m.named (sym l.1 ∙ m.spelled) in
     let of : cert_line_is_of r.version m.cert_line ≡ true = sym (ap (cert_line_is_of r.version) same) ∙ l.3 in
-    subst (λ (ws : List (List ℕ)). worded known r (joined ws) (tokens_of (joined ws)) ≡ Ok (record r { owed = o })) (sym m.spelled) (cert_line_leads known r m.cert_line o m.named of m.leads)
+    subst (λ (ws : List (List ℕ)). worded known r (joined_words ws) (tokens_of (joined_words ws)) ≡ Ok (record r { owed = o })) (sym m.spelled) (cert_line_leads known r m.cert_line o m.named of m.leads)
 
-cert_lines_taken : (known : List TitledStatement) (r : BlockParser) (d : TheoremParser) (lines : List (List (List ℕ))) (last : Pending) → r.parser ≡ Some d → is_done d ≡ false → LinesOf r.version lines → Fed r.owed lines last → AllTaken known r (map joined lines) (record r { owed = last })
+cert_lines_taken : (known : List TitledStatement) (r : BlockParser) (d : TheoremParser) (lines : List (List (List ℕ))) (last : Pending) → r.parser ≡ Some d → is_done d ≡ false → LinesOf r.version lines → Fed r.owed lines last → AllTaken known r (map joined_words lines) (record r { owed = last })
 cert_lines_taken known r d [] last here going of fed = ap (λ (o : Pending). record r { owed = o }) fed
 cert_lines_taken known r d (words ∷ lines) last here going of fed = (
   record r { owed = fed.0 },
@@ -180,15 +180,15 @@ cert_lines_taken known r d (words ∷ lines) last here going of fed = (
 
 -- ---- a line of the script with its certificates
 
-pub form_leads : (known : List TitledStatement) (r : BlockParser) (d e : TheoremParser) (ks : List StepCerts) (f : RawLine) (owed : Obligation) → Stands r d ks → GoodForm f → is_strict (as_read f) ≡ true → is_apart d (as_read f) ≡ true → due_of known d (as_read f) ≡ Ok owed
+pub form_leads : (known : List TitledStatement) (r : BlockParser) (d e : TheoremParser) (ks : List StepCerts) (f : RawLine) (owed : Obligation) → Stands r d ks → GoodForm f → is_strict_line (as_read f) ≡ true → is_apart d (as_read f) ≡ true → due_of known d (as_read f) ≡ Ok owed
     → step known d (as_read f) ≡ Ok e → worded known r (line_of f) (tokens_of (line_of f)) ≡ Ok (record { version = r.version; parser = Some e; owed = owing d.in_scope owed None; kept = ks })
-unfolding with_form owed_by stepped
+unfolding with_form owed_by parser_after_exact_line
 form_leads known r d e ks f owed s good strict apart due steps =
     ap (worded known r (line_of f)) (words_again f good) ∙ no_bar known r (line_of f) f
     ∙ rw (strict_form_again f good strict, s.settles, s.parser, apart, due, steps) (ap (λ (x : List StepCerts). Ok (record { version = r.version; parser = Some e; owed = owing d.in_scope owed None; kept = x })) s.kept)
 
-pub step_along : (known : List TitledStatement) (d e : TheoremParser) (f : RawLine) (owed : Obligation) (lines : List (List (List ℕ))) (k : Option StepCerts) → GoodForm f → is_strict (as_read f) ≡ true → is_apart d (as_read f) ≡ true → due_of known d (as_read f) ≡ Ok owed
-    → step known d (as_read f) ≡ Ok e → is_done e ≡ false → Keeps d.in_scope owed lines k → Along known d (line_of f ∷ map joined lines) e (option_to_list k)
+pub step_along : (known : List TitledStatement) (d e : TheoremParser) (f : RawLine) (owed : Obligation) (lines : List (List (List ℕ))) (k : Option StepCerts) → GoodForm f → is_strict_line (as_read f) ≡ true → is_apart d (as_read f) ≡ true → due_of known d (as_read f) ≡ Ok owed
+    → step known d (as_read f) ≡ Ok e → is_done e ≡ false → Keeps d.in_scope owed lines k → Along known d (line_of f ∷ map joined_words lines) e (option_to_list k)
 step_along known d e f owed lines k good strict apart due steps going keeps = λ r ks of s.
     let begun : BlockParser = record { version = r.version; parser = Some e; owed = owing d.in_scope owed None; kept = ks } in
     record {

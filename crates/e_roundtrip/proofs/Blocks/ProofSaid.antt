@@ -62,7 +62,7 @@ use Rattle.e_cert.specs.declared.owed.Obligation.TheVariants as due
 use Rattle.e_cert.specs.declared.kept.StepCerts.{StepCerts}
 use Rattle.e_cert.specs.declared.kept.StepCerts.TheVariants as kept
 use Rattle.e_line.specs.Strict.{is_direct, are_direct}
-use Rattle.e_read.specs.Needs.{shown_inside, claimed as shown_around, goal_or, open_goal, one_each, needs_in, needs_of_use, needs_at_qed, due_of}
+use Rattle.e_read.specs.Needs.{shown_inside, shown_around, goal_or, open_goal, one_each, needs_in, needs_of_raw_apply, needs_at_qed, due_of}
 use Rattle.e_spell.specs.Certificates.{certs_lines, contradiction_lines}
 use Rattle.e_roundtrip.specs.Formed.{certs_formed, against_formed}
 use Rattle.e_roundtrip.proofs.Certificates.KeptFormed.{KeptIsFormed}
@@ -210,9 +210,9 @@ used_goes known d e t theorem args new js ls p b h =
     let w = bind_ok (within (count_blanks args) most_blanks limits.Blanks) (λ written. read_ok (with_count y.0 n.0)) e n.2 in
     counts_go known d y.0 e n.0 js ls (step_goes known d x y.0 (Applied theorem args new []) (length t.shown) js ls refl p b y.1) (ok_is (with_count y.0 n.0) e w.2)
 
-applied_goes : (known : List TitledStatement) (d e : TheoremParser) (raw : RawApply) (wanted : List Lit) (cs : List Cert) (ks : List StepCerts) (ls : List (List ℕ)) → needs_of_use known d raw ≡ Ok wanted → certs_formed (scope_of_names d.in_scope) wanted cs ≡ true → d.place ≡ Proving → BodySaid known Proving d ks ls → applied known d raw ≡ Ok e
+applied_goes : (known : List TitledStatement) (d e : TheoremParser) (raw : RawApply) (wanted : List Lit) (cs : List Cert) (ks : List StepCerts) (ls : List (List ℕ)) → needs_of_raw_apply known d raw ≡ Ok wanted → certs_formed (scope_of_names d.in_scope) wanted cs ≡ true → d.place ≡ Proving → BodySaid known Proving d ks ls → applied known d raw ≡ Ok e
     → Goes known d e (ks ++ kept.Certs cs ∷ []) (ls ++ line_of (rawlines.Apply raw) ∷ certs_lines d.in_scope cs)
-unfolding applied needs_of_use
+unfolding applied needs_of_raw_apply
 applied_goes known d e raw wanted cs ks ls u c p b h =
     let ns = d.in_scope in
     let a = bind_ok (apply_in known ns raw) (λ a. used_by d (theorem_of known a.0) a.0 a.1 raw.new) e h in
@@ -240,7 +240,7 @@ pub takes_apply : (known : List TitledStatement) (d e : TheoremParser) (raw : Ra
     → due_of known d (rawlines.Apply raw) ≡ Ok owes → stepped known d (rawlines.Apply raw) ≡ Ok e → Takes known d e (rawlines.Apply raw) owes ks ls
 unfolding stepped due_of
 takes_apply known d e raw owes ks ls p b o h =
-    let w = bind_ok (needs_of_use known d raw) (λ ls. read_ok (one_each ls)) owes o in
+    let w = bind_ok (needs_of_raw_apply known d raw) (λ ls. read_ok (one_each ls)) owes o in
     subst (λ (y : Obligation). Takes known d e (rawlines.Apply raw) y ks ls) (ok_is (one_each w.0) owes w.2)
     (owing_certs known d e (rawlines.Apply raw) w.0 ks ls (λ cs c. applied_goes known d e raw w.0 cs ks ls w.1 c p b h))
 

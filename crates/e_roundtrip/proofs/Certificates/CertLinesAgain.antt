@@ -19,7 +19,7 @@ use Rattle.e_line.specs.declared.literal.RawAtom.{RawAtom}
 use Rattle.e_line.specs.declared.literal.RawAtom.TheVariants as raw
 use Rattle.e_line.specs.declared.literal.RawLit.{RawLit}
 use Rattle.e_line.specs.Canonical.{term_words, coefficient_words, mono_words, more_monos, sum_words, sums_words, signed_words, lit_words}
-use Rattle.e_line.specs.Reading.{◌>>=◌, title_at, word_at, end_at}
+use Rattle.e_line.specs.Reading.{◌>>=◌, first_title, word_at, end_at}
 use Rattle.e_line.specs.Literals.{lit_of, is_diagram_raw}
 use Rattle.e_line.specs.HasSpelling.{AreNames}
 use Rattle.e_line.proofs.Bound.{same_bytes}
@@ -31,7 +31,7 @@ use Rattle.e_cert.specs.declared.cert_line.RawRow.{RawRow}
 use Rattle.e_cert.specs.declared.cert_line.RawRow.TheVariants as rows
 use Rattle.e_cert.specs.declared.cert_line.CertLine.{CertLine}
 use Rattle.e_cert.specs.declared.cert_line.CertLine.TheVariants as certlines
-use Rattle.e_cert.specs.CertLines.{size_of, multiplier_of, place_of, fact_row_of, fact_cert_line_of, row_named, row_of, may_differ, differs_of, transfer_of, row_cert_line_of, cert_line_named, cert_line_of, row_words, cert_line_words, cert_line_text}
+use Rattle.e_cert.specs.CertLines.{size_of, multiplier_of, place_of_digits, fact_row_of, fact_cert_line_of, raw_row_named, raw_row_of, may_differ, differs_of, transfer_of, row_cert_line_of, cert_line_named, cert_line_of, raw_row_words, cert_line_words, cert_line_text}
 use Rattle.e_line.specs.Strict.{is_direct}
 use Rattle.e_cert.specs.Strict.{is_strict_row, is_strict_cert_line, exact_cert_line}
 
@@ -112,7 +112,7 @@ word_apart (negsuc n) c cs h k = let e : eqb 45 c ≡ false = ne_eqb 45 c (λ e.
 
 -- ---- places
 
-place_again : (k : ℕ) → ltb k (2 ^ 32) ≡ true → place_of (decimal k) ≡ Ok k
+place_again : (k : ℕ) → ltb k (2 ^ 32) ≡ true → place_of_digits (decimal k) ≡ Ok k
 place_again k h = let few = ltb-true k (2 ^ 32) h in rw (number_of-decimal k (omega (arith, few)), h) refl
 
 place_token : (k : ℕ) → ltb k (2 ^ 32) ≡ true → is_token (decimal k) ≡ true
@@ -200,8 +200,8 @@ place_row_again : (k : ℕ) → ltb k (2 ^ 32) ≡ true → fact_row_of (decimal
 unfolding fact_row_of
 place_row_again k h = rw (place_again k h) refl
 
-row_again : (r : RawRow) → RowNamed r → row_of (row_words r) ≡ Ok r
-unfolding row_of row_named end_at
+row_again : (r : RawRow) → RowNamed r → raw_row_of (raw_row_words r) ≡ Ok r
+unfolding raw_row_of raw_row_named end_at
 row_again (rows.Fact l) h = fact_again l h.0
 row_again (rows.FactAt k) h = place_row_again k h
 row_again rows.Goal h = refl
@@ -213,7 +213,7 @@ row_again rows.Above h = refl
 row_again rows.Below h = refl
 
 pub cert_line_again : (m : CertLine) → CertLineNamed m → cert_line_of (cert_line_words m) ≡ Ok m
-unfolding cert_line_of cert_line_named fact_cert_line_of transfer_of differs_of row_cert_line_of title_at word_at end_at
+unfolding cert_line_of cert_line_named fact_cert_line_of transfer_of differs_of row_cert_line_of first_title word_at end_at
 cert_line_again certlines.Fact h = refl
 cert_line_again (certlines.FactAt k) h = rw (place_again k h) refl
 cert_line_again certlines.Metric h = refl
@@ -233,7 +233,7 @@ cert_line_again (certlines.Row m r) h =
 
 -- ---- these words are tokens
 
-row_tokens : (r : RawRow) → RowNamed r → AreTokens (row_words r)
+row_tokens : (r : RawRow) → RowNamed r → AreTokens (raw_row_words r)
 row_tokens (rows.Fact l) h = (refl, lit_tokens l h.0)
 row_tokens rows.Goal h = (refl, tt)
 row_tokens (rows.Pos t) h = (refl, term_tokens t h)

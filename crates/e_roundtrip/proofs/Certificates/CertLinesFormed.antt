@@ -27,7 +27,7 @@ use Rattle.e_clause.specs.Sum.{is_nonzero_bounded}
 use Rattle.e_deriv.specs.declared.names.Names.{Names}
 use Rattle.e_line.specs.declared.fault.FaultKind.{FaultKind}
 use Rattle.e_line.specs.declared.fault.FaultKind.TheVariants.{Malformed}
-use Rattle.e_line.specs.Reading.{◌>>=◌, or_malformed, title_at, names_of, end_at}
+use Rattle.e_line.specs.Reading.{◌>>=◌, or_malformed, first_title, names_of, end_at}
 use Rattle.e_line.specs.Literals.{diagram_lit_of}
 use Rattle.e_names.specs.Scope.{scope_of_names, lit_in, args_in, variables_of, right_count}
 use Rattle.e_names.specs.Fits.{is_diagram_atom}
@@ -46,9 +46,9 @@ use Rattle.e_cert.specs.declared.owed.Obligation.TheVariants as due
 use Rattle.e_cert.specs.declared.owed.Pending.{Pending}
 use Rattle.e_cert.specs.declared.kept.StepCerts.{StepCerts}
 use Rattle.e_cert.specs.declared.kept.StepCerts.TheVariants as kept
-use Rattle.e_cert.specs.CertLines.{sized, size_of, multiplier_of, row_of, may_differ, bare, differs_of, transfer_of, row_cert_line_of, cert_line_named, cert_line_of, cert_line_text, place_of as place_in, fact_cert_line_of}
+use Rattle.e_cert.specs.CertLines.{sized, size_of, multiplier_of, raw_row_of, may_differ, bare_cert_line, differs_of, transfer_of, row_cert_line_of, cert_line_named, cert_line_of, cert_line_text, place_of_digits as place_in, fact_cert_line_of}
 use Rattle.e_cert.specs.Strict.{is_strict_cert_line, exact_cert_line}
-use Rattle.e_cert.specs.Owed.{has_more, certificate, row_in, row_put, sum_begun, differs_put, sums_ended, transfer_put, part_put, metric_put, takes_metric, clash_put, transfer_rule, count_others, transfer_at, transfer_in, transfer_begun, ended, sums_after, due_after, after_cert_line, kept_of, finish_certs}
+use Rattle.e_cert.specs.Owed.{has_more, certificate, row_in, row_put, sum_begun, differs_put, sums_ended, transfer_put, part_put, metric_put, takes_metric, clash_put, transfer_rule, count_others, transfer_at, open_transfer_in, transfer_begun, with_sums_ended, sums_after, due_after, after_cert_line, kept_of, finish_certs}
 use Rattle.e_cert.proofs.GoodCertLines.{CertLineSaid, strict_said}
 use Rattle.e_roundtrip.specs.Formed.{against_formed}
 use Rattle.e_roundtrip.proofs.Certificates.CertLinesRead.{CertLineSigned, cert_line_signed}
@@ -105,21 +105,21 @@ Numbers (certlines.Differs r) = may_differ r ≡ true
 Numbers (certlines.Row m r) = is_nonzero_bounded m ≡ true
 Numbers cert_line = Unit {0}
 
-bare_numbers : (ws : List (List ℕ)) (cert_line m : CertLine) → Numbers cert_line → bare ws cert_line ≡ Ok m → Numbers m
+bare_numbers : (ws : List (List ℕ)) (cert_line m : CertLine) → Numbers cert_line → bare_cert_line ws cert_line ≡ Ok m → Numbers m
 bare_numbers ws cert_line m h e = let n = bind_ok (end_at ws) (λ none. read_ok cert_line) m e in subst Numbers (ok_is cert_line m n.2) h
 
 differs_numbers : (ws : List (List ℕ)) (m : CertLine) → differs_of ws ≡ Ok m → Numbers m
 unfolding differs_of
 differs_numbers ws m e =
-    let r = bind_ok (row_of ws) (λ r. cond (may_differ r) (read_ok (certlines.Differs r)) (Err Malformed)) m e in
+    let r = bind_ok (raw_row_of ws) (λ r. cond (may_differ r) (read_ok (certlines.Differs r)) (Err Malformed)) m e in
     let p = passed (may_differ r.0) (read_ok (certlines.Differs r.0)) m r.2 in
     subst Numbers (ok_is (certlines.Differs r.0) m p.1) p.0
 
 row_numbers : (w : List ℕ) (ws : List (List ℕ)) (m : CertLine) → row_cert_line_of w ws ≡ Ok m → Numbers m
 unfolding row_cert_line_of
 row_numbers w ws m e =
-    let n = bind_ok (multiplier_of w) (λ n. row_of ws >>= λ r. read_ok (certlines.Row n r)) m e in
-    let r = bind_ok (row_of ws) (λ r. read_ok (certlines.Row n.0 r)) m n.2 in
+    let n = bind_ok (multiplier_of w) (λ n. raw_row_of ws >>= λ r. read_ok (certlines.Row n r)) m e in
+    let r = bind_ok (raw_row_of ws) (λ r. read_ok (certlines.Row n.0 r)) m n.2 in
     subst Numbers (ok_is (certlines.Row n.0 r.0) m r.2) (multiplier_good w n.0 n.1)
 
 fact_numbers : (ws : List (List ℕ)) (m : CertLine) → fact_cert_line_of ws ≡ Ok m → Numbers m
@@ -133,7 +133,7 @@ fact_numbers (w ∷ ws) m e =
 transfer_numbers : (ws : List (List ℕ)) (m : CertLine) → transfer_of ws ≡ Ok m → Numbers m
 unfolding transfer_of
 transfer_numbers ws m e =
-    let t = bind_ok (title_at ws) (λ t. names_of t.1 >>= λ ns. read_ok (certlines.Transfer t.0 ns)) m e in
+    let t = bind_ok (first_title ws) (λ t. names_of t.1 >>= λ ns. read_ok (certlines.Transfer t.0 ns)) m e in
     let ns = bind_ok (names_of t.0.1) (λ ns. read_ok (certlines.Transfer t.0.0 ns)) m t.2 in
     subst Numbers (ok_is (certlines.Transfer t.0.0 ns.0) m ns.2) tt
 
@@ -146,15 +146,15 @@ named_numbers : (w : List ℕ) (ws : List (List ℕ)) (m : CertLine) → cert_li
 unfolding cert_line_named
 named_numbers w ws m e =
     let m5 : Result CertLine FaultKind = cond (bytes_eq w (codes "differs")) (differs_of ws) (row_cert_line_of w ws) in
-    let m4 : Result CertLine FaultKind = cond (bytes_eq w (codes "sum")) (bare ws certlines.Sum) m5 in
+    let m4 : Result CertLine FaultKind = cond (bytes_eq w (codes "sum")) (bare_cert_line ws certlines.Sum) m5 in
     let m3 : Result CertLine FaultKind = cond (bytes_eq w (codes "clash")) (diagram_lit_of ws >>= λ l. read_ok (certlines.Clash l)) m4 in
     let m2 : Result CertLine FaultKind = cond (bytes_eq w (codes "transfer")) (transfer_of ws) m3 in
-    let m1 : Result CertLine FaultKind = cond (bytes_eq w (codes "metric")) (bare ws certlines.Metric) m2 in
+    let m1 : Result CertLine FaultKind = cond (bytes_eq w (codes "metric")) (bare_cert_line ws certlines.Metric) m2 in
     either Numbers (bytes_eq w (codes "fact")) (fact_cert_line_of ws) m1 m e (fact_numbers ws m) (λ e1.
-    either Numbers (bytes_eq w (codes "metric")) (bare ws certlines.Metric) m2 m e1 (bare_numbers ws certlines.Metric m tt) (λ e2.
+    either Numbers (bytes_eq w (codes "metric")) (bare_cert_line ws certlines.Metric) m2 m e1 (bare_numbers ws certlines.Metric m tt) (λ e2.
     either Numbers (bytes_eq w (codes "transfer")) (transfer_of ws) m3 m e2 (transfer_numbers ws m) (λ e3.
     either Numbers (bytes_eq w (codes "clash")) (diagram_lit_of ws >>= λ l. read_ok (certlines.Clash l)) m4 m e3 (clash_numbers ws m) (λ e4.
-    either Numbers (bytes_eq w (codes "sum")) (bare ws certlines.Sum) m5 m e4 (bare_numbers ws certlines.Sum m tt) (λ e5.
+    either Numbers (bytes_eq w (codes "sum")) (bare_cert_line ws certlines.Sum) m5 m e4 (bare_numbers ws certlines.Sum m tt) (λ e5.
     either Numbers (bytes_eq w (codes "differs")) (differs_of ws) (row_cert_line_of w ws) m e5 (differs_numbers ws m) (row_numbers w ws m))))))
 
 cert_line_numbers : (ws : List (List ℕ)) (m : CertLine) → cert_line_of ws ≡ Ok m → Numbers m
@@ -171,7 +171,7 @@ pub record OwedFormed (o : Pending) : Type 0 where
 to_owed : (x o : Pending) → OwedFormed x → read_ok x ≡ Ok o → OwedFormed o
 to_owed x o h e = subst OwedFormed (ok_is x o e) h
 
-ended_formed : (o : Pending) (s : Option OpenSums) (e : Pending) → OwedFormed o → OpenFormed (scope_of_names o.names) s → ended o s ≡ Ok e → OwedFormed e
+ended_formed : (o : Pending) (s : Option OpenSums) (e : Pending) → OwedFormed o → OpenFormed (scope_of_names o.names) s → with_sums_ended o s ≡ Ok e → OwedFormed e
 ended_formed o None e h k same = to_owed o e h same
 ended_formed o (Some s) e h k same =
     let ns = scope_of_names o.names in
@@ -195,8 +195,8 @@ some_is : {A : Type 0} (o : Option A) (x : A) → or_malformed o ≡ Ok x → o 
 some_is {A} None x e = absurd cc
 some_is {A} (Some y) x e = ap (λ (z : A). Some z) (ok_is y x e)
 
-begun_formed : (ns : Names) (l : Lit) (title : List ℕ) (raws : List (List ℕ)) (t : OpenTransfer) → transfer_in ns l title raws ≡ Ok t → TransferFormed (scope_of_names ns) l t
-unfolding transfer_in transfer_at
+begun_formed : (ns : Names) (l : Lit) (title : List ℕ) (raws : List (List ℕ)) (t : OpenTransfer) → open_transfer_in ns l title raws ≡ Ok t → TransferFormed (scope_of_names ns) l t
+unfolding open_transfer_in transfer_at
 begun_formed ns l title raws t e =
     let then : ℕ → List Obj → List Lit → OpenTransfer = λ r args lits. record { rule = r; args = args; parts = []; owed = count_others l lits } in
     let last : ℕ → List Obj → Result OpenTransfer FaultKind = λ r args. transfer_at l r args in
@@ -219,8 +219,8 @@ begun_formed ns l title raws t e =
 
 transfer_begun_formed : (ns : Names) (d : Obligation) (title : List ℕ) (raws : List (List ℕ)) (new : Obligation) → DueFormed (scope_of_names ns) d → transfer_begun ns d title raws ≡ Ok new → DueFormed (scope_of_names ns) new
 transfer_begun_formed ns (due.Literals wanted certs None) title raws new h e =
-    let l = bind_ok (or_malformed (slice_get wanted (length certs))) (λ l. transfer_in ns l title raws >>= λ t. transfer_put wanted certs t) new e in
-    let t = bind_ok (transfer_in ns l.0 title raws) (λ t. transfer_put wanted certs t) new l.2 in
+    let l = bind_ok (or_malformed (slice_get wanted (length certs))) (λ l. open_transfer_in ns l title raws >>= λ t. transfer_put wanted certs t) new e in
+    let t = bind_ok (open_transfer_in ns l.0 title raws) (λ t. transfer_put wanted certs t) new l.2 in
     transfer_put_formed (scope_of_names ns) wanted certs t.0 new h (l.0, some_is (slice_get wanted (length certs)) l.0 l.1, begun_formed ns l.0 title raws t.0 t.1) t.2
 transfer_begun_formed ns d title raws new h e = absurd cc
 
@@ -239,27 +239,27 @@ clash_put_formed s d l new k e = absurd cc
 after_cert_line_formed : (o : Pending) (m : CertLine) (new : Pending) → OwedFormed o → CertLineSaid m → CertLineSigned m → Numbers m → after_cert_line o m ≡ Ok new → OwedFormed new
 unfolding after_cert_line
 after_cert_line_formed o certlines.Fact new h said signed numbers same =
-    let e = bind_ok (ended o o.sums) (λ e. part_put e.due parts.Fact >>= λ d. read_ok (due_after e d)) new same in
+    let e = bind_ok (with_sums_ended o o.sums) (λ e. part_put e.due parts.Fact >>= λ d. read_ok (due_after e d)) new same in
     let g = ended_formed o o.sums e.0 h h.rows_of_sums e.1 in
     let d = bind_ok (part_put e.0.due parts.Fact) (λ d. read_ok (due_after e.0 d)) new e.2 in
     to_owed (due_after e.0 d.0) new (record { certs = part_put_formed (scope_of_names e.0.names) e.0.due parts.Fact d.0 g.certs refl d.1; rows_of_sums = g.rows_of_sums }) d.2
 after_cert_line_formed o (certlines.FactAt k) new h said signed numbers same =
-    let e = bind_ok (ended o o.sums) (λ e. part_put e.due (parts.FactAt k) >>= λ d. read_ok (due_after e d)) new same in
+    let e = bind_ok (with_sums_ended o o.sums) (λ e. part_put e.due (parts.FactAt k) >>= λ d. read_ok (due_after e d)) new same in
     let g = ended_formed o o.sums e.0 h h.rows_of_sums e.1 in
     let d = bind_ok (part_put e.0.due (parts.FactAt k)) (λ d. read_ok (due_after e.0 d)) new e.2 in
     to_owed (due_after e.0 d.0) new (record { certs = part_put_formed (scope_of_names e.0.names) e.0.due (parts.FactAt k) d.0 g.certs said d.1; rows_of_sums = g.rows_of_sums }) d.2
 after_cert_line_formed o certlines.Metric new h said signed numbers same =
-    let e = bind_ok (ended o o.sums) (λ e. cond (takes_metric e.due) (read_ok (sums_after e sums.Begun)) (Err Malformed)) new same in
+    let e = bind_ok (with_sums_ended o o.sums) (λ e. cond (takes_metric e.due) (read_ok (sums_after e sums.Begun)) (Err Malformed)) new same in
     let g = ended_formed o o.sums e.0 h h.rows_of_sums e.1 in
     let p = passed (takes_metric e.0.due) (read_ok (sums_after e.0 sums.Begun)) new e.2 in
     to_owed (sums_after e.0 sums.Begun) new (record { certs = g.certs; rows_of_sums = tt }) p.1
 after_cert_line_formed o (certlines.Transfer title raws) new h said signed numbers same =
-    let e = bind_ok (ended o o.sums) (λ e. transfer_begun e.names e.due title raws >>= λ d. read_ok (due_after e d)) new same in
+    let e = bind_ok (with_sums_ended o o.sums) (λ e. transfer_begun e.names e.due title raws >>= λ d. read_ok (due_after e d)) new same in
     let g = ended_formed o o.sums e.0 h h.rows_of_sums e.1 in
     let d = bind_ok (transfer_begun e.0.names e.0.due title raws) (λ d. read_ok (due_after e.0 d)) new e.2 in
     to_owed (due_after e.0 d.0) new (record { certs = transfer_begun_formed e.0.names e.0.due title raws d.0 g.certs d.1; rows_of_sums = g.rows_of_sums }) d.2
 after_cert_line_formed o (certlines.Clash raw) new h said signed numbers same =
-    let e = bind_ok (ended o o.sums) (λ e. lit_in e.names raw >>= λ l. clash_put e.due l >>= λ d. read_ok (due_after e d)) new same in
+    let e = bind_ok (with_sums_ended o o.sums) (λ e. lit_in e.names raw >>= λ l. clash_put e.due l >>= λ d. read_ok (due_after e d)) new same in
     let g = ended_formed o o.sums e.0 h h.rows_of_sums e.1 in
     let l = bind_ok (lit_in e.0.names raw) (λ l. clash_put e.0.due l >>= λ d. read_ok (due_after e.0 d)) new e.2 in
     let d = bind_ok (clash_put e.0.due l.0) (λ d. read_ok (due_after e.0 d)) new l.2 in
@@ -315,7 +315,7 @@ record SameOwed (o e : Pending) : Type 0 where
   names : e.names ≡ o.names
   first : due_at_first e.due ≡ due_at_first o.due
 
-ended_same : (o : Pending) (s : Option OpenSums) (e : Pending) → ended o s ≡ Ok e → SameOwed o e
+ended_same : (o : Pending) (s : Option OpenSums) (e : Pending) → with_sums_ended o s ≡ Ok e → SameOwed o e
 ended_same o None e same = subst (SameOwed o) (ok_is o e same) (record { names = refl; first = refl })
 ended_same o (Some s) e same =
     let then : Obligation → Pending = λ d. record o { due = d; sums = None } in
@@ -337,7 +337,7 @@ at_first s (due.Contradiction a) (Some (kept.Against b)) h = h
 pub settled_formed : (o : Pending) (k : Option StepCerts) → OwedFormed o → finish_certs o ≡ Ok k → KeptIsFormed (scope_of_names o.names) (due_at_first o.due) k
 unfolding finish_certs
 settled_formed o k h same =
-    let e = bind_ok (ended o o.sums) (λ e. kept_of e.due) k same in
+    let e = bind_ok (with_sums_ended o o.sums) (λ e. kept_of e.due) k same in
     let g = ended_formed o o.sums e.0 h h.rows_of_sums e.1 in
     let is = ended_same o o.sums e.0 e.1 in
     subst (λ (ns : Names). KeptIsFormed (scope_of_names ns) (due_at_first o.due) k) is.names

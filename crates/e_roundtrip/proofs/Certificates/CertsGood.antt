@@ -22,7 +22,7 @@ use Rattle.e_clause.specs.Instance.{Inst}
 use Rattle.e_clause.specs.RuleKinds.{is_transfer}
 use Rattle.e_clause.specs.Sum.{is_nonzero_bounded, is_limited_sum}
 use Rattle.e_clause.specs.MetricCertificate.{row_name_in, sum_in}
-use Rattle.e_clause.specs.TransferCertificate.{args_in}
+use Rattle.e_clause.specs.TransferCertificate.{are_args_in}
 use Rattle.e_deriv.specs.declared.names.Names.{Names}
 use Rattle.e_clause.specs.Written.{is_writable_name, is_writable_sum}
 use Rattle.e_clause.proofs.Refuted.{found}
@@ -92,9 +92,9 @@ good_cert ns l (Plain p) h = good_part ns p h
 good_cert ns l (Transfer t) h =
     let s = scope_of_names ns in
     let instance = option_map_or (has_parts l t.parts) (Inst t.rule t.args) false in
-    let a = and_parts (is_transfer t.rule) (instance && (args_in s t && list_all (part_formed s) t.parts)) h in
-    let b = and_parts instance (args_in s t && list_all (part_formed s) t.parts) a.1 in
-    let c = and_parts (args_in s t) (list_all (part_formed s) t.parts) b.1 in
+    let a = and_parts (is_transfer t.rule) (instance && (are_args_in s t && list_all (part_formed s) t.parts)) h in
+    let b = and_parts instance (are_args_in s t && list_all (part_formed s) t.parts) a.1 in
+    let c = and_parts (are_args_in s t) (list_all (part_formed s) t.parts) b.1 in
     let i = found (has_parts l t.parts) (Inst t.rule t.args) b.0 in
     record { rule = a.0; lits = i.0; instance = i.1; count = eqb-true (length t.parts) (length (others i.0 l)) i.2; args = c.0; parts = good_parts ns t.parts c.1 }
 

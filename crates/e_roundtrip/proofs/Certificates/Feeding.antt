@@ -24,7 +24,7 @@ use Rattle.e_cert.specs.declared.owed.Obligation.{Obligation}
 use Rattle.e_cert.specs.declared.owed.Obligation.TheVariants as due
 use Rattle.e_cert.specs.declared.owed.Pending.{Pending}
 use Rattle.e_cert.specs.CertLines.{may_differ, cert_line_words}
-use Rattle.e_cert.specs.Owed.{with_row, row_put, sum_begun, sums_ended, part_put, metric_put, takes_metric, ended, after_cert_line}
+use Rattle.e_cert.specs.Owed.{with_row, row_put, sum_begun, sums_ended, part_put, metric_put, takes_metric, with_sums_ended, after_cert_line}
 use Rattle.e_spell.specs.Certificates.{row_line, sum_lines, sums_lines, metric_lines, part_lines}
 use Rattle.e_roundtrip.proofs.Certificates.CertLinesAgain.{CertLineNamed}
 use Rattle.e_roundtrip.proofs.Certificates.RowsAgain.{raw_row, row_spelled, GoodName, row_in_again, row_named_again}
@@ -55,7 +55,7 @@ owing ns d begun = record { names = ns; due = d; sums = begun }
 
 -- this is due once the sums end
 abbrev pub Ends : Names → Pending → Obligation → Type 0
-Ends ns o d = ended o o.sums ≡ Ok (owing ns d None)
+Ends ns o d = with_sums_ended o o.sums ≡ Ok (owing ns d None)
 
 -- the lines are taken, and then this is due
 pub record Puts (ns : Names) (o : Pending) (lines : List (List (List ℕ))) (d : Obligation) : Type 0 where

@@ -6,7 +6,7 @@ use Rattle.std.specs.Fmt.{signed_decimal}
 use Rattle.std.proofs.lemmas.Bool.{ltb-true}
 use Rattle.std.proofs.lemmas.Grind.{flat_map-append}
 use Rattle.std.proofs.lemmas.List.{append-nil, map-append}
-use Rattle.e_text.specs.Tokens.{joined}
+use Rattle.e_text.specs.Tokens.{joined_words}
 use Rattle.e_literal.specs.declared.literal.Lit.{Lit}
 use Rattle.e_literal.specs.declared.object.Obj.{Obj}
 use Rattle.e_clause.specs.declared.cert.RowName.{RowName}
@@ -48,7 +48,7 @@ use Rattle.e_cert.specs.declared.kept.StepCerts.{StepCerts}
 use Rattle.e_cert.specs.declared.kept.StepCerts.TheVariants as kept
 use Rattle.e_cert.specs.CertLines.{cert_line_words, cert_line_text}
 use Rattle.e_cert.specs.CertLines as reading
-use Rattle.e_cert.specs.Owed.{most_rows, fact_in, row_in, with_row, row_put, sum_begun, differs_put, sums_ended, has_more, certificate, transfer_put, part_put, metric_put, takes_metric, clash_put, transfer_rule, count_others, transfer_at, transfer_in, transfer_begun, ended, sums_after, due_after, after_cert_line, kept_of, finish_certs}
+use Rattle.e_cert.specs.Owed.{most_rows, fact_in, row_in, with_row, row_put, sum_begun, differs_put, sums_ended, has_more, certificate, transfer_put, part_put, metric_put, takes_metric, clash_put, transfer_rule, count_others, transfer_at, open_transfer_in, transfer_begun, with_sums_ended, sums_after, due_after, after_cert_line, kept_of, finish_certs}
 use Rattle.e_spell.specs.Certificates.{row_words, row_line, sum_lines, metric_lines, part_lines, transfer_lines, cert_lines, certs_lines, against_lines, contradiction_lines}
 use Rattle.e_roundtrip.proofs.OneLine.NamesSpelled.{keeps_all}
 use Rattle.e_roundtrip.proofs.OneLine.LitsSpelled.{term_named, lit_named}
@@ -95,7 +95,7 @@ owed_lines o = due_lines o.names o.due ++ open_lines o.names o.sums
 
 -- what the lines of certificates are that were taken
 abbrev pub owed_text : Pending → List (List ℕ)
-owed_text o = map joined (owed_lines o)
+owed_text o = map joined_words (owed_lines o)
 
 abbrev pub kept_text : Names → Option StepCerts → List (List ℕ)
 kept_text ns None = []
@@ -116,7 +116,7 @@ FitsDue d = Unit {0}
 
 -- ---- rows
 
-pub row_spelled : (ns : Names) (raw : RawRow) (r : RowName) → CanonicalRow raw → row_in ns raw ≡ Ok r → row_words ns r ≡ reading.row_words raw
+pub row_spelled : (ns : Names) (raw : RawRow) (r : RowName) → CanonicalRow raw → row_in ns raw ≡ Ok r → row_words ns r ≡ reading.raw_row_words raw
 unfolding row_in
 row_spelled ns (rows.Fact l) r c e =
     let fact : Lit → Result RowName FaultKind = λ x. read_ok (names.Fact x) in
@@ -266,8 +266,8 @@ record Begun (ns : Names) (title : List ℕ) (raws : List (List ℕ)) (t : OpenT
   args : map (name_of_object ns) t.args ≡ raws
   parts : t.parts ≡ []
 
-transfer_in_spelled : (ns : Names) (wanted : Lit) (title : List ℕ) (raws : List (List ℕ)) (t : OpenTransfer) → transfer_in ns wanted title raws ≡ Ok t → Begun ns title raws t
-unfolding transfer_in transfer_at
+transfer_in_spelled : (ns : Names) (wanted : Lit) (title : List ℕ) (raws : List (List ℕ)) (t : OpenTransfer) → open_transfer_in ns wanted title raws ≡ Ok t → Begun ns title raws t
+unfolding open_transfer_in transfer_at
 transfer_in_spelled ns wanted title raws t e =
     let r = bind_ok (transfer_rule (number_of_rule title)) (λ r. variables_of (sig_of r) >>= λ s. right_count (eqb (length raws) (s.points + s.lines + s.circles)) >>= λ right. args_in ns s raws >>= λ args. transfer_at wanted r args) t e in
     let s = bind_ok (variables_of (sig_of r.0)) (λ s. right_count (eqb (length raws) (s.points + s.lines + s.circles)) >>= λ right. args_in ns s raws >>= λ args. transfer_at wanted r.0 args) t r.2 in
@@ -285,8 +285,8 @@ more_at (w ∷ ws) (suc n) l e = let lt = more_at ws n l e in omega (arith, lt)
 
 transfer_begun_spelled : (ns : Names) (d new : Obligation) (title : List ℕ) (raws : List (List ℕ)) → FitsDue d → transfer_begun ns d title raws ≡ Ok new → Grows ns d new ((codes "|" ∷ codes "transfer" ∷ title ∷ raws) ∷ [])
 transfer_begun_spelled ns (due.Literals wanted cs None) new title raws f e =
-    let l = bind_ok (or_malformed (slice_get wanted (length cs))) (λ l. transfer_in ns l title raws >>= λ t. transfer_put wanted cs t) new e in
-    let t = bind_ok (transfer_in ns l.0 title raws) (λ t. transfer_put wanted cs t) new l.2 in
+    let l = bind_ok (or_malformed (slice_get wanted (length cs))) (λ l. open_transfer_in ns l title raws >>= λ t. transfer_put wanted cs t) new e in
+    let t = bind_ok (open_transfer_in ns l.0 title raws) (λ t. transfer_put wanted cs t) new l.2 in
     let b = transfer_in_spelled ns l.0 title raws t.0 t.1 in
     let g = transfer_put_spelled ns wanted cs t.0 new (more_at wanted (length cs) l.0 l.1) t.2 in
     record { lines = g.0 ∙ ap (λ (x : Lines). all_lines ns cs ++ x) (line t.0.parts (rule_name t.0.rule) title (map (name_of_object ns) t.0.args) raws b.parts b.rule b.args); first = g.1; fits = g.2 }
@@ -311,7 +311,7 @@ record Ended (o e : Pending) : Type 0 where
 abbrev owed : Names → Obligation → Option OpenSums → Pending
 owed ns d s = record { names = ns; due = d; sums = s }
 
-ended_spelled : (ns : Names) (d : Obligation) (s : Option OpenSums) (e : Pending) → FitsDue d → ended (owed ns d s) s ≡ Ok e → Ended (owed ns d s) e
+ended_spelled : (ns : Names) (d : Obligation) (s : Option OpenSums) (e : Pending) → FitsDue d → with_sums_ended (owed ns d s) s ≡ Ok e → Ended (owed ns d s) e
 ended_spelled ns d None e f h =
     subst (λ (x : Pending). Ended (owed ns d None) x) (ok_is (owed ns d None) e h) (record { names = refl; sums = refl; lines = sym (append-nil (due_lines ns d)); first = refl; fits = f })
 ended_spelled ns d (Some s) e f h =
@@ -330,7 +330,7 @@ pub record Marked (o new : Pending) (m : CertLine) : Type 0 where
 
 -- the words of one more line
 one_more : (o new : Pending) (m : CertLine) → new.names ≡ o.names → due_at_first new.due ≡ due_at_first o.due → FitsDue new.due → owed_lines new ≡ owed_lines o ++ (codes "|" ∷ cert_line_words m) ∷ [] → Marked o new m
-one_more o new m n f g e = record { names = n; lines = ap (map joined) e ∙ map-append joined (owed_lines o) ((codes "|" ∷ cert_line_words m) ∷ []); first = f; fits = g }
+one_more o new m n f g e = record { names = n; lines = ap (map joined_words) e ∙ map-append joined_words (owed_lines o) ((codes "|" ∷ cert_line_words m) ∷ []); first = f; fits = g }
 
 -- after the end of the sums what is due grows
 due_after_cert_line : (o e : Pending) (d : Obligation) (m : CertLine) → Ended o e → Grows e.names e.due d ((codes "|" ∷ cert_line_words m) ∷ []) → Marked o (due_after e d) m
@@ -351,30 +351,30 @@ line_of_row m words = codes "|" ∷ signed_decimal m ∷ words
 pub after_cert_line_spelled : (o new : Pending) (m : CertLine) → FitsDue o.due → CanonicalCertLine m → after_cert_line o m ≡ Ok new → Marked o new m
 unfolding after_cert_line
 after_cert_line_spelled o new certlines.Fact f c h =
-    let e = bind_ok (ended o o.sums) (λ e. part_put e.due parts.Fact >>= λ d. read_ok (due_after e d)) new h in
+    let e = bind_ok (with_sums_ended o o.sums) (λ e. part_put e.due parts.Fact >>= λ d. read_ok (due_after e d)) new h in
     let d = bind_ok (part_put e.0.due parts.Fact) (λ d. read_ok (due_after e.0 d)) new e.2 in
     let end = ended_spelled o.names o.due o.sums e.0 f e.1 in
     subst (λ (x : Pending). Marked o x certlines.Fact) (ok_is (due_after e.0 d.0) new d.2) (due_after_cert_line o e.0 d.0 certlines.Fact end (part_put_spelled e.0.names e.0.due d.0 parts.Fact end.fits d.1))
 after_cert_line_spelled o new (certlines.FactAt k) f c h =
-    let e = bind_ok (ended o o.sums) (λ e. part_put e.due (parts.FactAt k) >>= λ d. read_ok (due_after e d)) new h in
+    let e = bind_ok (with_sums_ended o o.sums) (λ e. part_put e.due (parts.FactAt k) >>= λ d. read_ok (due_after e d)) new h in
     let d = bind_ok (part_put e.0.due (parts.FactAt k)) (λ d. read_ok (due_after e.0 d)) new e.2 in
     let end = ended_spelled o.names o.due o.sums e.0 f e.1 in
     subst (λ (x : Pending). Marked o x (certlines.FactAt k)) (ok_is (due_after e.0 d.0) new d.2) (due_after_cert_line o e.0 d.0 (certlines.FactAt k) end (part_put_spelled e.0.names e.0.due d.0 (parts.FactAt k) end.fits d.1))
 after_cert_line_spelled o new certlines.Metric f c h =
-    let e = bind_ok (ended o o.sums) (λ e. cond (takes_metric e.due) (read_ok (sums_after e sums.Begun)) (Err Malformed)) new h in
+    let e = bind_ok (with_sums_ended o o.sums) (λ e. cond (takes_metric e.due) (read_ok (sums_after e sums.Begun)) (Err Malformed)) new h in
     let t = passed (takes_metric e.0.due) (read_ok (sums_after e.0 sums.Begun)) new e.2 in
     let end = ended_spelled o.names o.due o.sums e.0 f e.1 in
     subst (λ (x : Pending). Marked o x certlines.Metric) (ok_is (sums_after e.0 sums.Begun) new t.1)
     (one_more o (sums_after e.0 sums.Begun) certlines.Metric end.names end.first end.fits
     (ap (λ (l : Lines). l ++ metric_head ∷ []) (ap (λ (ns : Names). due_lines ns e.0.due) end.names ∙ end.lines)))
 after_cert_line_spelled o new (certlines.Transfer title raws) f c h =
-    let e = bind_ok (ended o o.sums) (λ e. transfer_begun e.names e.due title raws >>= λ d. read_ok (due_after e d)) new h in
+    let e = bind_ok (with_sums_ended o o.sums) (λ e. transfer_begun e.names e.due title raws >>= λ d. read_ok (due_after e d)) new h in
     let d = bind_ok (transfer_begun e.0.names e.0.due title raws) (λ d. read_ok (due_after e.0 d)) new e.2 in
     let end = ended_spelled o.names o.due o.sums e.0 f e.1 in
     subst (λ (x : Pending). Marked o x (certlines.Transfer title raws)) (ok_is (due_after e.0 d.0) new d.2)
     (due_after_cert_line o e.0 d.0 (certlines.Transfer title raws) end (transfer_begun_spelled e.0.names e.0.due d.0 title raws end.fits d.1))
 after_cert_line_spelled o new (certlines.Clash raw) f c h =
-    let e = bind_ok (ended o o.sums) (λ e. lit_in e.names raw >>= λ l. clash_put e.due l >>= λ d. read_ok (due_after e d)) new h in
+    let e = bind_ok (with_sums_ended o o.sums) (λ e. lit_in e.names raw >>= λ l. clash_put e.due l >>= λ d. read_ok (due_after e d)) new h in
     let l = bind_ok (lit_in e.0.names raw) (λ l. clash_put e.0.due l >>= λ d. read_ok (due_after e.0 d)) new e.2 in
     let d = bind_ok (clash_put e.0.due l.0) (λ d. read_ok (due_after e.0 d)) new l.2 in
     let end = ended_spelled o.names o.due o.sums e.0 f e.1 in
@@ -400,23 +400,23 @@ after_cert_line_spelled o new (certlines.Row m raw) f c h =
 
 -- ---- where nothing is owed any more
 
-kept_spelled : (ns : Names) (d : Obligation) (k : Option StepCerts) → kept_of d ≡ Ok k → map joined (due_lines ns d) ≡ kept_text ns k
+kept_spelled : (ns : Names) (d : Obligation) (k : Option StepCerts) → kept_of d ≡ Ok k → map joined_words (due_lines ns d) ≡ kept_text ns k
 kept_spelled ns due.Nothing k h = subst (λ (x : Option StepCerts). [] ≡ kept_text ns x) (ok_is None k h) refl
 kept_spelled ns (due.Literals wanted cs None) k h =
     let t = kind (has_more wanted cs) (read_ok (Some (kept.Certs cs))) k h in
-    subst (λ (x : Option StepCerts). map joined (all_lines ns cs) ≡ kept_text ns x) (ok_is (Some (kept.Certs cs)) k t) refl
+    subst (λ (x : Option StepCerts). map joined_words (all_lines ns cs) ≡ kept_text ns x) (ok_is (Some (kept.Certs cs)) k t) refl
   where
     kind : (b : Bool) (x : Result (Option StepCerts) FaultKind) (y : Option StepCerts) → cond b (Err Malformed) x ≡ Ok y → x ≡ Ok y
     kind true x y e = absurd cc
     kind false x y e = e
 kept_spelled ns (due.Literals wanted cs (Some t)) k h = absurd cc
 kept_spelled ns (due.Contradiction None) k h = absurd cc
-kept_spelled ns (due.Contradiction (Some a)) k h = subst (λ (x : Option StepCerts). map joined (against_lines ns a) ≡ kept_text ns x) (ok_is (Some (kept.Against a)) k h) refl
+kept_spelled ns (due.Contradiction (Some a)) k h = subst (λ (x : Option StepCerts). map joined_words (against_lines ns a) ≡ kept_text ns x) (ok_is (Some (kept.Against a)) k h) refl
 
 -- what is kept is what the lines spell
 pub settled_spelled : (o : Pending) (k : Option StepCerts) → FitsDue o.due → finish_certs o ≡ Ok k → owed_text o ≡ kept_text o.names k
 unfolding finish_certs
 settled_spelled o k f h =
-    let e = bind_ok (ended o o.sums) (λ e. kept_of e.due) k h in
+    let e = bind_ok (with_sums_ended o o.sums) (λ e. kept_of e.due) k h in
     let end = ended_spelled o.names o.due o.sums e.0 f e.1 in
-    ap (map joined) (sym end.lines) ∙ kept_spelled o.names e.0.due k e.2
+    ap (map joined_words) (sym end.lines) ∙ kept_spelled o.names e.0.due k e.2

@@ -20,7 +20,7 @@ use Rattle.e_names.proofs.LitLookups.{lit_number_again, lit_named, TermWithin, t
 use Rattle.e_names.proofs.ShortLits.{few_again}
 use Rattle.e_cert.specs.declared.cert_line.RawRow.{RawRow}
 use Rattle.e_cert.specs.declared.cert_line.RawRow.TheVariants as rows
-use Rattle.e_cert.specs.CertLines.{row_words}
+use Rattle.e_cert.specs.CertLines.{raw_row_words}
 use Rattle.e_line.specs.Strict.{is_direct}
 use Rattle.e_cert.specs.Owed.{row_in}
 use Rattle.e_spell.specs.Certificates.{row_words as spelled_row}
@@ -39,7 +39,7 @@ raw_row ns names.Below = rows.Below
 raw_row ns (names.FactAt k) = rows.FactAt k
 
 -- its spelling
-pub row_spelled : (ns : Names) (r : RowName) → spelled_row ns r ≡ row_words (raw_row ns r)
+pub row_spelled : (ns : Names) (r : RowName) → spelled_row ns r ≡ raw_row_words (raw_row ns r)
 row_spelled ns (names.Fact l) = refl
 row_spelled ns names.Goal = refl
 row_spelled ns (names.Pos t) = refl

@@ -26,7 +26,7 @@ use Rattle.e_names.specs.Canonical.{name_of_object, rule_name}
 use Rattle.e_names.proofs.Lookups.{InOrder, objects_again}
 use Rattle.e_names.proofs.RuleNames.{title_again, rule_name_is}
 use Rattle.e_cert.specs.declared.owed.OpenTransfer.{OpenTransfer}
-use Rattle.e_cert.specs.Owed.{transfer_rule, transfer_at, transfer_in}
+use Rattle.e_cert.specs.Owed.{transfer_rule, transfer_at, open_transfer_in}
 use Rattle.e_roundtrip.proofs.Certificates.Feeding.{GoodPart}
 
 -- ---- the row of the rule
@@ -110,8 +110,8 @@ abbrev pub part_way : ℕ → List Obj → List Part → ℕ → OpenTransfer
 part_way rule args done n = record { rule = rule; args = args; parts = done; owed = n }
 
 pub transfer_again : (ns : Names) (l : Lit) (t : TransferCert) → InOrder ns → GoodTransfer ns l t
-    → transfer_in ns l (rule_name t.rule) (map (name_of_object ns) t.args) ≡ Ok (part_way t.rule t.args [] (length t.parts))
-unfolding transfer_in transfer_at
+    → open_transfer_in ns l (rule_name t.rule) (map (name_of_object ns) t.args) ≡ Ok (part_way t.rule t.args [] (length t.parts))
+unfolding open_transfer_in transfer_at
 transfer_again ns l t o g =
     let r = of_row t.rule t.args g.lits g.instance in
     let a = arguments_read ns r.row t.args o r.fitting g.args in

@@ -24,9 +24,9 @@ use Rattle.e_clause.specs.declared.cert.Against.TheVariants as against
 use Rattle.e_clause.specs.Instance.{Inst}
 use Rattle.e_clause.specs.RuleKinds.{is_transfer}
 use Rattle.e_clause.specs.Sum.{Place, is_limited_sum, refutes}
-use Rattle.e_clause.specs.MetricCertificate.{differing, both_refute, above_row, below_row, sums_refute, row_name_in, sum_in, sums_in}
+use Rattle.e_clause.specs.MetricCertificate.{differing, both_refute, above_row, below_row, sums_refute, row_name_in, sum_in, are_sums_in}
 use Rattle.e_clause.specs.PartCertificate.{part_certifies, part_in}
-use Rattle.e_clause.specs.TransferCertificate.{parts_certify, instance_certifies, transfer_certifies, args_in, transfer_in}
+use Rattle.e_clause.specs.TransferCertificate.{parts_certify, instance_certifies, transfer_certifies, are_args_in, transfer_in}
 use Rattle.e_clause.specs.Certify.{certifies, certify_all, against_holds, certifies_against}
 use Rattle.e_clause.specs.Written.{is_writable_name, is_writable_sum, are_writable_sums, is_writable_part, is_writable_cert, is_writable_against}
 use Rattle.e_clause.proofs.Refuted.{found}
@@ -63,7 +63,7 @@ difference facts wanted rownames.Above r e = absurd cc
 difference facts wanted rownames.Below r e = absurd cc
 difference facts wanted (rownames.FactAt k) r e = refl
 
-sums_are : (s : Scope) (facts : List Lit) (wanted : Option Lit) (x : Sums) → sums_in s x ≡ true → are_writable_sums x ≡ true → sums_refute facts wanted x ≡ true → sums_formed s x ≡ true
+sums_are : (s : Scope) (facts : List Lit) (wanted : Option Lit) (x : Sums) → are_sums_in s x ≡ true → are_writable_sums x ≡ true → sums_refute facts wanted x ≡ true → sums_formed s x ≡ true
 sums_are s facts wanted (One xs) w g h = sum_is s xs w g (sized (record { facts = facts; wanted = wanted; above = None; below = None }) xs h)
 sums_are s facts wanted (Two differs above below) w g h =
     let a = and_parts (row_name_in s differs) (sum_in s above && sum_in s below) w in
@@ -111,15 +111,15 @@ cert_is s facts l (Plain p) h g =
     part_is s facts l p a.0 g a.1
 cert_is s facts l (Transfer t) h g =
     let a = and_parts (transfer_in s t) (transfer_certifies facts l t) h in
-    let w = and_parts (args_in s t) (list_all (part_in s) t.parts) a.0 in
+    let w = and_parts (are_args_in s t) (list_all (part_in s) t.parts) a.0 in
     let b = and_parts (is_transfer t.rule) (option_map_or (instance_certifies facts l t.parts) (Inst t.rule t.args) false) a.1 in
     let i = found (instance_certifies facts l t.parts) (Inst t.rule t.args) b.1 in
     let c = and_parts (has i.0 l) (parts_certify facts (others i.0 l) t.parts) i.2 in
     let ps = parts_are s facts (others i.0 l) t.parts w.1 g c.1 in
     let instance = option_map_or (has_parts l t.parts) (Inst t.rule t.args) false in
-    and_from (is_transfer t.rule) (instance && (args_in s t && list_all (part_formed s) t.parts)) b.0
-    (and_from instance (args_in s t && list_all (part_formed s) t.parts) (on_found (has_parts l t.parts) (Inst t.rule t.args) i.0 i.1 (eq-eqb (length t.parts) (length (others i.0 l)) ps.count))
-    (and_from (args_in s t) (list_all (part_formed s) t.parts) w.0 ps.each))
+    and_from (is_transfer t.rule) (instance && (are_args_in s t && list_all (part_formed s) t.parts)) b.0
+    (and_from instance (are_args_in s t && list_all (part_formed s) t.parts) (on_found (has_parts l t.parts) (Inst t.rule t.args) i.0 i.1 (eq-eqb (length t.parts) (length (others i.0 l)) ps.count))
+    (and_from (are_args_in s t) (list_all (part_formed s) t.parts) w.0 ps.each))
 
 certs_are : (s : Scope) (facts ls : List Lit) (cs : List Cert) → certify_all s facts ls cs ≡ true → list_all is_writable_cert cs ≡ true → certs_formed s ls cs ≡ true
 certs_are s facts [] [] h g = refl
@@ -135,7 +135,7 @@ against_is s facts (against.Clash l) h g =
     let a = and_parts (all_in_scope s l) (against_holds facts (against.Clash l)) h in
     and_from (all_in_scope s l) (not (is_metric l)) a.0 (and_parts (not (is_metric l)) _ a.1).0
 against_is s facts (against.Metric m) h g =
-    let a = and_parts (sums_in s m.sums) (sums_refute facts None m.sums) h in
+    let a = and_parts (are_sums_in s m.sums) (sums_refute facts None m.sums) h in
     sums_are s facts None m.sums a.0 g a.1
 
 -- ---- lines

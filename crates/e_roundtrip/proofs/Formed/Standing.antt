@@ -4,7 +4,7 @@ use Rattle.std.specs.Option.{option_to_list}
 use Rattle.std.specs.List.{list_all}
 use Rattle.std.proofs.lemmas.List.Folds.{list_all-append}
 use Rattle.std.proofs.lemmas.Bool.{and_parts}
-use Rattle.e_text.specs.Tokens.{joined}
+use Rattle.e_text.specs.Tokens.{joined_words}
 use Rattle.e_literal.specs.declared.literal.Lit.{Lit}
 use Rattle.e_literal.specs.Use.{StatementView}
 use Rattle.e_clause.specs.Certify.{certify_all}
@@ -26,7 +26,7 @@ use Rattle.e_book.proofs.ScriptParts.{steps_of, close_of}
 use Rattle.e_book.proofs.ScriptRead.{Ready}
 use Rattle.e_cert.specs.declared.owed.Obligation.{Obligation}
 use Rattle.e_cert.specs.declared.kept.StepCerts.{StepCerts}
-use Rattle.e_line.specs.Strict.{is_strict}
+use Rattle.e_line.specs.Strict.{is_strict_line}
 use Rattle.e_read.specs.Strict.{is_apart}
 use Rattle.e_read.specs.Needs.{open_goal, due_of}
 use Rattle.e_spell.specs.Spelling.{script_lines}
@@ -87,17 +87,17 @@ pub record Spelled (known : List TitledStatement) (d : TheoremParser) (i : Insid
 -- a line of the script that is taken where this parser has come, with its certificates
 pub record Goes (known : List TitledStatement) (d e : TheoremParser) (f : RawLine) (owed : Obligation) (certs : List (List (List ℕ))) (k : Option StepCerts) : Type 0 where
   pub good : GoodForm f
-  pub strict : is_strict (as_read f) ≡ true
+  pub strict : is_strict_line (as_read f) ≡ true
   pub apart : is_apart d (as_read f) ≡ true
   pub owes : due_of known d (as_read f) ≡ Ok owed
   pub steps : step known d (as_read f) ≡ Ok e
   pub going : is_done e ≡ false
   pub keeps : Keeps d.in_scope owed certs k
 
-pub goes_along : (known : List TitledStatement) (d e : TheoremParser) (f : RawLine) (owed : Obligation) (certs : List (List (List ℕ))) (k : Option StepCerts) → Goes known d e f owed certs k → Along known d (line_of f ∷ map joined certs) e (option_to_list k)
+pub goes_along : (known : List TitledStatement) (d e : TheoremParser) (f : RawLine) (owed : Obligation) (certs : List (List (List ℕ))) (k : Option StepCerts) → Goes known d e f owed certs k → Along known d (line_of f ∷ map joined_words certs) e (option_to_list k)
 goes_along known d e f owed certs k g = step_along known d e f owed certs k g.good g.strict g.apart g.owes g.steps g.going g.keeps
 
 -- and more lines after it
 pub then_along : (known : List TitledStatement) (d e last : TheoremParser) (f : RawLine) (owed : Obligation) (certs : List (List (List ℕ))) (k : Option StepCerts) (more : List (List ℕ)) (ks : List StepCerts) → Goes known d e f owed certs k → Along known e more last ks
-    → Along known d (line_of f ∷ (map joined certs ++ more)) last (option_to_list k ++ ks)
-then_along known d e last f owed certs k more ks g rest = along_append known d e last (line_of f ∷ map joined certs) more (option_to_list k) ks (goes_along known d e f owed certs k g) rest
+    → Along known d (line_of f ∷ (map joined_words certs ++ more)) last (option_to_list k ++ ks)
+then_along known d e last f owed certs k more ks g rest = along_append known d e last (line_of f ∷ map joined_words certs) more (option_to_list k) ks (goes_along known d e f owed certs k g) rest

@@ -6,7 +6,7 @@ use Rattle.std.specs.Fmt.{signed_decimal}
 use Rattle.std.specs.List.{list_all, flat_map, AllByRecursion}
 use Rattle.std.proofs.lemmas.Bool.{leb-true, ltb-true, and_parts}
 use Rattle.e_text.specs.Lines.{is_allowed, AreShort}
-use Rattle.e_text.specs.Tokens.{joined}
+use Rattle.e_text.specs.Tokens.{joined_words}
 use Rattle.e_literal.specs.declared.literal.Lit.{Lit}
 use Rattle.e_clause.specs.declared.cert.RowName.{RowName}
 use Rattle.e_clause.specs.declared.cert.RowName.TheVariants as rows
@@ -78,7 +78,7 @@ all_append [] ys h k = k
 all_append (x ∷ xs) ys h k = (h.0, all_append xs ys h.1 k)
 
 -- as lines of bytes
-pub all_joined : (lines : List (List (List ℕ))) → AllRoom lines → AreShort 262144 (map joined lines)
+pub all_joined : (lines : List (List (List ℕ))) → AllRoom lines → AreShort 262144 (map joined_words lines)
 all_joined [] h = tt
 all_joined (l ∷ lines) h = (room_line 3000 l (omega arith) h.0, all_joined lines h.1)
 

@@ -5,7 +5,7 @@ use Rattle.std.specs.List.{list_all, AllByRecursion}
 use Rattle.std.proofs.lemmas.Bool.{leb-true, and_parts}
 use Rattle.std.proofs.lemmas.List.{length-map}
 use Rattle.e_text.specs.Names.{is_title}
-use Rattle.e_text.specs.Tokens.{joined}
+use Rattle.e_text.specs.Tokens.{joined_words}
 use Rattle.e_literal.specs.declared.object.Obj.{Obj}
 use Rattle.e_literal.specs.declared.object.Scope.{Scope}
 use Rattle.e_literal.specs.declared.literal.Lit.{Lit}
@@ -248,7 +248,7 @@ short_qed ns os o few =
     room_line (3 + 1 + n) _ (omega (arith, few)) (room_word 3 n (codes "qed") (map (name_of_object ns) os) refl (room_objects ns os o))
 
 -- a line of one word
-one_word : (w : List ℕ) → is_short 16 w ≡ true → IsShortLine (joined (w ∷ []))
+one_word : (w : List ℕ) → is_short 16 w ≡ true → IsShortLine (joined_words (w ∷ []))
 one_word w h = room_line 17 (w ∷ []) (omega arith) (room_word 16 0 w [] h room_none)
 
 pub short_contradiction : IsShortLine (line_of contradiction_form)

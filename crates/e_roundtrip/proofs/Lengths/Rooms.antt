@@ -8,7 +8,7 @@ use Rattle.std.proofs.lemmas.List.Folds.{list_all-append}
 use Rattle.e_text.specs.Lines.{is_allowed, AreShort}
 use Rattle.e_text.specs.Names.{is_letter, is_digit, is_name_byte, is_title_byte, is_reserved, is_name, is_title}
 use Rattle.e_text.specs.Numerals.{is_numeral}
-use Rattle.e_text.specs.Tokens.{spaced, joined}
+use Rattle.e_text.specs.Tokens.{spaced, joined_words}
 use Rattle.e_text.proofs.NumeralWords.{is_numeral-decimal}
 use Rattle.e_text.proofs.Spaced.{spaced_append}
 
@@ -60,7 +60,7 @@ abbrev pub IsShortLine : List ℕ → Type 0
 IsShortLine bytes = (list_all is_allowed bytes ≡ true) × (length bytes ≤ 262144)
 
 -- words that have room for a line
-pub room_line : (n : ℕ) (ws : List (List ℕ)) → n ≤ 262144 → Room n ws → IsShortLine (joined ws)
+pub room_line : (n : ℕ) (ws : List (List ℕ)) → n ≤ 262144 → Room n ws → IsShortLine (joined_words ws)
 room_line n [] le r = (refl, omega arith)
 room_line n (w ∷ ws) le r = (r.allowed, omega (arith, le, r.few))
 

@@ -6,7 +6,7 @@ use Rattle.e_line.specs.declared.raw_line.RawLine.{RawLine}
 use Rattle.e_line.specs.declared.raw_line.RawLine.TheVariants as rawlines
 use Rattle.e_line.specs.Reading.{◌>>=◌, names_of, not_empty, some_names}
 use Rattle.e_line.specs.Literals.{is_diagram_raw, lits_of}
-use Rattle.e_line.specs.Superposes.{superpose_pieces, head_of, superpose_of}
+use Rattle.e_line.specs.Superposes.{superpose_pieces, raw_superpose_of, superpose_of}
 use Rattle.e_line.specs.Lets.{are_words_of, new_words, argument_words}
 use Rattle.e_line.specs.RawLines.{raw_line_of}
 use Rattle.e_line.proofs.Bound.{bind_ok, ok_is, read_ok}
@@ -40,8 +40,8 @@ some_named : (ws ns : List (List ℕ)) → some_names ws ≡ Ok ns → 0 < lengt
 unfolding some_names
 some_named ws ns e = let a = bind_ok (names_of ws) (λ ns. not_empty ns) ns e in some_are a.0 ns a.2
 
-head_read : (head rest : List (List ℕ)) (s : RawSuperpose) → head_of head rest ≡ Ok s → AllSigned s.shown
-unfolding head_of
+head_read : (head rest : List (List ℕ)) (s : RawSuperpose) → raw_superpose_of head rest ≡ Ok s → AllSigned s.shown
+unfolding raw_superpose_of
 head_read head rest s e =
     let made : List (List ℕ) → List (List ℕ) → List RawLit → RawSuperpose = λ new args ls. record { args = args; new = new; shown = ls } in
     let news = new_words superpose_pieces head in

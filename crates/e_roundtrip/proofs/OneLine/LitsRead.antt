@@ -11,7 +11,7 @@ use Rattle.e_line.specs.declared.literal.RawLit.{RawLit}
 use Rattle.e_line.specs.declared.literal.RawAtom.{RawAtom}
 use Rattle.e_line.specs.declared.literal.RawAtom.TheVariants as raw
 use Rattle.e_line.specs.Reading.{◌>>=◌, or_malformed}
-use Rattle.e_line.specs.Literals.{sign_of, is_sign, object_of, sums_of, equal_sides, sides_of, negation_of, sign_first, compared, signed, lit_of, is_semicolon, lits_of}
+use Rattle.e_line.specs.Literals.{sign_of, is_sign, single_name, sums_of, equal_sides, sides_of, negation_of, sign_first, compared, signed, lit_of, is_semicolon, lits_of}
 use Rattle.e_line.proofs.Bound.{bind_ok, ok_is, read_ok}
 use Rattle.e_line.proofs.LitsByWord.{OfEachRelation, lit_by_word}
 use Rattle.e_line.proofs.SaidLits.{each_said}
@@ -85,8 +85,8 @@ sides_signed negated left (w ∷ ws) l e =
     let is = ok_is (pair t.0 ws) s.0 t.2 in
     let holds = by_sign (λ sign. (neg : Bool) (a : RawAtom) → negation_of negated sign ≡ Ok neg → sides_of sign left ws ≡ Ok a → (neg && is_at_most a) ≡ false)
     (bytes_eq w (codes "=")) (bytes_eq w (codes "!=")) (bytes_eq w (codes "<")) (bytes_eq w (codes "<=")) _ _ _ _ t.0
-    (λ neg a n k. unsigned a neg (equal_other (object_of left) (object_of ws) left ws a k))
-    (λ neg a n k. unsigned a neg (equal_other (object_of left) (object_of ws) left ws a k))
+    (λ neg a n k. unsigned a neg (equal_other (single_name left) (single_name ws) left ws a k))
+    (λ neg a n k. unsigned a neg (equal_other (single_name left) (single_name ws) left ws a k))
     (λ neg a n k. unsigned a neg (from_sums raw.SumsLess (λ x y. refl) left ws a k))
     (λ neg a n k. at_most_signed negated neg a n)
     (sign_found (sign_of w) t.0 t.1) in

@@ -24,7 +24,7 @@ use Rattle.e_line.specs.declared.literal.RawAtom.{RawAtom}
 use Rattle.e_line.specs.declared.literal.RawAtom.TheVariants as raw
 use Rattle.e_line.specs.Reading.{◌>>=◌, each}
 use Rattle.e_line.specs.Literals.{signed, is_diagram_raw}
-use Rattle.e_names.specs.Scope.{used, number_of, on_sort, line_meets, meets_from, equal_at, term_in, kind_of_raw, first_kind, mono_in, sums_in, atom_in, negated_in, lit_in, lits_in}
+use Rattle.e_names.specs.Scope.{used, number_of_name, on_sort, line_meets, meets_from, equal_at, term_in, kind_of_raw, first_kind, mono_in, sums_in, atom_in, negated_in, lit_in, lits_in}
 use Rattle.e_names.specs.Canonical.{name_at, name_of_object, raw_term, raw_mono, raw_sum, raw_atom, raw_signed, raw_of}
 use Rattle.e_line.proofs.Bound.{bind_ok, ok_is, read_ok}
 use Rattle.e_line.specs.Strict.{is_less, is_direct, are_direct}
@@ -47,18 +47,18 @@ to_term more x t r h e = subst (λ (y : Term). raw_term more y ≡ r) (ok_is x t
 pub term_named : (ns more : Names) (r : RawTerm) (t : Term) → Keeps ns more → term_in ns r ≡ Ok t → raw_term more t ≡ r
 unfolding term_in
 term_named ns more (rawterms.Seg x y) t k e =
-    let a = bind_ok (number_of ns Point x) (λ a. number_of ns Point y >>= λ b. read_ok (terms.Seg a b)) t e in
-    let b = bind_ok (number_of ns Point y) (λ b. read_ok (terms.Seg a.0 b)) t a.2 in
+    let a = bind_ok (number_of_name ns Point x) (λ a. number_of_name ns Point y >>= λ b. read_ok (terms.Seg a b)) t e in
+    let b = bind_ok (number_of_name ns Point y) (λ b. read_ok (terms.Seg a.0 b)) t a.2 in
     to_term more (terms.Seg a.0 b.0) t (rawterms.Seg x y) (rw (number_named ns more Point x a.0 k a.1, number_named ns more Point y b.0 k b.1) refl) b.2
 term_named ns more (rawterms.Ang x y z) t k e =
-    let a = bind_ok (number_of ns Point x) (λ a. number_of ns Point y >>= λ b. number_of ns Point z >>= λ c. read_ok (terms.Ang a b c)) t e in
-    let b = bind_ok (number_of ns Point y) (λ b. number_of ns Point z >>= λ c. read_ok (terms.Ang a.0 b c)) t a.2 in
-    let c = bind_ok (number_of ns Point z) (λ c. read_ok (terms.Ang a.0 b.0 c)) t b.2 in
+    let a = bind_ok (number_of_name ns Point x) (λ a. number_of_name ns Point y >>= λ b. number_of_name ns Point z >>= λ c. read_ok (terms.Ang a b c)) t e in
+    let b = bind_ok (number_of_name ns Point y) (λ b. number_of_name ns Point z >>= λ c. read_ok (terms.Ang a.0 b c)) t a.2 in
+    let c = bind_ok (number_of_name ns Point z) (λ c. read_ok (terms.Ang a.0 b.0 c)) t b.2 in
     to_term more (terms.Ang a.0 b.0 c.0) t (rawterms.Ang x y z) (rw (number_named ns more Point x a.0 k a.1, number_named ns more Point y b.0 k b.1, number_named ns more Point z c.0 k c.1) refl) c.2
 term_named ns more (rawterms.Area x y z) t k e =
-    let a = bind_ok (number_of ns Point x) (λ a. number_of ns Point y >>= λ b. number_of ns Point z >>= λ c. read_ok (terms.Area a b c)) t e in
-    let b = bind_ok (number_of ns Point y) (λ b. number_of ns Point z >>= λ c. read_ok (terms.Area a.0 b c)) t a.2 in
-    let c = bind_ok (number_of ns Point z) (λ c. read_ok (terms.Area a.0 b.0 c)) t b.2 in
+    let a = bind_ok (number_of_name ns Point x) (λ a. number_of_name ns Point y >>= λ b. number_of_name ns Point z >>= λ c. read_ok (terms.Area a b c)) t e in
+    let b = bind_ok (number_of_name ns Point y) (λ b. number_of_name ns Point z >>= λ c. read_ok (terms.Area a.0 b c)) t a.2 in
+    let c = bind_ok (number_of_name ns Point z) (λ c. read_ok (terms.Area a.0 b.0 c)) t b.2 in
     to_term more (terms.Area a.0 b.0 c.0) t (rawterms.Area x y z) (rw (number_named ns more Point x a.0 k a.1, number_named ns more Point y b.0 k b.1, number_named ns more Point z c.0 k c.1) refl) c.2
 term_named ns more rawterms.Right t k e = to_term more terms.Right t rawterms.Right refl e
 
@@ -138,7 +138,7 @@ meets_named ns more neg Line n x y a k h e =
     let o = bind_ok (used ns y) (λ o. line_meets n o.sort o.num) a e in
     line_named more neg n o.0.sort o.0.num x y a h (used_named ns more y o.0 k o.1) o.2
 meets_named ns more neg Circle n x y a k h e =
-    let c = bind_ok (number_of ns Circle y) (λ c. read_ok (atoms.MeetCC n c)) a e in
+    let c = bind_ok (number_of_name ns Circle y) (λ c. read_ok (atoms.MeetCC n c)) a e in
     other more neg (raw.Meets x y) (atoms.MeetCC n c.0) a refl refl (rw (h, number_named ns more Circle y c.0 k c.1) refl) c.2
 
 equal_named : (more : Names) (neg : Bool) (t : Sort) (m n : ℕ) (x y : List ℕ) (a : Atom) → name_of_object more (obj t m) ≡ x → name_of_object more (obj t n) ≡ y → read_ok (equal_at t m n) ≡ Ok a → Spells more neg (raw.Equal x y) a
@@ -153,35 +153,35 @@ may_stand neg r = not (neg && is_less r) && not (neg && is_at_most r)
 atom_named : (ns more : Names) (neg : Bool) (r : RawAtom) (a : Atom) → Keeps ns more → may_stand neg r ≡ true → atom_in ns r ≡ Ok a → Spells more neg r a
 unfolding atom_in
 atom_named ns more neg (raw.On x y) a k d e =
-    let p = bind_ok (number_of ns Point x) (λ p. used ns y >>= λ o. on_sort p o.sort o.num) a e in
+    let p = bind_ok (number_of_name ns Point x) (λ p. used ns y >>= λ o. on_sort p o.sort o.num) a e in
     let o = bind_ok (used ns y) (λ o. on_sort p.0 o.sort o.num) a p.2 in
     on_named more neg p.0 o.0 x y a (number_named ns more Point x p.0 k p.1) (used_named ns more y o.0 k o.1) o.2
 atom_named ns more neg (raw.Inside x y) a k d e =
-    let p = bind_ok (number_of ns Point x) (λ p. number_of ns Circle y >>= λ c. read_ok (atoms.Inside p c)) a e in
-    let c = bind_ok (number_of ns Circle y) (λ c. read_ok (atoms.Inside p.0 c)) a p.2 in
+    let p = bind_ok (number_of_name ns Point x) (λ p. number_of_name ns Circle y >>= λ c. read_ok (atoms.Inside p c)) a e in
+    let c = bind_ok (number_of_name ns Circle y) (λ c. read_ok (atoms.Inside p.0 c)) a p.2 in
     other more neg (raw.Inside x y) (atoms.Inside p.0 c.0) a refl refl (rw (number_named ns more Point x p.0 k p.1, number_named ns more Circle y c.0 k c.1) refl) c.2
 atom_named ns more neg (raw.Center x y) a k d e =
-    let p = bind_ok (number_of ns Point x) (λ p. number_of ns Circle y >>= λ c. read_ok (atoms.Center p c)) a e in
-    let c = bind_ok (number_of ns Circle y) (λ c. read_ok (atoms.Center p.0 c)) a p.2 in
+    let p = bind_ok (number_of_name ns Point x) (λ p. number_of_name ns Circle y >>= λ c. read_ok (atoms.Center p c)) a e in
+    let c = bind_ok (number_of_name ns Circle y) (λ c. read_ok (atoms.Center p.0 c)) a p.2 in
     other more neg (raw.Center x y) (atoms.Center p.0 c.0) a refl refl (rw (number_named ns more Point x p.0 k p.1, number_named ns more Circle y c.0 k c.1) refl) c.2
 atom_named ns more neg (raw.Between x y z) a k d e =
-    let p = bind_ok (number_of ns Point x) (λ p. number_of ns Point y >>= λ q. number_of ns Point z >>= λ r. read_ok (atoms.Between p q r)) a e in
-    let q = bind_ok (number_of ns Point y) (λ q. number_of ns Point z >>= λ r. read_ok (atoms.Between p.0 q r)) a p.2 in
-    let r = bind_ok (number_of ns Point z) (λ r. read_ok (atoms.Between p.0 q.0 r)) a q.2 in
+    let p = bind_ok (number_of_name ns Point x) (λ p. number_of_name ns Point y >>= λ q. number_of_name ns Point z >>= λ r. read_ok (atoms.Between p q r)) a e in
+    let q = bind_ok (number_of_name ns Point y) (λ q. number_of_name ns Point z >>= λ r. read_ok (atoms.Between p.0 q r)) a p.2 in
+    let r = bind_ok (number_of_name ns Point z) (λ r. read_ok (atoms.Between p.0 q.0 r)) a q.2 in
     other more neg (raw.Between x y z) (atoms.Between p.0 q.0 r.0) a refl refl
     (rw (number_named ns more Point x p.0 k p.1, number_named ns more Point y q.0 k q.1, number_named ns more Point z r.0 k r.1) refl) r.2
 atom_named ns more neg (raw.Same x y z) a k d e =
-    let p = bind_ok (number_of ns Point x) (λ p. number_of ns Point y >>= λ q. number_of ns Line z >>= λ r. read_ok (atoms.Same p q r)) a e in
-    let q = bind_ok (number_of ns Point y) (λ q. number_of ns Line z >>= λ r. read_ok (atoms.Same p.0 q r)) a p.2 in
-    let r = bind_ok (number_of ns Line z) (λ r. read_ok (atoms.Same p.0 q.0 r)) a q.2 in
+    let p = bind_ok (number_of_name ns Point x) (λ p. number_of_name ns Point y >>= λ q. number_of_name ns Line z >>= λ r. read_ok (atoms.Same p q r)) a e in
+    let q = bind_ok (number_of_name ns Point y) (λ q. number_of_name ns Line z >>= λ r. read_ok (atoms.Same p.0 q r)) a p.2 in
+    let r = bind_ok (number_of_name ns Line z) (λ r. read_ok (atoms.Same p.0 q.0 r)) a q.2 in
     other more neg (raw.Same x y z) (atoms.Same p.0 q.0 r.0) a refl refl
     (rw (number_named ns more Point x p.0 k p.1, number_named ns more Point y q.0 k q.1, number_named ns more Line z r.0 k r.1) refl) r.2
 atom_named ns more neg (raw.Meets x y) a k d e =
     let o = bind_ok (used ns x) (λ o. meets_from ns o.sort o.num y) a e in
     meets_named ns more neg o.0.sort o.0.num x y a k (used_named ns more x o.0 k o.1) o.2
 atom_named ns more neg (raw.Equal x y) a k d e =
-    let o = bind_ok (used ns x) (λ o. number_of ns o.sort y >>= λ n. read_ok (equal_at o.sort o.num n)) a e in
-    let n = bind_ok (number_of ns o.0.sort y) (λ n. read_ok (equal_at o.0.sort o.0.num n)) a o.2 in
+    let o = bind_ok (used ns x) (λ o. number_of_name ns o.sort y >>= λ n. read_ok (equal_at o.sort o.num n)) a e in
+    let n = bind_ok (number_of_name ns o.0.sort y) (λ n. read_ok (equal_at o.0.sort o.0.num n)) a o.2 in
     equal_named more neg o.0.sort o.0.num n.0 x y a (used_named ns more x o.0 k o.1) (number_named ns more o.0.sort y n.0 k n.1) n.2
 atom_named ns more neg (raw.SumsEqual x y) a k d e =
     let p = bind_ok (sums_in ns x y) (λ p. read_ok (atoms.MagEq p.0 p.1)) a e in

@@ -10,7 +10,7 @@ use Rattle.e_literal.specs.declared.object.Obj.{Obj}
 use Rattle.e_literal.specs.Literal.{obj}
 use Rattle.e_deriv.specs.declared.names.Names.{Names}
 use Rattle.e_deriv.specs.Naming.{names_of_sort}
-use Rattle.e_names.specs.Scope.{object_at, or_else, object_in, object_of, used, number_at, number_of, object_as}
+use Rattle.e_names.specs.Scope.{object_at, or_else, object_in, object_of, used, number_of_sort, number_of_name, object_as}
 use Rattle.e_names.specs.Canonical.{nameless, name_at, name_of_object}
 use Rattle.e_line.proofs.Bound.{bind_ok, ok_is, read_ok}
 use Rattle.e_names.proofs.InScope.{known_is}
@@ -61,21 +61,21 @@ used_named ns more name o k e =
     let c = object_in ns Circle name in
     either_found more name p (or_else l c) o (in_found ns more Point name o k) (either_found more name l c o (in_found ns more Line name o k) (in_found ns more Circle name o k)) (known_is (object_of ns name) o e)
 
-of_sort : (more : Names) (name : List ℕ) (t sort : Sort) (m n : ℕ) → Named more name (obj t m) → number_at sort (obj t m) ≡ Ok n → Named more name (obj sort n)
+of_sort : (more : Names) (name : List ℕ) (t sort : Sort) (m n : ℕ) → Named more name (obj t m) → number_of_sort sort (obj t m) ≡ Ok n → Named more name (obj sort n)
 of_sort more name Point Point m n h e = subst (λ (k : ℕ). Named more name (obj Point k)) (ok_is m n e) h
 of_sort more name Line Line m n h e = subst (λ (k : ℕ). Named more name (obj Line k)) (ok_is m n e) h
 of_sort more name Circle Circle m n h e = subst (λ (k : ℕ). Named more name (obj Circle k)) (ok_is m n e) h
 of_sort more name t sort m n h e = absurd cc
 
 -- the number of an object of a sort
-pub number_named : (ns more : Names) (sort : Sort) (name : List ℕ) (n : ℕ) → Keeps ns more → number_of ns sort name ≡ Ok n → name_at (names_of_sort more sort) n ≡ name
-unfolding number_of
+pub number_named : (ns more : Names) (sort : Sort) (name : List ℕ) (n : ℕ) → Keeps ns more → number_of_name ns sort name ≡ Ok n → name_at (names_of_sort more sort) n ≡ name
+unfolding number_of_name
 number_named ns more sort name n k e =
-    let a = bind_ok (used ns name) (λ o. number_at sort o) n e in
+    let a = bind_ok (used ns name) (λ o. number_of_sort sort o) n e in
     of_sort more name a.0.sort sort a.0.num n (used_named ns more name a.0 k a.1) a.2
 
 pub object_named : (ns more : Names) (sort : Sort) (name : List ℕ) (o : Obj) → Keeps ns more → object_as ns sort name ≡ Ok o → name_of_object more o ≡ name
 unfolding object_as
 object_named ns more sort name o k e =
-    let a = bind_ok (number_of ns sort name) (λ n. read_ok (obj sort n)) o e in
+    let a = bind_ok (number_of_name ns sort name) (λ n. read_ok (obj sort n)) o e in
     subst (λ (x : Obj). Named more name x) (ok_is (obj sort a.0) o a.2) (number_named ns more sort name a.0 k a.1)

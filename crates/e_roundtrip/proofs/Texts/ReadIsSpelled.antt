@@ -40,11 +40,11 @@ use Rattle.e_cert.specs.declared.owed.Pending.{Pending}
 use Rattle.e_cert.specs.declared.kept.StepCerts.{StepCerts}
 use Rattle.e_read.specs.declared.reading.BlockParser.{BlockParser}
 use Rattle.e_cert.specs.CertLines.{cert_line_text}
-use Rattle.e_line.specs.Strict.{is_strict}
+use Rattle.e_line.specs.Strict.{is_strict_line}
 use Rattle.e_read.specs.Strict.{is_apart}
 use Rattle.e_read.specs.Needs.{due_of}
-use Rattle.e_read.specs.Filled.{filled}
-use Rattle.e_read.specs.Text.{spelled, Derived, Last, owes_nothing, at_start, owed_by, gone_on, worded, is_lf_end, taken, derived, garbled_at, is_finished, finished, or_on, is_end, piece_from}
+use Rattle.e_read.specs.Filled.{script_with_certs}
+use Rattle.e_read.specs.Text.{parser_after_bytes, Derived, Last, owes_nothing, at_start, owed_by, gone_on, worded, is_lf_end, parser_after_line, derived, garbled_at, is_finished, finished, or_on, is_end, piece_from}
 use Rattle.e_clause.specs.declared.cert.Version.{Version}
 use Rattle.e_read.proofs.Consequences.{text_spelled}
 use Rattle.e_read.proofs.GoodReadings.{version_read}
@@ -160,7 +160,7 @@ owed_is known d f o e =
     let n = bind_ok (due_of known d f) (λ new. read_ok (owed d.in_scope new)) o e in
     (n.0, n.1, ok_is (owed d.in_scope n.0) o n.2)
 
-gone_said : (known : List TitledStatement) (parser : Option TheoremParser) (e : TheoremParser) (f : RawLine) (o : Pending) (ks : List StepCerts) (done : List (List ℕ)) → StateSaid known parser ks done → Read f → is_strict f ≡ true → gone_on known parser f ≡ Ok (e, o)
+gone_said : (known : List TitledStatement) (parser : Option TheoremParser) (e : TheoremParser) (f : RawLine) (o : Pending) (ks : List StepCerts) (done : List (List ℕ)) → StateSaid known parser ks done → Read f → is_strict_line f ≡ true → gone_on known parser f ≡ Ok (e, o)
     → StepSaid known e o ks (done ++ line_of f ∷ [])
 gone_said known None e f o ks done s r st g =
     let b = bind_ok (begin known f) (λ x. read_ok (with_owed x owes_nothing)) (e, o) g in
@@ -178,7 +178,7 @@ gone_said known (Some d) e f o ks done s r st g =
 stepped_said : (known : List TitledStatement) (r next : BlockParser) (line : List ℕ) (done : List (List ℕ)) → SaidSoFar known r.parser r.owed r.kept done → (s : Stepped known r next line) → StepSaid known s.parser s.owed (r.kept ++ option_to_list s.read) (done ++ line ∷ [])
 stepped_said known r next line done so s =
     let f = form_read line s.form s.spelled in
-    let b = and_parts (is_strict s.form) (bytes_eq line (line_of s.form)) f.1 in
+    let b = and_parts (is_strict_line s.form) (bytes_eq line (line_of s.form)) f.1 in
     let is : line ≡ line_of s.form = (bytes_eq-Decides line (line_of s.form)).0 b.1 in
     let text = settled_spelled r.owed s.read so.fits s.settled_is in
     let state = so.said s.read (settled_formed r.owed s.read so.formed s.settled_is) in
@@ -201,8 +201,8 @@ all_said known d o ks done s l =
     let t = derived d ks in
     let head = map line_of (head_forms t) in
     let end = line_of end_form ∷ [] in
-    let script : script_lines known (names_of_proof t) (filled (entry_of_parser d).script ks).0 ≡ i.body.0 =
-    ap (λ (x : List StepCerts). script_lines known (names_of_proof t) (filled (entry_of_parser d).script x).0) (sym (append-nil ks) ∙ sym (append-nil (ks ++ []))) ∙ i.body.1.spelled [] in
+    let script : script_lines known (names_of_proof t) (script_with_certs (entry_of_parser d).script ks).0 ≡ i.body.0 =
+    ap (λ (x : List StepCerts). script_lines known (names_of_proof t) (script_with_certs (entry_of_parser d).script x).0) (sym (append-nil ks) ∙ sym (append-nil (ks ++ []))) ∙ i.body.1.spelled [] in
     so.all ∙ i.lines ∙ ap (λ (l : List (List ℕ)). head ++ l) i.body.2 ∙ ap (λ (l : List (List ℕ)). head ++ (l ++ end)) (sym script)
 
 -- the derivation has the form that its lines owe, where the names of its proof are in scope
@@ -214,7 +214,7 @@ all_formed known d o ks done s l =
     let so = subst (λ (x : Pending). SaidSoFar known (Some d) x ks done) (s.last l) s.so_far in
     let i = at_done known d.place d (ks ++ []) (so.before ++ []) l (so.said None tt) in
     let t = derived d ks in
-    subst (λ (x : List StepCerts). FormedHere known (names_of_proof t) (goal_of_statement (stated t.statement)) (filled (entry_of_parser d).script x).0) (append-nil (ks ++ []) ∙ append-nil ks) (i.body.1.formed [])
+    subst (λ (x : List StepCerts). FormedHere known (names_of_proof t) (goal_of_statement (stated t.statement)) (script_with_certs (entry_of_parser d).script x).0) (append-nil (ks ++ []) ∙ append-nil ks) (i.body.1.formed [])
 
 -- ---- all lines
 
@@ -226,8 +226,8 @@ record Rest (known : List TitledStatement) (done : List (List ℕ)) (t : Theorem
   formed : EntryFormed known t
 
 -- a line that is taken ends with a line feed
-ends_with_lf : (known : List TitledStatement) (r next : BlockParser) (l : LineView) → taken known r l ≡ Ok next → l.end ≡ ends.Lf
-unfolding taken spelled
+ends_with_lf : (known : List TitledStatement) (r next : BlockParser) (l : LineView) → parser_after_line known r l ≡ Ok next → l.end ≡ ends.Lf
+unfolding parser_after_line parser_after_bytes
 ends_with_lf known r next l e = is_lf l.end (passed (is_lf_end l.end) (worded known r l.bytes (tokens_of l.bytes)) next e).0
   where
     is_lf : (x : LineEnd) → is_lf_end x ≡ true → x ≡ ends.Lf
@@ -273,13 +273,13 @@ unfolding piece_from
 whole known last r [] rest t done s unended e = absurd cc
 whole known last r (Err f ∷ lines) rest t done s unended e = absurd cc
 whole known last r (Ok l ∷ lines) rest t done s unended e =
-    let next : Result BlockParser ℕ = garbled_at l.number (taken known r l) in
+    let next : Result BlockParser ℕ = garbled_at l.number (parser_after_line known r l) in
     let then : BlockParser → Result Answer ℕ = λ x. or_on (finished x.parser x.kept) lines (piece_from known last x lines) in
     elim (either (is_end known r.parser l) (Ok (Last, lines)) (next >>= then) (derives t rest) e) [
       | inl p ↦ absurd (no_last lines rest t p.1)
       | inr p ↦
           let x = bind_ok next then (Derived t, rest) p.1 in
-          let took = garbled_ok l.number (taken known r l) x.0 x.1 in
+          let took = garbled_ok l.number (parser_after_line known r l) x.0 x.1 in
           let goes = goes_on (finished x.0.parser x.0.kept) lines rest (piece_from known last x.0 lines) t x.2 in
           let now = done ++ l.bytes ∷ [] in
           one_more known done t l lines rest (ends_with_lf known r x.0 l took)

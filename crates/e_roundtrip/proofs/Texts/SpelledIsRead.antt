@@ -42,10 +42,10 @@ use Rattle.e_book.proofs.CanonicalRead.{stating_forms, run_statement, started, b
 use Rattle.e_cert.specs.declared.owed.Obligation.TheVariants as due
 use Rattle.e_cert.specs.declared.kept.StepCerts.{StepCerts}
 use Rattle.e_read.specs.declared.reading.BlockParser.{BlockParser}
-use Rattle.e_read.specs.Filled.{filled}
+use Rattle.e_read.specs.Filled.{script_with_certs}
 use Rattle.e_cert.specs.Owed.{finish_certs}
 use Rattle.e_read.specs.Needs.{due_of}
-use Rattle.e_read.specs.Text.{stepped as line_stepped, spelled, with_form, Derived, owes_nothing, at_start, worded, taken, derived, finished, is_end, piece_from}
+use Rattle.e_read.specs.Text.{parser_after_exact_line as line_stepped, parser_after_bytes, with_form, Derived, owes_nothing, at_start, worded, parser_after_line, derived, finished, is_end, piece_from}
 use Rattle.e_spell.specs.Spelling.{script_lines}
 use Rattle.e_roundtrip.specs.Formed.{is_formed}
 use Rattle.e_roundtrip.specs.Spelled.{ShowsEnded, CanBeSpelled}
@@ -160,8 +160,8 @@ record Left (known : List TitledStatement) (number : ℕ) (r next : BlockParser)
   shown : ShowsEnded ahead more rest
   same : piece_from known number r all ≡ piece_from known number next ahead
 
-taken_is : (known : List TitledStatement) (r next : BlockParser) (l : LineView) (text : List ℕ) → l.bytes ≡ text → l.end ≡ Lf → worded known r text (tokens_of text) ≡ Ok next → taken known r l ≡ Ok next
-unfolding taken spelled
+taken_is : (known : List TitledStatement) (r next : BlockParser) (l : LineView) (text : List ℕ) → l.bytes ≡ text → l.end ≡ Lf → worded known r text (tokens_of text) ≡ Ok next → parser_after_line known r l ≡ Ok next
+unfolding parser_after_line parser_after_bytes
 taken_is known r next l text b e leads =
     let w : worded known r l.bytes (tokens_of l.bytes) ≡ Ok next = ap (λ (x : List ℕ). worded known r x (tokens_of x)) b ∙ leads in
     rw (e, w) refl
@@ -223,8 +223,8 @@ step_end known t d last = refl
 script_whole : (t : TheoremView) (d : Script) (known : List TitledStatement) → HasSpelling known (plain_entry t d) → (last : Inside) → derived (record (shut_parser t d last) { place = Done }) (kepts d) ≡ record t { script = d }
 script_whole t d known h last =
     let same = same_script (erased d) h.script in
-    let back : filled (erased d) (kepts d) ≡ (d, []) = ap (filled (erased d)) (sym (append-nil (kepts d))) ∙ filled_back d [] in
-    ap (λ (x : Script). record t { script = (filled x (kepts d)).0 }) same ∙ ap (λ (x : Script × List StepCerts). record t { script = x.0 }) back
+    let back : script_with_certs (erased d) (kepts d) ≡ (d, []) = ap (script_with_certs (erased d)) (sym (append-nil (kepts d))) ∙ filled_back d [] in
+    ap (λ (x : Script). record t { script = (script_with_certs x (kepts d)).0 }) same ∙ ap (λ (x : Script × List StepCerts). record t { script = x.0 }) back
 
 end_leads : (known : List TitledStatement) (t : TheoremView) (d : Script) (last : Inside) (r : BlockParser) → Stands r (shut_parser t d last) (kepts d)
     → (next : BlockParser) × (worded known r (line_of rawlines.End) (tokens_of (line_of rawlines.End)) ≡ Ok next) × (next.parser ≡ Some (record (shut_parser t d last) { place = Done })) × (next.kept ≡ kepts d)

@@ -21,8 +21,8 @@ use Rattle.e_roundtrip.specs.Spelled.{ShowsEnded}
 use Rattle.e_roundtrip.proofs.Texts.ReadIsSpelled.{read_is_spelled_so}
 use Rattle.e_roundtrip.proofs.Texts.ShownText.{read_text_is_spelled}
 use Rattle.e_judgement.specs.declared.judgement.Judgement.TheVariants.{Verified, Bad, Garbled}
-use Rattle.e_judgement.specs.Judged.{Rest, with_theorem, Passes, number_of, JudgedAfter, Closes, IsJudged, head_of, is_head, version_of, JudgedAfterHead, JudgesLines, lines_of_text}
-use Rattle.e_roundtrip.specs.Written.{AllProved, SpellsProofs, blocks_of, head_line, accepted_line}
+use Rattle.e_judgement.specs.Judged.{Rest, with_theorem, Passes, number_of_line, JudgedAfter, Closes, IsJudged, head_of, is_head, version_of, JudgedAfterHead, JudgesLines, lines_of_text}
+use Rattle.e_roundtrip.specs.Written.{AllProved, SpellsProofs, spelled_blocks, version_line, accepted_blocks_line}
 use Rattle.e_roundtrip.specs.Laws.{VerifiedIsWritten}
 use Rattle.e_roundtrip.proofs.Texts.WrittenIsVerified.{last_is_line}
 use Rattle.e_roundtrip.proofs.Texts.LastLine.{last_shown}
@@ -41,7 +41,7 @@ same_number n m e = cc
 -- a text is verified where nothing stands after its last line
 after : (m n : ℕ) (rest : Rest) → Verified n ≡ JudgedAfter m rest → (m ≡ n) × (rest ≡ [])
 after m n [] e = (sym (same_number n m e), refl)
-after m n (x ∷ xs) e = absurd (not_garbled n (number_of x) e)
+after m n (x ∷ xs) e = absurd (not_garbled n (number_of_line x) e)
 
 module _ (v : Version) where
   -- and its last line says how many theorems are known
@@ -88,13 +88,13 @@ module _ (v : Version) where
 
   -- their bytes are their blocks
   blocks_text : (last : ℕ) (known : List TitledStatement) (lines : Rest) (ts : List TheoremView) (now : List TitledStatement) (rest : Rest) → Passes v last known lines ts now rest
-      → text_of_lines lines ≡ blocks_of known (pairs ts) ++ text_of_lines rest
+      → text_of_lines lines ≡ spelled_blocks known (pairs ts) ++ text_of_lines rest
   blocks_text last known lines [] now rest p = ap text_of_lines p.1
   blocks_text last known lines (t ∷ ts) now rest p =
       let own = spelled known t t.script in
       let next = with_theorem known t in
       read_text_is_spelled v known last t lines p.0 p.1 ∙ ap (λ (x : List ℕ). own ++ x) (blocks_text last next p.0 ts now rest p.3)
-      ∙ sym (append_assoc own (blocks_of next (pairs ts)) (text_of_lines rest))
+      ∙ sym (append_assoc own (spelled_blocks next (pairs ts)) (text_of_lines rest))
 
   -- ---- the first line and the last
 
@@ -110,7 +110,7 @@ module _ (v : Version) where
   is_lf ends.CrLf e = absurd cc
   is_lf ends.TextEnd e = absurd cc
 
-  head_text : (l : LineView) (lines : Rest) → is_head v l ≡ true → text_of_lines (Ok l ∷ lines) ≡ head_line v ++ text_of_lines lines
+  head_text : (l : LineView) (lines : Rest) → is_head v l ≡ true → text_of_lines (Ok l ∷ lines) ≡ version_line v ++ text_of_lines lines
   head_text l lines h =
       let p = and_parts (is_lf_end l.end) (bytes_eq l.bytes (head_of v)) h in
       ap (λ (b : List ℕ). b ++ (end_bytes l.end ++ text_of_lines lines)) ((bytes_eq-Decides l.bytes (head_of v)).0 p.1)
@@ -127,15 +127,15 @@ module _ (v : Version) where
       let good : HaveNoFault lines = good_passed last [] lines ts j.known j.rest j.passes (good_shown j.rest [] (last_line_of (length j.known) ∷ []) c.1 tt) in
       let read : text_of_lines (lines_of_text text) ≡ text =
       text_of_lines-lines_of (record { longest = 262144; most = length text }) (record { line = 1; before = 0 }) text (subst HaveNoFault (sym e) good) in
-      let end : text_of_lines j.rest ≡ accepted_line (length (pairs ts)) =
-      last_text j.rest (last_line_of (length j.known)) c.1 ∙ sym (last_is_line (length j.known)) ∙ ap accepted_line (sym count) in
+      let end : text_of_lines j.rest ≡ accepted_blocks_line (length (pairs ts)) =
+      last_text j.rest (last_line_of (length j.known)) c.1 ∙ sym (last_is_line (length j.known)) ∙ ap accepted_blocks_line (sym count) in
       record {
         version = v;
         theorems = pairs ts;
         count = count ∙ c.0;
         proved = all_proved last [] lines ts j.known j.rest j.passes;
-        bytes = sym read ∙ ap text_of_lines e ∙ head_text l lines h ∙ ap (λ (x : List ℕ). head_line v ++ x) (blocks_text last [] lines ts j.known j.rest j.passes)
-            ∙ ap (λ (x : List ℕ). head_line v ++ (blocks_of [] (pairs ts) ++ x)) end;
+        bytes = sym read ∙ ap text_of_lines e ∙ head_text l lines h ∙ ap (λ (x : List ℕ). version_line v ++ x) (blocks_text last [] lines ts j.known j.rest j.passes)
+            ∙ ap (λ (x : List ℕ). version_line v ++ (spelled_blocks [] (pairs ts) ++ x)) end;
       }
 
 -- the line says the version

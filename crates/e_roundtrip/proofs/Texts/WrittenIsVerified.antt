@@ -16,7 +16,7 @@ use Rattle.e_read.specs.Text.{last_line_of}
 use Rattle.e_spell.specs.Spelling.{spelled_lines}
 use Rattle.e_judgement.specs.declared.judgement.Judgement.TheVariants.{Verified}
 use Rattle.e_judgement.specs.Judged.{with_theorem, head_of, version_of, JudgedAfterHead, JudgesLines, JudgesText}
-use Rattle.e_roundtrip.specs.Written.{AllCanBeSpelled, judgement_of, blocks_of, head_line, written, accepted_line}
+use Rattle.e_roundtrip.specs.Written.{AllCanBeSpelled, judgement_of, spelled_blocks, version_line, derivation_text, accepted_blocks_line}
 use Rattle.e_roundtrip.specs.Laws.{WrittenIsJudged, WrittenIsVerified}
 use Rattle.e_roundtrip.proofs.Lengths.Rooms.{IsShortLine, short_number, short_append, room_none, room_word, room_line}
 use Rattle.e_roundtrip.proofs.Lengths.BlockRooms.{lines_of_blocks, short_blocks}
@@ -35,15 +35,15 @@ lf_text_append [] ys = refl
 lf_text_append (x ∷ xs) ys = ap (λ (t : List ℕ). x ++ 10 ∷ t) (lf_text_append xs ys) ∙ sym (append_assoc x (10 ∷ lf_text xs) (lf_text ys))
 
 -- the blocks are lines
-blocks_are_lines : (known : List TitledStatement) (ps : List (TheoremView × Script)) → blocks_of known ps ≡ lf_text (lines_of_blocks known ps)
+blocks_are_lines : (known : List TitledStatement) (ps : List (TheoremView × Script)) → spelled_blocks known ps ≡ lf_text (lines_of_blocks known ps)
 blocks_are_lines known [] = refl
 blocks_are_lines known (p ∷ ps) =
     let own = spelled_lines known p.0 p.1 in
     let next = with_theorem known p.0 in
-    ap (λ (t : List ℕ). t ++ blocks_of next ps) (text_of_is own) ∙ ap (λ (t : List ℕ). lf_text own ++ t) (blocks_are_lines next ps) ∙ sym (lf_text_append own (lines_of_blocks next ps))
+    ap (λ (t : List ℕ). t ++ spelled_blocks next ps) (text_of_is own) ∙ ap (λ (t : List ℕ). lf_text own ++ t) (blocks_are_lines next ps) ∙ sym (lf_text_append own (lines_of_blocks next ps))
 
 -- so is the last line
-pub last_is_line : (n : ℕ) → accepted_line n ≡ lf_text (last_line_of n ∷ [])
+pub last_is_line : (n : ℕ) → accepted_blocks_line n ≡ lf_text (last_line_of n ∷ [])
 last_is_line n = ap (λ (t : List ℕ). codes "accepted " ++ t) (ap (λ (t : List ℕ). t ++ 10 ∷ []) (sym (append-nil (decimal n))))
 
 -- the head line is short, and says its version
@@ -61,10 +61,10 @@ module _ (v : Version) where
   all_lines ps = head_of v ∷ (lines_of_blocks [] ps ++ last_line_of (length ps) ∷ [])
 
   -- the text is these lines
-  written_is : (ps : List (TheoremView × Script)) → written v ps ≡ lf_text (all_lines ps)
+  written_is : (ps : List (TheoremView × Script)) → derivation_text v ps ≡ lf_text (all_lines ps)
   written_is ps =
-      ap (λ (t : List ℕ). head_line v ++ t)
-      (ap (λ (t : List ℕ). t ++ accepted_line (length ps)) (blocks_are_lines [] ps) ∙ ap (λ (t : List ℕ). lf_text (lines_of_blocks [] ps) ++ t) (last_is_line (length ps))
+      ap (λ (t : List ℕ). version_line v ++ t)
+      (ap (λ (t : List ℕ). t ++ accepted_blocks_line (length ps)) (blocks_are_lines [] ps) ∙ ap (λ (t : List ℕ). lf_text (lines_of_blocks [] ps) ++ t) (last_is_line (length ps))
       ∙ sym (lf_text_append (lines_of_blocks [] ps) (last_line_of (length ps) ∷ [])))
       ∙ append_assoc (head_of v) (10 ∷ []) (lf_text (lines_of_blocks [] ps ++ last_line_of (length ps) ∷ []))
 
@@ -103,4 +103,4 @@ pub written_is_verified : WrittenIsVerified
 written_is_verified v ps h =
     let known : List TitledStatement = [] in
     let n : length known + length ps ≡ length ps = omega arith in
-    subst (JudgesText (written v ps)) (all_verified v [] ps h ∙ ap (λ (k : ℕ). Verified k) n) (written_is_judged v ps (all_spelled v [] ps h))
+    subst (JudgesText (derivation_text v ps)) (all_verified v [] ps h ∙ ap (λ (k : ℕ). Verified k) n) (written_is_judged v ps (all_spelled v [] ps h))

@@ -43,7 +43,7 @@ use Rattle.e_names.specs.Fits.{is_diagram_atom, is_diagram_lit}
 use Rattle.e_book.specs.Fits.{has_good_literals, few_facts, few_terms, few_blanks}
 use Rattle.e_names.proofs.ShortLits.{count_first}
 use Rattle.e_roundtrip.proofs.Formed.Filled.{both_same}
-use Rattle.e_trim.specs.Trimmed.{obj_at, image_of, lit_at, row_at, sum_at, sums_at, part_at, cert_at, against_at, form_at, superpose_at, args_at, joins_at, is_kept, wants, trimmed_from}
+use Rattle.e_trim.specs.Trimmed.{obj_at, image_among_kept, lit_among_kept, row_name_among_kept, sum_at, sums_at, part_at, cert_at, against_at, construction_among_kept, superpose_at, args_at, joins_at, is_kept, wants, trimmed_from}
 
 -- ---- tests
 
@@ -68,19 +68,19 @@ monos_stay p l c (atoms.MagEq x y) = ap length (sym (map-append (mono_at p) x y)
 monos_stay p l c (atoms.MagLt x y) = ap length (sym (map-append (mono_at p) x y)) ∙ length-map (x ++ y) (mono_at p)
 monos_stay p l c a = refl
 
-lit_monos : (kept : List Obj) (l : Lit) → monomials (lit_at kept l).atom ≡ monomials l.atom
-lit_monos kept l = monos_stay (number_at (image_of kept) Point) (number_at (image_of kept) Line) (number_at (image_of kept) Circle) l.atom
+lit_monos : (kept : List Obj) (l : Lit) → monomials (lit_among_kept kept l).atom ≡ monomials l.atom
+lit_monos kept l = monos_stay (number_at (image_among_kept kept) Point) (number_at (image_among_kept kept) Line) (number_at (image_among_kept kept) Circle) l.atom
 
-lit_diagram : (kept : List Obj) (l : Lit) → is_diagram_lit (lit_at kept l) ≡ is_diagram_lit l
-lit_diagram kept l = diagram_stays (number_at (image_of kept) Point) (number_at (image_of kept) Line) (number_at (image_of kept) Circle) l.atom
+lit_diagram : (kept : List Obj) (l : Lit) → is_diagram_lit (lit_among_kept kept l) ≡ is_diagram_lit l
+lit_diagram kept l = diagram_stays (number_at (image_among_kept kept) Point) (number_at (image_among_kept kept) Line) (number_at (image_among_kept kept) Circle) l.atom
 
-lits_monos : (kept : List Obj) (ls : List Lit) → count_monomials (map (lit_at kept) ls) ≡ count_monomials ls
+lits_monos : (kept : List Obj) (ls : List Lit) → count_monomials (map (lit_among_kept kept) ls) ≡ count_monomials ls
 lits_monos kept [] = refl
-lits_monos kept (l ∷ ls) = omega (arith, count_first (lit_at kept l) (map (lit_at kept) ls), count_first l ls, lit_monos kept l, lits_monos kept ls)
+lits_monos kept (l ∷ ls) = omega (arith, count_first (lit_among_kept kept l) (map (lit_among_kept kept) ls), count_first l ls, lit_monos kept l, lits_monos kept ls)
 
-well_stay : (kept : List Obj) (ls : List Lit) → list_all is_well_formed (map (lit_at kept) ls) ≡ list_all is_well_formed ls
+well_stay : (kept : List Obj) (ls : List Lit) → list_all is_well_formed (map (lit_among_kept kept) ls) ≡ list_all is_well_formed ls
 well_stay kept [] = refl
-well_stay kept (l ∷ ls) = both_same _ _ _ _ (renamed_well_formed (image_of kept) l) (well_stay kept ls)
+well_stay kept (l ∷ ls) = both_same _ _ _ _ (renamed_well_formed (image_among_kept kept) l) (well_stay kept ls)
 
 same_sum : (a b c d : List Lit) → length a ≡ length c → length b ≡ length d → length (a ++ b) ≡ length (c ++ d)
 same_sum a b c d e f = omega (arith, length-append a b, length-append c d, e, f)
@@ -90,7 +90,7 @@ avoided_count [] s z os ps e = refl
 avoided_count (x ∷ xs) s z os ps e = length-map os _ ∙ e ∙ sym (length-map ps _)
 
 -- a construction gives as many literals
-gives_count : (kept : List Obj) (form : Construction) (s z : Scope) → length (gives_of_construction (form_at kept form) s) ≡ length (gives_of_construction form z)
+gives_count : (kept : List Obj) (form : Construction) (s z : Scope) → length (gives_of_construction (construction_among_kept kept form) s) ≡ length (gives_of_construction form z)
 gives_count kept form s z =
     same_sum _ _ _ _ (length-map _ _ ∙ sym (length-map _ _)) (avoided_count (sorts_made form) s z (map (obj_at kept) form.avoid) form.avoid (length-map form.avoid (obj_at kept)))
 
@@ -110,7 +110,7 @@ literals_left before (Cite by rest) kept s facts goal h =
 literals_left before (Hence lit cert rest) kept s facts goal h =
     let p = and_parts (is_well_formed lit) (has_good_literals rest) h in
     let r = literals_left before rest kept s (joined facts lit) goal p.1 in
-    either (λ x. has_good_literals (erased x)) (is_kept before (Hence lit cert rest) s facts (wants before rest s (joined facts lit) goal)) _ _ (and_from _ _ (renamed_well_formed (image_of kept) lit ∙ p.0) r) r
+    either (λ x. has_good_literals (erased x)) (is_kept before (Hence lit cert rest) s facts (wants before rest s (joined facts lit) goal)) _ _ (and_from _ _ (renamed_well_formed (image_among_kept kept) lit ∙ p.0) r) r
 literals_left before (Make form names certs rest) kept s facts goal h =
     let after = joined_all facts (gives_of_construction form s) in
     either (λ x. has_good_literals (erased x)) (is_kept before (Make form names certs rest) s facts (wants before rest (grown s (sorts_made form)) after goal)) _ _
@@ -141,7 +141,7 @@ literals_left before (Contradiction against) kept s facts goal h = refl
 literals_left before (Cases lit first second) kept s facts goal h =
     let p = and_parts (is_well_formed lit) (has_good_literals first && has_good_literals second) h in
     let q = and_parts (has_good_literals first) (has_good_literals second) p.1 in
-    and_from _ _ (renamed_well_formed (image_of kept) lit ∙ p.0)
+    and_from _ _ (renamed_well_formed (image_among_kept kept) lit ∙ p.0)
     (and_from _ _ (literals_left before first kept s (joined facts lit) goal q.0) (literals_left before second kept s (joined facts (negation lit)) goal q.1))
 
 -- ---- facts: no more literals are facts before a line
@@ -163,7 +163,7 @@ facts_left before (Make form names certs rest) kept s facts goal m n y z le h =
     let after = joined_all facts (gives_of_construction form s) in
     let wide = grown s (sorts_made form) in
     let many = n + length (gives_of_construction form z) in
-    let few = m + length (gives_of_construction (form_at kept form) y) in
+    let few = m + length (gives_of_construction (construction_among_kept kept form) y) in
     let e = gives_count kept form y z in
     let p = and_parts (leb many most_facts) (few_facts before many (grown z (sorts_made form)) (erased rest)) h in
     either (λ x. few_facts before m y (erased x)) (is_kept before (Make form names certs rest) s facts (wants before rest wide after goal)) _ _
@@ -181,8 +181,8 @@ facts_left before (Apply theorem args names certs rest) kept s facts goal m n y 
     (facts_left before rest kept wide after goal m many y (grown z t.made) (omega (arith, le)) p.1)
 facts_left before (Claim shown inner rest) kept s facts goal m n y z le h =
     let many = n + length shown in
-    let few = m + length (map (lit_at kept) shown) in
-    let e = length-map shown (lit_at kept) in
+    let few = m + length (map (lit_among_kept kept) shown) in
+    let e = length-map shown (lit_among_kept kept) in
     let p = and_parts (few_facts before n z (erased inner)) (leb many most_facts && few_facts before many z (erased rest)) h in
     let q = and_parts (leb many most_facts) (few_facts before many z (erased rest)) p.1 in
     either (λ x. few_facts before m y (erased x)) (is_kept before (Claim shown inner rest) s facts (wants before rest s (joined_all facts shown) goal)) _ _
@@ -195,8 +195,8 @@ facts_left before (Superposed form names shown certs inner rest) kept s facts go
     let less = m + length (superposing.gives_of_superposition (superpose_at kept form) y) in
     let same : length (superposing.gives_of_superposition (superpose_at kept form) y) ≡ length (superposing.gives_of_superposition form z) = refl in
     let many = n + length shown in
-    let few = m + length (map (lit_at kept) shown) in
-    let e = length-map shown (lit_at kept) in
+    let few = m + length (map (lit_among_kept kept) shown) in
+    let e = length-map shown (lit_among_kept kept) in
     let o = and_parts (leb given most_facts) (few_facts before given (grown z superposing.sorts_copied) (erased inner) && (leb many most_facts && few_facts before many z (erased rest))) h in
     let p = and_parts (few_facts before given (grown z superposing.sorts_copied) (erased inner)) (leb many most_facts && few_facts before many z (erased rest)) o.1 in
     let q = and_parts (leb many most_facts) (few_facts before many z (erased rest)) p.1 in
@@ -225,7 +225,7 @@ terms_left before (Cite by rest) kept s facts goal m n y z le h =
     either (λ x. few_terms before m y (erased x)) (is_kept before (Cite by rest) s facts (wants before rest s (joined facts by.lit) goal)) _ _ r r
 terms_left before (Hence lit cert rest) kept s facts goal m n y z le h =
     let many = n + monomials lit.atom in
-    let few = m + monomials (lit_at kept lit).atom in
+    let few = m + monomials (lit_among_kept kept lit).atom in
     let e = lit_monos kept lit in
     let p = and_parts (leb many most_terms) (few_terms before many z (erased rest)) h in
     either (λ x. few_terms before m y (erased x)) (is_kept before (Hence lit cert rest) s facts (wants before rest s (joined facts lit) goal)) _ _
@@ -250,7 +250,7 @@ terms_left before (Apply theorem args names certs rest) kept s facts goal m n y 
     (terms_left before rest kept wide after goal m many y (grown z t.made) (omega (arith, le)) p.1)
 terms_left before (Claim shown inner rest) kept s facts goal m n y z le h =
     let many = n + count_monomials shown in
-    let few = m + count_monomials (map (lit_at kept) shown) in
+    let few = m + count_monomials (map (lit_among_kept kept) shown) in
     let e = lits_monos kept shown in
     let p = and_parts (few_terms before n z (erased inner)) (leb many most_terms && few_terms before many z (erased rest)) h in
     let q = and_parts (leb many most_terms) (few_terms before many z (erased rest)) p.1 in
@@ -264,7 +264,7 @@ terms_left before (Superposed form names shown certs inner rest) kept s facts go
     let less = m + count_monomials (superposing.gives_of_superposition (superpose_at kept form) y) in
     let same : count_monomials (superposing.gives_of_superposition (superpose_at kept form) y) ≡ count_monomials (superposing.gives_of_superposition form z) = refl in
     let many = n + count_monomials shown in
-    let few = m + count_monomials (map (lit_at kept) shown) in
+    let few = m + count_monomials (map (lit_among_kept kept) shown) in
     let e = lits_monos kept shown in
     let o = and_parts (leb given most_terms) (few_terms before given (grown z superposing.sorts_copied) (erased inner) && (leb many most_terms && few_terms before many z (erased rest))) h in
     let p = and_parts (few_terms before given (grown z superposing.sorts_copied) (erased inner)) (leb many most_terms && few_terms before many z (erased rest)) o.1 in
@@ -279,7 +279,7 @@ terms_left before (Qed objects certs) kept s facts goal m n y z le h = refl
 terms_left before (Contradiction against) kept s facts goal m n y z le h = refl
 terms_left before (Cases lit first second) kept s facts goal m n y z le h =
     let many = n + monomials lit.atom in
-    let few = m + monomials (lit_at kept lit).atom in
+    let few = m + monomials (lit_among_kept kept lit).atom in
     let e = lit_monos kept lit in
     let p = and_parts (leb many most_terms) (few_terms before many z (erased first) && few_terms before many z (erased second)) h in
     let q = and_parts (few_terms before many z (erased first)) (few_terms before many z (erased second)) p.1 in
@@ -329,8 +329,8 @@ blanks_left before (Cases lit first second) kept s facts goal h =
 -- ---- certificates
 
 module _ (v : Version) (kept : List Obj) where
-  name_stays : (n : RowName) → is_name_of v (row_at kept n) ≡ is_name_of v n
-  name_stays (Fact l) = ap (λ (b : Bool). by_literals v && b) (renamed_well_formed (image_of kept) l)
+  name_stays : (n : RowName) → is_name_of v (row_name_among_kept kept n) ≡ is_name_of v n
+  name_stays (Fact l) = ap (λ (b : Bool). by_literals v && b) (renamed_well_formed (image_among_kept kept) l)
   name_stays n = refl
 
   sum_stays : (xs : List (ℤ × RowName)) → is_sum_of v (sum_at kept xs) ≡ is_sum_of v xs

@@ -26,7 +26,7 @@ use Rattle.e_line.specs.declared.fault.What.TheVariants as limits
 use Rattle.e_line.specs.Limits.{most_of, within}
 use Rattle.e_book.specs.LineLimits.{few_objects}
 use Rattle.e_line.specs.Reading.{◌>>=◌}
-use Rattle.e_names.specs.Scope.{has, is_taken, fresh}
+use Rattle.e_names.specs.Scope.{is_among_names, is_taken, fresh}
 use Rattle.e_book.specs.Fits.{NewNamesFit}
 use Rattle.e_book.proofs.Answered.{within_ok}
 use Rattle.e_names.proofs.Distinct.{passed, untaken}
@@ -37,7 +37,7 @@ use Rattle.e_trim.specs.Trimmed.{joins_at, is_kept, wants, trimmed_from}
 
 -- the first names are no more, and none that is not among the second
 pub record Part (xs ys : List (List ℕ)) : Type 0 where
-  without : (n : List ℕ) → has ys n ≡ false → has xs n ≡ false
+  without : (n : List ℕ) → is_among_names ys n ≡ false → is_among_names xs n ≡ false
   short : length xs ≤ length ys
 
 part_own : (xs : List (List ℕ)) → Part xs xs
@@ -46,7 +46,7 @@ part_own xs = record { without = λ n h. h; short = omega arith }
 -- one name more is there
 part_wide : (xs ys : List (List ℕ)) (n : List ℕ) → Part xs ys → Part xs (ys ++ n ∷ [])
 part_wide xs ys n p = record {
-  without = λ m h. p.without m (or_parts (has ys m) (has (n ∷ []) m) (sym (list_any-append (λ x. bytes_eq x m) ys (n ∷ [])) ∙ h)).0;
+  without = λ m h. p.without m (or_parts (is_among_names ys m) (is_among_names (n ∷ []) m) (sym (list_any-append (λ x. bytes_eq x m) ys (n ∷ [])) ∙ h)).0;
   short = omega (arith, p.short, length-append ys (n ∷ []));
 }
 
@@ -54,7 +54,7 @@ part_wide xs ys n p = record {
 part_both : (xs ys : List (List ℕ)) (n : List ℕ) → Part xs ys → Part (xs ++ n ∷ []) (ys ++ n ∷ [])
 part_both xs ys n p = record {
   without = λ m h.
-      let q = or_parts (has ys m) (has (n ∷ []) m) (sym (list_any-append (λ x. bytes_eq x m) ys (n ∷ [])) ∙ h) in
+      let q = or_parts (is_among_names ys m) (is_among_names (n ∷ []) m) (sym (list_any-append (λ x. bytes_eq x m) ys (n ∷ [])) ∙ h) in
       list_any-append (λ x. bytes_eq x m) xs (n ∷ []) ∙ rw (p.without m q.0, q.1) refl;
   short = omega (arith, p.short, length-append xs (n ∷ []), length-append ys (n ∷ []));
 }

@@ -37,7 +37,7 @@ use Rattle.e_book.proofs.Fitting.{small_statement}
 use Rattle.e_book.proofs.WrittenScripts.{erased_literals, written_well}
 use Rattle.e_read.specs.Text.{at_start, piece_from}
 use Rattle.e_read.proofs.Bridge.{derives}
-use Rattle.e_trim.specs.Trimmed.{declared_of, joins_at, lit_at, is_kept, wants, trimmed_from, trimmed}
+use Rattle.e_trim.specs.Trimmed.{declared_of, joins_at, lit_among_kept, is_kept, wants, trimmed_from, trimmed}
 use Rattle.e_trim.proofs.Shorter.{trimmed_shorter}
 use Rattle.e_trim.proofs.WholeScripts.{trimmed_certified}
 use Rattle.e_judgement.proofs.WithCertificates.{size_erased}
@@ -90,8 +90,8 @@ theorems_left known before (Cases lit first second) kept s facts goal h =
 -- ---- its lines are plain, their certificates left out
 
 -- as many are shown
-some_left : (kept : List Obj) (shown : List Lit) → nat_lt 0 (length shown) ≡ true → nat_lt 0 (length (map (lit_at kept) shown)) ≡ true
-some_left kept shown h = ap (nat_lt 0) (length-map shown (lit_at kept)) ∙ h
+some_left : (kept : List Obj) (shown : List Lit) → nat_lt 0 (length shown) ≡ true → nat_lt 0 (length (map (lit_among_kept kept) shown)) ≡ true
+some_left kept shown h = ap (nat_lt 0) (length-map shown (lit_among_kept kept)) ∙ h
 
 plain_left : (before : List StatementView) (d : Script) (kept : List Obj) (s : Scope) (facts : List Lit) (goal : Goal) → is_plain (erased d) ≡ true → is_plain (erased (trimmed_from before kept d s facts goal)) ≡ true
 unfolding trimmed_from erased is_plain

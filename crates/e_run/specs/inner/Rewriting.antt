@@ -20,7 +20,7 @@ use Rattle.e_run.specs.declared.status.Status.{Status}
 use Rattle.e_run.specs.declared.status.Status.TheVariants as status
 use Rattle.e_run.specs.LastLines.{no_memory_line}
 use Rattle.e_run.specs.inner.BookResults.{ClosesWith}
-use Rattle.e_run.specs.Rewrites.{block_of, blocks_of, AreFirstTheorems, EndsAfter, line_of, answer_of}
+use Rattle.e_run.specs.Rewrites.{block_of, rewritten_blocks, AreFirstTheorems, EndsAfter, end_line_of_job, answer_of}
 
 -- ---- a theorem
 
@@ -69,11 +69,11 @@ Broke job known t old new ReadFault = ⊥
 
 -- what is due of some such theorems was written
 abbrev pub WroteOf : Job → (List TheoremView → Type 0) → Option (List ℕ) → Option (List ℕ) → Type 0
-WroteOf job Are old new = (ts : List TheoremView) × Are ts × Grew old new (blocks_of job [] ts)
+WroteOf job Are old new = (ts : List TheoremView) × Are ts × Grew old new (rewritten_blocks job [] ts)
 
 -- some first bytes of it were written, and not all
 abbrev pub WroteFrontOf : Job → (List TheoremView → Type 0) → Option (List ℕ) → Option (List ℕ) → Type 0
-WroteFrontOf job Are old new = (ts : List TheoremView) × Are ts × GrewByFront old new (blocks_of job [] ts)
+WroteFrontOf job Are old new = (ts : List TheoremView) × Are ts × GrewByFront old new (rewritten_blocks job [] ts)
 
 -- what was written with a result: where the lines end so, what is due of the theorems before their
 -- end, else of some first ones
@@ -105,8 +105,8 @@ pub record Progress (job : Job) (v : Version) (last : ℕ) (lines : Rest) (old n
   pub theorems : List TheoremView
   pub passes : Passes v last [] lines theorems known rest
   pub second : AreOfSecond job [] theorems
-  pub grew : Grew old new (blocks_of job [] theorems)
+  pub grew : Grew old new (rewritten_blocks job [] theorems)
 
 -- the run closes with the last line of the judgement, or with that of out of memory
 abbrev pub IsReported : Job → Option (List ℕ) → Option (List ℕ) → Judgement → Status → Type 0
-IsReported job old new j result = ClosesWith old new (line_of job j) (answer_of job j) result ⊎ ClosesWith old new no_memory_line status.NoMemory result
+IsReported job old new j result = ClosesWith old new (end_line_of_job job j) (answer_of job j) result ⊎ ClosesWith old new no_memory_line status.NoMemory result

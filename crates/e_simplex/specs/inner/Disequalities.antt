@@ -1,7 +1,7 @@
 -- What the loop over the forms that are not to be 0 takes, and what comes of it.
 use Rattle.std.specs.Prelude.{◌≡◌, ◌≢◌, ◌⊎◌, ℕ, ◌+◌, ◌^◌, ◌<◌, ◌≤◌, ◌++◌, ◌∷◌, [], ℤ, pos, List, length, get_or, unsigned_abs}
 use Rattle.e_fraction.specs.Det.{HasWideMinor}
-use Rattle.e_simplex.specs.Constraints.{rows_of, form_value, IsSolution, IsAbsurd, AllSmallConstraints, AllFormsWithin}
+use Rattle.e_simplex.specs.Constraints.{rows_of, value_of_monomials, IsSolution, IsAbsurd, AllSmallConstraints, AllFormsWithin}
 use Rattle.e_simplex.specs.inner.Multiple.{NoneIsZero, AddedTo}
 use Rattle.e_simplex.specs.Solved.{IsFit}
 use Rattle.e_simplex.specs.inner.Tried.{negative_constraint, AreValues, AreBelowBut}
@@ -27,7 +27,7 @@ pub record LargeForm (forms : List Constraint) (k : ℕ) (values : List ℤ) : T
   pub place : ℕ
   pub here : place < length forms
   pub other : place ≢ k
-  pub large : (d : Constraint) → 2 ^ 64 ≤ unsigned_abs (form_value (get_or forms place d).form values)
+  pub large : (d : Constraint) → 2 ^ 64 ≤ unsigned_abs (value_of_monomials (get_or forms place d).form values)
 
 -- t times other values are added, and no form before k becomes 0
 pub record IsMoved (forms : List Constraint) (k : ℕ) (values form_values found second : List ℤ) (t : ℕ) (m : Point) : Type 0 where
@@ -67,7 +67,7 @@ IsNextPoint w constraints forms k NextTooWide = WideWith w constraints forms k �
 pub record AreUnequal (w : ℕ) (constraints forms : List Constraint) (values : List ℤ) : Type 0 where
   pub solution : IsSolution w constraints values
   pub bounded : (c : ℕ) → c < w → unsigned_abs (get_or values c (pos 0)) < 2 ^ 90
-  pub unequal : (j : ℕ) (d : Constraint) → j < length forms → form_value (get_or forms j d).form values ≢ pos 0
+  pub unequal : (j : ℕ) (d : Constraint) → j < length forms → value_of_monomials (get_or forms j d).form values ≢ pos 0
 
 -- the constraints are wide with one form or with two
 abbrev pub WideWithSome : ℕ → List Constraint → List Constraint → Type 0

@@ -15,5 +15,5 @@ abbrev pub count_nots : List Row → ℕ
 count_nots [] = 0
 count_nots (r ∷ rs) = cond (keeps true r.says) (suc (count_nots rs)) (count_nots rs)
 
-abbrev pub multiplier_of : Bool → ℕ → ℕ → ℤ → ℤ → ℤ
-multiplier_of is_not seen k last weight = cond is_not (cond (eqb (suc seen) k) last (pos 0)) weight
+abbrev pub multiplier_of_row : Bool → ℕ → ℕ → ℤ → ℤ → ℤ
+multiplier_of_row is_not seen k last weight = cond is_not (cond (eqb (suc seen) k) last (pos 0)) weight

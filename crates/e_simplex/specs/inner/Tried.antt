@@ -2,7 +2,7 @@
 use Rattle.std.specs.Prelude.{◌≡◌, ◌≢◌, ◌⊎◌, ℕ, ◌^◌, ◌<◌, ◌≤◌, ◌++◌, ◌∷◌, [], ℤ, pos, neg_ℤ, List, length, get_or, unsigned_abs}
 use Rattle.e_fraction.specs.Det.{HasWideMinor}
 use Rattle.e_simplex.specs.Entries.{AllSmall}
-use Rattle.e_simplex.specs.Constraints.{rows_of, form_value, IsSolution, IsAbsurd}
+use Rattle.e_simplex.specs.Constraints.{rows_of, value_of_monomials, IsSolution, IsAbsurd}
 use Rattle.e_simplex.specs.Solved.{WideFurther}
 use Rattle.e_simplex.specs.declared.constraints.Monomial.{Monomial}
 use Rattle.e_simplex.specs.declared.constraints.Constraint.{Constraint}
@@ -23,8 +23,8 @@ negative_constraint l = record { sense = More; form = negated l.form }
 pub record AreFoundValues (w : ℕ) (constraints : List Constraint) (l : Constraint) (values : List ℤ) : Type 0 where
   pub solution : IsSolution w constraints values
   pub small : AllSmall values
-  pub unequal : form_value l.form values ≢ pos 0
-  pub below : unsigned_abs (form_value l.form values) < 2 ^ 64
+  pub unequal : value_of_monomials l.form values ≢ pos 0
+  pub below : unsigned_abs (value_of_monomials l.form values) < 2 ^ 64
   pub further : WideFurther w (constraints ++ l ∷ []) values ⊎ WideFurther w (constraints ++ negative_constraint l ∷ []) values
 
 abbrev pub IsTried : ℕ → List Constraint → Constraint → Tried → Type 0
@@ -35,7 +35,7 @@ IsTried w constraints l TooWide = HasWideMinor (rows_of (constraints ++ l ∷ []
 -- the values of the first n forms
 pub record AreValues (n : ℕ) (forms : List Constraint) (values : List ℤ) (xs : List ℤ) : Type 0 where
   pub shape : length xs ≡ n
-  pub each : (j : ℕ) (d : Constraint) → j < n → get_or xs j (pos 0) ≡ form_value (get_or forms j d).form values
+  pub each : (j : ℕ) (d : Constraint) → j < n → get_or xs j (pos 0) ≡ value_of_monomials (get_or forms j d).form values
 
 -- all numbers but one have size below 2 ^ 64
 abbrev pub AreBelowBut : List ℤ → ℕ → Type 0

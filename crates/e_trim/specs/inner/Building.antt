@@ -16,7 +16,7 @@ use Rattle.e_deriv.specs.Script.{Script, script_of, steps_script, step_script, c
 use Rattle.e_deriv.specs.Goal.{Goal, goal_of}
 use Rattle.e_deriv.specs.Lines.{lines}
 use Rattle.e_deriv.specs.Fitting.{is_small}
-use Rattle.e_trim.specs.Trimmed.{by_at, lit_at, cert_at, form_at, args_at, superpose_at, trimmed_from}
+use Rattle.e_trim.specs.Trimmed.{by_at, lit_among_kept, cert_at, construction_among_kept, args_at, superpose_at, trimmed_from}
 use Rattle.e_trim.specs.inner.Flags.{flag, flags_of, step_flags}
 
 -- with some facts and some goal at most 1,000 objects of each sort are in scope before each line
@@ -33,13 +33,13 @@ pub record IsSmallStep (before : List StatementView) (step : Step) (s : Scope) :
 -- the kept step over the kept objects, with more after it
 abbrev pub kept_step : List StatementView → List Obj → Script → Scope → List Lit → Script → Script
 kept_step before kept (Cite by rest) s facts more = Cite (by_at kept by) more
-kept_step before kept (Hence lit cert rest) s facts more = Hence (lit_at kept lit) (option_map (cert_at kept) cert) more
-kept_step before kept (Make form names certs rest) s facts more = Make (form_at kept form) names (map (cert_at kept) certs) more
+kept_step before kept (Hence lit cert rest) s facts more = Hence (lit_among_kept kept lit) (option_map (cert_at kept) cert) more
+kept_step before kept (Make form names certs rest) s facts more = Make (construction_among_kept kept form) names (map (cert_at kept) certs) more
 kept_step before kept (Apply theorem args names certs rest) s facts more = Apply theorem (args_at kept args) names (map (cert_at kept) certs) more
 kept_step before kept (Claim shown inner rest) s facts more =
-    Claim (map (lit_at kept) shown) (trimmed_from before kept inner s facts (goal_of shown)) more
+    Claim (map (lit_among_kept kept) shown) (trimmed_from before kept inner s facts (goal_of shown)) more
 kept_step before kept (Superposed form names shown certs inner rest) s facts more =
-    Superposed (superpose_at kept form) names (map (lit_at kept) shown) (map (cert_at kept) certs)
+    Superposed (superpose_at kept form) names (map (lit_among_kept kept) shown) (map (cert_at kept) certs)
     (trimmed_from before (kept ++ next_objects s superposing.sorts_copied) inner (grown s superposing.sorts_copied) (joined_all facts (superposing.gives_of_superposition form s)) (goal_of shown))
     more
 kept_step before kept close s facts more = more

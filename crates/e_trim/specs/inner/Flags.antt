@@ -13,7 +13,7 @@ use Rattle.e_deriv.specs.Script.{Script, Cite, Hence, Make, Apply, Claim, Superp
 use Rattle.e_deriv.specs.Goal.{Goal, goal_of}
 use Rattle.e_deriv.specs.Lines.{theorem_at}
 use Rattle.e_trim.specs.Looked.{Wants, no_wants}
-use Rattle.e_trim.specs.Trimmed.{joins_at, is_kept, wants, outside}
+use Rattle.e_trim.specs.Trimmed.{joins_at, is_kept, wants, wants_outside}
 
 -- the flag of a step, and under it those of the block inside, which is read only where the step is
 -- kept
@@ -56,9 +56,9 @@ flags_of before (Cases lit first second) s facts goal =
 
 -- what the block inside of a step wants outside of it
 abbrev pub inside_of : List StatementView → Script → Scope → List Lit → Wants
-inside_of before (Claim shown inner rest) s facts = outside s facts (wants before inner s facts (goal_of shown))
+inside_of before (Claim shown inner rest) s facts = wants_outside s facts (wants before inner s facts (goal_of shown))
 inside_of before (Superposed form names shown certs inner rest) s facts =
-    outside s facts (wants before inner (grown s superposing.sorts_copied) (joined_all facts (superposing.gives_of_superposition form s)) (goal_of shown))
+    wants_outside s facts (wants before inner (grown s superposing.sorts_copied) (joined_all facts (superposing.gives_of_superposition form s)) (goal_of shown))
 inside_of before _ s facts = no_wants
 
 -- the flags of the block inside of a step

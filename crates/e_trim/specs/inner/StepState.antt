@@ -17,7 +17,7 @@ use Rattle.e_deriv.specs.declared.block.Close.{Close}
 use Rattle.e_deriv.specs.Fitting.{is_small}
 use Rattle.e_deriv.specs.Parts.{args_of, written}
 use Rattle.e_trim.specs.Looked.{Wants, both, of_line}
-use Rattle.e_trim.specs.Trimmed.{joins_at, makes_at, is_kept, line_at, with_step}
+use Rattle.e_trim.specs.Trimmed.{joins_at, makes_at, is_kept, line_at, wants_with_step}
 use Rattle.e_trim.specs.inner.Flags.{flag, inside_of, step_flags}
 use Rattle.e_trim.specs.declared.step_state.StepState.{StepState}
 use Rattle.e_trim.specs.declared.step_state.Outer.{Outer}
@@ -27,8 +27,8 @@ use Rattle.e_trim.specs.declared.step_state.Goal.{Goal as CodeGoal}
 abbrev pub start_of : StatementView → StepState
 start_of t = record { scope = scope_of t; facts = facts_of_statement t }
 
-abbrev pub outer_of : StepState → Outer
-outer_of x = record { scope = x.scope; facts = length x.facts }
+abbrev pub outer_of_state : StepState → Outer
+outer_of_state x = record { scope = x.scope; facts = length x.facts }
 
 -- where a block was entered
 abbrev pub left_for : Outer → StepState → StepState
@@ -85,7 +85,7 @@ StepFlags before step x old new = (rest : Script) → new ≡ old ++ step_flags 
 -- a step adds what it wants to what is wanted after it, if it is kept
 abbrev pub StepAdds : List StatementView → Step → StepState → Wants → Wants → Type 0
 StepAdds before step x old new =
-    (rest : Script) (goal : Goal) → new ≡ with_step before (step_script step rest) x.scope x.facts goal (inside_of before (step_script step rest) x.scope x.facts) old
+    (rest : Script) (goal : Goal) → new ≡ wants_with_step before (step_script step rest) x.scope x.facts goal (inside_of before (step_script step rest) x.scope x.facts) old
 
 -- and its flag to the pile, where this is wanted after it
 abbrev pub FlagsAdded : List StatementView → Step → StepState → Wants → List Bool → List Bool → Type 0

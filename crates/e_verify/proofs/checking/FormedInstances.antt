@@ -21,7 +21,7 @@ use Rattle.e_clause.specs.Table.Circles.{circles}
 use Rattle.e_clause.specs.Table.Equality.{equality}
 use Rattle.e_clause.specs.Table.Lengths.{lengths}
 use Rattle.e_clause.specs.Table.Angles.{angles}
-use Rattle.e_clause.specs.Instance.{Inst, instance_of_row, arguments_fit, number, line, circle, lit_at, clause_of}
+use Rattle.e_clause.specs.Instance.{Inst, instance_of_row, arguments_fit, number, line_arg, circle_arg, lit_at, clause_of}
 
 abbrev all_formed : List Lit → Bool
 all_formed ls = list_all is_well_formed ls
@@ -44,8 +44,8 @@ chosen r args o = Some (obj o.sort (by o.sort o.num))
   where
     by : Sort → ℕ → ℕ
     by Point n = number args n
-    by Line n = line r args n
-    by Circle n = circle r args n
+    by Line n = line_arg r args n
+    by Circle n = circle_arg r args n
 
 one_formed : (r : Row) (args : List Obj) (l : Lit) → is_well_formed (lit_at r args l) ≡ is_well_formed l
 unfolding chosen

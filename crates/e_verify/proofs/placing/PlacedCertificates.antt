@@ -21,9 +21,9 @@ use Rattle.e_clause.specs.declared.cert.Cert.TheVariants.{Plain, Transfer}
 use Rattle.e_clause.specs.declared.cert.Against.{Against}
 use Rattle.e_clause.specs.declared.cert.Against.TheVariants.{Clash, Metric as MetricAgainst}
 use Rattle.e_clause.specs.Instance.{Inst}
-use Rattle.e_clause.specs.MetricCertificate.{row_name_in, sum_in, sums_in, sums_refute}
+use Rattle.e_clause.specs.MetricCertificate.{row_name_in, sum_in, are_sums_in, sums_refute}
 use Rattle.e_clause.specs.PartCertificate.{part_certifies, part_in}
-use Rattle.e_clause.specs.TransferCertificate.{parts_certify, instance_certifies, transfer_certifies, args_in}
+use Rattle.e_clause.specs.TransferCertificate.{parts_certify, instance_certifies, transfer_certifies, are_args_in}
 use Rattle.e_clause.specs.RuleKinds.{is_transfer}
 use Rattle.e_clause.specs.Certify.{certifies, certify_all, cert_in, cert_holds, certifies_against}
 use Rattle.e_verify.specs.Numbered.{name_with_place, turns, sum_with_places, opposite_side, sides_swapped, two_placed, sums_with_places, part_with_places, parts_with_places, placed_for, transfer_with_places, cert_with_places, certs_with_places, against_with_places}
@@ -67,7 +67,7 @@ swapped_in_scope s (x ∷ xs) h =
 all_three : (a b c : Bool) → a ≡ true → b ≡ true → c ≡ true → (a && (b && c)) ≡ true
 all_three a b c x y z = rw (x, y, z)
 
-sums_in_scope : (s : Scope) (facts : List Lit) (m : Sums) → sums_in s m ≡ true → sums_in s (sums_with_places facts m) ≡ true
+sums_in_scope : (s : Scope) (facts : List Lit) (m : Sums) → are_sums_in s m ≡ true → are_sums_in s (sums_with_places facts m) ≡ true
 sums_in_scope s facts (One sum) h = sum_in_scope s facts sum h
 sums_in_scope s facts (Two differs first second) h = by (turns facts differs)
   where
@@ -83,7 +83,7 @@ sums_in_scope s facts (Two differs first second) h = by (turns facts differs)
     two : sum_in s (sum_with_places facts second) ≡ true
     two = sum_in_scope s facts second (and_right (sum_in s first) (sum_in s second) both)
 
-    by : (b : Bool) → sums_in s (two_placed b (name_with_place facts differs) (sum_with_places facts first) (sum_with_places facts second)) ≡ true
+    by : (b : Bool) → are_sums_in s (two_placed b (name_with_place facts differs) (sum_with_places facts first) (sum_with_places facts second)) ≡ true
     by true = all_three _ _ _ name (swapped_in_scope s (sum_with_places facts second) two) (swapped_in_scope s (sum_with_places facts first) one)
     by false = all_three _ _ _ name one two
 
@@ -105,7 +105,7 @@ for_in_scope s facts l ps None h = refl
 cert_in_scope : (s : Scope) (facts : List Lit) (l : Lit) (c : Cert) → cert_in s c ≡ true → cert_in s (cert_with_places facts l c) ≡ true
 cert_in_scope s facts l (Plain p) h = part_in_scope s facts l p h
 cert_in_scope s facts l (Transfer t) h =
-    ap₂ {A = Bool} {B = Bool} (λ a b. a && b) (and_left (args_in s t) (list_all (part_in s) t.parts) h) (for_in_scope s facts l t.parts (Inst t.rule t.args) (and_right (args_in s t) (list_all (part_in s) t.parts) h))
+    ap₂ {A = Bool} {B = Bool} (λ a b. a && b) (and_left (are_args_in s t) (list_all (part_in s) t.parts) h) (for_in_scope s facts l t.parts (Inst t.rule t.args) (and_right (are_args_in s t) (list_all (part_in s) t.parts) h))
 
 -- ---- what they certify
 
@@ -157,6 +157,6 @@ certs_certified s facts (l ∷ ls) (c ∷ cs) h =
 pub against_certified : (s : Scope) (facts : List Lit) (a : Against) → certifies_against s facts a ≡ true → certifies_against s facts (against_with_places facts a) ≡ true
 against_certified s facts (Clash l) h = h
 against_certified s facts (MetricAgainst m) h =
-    let inside : Bool = sums_in s m.sums in
+    let inside : Bool = are_sums_in s m.sums in
     let refuted : Bool = sums_refute facts None m.sums in
     ap₂ {A = Bool} {B = Bool} (λ a b. a && b) (sums_in_scope s facts m.sums (and_left inside refuted h)) (placed_refute facts None m.sums (and_right inside refuted h))

@@ -2,7 +2,7 @@ use Rattle.std.proofs.Common.{◌≡◌, ◌-◌, SFits, to_z-of_z, arith, ap, �
 use mir.Syntax.{w128}
 use Rattle.e_fraction.specs.Views.{says_of, seen, all_seen}
 use Rattle.e_simplex.specs.Naming.{keeps}
-use Rattle.e_simplex.specs.inner.RowMultipliers.{row_multipliers, multiplier_of}
+use Rattle.e_simplex.specs.inner.RowMultipliers.{row_multipliers, multiplier_of_row}
 use Rattle.e_simplex.proofs.Forms.{fits_type}
 use Rattle.e_simplex.proofs.RowMultipliers.{row_multipliers_more, nots_more, count_most, take_done, take_length}
 use Rattle.e_simplex.proofs.multipliers.multipliers_of_rows.Goals as goal
@@ -23,8 +23,8 @@ loop-i-preserved c =
       value = row_multipliers_more c.args.rows.now c.loop-i.i row c.args.weights.now c.args.tried (c.loop-i.i - c.loop-i.seen) c.loop-i.seen c.args.last c.multiplier.result
           c.loop-i.all.items c.push.new.self.items c.loop-i-test.true (omega (arith, c.loop-i.invariant.most)) c.loop-i.invariant.count
           (take_length c.args.rows.now c.loop-i.i (omega (arith, c.loop-i-test.true))) v e
-          (m ∙ ap (λ b. multiplier_of b c.loop-i.seen c.args.tried c.args.last c.weight_at-weight.result) is_not
-          ∙ ap (λ w. multiplier_of (keeps true (seen (get_or c.args.rows.now c.loop-i.i row)).says) c.loop-i.seen c.args.tried c.args.last w) h);
+          (m ∙ ap (λ b. multiplier_of_row b c.loop-i.seen c.args.tried c.args.last c.weight_at-weight.result) is_not
+          ∙ ap (λ w. multiplier_of_row (keeps true (seen (get_or c.args.rows.now c.loop-i.i row)).says) c.loop-i.seen c.args.tried c.args.last w) h);
       count = c.counted-seen.ensures ∙ ap (λ b. cond b (suc c.loop-i.seen) c.loop-i.seen) is_not
           ∙ nots_more c.args.rows.now c.loop-i.i row c.loop-i.seen c.loop-i-test.true c.loop-i.invariant.count;
       most = omega (arith, c.counted-seen.ensures, count_most c.is_kept-is_not.result c.loop-i.seen c.loop-i.i c.loop-i.invariant.most);

@@ -4,7 +4,7 @@ use Rattle.e_deriv.specs.declared.block.Close.{Close}
 use Rattle.e_deriv.specs.Script.{close_script, script_of, steps_script}
 use Rattle.e_literal.specs.Scopes.{grown, next_objects}
 use Rattle.e_construct.specs.Superposing as superposing
-use Rattle.e_trim.specs.Trimmed.{obj_at, lit_at, cert_at, args_at}
+use Rattle.e_trim.specs.Trimmed.{obj_at, lit_among_kept, cert_at, args_at}
 use Rattle.e_trim.specs.inner.Building.{IsBuilt, AreSmall, IsSmallStep}
 use Rattle.e_trim.proofs.BuiltSteps.{few_numbers, small_first, small_step, small_claim, small_superposed, small_cases}
 use Rattle.e_trim.proofs.KeptSteps.{cite_built, hence_built, make_built, apply_built, claim_built, superposed_built, qed_built, contradiction_built, cases_built, boxed, copies_room}
@@ -190,7 +190,7 @@ build_step-build_block-requires t c = (
 
 pub build_step-returns-in_ok-shown-in-Claim : goal.build_step-returns-in_ok-shown-in-Claim
 build_step-returns-in_ok-shown-in-Claim t c =
-    claim_built (all_stated c.args.before.now) c.args.kept.now c.args.step.now c.in-Claim.shown c.in_ok-shown-in-Claim.shown c.in-Claim.inner c.in_ok-inner-in-Claim-2.inner c.args.scope c.args.flags.now.items c.build_block.new.flags.items c.in-Claim.is (c.in_ok-shown-in-Claim.ensures ∙ ap (map (lit_at c.args.kept.now)) c.items-in-Claim.ensures)
+    claim_built (all_stated c.args.before.now) c.args.kept.now c.args.step.now c.in-Claim.shown c.in_ok-shown-in-Claim.shown c.in-Claim.inner c.in_ok-inner-in-Claim-2.inner c.args.scope c.args.flags.now.items c.build_block.new.flags.items c.in-Claim.is (c.in_ok-shown-in-Claim.ensures ∙ ap (map (lit_among_kept c.args.kept.now)) c.items-in-Claim.ensures)
     (boxed (all_stated c.args.before.now) c.args.kept.now c.deref.result.now c.in-Claim.inner c.in_ok-inner-in-Claim-2.inner c.in_ok-inner-in-Claim.inner c.args.scope c.args.scope c.args.flags.now.items c.build_block.new.flags.items c.deref.ensures c.in_ok-inner-in-Claim-2.ensures.ok refl c.in_ok-inner-in-Claim.ensures)
 
 pub build_step-with_next-requires-clause-small : goal.build_step-with_next-requires-clause-small
@@ -223,5 +223,5 @@ build_step-returns-in_ok-names-in-Superposed t c =
     let wide = c.deref-in-Superposed-2.result.now in
     superposed_built (all_stated c.args.before.now) c.args.kept.now wide c.args.step.now c.in-Superposed.form c.new_superpose.result c.in-Superposed.names c.in_ok-names-in-Superposed.names c.in-Superposed.shown c.in_ok-shown-in-Superposed.shown c.in-Superposed.certs c.in_ok-certs-in-Superposed.certs c.in-Superposed.inner c.in_ok-inner-in-Superposed-2.inner c.args.scope pile left c.in-Superposed.is
     (c.deref-in-Superposed-2.ensures.value ∙ c.in_ok-inside-in-Superposed.ensures ∙ ap (λ xs. c.args.kept.now ++ next_objects c.args.scope xs) c.made-copies.ensures) c.new_superpose.ensures (c.in_ok-names-in-Superposed.ensures ∙ c.items-in-Superposed-3.ensures)
-    (c.in_ok-shown-in-Superposed.ensures ∙ ap (map (lit_at c.args.kept.now)) c.items-in-Superposed.ensures) (c.in_ok-certs-in-Superposed.ensures ∙ ap (map (cert_at c.args.kept.now)) c.items-in-Superposed-2.ensures)
+    (c.in_ok-shown-in-Superposed.ensures ∙ ap (map (lit_among_kept c.args.kept.now)) c.items-in-Superposed.ensures) (c.in_ok-certs-in-Superposed.ensures ∙ ap (map (cert_at c.args.kept.now)) c.items-in-Superposed-2.ensures)
     (boxed (all_stated c.args.before.now) wide c.deref-in-Superposed.result.now c.in-Superposed.inner c.in_ok-inner-in-Superposed-2.inner c.in_ok-inner-in-Superposed.inner (grown c.args.scope superposing.sorts_copied) c.grown.result pile left c.deref-in-Superposed.ensures c.in_ok-inner-in-Superposed-2.ensures.ok (c.grown.ensures ∙ ap (grown c.args.scope) c.made-copies.ensures) c.in_ok-inner-in-Superposed.ensures)

@@ -13,7 +13,7 @@ use Rattle.e_literal.specs.Scopes.{grown}
 use Rattle.e_theorem.specs.Statements.{all_stated}
 use Rattle.e_deriv.specs.Script.{close_script, script_of, steps_script, size}
 use Rattle.e_trim.specs.Looked.{Wants}
-use Rattle.e_trim.specs.Trimmed.{outside, wants}
+use Rattle.e_trim.specs.Trimmed.{wants_outside, wants}
 use Rattle.e_trim.specs.inner.StepState.{goal_said, IsReady, IsReadyToTrim}
 use Rattle.e_trim.specs.inner.Flags.{flags_of}
 use Rattle.e_trim.proofs.FirstSteps.{ok_map, on_ok, later_steps, whole_is}
@@ -70,7 +70,7 @@ look_inside-release-requires t c = block_enough c.args.sorts.now c.args.lits.now
 
 pub look_inside-returns-clause-wanted : goal.look_inside-returns-clause-wanted
 look_inside-returns-clause-wanted t c =
-    ok_map (λ (w : Wants). w ≡ outside c.release.new.self.scope c.release.new.self.facts c.in_ok-inside.inside) (λ (w : Wants). w ≡ outside c.args.state.now.scope c.args.state.now.facts (wants (all_stated c.args.before.now) (script_of c.args.block.now) (grown c.args.state.now.scope c.args.sorts.now) (joined_all c.args.state.now.facts c.args.lits.now) (goal_said c.args.goal.now))) c.outside.result
+    ok_map (λ (w : Wants). w ≡ wants_outside c.release.new.self.scope c.release.new.self.facts c.in_ok-inside.inside) (λ (w : Wants). w ≡ wants_outside c.args.state.now.scope c.args.state.now.facts (wants (all_stated c.args.before.now) (script_of c.args.block.now) (grown c.args.state.now.scope c.args.sorts.now) (joined_all c.args.state.now.facts c.args.lits.now) (goal_said c.args.goal.now))) c.outside.result
     (λ w h. block_wants (all_stated c.args.before.now) (script_of c.args.block.now) (goal_said c.args.goal.now) c.args.sorts.now c.args.lits.now c.args.state.now c.open.new.self c.release.new.self c.in_ok-inside.inside w c.in_ok-open.ensures (block_back c.args.sorts.now c.args.lits.now c.args.state.now c.open.new.self c.look.new.state c.release.new.self c.hold-outer.result c.in_ok-open.ensures c.in_ok-inside.ensures.kept c.hold-outer.ensures c.release.ensures) (c.in_ok-inside.ensures.wanted ∙ ap (λ d. wants (all_stated c.args.before.now) d c.open.new.self.scope c.open.new.self.facts (goal_said c.args.goal.now)) (ap (λ xs. steps_script xs (close_script c.args.block.now.close)) c.deref.ensures.value)) h) c.outside.ensures
 
 pub look_inside-returns-clause-same : goal.look_inside-returns-clause-same
@@ -113,8 +113,8 @@ look_at_step-gives-requires t c = two_more c.args.state.now.scope (ready_small (
 
 pub look_at_step-returns-in_ok-inside-in-Claim-clause-wanted : goal.look_at_step-returns-in_ok-inside-in-Claim-clause-wanted
 look_at_step-returns-in_ok-inside-in-Claim-clause-wanted t c =
-    let inside = c.in_ok-inside-in-Claim.ensures.wanted ∙ ap (λ b. outside c.args.state.now.scope c.args.state.now.facts (wants (all_stated c.args.before.now) (script_of b) c.args.state.now.scope c.args.state.now.facts (goal_of c.items.result.now))) c.deref.ensures
-    ∙ ap (λ ls. outside c.args.state.now.scope c.args.state.now.facts (wants (all_stated c.args.before.now) (script_of c.in-Claim.inner.value) c.args.state.now.scope c.args.state.now.facts (goal_of ls))) c.items.ensures in
+    let inside = c.in_ok-inside-in-Claim.ensures.wanted ∙ ap (λ b. wants_outside c.args.state.now.scope c.args.state.now.facts (wants (all_stated c.args.before.now) (script_of b) c.args.state.now.scope c.args.state.now.facts (goal_of c.items.result.now))) c.deref.ensures
+    ∙ ap (λ ls. wants_outside c.args.state.now.scope c.args.state.now.facts (wants (all_stated c.args.before.now) (script_of c.in-Claim.inner.value) c.args.state.now.scope c.args.state.now.facts (goal_of ls))) c.items.ensures in
     and_so c.append.result
     (λ h. inside_wants (all_stated c.args.before.now) c.args.step.now c.args.state.now c.args.out.now c.look_step.new.out c.in_ok-inside-in-Claim.inside c.append.new.self c.in_ok-look_step.ensures (λ rest. (claim_inside (all_stated c.args.before.now) c.args.step.now c.in-Claim.shown c.in-Claim.inner c.args.state.now rest c.in-Claim.is).0 ∙ sym inside) h) c.append.ensures
 
@@ -146,10 +146,10 @@ look_at_step-look_inside-requires-in-Superposed t c = (
 
 pub look_at_step-returns-in_ok-inside-in-Superposed-clause-wanted : goal.look_at_step-returns-in_ok-inside-in-Superposed-clause-wanted
 look_at_step-returns-in_ok-inside-in-Superposed-clause-wanted t c =
-    let inside = c.in_ok-inside-in-Superposed.ensures.wanted ∙ ap (λ b. outside c.args.state.now.scope c.args.state.now.facts (wants (all_stated c.args.before.now) (script_of b) (grown c.args.state.now.scope c.made-made.result.now) (joined_all c.args.state.now.facts c.deref-in-Superposed-2.result.now) (goal_of c.items-in-Superposed.result.now))) c.deref-in-Superposed.ensures
-    ∙ ap (λ xs. outside c.args.state.now.scope c.args.state.now.facts (wants (all_stated c.args.before.now) (script_of c.in-Superposed.inner.value) (grown c.args.state.now.scope xs) (joined_all c.args.state.now.facts c.deref-in-Superposed-2.result.now) (goal_of c.items-in-Superposed.result.now))) c.made-made.ensures
-    ∙ ap (λ fs. outside c.args.state.now.scope c.args.state.now.facts (wants (all_stated c.args.before.now) (script_of c.in-Superposed.inner.value) (grown c.args.state.now.scope superposing.sorts_copied) (joined_all c.args.state.now.facts fs) (goal_of c.items-in-Superposed.result.now))) (c.deref-in-Superposed-2.ensures.value ∙ c.in_ok-given-in-Superposed.ensures)
-    ∙ ap (λ ls. outside c.args.state.now.scope c.args.state.now.facts (wants (all_stated c.args.before.now) (script_of c.in-Superposed.inner.value) (grown c.args.state.now.scope superposing.sorts_copied) (joined_all c.args.state.now.facts (superposing.gives_of_superposition c.in-Superposed.form c.args.state.now.scope)) (goal_of ls))) c.items-in-Superposed.ensures in
+    let inside = c.in_ok-inside-in-Superposed.ensures.wanted ∙ ap (λ b. wants_outside c.args.state.now.scope c.args.state.now.facts (wants (all_stated c.args.before.now) (script_of b) (grown c.args.state.now.scope c.made-made.result.now) (joined_all c.args.state.now.facts c.deref-in-Superposed-2.result.now) (goal_of c.items-in-Superposed.result.now))) c.deref-in-Superposed.ensures
+    ∙ ap (λ xs. wants_outside c.args.state.now.scope c.args.state.now.facts (wants (all_stated c.args.before.now) (script_of c.in-Superposed.inner.value) (grown c.args.state.now.scope xs) (joined_all c.args.state.now.facts c.deref-in-Superposed-2.result.now) (goal_of c.items-in-Superposed.result.now))) c.made-made.ensures
+    ∙ ap (λ fs. wants_outside c.args.state.now.scope c.args.state.now.facts (wants (all_stated c.args.before.now) (script_of c.in-Superposed.inner.value) (grown c.args.state.now.scope superposing.sorts_copied) (joined_all c.args.state.now.facts fs) (goal_of c.items-in-Superposed.result.now))) (c.deref-in-Superposed-2.ensures.value ∙ c.in_ok-given-in-Superposed.ensures)
+    ∙ ap (λ ls. wants_outside c.args.state.now.scope c.args.state.now.facts (wants (all_stated c.args.before.now) (script_of c.in-Superposed.inner.value) (grown c.args.state.now.scope superposing.sorts_copied) (joined_all c.args.state.now.facts (superposing.gives_of_superposition c.in-Superposed.form c.args.state.now.scope)) (goal_of ls))) c.items-in-Superposed.ensures in
     and_so c.append-in-Superposed.result
     (λ h. inside_wants (all_stated c.args.before.now) c.args.step.now c.args.state.now c.args.out.now c.look_step.new.out c.in_ok-inside-in-Superposed.inside c.append-in-Superposed.new.self c.in_ok-look_step.ensures
     (λ rest. (superposed_inside (all_stated c.args.before.now) c.args.step.now c.in-Superposed.form c.in-Superposed.names c.in-Superposed.shown c.in-Superposed.certs c.in-Superposed.inner c.args.state.now rest c.in-Superposed.is).0 ∙ sym inside) h) c.append-in-Superposed.ensures
@@ -226,11 +226,11 @@ look_at_close-look_inside-requires-in-Cases t c = (
 pub look_at_close-returns-in_ok-append-in-Cases-2-clause-wanted : goal.look_at_close-returns-in_ok-append-in-Cases-2-clause-wanted
 look_at_close-returns-in_ok-append-in-Cases-2-clause-wanted t c =
     cases_wanted (all_stated c.args.before.now) c.args.close.now c.in-Cases.lit c.in-Cases.first c.in-Cases.second c.args.state.now.scope c.args.state.now.facts (goal_said c.args.goal.now) c.new-wanted.result c.look_close.new.out c.in_ok-other-in-Cases.other c.in_ok-one-in-Cases.one c.append-in-Cases.new.self c.append.new.self c.in-Cases.is c.new-wanted.ensures (c.in_ok-look_close.ensures (all_stated c.args.before.now))
-    (c.in_ok-other-in-Cases.ensures.wanted ∙ ap (λ b. outside c.args.state.now.scope c.args.state.now.facts (wants (all_stated c.args.before.now) (script_of b) c.args.state.now.scope (joined_all c.args.state.now.facts c.deref-in-Cases.result.now) (goal_said c.args.goal.now))) c.deref.ensures
-    ∙ ap (λ ls. outside c.args.state.now.scope c.args.state.now.facts (wants (all_stated c.args.before.now) (script_of c.in-Cases.second.value) c.args.state.now.scope (joined_all c.args.state.now.facts ls) (goal_said c.args.goal.now))) (c.deref-in-Cases.ensures.value ∙ c.in_ok-fails-in-Cases.ensures.items ∙ ap (λ l. l ∷ []) (c.negate.ensures ∙ ap negation c.in_ok-copy-in-Cases-2.ensures)))
-    (c.in_ok-one-in-Cases.ensures.wanted ∙ ap (λ (y : StepState). outside y.scope y.facts (wants (all_stated c.args.before.now) (script_of c.deref-in-Cases-2.result.now) y.scope (joined_all y.facts c.deref-in-Cases-3.result.now) (goal_said c.args.goal.now))) c.in_ok-other-in-Cases.ensures.same
-    ∙ ap (λ b. outside c.args.state.now.scope c.args.state.now.facts (wants (all_stated c.args.before.now) (script_of b) c.args.state.now.scope (joined_all c.args.state.now.facts c.deref-in-Cases-3.result.now) (goal_said c.args.goal.now))) c.deref-in-Cases-2.ensures
-    ∙ ap (λ ls. outside c.args.state.now.scope c.args.state.now.facts (wants (all_stated c.args.before.now) (script_of c.in-Cases.first.value) c.args.state.now.scope (joined_all c.args.state.now.facts ls) (goal_said c.args.goal.now))) (c.deref-in-Cases-3.ensures.value ∙ c.in_ok-holds-in-Cases.ensures.items ∙ ap (λ l. l ∷ []) c.in_ok-copy-in-Cases.ensures)) c.in_ok-append-in-Cases.ensures c.in_ok-append-in-Cases-2.ensures
+    (c.in_ok-other-in-Cases.ensures.wanted ∙ ap (λ b. wants_outside c.args.state.now.scope c.args.state.now.facts (wants (all_stated c.args.before.now) (script_of b) c.args.state.now.scope (joined_all c.args.state.now.facts c.deref-in-Cases.result.now) (goal_said c.args.goal.now))) c.deref.ensures
+    ∙ ap (λ ls. wants_outside c.args.state.now.scope c.args.state.now.facts (wants (all_stated c.args.before.now) (script_of c.in-Cases.second.value) c.args.state.now.scope (joined_all c.args.state.now.facts ls) (goal_said c.args.goal.now))) (c.deref-in-Cases.ensures.value ∙ c.in_ok-fails-in-Cases.ensures.items ∙ ap (λ l. l ∷ []) (c.negate.ensures ∙ ap negation c.in_ok-copy-in-Cases-2.ensures)))
+    (c.in_ok-one-in-Cases.ensures.wanted ∙ ap (λ (y : StepState). wants_outside y.scope y.facts (wants (all_stated c.args.before.now) (script_of c.deref-in-Cases-2.result.now) y.scope (joined_all y.facts c.deref-in-Cases-3.result.now) (goal_said c.args.goal.now))) c.in_ok-other-in-Cases.ensures.same
+    ∙ ap (λ b. wants_outside c.args.state.now.scope c.args.state.now.facts (wants (all_stated c.args.before.now) (script_of b) c.args.state.now.scope (joined_all c.args.state.now.facts c.deref-in-Cases-3.result.now) (goal_said c.args.goal.now))) c.deref-in-Cases-2.ensures
+    ∙ ap (λ ls. wants_outside c.args.state.now.scope c.args.state.now.facts (wants (all_stated c.args.before.now) (script_of c.in-Cases.first.value) c.args.state.now.scope (joined_all c.args.state.now.facts ls) (goal_said c.args.goal.now))) (c.deref-in-Cases-3.ensures.value ∙ c.in_ok-holds-in-Cases.ensures.items ∙ ap (λ l. l ∷ []) c.in_ok-copy-in-Cases.ensures)) c.in_ok-append-in-Cases.ensures c.in_ok-append-in-Cases-2.ensures
 
 pub look_at_close-returns-in_ok-append-in-Cases-2-clause-flags : goal.look_at_close-returns-in_ok-append-in-Cases-2-clause-flags
 look_at_close-returns-in_ok-append-in-Cases-2-clause-flags t c =
