@@ -6,6 +6,7 @@ use Rattle.e_deriv.specs.Certified.{is_certified, derivation_lines, verdict}
 use Rattle.e_line.specs.Reading.{◌>>=◌}
 use Rattle.e_names.specs.TitledStatements.{TitledStatement, stated_by}
 use Rattle.e_book.specs.TheoremViews.{TheoremView}
+use Rattle.e_book.specs.Grammar.{Rest}
 use Rattle.e_line.proofs.Bound.{bind_ok}
 use Rattle.e_read.specs.declared.reading.BlockParser.{BlockParser}
 use Rattle.e_read.specs.Text.{TextPiece, Derived, Last, at_start, parser_after_line, garbled_at, finished, or_on, is_end, piece_from}
@@ -13,7 +14,7 @@ use Rattle.e_read.proofs.TakenLines.{either}
 use Rattle.e_verify.proofs.checking.PassedLines.{all_pass}
 use Rattle.e_judgement.specs.declared.judgement.Judgement.{Judgement}
 use Rattle.e_judgement.specs.declared.judgement.Judgement.TheVariants.{Bad, Garbled}
-use Rattle.e_judgement.specs.Judged.{Rest, with_theorem, ReadsNext, IsCertified, Passes, JudgedAfter, Closes, IsJudged, version_of, JudgedAfterHead, JudgesLines, lines_of_text}
+use Rattle.e_judgement.specs.Judged.{with_theorem, ReadsNext, IsCertified, Passes, JudgedAfter, Closes, IsJudged, version_of, JudgedAfterHead, JudgesLines, lines_of_text}
 use Rattle.e_judgement.specs.Laws.{EachTextIsJudged}
 
 -- ---- fewer lines are left after what is read

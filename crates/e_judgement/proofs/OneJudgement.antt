@@ -8,11 +8,12 @@ use Rattle.e_deriv.specs.Lines.{Line, first_failure}
 use Rattle.e_deriv.specs.Certified.{is_certified, derivation_lines, verdict}
 use Rattle.e_names.specs.TitledStatements.{TitledStatement, stated_by}
 use Rattle.e_book.specs.TheoremViews.{TheoremView}
+use Rattle.e_book.specs.Grammar.{Rest}
 use Rattle.e_read.specs.Text.{TextPiece, Derived, Last}
 use Rattle.e_read.proofs.Bridge.{no_last, derived_is}
 use Rattle.e_judgement.specs.declared.judgement.Judgement.{Judgement}
 use Rattle.e_judgement.specs.declared.judgement.Judgement.TheVariants.{Bad, Garbled}
-use Rattle.e_judgement.specs.Judged.{Rest, with_theorem, ReadsNext, IsCertified, Passes, JudgedAfter, Closes, IsJudged, version_of, JudgedAfterHead, JudgesLines, JudgesText, lines_of_text}
+use Rattle.e_judgement.specs.Judged.{with_theorem, ReadsNext, IsCertified, Passes, JudgedAfter, Closes, IsJudged, version_of, JudgedAfterHead, JudgesLines, JudgesText, lines_of_text}
 
 -- what was read, and the lines after it
 abbrev Found : Type 0

@@ -8,13 +8,13 @@ use Rattle.e_theorem.specs.Statements.{stated}
 use Rattle.e_deriv.specs.Fitting.{is_small_statement}
 use Rattle.e_names.specs.TitledStatements.{TitledStatement, stated_by}
 use Rattle.e_book.specs.TheoremViews.{TheoremView}
-use Rattle.e_book.specs.Grammar.{last_line}
+use Rattle.e_book.specs.Grammar.{last_line, Rest}
 use Rattle.e_book.proofs.Fitting.{one_more_stated}
 use Rattle.e_read.specs.Text.{at_start, piece_from}
 use Rattle.e_judgement.specs.declared.judgement.Judgement.{Judgement}
 use Rattle.e_judgement.specs.declared.judgement.Judgement.TheVariants.{Garbled}
 use Rattle.e_judgement.specs.Steps.{IsHeadFound, version_at}
-use Rattle.e_judgement.specs.Judged.{Rest, with_theorem, ReadsNext, IsCertified, Passes, Closes, IsJudged, version_of, JudgedAfterHead, JudgesLines, lines_of_text, JudgesText}
+use Rattle.e_judgement.specs.Judged.{with_theorem, ReadsNext, IsCertified, Passes, Closes, IsJudged, version_of, JudgedAfterHead, JudgesLines, lines_of_text, JudgesText}
 
 module _ (v : Version) where
   pub record History (last : ℕ) (lines : Rest) (known : List TitledStatement) (rest : Rest) : Type 0 where

@@ -10,13 +10,10 @@ use Rattle.e_theorem.specs.Statements.{stated}
 use Rattle.e_deriv.specs.Certified.{Certified, verdict}
 use Rattle.e_names.specs.TitledStatements.{TitledStatement, headed, stated_by}
 use Rattle.e_book.specs.TheoremViews.{TheoremView}
+use Rattle.e_book.specs.Grammar.{Rest}
 use Rattle.e_read.specs.Text.{at_start, piece_from, Derived, Last, is_lf_end}
 use Rattle.e_judgement.specs.declared.judgement.Judgement.{Judgement}
 use Rattle.e_judgement.specs.declared.judgement.Judgement.TheVariants.{Verified, Bad, Garbled}
-
--- the next lines, cut off after the first that has a fault
-abbrev pub Rest : Type 0
-Rest = List (Result LineView LineFault)
 
 -- after a theorem it is known
 abbrev pub with_theorem : List TitledStatement → TheoremView → List TitledStatement

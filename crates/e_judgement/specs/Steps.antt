@@ -5,7 +5,7 @@ use Rattle.e_clause.specs.declared.cert.Version.{Version}
 use Rattle.e_theorem.specs.Statements.{stated}
 use Rattle.e_deriv.specs.Fitting.{is_small_statement}
 use Rattle.e_deriv.specs.Versions.{has_certs_of}
-use Rattle.e_book.specs.Grammar.{last_line}
+use Rattle.e_book.specs.Grammar.{last_line, Rest}
 use Rattle.e_names.specs.TitledStatements.{TitledStatement, stated_by}
 use Rattle.e_book.specs.TheoremViews.{TheoremView, entry_of}
 use Rattle.e_book.specs.HasSpelling.{HasSpelling}
@@ -13,7 +13,7 @@ use Rattle.e_read.specs.Text.{without_certs}
 use Rattle.e_verify.specs.Verdicts.{IsVerifiable}
 use Rattle.e_judgement.specs.declared.next.NextItem.{NextItem}
 use Rattle.e_judgement.specs.declared.next.NextItem.TheVariants.{Theorem, End}
-use Rattle.e_judgement.specs.Judged.{Rest, ReadsNext, IsCertified, Closes, version_of}
+use Rattle.e_judgement.specs.Judged.{ReadsNext, IsCertified, Closes, version_of}
 
 -- the theorem comes next and is certified, by certificates of the version; without them it has a
 -- spelling in a book

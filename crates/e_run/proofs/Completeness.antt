@@ -19,7 +19,8 @@ use Rattle.e_deriv.specs.Refused.{SomeIsWide, IsWideAt, IsTooWide}
 use Rattle.e_names.specs.declared.known.Known.{Known}
 use Rattle.e_names.specs.TitledStatements.{TitledStatement, stated_by}
 use Rattle.e_book.specs.TheoremViews.{TheoremView}
-use Rattle.e_run.specs.Outcome.{Rest, BookOutcome, IsOutcomeOf, Begins, StopsAt, RefusedAt, HasWide, lines_of_book}
+use Rattle.e_book.specs.Grammar.{Rest}
+use Rattle.e_run.specs.Outcome.{BookOutcome, IsOutcomeOf, Begins, StopsAt, RefusedAt, HasWide, lines_of_book}
 use Rattle.e_run.specs.Outcome as outcome
 use Rattle.e_run.specs.Answers.{Outputs, Checks, ChecksBook, OutcomeAfter, Refuses, Widens, IsAnswer, Answers, UsageAnswer, AnswersUsage, theorems_of}
 use Rattle.e_run.specs.inner.BookResults.{ClosesWith}

@@ -11,10 +11,11 @@ use Rattle.e_names.specs.declared.known.Known.{Known}
 use Rattle.e_names.specs.Taken.{nothing_known}
 use Rattle.e_names.specs.Titled.{Titled}
 use Rattle.e_book.specs.Definitions.{OfTheorem, OfNotion, item_from}
+use Rattle.e_book.specs.Grammar.{Rest}
 use Rattle.e_deriv.specs.Script.{size}
 use Rattle.e_deriv.specs.Naming.{names_lines, declared_names}
 use Rattle.std.specs.Prelude.{slice_get}
-use Rattle.e_run.specs.Outcome.{Rest, known_after_theorem, and_theorem, and_notion, IsLicensed, Defines, AreDefined, Takes, Begins, end_line_number}
+use Rattle.e_run.specs.Outcome.{and_theorem, and_notion, IsLicensed, Defines, AreDefined, Takes, Begins, end_line_number}
 use Rattle.e_run.specs.Outcome as outcome
 use Rattle.e_run.specs.Answers.{Derived, IsDerived, AllDerived, OutcomeAfter, Refuses, Widens, theorems_of, steps_of, block_of, blocks_of}
 use Rattle.e_run.specs.inner.BookResults.{BlocksUpTo, BookResultIs, BreaksOff, BreaksInside, result_of_stop}
@@ -30,6 +31,7 @@ use Rattle.e_deriv.specs.declared.stop.Wanted.{Wanted}
 use Rattle.e_deriv.specs.declared.names.Names.{Names}
 use Rattle.e_deriv.specs.Refused.{IsRefused, IsTooWideAt}
 use Rattle.e_literal.specs.declared.object.Term.{Term}
+use Rattle.e_judgement.specs.Judged.{with_theorem}
 
 -- ---- definitions
 
@@ -76,8 +78,8 @@ all_more : (last : ℕ) (known : Known) (lines : Rest) (ds : List Derived) (now 
 all_more last known lines [] now rest d r h k = (subst (λ (x : List TitledStatement). IsDerived x d) (sym (defined_same last known lines now rest r)) k, tt)
 all_more last known lines (e ∷ es) now rest d r h k =
     let same = defined_same last known lines r.0 r.1 r.2 in
-    let later = subst (λ (x : List TitledStatement). AllDerived (known_after_theorem x e.theorem) es) same h.1 in
-    (h.0, subst (λ (x : List TitledStatement). AllDerived (known_after_theorem x e.theorem) (es ++ d ∷ [])) (sym same) (all_more last (and_theorem r.0 e.theorem) r.3 es now rest d r.6 later k))
+    let later = subst (λ (x : List TitledStatement). AllDerived (with_theorem x e.theorem) es) same h.1 in
+    (h.0, subst (λ (x : List TitledStatement). AllDerived (with_theorem x e.theorem) (es ++ d ∷ [])) (sym same) (all_more last (and_theorem r.0 e.theorem) r.3 es now rest d r.6 later k))
 
 theorems_more : (ds : List Derived) (d : Derived) → theorems_of (ds ++ d ∷ []) ≡ theorems_of ds ++ d.theorem ∷ []
 theorems_more [] d = refl
@@ -93,8 +95,8 @@ blocks_more last known lines [] now rest d r = append-nil (block_of known.theore
 blocks_more last known lines (e ∷ es) now rest d r =
     let same = defined_same last known lines r.0 r.1 r.2 in
     let here = block_of known.theorems e in
-    let later = known_after_theorem r.0.theorems e.theorem in
-    let moved = λ (ds : List Derived). ap (λ (k : List TitledStatement). blocks_of (known_after_theorem k e.theorem) ds) same in
+    let later = with_theorem r.0.theorems e.theorem in
+    let moved = λ (ds : List Derived). ap (λ (k : List TitledStatement). blocks_of (with_theorem k e.theorem) ds) same in
     ap (λ (x : List ℕ). here ++ x) (moved (es ++ d ∷ []) ∙ blocks_more last (and_theorem r.0 e.theorem) r.3 es now rest d r.6)
     ∙ sym (append_assoc here (blocks_of later es) (block_of now.theorems d))
     ∙ ap (λ (x : List ℕ). (here ++ x) ++ block_of now.theorems d) (sym (moved es))

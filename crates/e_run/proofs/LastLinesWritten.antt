@@ -11,12 +11,13 @@ use Rattle.e_run.specs.declared.blocks.BookResult.{BookResult}
 use Rattle.e_run.specs.declared.blocks.BookResult.TheVariants.{All, Stopped, Faulty}
 use Rattle.e_names.specs.declared.known.Known.{Known}
 use Rattle.e_names.specs.Taken.{nothing_known}
-use Rattle.e_run.specs.Outcome.{Rest, lines_of_book}
+use Rattle.e_run.specs.Outcome.{lines_of_book}
 use Rattle.e_run.specs.Outcome as outcome
 use Rattle.e_run.specs.LastLines.{head_line, no_memory_line, read_fault_line}
 use Rattle.e_run.specs.Answers.{Derived, blocks_of, written_with, OutputUpTo, OutcomeAfter, Refuses, Widens, Outputs, Checks, ChecksBook, IsAccepted}
 use Rattle.e_run.specs.inner.BookResults.{BlocksUpTo, BreaksOff, BreaksInside, BookResultIs, IsAll, HasLastLines, ClosesWith, last_lines, answer_of}
 use Rattle.e_run.proofs.VerifiedText.{verified_text}
+use Rattle.e_book.specs.Grammar.{Rest}
 
 -- the head line, the blocks and the last lines, one after another
 pub grew_all : (old s0 s1 s2 : Option (List ℕ)) (ds : List Derived) (last : List ℕ) → Grew old s0 head_line → Grew s0 s1 (blocks_of [] ds) → Grew s1 s2 last → Grew old s2 (written_with ds last)

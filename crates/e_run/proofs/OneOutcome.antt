@@ -13,7 +13,8 @@ use Rattle.e_names.specs.declared.known.Known.{Known}
 use Rattle.e_names.specs.Taken.{nothing_known}
 use Rattle.e_names.specs.Titled.{Titled}
 use Rattle.e_book.specs.Definitions.{BookItem, OfTheorem, OfNotion, item_from}
-use Rattle.e_run.specs.Outcome.{Rest, and_theorem, and_notion, IsLicensed, Defines, AreDefined, Takes, BookOutcome, Accepted, Unlicensed, Faulty, StopsAt, OutcomeAt, IsOutcome, end_line_number}
+use Rattle.e_book.specs.Grammar.{Rest}
+use Rattle.e_run.specs.Outcome.{and_theorem, and_notion, IsLicensed, Defines, AreDefined, Takes, BookOutcome, Accepted, Unlicensed, Faulty, StopsAt, OutcomeAt, IsOutcome, end_line_number}
 use Rattle.e_run.proofs.WholeBook.{same_found}
 
 -- what reading gives

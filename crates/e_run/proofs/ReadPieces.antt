@@ -11,6 +11,7 @@ use Rattle.e_text.proofs.WholeLines.{lines_of-take}
 use Rattle.e_book.specs.declared.coming.Coming.{Coming}
 use Rattle.e_book.specs.Definitions.{BookItem}
 use Rattle.e_book.specs.inner.Machine.{at_end}
+use Rattle.e_book.specs.Grammar.{Rest}
 use Rattle.e_run.specs.declared.book.Book.{Book}
 use Rattle.e_run.specs.declared.pieces.Untaken.{Untaken}
 use Rattle.e_run.specs.declared.blocks.BookResult.{BookResult}
@@ -20,7 +21,7 @@ use Rattle.e_run.specs.declared.status.Status.{Status}
 use Rattle.e_run.specs.declared.status.Status.TheVariants as status
 use Rattle.e_run.specs.Input.{IsTextOf}
 use Rattle.e_run.specs.LastLines.{head_line, read_fault_line}
-use Rattle.e_run.specs.Outcome.{Rest, end_line_number, lines_of_book}
+use Rattle.e_run.specs.Outcome.{end_line_number, lines_of_book}
 use Rattle.e_run.specs.Answers.{IsReadFault, written_with}
 use Rattle.e_run.specs.inner.BookResults.{BreaksOff, BlocksAre, SourceResultIs, IsAll, ClosesWith}
 use Rattle.e_run.specs.inner.Progress.{History, IsBook, Reaches, IsReadUpTo, PieceTakes, first_book}

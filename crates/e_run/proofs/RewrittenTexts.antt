@@ -11,13 +11,13 @@ use Rattle.e_theorem.specs.Statements.{stated}
 use Rattle.e_deriv.specs.Script.{Script}
 use Rattle.e_names.specs.TitledStatements.{TitledStatement, stated_by}
 use Rattle.e_book.specs.TheoremViews.{TheoremView}
-use Rattle.e_book.specs.Grammar.{last_line as last_of}
+use Rattle.e_book.specs.Grammar.{last_line as last_of, Rest}
 use Rattle.e_deriv.specs.Versions.{has_certs_of}
 use Rattle.e_trim.specs.Trimmable.{IsTrimmable}
 use Rattle.e_verify.specs.Verdicts.{IsVerifiable}
 use Rattle.e_judgement.specs.declared.judgement.Judgement.{Judgement}
 use Rattle.e_judgement.specs.declared.judgement.Judgement.TheVariants as judgements
-use Rattle.e_judgement.specs.Judged.{Rest, with_theorem, ReadsNext, IsCertified, Passes, Closes, JudgedAfterHead, version_of, lines_of_text}
+use Rattle.e_judgement.specs.Judged.{with_theorem, ReadsNext, IsCertified, Passes, Closes, JudgedAfterHead, version_of, lines_of_text}
 use Rattle.e_judgement.specs.Steps.{IsNextCertified, version_at, IsHeadFound as Starts}
 use Rattle.e_judgement.proofs.Passing.{passes_more}
 use Rattle.e_judgement.proofs.OneJudgement.{one_after_head}

@@ -29,7 +29,7 @@ use Rattle.e_names.specs.declared.known.Known.{Known}
 use Rattle.e_names.specs.Titled.{Titled, is_notion}
 use Rattle.e_names.specs.Taken.{nothing_known}
 use Rattle.e_book.specs.Definitions.{BookItem, OfTheorem, OfNotion, item_from}
-use Rattle.e_book.specs.Grammar.{BookFails}
+use Rattle.e_book.specs.Grammar.{BookFails, Rest}
 use Rattle.e_book.proofs.Fitting.{one_more_stated}
 use Rattle.e_names.proofs.NotionsBeside.{one_more_notion}
 use Rattle.e_prove.proofs.StopsInLists.{at_less}
@@ -46,7 +46,7 @@ use Rattle.e_run.specs.DrawerAnswers.{lacks_memory}
 use Rattle.e_run.specs.Input.{IsTextOf}
 use Rattle.e_run.specs.LastLines.{fault_line, no_step_line, suggested_line}
 use Rattle.e_run.specs.Outcome as outcome
-use Rattle.e_run.specs.Outcome.{BookOutcome, Rest, NextIs, Takes, AreDefined, IsLicensed, StopsAt, RefusedAt, known_after_theorem, and_theorem, and_notion, end_line_number, lines_of_book}
+use Rattle.e_run.specs.Outcome.{BookOutcome, NextIs, Takes, AreDefined, IsLicensed, StopsAt, RefusedAt, and_theorem, and_notion, end_line_number, lines_of_book}
 use Rattle.e_run.specs.SuggesterAnswers.{Lists, UpToTheorem, NextUpTo, IsEarlier, IsAsked, HasTooFewSteps, WayOutcome, AtStep, NoStep, Unlicensed, Faulty, IsWayOf, Suggests, Widens, SuggestAnswer, SuggestsBook, HasWideOnWay, IsWayAnswer, AnswersSuggest}
 use Rattle.e_run.specs.Wrote.{Wrote}
 use Rattle.e_run.specs.inner.BookResults.{ClosesWith, stop_answer}
@@ -56,6 +56,7 @@ use Rattle.e_run.proofs.History.{takes_more, takes_notion, defined_same}
 use Rattle.e_run.proofs.OneOutcome.{found, none_left, found_not_none, found_not_faulty, none_not_faulty, same_faulty, one_stop_at, stop_of_same, same_first, takes_at, same_rest, NoNotion, theorem_here, spot_of}
 use Rattle.e_run.proofs.Trials.{book_lines}
 use Rattle.e_run.proofs.Wrote.{closed_wrote}
+use Rattle.e_judgement.specs.Judged.{with_theorem}
 
 -- ---- titles
 
@@ -104,7 +105,7 @@ turned a b h =
       | inr differ ↦ differ
     ]
 
-untitled_more : (known : List TitledStatement) (t : TheoremView) (title : List ℕ) → is_known known title ≡ false → bytes_eq t.title title ≡ false → is_known (known_after_theorem known t) title ≡ false
+untitled_more : (known : List TitledStatement) (t : TheoremView) (title : List ℕ) → is_known known title ≡ false → bytes_eq t.title title ≡ false → is_known (with_theorem known t) title ≡ false
 untitled_more [] t title none differ = both_false (bytes_eq title t.title) false (turned t.title title differ) refl
 untitled_more (h ∷ hs) t title none differ =
     both_false (bytes_eq title h.title) _ (or_not_left (bytes_eq title h.title) _ none) (untitled_more hs t title (or_not_right (bytes_eq title h.title) _ none) differ)
@@ -393,7 +394,7 @@ ends_before last known lines k1 here r1 before after u title step a p h d read l
     goes_on last here before after u title step a read l differ (ends_at last here k1 before r1 title step a spot.0 spot.1 h)
 
 -- what is known later was not known before
-known_front : (known : List TitledStatement) (t : TheoremView) (title : List ℕ) → is_known (known_after_theorem known t) title ≡ false → is_known known title ≡ false
+known_front : (known : List TitledStatement) (t : TheoremView) (title : List ℕ) → is_known (with_theorem known t) title ≡ false → is_known known title ≡ false
 known_front [] t title h = refl
 known_front (x ∷ xs) t title h = both_false (bytes_eq title x.title) _ (or_not_left (bytes_eq title x.title) _ h) (known_front xs t title (or_not_right (bytes_eq title x.title) _ h))
 
@@ -403,7 +404,7 @@ not_known last known lines (t ∷ ts) now rest title r h =
     ap (λ (k : List TitledStatement). is_known k title) (defined_same last known lines r.0 r.1 r.2)
     ∙ known_front r.0.theorems t title (not_known last (and_theorem r.0 t) r.3 ts now rest title r.6 h)
 
-last_differs : (known : List TitledStatement) (t : TheoremView) (title : List ℕ) → is_known (known_after_theorem known t) title ≡ false → bytes_eq t.title title ≡ false
+last_differs : (known : List TitledStatement) (t : TheoremView) (title : List ℕ) → is_known (with_theorem known t) title ≡ false → bytes_eq t.title title ≡ false
 last_differs [] t title h = turned title t.title (or_not_left (bytes_eq title t.title) false h)
 last_differs (x ∷ xs) t title h = last_differs xs t title (or_not_right (bytes_eq title x.title) _ h)
 

@@ -14,6 +14,7 @@ use Rattle.e_book.specs.inner.Machine.{FitsComing, IsBegun, ReadsOn}
 use Rattle.e_book.specs.inner.Machine as machine
 use Rattle.e_book.proofs.ComingTied.{items_read_alike}
 use Rattle.e_book.proofs.ReadingOn.{begun_first}
+use Rattle.e_book.specs.Grammar.{Rest}
 use Rattle.e_names.proofs.NotionsBeside.{one_more_notion}
 use Rattle.e_run.specs.declared.book.Book.{Book}
 use Rattle.e_run.specs.declared.blocks.BookResult.TheVariants.{Faulty}
@@ -22,7 +23,7 @@ use Rattle.e_run.specs.declared.blocks.RunError.{RunError}
 use Rattle.e_run.specs.declared.blocks.RunError.TheVariants.{WriteFault}
 use Rattle.e_deriv.specs.declared.stop.Stop.{Stop}
 use Rattle.e_deriv.specs.declared.stop.Stop.TheVariants as stops
-use Rattle.e_run.specs.Outcome.{Rest, and_notion, end_line_number}
+use Rattle.e_run.specs.Outcome.{and_notion, end_line_number}
 use Rattle.e_run.specs.Outcome as outcome
 use Rattle.e_run.specs.Answers.{OutcomeAfter}
 use Rattle.e_run.specs.inner.BookResults.{BookResultIs, BreaksOff, result_of_stop, result_of_fault}

@@ -34,12 +34,12 @@ use Rattle.e_line.specs.Limits.{most_notions, most_expanded}
 use Rattle.e_line.specs.Items.{has_item, items_of, define_of, placing_of, listed, line_named, book_line_of, is_show}
 use Rattle.e_book.specs.Open.{Open, Head, Stating, Proving, Splitting, Proved, Ended}
 use Rattle.e_book.specs.Counts.{all_kept, limits_kept}
-use Rattle.e_book.specs.Grammar.{begins, nothing_said, is_empty, next, line_after, theorem_ended, is_skipped, put_at}
+use Rattle.e_book.specs.Grammar.{begins, nothing_said, is_empty, next, line_after, theorem_ended, is_skipped, put_at, Rest}
 use Rattle.e_book.specs.Definitions.{BookItem, OfTheorem, OfNotion, Coming, InTheorem, InDefinition, Defined, has_notion_title, after_first_line, says_more, still_defined, meant, ends_definition, plain_line, written_out, counted, after_listed_line, next_line, line_said, whole, whole_or, item_from}
 use Rattle.e_line.proofs.Bound.{bind_ok, ok_is, read_ok}
 use Rattle.e_line.proofs.Choices.{either, passed, of_reading}
 use Rattle.e_names.proofs.FreshTitles.{was_free}
-use Rattle.e_run.specs.Outcome.{Rest, and_theorem, and_notion, Defines, Takes, Accepted, IsOutcome, end_line_number}
+use Rattle.e_run.specs.Outcome.{and_theorem, and_notion, Defines, Takes, Accepted, IsOutcome, end_line_number}
 use Rattle.e_run.proofs.WholeBook.{at_end_found, by_found, by_none, by_skip}
 use Rattle.e_run.proofs.VerifiedText.{known_grows}
 

@@ -13,7 +13,7 @@ use Rattle.e_run.specs.declared.blocks.BookResult.{BookResult}
 use Rattle.e_run.specs.declared.blocks.BookResult.TheVariants.{All, Stopped, Faulty}
 use Rattle.e_run.specs.Input.{IsTextOf}
 use Rattle.e_run.specs.LastLines.{head_line, accepted_line, tried_line}
-use Rattle.e_run.specs.Outcome.{Rest, BookOutcome, IsOutcome, IsOutcomeOf, lines_of_book}
+use Rattle.e_run.specs.Outcome.{BookOutcome, IsOutcome, IsOutcomeOf, lines_of_book}
 use Rattle.e_run.specs.Outcome as outcome
 use Rattle.e_run.specs.Answers.{IsAnswer, theorems_of, written_with}
 use Rattle.e_run.specs.inner.BookResults.{ClosesWith, BlocksUpTo, BookResultIs, answer_of, last_lines}
@@ -26,6 +26,7 @@ use Rattle.e_run.proofs.OneOutcome.{outcome_is_one}
 use Rattle.e_run.proofs.WholeBook.{good_accepted}
 use Rattle.e_run.proofs.Titles.{accepted_titles}
 use Rattle.e_run.proofs.GeneratedTitles.{generated_titles}
+use Rattle.e_book.specs.Grammar.{Rest}
 
 -- ---- the line of an answer
 

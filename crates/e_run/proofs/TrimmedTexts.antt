@@ -9,9 +9,10 @@ use Rattle.e_deriv.specs.Script.{Script}
 use Rattle.e_deriv.specs.Fitting.{is_small_statement}
 use Rattle.e_names.specs.TitledStatements.{TitledStatement, stated_by}
 use Rattle.e_book.specs.TheoremViews.{TheoremView}
+use Rattle.e_book.specs.Grammar.{Rest}
 use Rattle.e_trim.specs.Trimmed.{trimmed}
 use Rattle.e_judgement.specs.declared.judgement.Judgement.TheVariants.{Verified}
-use Rattle.e_judgement.specs.Judged.{Rest, ReadsNext, IsCertified, lines_of_text}
+use Rattle.e_judgement.specs.Judged.{ReadsNext, IsCertified, lines_of_text}
 use Rattle.e_roundtrip.specs.Written.{CanBeVerified}
 use Rattle.e_roundtrip.proofs.Trimmed.TrimmedSpelling.{trimmed_can_be_verified}
 use Rattle.e_run.specs.declared.command.Job.TheVariants.{Trim}

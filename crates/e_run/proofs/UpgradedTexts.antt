@@ -14,10 +14,11 @@ use Rattle.e_names.specs.TitledStatements.{TitledStatement, stated_by}
 use Rattle.e_book.specs.TheoremViews.{TheoremView}
 use Rattle.e_book.specs.HasSpelling.{HasSpelling}
 use Rattle.e_book.proofs.WrittenScripts.{erased_literals, written_well}
+use Rattle.e_book.specs.Grammar.{Rest}
 use Rattle.e_verify.specs.Numbered.{derivation_with_places}
 use Rattle.e_verify.proofs.placing.NumberedLines.{numbered_certified, numbered_erased}
 use Rattle.e_judgement.specs.declared.judgement.Judgement.TheVariants.{Verified}
-use Rattle.e_judgement.specs.Judged.{Rest, ReadsNext, IsCertified, lines_of_text}
+use Rattle.e_judgement.specs.Judged.{ReadsNext, IsCertified, lines_of_text}
 use Rattle.e_roundtrip.specs.Written.{CanBeVerified}
 use Rattle.e_roundtrip.proofs.Formed.CertifiedFormed.{certified_formed}
 use Rattle.e_roundtrip.proofs.Texts.ReadIsSpelled.{read_is_formed_so}

@@ -9,9 +9,10 @@ use Rattle.e_deriv.specs.Fitting.{is_small_statement}
 use Rattle.e_names.specs.TitledStatements.{TitledStatement, headed, stated_by}
 use Rattle.e_book.specs.TheoremViews.{TheoremView}
 use Rattle.e_book.proofs.Fitting.{small_statement, one_more_stated}
+use Rattle.e_book.specs.Grammar.{Rest}
 use Rattle.e_spell.specs.Spelling.{spelled}
 use Rattle.e_judgement.specs.declared.judgement.Judgement.TheVariants.{Verified, Bad, Garbled}
-use Rattle.e_judgement.specs.Judged.{Rest, with_theorem, ReadsNext, IsCertified, Passes, Closes, JudgedAfter, number_of_line, version_of, lines_of_text, JudgesText}
+use Rattle.e_judgement.specs.Judged.{with_theorem, ReadsNext, IsCertified, Passes, Closes, JudgedAfter, number_of_line, version_of, lines_of_text, JudgesText}
 use Rattle.e_roundtrip.specs.Written as texts
 use Rattle.e_roundtrip.specs.Written.{CanBeVerified, AllCanBeVerified}
 use Rattle.e_roundtrip.proofs.Texts.ReadIsSpelled.{read_is_formed_so}

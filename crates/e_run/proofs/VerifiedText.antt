@@ -11,15 +11,16 @@ use Rattle.e_names.specs.Taken.{nothing_known}
 use Rattle.e_names.specs.Titled.{Titled, are_notions}
 use Rattle.e_names.proofs.NotionsBeside.{one_more_notion}
 use Rattle.e_book.proofs.ItemsRead.{spelled_grammar, notions_grammar}
+use Rattle.e_book.specs.Grammar.{Rest}
 use Rattle.e_roundtrip.proofs.Formed.CertifiedFormed.{certified_formed}
 use Rattle.e_roundtrip.proofs.Formed.FilledSpelling.{filled_has_spelling}
 use Rattle.e_roundtrip.specs.Written as texts
 use Rattle.e_roundtrip.specs.Written.{CanBeVerified, AllCanBeVerified}
 use Rattle.e_roundtrip.proofs.Texts.WrittenIsVerified.{written_is_verified}
 use Rattle.e_judgement.specs.declared.judgement.Judgement.TheVariants.{Verified}
-use Rattle.e_judgement.specs.Judged.{JudgesText}
+use Rattle.e_judgement.specs.Judged.{JudgesText, with_theorem}
 use Rattle.e_run.specs.LastLines.{accepted_line}
-use Rattle.e_run.specs.Outcome.{Rest, known_after_theorem, and_theorem, and_notion, Defines, Takes, Begins, end_line_number}
+use Rattle.e_run.specs.Outcome.{and_theorem, and_notion, Defines, Takes, Begins, end_line_number}
 use Rattle.e_run.specs.Outcome as outcome
 use Rattle.e_run.proofs.History.{defined_same}
 use Rattle.e_run.specs.Answers.{Derived, IsDerived, AllDerived, OutcomeAfter, IsVerifiedText, theorems_of, blocks_of, written_with}
@@ -50,14 +51,14 @@ all_spelled last known lines (d ∷ ds) now rest all r h =
     let same = defined_same last known lines r.0 r.1 r.2 in
     let notions = notions_read last known lines r.2.notions r.0 r.1 all r.2.defines in
     let spelled = subst (λ (k : List TitledStatement). HasSpelling k d.theorem) (sym same) (spelled_grammar r.0 last d.theorem r.1 r.3 notions r.4) in
-    let later = subst (λ (k : List TitledStatement). AllDerived (known_after_theorem k d.theorem) ds) same h.1 in (
+    let later = subst (λ (k : List TitledStatement). AllDerived (with_theorem k d.theorem) ds) same h.1 in (
       found_spelled known.theorems d spelled h.0,
-      subst (λ (k : List TitledStatement). AllCanBeVerified One (known_after_theorem k d.theorem) (pairs ds)) (sym same) (all_spelled last (and_theorem r.0 d.theorem) r.3 ds now rest notions r.6 later),
+      subst (λ (k : List TitledStatement). AllCanBeVerified One (with_theorem k d.theorem) (pairs ds)) (sym same) (all_spelled last (and_theorem r.0 d.theorem) r.3 ds now rest notions r.6 later),
     )
 
 blocks_same : (known : List TitledStatement) (ds : List Derived) → texts.spelled_blocks known (pairs ds) ≡ blocks_of known ds
 blocks_same known [] = refl
-blocks_same known (d ∷ ds) = ap (λ (x : List ℕ). Rattle.e_spell.specs.Spelling.spelled known d.theorem d.derivation ++ x) (blocks_same (known_after_theorem known d.theorem) ds)
+blocks_same known (d ∷ ds) = ap (λ (x : List ℕ). Rattle.e_spell.specs.Spelling.spelled known d.theorem d.derivation ++ x) (blocks_same (with_theorem known d.theorem) ds)
 
 -- one more is known after each theorem
 pub known_grows : (last : ℕ) (known : Known) (lines : Rest) (ts : List TheoremView) (now : Known) (rest : Rest) → Takes last known lines ts now rest → length now.theorems ≡ length known.theorems + length ts

@@ -10,13 +10,14 @@ use Rattle.e_roundtrip.specs.Written.{SpellsProofs}
 use Rattle.e_roundtrip.proofs.Texts.VerifiedTexts.{verified_is_written}
 use Rattle.e_run.specs.declared.status.Status.{Status}
 use Rattle.e_run.specs.declared.status.Status.TheVariants as status
-use Rattle.e_run.specs.Outcome.{Rest, lines_of_book}
+use Rattle.e_run.specs.Outcome.{lines_of_book}
 use Rattle.e_run.specs.Answers.{Checks, ChecksBook, IsAllOf, IsReadFault, IsWriteFault}
 use Rattle.e_run.specs.Proofs.{WroteProofs, ReadProofs}
 use Rattle.e_run.specs.Input.{IsTextOf}
 use Rattle.e_run.specs.inner.BookResults.{ClosesWith}
 use Rattle.e_run.specs.VerifierAnswers.{answer_of, judgement_line, TextAnswer, Verifies, VerifiesText, IsFailure, AnswersText}
 use Rattle.e_run.proofs.Wrote.{closed_wrote}
+use Rattle.e_book.specs.Grammar.{Rest}
 
 -- the line of an answer is the last that is written
 pub answered_closed : (text : List ℕ) (old new : Option (List ℕ)) (last : List ℕ) (answer result : Status) → TextAnswer text answer last → ClosesWith old new last answer result → Verifies text old new result

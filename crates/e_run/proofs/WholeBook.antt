@@ -14,12 +14,12 @@ use Rattle.e_line.specs.declared.fault.BookFault.{BookFault}
 use Rattle.e_names.specs.declared.known.Known.{Known}
 use Rattle.e_line.specs.Reading.{◌>>=◌}
 use Rattle.e_book.specs.TheoremViews.{TheoremView}
-use Rattle.e_book.specs.Grammar.{is_skipped, put_at}
+use Rattle.e_book.specs.Grammar.{is_skipped, put_at, Rest}
 use Rattle.e_names.specs.Taken.{nothing_known}
 use Rattle.e_names.specs.Titled.{Titled}
 use Rattle.e_book.specs.Definitions.{BookItem, OfTheorem, OfNotion, Coming, line_said, whole, whole_or, at_end, item_from}
 use Rattle.e_line.proofs.Bound.{bind_ok}
-use Rattle.e_run.specs.Outcome.{Rest, and_theorem, and_notion, Defines, Takes, Accepted, IsOutcome, end_line_number, lines_of_book}
+use Rattle.e_run.specs.Outcome.{and_theorem, and_notion, Defines, Takes, Accepted, IsOutcome, end_line_number, lines_of_book}
 use Rattle.e_run.specs.declared.blocks.BookResult.{BookResult}
 use Rattle.e_run.specs.declared.blocks.BookResult.TheVariants.{All, Stopped, Faulty}
 use Rattle.e_run.specs.Answers.{theorems_of}

@@ -16,12 +16,13 @@ use Rattle.e_deriv.specs.Versions.{has_certs_of}
 use Rattle.e_names.specs.declared.known.Known.{Known}
 use Rattle.e_names.specs.TitledStatements.{TitledStatement, stated_by}
 use Rattle.e_book.specs.TheoremViews.{TheoremView}
+use Rattle.e_book.specs.Grammar.{Rest}
 use Rattle.e_spell.specs.Spelling.{spelled, unlicensed_text, too_wide_text}
 use Rattle.e_judgement.specs.declared.judgement.Judgement.TheVariants as judgements
-use Rattle.e_judgement.specs.Judged.{JudgesText}
+use Rattle.e_judgement.specs.Judged.{JudgesText, with_theorem}
 use Rattle.e_run.specs.declared.status.Status.{Status}
 use Rattle.e_run.specs.declared.status.Status.TheVariants as status
-use Rattle.e_run.specs.Outcome.{Rest, BookOutcome, OutcomeAt, NextIs, known_after_theorem, Begins, IsFront, IsOutcomeOf, RefusedAt, TooWideAt, HasWide, end_line_number, lines_of_book}
+use Rattle.e_run.specs.Outcome.{BookOutcome, OutcomeAt, NextIs, Begins, IsFront, IsOutcomeOf, RefusedAt, TooWideAt, HasWide, end_line_number, lines_of_book}
 use Rattle.e_run.specs.Outcome as outcome
 use Rattle.e_run.specs.Wrote.{Wrote}
 use Rattle.e_run.specs.LastLines.{head_line, accepted_line, fault_line, read_fault_line, no_memory_line, usage_line}
@@ -47,7 +48,7 @@ pub record IsDerived (known : List TitledStatement) (d : Derived) : Type 0 where
 -- each by those before it
 abbrev pub AllDerived : List TitledStatement → List Derived → Type 0
 AllDerived known [] = Unit {0}
-AllDerived known (d ∷ ds) = IsDerived known d × AllDerived (known_after_theorem known d.theorem) ds
+AllDerived known (d ∷ ds) = IsDerived known d × AllDerived (with_theorem known d.theorem) ds
 
 abbrev pub theorems_of : List Derived → List TheoremView
 theorems_of ds = map (λ d. d.theorem) ds
@@ -64,7 +65,7 @@ block_of known d = spelled known d.theorem d.derivation
 -- the blocks of derivations, one after the other
 abbrev pub blocks_of : List TitledStatement → List Derived → List ℕ
 blocks_of known [] = []
-blocks_of known (d ∷ ds) = block_of known d ++ blocks_of (known_after_theorem known d.theorem) ds
+blocks_of known (d ∷ ds) = block_of known d ++ blocks_of (with_theorem known d.theorem) ds
 
 -- with this known, these bytes are the block of a derivation of the theorem
 pub record HasBlock (known : List TitledStatement) (theorem : TheoremView) (bytes : List ℕ) : Type 0 where

@@ -3,10 +3,11 @@
 use Rattle.std.specs.Prelude.{◌≡◌, ℕ, List, Option}
 use Rattle.e_names.specs.declared.known.Known.{Known}
 use Rattle.e_book.specs.TheoremViews.{TheoremView}
+use Rattle.e_book.specs.Grammar.{Rest}
 use Rattle.e_literal.specs.declared.object.Term.{Term}
 use Rattle.e_deriv.specs.declared.stop.Wanted.{Wanted}
 use Rattle.e_deriv.specs.declared.names.Names.{Names}
-use Rattle.e_run.specs.Outcome.{Rest, BookOutcome, Unlicensed, Begins, IsOutcome, IsOutcomeOf, HasWide}
+use Rattle.e_run.specs.Outcome.{BookOutcome, Unlicensed, Begins, IsOutcome, IsOutcomeOf, HasWide}
 use Rattle.e_run.specs.Answers.{Refuses, Widens}
 
 -- where the next theorem is refused, the book's outcome is that stop

@@ -1,8 +1,7 @@
 -- The outcome of a book: its theorems and definitions are taken one after another, up to the first
 -- fault or the first unlicensed line.
 use Rattle.std.specs.Prelude.{◌≡◌, ℕ, ◌+◌, ◌-◌, slice_get, List, [], ◌∷◌, ◌++◌, length, Option, Some, None, Result, Ok, Err}
-use Rattle.e_text.specs.Lines.{LineView, lines_of}
-use Rattle.e_text.specs.declared.line.LineFault.{LineFault}
+use Rattle.e_text.specs.Lines.{lines_of}
 use Rattle.e_theorem.specs.Statements.{stated}
 use Rattle.e_deriv.specs.declared.stop.Wanted.{Wanted}
 use Rattle.e_deriv.specs.declared.names.Names.{Names}
@@ -13,20 +12,14 @@ use Rattle.e_deriv.specs.Naming.{names_lines, declared_names}
 use Rattle.e_deriv.specs.Licensed.{AllLicensed, IsContext, IsFirstUnlicensed}
 use Rattle.e_deriv.specs.Refused.{IsRefused, IsWideLine, IsTooWideAt}
 use Rattle.e_line.specs.declared.fault.BookFault.{BookFault}
-use Rattle.e_names.specs.TitledStatements.{TitledStatement, headed, stated_by}
+use Rattle.e_names.specs.TitledStatements.{TitledStatement, stated_by}
 use Rattle.e_book.specs.TheoremViews.{TheoremView}
 use Rattle.e_names.specs.declared.known.Known.{Known}
 use Rattle.e_names.specs.Taken.{nothing_known}
 use Rattle.e_names.specs.Titled.{Titled}
 use Rattle.e_book.specs.Definitions.{OfTheorem, OfNotion, item_from}
-
--- the remaining lines, cut off after the first that has a fault
-abbrev pub Rest : Type 0
-Rest = List (Result LineView LineFault)
-
--- after a theorem it is known
-abbrev pub known_after_theorem : List TitledStatement → TheoremView → List TitledStatement
-known_after_theorem known t = known ++ headed t.title t.statement ∷ []
+use Rattle.e_book.specs.Grammar.{Rest}
+use Rattle.e_judgement.specs.Judged.{with_theorem}
 
 -- with this known, each line of the theorem's script is licensed, with its blanks filled
 pub record IsLicensed (known : List TitledStatement) (t : TheoremView) : Type 0 where
@@ -35,7 +28,7 @@ pub record IsLicensed (known : List TitledStatement) (t : TheoremView) : Type 0 
 
 -- after a theorem, and after a definition, this is known
 abbrev pub and_theorem : Known → TheoremView → Known
-and_theorem known t = record known { theorems = known_after_theorem known.theorems t }
+and_theorem known t = record known { theorems = with_theorem known.theorems t }
 
 abbrev pub and_notion : Known → Titled → Known
 and_notion known n = record known { notions = known.notions ++ n ∷ [] }

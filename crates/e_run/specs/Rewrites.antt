@@ -6,13 +6,14 @@ use Rattle.e_clause.specs.declared.cert.Version.TheVariants.{One, Two}
 use Rattle.e_theorem.specs.Statements.{stated}
 use Rattle.e_names.specs.TitledStatements.{TitledStatement, stated_by, title_at}
 use Rattle.e_book.specs.TheoremViews.{TheoremView}
+use Rattle.e_book.specs.Grammar.{Rest}
 use Rattle.e_spell.specs.Spelling.{spelled}
 use Rattle.e_verify.specs.Numbered.{derivation_with_places}
 use Rattle.e_trim.specs.Trimmed.{trimmed}
 use Rattle.e_trim.specs.Applied.{applied_by}
 use Rattle.e_judgement.specs.declared.judgement.Judgement.{Judgement}
 use Rattle.e_judgement.specs.declared.judgement.Judgement.TheVariants as judgements
-use Rattle.e_judgement.specs.Judged.{Rest, with_theorem, Passes, Closes, version_of, JudgedAfterHead, lines_of_text}
+use Rattle.e_judgement.specs.Judged.{with_theorem, Passes, Closes, version_of, JudgedAfterHead, lines_of_text}
 use Rattle.e_run.specs.declared.command.Job.{Job}
 use Rattle.e_run.specs.declared.command.Job.TheVariants.{Upgrade, Trim, Uses}
 use Rattle.e_run.specs.declared.status.Status.{Status}

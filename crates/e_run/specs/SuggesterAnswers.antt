@@ -22,11 +22,12 @@ use Rattle.e_names.specs.declared.known.Known.{Known}
 use Rattle.e_book.specs.Definitions.{item_from}
 use Rattle.e_names.specs.Canonical.{name_of_object}
 use Rattle.e_book.specs.Canonical.{text_of}
+use Rattle.e_book.specs.Grammar.{Rest}
 use Rattle.e_spell.specs.Spelling.{unlicensed_text, too_wide_text}
 use Rattle.e_suggest.specs.Suggestions.{AreFirstChoices, SomeArgsAreTooWide}
 use Rattle.e_run.specs.declared.status.Status.{Status}
 use Rattle.e_run.specs.declared.status.Status.TheVariants as status
-use Rattle.e_run.specs.Outcome.{Rest, NextIs, Begins, StopsAt, RefusedAt, TooWideAt, end_line_number, lines_of_book}
+use Rattle.e_run.specs.Outcome.{NextIs, Begins, StopsAt, RefusedAt, TooWideAt, end_line_number, lines_of_book}
 use Rattle.e_run.specs.LastLines.{fault_line, suggested_line, no_step_line, read_fault_line, no_memory_line}
 use Rattle.e_run.specs.Wrote.{Wrote}
 use Rattle.e_run.specs.Answers.{IsAllOf}

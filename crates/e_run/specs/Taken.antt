@@ -4,8 +4,9 @@ use Rattle.e_io.specs.Bytes.{Grew}
 use Rattle.e_text.specs.Lines.{IsClosed, IsOpen}
 use Rattle.e_names.specs.declared.known.Known.{Known}
 use Rattle.e_book.specs.Definitions.{BookItem, item_from}
+use Rattle.e_book.specs.Grammar.{Rest}
 use Rattle.e_run.specs.LastLines.{read_fault_line}
-use Rattle.e_run.specs.Outcome.{Rest, Begins, end_line_number, lines_of_book}
+use Rattle.e_run.specs.Outcome.{Begins, end_line_number, lines_of_book}
 use Rattle.e_run.specs.Answers.{Derived, AllDerived, theorems_of, written_with}
 
 -- where a source exposes its bytes, this holds of those that were taken of it

@@ -11,8 +11,9 @@ use Rattle.e_run.specs.declared.status.Status.{Status}
 use Rattle.e_run.specs.declared.status.Status.TheVariants as status
 use Rattle.e_run.specs.LastLines.{tried_line, fault_line, accepted_line, no_memory_line}
 use Rattle.e_run.specs.Wrote.{Wrote}
-use Rattle.e_run.specs.Outcome.{Rest, BookOutcome, Begins, IsOutcomeOf, lines_of_book, Accepted as AcceptedBook, Faulty as FaultyBook}
+use Rattle.e_run.specs.Outcome.{BookOutcome, Begins, IsOutcomeOf, lines_of_book, Accepted as AcceptedBook, Faulty as FaultyBook}
 use Rattle.e_run.specs.Answers.{Derived, AllDerived, OutputUpTo, OutcomeAfter, Refuses, Widens, IsAnswer, theorems_of, steps_of}
+use Rattle.e_book.specs.Grammar.{Rest}
 
 -- a book of these lines is accepted with these numbers of theorems and steps, and then `check`
 -- writes this

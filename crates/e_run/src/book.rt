@@ -3,12 +3,12 @@
 ghost use Rattle.std.specs.Prelude.{◌≡◌, ◌≤◌, ◌<◌, ◌^◌, ◌++◌, ℕ, List, [], Option};
 ghost use Rattle.std.specs.Prelude.{Some, None, Ok, false, IfOk, IfNone, IsErrOf};
 ghost use Rattle.e_io.specs.Bytes.{Rose};
-ghost use Rattle.e_book.specs.Grammar.{last_line};
+ghost use Rattle.e_book.specs.Grammar.{last_line, Rest};
 ghost use Rattle.e_names.specs.Titled.{defines};
 ghost use Rattle.e_book.specs.Definitions.{OfTheorem, view_of, item_from, HasWellFormedView};
 ghost use Rattle.e_book.specs.TheoremViews.{entry_of};
 ghost use Rattle.e_book.specs.HasSpelling.{HasSpelling};
-ghost use Rattle.e_run.specs.Outcome.{Rest, end_line_number};
+ghost use Rattle.e_run.specs.Outcome.{end_line_number};
 ghost use Rattle.e_run.specs.inner.BookResults.{BlocksAre};
 ghost use Rattle.e_run.specs.inner.Progress.{History, IsBook, Reaches, Handles};
 ghost use Rattle.e_run.specs.inner.Progress.{BookTakes, AreTaken, first_book, result_at};

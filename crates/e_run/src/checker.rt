@@ -4,10 +4,10 @@ ghost use Rattle.e_io.specs.Bytes.{Rose, Grew};
 ghost use Rattle.e_run.specs.Answers.{Checks, ChecksBook, IsWriteFault, IsReadFault, IsAccepted};
 ghost use Rattle.e_run.specs.Input.{IsAtEnd};
 ghost use Rattle.e_run.specs.LastLines.{head_line};
-ghost use Rattle.e_run.specs.Outcome.{Rest};
 ghost use Rattle.e_run.specs.inner.BookResults.{ClosesWith, BookResultIs, IsAll};
 ghost use Rattle.e_run.specs.inner.BookResults.{HasLastLines, last_lines, answer_of};
 ghost use Rattle.e_run.specs.Taken.{TookFew, HandledAll};
+ghost use Rattle.e_book.specs.Grammar.{Rest};
 
 use crate::blocks::{BookResult, RunError};
 use crate::output::{accepted, fault};

@@ -9,6 +9,7 @@ use Rattle.e_deriv.specs.Lines.{Line, first_failure}
 use Rattle.e_deriv.specs.Certified.{is_certified, derivation_lines, verdict}
 use Rattle.e_names.specs.TitledStatements.{TitledStatement, headed, stated_by}
 use Rattle.e_book.specs.TheoremViews.{TheoremView}
+use Rattle.e_book.specs.Grammar.{Rest}
 use Rattle.e_line.proofs.Bound.{same_bytes}
 use Rattle.e_read.specs.Text.{piece_from, last_line_of}
 use Rattle.e_spell.specs.Spelling.{spelled_lines}
@@ -16,7 +17,7 @@ use Rattle.e_roundtrip.specs.Spelled.{ShowsEnded}
 use Rattle.e_roundtrip.proofs.Texts.SpelledIsRead.{spelled_is_read}
 use Rattle.e_judgement.specs.declared.judgement.Judgement.{Judgement}
 use Rattle.e_judgement.specs.declared.judgement.Judgement.TheVariants.{Verified}
-use Rattle.e_judgement.specs.Judged.{Rest, with_theorem, ReadsNext, Passes, EndsThere, Closes, IsJudged}
+use Rattle.e_judgement.specs.Judged.{with_theorem, ReadsNext, Passes, EndsThere, Closes, IsJudged}
 use Rattle.e_judgement.proofs.OneJudgement.{certified_no_failure}
 use Rattle.e_roundtrip.specs.Written.{AllCanBeSpelled, AllCanBeVerified, judged_after, judgement_of}
 use Rattle.e_roundtrip.proofs.Lengths.BlockRooms.{lines_of_blocks}

@@ -12,6 +12,7 @@ use Rattle.e_line.specs.declared.fault.FaultKind.TheVariants.{Malformed}
 use Rattle.e_line.specs.Reading.{◌>>=◌}
 use Rattle.e_names.specs.TitledStatements.{TitledStatement}
 use Rattle.e_book.specs.TheoremViews.{TheoremView}
+use Rattle.e_book.specs.Grammar.{Rest}
 use Rattle.e_names.specs.Scope.{lit_in}
 use Rattle.e_line.proofs.Bound.{bind_ok}
 use Rattle.e_cert.specs.declared.cert_line.CertLine.{CertLine}
@@ -24,7 +25,6 @@ use Rattle.e_read.specs.Text.{Last, owes_nothing, at_start, is_lf_end, parser_af
 use Rattle.e_read.proofs.Bridge.{Answer, no_last, garbled_ok}
 use Rattle.e_read.proofs.TakenLines.{line_taken, either}
 use Rattle.e_roundtrip.specs.Spelled.{ShowsEnded}
-use Rattle.e_judgement.specs.Judged.{Rest}
 
 -- reading ends with the last line, and these lines are left
 abbrev pub ended : Rest → Result Answer ℕ

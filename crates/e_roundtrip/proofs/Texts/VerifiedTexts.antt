@@ -15,13 +15,14 @@ use Rattle.e_deriv.specs.Script.{Script}
 use Rattle.e_deriv.proofs.Agreement.{proof_of_certified}
 use Rattle.e_names.specs.TitledStatements.{TitledStatement, headed, stated_by}
 use Rattle.e_book.specs.TheoremViews.{TheoremView}
+use Rattle.e_book.specs.Grammar.{Rest}
 use Rattle.e_read.specs.Text.{is_lf_end, last_line_of}
 use Rattle.e_spell.specs.Spelling.{spelled, spelled_lines}
 use Rattle.e_roundtrip.specs.Spelled.{ShowsEnded}
 use Rattle.e_roundtrip.proofs.Texts.ReadIsSpelled.{read_is_spelled_so}
 use Rattle.e_roundtrip.proofs.Texts.ShownText.{read_text_is_spelled}
 use Rattle.e_judgement.specs.declared.judgement.Judgement.TheVariants.{Verified, Bad, Garbled}
-use Rattle.e_judgement.specs.Judged.{Rest, with_theorem, Passes, number_of_line, JudgedAfter, Closes, IsJudged, head_of, is_head, version_of, JudgedAfterHead, JudgesLines, lines_of_text}
+use Rattle.e_judgement.specs.Judged.{with_theorem, Passes, number_of_line, JudgedAfter, Closes, IsJudged, head_of, is_head, version_of, JudgedAfterHead, JudgesLines, lines_of_text}
 use Rattle.e_roundtrip.specs.Written.{AllProved, SpellsProofs, spelled_blocks, version_line, accepted_blocks_line}
 use Rattle.e_roundtrip.specs.Laws.{VerifiedIsWritten}
 use Rattle.e_roundtrip.proofs.Texts.WrittenIsVerified.{last_is_line}

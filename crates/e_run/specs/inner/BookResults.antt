@@ -14,9 +14,10 @@ use Rattle.e_run.specs.declared.status.Status.{Status}
 use Rattle.e_run.specs.declared.status.Status.TheVariants as status
 use Rattle.e_run.specs.LastLines.{accepted_line, fault_line}
 use Rattle.e_names.specs.declared.known.Known.{Known}
-use Rattle.e_run.specs.Outcome.{Rest, Begins, IsFront}
+use Rattle.e_run.specs.Outcome.{Begins, IsFront}
 use Rattle.e_run.specs.Outcome as outcome
 use Rattle.e_run.specs.Answers.{Derived, AllDerived, OutcomeAfter, Refuses, Widens, theorems_of, steps_of, blocks_of}
+use Rattle.e_book.specs.Grammar.{Rest}
 
 -- the blocks of these theorems with their derivations were written, and this holds after them
 pub record BlocksUpTo (lines : Rest) (old new : Option (List ℕ)) (Holds : Known → Rest → Type 0) : Type 0 where

@@ -4,10 +4,11 @@ use Rattle.e_io.specs.Bytes.{Grew}
 use Rattle.e_names.specs.declared.known.Known.{Known}
 use Rattle.e_run.specs.declared.blocks.BookResult.{BookResult}
 use Rattle.e_run.specs.declared.blocks.RunError.{RunError}
-use Rattle.e_run.specs.Outcome.{Rest, Begins, end_line_number, lines_of_book}
+use Rattle.e_run.specs.Outcome.{Begins, end_line_number, lines_of_book}
 use Rattle.e_run.specs.Answers.{Derived, AllDerived, theorems_of, blocks_of, IsAllOf}
 use Rattle.e_run.specs.inner.BookResults.{SourceResultIs}
 use Rattle.e_run.specs.Taken.{Taken, HaveNone, OfWholeLines}
+use Rattle.e_book.specs.Grammar.{Rest}
 
 -- the blocks of all theorems that these lines have were written, each with a derivation from those
 -- before it

@@ -10,14 +10,14 @@ use Rattle.e_line.specs.declared.fault.BookFault.TheVariants.{Unended}
 use Rattle.e_names.specs.TitledStatements.{stated_by}
 use Rattle.e_names.specs.Taken.{nothing_known}
 use Rattle.e_names.specs.Titled.{are_notions}
-use Rattle.e_book.specs.Grammar.{last_line}
+use Rattle.e_book.specs.Grammar.{last_line, Rest}
 use Rattle.e_book.specs.inner.Machine.{FitsComing, item_from, IsBegun}
 use Rattle.e_run.specs.declared.book.Book.{Book}
 use Rattle.e_run.specs.declared.pieces.Untaken.{Untaken}
 use Rattle.e_run.specs.declared.blocks.BookResult.{BookResult}
 use Rattle.e_run.specs.declared.blocks.BookResult.TheVariants.{All, Faulty}
 use Rattle.e_run.specs.declared.blocks.RunError.{RunError}
-use Rattle.e_run.specs.Outcome.{Rest, Begins, lines_of_book}
+use Rattle.e_run.specs.Outcome.{Begins, lines_of_book}
 use Rattle.e_run.specs.Answers.{Derived, AllDerived, theorems_of, steps_of, blocks_of}
 use Rattle.e_run.specs.inner.BookResults.{BookResultIs, BlocksAre}
 

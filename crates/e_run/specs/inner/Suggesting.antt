@@ -16,6 +16,7 @@ use Rattle.e_names.specs.declared.known.Known.{Known}
 use Rattle.e_names.specs.Titled.{are_notions}
 use Rattle.e_book.specs.Definitions.{BookItem, OfTheorem, item_from}
 use Rattle.e_book.specs.Canonical.{text_of}
+use Rattle.e_book.specs.Grammar.{Rest}
 use Rattle.e_spell.specs.Spelling.{too_wide_text, stop_text, IsStop}
 use Rattle.e_suggest.specs.Suggestions.{SomeArgsAreTooWide}
 use Rattle.e_run.specs.declared.status.Status.{Status}
@@ -25,7 +26,7 @@ use Rattle.e_run.specs.declared.suggestions.Listed.{Listed}
 use Rattle.e_run.specs.declared.suggestions.Listed.TheVariants as listed
 use Rattle.e_run.specs.Answers.{IsReadFault}
 use Rattle.e_run.specs.LastLines.{suggested_line}
-use Rattle.e_run.specs.Outcome.{Rest, Begins, end_line_number}
+use Rattle.e_run.specs.Outcome.{Begins, end_line_number}
 use Rattle.e_run.specs.SuggesterAnswers.{Lists, SuggestAnswer}
 use Rattle.e_run.specs.inner.BookResults.{stop_answer}
 

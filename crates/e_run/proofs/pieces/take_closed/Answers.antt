@@ -1,12 +1,13 @@
 use Rattle.std.proofs.Common.{◌++◌, Option, Ok, Err, subst, arith}
 use Rattle.std.proofs.lemmas.Result.{err_from_is_err_and}
 use Rattle.e_run.specs.declared.blocks.BookResult.{BookResult}
-use Rattle.e_run.specs.Outcome.{Rest, lines_of_book}
+use Rattle.e_run.specs.Outcome.{lines_of_book}
 use Rattle.e_run.specs.inner.BookResults.{BookResultIs, BlocksAre}
 use Rattle.e_run.specs.inner.Progress.{BookTakes}
 use Rattle.e_run.proofs.TakenBooks.{reaches_remaining}
 use Rattle.e_run.proofs.ReadPieces.{read_taken, whatever_comes}
 use Rattle.e_run.proofs.pieces.take_closed.Goals as goal
+use Rattle.e_book.specs.Grammar.{Rest}
 
 pub take-requires-clause-lines : goal.take-requires-clause-lines
 take-requires-clause-lines g c = omega (arith, c.requires.line, c.requires.few, c.lines-lines.ensures.line, c.lines-lines.ensures.count)

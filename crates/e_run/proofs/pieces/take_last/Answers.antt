@@ -1,9 +1,10 @@
 use Rattle.std.proofs.Common.{◌++◌, subst, arith}
-use Rattle.e_run.specs.Outcome.{Rest, lines_of_book}
+use Rattle.e_run.specs.Outcome.{lines_of_book}
 use Rattle.e_run.specs.inner.BookResults.{BlocksAre}
 use Rattle.e_run.proofs.TakenBooks.{reaches_remaining}
 use Rattle.e_run.proofs.ReadPieces.{lines_are, number_is}
 use Rattle.e_run.proofs.pieces.take_last.Goals as goal
+use Rattle.e_book.specs.Grammar.{Rest}
 
 pub take_all-requires-clause-lines : goal.take_all-requires-clause-lines
 take_all-requires-clause-lines g c = omega (arith, c.requires.line, c.requires.few, c.lines-lines.ensures.line, c.lines-lines.ensures.count)

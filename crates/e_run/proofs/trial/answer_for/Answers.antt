@@ -4,10 +4,11 @@ use Rattle.e_text.specs.Lines.{Ahead}
 use Rattle.e_text.proofs.WholeLines.{length-lines_of}
 use Rattle.e_generate.specs.Generated.{generated_text}
 use Rattle.e_run.specs.Input.{IsTextOf}
-use Rattle.e_run.specs.Outcome.{Rest, lines_of_book}
+use Rattle.e_run.specs.Outcome.{lines_of_book}
 use Rattle.e_run.specs.Trials.{TrialAnswer}
 use Rattle.e_run.proofs.Trials.{book_lines}
 use Rattle.e_run.proofs.trial.answer_for.Goals as goal
+use Rattle.e_book.specs.Grammar.{Rest}
 
 pub answer_to-requires-clause-few : goal.answer_to-requires-clause-few
 answer_to-requires-clause-few c =

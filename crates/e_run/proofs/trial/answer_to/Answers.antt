@@ -5,11 +5,11 @@ use Rattle.e_run.specs.declared.blocks.BookResult.{BookResult}
 use Rattle.e_run.specs.declared.status.Status.TheVariants as status
 use Rattle.e_run.specs.declared.trial.Answer.{Answer}
 use Rattle.e_run.specs.LastLines.{head_line, tried_line}
-use Rattle.e_run.specs.Outcome.{Rest}
 use Rattle.e_run.specs.inner.BookResults.{BookResultIs, last_lines}
 use Rattle.e_run.specs.Trials.{IsTrial, TrialAnswer}
 use Rattle.e_run.proofs.Trials.{is_other, result_answered, accepted_tried, accepted_verified, tried_answered}
 use Rattle.e_run.proofs.trial.answer_to.Goals as goal
+use Rattle.e_book.specs.Grammar.{Rest}
 
 answered_if : {E : Type 0} → (lines : Rest) (n s : ℕ) (r : Result Answer E) → IsTrial lines n s
     → IfOk r (λ a. (a.status ≡ status.Tried n s) × (a.line.items ≡ tried_line n s)) → IfOk r (λ a. TrialAnswer lines a.status a.line.items)

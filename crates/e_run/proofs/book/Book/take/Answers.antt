@@ -1,10 +1,10 @@
 use Rattle.std.proofs.Common.{◌++◌, ℕ, List, Option, Ok, refl, ap, subst, ◌∙◌, arith, length}
 use Rattle.std.proofs.lemmas.Result.{err_from_is_err_and}
 use Rattle.e_run.specs.declared.blocks.BookResult.{BookResult}
-use Rattle.e_run.specs.Outcome.{Rest}
 use Rattle.e_run.specs.inner.Progress.{Reaches, Handles}
 use Rattle.e_run.proofs.TakenBooks.{book_with, next_is, next_reaches, all_reached, faulty_here, fault_none, fault_unwritten}
 use Rattle.e_run.proofs.book.Book.take.Goals as goal
+use Rattle.e_book.specs.Grammar.{Rest}
 
 pub loop-item-init : goal.loop-item-init
 loop-item-init g c = record { book = c.requires.book; reaches = λ all before h. h; good = λ h. h; last = refl; rises = omega arith }

@@ -1,7 +1,6 @@
 use Rattle.std.proofs.Common.{◌≡◌, ◌≤◌, ◌++◌, ℕ, List, Option, length}
 use Rattle.e_text.specs.Lines.{HaveNoFault}
-use Rattle.e_book.specs.Grammar.{last_line}
-use Rattle.e_run.specs.Outcome.{Rest}
+use Rattle.e_book.specs.Grammar.{last_line, Rest}
 use Rattle.e_run.specs.inner.Progress.{IsBook, Reaches}
 use Rattle.e_run.proofs.book.Book.take.Given as goal
 
