@@ -16,9 +16,9 @@ loop-i-preserved c =
     let m = simp to_z-of_z at c.multiplier.ensures in
     let v = simp to_z-of_z at c.loop-i.invariant.value in
     let h = c.weight_at-weight.ensures in
-    let row = c.loop-i-item.result in
+    let row = c.index-rows-i.result in
     let is_not : c.is_kept-is_not.result ≡ keeps true (seen (get_or c.args.rows.now c.loop-i.i row)).says
-    = c.is_kept-is_not.ensures ∙ ap (λ r. keeps true (says_of r.kind)) c.loop-i-item.is in
+    = c.is_kept-is_not.ensures ∙ ap (λ r. keeps true (says_of r.kind)) c.index-rows-i.is in
     simp to_z-of_z (record {
       value = row_multipliers_more c.args.rows.now c.loop-i.i row c.args.weights.now c.args.tried (c.loop-i.i - c.loop-i.seen) c.loop-i.seen c.args.last c.multiplier.result
           c.loop-i.all.items c.push.new.self.items c.loop-i-test.true (omega (arith, c.loop-i.invariant.most)) c.loop-i.invariant.count

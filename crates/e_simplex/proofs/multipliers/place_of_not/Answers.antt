@@ -7,16 +7,16 @@ use Rattle.e_simplex.proofs.multipliers.place_of_not.Goals as goal
 
 pub returns-then-seen-k-clause-is_not : goal.returns-then-seen-k-clause-is_not
 returns-then-seen-k-clause-is_not c =
-    let is_not = c.is_kept-is_not.ensures ∙ ap (λ r. keeps true (says_of r.kind)) c.loop-i-item.is in
-    is_not_at c.args.rows.now c.loop-i.i c.loop-i-item.result c.loop-i-test.true (sym is_not ∙ c.if-is_not.true)
+    let is_not = c.is_kept-is_not.ensures ∙ ap (λ r. keeps true (says_of r.kind)) c.index-rows-i.is in
+    is_not_at c.args.rows.now c.loop-i.i c.index-rows-i.result c.loop-i-test.true (sym is_not ∙ c.if-is_not.true)
 
 pub loop-i-preserved : goal.loop-i-preserved
 loop-i-preserved c =
-    let is_not : c.is_kept-is_not.result ≡ keeps true (seen (get_or c.args.rows.now c.loop-i.i c.loop-i-item.result)).says
-    = c.is_kept-is_not.ensures ∙ ap (λ r. keeps true (says_of r.kind)) c.loop-i-item.is in
+    let is_not : c.is_kept-is_not.result ≡ keeps true (seen (get_or c.args.rows.now c.loop-i.i c.index-rows-i.result)).says
+    = c.is_kept-is_not.ensures ∙ ap (λ r. keeps true (says_of r.kind)) c.index-rows-i.is in
     record {
       count = c.counted-seen.ensures ∙ ap (λ b. cond b (suc c.loop-i.seen) c.loop-i.seen) is_not
-          ∙ nots_more c.args.rows.now c.loop-i.i c.loop-i-item.result c.loop-i.seen c.loop-i-test.true c.loop-i.invariant.count;
+          ∙ nots_more c.args.rows.now c.loop-i.i c.index-rows-i.result c.loop-i.seen c.loop-i-test.true c.loop-i.invariant.count;
       most = omega (arith, c.counted-seen.ensures, count_most c.is_kept-is_not.result c.loop-i.seen c.loop-i.i c.loop-i.invariant.most);
       before = elim c.else-is_not.branch [
         | else-is_not-via-then-is_not+else-seen-k w ↦ omega (arith, c.counted-seen.ensures, ap (λ b. cond b (suc c.loop-i.seen) c.loop-i.seen) w.if-is_not.true, w.if-seen-k.false, c.loop-i.invariant.before)
