@@ -121,7 +121,7 @@ def rules_of(top):
     rules = []
     for table in TABLES:
         text = read(top / f"crates/e_clause/specs/Table/{table}.antt")
-        for row in re.findall(r"row \(codes .*", text):
+        for row in re.findall(r"row \(codes .*(?:\n {8}.*)*", text):
             _, name, *numbers, premises, conclusions = parsed_all(row)[:7]
             rules.append((name[1].strip('"'), [int(n) for n in numbers], literals_of(premises), literals_of(conclusions)))
     return rules
@@ -131,7 +131,7 @@ def shapes_of(top):
     """Each construction of the definitions: its name, its needs, and what it gives."""
     text = read(top / "crates/e_construct/specs/Shapes.antt")
     shapes = []
-    for name, row in re.findall(r"^shape_row (\w+) =\s+shape (.*(?:\n    .*)?)", text, re.M):
+    for name, row in re.findall(r"^shape_row (\w+) =\s+shape (.*(?:\n    .*)*)", text, re.M):
         _, needs, _, gives, *_ = parsed_all(row)
         shapes.append((name, literals_of(needs), literals_of(gives)))
     return shapes

@@ -1,5 +1,6 @@
 -- The blocks of a proof that are open while its lines come.
-use Rattle.std.specs.Prelude.{◌≡◌, Bool, true, false, List, [], ◌∷◌, Option, Some, None, if◌then◌else◌}
+use Rattle.std.specs.Prelude.{◌≡◌, Bool, true, false, List, [], ◌∷◌, Option, Some, None}
+use Rattle.std.specs.Prelude.{if◌then◌else◌}
 use Rattle.std.specs.List.{list_any}
 use Rattle.e_literal.specs.declared.object.Sort.{Sort}
 use Rattle.e_book.specs.declared.blocks.OpenBlock.{OpenBlock}

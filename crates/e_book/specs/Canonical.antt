@@ -11,12 +11,15 @@ use Rattle.e_theorem.specs.declared.statement.Statement.{Statement}
 use Rattle.e_theorem.specs.Statements.{stated}
 use Rattle.e_deriv.specs.declared.names.Names.{Names}
 use Rattle.e_deriv.specs.Naming.{named, declared_names}
-use Rattle.e_deriv.specs.Script.{Script, Cite, Hence, Make, Apply, Claim, Superposed, Qed, Contradiction, Cases}
+use Rattle.e_deriv.specs.Script.{Script, Cite, Hence, Make, Apply, Claim, Superposed, Qed}
+use Rattle.e_deriv.specs.Script.{Contradiction, Cases}
 use Rattle.e_line.specs.declared.raw_line.RawLine.{RawLine}
 use Rattle.e_line.specs.declared.raw_line.RawLine.TheVariants as rawlines
 use Rattle.e_names.specs.TitledStatements.{TitledStatement, theorem_of}
 use Rattle.e_book.specs.TheoremViews.{TheoremView}
-use Rattle.e_names.specs.Canonical.{name_of_object, given_form, show_form, by_form, hence_form, let_form, apply_form, claim_form, superpose_form, cases_form, else_form, qed_form, contradiction_form, end_form}
+use Rattle.e_names.specs.Canonical.{name_of_object, given_form, show_form, by_form, hence_form}
+use Rattle.e_names.specs.Canonical.{let_form, apply_form, claim_form, superpose_form, cases_form}
+use Rattle.e_names.specs.Canonical.{else_form, qed_form, contradiction_form, end_form}
 
 -- ---- literals
 
@@ -31,7 +34,9 @@ group sort names = record { sort = sort; names = names }
 -- one more object before the groups of the next ones: in the first group where it is of that sort
 abbrev pub grouped_before : Sort → List ℕ → List Group → List Group
 grouped_before sort name [] = group sort (name ∷ []) ∷ []
-grouped_before sort name (g ∷ gs) = if same_sort sort g.sort then group g.sort (name ∷ g.names) ∷ gs else group sort (name ∷ []) ∷ g ∷ gs
+grouped_before sort name (g ∷ gs) =
+    if same_sort sort g.sort then group g.sort (name ∷ g.names) ∷ gs else
+    group sort (name ∷ []) ∷ g ∷ gs
 
 -- objects in order, neighbours of one sort in one group
 abbrev pub grouped : Names → List Obj → List Group
@@ -62,7 +67,9 @@ shown_forms ns t = map made_form (grouped ns (made_objects t)) ++ map (show_form
 
 -- from the title to the word proof
 abbrev pub head_forms : TheoremView → List RawLine
-head_forms t = rawlines.Theorem t.title ∷ (given_forms t.names t.statement ++ (shown_forms t.names t.statement ++ rawlines.Proof ∷ []))
+head_forms t =
+    rawlines.Theorem t.title
+    ∷ (given_forms t.names t.statement ++ (shown_forms t.names t.statement ++ rawlines.Proof ∷ []))
 
 -- the forms of a script's lines, where these names are in scope before the first: those of new
 -- objects come into scope after the line that makes them, and those of an inner block are gone
@@ -70,15 +77,20 @@ head_forms t = rawlines.Theorem t.title ∷ (given_forms t.names t.statement ++ 
 unfoldable pub script_forms : List TitledStatement → Names → Script → List RawLine
 script_forms known ns (Cite by rest) = by_form ns by ∷ script_forms known ns rest
 script_forms known ns (Hence lit cert rest) = hence_form ns lit ∷ script_forms known ns rest
-script_forms known ns (Make form names certs rest) = let_form ns form names ∷ script_forms known (named ns (sorts_made form) names) rest
+script_forms known ns (Make form names certs rest) =
+    let_form ns form names ∷ script_forms known (named ns (sorts_made form) names) rest
 script_forms known ns (Apply theorem args names certs rest) =
-    apply_form known ns theorem args names ∷ script_forms known (named ns (theorem_of known theorem).made names) rest
-script_forms known ns (Claim shown inner rest) = claim_form ns shown ∷ (script_forms known ns inner ++ script_forms known ns rest)
+    apply_form known ns theorem args names
+    ∷ script_forms known (named ns (theorem_of known theorem).made names) rest
+script_forms known ns (Claim shown inner rest) =
+    claim_form ns shown ∷ (script_forms known ns inner ++ script_forms known ns rest)
 script_forms known ns (Superposed form names shown certs inner rest) =
-    superpose_form ns form names shown ∷ (script_forms known (named ns superposing.sorts_copied names) inner ++ script_forms known ns rest)
+    superpose_form ns form names shown ∷ (script_forms known
+        (named ns superposing.sorts_copied names) inner ++ script_forms known ns rest)
 script_forms known ns (Qed objects certs) = qed_form ns objects ∷ []
 script_forms known ns (Contradiction against) = contradiction_form ∷ []
-script_forms known ns (Cases lit first second) = cases_form ns lit ∷ (script_forms known ns first ++ else_form ∷ script_forms known ns second)
+script_forms known ns (Cases lit first second) =
+    cases_form ns lit ∷ (script_forms known ns first ++ else_form ∷ script_forms known ns second)
 
 -- the names that a theorem's proof begins with: those of the declared objects
 abbrev pub names_of_proof : TheoremView → Names

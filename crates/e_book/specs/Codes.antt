@@ -17,8 +17,10 @@ use Rattle.e_clause.specs.declared.cert.By.{By}
 use Rattle.e_clause.specs.contracts.cert.By as citation
 use Rattle.e_clause.specs.declared.cert.Cert.{Cert}
 use Rattle.e_clause.specs.contracts.cert.Cert as certificate
-use Rattle.e_deriv.specs.Script.{Script, Cite, Hence, Make, Apply, Claim, Superposed, Qed, Contradiction, Cases}
-use Rattle.e_deriv.specs.PlainStep.{PlainStep, Cited, Inferred, Made, Applied, Claimed, Copied, before}
+use Rattle.e_deriv.specs.Script.{Script, Cite, Hence, Make, Apply, Claim, Superposed, Qed}
+use Rattle.e_deriv.specs.Script.{Contradiction, Cases}
+use Rattle.e_deriv.specs.PlainStep.{PlainStep, Cited, Inferred, Made, Applied, Claimed, Copied}
+use Rattle.e_deriv.specs.PlainStep.{before}
 
 -- names, and certificates
 abbrev pub Named : Type 0
@@ -26,7 +28,9 @@ Named = List (List ℕ) × List Cert
 
 -- what a line says: a step, or a close
 abbrev pub StepLine : Type 0
-StepLine = (By ⊎ (Lit × Option Cert)) ⊎ (((Construction × Named) ⊎ (ℕ × (List (Option Obj) × Named))) ⊎ (List Lit ⊎ (Superpose × (List Lit × Named))))
+StepLine =
+    (By ⊎ (Lit × Option Cert)) ⊎ (((Construction × Named) ⊎ (ℕ × (List (Option Obj) × Named)))
+        ⊎ (List Lit ⊎ (Superpose × (List Lit × Named))))
 
 abbrev pub CloseLine : Type 0
 CloseLine = (List Obj × List Cert) ⊎ (Option Against ⊎ Lit)
@@ -38,13 +42,19 @@ CodedLine = StepLine ⊎ CloseLine
 abbrev pub coded_lines : Script → List CodedLine → List CodedLine
 coded_lines (Cite by rest) more = inl (inl (inl by)) ∷ coded_lines rest more
 coded_lines (Hence lit cert rest) more = inl (inl (inr (lit, cert))) ∷ coded_lines rest more
-coded_lines (Make form names certs rest) more = inl (inr (inl (inl (form, (names, certs))))) ∷ coded_lines rest more
-coded_lines (Apply theorem args names certs rest) more = inl (inr (inl (inr (theorem, (args, (names, certs)))))) ∷ coded_lines rest more
-coded_lines (Claim shown inner rest) more = inl (inr (inr (inl shown))) ∷ coded_lines inner (coded_lines rest more)
-coded_lines (Superposed form names shown certs inner rest) more = inl (inr (inr (inr (form, (shown, (names, certs)))))) ∷ coded_lines inner (coded_lines rest more)
+coded_lines (Make form names certs rest) more =
+    inl (inr (inl (inl (form, (names, certs))))) ∷ coded_lines rest more
+coded_lines (Apply theorem args names certs rest) more =
+    inl (inr (inl (inr (theorem, (args, (names, certs)))))) ∷ coded_lines rest more
+coded_lines (Claim shown inner rest) more =
+    inl (inr (inr (inl shown))) ∷ coded_lines inner (coded_lines rest more)
+coded_lines (Superposed form names shown certs inner rest) more =
+    inl (inr (inr (inr (form, (shown, (names, certs))))))
+    ∷ coded_lines inner (coded_lines rest more)
 coded_lines (Qed objects certs) more = inr (inl (objects, certs)) ∷ more
 coded_lines (Contradiction cert) more = inr (inr (inl cert)) ∷ more
-coded_lines (Cases lit first second) more = inr (inr (inr lit)) ∷ coded_lines first (coded_lines second more)
+coded_lines (Cases lit first second) more =
+    inr (inr (inr lit)) ∷ coded_lines first (coded_lines second more)
 
 -- a line before the first of these scripts, or before the first two
 abbrev pub before_one : (Script → Script) → List Script → List Script
@@ -72,19 +82,30 @@ abbrev pub scripts : List CodedLine → List Script
 scripts [] = []
 scripts (l ∷ ls) = put l (scripts ls)
 
-pub scripts-two : (f : Script → Script → Script) (s t : Script) {ss ss' more : List Script} → ss ≡ s ∷ ss' → ss' ≡ t ∷ more → before_two f ss ≡ f s t ∷ more
+pub scripts-two : (f : Script → Script → Script) (s t : Script) {ss ss' more : List Script}
+    → ss ≡ s ∷ ss' → ss' ≡ t ∷ more → before_two f ss ≡ f s t ∷ more
 scripts-two f s t e e' = ap (before_two f) (e ∙ ap (λ ss. s ∷ ss) e')
 
-pub scripts-lines : (s : Script) (more : List CodedLine) → scripts (coded_lines s more) ≡ s ∷ scripts more
+pub scripts-lines : (s : Script) (more : List CodedLine)
+    → scripts (coded_lines s more) ≡ s ∷ scripts more
 scripts-lines (Cite by rest) more = ap (before_one (Cite by)) (scripts-lines rest more)
-scripts-lines (Hence lit cert rest) more = ap (before_one (Hence lit cert)) (scripts-lines rest more)
-scripts-lines (Make form names certs rest) more = ap (before_one (Make form names certs)) (scripts-lines rest more)
-scripts-lines (Apply theorem args names certs rest) more = ap (before_one (Apply theorem args names certs)) (scripts-lines rest more)
-scripts-lines (Claim shown inner rest) more = scripts-two (Claim shown) inner rest (scripts-lines inner (coded_lines rest more)) (scripts-lines rest more)
-scripts-lines (Superposed form names shown certs inner rest) more = scripts-two (Superposed form names shown certs) inner rest (scripts-lines inner (coded_lines rest more)) (scripts-lines rest more)
+scripts-lines (Hence lit cert rest) more =
+    ap (before_one (Hence lit cert)) (scripts-lines rest more)
+scripts-lines (Make form names certs rest) more =
+    ap (before_one (Make form names certs)) (scripts-lines rest more)
+scripts-lines (Apply theorem args names certs rest) more =
+    ap (before_one (Apply theorem args names certs)) (scripts-lines rest more)
+scripts-lines (Claim shown inner rest) more =
+    scripts-two (Claim shown) inner rest (scripts-lines inner (coded_lines rest more))
+        (scripts-lines rest more)
+scripts-lines (Superposed form names shown certs inner rest) more =
+    scripts-two (Superposed form names shown certs) inner rest
+        (scripts-lines inner (coded_lines rest more)) (scripts-lines rest more)
 scripts-lines (Qed objects certs) more = refl
 scripts-lines (Contradiction cert) more = refl
-scripts-lines (Cases lit first second) more = scripts-two (Cases lit) first second (scripts-lines first (coded_lines second more)) (scripts-lines second more)
+scripts-lines (Cases lit first second) more =
+    scripts-two (Cases lit) first second (scripts-lines first (coded_lines second more))
+        (scripts-lines second more)
 
 abbrev pub first_script : List Script → Script
 first_script [] = Contradiction None
@@ -95,9 +116,12 @@ named_code = coded× (coded_list (coded_list coded_ℕ)) (coded_list certificate
 
 abbrev pub step_line_code : Coded StepLine
 step_line_code =
-    coded⊎ (coded⊎ citation.the_row.coded (coded× literal.the_row.coded (coded_option certificate.the_row.coded)))
-    (coded⊎ (coded⊎ (coded× construction.the_row.coded named_code) (coded× coded_ℕ (coded× (coded_list (coded_option object.the_row.coded)) named_code)))
-    (coded⊎ (coded_list literal.the_row.coded) (coded× superposition.the_row.coded (coded× (coded_list literal.the_row.coded) named_code))))
+    coded⊎ (coded⊎ citation.the_row.coded
+        (coded× literal.the_row.coded (coded_option certificate.the_row.coded)))
+    (coded⊎ (coded⊎ (coded× construction.the_row.coded named_code)
+        (coded× coded_ℕ (coded× (coded_list (coded_option object.the_row.coded)) named_code)))
+    (coded⊎ (coded_list literal.the_row.coded) (coded× superposition.the_row.coded
+        (coded× (coded_list literal.the_row.coded) named_code))))
 
 abbrev pub close_line_code : Coded CloseLine
 close_line_code =
@@ -106,7 +130,8 @@ close_line_code =
 
 abbrev pub script_code : Coded Script
 script_code =
-    code_by (List CodedLine) (coded_list (coded⊎ step_line_code close_line_code)) (λ s. coded_lines s []) (λ ls. first_script (scripts ls))
+    code_by (List CodedLine) (coded_list (coded⊎ step_line_code close_line_code))
+    (λ s. coded_lines s []) (λ ls. first_script (scripts ls))
     (λ s. ap first_script (scripts-lines s []))
 
 -- a step is stored as a script that begins with it
@@ -130,4 +155,6 @@ first_step-before (Claimed shown inner) = refl
 first_step-before (Copied form names shown certs inner) = refl
 
 abbrev pub steps_code : Coded (List PlainStep)
-steps_code = coded_list (code_by Script script_code (λ s. before s (Contradiction None)) first_step first_step-before)
+steps_code =
+    coded_list (code_by Script script_code
+        (λ s. before s (Contradiction None)) first_step first_step-before)

@@ -1,5 +1,6 @@
 -- What limits count: functions of the lines so far.
-use Rattle.std.specs.Prelude.{ℕ, ◌+◌, List, [], ◌∷◌, ◌++◌, length, nat_le, Bool, Result, Ok, Err, is_none, filter, if◌then◌else◌}
+use Rattle.std.specs.Prelude.{ℕ, ◌+◌, List, [], ◌∷◌, ◌++◌, length, nat_le, Bool, Result, Ok, Err}
+use Rattle.std.specs.Prelude.{is_none, filter, if◌then◌else◌}
 use Rattle.e_literal.specs.declared.object.Sort.TheVariants as sorts
 use Rattle.e_literal.specs.declared.literal.Lit.{Lit}
 use Rattle.e_literal.specs.declared.object.Scope.{Scope}
@@ -20,16 +21,19 @@ use Rattle.e_line.specs.declared.raw_line.RawLine.{RawLine}
 use Rattle.e_line.specs.declared.raw_line.RawLine.TheVariants as rawlines
 use Rattle.e_names.specs.TitledStatements.{TitledStatement, theorem_of}
 use Rattle.e_names.specs.Scope.{scope_of_names}
-use Rattle.e_line.specs.Limits.{most_of, most_steps, most_depth, most_facts, most_terms, most_blanks, count_monomials}
+use Rattle.e_line.specs.Limits.{most_of, most_steps, most_depth, most_facts, most_terms}
+use Rattle.e_line.specs.Limits.{most_blanks, count_monomials}
 use Rattle.e_line.specs.LineLimits.{are_short, are_small}
-use Rattle.e_book.specs.Open.{Head, Opener, ByClaim, BySuperposition, ByCase, ByElse, Enclosing, Open, Stating, Proving, Splitting, Proved, Ended}
+use Rattle.e_book.specs.Open.{Head, Opener, ByClaim, BySuperposition, ByCase, ByElse, Enclosing}
+use Rattle.e_book.specs.Open.{Open, Stating, Proving, Splitting, Proved, Ended}
 
 -- ---- names and facts on the path to a place
 
 -- the names in scope after a step
 abbrev pub names_after_plain_step : List TitledStatement → Names → PlainStep → Names
 names_after_plain_step known ns (Made form names certs) = named ns (sorts_made form) names
-names_after_plain_step known ns (Applied theorem args names certs) = named ns (theorem_of known theorem).made names
+names_after_plain_step known ns (Applied theorem args names certs) =
+    named ns (theorem_of known theorem).made names
 names_after_plain_step known ns step = ns
 
 -- what a step makes facts. A theorem that is applied gives as many literals as it shows, with as
@@ -48,7 +52,11 @@ pub record LineContext : Type 0 where
   pub facts : List Lit
 
 abbrev pub after_step : List TitledStatement → LineContext → PlainStep → LineContext
-after_step known at step = record { names = names_after_plain_step known at.names step; facts = at.facts ++ given_by known (scope_of_names at.names) step }
+after_step known at step =
+    record {
+      names = names_after_plain_step known at.names step;
+      facts = at.facts ++ given_by known (scope_of_names at.names) step;
+    }
 
 abbrev pub after_steps : List TitledStatement → LineContext → List PlainStep → LineContext
 after_steps known at [] = at
@@ -57,14 +65,20 @@ after_steps known at (s ∷ steps) = after_steps known (after_step known at s) s
 -- where an inner block begins
 abbrev pub context_inside : LineContext → Opener → LineContext
 context_inside at (ByClaim shown) = at
-context_inside at (BySuperposition form names shown) = record { names = named at.names superposing.sorts_copied names; facts = at.facts ++ superposing.gives_of_superposition form (scope_of_names at.names) }
+context_inside at (BySuperposition form names shown) =
+    record {
+      names = named at.names superposing.sorts_copied names;
+      facts = at.facts ++ superposing.gives_of_superposition form (scope_of_names at.names);
+    }
 context_inside at (ByCase lit) = record at { facts = at.facts ++ lit ∷ [] }
 context_inside at (ByElse lit first) = record at { facts = at.facts ++ negation lit ∷ [] }
 
 -- where the block inside these begins
 abbrev pub first_context : List TitledStatement → Head → List Enclosing → LineContext
-first_context known h [] = record { names = declared_names (stated h.statement) h.names; facts = h.statement.given }
-first_context known h (a ∷ around) = context_inside (after_steps known (first_context known h around) a.steps) a.opener
+first_context known h [] =
+    record { names = declared_names (stated h.statement) h.names; facts = h.statement.given }
+first_context known h (a ∷ around) =
+    context_inside (after_steps known (first_context known h around) a.steps) a.opener
 
 -- before the next line
 abbrev pub context_at : List TitledStatement → Open → LineContext

@@ -1,5 +1,6 @@
 -- The grammar of books: theorems and definitions, one after another.
-use Rattle.std.specs.Prelude.{◌≡◌, ℕ, ◌+◌, List, [], ◌∷◌, length, map, nat_le, Bool, true, false, Option, Some, None, IsTrue, Result, Ok, Err, if◌then◌else◌}
+use Rattle.std.specs.Prelude.{◌≡◌, ℕ, ◌+◌, List, [], ◌∷◌, length, map, nat_le, Bool, true, false}
+use Rattle.std.specs.Prelude.{Option, Some, None, IsTrue, Result, Ok, Err, if◌then◌else◌}
 use Rattle.std.specs.Option.{option_map}
 use Rattle.e_text.specs.Tokens.{tokens_of}
 use Rattle.e_text.specs.Lines.{Ahead}
@@ -34,7 +35,8 @@ use Rattle.e_line.specs.Items.{book_line_of, listing_form, is_show}
 use Rattle.e_names.specs.Meanings.{items_in}
 use Rattle.e_book.specs.Open.{Head, Open, Stating}
 use Rattle.e_book.specs.Counts.{context_at, all_kept}
-use Rattle.e_book.specs.Grammar.{Rest, nothing_said, begins, is_empty, next, line_after, theorem_ended, is_skipped, put_at, BookFails}
+use Rattle.e_book.specs.Grammar.{Rest, nothing_said, begins, is_empty, next, line_after}
+use Rattle.e_book.specs.Grammar.{theorem_ended, is_skipped, put_at, BookFails}
 
 -- what a book consists of
 pub data BookItem : Type 0 where
@@ -55,10 +57,13 @@ has_notion_title notions (rawlines.Theorem t) = defines notions t
 has_notion_title notions f = false
 
 abbrev pub after_first_line : Known → BookLine → Result Coming FaultKind
-after_first_line known (Plain f) = if has_notion_title known.notions f then Err NameTaken else (begins known.theorems f >>= λ o. Ok (InTheorem o 0))
+after_first_line known (Plain f) =
+    if has_notion_title known.notions f then Err NameTaken else
+    (begins known.theorems f >>= λ o. Ok (InTheorem o 0))
 after_first_line known (Define t) =
     if is_taken known t then Err NameTaken else
-    (all_kept ((nat_le (length known.notions + 1) most_notions, limits.Notions) ∷ []) >>= λ kept. Ok (InDefinition (nothing_said t) 0))
+    (all_kept ((nat_le (length known.notions + 1) most_notions, limits.Notions) ∷ [])
+        >>= λ kept. Ok (InDefinition (nothing_said t) 0))
 after_first_line known (Listed line items) = Err Malformed
 
 -- ---- a line without items
@@ -78,13 +83,17 @@ meant h = titled h.title (record { declared = h.statement.declared; means = h.st
 
 -- the last line of a definition, which means something
 abbrev pub ends_definition : Head → RawLine → Result Coming FaultKind
-ends_definition h rawlines.End = if is_empty h.statement.shown then Err Malformed else Ok (Defined (meant h))
+ends_definition h rawlines.End =
+    if is_empty h.statement.shown then Err Malformed else Ok (Defined (meant h))
 ends_definition h f = Err Malformed
 
 abbrev pub plain_line : Known → Coming → RawLine → Result Coming FaultKind
-plain_line known (InTheorem o n) f = line_after known.theorems (Some o) f >>= λ m. Ok (InTheorem m n)
+plain_line known (InTheorem o n) f =
+    line_after known.theorems (Some o) f >>= λ m. Ok (InTheorem m n)
 plain_line known (InDefinition h n) f =
-    if says_more f then (line_after known.theorems (Some (Stating h)) f >>= λ o. still_defined n o) else ends_definition h f
+    if says_more f
+        then (line_after known.theorems (Some (Stating h)) f >>= λ o. still_defined n o)
+        else ends_definition h f
 plain_line known (Defined t) f = Err Malformed
 
 -- ---- a line with items: the literals that they stand for are written out in their place
@@ -94,18 +103,27 @@ plain_line known (Defined t) f = Err Malformed
 abbrev pub written_out : Known → Open → Listing → List RawItem → Result (RawLine × ℕ) FaultKind
 written_out known o line is =
     let ns : Names = (context_at known.theorems o).names in
-    next known.theorems o (listing_form line []) >>= λ there. items_in known.notions ns 0 is >>= λ p. Ok (listing_form line (map (raw_of ns) p.0), p.1)
+    next known.theorems o (listing_form line []) >>= λ there. items_in known.notions ns 0 is
+    >>= λ p. Ok (listing_form line (map (raw_of ns) p.0), p.1)
 
 abbrev pub counted : ℕ → Coming → Result Coming FaultKind
-counted n (InTheorem o m) = all_kept ((nat_le (m + n) most_expanded, limits.Expanded) ∷ []) >>= λ kept. Ok (InTheorem o (m + n))
-counted n (InDefinition h m) = all_kept ((nat_le (m + n) most_expanded, limits.Expanded) ∷ []) >>= λ kept. Ok (InDefinition h (m + n))
+counted n (InTheorem o m) =
+    all_kept ((nat_le (m + n) most_expanded, limits.Expanded) ∷ [])
+    >>= λ kept. Ok (InTheorem o (m + n))
+counted n (InDefinition h m) =
+    all_kept ((nat_le (m + n) most_expanded, limits.Expanded) ∷ [])
+    >>= λ kept. Ok (InDefinition h (m + n))
 counted n (Defined t) = Err Malformed
 
 -- it is taken as it is written out; the last limit is that of the literals that items stand for
 abbrev pub after_listed_line : Known → Coming → Listing → List RawItem → Result Coming FaultKind
-after_listed_line known (InTheorem o n) line is = written_out known o line is >>= λ w. plain_line known (InTheorem o n) w.0 >>= λ c. counted w.1 c
+after_listed_line known (InTheorem o n) line is =
+    written_out known o line is >>= λ w. plain_line known (InTheorem o n) w.0 >>= λ c. counted w.1 c
 after_listed_line known (InDefinition h n) line is =
-    if is_show line then (written_out known (Stating h) line is >>= λ w. plain_line known (InDefinition h n) w.0 >>= λ c. counted w.1 c) else Err Malformed
+    if is_show line
+        then (written_out known (Stating h) line is >>= λ w. plain_line known (InDefinition h n) w.0
+            >>= λ c. counted w.1 c)
+        else Err Malformed
 after_listed_line known (Defined t) line is = Err Malformed
 
 -- ---- lines
@@ -146,7 +164,8 @@ item_from known last c [] = at_end last c
 item_from known last c (Err f ∷ lines) = Err (line_fault f)
 item_from known last c (Ok line ∷ lines) =
     if is_skipped (tokens_of line.bytes) then item_from known last c lines else
-    (put_at line.number (line_said known c (tokens_of line.bytes)) >>= λ n. whole_or (whole n) lines (item_from known last (Some n) lines))
+    (put_at line.number (line_said known c (tokens_of line.bytes))
+        >>= λ n. whole_or (whole n) lines (item_from known last (Some n) lines))
 
 -- ---- what is answered
 
@@ -163,7 +182,8 @@ BookReads (Err f) new read = BookFails f read
 -- A theorem that is read has a spelling, and a title that no definition has. A definition that is
 -- read has a title that nothing has, means something, and speaks of its declared objects alone.
 abbrev pub IsWellFormedItem : Known → BookItem → Type 0
-IsWellFormedItem known (OfTheorem t) = HasSpelling known.theorems t × (defines known.notions t.title ≡ false)
+IsWellFormedItem known (OfTheorem t) =
+    HasSpelling known.theorems t × (defines known.notions t.title ≡ false)
 IsWellFormedItem known (OfNotion n) = (is_taken known n.title ≡ false) × IsTrue (is_notion n.notion)
 
 abbrev pub HasWellFormedView : Known → Item → Type 0
@@ -171,5 +191,7 @@ HasWellFormedView known i = IsWellFormedItem known (view_of i)
 
 -- where the theorems before are statements, a theorem that is read can be judged, and is one
 abbrev pub IsFittingItem : Known → Item → Type 0
-IsFittingItem known (items.Theorem t) = IsFitting (stated_by known.theorems) (stated t.statement) (script_of t.block) × IsTrue (is_small_statement (stated t.statement))
+IsFittingItem known (items.Theorem t) =
+    IsFitting (stated_by known.theorems) (stated t.statement) (script_of t.block)
+    × IsTrue (is_small_statement (stated t.statement))
 IsFittingItem known (items.Notion title n) = Unit {0}

@@ -1,5 +1,6 @@
 -- The first fault of lines, as the grammar reads them.
-use Rattle.std.specs.Prelude.{◌≡◌, ◌⊎◌, ℕ, true, false, [], ◌∷◌, ◌++◌, Option, Some, None, Result, Ok, Err}
+use Rattle.std.specs.Prelude.{◌≡◌, ◌⊎◌, ℕ, true, false, [], ◌∷◌, ◌++◌, Option, Some, None, Result}
+use Rattle.std.specs.Prelude.{Ok, Err}
 use Rattle.e_text.specs.Tokens.{tokens_of}
 use Rattle.e_text.specs.Lines.{LineView}
 use Rattle.e_text.specs.declared.line.LineFault.{LineFault}
@@ -16,16 +17,20 @@ Leaves known o [] left = o ≡ left
 Leaves known o (Err f ∷ lines) left = ⊥
 Leaves known o (Ok line ∷ lines) left =
     (is_skipped (tokens_of line.bytes) ≡ true → Leaves known o lines left)
-    × (is_skipped (tokens_of line.bytes) ≡ false → (n : Coming) × (line_said known o (tokens_of line.bytes) ≡ Ok n) × (whole n ≡ None) × Leaves known (Some n) lines left)
+    × (is_skipped (tokens_of line.bytes) ≡ false
+        → (n : Coming) × (line_said known o (tokens_of line.bytes) ≡ Ok n) × (whole n ≡ None)
+        × Leaves known (Some n) lines left)
 
 -- a line has this fault here: its bytes, or its form, its names or a limit
 abbrev pub IsFaulty : Known → Option Coming → Result LineView LineFault → BookFault → Type 0
 IsFaulty known o (Err f) fault = line_fault f ≡ fault
 IsFaulty known o (Ok line) fault =
-    (is_skipped (tokens_of line.bytes) ≡ false) × (put_there line.number (line_said known o (tokens_of line.bytes)) ≡ Err fault)
+    (is_skipped (tokens_of line.bytes) ≡ false)
+    × (put_there line.number (line_said known o (tokens_of line.bytes)) ≡ Err fault)
 
 -- the lines begin with a front that is taken, and the line after it has this fault
-pub record BreaksAt (known : Known) (o : Option Coming) (lines : Rest) (fault : BookFault) : Type 0 where
+pub record BreaksAt (known : Known) (o : Option Coming) (lines : Rest)
+    (fault : BookFault) : Type 0 where
   pub front : Rest
   pub line : Result LineView LineFault
   pub rest : Rest
@@ -37,4 +42,6 @@ pub record BreaksAt (known : Known) (o : Option Coming) (lines : Rest) (fault : 
 -- a fault is the first: all lines before it are taken, or all lines are, and they end inside a
 -- theorem or a definition
 abbrev pub IsFirst : Known → ℕ → Option Coming → Rest → BookFault → Type 0
-IsFirst known last o lines fault = BreaksAt known o lines fault ⊎ ((n : Coming) × Leaves known o lines (Some n) × (faults.Unended last ≡ fault))
+IsFirst known last o lines fault =
+    BreaksAt known o lines fault
+    ⊎ ((n : Coming) × Leaves known o lines (Some n) × (faults.Unended last ≡ fault))

@@ -1,6 +1,7 @@
 -- What a theorem that is read is known to be: its objects are in scope, its names are theirs, it is
 -- within the limits.
-use Rattle.std.specs.Prelude.{◌≡◌, ℕ, ◌+◌, ◌≤◌, List, [], length, nat_le, Bool, true, false, ◌&&◌, IsTrue, Ok}
+use Rattle.std.specs.Prelude.{◌≡◌, ℕ, ◌+◌, ◌≤◌, List, [], length, nat_le, Bool, true, false, ◌&&◌}
+use Rattle.std.specs.Prelude.{IsTrue, Ok}
 use Rattle.std.specs.List.{list_all}
 use Rattle.e_literal.specs.declared.object.Scope.{Scope}
 use Rattle.e_literal.specs.declared.object.Sort.TheVariants.{Point, Line, Circle}
@@ -12,11 +13,13 @@ use Rattle.e_construct.specs.Construct.{sorts_made, gives_of_construction}
 use Rattle.e_construct.specs.Superposing as superposing
 use Rattle.e_theorem.specs.Statements.{stated}
 use Rattle.e_deriv.specs.declared.names.Names.{Names}
-use Rattle.e_deriv.specs.Script.{Script, Cite, Hence, Make, Apply, Claim, Superposed, Qed, Contradiction, Cases, size, depth}
+use Rattle.e_deriv.specs.Script.{Script, Cite, Hence, Make, Apply, Claim, Superposed, Qed}
+use Rattle.e_deriv.specs.Script.{Contradiction, Cases, size, depth}
 use Rattle.e_deriv.specs.Lines.{theorem_at, proof_lines}
 use Rattle.e_deriv.specs.Naming.{named, declared_names}
 use Rattle.e_deriv.specs.Fitting.{all_objects, form_fits}
-use Rattle.e_line.specs.Limits.{most_of, most_steps, most_depth, most_facts, most_terms, most_blanks, monomials, count_monomials}
+use Rattle.e_line.specs.Limits.{most_of, most_steps, most_depth, most_facts, most_terms}
+use Rattle.e_line.specs.Limits.{most_blanks, monomials, count_monomials}
 use Rattle.e_names.specs.TitledStatements.{TitledStatement, is_known, stated_by}
 use Rattle.e_names.specs.Scope.{scope_of_names, fresh}
 use Rattle.e_names.specs.Applies.{count_blanks}
@@ -38,7 +41,8 @@ NewNamesFit before ns (Apply theorem args names certs rest) =
     (fresh ns [] names ≡ Ok tt) × (length names ≡ length (theorem_at before theorem).made)
     × (few_objects (named ns (theorem_at before theorem).made names) ≡ Ok tt)
     × NewNamesFit before (named ns (theorem_at before theorem).made names) rest
-NewNamesFit before ns (Claim shown inner rest) = NewNamesFit before ns inner × NewNamesFit before ns rest
+NewNamesFit before ns (Claim shown inner rest) =
+    NewNamesFit before ns inner × NewNamesFit before ns rest
 NewNamesFit before ns (Superposed form names shown certs inner rest) =
     (fresh ns [] names ≡ Ok tt) × (length names ≡ length superposing.sorts_copied)
     × (few_objects (named ns superposing.sorts_copied names) ≡ Ok tt)
@@ -46,28 +50,35 @@ NewNamesFit before ns (Superposed form names shown certs inner rest) =
     × NewNamesFit before ns rest
 NewNamesFit before ns (Qed objects certs) = Unit {0}
 NewNamesFit before ns (Contradiction against) = Unit {0}
-NewNamesFit before ns (Cases lit first second) = NewNamesFit before ns first × NewNamesFit before ns second
+NewNamesFit before ns (Cases lit first second) =
+    NewNamesFit before ns first × NewNamesFit before ns second
 
 -- this many literals are facts before the script, repeats counted, and nowhere in it more than the
 -- limit
 unfoldable pub few_facts : List StatementView → ℕ → Scope → Script → Bool
 few_facts before n s (Cite by rest) = nat_le (n + 1) most_facts && few_facts before (n + 1) s rest
-few_facts before n s (Hence lit cert rest) = nat_le (n + 1) most_facts && few_facts before (n + 1) s rest
+few_facts before n s (Hence lit cert rest) =
+    nat_le (n + 1) most_facts && few_facts before (n + 1) s rest
 few_facts before n s (Make form names certs rest) =
-    nat_le (n + length (gives_of_construction form s)) most_facts && few_facts before (n + length (gives_of_construction form s)) (grown s (sorts_made form)) rest
+    nat_le (n + length (gives_of_construction form s)) most_facts
+    && few_facts before (n + length (gives_of_construction form s)) (grown s (sorts_made form)) rest
 few_facts before n s (Apply theorem args names certs rest) =
     nat_le (n + length (theorem_at before theorem).shown) most_facts
-    && few_facts before (n + length (theorem_at before theorem).shown) (grown s (theorem_at before theorem).made) rest
+    && few_facts before (n + length (theorem_at before theorem).shown)
+        (grown s (theorem_at before theorem).made) rest
 few_facts before n s (Claim shown inner rest) =
-    few_facts before n s inner && (nat_le (n + length shown) most_facts && few_facts before (n + length shown) s rest)
+    few_facts before n s inner
+    && (nat_le (n + length shown) most_facts && few_facts before (n + length shown) s rest)
 few_facts before n s (Superposed form names shown certs inner rest) =
     nat_le (n + length (superposing.gives_of_superposition form s)) most_facts
-    && (few_facts before (n + length (superposing.gives_of_superposition form s)) (grown s superposing.sorts_copied) inner
+    && (few_facts before (n + length (superposing.gives_of_superposition form s))
+        (grown s superposing.sorts_copied) inner
     && (nat_le (n + length shown) most_facts && few_facts before (n + length shown) s rest))
 few_facts before n s (Qed objects certs) = true
 few_facts before n s (Contradiction against) = true
 few_facts before n s (Cases lit first second) =
-    nat_le (n + 1) most_facts && (few_facts before (n + 1) s first && few_facts before (n + 1) s second)
+    nat_le (n + 1) most_facts
+    && (few_facts before (n + 1) s first && few_facts before (n + 1) s second)
 
 -- the literals of a script are well formed, and no citation speaks of magnitudes
 unfoldable pub has_good_literals : Script → Bool
@@ -75,38 +86,48 @@ has_good_literals (Cite by rest) = is_diagram_lit by.lit && has_good_literals re
 has_good_literals (Hence lit cert rest) = is_well_formed lit && has_good_literals rest
 has_good_literals (Make form names certs rest) = has_good_literals rest
 has_good_literals (Apply theorem args names certs rest) = has_good_literals rest
-has_good_literals (Claim shown inner rest) = list_all is_well_formed shown && (has_good_literals inner && has_good_literals rest)
+has_good_literals (Claim shown inner rest) =
+    list_all is_well_formed shown && (has_good_literals inner && has_good_literals rest)
 has_good_literals (Superposed form names shown certs inner rest) =
     list_all is_well_formed shown && (has_good_literals inner && has_good_literals rest)
 has_good_literals (Qed objects certs) = true
 has_good_literals (Contradiction against) = true
-has_good_literals (Cases lit first second) = is_well_formed lit && (has_good_literals first && has_good_literals second)
+has_good_literals (Cases lit first second) =
+    is_well_formed lit && (has_good_literals first && has_good_literals second)
 
 -- the facts before the script have this many monomials, and nowhere in it more than the limit
 unfoldable pub few_terms : List StatementView → ℕ → Scope → Script → Bool
 few_terms before n s (Cite by rest) = few_terms before n s rest
-few_terms before n s (Hence lit cert rest) = nat_le (n + monomials lit.atom) most_terms && few_terms before (n + monomials lit.atom) s rest
-few_terms before n s (Make form names certs rest) = few_terms before n (grown s (sorts_made form)) rest
+few_terms before n s (Hence lit cert rest) =
+    nat_le (n + monomials lit.atom) most_terms && few_terms before (n + monomials lit.atom) s rest
+few_terms before n s (Make form names certs rest) =
+    few_terms before n (grown s (sorts_made form)) rest
 few_terms before n s (Apply theorem args names certs rest) =
     nat_le (n + count_monomials (theorem_at before theorem).shown) most_terms
-    && few_terms before (n + count_monomials (theorem_at before theorem).shown) (grown s (theorem_at before theorem).made) rest
+    && few_terms before (n + count_monomials (theorem_at before theorem).shown)
+        (grown s (theorem_at before theorem).made) rest
 few_terms before n s (Claim shown inner rest) =
-    few_terms before n s inner && (nat_le (n + count_monomials shown) most_terms && few_terms before (n + count_monomials shown) s rest)
+    few_terms before n s inner && (nat_le (n + count_monomials shown) most_terms
+        && few_terms before (n + count_monomials shown) s rest)
 few_terms before n s (Superposed form names shown certs inner rest) =
     nat_le (n + count_monomials (superposing.gives_of_superposition form s)) most_terms
-    && (few_terms before (n + count_monomials (superposing.gives_of_superposition form s)) (grown s superposing.sorts_copied) inner
-    && (nat_le (n + count_monomials shown) most_terms && few_terms before (n + count_monomials shown) s rest))
+    && (few_terms before (n + count_monomials (superposing.gives_of_superposition form s))
+        (grown s superposing.sorts_copied) inner
+    && (nat_le (n + count_monomials shown) most_terms
+        && few_terms before (n + count_monomials shown) s rest))
 few_terms before n s (Qed objects certs) = true
 few_terms before n s (Contradiction against) = true
 few_terms before n s (Cases lit first second) =
-    nat_le (n + monomials lit.atom) most_terms && (few_terms before (n + monomials lit.atom) s first && few_terms before (n + monomials lit.atom) s second)
+    nat_le (n + monomials lit.atom) most_terms && (few_terms before (n + monomials lit.atom) s first
+        && few_terms before (n + monomials lit.atom) s second)
 
 -- no line has more blanks than the limit
 unfoldable pub few_blanks : Script → Bool
 few_blanks (Cite by rest) = few_blanks rest
 few_blanks (Hence lit cert rest) = few_blanks rest
 few_blanks (Make form names certs rest) = few_blanks rest
-few_blanks (Apply theorem args names certs rest) = nat_le (count_blanks args) most_blanks && few_blanks rest
+few_blanks (Apply theorem args names certs rest) =
+    nat_le (count_blanks args) most_blanks && few_blanks rest
 few_blanks (Claim shown inner rest) = few_blanks inner && few_blanks rest
 few_blanks (Superposed form names shown certs inner rest) = few_blanks inner && few_blanks rest
 few_blanks (Qed objects certs) = true
@@ -132,12 +153,16 @@ pub record Fits (known : List TitledStatement) (t : TheoremView) : Type 0 where
   pub good_script : IsTrue (has_good_literals t.script)
   -- each line of the script has objects of the right sorts, all in scope where it stands, whatever
   -- its blanks are filled with; each theorem that it uses is an earlier one
-  pub script : IsTrue (list_all (λ x. form_fits (stated_by known) x x.here) (proof_lines (stated_by known) (stated t.statement) t.script t.script))
-  pub new_names : NewNamesFit (stated_by known) (declared_names (stated t.statement) t.names) t.script
+  pub script : IsTrue (list_all (λ x. form_fits (stated_by known) x x.here)
+      (proof_lines (stated_by known) (stated t.statement) t.script t.script))
+  pub new_names : NewNamesFit (stated_by known)
+      (declared_names (stated t.statement) t.names) t.script
   pub steps : size t.script ≤ most_steps
   pub depth : depth t.script ≤ most_depth
   pub given_facts : length t.statement.given ≤ most_facts
   pub given_terms : count_monomials t.statement.given ≤ most_terms
-  pub facts : IsTrue (few_facts (stated_by known) (length t.statement.given) (scope_of (stated t.statement)) t.script)
-  pub terms : IsTrue (few_terms (stated_by known) (count_monomials t.statement.given) (scope_of (stated t.statement)) t.script)
+  pub facts : IsTrue (few_facts (stated_by known) (length t.statement.given)
+      (scope_of (stated t.statement)) t.script)
+  pub terms : IsTrue (few_terms (stated_by known) (count_monomials t.statement.given)
+      (scope_of (stated t.statement)) t.script)
   pub blanks : IsTrue (few_blanks t.script)

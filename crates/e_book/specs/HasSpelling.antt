@@ -1,8 +1,10 @@
 -- What a theorem is that canonical lines can spell.
-use Rattle.std.specs.Prelude.{◌≡◌, ◌<◌, Bool, true, false, ◌&&◌, List, [], length, nat_lt, None, Some}
+use Rattle.std.specs.Prelude.{◌≡◌, ◌<◌, Bool, true, false, ◌&&◌, List, [], length, nat_lt, None}
+use Rattle.std.specs.Prelude.{Some}
 use Rattle.std.specs.List.{list_all}
 use Rattle.e_text.specs.Names.{is_name, is_title}
-use Rattle.e_deriv.specs.Script.{Script, Cite, Hence, Make, Apply, Claim, Superposed, Qed, Contradiction, Cases}
+use Rattle.e_deriv.specs.Script.{Script, Cite, Hence, Make, Apply, Claim, Superposed, Qed}
+use Rattle.e_deriv.specs.Script.{Contradiction, Cases}
 use Rattle.e_line.specs.Limits.{most_theorems}
 use Rattle.e_names.specs.TitledStatements.{TitledStatement}
 use Rattle.e_book.specs.TheoremViews.{TheoremView}
@@ -34,12 +36,16 @@ unfoldable pub names_theorems : List TitledStatement → Script → Bool
 names_theorems known (Cite by rest) = names_theorems known rest
 names_theorems known (Hence lit cert rest) = names_theorems known rest
 names_theorems known (Make form names certs rest) = names_theorems known rest
-names_theorems known (Apply theorem args names certs rest) = is_named_by_title known theorem && names_theorems known rest
-names_theorems known (Claim shown inner rest) = names_theorems known inner && names_theorems known rest
-names_theorems known (Superposed form names shown certs inner rest) = names_theorems known inner && names_theorems known rest
+names_theorems known (Apply theorem args names certs rest) =
+    is_named_by_title known theorem && names_theorems known rest
+names_theorems known (Claim shown inner rest) =
+    names_theorems known inner && names_theorems known rest
+names_theorems known (Superposed form names shown certs inner rest) =
+    names_theorems known inner && names_theorems known rest
 names_theorems known (Qed objects certs) = true
 names_theorems known (Contradiction against) = true
-names_theorems known (Cases lit first second) = names_theorems known first && names_theorems known second
+names_theorems known (Cases lit first second) =
+    names_theorems known first && names_theorems known second
 
 pub record HasSpelling (known : List TitledStatement) (t : TheoremView) : Type 0 where
   -- objects in scope, names that differ, fitting arguments at each citation and construction, names

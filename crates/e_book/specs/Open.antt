@@ -50,13 +50,19 @@ made_inside (a ∷ around) made = if has_goal a.opener then [] else made_inside 
 
 -- what closing a block inside another leaves; the second block of a split closes the block around
 -- it too
-abbrev pub after_inner_close : Head → List Enclosing → List PlainStep → Script → (Script → Open) → Opener → Open
-after_inner_close h around steps inner again (ByClaim shown) = Proving h around (steps ++ Claimed shown inner ∷ [])
-after_inner_close h around steps inner again (BySuperposition form names shown) = Proving h around (steps ++ Copied form names shown [] inner ∷ [])
-after_inner_close h around steps inner again (ByCase lit) = Splitting h (record { steps = steps; opener = ByElse lit inner } ∷ around)
+abbrev pub after_inner_close : Head → List Enclosing → List PlainStep → Script
+    → (Script → Open) → Opener → Open
+after_inner_close h around steps inner again (ByClaim shown) =
+    Proving h around (steps ++ Claimed shown inner ∷ [])
+after_inner_close h around steps inner again (BySuperposition form names shown) =
+    Proving h around (steps ++ Copied form names shown [] inner ∷ [])
+after_inner_close h around steps inner again (ByCase lit) =
+    Splitting h (record { steps = steps; opener = ByElse lit inner } ∷ around)
 after_inner_close h around steps inner again (ByElse lit first) = again (Cases lit first inner)
 
 -- the block with these steps is closed
 unfoldable pub after_close : Head → List Enclosing → List PlainStep → Script → Open
 after_close h [] steps close = Proved h (all_before steps close)
-after_close h (a ∷ around) steps close = after_inner_close h around a.steps (all_before steps close) (λ c. after_close h around a.steps c) a.opener
+after_close h (a ∷ around) steps close =
+    after_inner_close h around a.steps (all_before steps close)
+        (λ c. after_close h around a.steps c) a.opener

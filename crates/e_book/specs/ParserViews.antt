@@ -16,8 +16,15 @@ script_of_close (closes.Cases lit first second) = Cases lit first second
 
 -- what the lines of a parser state
 abbrev pub statement_of_parser : TheoremParser → Statement
-statement_of_parser d = record { declared = d.declared; given = d.given; made = d.made; shown = d.shown }
+statement_of_parser d =
+    record { declared = d.declared; given = d.given; made = d.made; shown = d.shown }
 
 -- the theorem that the lines of a parser make
 abbrev pub entry_of_parser : TheoremParser → TheoremView
-entry_of_parser d = record { title = d.title; names = d.names; statement = statement_of_parser d; script = all_before d.steps (script_of_close d.close) }
+entry_of_parser d =
+    record {
+      title = d.title;
+      names = d.names;
+      statement = statement_of_parser d;
+      script = all_before d.steps (script_of_close d.close);
+    }

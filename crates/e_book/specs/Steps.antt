@@ -1,5 +1,6 @@
 -- A theorem while its lines come, one after another.
-use Rattle.std.specs.Prelude.{ℕ, ◌+◌, ◌≤◌, Bool, true, false, ◌≡◌, Option, List, [], ◌∷◌, ◌++◌, length, replicate, Some, None, Result, Ok, Err, if◌then◌else◌}
+use Rattle.std.specs.Prelude.{ℕ, ◌+◌, ◌≤◌, Bool, true, false, ◌≡◌, Option, List, [], ◌∷◌, ◌++◌}
+use Rattle.std.specs.Prelude.{length, replicate, Some, None, Result, Ok, Err, if◌then◌else◌}
 use Rattle.e_literal.specs.declared.object.Sort.{Sort}
 use Rattle.e_literal.specs.declared.object.Obj.{Obj}
 use Rattle.e_literal.specs.declared.literal.Lit.{Lit}
@@ -8,7 +9,8 @@ use Rattle.e_construct.specs.Construct.{sorts_made, gives_of_construction}
 use Rattle.e_construct.specs.Superposing as superposing
 use Rattle.e_deriv.specs.declared.names.Names.{Names}
 use Rattle.e_deriv.specs.Naming.{names_of_sort, with_names, named, declared_names}
-use Rattle.e_deriv.specs.PlainStep.{PlainStep, Cited, Inferred, Made, Applied, Claimed, Copied, all_before}
+use Rattle.e_deriv.specs.PlainStep.{PlainStep, Cited, Inferred, Made, Applied, Claimed, Copied}
+use Rattle.e_deriv.specs.PlainStep.{all_before}
 use Rattle.e_deriv.specs.Script.{Script}
 use Rattle.e_line.specs.declared.fault.FaultKind.{FaultKind}
 use Rattle.e_line.specs.declared.fault.FaultKind.TheVariants.{Malformed, NameTaken}
@@ -25,12 +27,15 @@ use Rattle.e_line.specs.declared.raw_line.RawLine.TheVariants as rawlines
 use Rattle.e_book.specs.declared.steps.CloseLine.{CloseLine}
 use Rattle.e_book.specs.declared.steps.CloseLine.TheVariants as closes
 use Rattle.e_book.specs.declared.parser.Section.{Section}
-use Rattle.e_book.specs.declared.parser.Section.TheVariants.{Declaring, Giving, Making, Showing, Proving, Splitting, Closed, Done}
+use Rattle.e_book.specs.declared.parser.Section.TheVariants.{Declaring, Giving, Making, Showing}
+use Rattle.e_book.specs.declared.parser.Section.TheVariants.{Proving, Splitting, Closed, Done}
 use Rattle.e_book.specs.declared.parser.TheoremParser.{TheoremParser}
 use Rattle.e_book.specs.declared.inner.Saved.{Saved}
 use Rattle.e_line.specs.declared.fault.LineError.{LineError}
 use Rattle.e_line.specs.Reading.{◌>>=◌, with_front, Fails}
-use Rattle.e_line.specs.Limits.{most_theorems, most_of, most_steps, most_depth, most_facts, most_terms, most_blanks, what_of, within, monomials, count_monomials}
+use Rattle.e_line.specs.Limits.{most_theorems, most_of, most_steps, most_depth, most_facts}
+use Rattle.e_line.specs.Limits.{most_terms, most_blanks, what_of, within, monomials}
+use Rattle.e_line.specs.Limits.{count_monomials}
 use Rattle.e_theorem.specs.Statements.{stated}
 use Rattle.e_names.specs.TitledStatements.{TitledStatement, is_known, theorem_of}
 use Rattle.e_book.specs.ParserViews.{statement_of_parser, script_of_close}
@@ -83,10 +88,12 @@ with_step d s given = do
 
 -- this many monomials and those of the literals, or the limit of all
 abbrev pub terms_after_raw : ℕ → List RawLit → Result ℕ FaultKind
-terms_after_raw n raws = within (n + count_monos raws) most_terms limits.Terms >>= λ few. Ok (n + count_monos raws)
+terms_after_raw n raws =
+    within (n + count_monos raws) most_terms limits.Terms >>= λ few. Ok (n + count_monos raws)
 
 abbrev pub terms_after : ℕ → List Lit → Result ℕ FaultKind
-terms_after n ls = within (n + count_monomials ls) most_terms limits.Terms >>= λ few. Ok (n + count_monomials ls)
+terms_after n ls =
+    within (n + count_monomials ls) most_terms limits.Terms >>= λ few. Ok (n + count_monomials ls)
 
 -- the limits of literals that become facts, after that of facts
 unfoldable pub with_terms : TheoremParser → List RawLit → Result TheoremParser FaultKind
@@ -102,11 +109,13 @@ built d raw = do
   form ← let_in d.in_scope raw
   let after = named d.in_scope (sorts_made form) raw.new
   few ← few_objects after
-  with_step (record d { in_scope = after }) (Made form raw.new []) (length (gives_of_construction form (scope_of_names d.in_scope)))
+  with_step (record d { in_scope = after }) (Made form raw.new [])
+      (length (gives_of_construction form (scope_of_names d.in_scope)))
 
 -- a theorem is used within the limits of objects, of steps, of facts, of monomials and of blanks.
 -- What it shows are facts, and its made objects are in scope after the line.
-unfoldable pub used_by : TheoremParser → StatementView → ℕ → List (Option Obj) → List (List ℕ) → Result TheoremParser FaultKind
+unfoldable pub used_by : TheoremParser → StatementView → ℕ → List (Option Obj) → List (List ℕ)
+    → Result TheoremParser FaultKind
 used_by d t theorem args new = do
   let after = named d.in_scope t.made new
   few ← few_objects after
@@ -116,7 +125,8 @@ used_by d t theorem args new = do
   Ok (record e { terms = n })
 
 -- an earlier theorem: its title and the names, then the limits
-unfoldable pub applied : List TitledStatement → TheoremParser → RawApply → Result TheoremParser FaultKind
+unfoldable pub applied : List TitledStatement → TheoremParser → RawApply
+    → Result TheoremParser FaultKind
 applied known d raw = do
   a ← apply_in known d.in_scope raw
   used_by d (theorem_of known a.0) a.0 a.1 raw.new
@@ -125,11 +135,18 @@ applied known d raw = do
 
 -- the block that an inner one interrupts
 abbrev pub outer_of : TheoremParser → BlockKind → OpenBlock
-outer_of d kind = record { steps = d.steps; in_scope = d.in_scope; facts = d.facts; terms = d.terms; kind = kind }
+outer_of d kind =
+    record { steps = d.steps; in_scope = d.in_scope; facts = d.facts; terms = d.terms; kind = kind }
 
 -- an inner block begins, in which this many literals are facts at once
 abbrev pub interrupted : TheoremParser → BlockKind → ℕ → TheoremParser
-interrupted d kind given = record d { lines = d.lines + 1; blocks = outer_of d kind ∷ d.blocks; steps = []; facts = d.facts + given }
+interrupted d kind given =
+    record d {
+      lines = d.lines + 1;
+      blocks = outer_of d kind ∷ d.blocks;
+      steps = [];
+      facts = d.facts + given;
+    }
 
 -- the limits of steps, of depth and of facts there
 unfoldable pub room_inside : TheoremParser → ℕ → Result (Unit {0}) FaultKind
@@ -155,7 +172,8 @@ claimed d raws = do
   Ok e
 
 -- the block of a superposition begins with these names and facts
-unfoldable pub copies_begun : TheoremParser → BlockKind → Names → (given : List Lit) → (shown : List RawLit) → Result TheoremParser FaultKind
+unfoldable pub copies_begun : TheoremParser → BlockKind → Names → (given : List Lit)
+    → (shown : List RawLit) → Result TheoremParser FaultKind
 copies_begun d what after given shown = do
   e ← deeper d what (length given)
   few ← few_monos shown
@@ -182,14 +200,16 @@ split d raw = do
   with_terms e (raw ∷ [])
 
 -- the counts after a block that shows these literals: the limits of facts and of monomials
-unfoldable pub counted_from : TheoremParser → (facts terms : ℕ) → List Lit → Result TheoremParser FaultKind
+unfoldable pub counted_from : TheoremParser → (facts terms : ℕ) → List Lit
+    → Result TheoremParser FaultKind
 counted_from d facts terms shown = do
   few ← within (facts + length shown) most_facts limits.Facts
   n ← terms_after terms shown
   Ok (record d { facts = facts + length shown; terms = n })
 
 -- what a block shows is a step of the block around it
-unfoldable pub resumed : TheoremParser → OpenBlock → List OpenBlock → List Lit → PlainStep → Result TheoremParser FaultKind
+unfoldable pub resumed : TheoremParser → OpenBlock → List OpenBlock → List Lit → PlainStep
+    → Result TheoremParser FaultKind
 resumed d o os shown s = do
   e ← counted_from d o.facts o.terms shown
   Ok (record e { steps = o.steps ++ s ∷ []; in_scope = o.in_scope; blocks = os })
@@ -197,61 +217,106 @@ resumed d o os shown s = do
 -- A block inside another is closed. A claim or a superposition is a step of the block around it.
 -- After the first block of a split comes `else`. After the second one the split closes the block
 -- around it.
-abbrev pub closed_inside : TheoremParser → OpenBlock → List OpenBlock → Script → (CloseLine → Result TheoremParser FaultKind) → BlockKind → Result TheoremParser FaultKind
+abbrev pub closed_inside : TheoremParser → OpenBlock → List OpenBlock → Script
+    → (CloseLine → Result TheoremParser FaultKind) → BlockKind → Result TheoremParser FaultKind
 closed_inside d o os inner close (kind.Claim shown) = resumed d o os shown (Claimed shown inner)
-closed_inside d o os inner close (kind.Superpose form names shown) = resumed d o os shown (Copied form names shown [] inner)
+closed_inside d o os inner close (kind.Superpose form names shown) =
+    resumed d o os shown (Copied form names shown [] inner)
 closed_inside d o os inner close (kind.First lit) =
-    Ok (record d { steps = []; in_scope = o.in_scope; facts = o.facts + 1; terms = o.terms + monomials lit.atom; blocks = record o { kind = kind.Second lit inner } ∷ os; place = Splitting })
+    Ok (record d {
+      steps = [];
+      in_scope = o.in_scope;
+      facts = o.facts + 1;
+      terms = o.terms + monomials lit.atom;
+      blocks = record o { kind = kind.Second lit inner } ∷ os;
+      place = Splitting;
+    })
 closed_inside d o os inner close (kind.Second lit first) = close (closes.Cases lit first inner)
 
 -- the block with these steps inside these blocks is closed
-unfoldable pub closed : TheoremParser → List OpenBlock → List PlainStep → CloseLine → Result TheoremParser FaultKind
-closed d [] steps close = Ok (record d { steps = steps; blocks = []; close = close; place = Closed })
-closed d (o ∷ os) steps close = closed_inside d o os (all_before steps (script_of_close close)) (λ c. closed d os o.steps c) o.kind
+unfoldable pub closed : TheoremParser → List OpenBlock → List PlainStep → CloseLine
+    → Result TheoremParser FaultKind
+closed d [] steps close =
+    Ok (record d { steps = steps; blocks = []; close = close; place = Closed })
+closed d (o ∷ os) steps close =
+    closed_inside d o os (all_before steps (script_of_close close))
+        (λ c. closed d os o.steps c) o.kind
 
 -- a block that an inner one interrupts, with what began that one
 abbrev pub outer_with : Saved → BlockKind → OpenBlock
-outer_with around kind = record { steps = around.steps; in_scope = around.in_scope; facts = around.facts; terms = around.terms; kind = kind }
+outer_with around kind =
+    record {
+      steps = around.steps;
+      in_scope = around.in_scope;
+      facts = around.facts;
+      terms = around.terms;
+      kind = kind;
+    }
 
 -- after the first block of a split, where the second begins
 abbrev pub second_begun : TheoremParser → Saved → Lit → Script → TheoremParser
 second_begun d around lit first =
-    record d { in_scope = around.in_scope; facts = around.facts + 1; terms = around.terms + monomials lit.atom; blocks = outer_with around (kind.Second lit first) ∷ d.blocks; place = Splitting }
+    record d {
+      in_scope = around.in_scope;
+      facts = around.facts + 1;
+      terms = around.terms + monomials lit.atom;
+      blocks = outer_with around (kind.Second lit first) ∷ d.blocks;
+      place = Splitting;
+    }
 
 -- what closing the open block inside another one leaves: the parser, or the close of that other
 -- block
-abbrev pub ClosesInside : TheoremParser → OpenBlock → CloseLine → Result (Option CloseLine) LineError → TheoremParser → Type 0
+abbrev pub ClosesInside : TheoremParser → OpenBlock → CloseLine
+    → Result (Option CloseLine) LineError → TheoremParser → Type 0
 ClosesInside d o close (Ok None) new =
-    (again : CloseLine → Result TheoremParser FaultKind) → closed_inside d o d.blocks (all_before d.steps (script_of_close close)) again o.kind ≡ Ok new
+    (again : CloseLine → Result TheoremParser FaultKind)
+    → closed_inside d o d.blocks (all_before d.steps (script_of_close close)) again o.kind ≡ Ok new
 ClosesInside d o close (Ok (Some next)) new =
-    ((again : CloseLine → Result TheoremParser FaultKind) → closed_inside d o d.blocks (all_before d.steps (script_of_close close)) again o.kind ≡ again next)
+    ((again : CloseLine → Result TheoremParser FaultKind) → closed_inside d o d.blocks
+        (all_before d.steps (script_of_close close)) again o.kind ≡ again next)
     × (new ≡ record d { steps = o.steps })
 ClosesInside d o close (Err e) new =
-    (again : CloseLine → Result TheoremParser FaultKind) → Fails e (closed_inside d o d.blocks (all_before d.steps (script_of_close close)) again o.kind)
+    (again : CloseLine → Result TheoremParser FaultKind)
+    → Fails e (closed_inside d o d.blocks (all_before d.steps (script_of_close close)) again o.kind)
 
 -- a close line: the limit of steps, and what it closes
 unfoldable pub shut : TheoremParser → CloseLine → Result TheoremParser FaultKind
-shut d close = within (d.lines + 1) most_steps limits.Steps >>= λ few. closed (record d { lines = d.lines + 1 }) d.blocks d.steps close
+shut d close =
+    within (d.lines + 1) most_steps limits.Steps
+    >>= λ few. closed (record d { lines = d.lines + 1 }) d.blocks d.steps close
 
 -- declared objects
 abbrev pub declares : TheoremParser → Sort → List (List ℕ) → Result TheoremParser FaultKind
-declares d sort ns = declared d.names sort ns >>= λ names. Ok (record d { names = names; declared = d.declared ++ replicate (length ns) sort })
+declares d sort ns =
+    declared d.names sort ns >>= λ names. Ok
+        (record d { names = names; declared = d.declared ++ replicate (length ns) sort })
 
 -- given literals: their names, then the limits
 abbrev pub supposes : TheoremParser → List RawLit → Result TheoremParser FaultKind
-supposes d raws = with_front d.given (lits_in d.names raws) >>= λ ls. within (d.facts + length raws) most_facts limits.Facts >>= λ few. with_terms (record d { given = ls; facts = d.facts + length raws; place = Giving }) raws
+supposes d raws =
+    with_front d.given (lits_in d.names raws)
+    >>= λ ls. within (d.facts + length raws) most_facts limits.Facts >>= λ few. with_terms
+        (record d { given = ls; facts = d.facts + length raws; place = Giving }) raws
 
 -- made objects
 abbrev pub makes : TheoremParser → Sort → List (List ℕ) → Result TheoremParser FaultKind
-makes d sort ns = declared d.names sort ns >>= λ names. Ok (record d { names = names; made = d.made ++ replicate (length ns) sort; place = Making })
+makes d sort ns =
+    declared d.names sort ns >>= λ names. Ok
+        (record d { names = names; made = d.made ++ replicate (length ns) sort; place = Making })
 
 -- shown literals
 abbrev pub shows : TheoremParser → List RawLit → Result TheoremParser FaultKind
-shows d raws = with_front d.shown (lits_in d.names raws) >>= λ ls. few_monos raws >>= λ few. Ok (record d { shown = ls; place = Showing })
+shows d raws =
+    with_front d.shown (lits_in d.names raws) >>= λ ls. few_monos raws
+    >>= λ few. Ok (record d { shown = ls; place = Showing })
 
 -- the proof begins with the declared objects, and the names of the made ones are free again
 abbrev pub proof_begun : TheoremParser → Result TheoremParser FaultKind
-proof_begun d = Ok (record d { in_scope = declared_names (stated (statement_of_parser d)) d.names; place = Proving })
+proof_begun d =
+    Ok (record d {
+      in_scope = declared_names (stated (statement_of_parser d)) d.names;
+      place = Proving;
+    })
 
 -- a citation: its rule, its names and its literal, then the limits
 abbrev pub cited : TheoremParser → List ℕ → List (List ℕ) → RawLit → Result TheoremParser FaultKind
@@ -259,13 +324,16 @@ cited d r ns l = by_in d.in_scope r ns l >>= λ b. with_step d (Cited b) 1
 
 -- a literal that is to be allowed: its names, then the limits
 abbrev pub inferred : TheoremParser → RawLit → Result TheoremParser FaultKind
-inferred d raw = lit_in d.in_scope raw >>= λ l. with_step d (Inferred l None) 1 >>= λ e. with_terms e (raw ∷ [])
+inferred d raw =
+    lit_in d.in_scope raw >>= λ l. with_step d (Inferred l None) 1 >>= λ e. with_terms e (raw ∷ [])
 
 -- the close by qed: its objects, then the limit of steps
 abbrev pub concluded : TheoremParser → List (List ℕ) → Result TheoremParser FaultKind
-concluded d ns = qed_in d.in_scope (made_in d.blocks d.made) ns >>= λ objects. shut d (closes.Qed objects)
+concluded d ns =
+    qed_in d.in_scope (made_in d.blocks d.made) ns >>= λ objects. shut d (closes.Qed objects)
 
-unfoldable pub stepped : List TitledStatement → TheoremParser → RawLine → Result TheoremParser FaultKind
+unfoldable pub stepped : List TitledStatement → TheoremParser → RawLine
+    → Result TheoremParser FaultKind
 stepped known d (rawlines.Theorem t) = Err Malformed
 stepped known d (rawlines.Declare sort ns) = declares d sort ns
 stepped known d (rawlines.Given raws) = supposes d raws
@@ -285,7 +353,8 @@ stepped known d rawlines.Else = Ok (record d { place = Proving })
 stepped known d rawlines.End = Ok (record d { place = Done })
 
 -- a line at its place: its form there, then its names from left to right, then the limits
-unfoldable pub step : List TitledStatement → TheoremParser → RawLine → Result TheoremParser FaultKind
+unfoldable pub step : List TitledStatement → TheoremParser → RawLine
+    → Result TheoremParser FaultKind
 step known d form = if allowed d.place form then stepped known d form else Err Malformed
 
 -- how many names there are
@@ -333,9 +402,27 @@ no_names = record { points = []; lines = []; circles = [] }
 
 -- a theorem of which only the title has come
 abbrev pub begun : List ℕ → TheoremParser
-begun title = record { title = title; names = no_names; in_scope = no_names; declared = []; given = []; made = []; shown = []; steps = []; lines = 0; facts = 0; terms = 0; blocks = []; close = closes.Qed []; place = Declaring }
+begun title =
+    record {
+      title = title;
+      names = no_names;
+      in_scope = no_names;
+      declared = [];
+      given = [];
+      made = [];
+      shown = [];
+      steps = [];
+      lines = 0;
+      facts = 0;
+      terms = 0;
+      blocks = [];
+      close = closes.Qed [];
+      place = Declaring;
+    }
 
 -- a theorem begins with its title, which no earlier one has
 unfoldable pub begin : List TitledStatement → RawLine → Result TheoremParser FaultKind
-begin known (rawlines.Theorem t) = if is_known known t then Err NameTaken else (within (length known + 1) most_theorems limits.Theorems >>= λ few. Ok (begun t))
+begin known (rawlines.Theorem t) =
+    if is_known known t then Err NameTaken else
+    (within (length known + 1) most_theorems limits.Theorems >>= λ few. Ok (begun t))
 begin known form = Err Malformed

@@ -13,4 +13,5 @@ pub record TheoremView : Type 0 where
 
 -- a theorem of the code, without where its steps lie
 abbrev pub entry_of : Theorem → TheoremView
-entry_of t = record { title = t.title; names = t.names; statement = t.statement; script = script_of t.block }
+entry_of t =
+    record { title = t.title; names = t.names; statement = t.statement; script = script_of t.block }

@@ -1,5 +1,7 @@
 -- The lines of certificates, by their spelling alone, and how each is spelled.
-use Rattle.std.specs.Prelude.{ℕ, ℤ, pos, neg_ℤ, ◌^◌, Bool, ◌&&◌, ◌==◌, nat_lt, nat_le, List, [], ◌∷◌, length, decimal, Option, Some, None, Result, Ok, Err, codes, true, false, if◌then◌else◌}
+use Rattle.std.specs.Prelude.{ℕ, ℤ, pos, neg_ℤ, ◌^◌, Bool, ◌&&◌, ◌==◌, nat_lt, nat_le, List, []}
+use Rattle.std.specs.Prelude.{◌∷◌, length, decimal, Option, Some, None, Result, Ok, Err, codes}
+use Rattle.std.specs.Prelude.{true, false, if◌then◌else◌}
 use Rattle.std.specs.Str.{bytes_eq}
 use Rattle.std.specs.Fmt.{signed_decimal}
 use Rattle.e_text.specs.Tokens.{joined_words}
@@ -46,7 +48,9 @@ place_of_digits digits = placed (number_of digits)
 -- the row of a fact: one word is its place, and a literal has more
 unfoldable pub fact_row_of : List (List ℕ) → Result RawRow FaultKind
 fact_row_of [] = Err Malformed
-fact_row_of (w ∷ ws) = if length ws == 0 then (place_of_digits w >>= λ k. Ok (rows.FactAt k)) else (lit_of (w ∷ ws) >>= λ l. Ok (rows.Fact l))
+fact_row_of (w ∷ ws) =
+    if length ws == 0 then (place_of_digits w >>= λ k. Ok (rows.FactAt k)) else
+    (lit_of (w ∷ ws) >>= λ l. Ok (rows.Fact l))
 
 abbrev pub bare_row : List (List ℕ) → RawRow → Result RawRow FaultKind
 bare_row words row = end_at words >>= λ none. Ok row
@@ -80,7 +84,8 @@ abbrev pub bare_cert_line : List (List ℕ) → CertLine → Result CertLine Fau
 bare_cert_line words cert_line = end_at words >>= λ none. Ok cert_line
 
 unfoldable pub differs_of : List (List ℕ) → Result CertLine FaultKind
-differs_of words = raw_row_of words >>= λ r. if may_differ r then Ok (certlines.Differs r) else Err Malformed
+differs_of words =
+    raw_row_of words >>= λ r. if may_differ r then Ok (certlines.Differs r) else Err Malformed
 
 -- a rule, and the names of its arguments
 unfoldable pub transfer_of : List (List ℕ) → Result CertLine FaultKind
@@ -92,7 +97,8 @@ transfer_of words = do
 -- a fact, or the one at a place
 unfoldable pub fact_cert_line_of : List (List ℕ) → Result CertLine FaultKind
 fact_cert_line_of [] = Ok certlines.Fact
-fact_cert_line_of (w ∷ ws) = end_at ws >>= λ none. place_of_digits w >>= λ k. Ok (certlines.FactAt k)
+fact_cert_line_of (w ∷ ws) =
+    end_at ws >>= λ none. place_of_digits w >>= λ k. Ok (certlines.FactAt k)
 
 -- a row after its multiplier
 unfoldable pub row_cert_line_of : List ℕ → List (List ℕ) → Result CertLine FaultKind

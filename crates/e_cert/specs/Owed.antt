@@ -1,5 +1,6 @@
 -- The certificates that a line owes, while their lines come.
-use Rattle.std.specs.Prelude.{ℕ, ℤ, ◌+◌, Bool, true, false, ◌==◌, nat_lt, List, [], ◌∷◌, ◌++◌, length, slice_get, Option, Some, None, Result, Ok, Err, if◌then◌else◌}
+use Rattle.std.specs.Prelude.{ℕ, ℤ, ◌+◌, Bool, true, false, ◌==◌, nat_lt, List, [], ◌∷◌, ◌++◌}
+use Rattle.std.specs.Prelude.{length, slice_get, Option, Some, None, Result, Ok, Err, if◌then◌else◌}
 use Rattle.e_literal.specs.declared.literal.Lit.{Lit}
 use Rattle.e_literal.specs.declared.object.Obj.{Obj}
 use Rattle.e_literal.specs.Facts.{others}
@@ -65,8 +66,10 @@ with_row sum m r = if nat_lt (length sum) most_rows then Ok (sum ++ (m, r) ∷ [
 -- a row comes where a sum is begun
 abbrev pub row_put : Option OpenSums → ℤ → RowName → Result OpenSums FaultKind
 row_put (Some (sums.One sum)) m r = with_row sum m r >>= λ new. Ok (sums.One new)
-row_put (Some (sums.Above differs sum)) m r = with_row sum m r >>= λ new. Ok (sums.Above differs new)
-row_put (Some (sums.Below differs above sum)) m r = with_row sum m r >>= λ new. Ok (sums.Below differs above new)
+row_put (Some (sums.Above differs sum)) m r =
+    with_row sum m r >>= λ new. Ok (sums.Above differs new)
+row_put (Some (sums.Below differs above sum)) m r =
+    with_row sum m r >>= λ new. Ok (sums.Below differs above new)
 row_put _ m r = Err Malformed
 
 -- a sum is begun after the head of a metric certificate, after the row that differs, and after the
@@ -74,7 +77,8 @@ row_put _ m r = Err Malformed
 abbrev pub sum_begun : Option OpenSums → Result OpenSums FaultKind
 sum_begun (Some sums.Begun) = Ok (sums.One [])
 sum_begun (Some (sums.Differs differs)) = Ok (sums.Above differs [])
-sum_begun (Some (sums.Above differs sum)) = if nat_lt 0 (length sum) then Ok (sums.Below differs sum []) else Err Malformed
+sum_begun (Some (sums.Above differs sum)) =
+    if nat_lt 0 (length sum) then Ok (sums.Below differs sum []) else Err Malformed
 sum_begun _ = Err Malformed
 
 -- a row that differs comes right after the head
@@ -85,7 +89,8 @@ differs_put _ differs = Err Malformed
 -- the sums of a metric certificate that ends here: one sum, or both
 abbrev pub sums_ended : OpenSums → Result Sums FaultKind
 sums_ended (sums.One sum) = if nat_lt 0 (length sum) then Ok (One sum) else Err Malformed
-sums_ended (sums.Below differs above sum) = if nat_lt 0 (length sum) then Ok (Two differs above sum) else Err Malformed
+sums_ended (sums.Below differs above sum) =
+    if nat_lt 0 (length sum) then Ok (Two differs above sum) else Err Malformed
 sums_ended _ = Err Malformed
 
 -- ---- certificates
@@ -100,12 +105,17 @@ certificate t = Transfer (record { rule = t.rule; args = t.args; parts = t.parts
 -- a transfer that has all its parts is a certificate
 abbrev pub transfer_put : List Lit → List Cert → OpenTransfer → Result Obligation FaultKind
 transfer_put wanted certs t =
-    if length t.parts == t.owed then Ok (due.Literals wanted (certs ++ certificate t ∷ []) None) else Ok (due.Literals wanted certs (Some t))
+    if length t.parts == t.owed
+        then Ok (due.Literals wanted (certs ++ certificate t ∷ []) None)
+        else Ok (due.Literals wanted certs (Some t))
 
 -- what needs no rule certifies a part of the transfer that is begun, and else the next literal
 abbrev pub part_put : Obligation → Part → Result Obligation FaultKind
-part_put (due.Literals wanted certs None) p = if has_more wanted certs then Ok (due.Literals wanted (certs ++ Plain p ∷ []) None) else Err Malformed
-part_put (due.Literals wanted certs (Some t)) p = transfer_put wanted certs (record t { parts = t.parts ++ p ∷ [] })
+part_put (due.Literals wanted certs None) p =
+    if has_more wanted certs then Ok (due.Literals wanted (certs ++ Plain p ∷ []) None) else
+    Err Malformed
+part_put (due.Literals wanted certs (Some t)) p =
+    transfer_put wanted certs (record t { parts = t.parts ++ p ∷ [] })
 part_put _ p = Err Malformed
 
 -- a metric certificate may be of a contradiction too
@@ -135,10 +145,13 @@ count_others wanted lits = length (others lits wanted)
 -- a transfer of which no part has come. It owes a part for each place of its instance that has not
 -- the wanted literal
 unfoldable pub transfer_at : Lit → ℕ → List Obj → Result OpenTransfer FaultKind
-transfer_at wanted r args = or_malformed (Inst r args) >>= λ lits. Ok (record { rule = r; args = args; parts = []; owed = count_others wanted lits })
+transfer_at wanted r args =
+    or_malformed (Inst r args)
+    >>= λ lits. Ok (record { rule = r; args = args; parts = []; owed = count_others wanted lits })
 
 -- a rule with an object for each of its variables
-unfoldable pub open_transfer_in : Names → Lit → List ℕ → List (List ℕ) → Result OpenTransfer FaultKind
+unfoldable pub open_transfer_in : Names → Lit → List ℕ → List (List ℕ)
+    → Result OpenTransfer FaultKind
 open_transfer_in ns wanted title raws = do
   r ← transfer_rule (number_of_rule title)
   s ← variables_of (sig_of r)
@@ -147,9 +160,11 @@ open_transfer_in ns wanted title raws = do
   transfer_at wanted r args
 
 -- a transfer is begun for the next literal, and is no part of another one
-abbrev pub transfer_begun : Names → Obligation → List ℕ → List (List ℕ) → Result Obligation FaultKind
+abbrev pub transfer_begun : Names → Obligation → List ℕ → List (List ℕ)
+    → Result Obligation FaultKind
 transfer_begun ns (due.Literals wanted certs None) title raws =
-    or_malformed (slice_get wanted (length certs)) >>= λ l. open_transfer_in ns l title raws >>= λ t. transfer_put wanted certs t
+    or_malformed (slice_get wanted (length certs)) >>= λ l. open_transfer_in ns l title raws
+    >>= λ t. transfer_put wanted certs t
 transfer_begun ns d title raws = Err Malformed
 
 -- ---- lines
@@ -157,7 +172,9 @@ transfer_begun ns d title raws = Err Malformed
 -- a line that is no row and no sum ends the sums before it
 abbrev pub with_sums_ended : Pending → Option OpenSums → Result Pending FaultKind
 with_sums_ended o None = Ok o
-with_sums_ended o (Some s) = sums_ended s >>= λ all. metric_put o.due (record { sums = all }) >>= λ d. Ok (record o { due = d; sums = None })
+with_sums_ended o (Some s) =
+    sums_ended s >>= λ all. metric_put o.due (record { sums = all })
+    >>= λ d. Ok (record o { due = d; sums = None })
 
 abbrev pub sums_after : Pending → OpenSums → Pending
 sums_after o s = record o { sums = Some s }
@@ -167,19 +184,30 @@ due_after o d = record o { due = d }
 
 -- what is owed after a line of a certificate
 unfoldable pub after_cert_line : Pending → CertLine → Result Pending FaultKind
-after_cert_line o certlines.Fact = with_sums_ended o o.sums >>= λ e. part_put e.due parts.Fact >>= λ d. Ok (due_after e d)
-after_cert_line o (certlines.FactAt k) = with_sums_ended o o.sums >>= λ e. part_put e.due (parts.FactAt k) >>= λ d. Ok (due_after e d)
-after_cert_line o certlines.Metric = with_sums_ended o o.sums >>= λ e. if takes_metric e.due then Ok (sums_after e sums.Begun) else Err Malformed
-after_cert_line o (certlines.Transfer title raws) = with_sums_ended o o.sums >>= λ e. transfer_begun e.names e.due title raws >>= λ d. Ok (due_after e d)
-after_cert_line o (certlines.Clash raw) = with_sums_ended o o.sums >>= λ e. lit_in e.names raw >>= λ l. clash_put e.due l >>= λ d. Ok (due_after e d)
+after_cert_line o certlines.Fact =
+    with_sums_ended o o.sums >>= λ e. part_put e.due parts.Fact >>= λ d. Ok (due_after e d)
+after_cert_line o (certlines.FactAt k) =
+    with_sums_ended o o.sums >>= λ e. part_put e.due (parts.FactAt k) >>= λ d. Ok (due_after e d)
+after_cert_line o certlines.Metric =
+    with_sums_ended o o.sums
+    >>= λ e. if takes_metric e.due then Ok (sums_after e sums.Begun) else Err Malformed
+after_cert_line o (certlines.Transfer title raws) =
+    with_sums_ended o o.sums >>= λ e. transfer_begun e.names e.due title raws
+    >>= λ d. Ok (due_after e d)
+after_cert_line o (certlines.Clash raw) =
+    with_sums_ended o o.sums >>= λ e. lit_in e.names raw >>= λ l. clash_put e.due l
+    >>= λ d. Ok (due_after e d)
 after_cert_line o certlines.Sum = sum_begun o.sums >>= λ s. Ok (sums_after o s)
-after_cert_line o (certlines.Differs raw) = row_in o.names raw >>= λ r. differs_put o.sums r >>= λ s. Ok (sums_after o s)
-after_cert_line o (certlines.Row m raw) = row_in o.names raw >>= λ r. row_put o.sums m r >>= λ s. Ok (sums_after o s)
+after_cert_line o (certlines.Differs raw) =
+    row_in o.names raw >>= λ r. differs_put o.sums r >>= λ s. Ok (sums_after o s)
+after_cert_line o (certlines.Row m raw) =
+    row_in o.names raw >>= λ r. row_put o.sums m r >>= λ s. Ok (sums_after o s)
 
 -- what was read for a line, where nothing is owed any more; a line without certificates has nothing
 abbrev pub kept_of : Obligation → Result (Option StepCerts) FaultKind
 kept_of due.Nothing = Ok None
-kept_of (due.Literals wanted certs None) = if has_more wanted certs then Err Malformed else Ok (Some (kept.Certs certs))
+kept_of (due.Literals wanted certs None) =
+    if has_more wanted certs then Err Malformed else Ok (Some (kept.Certs certs))
 kept_of (due.Literals wanted certs (Some t)) = Err Malformed
 kept_of (due.Contradiction None) = Err Malformed
 kept_of (due.Contradiction (Some a)) = Ok (Some (kept.Against a))

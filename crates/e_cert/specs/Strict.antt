@@ -22,4 +22,7 @@ is_strict_cert_line cert_line = true
 
 -- the same of a line of a certificate, where these are the words after its sign
 unfoldable pub exact_cert_line : List ℕ → List (List ℕ) → Result CertLine FaultKind
-exact_cert_line line words = cert_line_of words >>= λ m. if is_strict_cert_line m && bytes_eq line (cert_line_text m) then Ok m else Err Malformed
+exact_cert_line line words =
+    cert_line_of words
+    >>= λ m. if is_strict_cert_line m && bytes_eq line (cert_line_text m) then Ok m else
+        Err Malformed

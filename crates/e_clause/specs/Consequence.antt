@@ -9,7 +9,8 @@ use Rattle.e_clause.specs.Transfer.{TransferConsequence}
 
 -- the literal is among the facts, or is a metric or a transfer consequence of them
 abbrev pub Consequence : Scope → List Lit → Lit → Type 0
-Consequence scope facts l = IsTrue (has facts l) ⊎ (MetricConsequence facts l ⊎ TransferConsequence scope facts l)
+Consequence scope facts l =
+    IsTrue (has facts l) ⊎ (MetricConsequence facts l ⊎ TransferConsequence scope facts l)
 
 -- a diagram literal and its negation are facts, or no assignment makes the metric facts true
 abbrev pub Contradictory : List Lit → Type 0

@@ -1,5 +1,6 @@
 -- Values of the terms of a step, listed in their order, that show that a literal does not follow.
-use Rattle.std.specs.Prelude.{◌≡◌, ℕ, List, [], ◌∷◌, map, Bool, true, ◌&&◌, if◌then◌else◌, IsTrue, Option}
+use Rattle.std.specs.Prelude.{◌≡◌, ℕ, List, [], ◌∷◌, map, Bool, true, ◌&&◌, if◌then◌else◌, IsTrue}
+use Rattle.std.specs.Prelude.{Option}
 use Rattle.std.specs.List.{list_all}
 use Rattle.std.specs.Ordering.{nat_cmp, is_lt}
 use Rattle.std.specs.Cmp.Lexicographic.{slice_cmp}
@@ -31,7 +32,9 @@ listed_terms values = map (λ p. p.0) values
 
 -- the terms of the step, each once, with its points in their normal order, and the terms in theirs;
 -- and with these values the facts are true and the wanted literal, where one is wanted, is false
-pub record ListsCounterexample (facts : List Lit) (wanted : Option Lit) (values : List (Term × ℕ)) : Type 0 where
+pub record ListsCounterexample (facts : List Lit) (wanted : Option Lit)
+    (values : List (Term × ℕ)) : Type 0 where
   pub in_order : IsTrue (are_in_order (listed_terms values))
-  pub of_step : (t : Term) → is_among (listed_terms values) t ≡ is_among (map canonical (terms_of_step facts wanted)) t
+  pub of_step : (t : Term)
+      → is_among (listed_terms values) t ≡ is_among (map canonical (terms_of_step facts wanted)) t
   pub counterexample : IsCounterexample facts wanted (value_in values)

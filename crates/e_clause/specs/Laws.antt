@@ -27,30 +27,38 @@ use Rattle.e_clause.specs.TransferCertificate.{transfer_certifies, are_args_in}
 -- what a metric certificate certifies is a metric consequence
 abbrev pub MetricCertificateIsSound : Type 0
 MetricCertificateIsSound =
-    (facts : List Lit) (l : Lit) (m : MetricCert) → IsTrue (metric_certifies facts l m) → MetricConsequence facts l
+    (facts : List Lit) (l : Lit) (m : MetricCert) → IsTrue (metric_certifies facts l m)
+    → MetricConsequence facts l
 
 -- where one shows a contradiction, the facts are unsatisfiable
 abbrev pub MetricContradictionIsSound : Type 0
-MetricContradictionIsSound = (facts : List Lit) (m : MetricCert) → IsTrue (metric_contradicts facts m) → Unsatisfiable facts
+MetricContradictionIsSound =
+    (facts : List Lit) (m : MetricCert) → IsTrue (metric_contradicts facts m) → Unsatisfiable facts
 
 -- what a transfer certificate certifies is a transfer consequence
 abbrev pub TransferCertificateIsSound : Type 0
 TransferCertificateIsSound =
     (scope : Scope) (facts : List Lit) (l : Lit) (t : TransferCert) →
-    IsTrue (are_args_in scope t) → IsTrue (transfer_certifies facts l t) → TransferConsequence scope facts l
+    IsTrue (are_args_in scope t) → IsTrue (transfer_certifies facts l t)
+    → TransferConsequence scope facts l
 
 -- what certifies a contradiction shows that the facts contradict each other
 abbrev pub ContradictionCertificateIsSound : Type 0
 ContradictionCertificateIsSound =
-    (scope : Scope) (facts : List Lit) (a : Against) → IsTrue (certifies_against scope facts a) → Contradictory facts
+    (scope : Scope) (facts : List Lit) (a : Against)
+    → IsTrue (certifies_against scope facts a) → Contradictory facts
 
 -- what a certificate certifies is allowed
 abbrev pub CertificateIsSound : Type 0
-CertificateIsSound = (scope : Scope) (facts : List Lit) (l : Lit) (c : Cert) → IsTrue (certifies scope facts l c) → Allowed scope facts l
+CertificateIsSound =
+    (scope : Scope) (facts : List Lit) (l : Lit) (c : Cert)
+    → IsTrue (certifies scope facts l c) → Allowed scope facts l
 
 -- a metric literal among the facts is a metric consequence
 abbrev pub MetricFactFollows : Type 0
-MetricFactFollows = (facts : List Lit) (l : Lit) → IsTrue (is_metric l) → IsTrue (has facts l) → MetricConsequence facts l
+MetricFactFollows =
+    (facts : List Lit) (l : Lit) → IsTrue (is_metric l) → IsTrue (has facts l)
+    → MetricConsequence facts l
 
 -- ---- systems
 
@@ -83,12 +91,16 @@ UnsolvedFollows =
 -- and the facts are unsatisfiable where one of their metric systems has none
 abbrev pub UnsolvedContradicts : Type 0
 UnsolvedContradicts =
-    (facts : List Lit) (which : Kind) → ¬ HasSolution (rows_of_system which facts None) → Unsatisfiable facts
+    (facts : List Lit) (which : Kind)
+    → ¬ HasSolution (rows_of_system which facts None) → Unsatisfiable facts
 
 -- a counterexample shows that the literal does not follow
 abbrev pub CounterexampleRefutes : Type 0
-CounterexampleRefutes = (facts : List Lit) (l : Lit) (v : Term → ℕ) → IsCounterexample facts (Some l) v → ¬ MetricConsequence facts l
+CounterexampleRefutes =
+    (facts : List Lit) (l : Lit) (v : Term → ℕ) → IsCounterexample facts (Some l) v
+    → ¬ MetricConsequence facts l
 
 -- or that the facts are satisfiable
 abbrev pub CounterexampleSatisfies : Type 0
-CounterexampleSatisfies = (facts : List Lit) (v : Term → ℕ) → IsCounterexample facts None v → ¬ Unsatisfiable facts
+CounterexampleSatisfies =
+    (facts : List Lit) (v : Term → ℕ) → IsCounterexample facts None v → ¬ Unsatisfiable facts

@@ -1,5 +1,6 @@
 -- What a metric certificate certifies: a literal, or that the facts contradict each other.
-use Rattle.std.specs.Prelude.{List, Bool, true, false, ◌&&◌, if◌then◌else◌, ℤ, Option, Some, None, option_and_then}
+use Rattle.std.specs.Prelude.{List, Bool, true, false, ◌&&◌, if◌then◌else◌, ℤ, Option, Some, None}
+use Rattle.std.specs.Prelude.{option_and_then}
 use Rattle.std.specs.Option.{option_map_or}
 use Rattle.std.specs.List.{list_all}
 use Rattle.e_literal.specs.declared.object.Scope.{Scope}
@@ -25,7 +26,9 @@ differing_of facts wanted (FactAt k) = row_at facts k
 differing_of facts wanted _ = None
 
 abbrev pub differing : List Lit → Option Lit → RowName → Option Row
-differing facts wanted name = option_and_then (λ r. if says_differ r.says then Some r else None) (differing_of facts wanted name)
+differing facts wanted name =
+    option_and_then (λ r. if says_differ r.says then Some r else None)
+        (differing_of facts wanted name)
 
 -- the row that says that the form is more than 0, and the one that says that it is less
 abbrev pub above_row : Row → Row
@@ -35,19 +38,24 @@ abbrev pub below_row : Row → Row
 below_row r = record { says = More; form = negative r.form }
 
 -- the form is not more than 0 by the first sum, and not less by the second
-abbrev pub both_refute : List Lit → Option Lit → Row → List (ℤ × RowName) → List (ℤ × RowName) → Bool
+abbrev pub both_refute : List Lit → Option Lit → Row → List (ℤ × RowName)
+    → List (ℤ × RowName) → Bool
 both_refute facts wanted r first second =
-    refutes (record { facts = facts; wanted = wanted; above = Some (above_row r); below = None }) first
-    && refutes (record { facts = facts; wanted = wanted; above = None; below = Some (below_row r) }) second
+    refutes
+        (record { facts = facts; wanted = wanted; above = Some (above_row r); below = None }) first
+    && refutes
+        (record { facts = facts; wanted = wanted; above = None; below = Some (below_row r) }) second
 
 -- ---- the sums of a certificate
 
 -- the facts and the negation of the wanted literal, where one is wanted, cannot all be true, by
 -- these sums
 abbrev pub sums_refute : List Lit → Option Lit → Sums → Bool
-sums_refute facts wanted (One sum) = refutes (record { facts = facts; wanted = wanted; above = None; below = None }) sum
+sums_refute facts wanted (One sum) =
+    refutes (record { facts = facts; wanted = wanted; above = None; below = None }) sum
 sums_refute facts wanted (Two differs first second) =
-    option_map_or (λ r. both_refute facts wanted r first second) (differing facts wanted differs) false
+    option_map_or (λ r. both_refute facts wanted r first second)
+        (differing facts wanted differs) false
 
 -- ---- the objects that a certificate names are in the scope before its step
 
@@ -63,7 +71,8 @@ sum_in s xs = list_all (λ x. row_name_in s x.1) xs
 
 abbrev pub are_sums_in : Scope → Sums → Bool
 are_sums_in s (One sum) = sum_in s sum
-are_sums_in s (Two differs first second) = row_name_in s differs && (sum_in s first && sum_in s second)
+are_sums_in s (Two differs first second) =
+    row_name_in s differs && (sum_in s first && sum_in s second)
 
 -- ---- what it certifies
 

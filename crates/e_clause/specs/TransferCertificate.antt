@@ -15,7 +15,8 @@ use Rattle.e_clause.specs.PartCertificate.{part_certifies, part_in}
 -- one part for the negation of each of the literals, in order
 abbrev pub parts_certify : List Lit → List Lit → List Part → Bool
 parts_certify facts [] [] = true
-parts_certify facts (l ∷ ls) (p ∷ ps) = part_certifies facts (negation l) p && parts_certify facts ls ps
+parts_certify facts (l ∷ ls) (p ∷ ps) =
+    part_certifies facts (negation l) p && parts_certify facts ls ps
 parts_certify facts _ _ = false
 
 -- the literal is one of the instance, and the parts are for the others
@@ -25,7 +26,8 @@ instance_certifies facts l parts lits = has lits l && parts_certify facts (other
 -- the instance of a transfer clause gives the literal
 abbrev pub transfer_certifies : List Lit → Lit → TransferCert → Bool
 transfer_certifies facts l t =
-    is_transfer t.rule && option_map_or (instance_certifies facts l t.parts) (Inst t.rule t.args) false
+    is_transfer t.rule
+    && option_map_or (instance_certifies facts l t.parts) (Inst t.rule t.args) false
 
 -- the arguments are in the scope before the step
 abbrev pub are_args_in : Scope → TransferCert → Bool

@@ -10,7 +10,8 @@ use Rattle.e_clause.specs.declared.cert.RowName.TheVariants.{Fact, FactAt}
 use Rattle.e_clause.specs.declared.cert.Sums.{Sums}
 use Rattle.e_clause.specs.declared.cert.Sums.TheVariants.{One, Two}
 use Rattle.e_clause.specs.declared.cert.Part.{Part}
-use Rattle.e_clause.specs.declared.cert.Part.TheVariants.{Fact as FactPart, Metric, FactAt as FactPartAt}
+use Rattle.e_clause.specs.declared.cert.Part.TheVariants.{Fact as FactPart, Metric}
+use Rattle.e_clause.specs.declared.cert.Part.TheVariants.{FactAt as FactPartAt}
 use Rattle.e_clause.specs.declared.cert.Cert.{Cert}
 use Rattle.e_clause.specs.declared.cert.Cert.TheVariants.{Plain, Transfer}
 use Rattle.e_clause.specs.declared.cert.Against.{Against}
@@ -38,7 +39,8 @@ is_sum_of v xs = list_all (λ x. is_name_of v x.1) xs
 
 abbrev pub are_sums_of : Version → Sums → Bool
 are_sums_of v (One sum) = is_sum_of v sum
-are_sums_of v (Two differs above below) = is_name_of v differs && (is_sum_of v above && is_sum_of v below)
+are_sums_of v (Two differs above below) =
+    is_name_of v differs && (is_sum_of v above && is_sum_of v below)
 
 -- a fact that is the wanted literal is cited as in this version: with nothing more, or by a place
 -- of 32 bits

@@ -7,7 +7,8 @@ use Rattle.e_clause.specs.declared.cert.RowName.TheVariants.{Fact, FactAt}
 use Rattle.e_clause.specs.declared.cert.Sums.{Sums}
 use Rattle.e_clause.specs.declared.cert.Sums.TheVariants.{One, Two}
 use Rattle.e_clause.specs.declared.cert.Part.{Part}
-use Rattle.e_clause.specs.declared.cert.Part.TheVariants.{Fact as FactPart, Metric, FactAt as FactPartAt}
+use Rattle.e_clause.specs.declared.cert.Part.TheVariants.{Fact as FactPart, Metric}
+use Rattle.e_clause.specs.declared.cert.Part.TheVariants.{FactAt as FactPartAt}
 use Rattle.e_clause.specs.declared.cert.Cert.{Cert}
 use Rattle.e_clause.specs.declared.cert.Cert.TheVariants.{Plain, Transfer}
 use Rattle.e_clause.specs.declared.cert.Against.{Against}
@@ -24,7 +25,8 @@ is_writable_sum xs = list_all (λ x. is_writable_name x.1) xs
 
 abbrev pub are_writable_sums : Sums → Bool
 are_writable_sums (One sum) = is_writable_sum sum
-are_writable_sums (Two differs above below) = is_writable_name differs && (is_writable_sum above && is_writable_sum below)
+are_writable_sums (Two differs above below) =
+    is_writable_name differs && (is_writable_sum above && is_writable_sum below)
 
 abbrev pub is_writable_part : Part → Bool
 is_writable_part FactPart = true

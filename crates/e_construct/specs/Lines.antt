@@ -4,7 +4,14 @@ use Rattle.e_literal.specs.declared.object.Obj.{Obj}
 use Rattle.e_literal.specs.declared.object.Sort.{Sort}
 use Rattle.e_literal.specs.Scopes.{same_sort}
 use Rattle.e_construct.specs.declared.construction.Shape.{Shape}
-use Rattle.e_construct.specs.declared.construction.Shape.TheVariants.{Free, OnLine, Within, Beyond, SideOf, Opposite, OnCircle, Inside, Outside, LineThrough, CircleAt, MeetLines, MeetOne, MeetBoth, MeetWithin, MeetBeyond, CirclesOne, CirclesBoth, CirclesSide, CirclesOpposite}
+use Rattle.e_construct.specs.declared.construction.Shape.TheVariants.{Free, OnLine, Within, Beyond}
+use Rattle.e_construct.specs.declared.construction.Shape.TheVariants.{SideOf, Opposite, OnCircle}
+use Rattle.e_construct.specs.declared.construction.Shape.TheVariants.{Inside, Outside, LineThrough}
+use Rattle.e_construct.specs.declared.construction.Shape.TheVariants.{CircleAt, MeetLines, MeetOne}
+use Rattle.e_construct.specs.declared.construction.Shape.TheVariants.{MeetBoth, MeetWithin}
+use Rattle.e_construct.specs.declared.construction.Shape.TheVariants.{MeetBeyond, CirclesOne}
+use Rattle.e_construct.specs.declared.construction.Shape.TheVariants.{CirclesBoth, CirclesSide}
+use Rattle.e_construct.specs.declared.construction.Shape.TheVariants.{CirclesOpposite}
 use Rattle.e_construct.specs.Shapes.{Avoids, NoObject, AnyObject, AnyApartFrom, shape_row}
 use Rattle.e_construct.specs.Construct.{sorts_of}
 
@@ -79,14 +86,20 @@ pieces MeetWithin = New ∷ meet ∷ Argument ∷ Argument ∷ between ∷ Argum
 pieces MeetBeyond = New ∷ meet ∷ Argument ∷ Argument ∷ beyond ∷ Argument ∷ from ∷ Argument ∷ []
 pieces CirclesOne = New ∷ meet ∷ Argument ∷ Argument ∷ []
 pieces CirclesBoth = New ∷ New ∷ meet ∷ Argument ∷ Argument ∷ []
-pieces CirclesSide = New ∷ meet ∷ Argument ∷ Argument ∷ side ∷ Argument ∷ of ∷ Argument ∷ centers ∷ Argument ∷ Argument ∷ []
-pieces CirclesOpposite = New ∷ meet ∷ Argument ∷ Argument ∷ opposite ∷ Argument ∷ of ∷ Argument ∷ centers ∷ Argument ∷ Argument ∷ []
+pieces CirclesSide =
+    New ∷ meet ∷ Argument ∷ Argument ∷ side ∷ Argument ∷ of ∷ Argument ∷ centers
+    ∷ Argument ∷ Argument ∷ []
+pieces CirclesOpposite =
+    New ∷ meet ∷ Argument ∷ Argument ∷ opposite ∷ Argument ∷ of ∷ Argument ∷ centers
+    ∷ Argument ∷ Argument ∷ []
 
 -- the twenty shapes, in the order of the table
 abbrev pub all_shapes : List Shape
 all_shapes =
-    Free ∷ OnLine ∷ Within ∷ Beyond ∷ SideOf ∷ Opposite ∷ OnCircle ∷ Inside ∷ Outside ∷ LineThrough ∷ CircleAt
-    ∷ MeetLines ∷ MeetOne ∷ MeetBoth ∷ MeetWithin ∷ MeetBeyond ∷ CirclesOne ∷ CirclesBoth ∷ CirclesSide ∷ CirclesOpposite ∷ []
+    Free ∷ OnLine ∷ Within ∷ Beyond ∷ SideOf ∷ Opposite ∷ OnCircle ∷ Inside ∷ Outside
+    ∷ LineThrough ∷ CircleAt
+    ∷ MeetLines ∷ MeetOne ∷ MeetBoth ∷ MeetWithin ∷ MeetBeyond ∷ CirclesOne ∷ CirclesBoth
+    ∷ CirclesSide ∷ CirclesOpposite ∷ []
 
 abbrev pub are_avoided : Avoids → Bool
 are_avoided NoObject = false

@@ -6,7 +6,8 @@ use Rattle.e_literal.specs.declared.literal.Lit.{Lit}
 use Rattle.e_literal.specs.Use.{StatementView}
 use Rattle.e_clause.specs.declared.cert.Cert.{Cert}
 use Rattle.e_clause.specs.Certify.{certify_all, certifies_against}
-use Rattle.e_deriv.specs.Script.{Script, Cite, Hence, Make, Apply, Claim, Superposed, Qed, Contradiction, Cases}
+use Rattle.e_deriv.specs.Script.{Script, Cite, Hence, Make, Apply, Claim, Superposed, Qed}
+use Rattle.e_deriv.specs.Script.{Contradiction, Cases}
 use Rattle.e_deriv.specs.Lines.{Line, proof_lines, first_failure}
 use Rattle.e_deriv.specs.Parts.{has_no_blank}
 use Rattle.e_deriv.specs.Steps.{fits, needs, is_cited}
@@ -36,7 +37,8 @@ certified_beside _ s facts = true
 -- the line's form fits, and its certificates certify its needs
 abbrev pub is_certified : List StatementView → Line → Bool
 is_certified before x =
-    fits before x && (certify_all x.scope x.facts (needs before x) (certs_of x.here) && certified_beside x.here x.scope x.facts)
+    fits before x && (certify_all x.scope x.facts (needs before x) (certs_of x.here)
+        && certified_beside x.here x.scope x.facts)
 
 -- the lines of a derivation, which has no blanks to fill
 abbrev pub derivation_lines : List StatementView → StatementView → Script → List Line

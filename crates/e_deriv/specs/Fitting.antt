@@ -35,14 +35,17 @@ abbrev pub LitsFit : List StatementView → List Line → Type 0
 LitsFit before [] = Unit {0}
 LitsFit before (x ∷ xs) =
     IsTrue (are_limited_facts x.scope x.facts)
-    × (IsTrue (fits before x) → IsTrue (are_well_formed_in x.scope (needs before x)) × LitsFit before xs)
+    × (IsTrue (fits before x)
+        → IsTrue (are_well_formed_in x.scope (needs before x)) × LitsFit before xs)
 
 -- the form of each line fits, and so do the literals, however blanks are filled; there are at most
 -- 1,024 lines, and at most 32 blocks are one inside the other; before each line at most 1,000
 -- objects of each sort are in scope, and no statement has more, so that every object has a number
 -- of 16 bits
-pub record IsFitting (before : List StatementView) (t : StatementView) (script : Script) : Type 0 where
-  pub forms : IsTrue (list_all (λ x. form_fits before x x.here) (proof_lines before t script script))
+pub record IsFitting (before : List StatementView) (t : StatementView)
+    (script : Script) : Type 0 where
+  pub forms :
+      IsTrue (list_all (λ x. form_fits before x x.here) (proof_lines before t script script))
   pub lits : (filled : Script) → LitsFit before (proof_lines before t script filled)
   pub scopes : IsTrue (list_all (λ x. is_small x.scope) (proof_lines before t script script))
   pub statements : IsTrue (list_all is_small_statement before)

@@ -11,16 +11,22 @@ use Rattle.e_deriv.specs.Certified.{Certified, derivation_lines}
 
 -- what is certified is a proof
 abbrev pub CertifiedProves : Type 0
-CertifiedProves = (before : List StatementView) (t : StatementView) (d : Script) → Certified before t d → IsProof before t d
+CertifiedProves =
+    (before : List StatementView) (t : StatementView) (d : Script)
+    → Certified before t d → IsProof before t d
 
 -- a script whose lines are all licensed is a proof, with its blanks filled as there
 abbrev pub LicensedProves : Type 0
 LicensedProves =
-    (before : List StatementView) (t : StatementView) (script filled : Script) → AllLicensed before (proof_lines before t script filled) → IsProof before t (filled_by script filled)
+    (before : List StatementView) (t : StatementView) (script filled : Script)
+    → AllLicensed before (proof_lines before t script filled)
+    → IsProof before t (filled_by script filled)
 
 -- and each line of a proof is licensed
 abbrev pub ProofIsLicensed : Type 0
-ProofIsLicensed = (before : List StatementView) (t : StatementView) (d : Script) → IsProof before t d → AllLicensed before (derivation_lines before t d)
+ProofIsLicensed =
+    (before : List StatementView) (t : StatementView) (d : Script) → IsProof before t d
+    → AllLicensed before (derivation_lines before t d)
 
 -- what holds before the line of a number is one, however the blanks of lines that are not licensed
 -- are filled
@@ -32,16 +38,19 @@ pub record SamePlace (x y : Line) : Type 0 where
 
 abbrev pub ContextIsOne : Type 0
 ContextIsOne =
-    (before : List StatementView) (t : StatementView) (script : Script) (n : ℕ) (x y : Line) → IsContext before t script n x → IsContext before t script n y → SamePlace x y
+    (before : List StatementView) (t : StatementView) (script : Script) (n : ℕ) (x y : Line)
+    → IsContext before t script n x → IsContext before t script n y → SamePlace x y
 
 -- where each line is licensed none is the first that is not
 abbrev pub LicensedHasNoStop : Type 0
 LicensedHasNoStop =
-    (before : List StatementView) (t : StatementView) (script filled : Script) (n : ℕ) (w : Wanted) → AllLicensed before (proof_lines before t script filled)
+    (before : List StatementView) (t : StatementView) (script filled : Script) (n : ℕ) (w : Wanted)
+    → AllLicensed before (proof_lines before t script filled)
     → ¬ IsFirstUnlicensed before t script n w
 
 -- the first step that is not licensed is one, and what it lacks too
 abbrev pub StopIsOne : Type 0
 StopIsOne =
     (before : List StatementView) (t : StatementView) (script : Script) (n m : ℕ) (v w : Wanted) →
-    IsFirstUnlicensed before t script n v → IsFirstUnlicensed before t script m w → (n ≡ m) × (v ≡ w)
+    IsFirstUnlicensed before t script n v
+    → IsFirstUnlicensed before t script m w → (n ≡ m) × (v ≡ w)

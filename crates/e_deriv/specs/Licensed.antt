@@ -1,6 +1,7 @@
 -- When a line is licensed, whatever the blocks inside it are; the first that is not, and what it
 -- lacks.
-use Rattle.std.specs.Prelude.{◌≡◌, ℕ, suc, List, [], ◌∷◌, ◌++◌, take, slice_get, IsTrue, IsFalse, Some}
+use Rattle.std.specs.Prelude.{◌≡◌, ℕ, suc, List, [], ◌∷◌, ◌++◌, take, slice_get, IsTrue, IsFalse}
+use Rattle.std.specs.Prelude.{Some}
 use Rattle.e_literal.specs.declared.object.Obj.{Obj}
 use Rattle.e_literal.specs.declared.object.Scope.{Scope}
 use Rattle.e_literal.specs.declared.literal.Lit.{Lit}
@@ -9,7 +10,8 @@ use Rattle.e_clause.specs.Allowed.{Allowed, AllAllowed}
 use Rattle.e_clause.specs.Consequence.{Contradictory}
 use Rattle.e_theorem.specs.Choice.{IsLeastChoice, NoneIsAllowed}
 use Rattle.e_deriv.specs.declared.stop.Wanted.{Wanted}
-use Rattle.e_deriv.specs.declared.stop.Wanted.TheVariants.{Literal, Match, Contradiction as AContradiction}
+use Rattle.e_deriv.specs.declared.stop.Wanted.TheVariants.{Literal, Match}
+use Rattle.e_deriv.specs.declared.stop.Wanted.TheVariants.{Contradiction as AContradiction}
 use Rattle.e_deriv.specs.Script.{Script, Cite, Hence, Make, Apply, Superposed, Qed, Contradiction}
 use Rattle.e_deriv.specs.Parts.{has_no_blank}
 use Rattle.e_deriv.specs.Lines.{Line, theorem_at, proof_lines}
@@ -20,7 +22,8 @@ use Rattle.e_deriv.specs.Steps.{fits, needs, needs_as_written, is_cited}
 -- each other
 abbrev pub LicensedBeside : List StatementView → Script → Scope → List Lit → List Obj → Type 0
 LicensedBeside before (Cite by rest) s facts args = IsTrue (is_cited facts by)
-LicensedBeside before (Apply theorem pattern names certs rest) s facts args = IsLeastChoice (theorem_at before theorem) s facts pattern args
+LicensedBeside before (Apply theorem pattern names certs rest) s facts args =
+    IsLeastChoice (theorem_at before theorem) s facts pattern args
 LicensedBeside before (Contradiction against) s facts args = Contradictory facts
 LicensedBeside before _ s facts args = Unit {0}
 
@@ -34,7 +37,8 @@ AllLicensed before [] = Unit {0}
 AllLicensed before (x ∷ xs) = Licensed before x × AllLicensed before xs
 
 -- the literal is the first of the list that is not allowed
-pub record IsFirstNotAllowed (scope : Scope) (facts : List Lit) (ls : List Lit) (l : Lit) : Type 0 where
+pub record IsFirstNotAllowed (scope : Scope) (facts : List Lit) (ls : List Lit)
+    (l : Lit) : Type 0 where
   pub earlier : List Lit
   pub later : List Lit
   pub split : ls ≡ earlier ++ l ∷ later
@@ -45,20 +49,26 @@ pub record IsFirstNotAllowed (scope : Scope) (facts : List Lit) (ls : List Lit) 
 -- is good
 abbrev pub Lacks : List StatementView → Line → Script → Wanted → Type 0
 Lacks before x (Cite by rest) (Literal l) = IsFalse (is_cited x.facts by) × (l ≡ by.lit)
-Lacks before x (Hence lit cert rest) (Literal l) = IsFirstNotAllowed x.scope x.facts (needs_as_written before x) l
-Lacks before x (Make form names certs rest) (Literal l) = IsFirstNotAllowed x.scope x.facts (needs_as_written before x) l
+Lacks before x (Hence lit cert rest) (Literal l) =
+    IsFirstNotAllowed x.scope x.facts (needs_as_written before x) l
+Lacks before x (Make form names certs rest) (Literal l) =
+    IsFirstNotAllowed x.scope x.facts (needs_as_written before x) l
 Lacks before x (Apply theorem pattern names certs rest) (Literal l) =
     IsTrue (has_no_blank pattern) × IsFirstNotAllowed x.scope x.facts (needs_as_written before x) l
 Lacks before x (Apply theorem pattern names certs rest) Match =
-    IsFalse (has_no_blank pattern) × NoneIsAllowed (theorem_at before theorem) x.scope x.facts pattern
-Lacks before x (Superposed form names shown certs inner rest) (Literal l) = IsFirstNotAllowed x.scope x.facts (needs_as_written before x) l
-Lacks before x (Qed objects certs) (Literal l) = IsFirstNotAllowed x.scope x.facts (needs_as_written before x) l
+    IsFalse (has_no_blank pattern)
+    × NoneIsAllowed (theorem_at before theorem) x.scope x.facts pattern
+Lacks before x (Superposed form names shown certs inner rest) (Literal l) =
+    IsFirstNotAllowed x.scope x.facts (needs_as_written before x) l
+Lacks before x (Qed objects certs) (Literal l) =
+    IsFirstNotAllowed x.scope x.facts (needs_as_written before x) l
 Lacks before x (Contradiction against) AContradiction = ¬ Contradictory x.facts
 Lacks before x _ _ = ⊥
 
 -- the line has number n from 1 on, of the statement's script with its blanks filled, and all lines
 -- before it are licensed
-pub record IsContext (before : List StatementView) (t : StatementView) (script : Script) (n : ℕ) (x : Line) : Type 0 where
+pub record IsContext (before : List StatementView) (t : StatementView) (script : Script) (n : ℕ)
+    (x : Line) : Type 0 where
   pub filled : Script
   pub place : ℕ
   pub number : n ≡ suc place
@@ -66,7 +76,8 @@ pub record IsContext (before : List StatementView) (t : StatementView) (script :
   pub earlier : AllLicensed before (take place (proof_lines before t script filled))
 
 -- line n is the first that is not licensed, and it lacks this
-pub record IsFirstUnlicensed (before : List StatementView) (t : StatementView) (script : Script) (n : ℕ) (wanted : Wanted) : Type 0 where
+pub record IsFirstUnlicensed (before : List StatementView) (t : StatementView) (script : Script)
+    (n : ℕ) (wanted : Wanted) : Type 0 where
   pub line : Line
   pub context : IsContext before t script n line
   pub lacks : Lacks before line line.here wanted

@@ -8,7 +8,8 @@ use Rattle.e_construct.specs.Construct.{sorts_made}
 use Rattle.e_construct.specs.Superposing as superposing
 use Rattle.e_deriv.specs.declared.names.Names.{Names}
 use Rattle.e_deriv.specs.Lines.{theorem_at}
-use Rattle.e_deriv.specs.Script.{Script, Cite, Hence, Make, Apply, Claim, Superposed, Qed, Contradiction, Cases}
+use Rattle.e_deriv.specs.Script.{Script, Cite, Hence, Make, Apply, Claim, Superposed, Qed}
+use Rattle.e_deriv.specs.Script.{Contradiction, Cases}
 
 -- the names of the objects of a sort
 abbrev pub names_of_sort : Names → Sort → List (List ℕ)
@@ -24,7 +25,8 @@ with_names ns sorts.Circle new = record ns { circles = new }
 
 -- each new name after those of its sort, in order
 abbrev pub named : Names → List Sort → List (List ℕ) → Names
-named ns (sort ∷ kinds) (name ∷ names) = named (with_names ns sort (names_of_sort ns sort ++ name ∷ [])) kinds names
+named ns (sort ∷ kinds) (name ∷ names) =
+    named (with_names ns sort (names_of_sort ns sort ++ name ∷ [])) kinds names
 named ns _ _ = ns
 
 -- the names in scope before each line, in text order, where these are in scope before the first;
@@ -32,18 +34,28 @@ named ns _ _ = ns
 unfoldable pub names_lines : List StatementView → Names → Script → List Names
 names_lines before ns (Cite by rest) = ns ∷ names_lines before ns rest
 names_lines before ns (Hence lit cert rest) = ns ∷ names_lines before ns rest
-names_lines before ns (Make form names certs rest) = ns ∷ names_lines before (named ns (sorts_made form) names) rest
-names_lines before ns (Apply theorem args names certs rest) = ns ∷ names_lines before (named ns (theorem_at before theorem).made names) rest
-names_lines before ns (Claim shown inner rest) = ns ∷ (names_lines before ns inner ++ names_lines before ns rest)
+names_lines before ns (Make form names certs rest) =
+    ns ∷ names_lines before (named ns (sorts_made form) names) rest
+names_lines before ns (Apply theorem args names certs rest) =
+    ns ∷ names_lines before (named ns (theorem_at before theorem).made names) rest
+names_lines before ns (Claim shown inner rest) =
+    ns ∷ (names_lines before ns inner ++ names_lines before ns rest)
 names_lines before ns (Superposed form names shown certs inner rest) =
-    ns ∷ (names_lines before (named ns superposing.sorts_copied names) inner ++ names_lines before ns rest)
+    ns ∷ (names_lines before (named ns superposing.sorts_copied names) inner
+        ++ names_lines before ns rest)
 names_lines before ns (Qed objects certs) = ns ∷ []
 names_lines before ns (Contradiction against) = ns ∷ []
-names_lines before ns (Cases lit first second) = ns ∷ (names_lines before ns first ++ names_lines before ns second)
+names_lines before ns (Cases lit first second) =
+    ns ∷ (names_lines before ns first ++ names_lines before ns second)
 
 -- the names of the objects of a scope, which are the first of each sort
 abbrev pub first_names : Scope → Names → Names
-first_names s ns = record { points = take s.points ns.points; lines = take s.lines ns.lines; circles = take s.circles ns.circles }
+first_names s ns =
+    record {
+      points = take s.points ns.points;
+      lines = take s.lines ns.lines;
+      circles = take s.circles ns.circles;
+    }
 
 -- of the names of a statement's declared and made objects those of the declared ones, which come
 -- first

@@ -7,24 +7,32 @@ use Rattle.e_construct.specs.declared.superpose.Superpose.{Superpose}
 use Rattle.e_clause.specs.declared.cert.By.{By}
 use Rattle.e_clause.specs.declared.cert.Cert.{Cert}
 use Rattle.e_deriv.specs.declared.block.Step.{Step}
-use Rattle.e_deriv.specs.declared.block.Step.TheVariants.{Cite as CiteStep, Hence as HenceStep, Make as MakeStep, Apply as ApplyStep, Claim' as ClaimStep, Superposed' as SuperposedStep}
-use Rattle.e_deriv.specs.Script.{Script, Cite, Hence, Make, Apply, Claim, Superposed, row_script, close_script}
+use Rattle.e_deriv.specs.declared.block.Step.TheVariants.{Cite as CiteStep, Hence as HenceStep}
+use Rattle.e_deriv.specs.declared.block.Step.TheVariants.{Make as MakeStep, Apply as ApplyStep}
+use Rattle.e_deriv.specs.declared.block.Step.TheVariants.{Claim' as ClaimStep}
+use Rattle.e_deriv.specs.declared.block.Step.TheVariants.{Superposed' as SuperposedStep}
+use Rattle.e_deriv.specs.Script.{Script, Cite, Hence, Make, Apply, Claim, Superposed, row_script}
+use Rattle.e_deriv.specs.Script.{close_script}
 
 pub data PlainStep : Type 0 where
   Cited : (by : By) → PlainStep
   Inferred : (lit : Lit) (cert : Option Cert) → PlainStep
   Made : (form : Construction) (names : List (List ℕ)) (certs : List Cert) → PlainStep
-  Applied : (theorem : ℕ) (args : List (Option Obj)) (names : List (List ℕ)) (certs : List Cert) → PlainStep
+  Applied : (theorem : ℕ) (args : List (Option Obj)) (names : List (List ℕ)) (certs : List Cert)
+      → PlainStep
   Claimed : (shown : List Lit) (inner : Script) → PlainStep
-  Copied : (form : Superpose) (names : List (List ℕ)) (shown : List Lit) (certs : List Cert) (inner : Script) → PlainStep
+  Copied : (form : Superpose) (names : List (List ℕ)) (shown : List Lit) (certs : List Cert)
+      (inner : Script) → PlainStep
 
 unfoldable pub plain_step : Step → PlainStep
 plain_step (CiteStep by) = Cited by
 plain_step (HenceStep lit cert) = Inferred lit cert
 plain_step (MakeStep form names certs) = Made form names certs
 plain_step (ApplyStep theorem args names certs) = Applied theorem args names certs
-plain_step (ClaimStep shown p0 n0 row0 close0) = Claimed shown (row_script row0 (close_script close0))
-plain_step (SuperposedStep form names shown certs p0 n0 row0 close0) = Copied form names shown certs (row_script row0 (close_script close0))
+plain_step (ClaimStep shown p0 n0 row0 close0) =
+    Claimed shown (row_script row0 (close_script close0))
+plain_step (SuperposedStep form names shown certs p0 n0 row0 close0) =
+    Copied form names shown certs (row_script row0 (close_script close0))
 
 -- the step, and what comes after it
 abbrev pub before : PlainStep → Script → Script

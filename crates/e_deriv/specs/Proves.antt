@@ -8,10 +8,13 @@ use Rattle.e_literal.specs.Scopes.{grown}
 use Rattle.e_literal.specs.Use.{StatementView, needs_of_use, gives_of_use, scope_of}
 use Rattle.e_clause.specs.Allowed.{Allowed, AllAllowed}
 use Rattle.e_clause.specs.Consequence.{Contradictory}
-use Rattle.e_construct.specs.Construct.{fits_construction, needs_of_construction, sorts_made, gives_of_construction}
+use Rattle.e_construct.specs.Construct.{fits_construction, needs_of_construction, sorts_made}
+use Rattle.e_construct.specs.Construct.{gives_of_construction}
 use Rattle.e_construct.specs.Superposing as superposing
-use Rattle.e_deriv.specs.Script.{Script, Cite, Hence, Make, Apply, Claim, Superposed, Qed, Contradiction, Cases}
-use Rattle.e_deriv.specs.Goal.{Goal, goal_of, are_for, goal_with, goal_of_statement, facts_of_statement}
+use Rattle.e_deriv.specs.Script.{Script, Cite, Hence, Make, Apply, Claim, Superposed, Qed}
+use Rattle.e_deriv.specs.Script.{Contradiction, Cases}
+use Rattle.e_deriv.specs.Goal.{Goal, goal_of, are_for, goal_with, goal_of_statement}
+use Rattle.e_deriv.specs.Goal.{facts_of_statement}
 use Rattle.e_deriv.specs.Parts.{written, has_no_blank}
 use Rattle.e_deriv.specs.Lines.{theorem_at}
 use Rattle.e_deriv.specs.Steps.{is_citation, is_cited, is_applied, are_over}
@@ -29,7 +32,8 @@ Proves before s facts goal (Hence lit cert rest) =
 -- gives joins the facts
 Proves before s facts goal (Make form names certs rest) =
     IsTrue (fits_construction form s) × AllAllowed s facts (needs_of_construction form)
-    × Proves before (grown s (sorts_made form)) (joined_all facts (gives_of_construction form s)) goal rest
+    × Proves before (grown s (sorts_made form))
+        (joined_all facts (gives_of_construction form s)) goal rest
 -- no argument is a blank, they fit the theorem, which is an earlier one, and each given literal is
 -- allowed; the made objects come into scope, and the shown literals join the facts
 Proves before s facts goal (Apply theorem args names certs rest) =
@@ -46,9 +50,11 @@ Proves before s facts goal (Claim shown inner rest) =
 -- each literal that the superposition needs is allowed, and the inner block proves the shown
 -- literals with the copy; these join the facts, and the copy is gone
 Proves before s facts goal (Superposed form names shown certs inner rest) =
-    IsTrue (superposing.fits_superposition form s) × AllAllowed s facts (superposing.needs_of_superposition form)
+    IsTrue (superposing.fits_superposition form s)
+    × AllAllowed s facts (superposing.needs_of_superposition form)
     × IsTrue (are_over s shown)
-    × Proves before (grown s superposing.sorts_copied) (joined_all facts (superposing.gives_of_superposition form s)) (goal_of shown) inner
+    × Proves before (grown s superposing.sorts_copied)
+        (joined_all facts (superposing.gives_of_superposition form s)) (goal_of shown) inner
     × Proves before s (joined_all facts shown) goal rest
 -- each goal literal, with the objects for the made ones, is allowed
 Proves before s facts goal (Qed objects certs) =
@@ -63,4 +69,5 @@ Proves before s facts goal (Cases lit first second) =
 
 -- the script proves the statement, where these are the theorems before it
 abbrev pub IsProof : List StatementView → StatementView → Script → Type 0
-IsProof before t script = Proves before (scope_of t) (facts_of_statement t) (goal_of_statement t) script
+IsProof before t script =
+    Proves before (scope_of t) (facts_of_statement t) (goal_of_statement t) script

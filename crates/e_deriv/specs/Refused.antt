@@ -1,15 +1,18 @@
 -- Why a script is refused: its first step that is not licensed, with values that show it; or a line
 -- that is too wide.
-use Rattle.std.specs.Prelude.{◌≡◌, ℕ, List, IsTrue, IsFalse, Contains, MatchBool, Option, Some, None}
+use Rattle.std.specs.Prelude.{◌≡◌, ℕ, List, IsTrue, IsFalse, Contains, MatchBool, Option, Some}
+use Rattle.std.specs.Prelude.{None}
 use Rattle.e_literal.specs.declared.object.Term.{Term}
 use Rattle.e_literal.specs.declared.literal.Lit.{Lit}
 use Rattle.e_literal.specs.Facts.{is_metric}
 use Rattle.e_literal.specs.Use.{StatementView}
 use Rattle.e_clause.specs.Counterexample.{ListsCounterexample}
-use Rattle.e_clause.specs.Wide.{IsWideLit, IsWideContradiction, IsTooWideLit, IsTooWideContradiction}
+use Rattle.e_clause.specs.Wide.{IsWideLit, IsWideContradiction, IsTooWideLit}
+use Rattle.e_clause.specs.Wide.{IsTooWideContradiction}
 use Rattle.e_deriv.specs.declared.stop.Wanted.{Wanted}
 use Rattle.e_theorem.specs.WideChoice.{SomeChoiceIsWide, SomeChoiceIsTooWide}
-use Rattle.e_deriv.specs.declared.stop.Wanted.TheVariants.{Literal, Match, Contradiction as AContradiction}
+use Rattle.e_deriv.specs.declared.stop.Wanted.TheVariants.{Literal, Match}
+use Rattle.e_deriv.specs.declared.stop.Wanted.TheVariants.{Contradiction as AContradiction}
 use Rattle.e_deriv.specs.Script.{Script, Cite, Apply, Contradiction}
 use Rattle.e_deriv.specs.Parts.{has_no_blank}
 use Rattle.e_deriv.specs.Lines.{Line, theorem_at}
@@ -21,7 +24,8 @@ use Rattle.e_deriv.specs.Licensed.{Lacks, IsContext}
 -- a metric literal that does not follow from the facts has values that show it; a diagram literal
 -- has none
 abbrev pub LiteralIsShown : List Lit → Lit → Option (List (Term × ℕ)) → Type 0
-LiteralIsShown facts l (Some values) = IsTrue (is_metric l) × ListsCounterexample facts (Some l) values
+LiteralIsShown facts l (Some values) =
+    IsTrue (is_metric l) × ListsCounterexample facts (Some l) values
 LiteralIsShown facts l None = IsFalse (is_metric l)
 
 -- facts that do not contradict each other have values that show it
@@ -37,7 +41,8 @@ IsShown here facts Match values = values ≡ None
 IsShown here facts AContradiction values = AgreementIsShown facts values
 
 -- line n is the first that is not licensed, it lacks this, and these values show it
-pub record IsRefused (before : List StatementView) (t : StatementView) (script : Script) (n : ℕ) (wanted : Wanted) (values : Option (List (Term × ℕ))) : Type 0 where
+pub record IsRefused (before : List StatementView) (t : StatementView) (script : Script) (n : ℕ)
+    (wanted : Wanted) (values : Option (List (Term × ℕ))) : Type 0 where
   pub line : Line
   pub context : IsContext before t script n line
   pub lacks : Lacks before line line.here wanted
@@ -57,7 +62,8 @@ pub record SomeIsWide (before : List StatementView) (x : Line) : Type 0 where
 abbrev pub IsWideAt : List StatementView → Line → Script → Type 0
 IsWideAt before x (Contradiction against) = IsWideContradiction x.facts
 IsWideAt before x (Apply theorem pattern names certs rest) =
-    MatchBool (has_no_blank pattern) (SomeIsWide before x) (SomeChoiceIsWide (theorem_at before theorem) x.scope x.facts pattern)
+    MatchBool (has_no_blank pattern) (SomeIsWide before x)
+        (SomeChoiceIsWide (theorem_at before theorem) x.scope x.facts pattern)
 IsWideAt before x _ = SomeIsWide before x
 
 abbrev pub IsWideLine : List StatementView → Line → Type 0
@@ -68,14 +74,18 @@ abbrev pub IsTooWide : List StatementView → Line → Script → Wanted → ℕ
 IsTooWide before x (Contradiction against) AContradiction w = IsTooWideContradiction x.facts w
 IsTooWide before x (Contradiction against) _ w = ⊥
 IsTooWide before x (Apply theorem pattern names certs rest) (Literal l) w =
-    IsTrue (has_no_blank pattern) × Contains (needs_as_written before x) l × IsTooWideLit x.scope x.facts l w
+    IsTrue (has_no_blank pattern) × Contains (needs_as_written before x) l
+    × IsTooWideLit x.scope x.facts l w
 IsTooWide before x (Apply theorem pattern names certs rest) Match w =
-    IsFalse (has_no_blank pattern) × SomeChoiceIsTooWide (theorem_at before theorem) x.scope x.facts pattern w
-IsTooWide before x _ (Literal l) w = Contains (needs_as_written before x) l × IsTooWideLit x.scope x.facts l w
+    IsFalse (has_no_blank pattern)
+    × SomeChoiceIsTooWide (theorem_at before theorem) x.scope x.facts pattern w
+IsTooWide before x _ (Literal l) w =
+    Contains (needs_as_written before x) l × IsTooWideLit x.scope x.facts l w
 IsTooWide before x _ _ w = ⊥
 
 -- each line before line n is licensed, and line n is too wide at what is wanted there
-pub record IsTooWideAt (before : List StatementView) (t : StatementView) (script : Script) (n : ℕ) (wanted : Wanted) (w : ℕ) : Type 0 where
+pub record IsTooWideAt (before : List StatementView) (t : StatementView) (script : Script) (n : ℕ)
+    (wanted : Wanted) (w : ℕ) : Type 0 where
   pub line : Line
   pub context : IsContext before t script n line
   pub too_wide : IsTooWide before line line.here wanted w

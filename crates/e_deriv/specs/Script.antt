@@ -9,18 +9,25 @@ use Rattle.e_clause.specs.declared.cert.By.{By}
 use Rattle.e_clause.specs.declared.cert.Cert.{Cert}
 use Rattle.e_deriv.specs.declared.block.Block.{Block}
 use Rattle.e_deriv.specs.declared.block.Step.{Step, Row_of-Step, end_of-Step, more_of-Step}
-use Rattle.e_deriv.specs.declared.block.Step.TheVariants.{Cite as CiteStep, Hence as HenceStep, Make as MakeStep, Apply as ApplyStep, Claim' as ClaimStep, Superposed' as SuperposedStep}
+use Rattle.e_deriv.specs.declared.block.Step.TheVariants.{Cite as CiteStep, Hence as HenceStep}
+use Rattle.e_deriv.specs.declared.block.Step.TheVariants.{Make as MakeStep, Apply as ApplyStep}
+use Rattle.e_deriv.specs.declared.block.Step.TheVariants.{Claim' as ClaimStep}
+use Rattle.e_deriv.specs.declared.block.Step.TheVariants.{Superposed' as SuperposedStep}
 use Rattle.e_deriv.specs.declared.block.Close.{Close}
-use Rattle.e_deriv.specs.declared.block.Close.TheVariants.{Qed as QedClose, Contradiction as ContradictionClose, Cases' as CasesClose}
+use Rattle.e_deriv.specs.declared.block.Close.TheVariants.{Qed as QedClose}
+use Rattle.e_deriv.specs.declared.block.Close.TheVariants.{Contradiction as ContradictionClose}
+use Rattle.e_deriv.specs.declared.block.Close.TheVariants.{Cases' as CasesClose}
 
 -- `Claim` and `Superposed` have a block inside, and `Cases` ends with two
 pub data Script : Type 0 where
   Cite : (by : By) (rest : Script) → Script
   Hence : (lit : Lit) (cert : Option Cert) (rest : Script) → Script
   Make : (form : Construction) (names : List (List ℕ)) (certs : List Cert) (rest : Script) → Script
-  Apply : (theorem : ℕ) (args : List (Option Obj)) (names : List (List ℕ)) (certs : List Cert) (rest : Script) → Script
+  Apply : (theorem : ℕ) (args : List (Option Obj)) (names : List (List ℕ)) (certs : List Cert)
+      (rest : Script) → Script
   Claim : (shown : List Lit) (inner : Script) (rest : Script) → Script
-  Superposed : (form : Superpose) (names : List (List ℕ)) (shown : List Lit) (certs : List Cert) (inner : Script) (rest : Script) → Script
+  Superposed : (form : Superpose) (names : List (List ℕ)) (shown : List Lit) (certs : List Cert)
+      (inner : Script) (rest : Script) → Script
   Qed : (objects : List Obj) (certs : List Cert) → Script
   Contradiction : (against : Option Against) → Script
   Cases : (lit : Lit) (first : Script) (second : Script) → Script
@@ -32,8 +39,10 @@ unfoldable mutual
   step_script (HenceStep lit cert) rest = Hence lit cert rest
   step_script (MakeStep form names certs) rest = Make form names certs rest
   step_script (ApplyStep theorem args names certs) rest = Apply theorem args names certs rest
-  step_script (ClaimStep shown p0 n0 row0 close0) rest = Claim shown (row_script row0 (close_script close0)) rest
-  step_script (SuperposedStep form names shown certs p0 n0 row0 close0) rest = Superposed form names shown certs (row_script row0 (close_script close0)) rest
+  step_script (ClaimStep shown p0 n0 row0 close0) rest =
+      Claim shown (row_script row0 (close_script close0)) rest
+  step_script (SuperposedStep form names shown certs p0 n0 row0 close0) rest =
+      Superposed form names shown certs (row_script row0 (close_script close0)) rest
 
   pub row_script : {n : _} → Row_of-Step n → Script → Script
   row_script end_of-Step rest = rest
@@ -42,7 +51,8 @@ unfoldable mutual
   pub close_script : Close → Script
   close_script (QedClose objects certs) = Qed objects certs
   close_script (ContradictionClose against) = Contradiction against
-  close_script (CasesClose lit p0 n0 row0 close0 p1 n1 row1 close1) = Cases lit (row_script row0 (close_script close0)) (row_script row1 (close_script close1))
+  close_script (CasesClose lit p0 n0 row0 close0 p1 n1 row1 close1) =
+      Cases lit (row_script row0 (close_script close0)) (row_script row1 (close_script close1))
 
 -- the steps of a list, and what comes after them
 abbrev pub steps_script : List Step → Script → Script
@@ -83,7 +93,8 @@ erased (Hence lit cert rest) = Hence lit None (erased rest)
 erased (Make form names certs rest) = Make form names [] (erased rest)
 erased (Apply theorem args names certs rest) = Apply theorem args names [] (erased rest)
 erased (Claim shown inner rest) = Claim shown (erased inner) (erased rest)
-erased (Superposed form names shown certs inner rest) = Superposed form names shown [] (erased inner) (erased rest)
+erased (Superposed form names shown certs inner rest) =
+    Superposed form names shown [] (erased inner) (erased rest)
 erased (Qed objects certs) = Qed objects []
 erased (Contradiction against) = Contradiction None
 erased (Cases lit first second) = Cases lit (erased first) (erased second)

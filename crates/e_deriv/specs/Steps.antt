@@ -8,9 +8,11 @@ use Rattle.e_literal.specs.declared.literal.Lit.{Lit}
 use Rattle.e_literal.specs.Literal.{all_in_scope}
 use Rattle.e_literal.specs.Use.{StatementView, needs_of_use}
 pub use Rattle.e_clause.specs.Citing.{is_citation, instance_gives, is_cited}
-use Rattle.e_construct.specs.Construct.{fits_construction as fits_form, needs_of_construction as needs_of_form}
+use Rattle.e_construct.specs.Construct.{fits_construction as fits_form}
+use Rattle.e_construct.specs.Construct.{needs_of_construction as needs_of_form}
 use Rattle.e_construct.specs.Superposing as superposing
-use Rattle.e_deriv.specs.Script.{Script, Cite, Hence, Make, Apply, Claim, Superposed, Qed, Contradiction, Cases}
+use Rattle.e_deriv.specs.Script.{Script, Cite, Hence, Make, Apply, Claim, Superposed, Qed}
+use Rattle.e_deriv.specs.Script.{Contradiction, Cases}
 use Rattle.e_deriv.specs.Goal.{Goal, are_for, goal_with}
 use Rattle.e_theorem.specs.Choice.{is_choice}
 use Rattle.e_deriv.specs.Parts.{args_of}
@@ -31,9 +33,11 @@ abbrev pub fits_at : List StatementView → Script → Scope → Goal → List O
 fits_at before (Cite by rest) s goal args = is_citation s by
 fits_at before (Hence lit cert rest) s goal args = all_in_scope s lit
 fits_at before (Make form names certs rest) s goal args = fits_form form s
-fits_at before (Apply theorem pattern names certs rest) s goal args = is_applied before theorem s pattern args
+fits_at before (Apply theorem pattern names certs rest) s goal args =
+    is_applied before theorem s pattern args
 fits_at before (Claim shown inner rest) s goal args = are_over s shown
-fits_at before (Superposed form names shown certs inner rest) s goal args = superposing.fits_superposition form s && are_over s shown
+fits_at before (Superposed form names shown certs inner rest) s goal args =
+    superposing.fits_superposition form s && are_over s shown
 fits_at before (Qed objects certs) s goal args = are_for goal s objects
 fits_at before (Contradiction against) s goal args = true
 fits_at before (Cases lit first second) s goal args = all_in_scope s lit
@@ -42,8 +46,10 @@ fits_at before (Cases lit first second) s goal args = all_in_scope s lit
 abbrev pub needs_at : List StatementView → Script → Scope → Goal → List Obj → List Lit
 needs_at before (Hence lit cert rest) s goal args = lit ∷ []
 needs_at before (Make form names certs rest) s goal args = needs_of_form form
-needs_at before (Apply theorem pattern names certs rest) s goal args = needs_of_use (theorem_at before theorem) args s
-needs_at before (Superposed form names shown certs inner rest) s goal args = superposing.needs_of_superposition form
+needs_at before (Apply theorem pattern names certs rest) s goal args =
+    needs_of_use (theorem_at before theorem) args s
+needs_at before (Superposed form names shown certs inner rest) s goal args =
+    superposing.needs_of_superposition form
 needs_at before (Qed objects certs) s goal args = goal_with goal objects
 needs_at before (Cite by rest) s goal args = []
 needs_at before (Claim shown inner rest) s goal args = []

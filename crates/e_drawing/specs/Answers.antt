@@ -1,5 +1,6 @@
 -- What is written of a figure text.
-use Rattle.std.specs.Prelude.{◌≡◌, ℕ, List, [], ◌∷◌, ◌++◌, flat_map, length, Result, Ok, Err, codes, decimal, if◌then◌else◌}
+use Rattle.std.specs.Prelude.{◌≡◌, ℕ, List, [], ◌∷◌, ◌++◌, flat_map, length, Result, Ok, Err, codes}
+use Rattle.std.specs.Prelude.{decimal, if◌then◌else◌}
 use Rattle.e_literal.specs.declared.literal.Lit.{Lit}
 use Rattle.e_deriv.specs.declared.names.Names.{Names}
 use Rattle.e_text.specs.Tokens.{spaced}
@@ -25,7 +26,9 @@ given_word d l = if is_true d l then codes "true" else codes "false"
 
 -- whether a shown literal is true, is refuted where all given ones are true, or is only not true
 abbrev pub shown_word : FigureView → List Lit → Lit → List ℕ
-shown_word d given l = if is_true d l then codes "true" else if is_refuted d given l then codes "refuted" else codes "false"
+shown_word d given l =
+    if is_true d l then codes "true" else
+    if is_refuted d given l then codes "refuted" else codes "false"
 
 abbrev pub given_line : Plan → Lit → List ℕ
 given_line p l = answer_line (codes "given ") (given_word p.figure l) p.names l
@@ -39,7 +42,9 @@ figure_line n = codes "figure" ++ ((32 ∷ decimal n) ++ 10 ∷ [])
 
 -- a line for each given literal, then for each shown one, and the last line
 abbrev pub answered : Plan → List ℕ
-answered p = flat_map (given_line p) p.given ++ (flat_map (shown_line p) p.shown ++ figure_line (length p.shown))
+answered p =
+    flat_map (given_line p) p.given
+    ++ (flat_map (shown_line p) p.shown ++ figure_line (length p.shown))
 
 -- what is written of a text with the number of its shown literals, or its first fault
 abbrev pub drawn_of : List ℕ → Result (ℕ × List ℕ) BookFault

@@ -1,5 +1,6 @@
 -- The numbers of a figure text.
-use Rattle.std.specs.Prelude.{ℕ, ◌+◌, ◌&&◌, ◌==◌, nat_lt, min, List, [], ◌∷◌, ℤ, pos, neg_ℤ, Result, Ok, Err, if◌then◌else◌}
+use Rattle.std.specs.Prelude.{ℕ, ◌+◌, ◌&&◌, ◌==◌, nat_lt, min, List, [], ◌∷◌, ℤ, pos, neg_ℤ, Result}
+use Rattle.std.specs.Prelude.{Ok, Err, if◌then◌else◌}
 use Rattle.e_text.specs.Numerals.{is_numeral, value_from}
 use Rattle.e_line.specs.declared.fault.FaultKind.{FaultKind}
 use Rattle.e_line.specs.declared.fault.FaultKind.TheVariants.{Malformed}
@@ -22,7 +23,10 @@ abbrev pub unsigned_of : List ℕ → Result ℤ FaultKind
 unsigned_of w = if is_numeral w then Ok (pos (value_to most_size w)) else Err Malformed
 
 abbrev pub negative_of : List ℕ → Result ℤ FaultKind
-negative_of w = if is_numeral w && nat_lt 0 (value_to most_size w) then Ok (neg_ℤ (pos (value_to most_size w))) else Err Malformed
+negative_of w =
+    if is_numeral w && nat_lt 0 (value_to most_size w)
+        then Ok (neg_ℤ (pos (value_to most_size w)))
+        else Err Malformed
 
 -- a numeral, or a minus sign and a numeral other than 0
 abbrev pub coordinate_of : List ℕ → Result ℤ FaultKind

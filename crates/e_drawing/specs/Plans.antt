@@ -1,10 +1,12 @@
 -- A figure while its lines come, one after another.
-use Rattle.std.specs.Prelude.{◌≡◌, ℕ, List, [], ◌∷◌, Bool, true, false, Result, Ok, Err, if◌then◌else◌}
+use Rattle.std.specs.Prelude.{◌≡◌, ℕ, List, [], ◌∷◌, Bool, true, false, Result, Ok, Err}
+use Rattle.std.specs.Prelude.{if◌then◌else◌}
 use Rattle.e_literal.specs.declared.object.Sort.TheVariants as sorts
 use Rattle.e_figure.specs.declared.figure.Point.{Point}
 use Rattle.e_figure.specs.declared.figure.Straight.{Straight}
 use Rattle.e_figure.specs.declared.figure.Round.{Round}
-use Rattle.e_figure.specs.Figure.{view_of_figure, scope_of_figure, is_small_point, is_small_line, is_small_circle, with_point, with_line, with_circle}
+use Rattle.e_figure.specs.Figure.{view_of_figure, scope_of_figure, is_small_point, is_small_line}
+use Rattle.e_figure.specs.Figure.{is_small_circle, with_point, with_line, with_circle}
 use Rattle.e_line.specs.declared.fault.FaultKind.{FaultKind}
 use Rattle.e_line.specs.declared.fault.FaultKind.TheVariants.{Malformed}
 use Rattle.e_line.specs.declared.fault.What.TheVariants as limits
@@ -22,7 +24,14 @@ use Rattle.e_drawing.specs.declared.plan.Plan.{Plan}
 
 -- nothing has come
 abbrev pub no_plan : Plan
-no_plan = record { names = no_names; figure = view_of_figure [] [] []; given = []; shown = []; place = Start }
+no_plan =
+    record {
+      names = no_names;
+      figure = view_of_figure [] [] [];
+      given = [];
+      shown = [];
+      place = Start;
+    }
 
 -- which lines may come at a place
 abbrev pub allowed_in_plan : Place → RawLine → Bool
@@ -60,11 +69,14 @@ with_named_circle p name c = do
 
 -- given literals, by their names
 abbrev pub with_given : Plan → List RawLit → Result Plan FaultKind
-with_given p raws = with_front p.given (lits_in p.names raws) >>= λ ls. Ok (record p { given = ls; place = Giving })
+with_given p raws =
+    with_front p.given (lits_in p.names raws) >>= λ ls. Ok (record p { given = ls; place = Giving })
 
 -- literals to be shown
 abbrev pub with_shown : Plan → List RawLit → Result Plan FaultKind
-with_shown p raws = with_front p.shown (lits_in p.names raws) >>= λ ls. Ok (record p { shown = ls; place = Showing })
+with_shown p raws =
+    with_front p.shown (lits_in p.names raws)
+    >>= λ ls. Ok (record p { shown = ls; place = Showing })
 
 abbrev pub plan_with_line : Plan → RawLine → Result Plan FaultKind
 plan_with_line p raw.Figure = Ok (record p { place = Placing })
@@ -77,7 +89,8 @@ plan_with_line p raw.End = Ok (record p { place = Done })
 
 -- a line, where it may come
 unfoldable pub plan_after_line : Plan → RawLine → Result Plan FaultKind
-plan_after_line p line = if allowed_in_plan p.place line then plan_with_line p line else Err Malformed
+plan_after_line p line =
+    if allowed_in_plan p.place line then plan_with_line p line else Err Malformed
 
 abbrev pub is_last_place : Place → Bool
 is_last_place Done = true

@@ -32,11 +32,13 @@ plan_from last p (Ok line ∷ lines) =
 
 -- the lines of a text, as those of a book
 abbrev pub lines_of_figure_text : List ℕ → List (Result LineView LineFault)
-lines_of_figure_text text = lines_of (record { longest = 1600; most = 4194304 }) (record { line = 1; before = 0 }) text
+lines_of_figure_text text =
+    lines_of (record { longest = 1600; most = 4194304 }) (record { line = 1; before = 0 }) text
 
 -- the figure of a text, or its first fault
 abbrev pub plan_of : List ℕ → Result Plan BookFault
-plan_of text = plan_from (1 + length (lines_of_figure_text text)) no_plan (lines_of_figure_text text)
+plan_of text =
+    plan_from (1 + length (lines_of_figure_text text)) no_plan (lines_of_figure_text text)
 
 -- what was answered is what the text says, unless memory ran out
 abbrev pub PlanIs : Result (Unit {0}) BookFault → Plan → Result Plan BookFault → Type 0
@@ -46,5 +48,9 @@ PlanIs (Err f) new read = BookFails f read
 -- what a line makes of a plan: to read on through the line is to read on from there, or it is the
 -- first with a fault
 abbrev pub TakesPlanLine : Plan → LineView → Result (Unit {0}) BookFault → Plan → Type 0
-TakesPlanLine old l (Ok u) new = (last : ℕ) (more : List (Result LineView LineFault)) → plan_from last old (Ok l ∷ more) ≡ plan_from last new more
-TakesPlanLine old l (Err f) new = (last : ℕ) (more : List (Result LineView LineFault)) → BookFails f (plan_from last old (Ok l ∷ more))
+TakesPlanLine old l (Ok u) new =
+    (last : ℕ) (more : List (Result LineView LineFault))
+    → plan_from last old (Ok l ∷ more) ≡ plan_from last new more
+TakesPlanLine old l (Err f) new =
+    (last : ℕ) (more : List (Result LineView LineFault))
+    → BookFails f (plan_from last old (Ok l ∷ more))

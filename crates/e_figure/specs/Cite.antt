@@ -20,7 +20,8 @@ pub record IsCited (scope : Scope) (facts : List Lit) (l : Lit) : Type 0 where
 -- each literal is a fact, or cited from the facts and the literals before it
 abbrev pub IsCiteList : Scope → List Lit → List Lit → Type 0
 IsCiteList scope facts [] = Unit {0}
-IsCiteList scope facts (l ∷ ls) = (IsTrue (has facts l) ⊎ IsCited scope facts l) × IsCiteList scope (facts ++ l ∷ []) ls
+IsCiteList scope facts (l ∷ ls) =
+    (IsTrue (has facts l) ⊎ IsCited scope facts l) × IsCiteList scope (facts ++ l ∷ []) ls
 
 -- what is cited from true facts is true
 abbrev pub CitedIsTrue : Type 0

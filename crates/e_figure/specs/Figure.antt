@@ -1,6 +1,8 @@
 -- A figure: points, lines and circles with whole numbers, each by its place among those of its
 -- sort.
-use Rattle.std.specs.Prelude.{ℕ, ◌≤◌, List, [], ◌∷◌, ◌++◌, length, get_or, Bool, not, ◌&&◌, if◌then◌else◌, nat_le, nat_lt, ℤ, pos, unsigned_abs, Option, Some, None}
+use Rattle.std.specs.Prelude.{ℕ, ◌≤◌, List, [], ◌∷◌, ◌++◌, length, get_or, Bool, not, ◌&&◌}
+use Rattle.std.specs.Prelude.{if◌then◌else◌, nat_le, nat_lt, ℤ, pos, unsigned_abs, Option, Some}
+use Rattle.std.specs.Prelude.{None}
 use Rattle.std.specs.List.{list_all}
 use Rattle.std.specs.Ordering.{int_eq}
 use Rattle.e_literal.specs.declared.object.Scope.{Scope}
@@ -33,18 +35,22 @@ abbrev pub is_small_point : Point → Bool
 is_small_point a = is_small_number a.x && is_small_number a.y
 
 abbrev pub is_small_line : Straight → Bool
-is_small_line l = is_small_number l.x && (is_small_number l.y && (is_small_number l.dx && is_small_number l.dy))
+is_small_line l =
+    is_small_number l.x && (is_small_number l.y && (is_small_number l.dx && is_small_number l.dy))
 
 abbrev pub is_small_circle : Round → Bool
 is_small_circle c = is_small_number c.x && (is_small_number c.y && nat_le c.square 1000000000000)
 
 abbrev pub is_bounded : FigureView → Bool
-is_bounded d = list_all is_small_point d.points && (list_all is_small_line d.lines && list_all is_small_circle d.circles)
+is_bounded d =
+    list_all is_small_point d.points
+    && (list_all is_small_line d.lines && list_all is_small_circle d.circles)
 
 -- ---- there are not too many objects
 
 abbrev pub has_few_objects : FigureView → Bool
-has_few_objects d = nat_le (length d.points) 40 && (nat_le (length d.lines) 24 && nat_le (length d.circles) 16)
+has_few_objects d =
+    nat_le (length d.points) 40 && (nat_le (length d.lines) 24 && nat_le (length d.circles) 16)
 
 -- the same as a proposition, which a figure keeps of its objects
 abbrev pub HasFewObjects : FigureView → Type 0
@@ -62,7 +68,9 @@ can_be_drawn d = has_few_objects d && (is_bounded d && is_figure d)
 -- zeros, a square is 0, or there are too many
 abbrev pub figure_of : List Point → List Straight → List Round → Option FigureView
 figure_of points lines circles =
-    if can_be_drawn (view_of_figure points lines circles) then Some (view_of_figure points lines circles) else None
+    if can_be_drawn (view_of_figure points lines circles)
+        then Some (view_of_figure points lines circles)
+        else None
 
 -- ---- one object more, put after those of its sort
 
@@ -79,7 +87,8 @@ with_circle d c = record { points = d.points; lines = d.lines; circles = d.circl
 
 -- how many there are of each sort
 abbrev pub scope_of_figure : FigureView → Scope
-scope_of_figure d = record { points = length d.points; lines = length d.lines; circles = length d.circles }
+scope_of_figure d =
+    record { points = length d.points; lines = length d.lines; circles = length d.circles }
 
 -- the objects with these numbers; what is put for others says nothing, since literals are asked of
 -- objects in scope alone

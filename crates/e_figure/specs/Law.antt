@@ -1,5 +1,6 @@
 -- What holds in every figure.
-use Rattle.std.specs.Prelude.{◌≡◌, ℕ, ◌<◌, List, Bool, false, ◌&&◌, IsTrue, Some, is_some, slice_get}
+use Rattle.std.specs.Prelude.{◌≡◌, ℕ, ◌<◌, List, Bool, false, ◌&&◌, IsTrue, Some, is_some}
+use Rattle.std.specs.Prelude.{slice_get}
 use Rattle.std.specs.Option.{option_map_or}
 use Rattle.std.specs.List.{list_any, list_all}
 use Rattle.e_literal.specs.Literal.{is_in_scope}
@@ -16,11 +17,14 @@ use Rattle.e_figure.specs.Truth.{is_true}
 abbrev pub EveryInstanceIsTrue : Type 0
 EveryInstanceIsTrue =
     (d : FigureView) (rule : ℕ) (args : List Obj) (lits : List Lit) →
-    IsTrue (is_figure d) → rule < diagram_rule_count → Inst rule args ≡ Some lits → IsTrue (list_any (is_true d) lits)
+    IsTrue (is_figure d) → rule < diagram_rule_count → Inst rule args ≡ Some lits
+    → IsTrue (list_any (is_true d) lits)
 
 -- the literal at this place of the instance is true
 abbrev pub true_at : FigureView → ℕ → List Obj → ℕ → Bool
-true_at d rule args k = option_map_or (λ lits. option_map_or (is_true d) (slice_get lits k) false) (Inst rule args) false
+true_at d rule args k =
+    option_map_or (λ lits. option_map_or (is_true d) (slice_get lits k) false)
+        (Inst rule args) false
 
 -- the arguments are in the figure's scope
 abbrev pub are_in_figure : FigureView → List Obj → Bool

@@ -1,8 +1,11 @@
 -- The truth of a diagram literal in a figure.
-use Rattle.std.specs.Prelude.{Bool, false, not, ◌&&◌, if◌then◌else◌, ℤ, pos, ◌+ℤ◌, ◌-ℤ◌, ◌*ℤ◌, int_lt}
+use Rattle.std.specs.Prelude.{Bool, false, not, ◌&&◌, if◌then◌else◌, ℤ, pos, ◌+ℤ◌, ◌-ℤ◌, ◌*ℤ◌}
+use Rattle.std.specs.Prelude.{int_lt}
 use Rattle.std.specs.Ordering.{int_eq}
 use Rattle.e_literal.specs.declared.literal.Atom.{Atom}
-use Rattle.e_literal.specs.declared.literal.Atom.TheVariants.{On, OnC, Inside, Center, Between, Same, MeetLL, MeetLC, MeetCC, EqP, EqL, EqC, MagEq, MagLt}
+use Rattle.e_literal.specs.declared.literal.Atom.TheVariants.{On, OnC, Inside, Center, Between}
+use Rattle.e_literal.specs.declared.literal.Atom.TheVariants.{Same, MeetLL, MeetLC, MeetCC, EqP}
+use Rattle.e_literal.specs.declared.literal.Atom.TheVariants.{EqL, EqC, MagEq, MagLt}
 use Rattle.e_literal.specs.declared.literal.Lit.{Lit}
 use Rattle.e_figure.specs.declared.figure.Point.{Point}
 use Rattle.e_figure.specs.declared.figure.Straight.{Straight}
@@ -48,11 +51,13 @@ abbrev pub lines_meet : Straight → Straight → Bool
 lines_meet l m = not (int_eq (cross l.dx l.dy m.dx m.dy) (pos 0))
 
 abbrev pub line_meets_circle : Straight → Round → Bool
-line_meets_circle l c = int_lt (side c.x c.y l *ℤ side c.x c.y l) (pos c.square *ℤ dot l.dx l.dy l.dx l.dy)
+line_meets_circle l c =
+    int_lt (side c.x c.y l *ℤ side c.x c.y l) (pos c.square *ℤ dot l.dx l.dy l.dx l.dy)
 
 abbrev pub circles_meet : Round → Round → Bool
 circles_meet c e =
-    int_lt ((dist e.x e.y c.x c.y -ℤ pos c.square -ℤ pos e.square) *ℤ (dist e.x e.y c.x c.y -ℤ pos c.square -ℤ pos e.square))
+    int_lt ((dist e.x e.y c.x c.y -ℤ pos c.square -ℤ pos e.square)
+        *ℤ (dist e.x e.y c.x c.y -ℤ pos c.square -ℤ pos e.square))
     (pos 4 *ℤ (pos c.square *ℤ pos e.square))
 
 abbrev pub same_point : Point → Point → Bool

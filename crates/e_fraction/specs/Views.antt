@@ -5,7 +5,9 @@ use Rattle.e_literal.specs.Rows.{Row, Says, Zero, AtLeast, More, Not}
 use Rattle.e_literal.specs.Absurd.{Weighed}
 use Rattle.e_fraction.specs.declared.row.Row.{Row as GivenRow}
 use Rattle.e_fraction.specs.declared.row.RowKind.{RowKind}
-use Rattle.e_fraction.specs.declared.row.RowKind.TheVariants.{Zero as KindZero, AtLeast as KindAtLeast, More as KindMore, Not as KindNot}
+use Rattle.e_fraction.specs.declared.row.RowKind.TheVariants.{Zero as KindZero}
+use Rattle.e_fraction.specs.declared.row.RowKind.TheVariants.{AtLeast as KindAtLeast}
+use Rattle.e_fraction.specs.declared.row.RowKind.TheVariants.{More as KindMore, Not as KindNot}
 
 abbrev pub says_of : RowKind → Says
 says_of KindZero = Zero
@@ -21,4 +23,5 @@ all_seen rows = map seen rows
 
 -- each row with its multiplier
 abbrev pub weighed : List GivenRow → List ℤ → List Weighed
-weighed rows multipliers = map (λ x. record { multiplier = x.1; row = seen x.0 }) (zip rows multipliers)
+weighed rows multipliers =
+    map (λ x. record { multiplier = x.1; row = seen x.0 }) (zip rows multipliers)

@@ -1,5 +1,6 @@
 -- A sink in memory.
-use Rattle.std.specs.Prelude.{ℕ, Bool, ◌-◌, ◌||◌, ◌==◌, min, List, ◌++◌, length, take, if◌then◌else◌}
+use Rattle.std.specs.Prelude.{ℕ, Bool, ◌-◌, ◌||◌, ◌==◌, min, List, ◌++◌, length, take}
+use Rattle.std.specs.Prelude.{if◌then◌else◌}
 use Rattle.std.specs.List.{list_any}
 use Rattle.e_io.specs.Bytes.{one_more}
 
@@ -26,4 +27,7 @@ abbrev pub after_write : Store → List ℕ → Store
 after_write s from =
     if fails s
     then record s { call = one_more s.call; faults = one_more s.faults }
-    else record s { written = s.written ++ take (taken s (length from)) from; call = one_more s.call }
+    else record s {
+      written = s.written ++ take (taken s (length from)) from;
+      call = one_more s.call;
+    }

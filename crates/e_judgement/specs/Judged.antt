@@ -1,6 +1,7 @@
 -- The judgement of a derivation text: its theorems are taken one after another, up to the first
 -- block in which a line has no form at its place or is not certified.
-use Rattle.std.specs.Prelude.{◌≡◌, ◌⊎◌, ℕ, ◌+◌, Bool, ◌&&◌, List, [], ◌∷◌, ◌++◌, length, codes, Option, Some, None, Result, Ok, Err, if◌then◌else◌}
+use Rattle.std.specs.Prelude.{◌≡◌, ◌⊎◌, ℕ, ◌+◌, Bool, ◌&&◌, List, [], ◌∷◌, ◌++◌, length, codes}
+use Rattle.std.specs.Prelude.{Option, Some, None, Result, Ok, Err, if◌then◌else◌}
 use Rattle.std.specs.Str.{bytes_eq}
 use Rattle.e_text.specs.Lines.{LineView, lines_of, line_of_fault}
 use Rattle.e_text.specs.declared.line.LineFault.{LineFault}
@@ -22,7 +23,8 @@ with_theorem known t = known ++ headed t.title t.statement ∷ []
 -- with this known, these lines begin with this theorem and its derivation, in this version, and
 -- those are left after it
 abbrev pub ReadsNext : Version → ℕ → List TitledStatement → Rest → TheoremView → Rest → Type 0
-ReadsNext v last known lines t after = piece_from known last (at_start v) lines ≡ Ok (Derived t, after)
+ReadsNext v last known lines t after =
+    piece_from known last (at_start v) lines ≡ Ok (Derived t, after)
 
 -- with this known, each certificate of the theorem's derivation certifies at its own line
 abbrev pub IsCertified : List TitledStatement → TheoremView → Type 0
@@ -30,10 +32,12 @@ IsCertified known t = Certified (stated_by known) (stated t.statement) t.script
 
 -- these theorems are read one after another, and each is certified by those before it; then this is
 -- known, and these lines are left
-abbrev pub Passes : Version → ℕ → List TitledStatement → Rest → List TheoremView → List TitledStatement → Rest → Type 0
+abbrev pub Passes : Version → ℕ → List TitledStatement → Rest → List TheoremView
+    → List TitledStatement → Rest → Type 0
 Passes v last known lines [] now rest = (known ≡ now) × (lines ≡ rest)
 Passes v last known lines (t ∷ ts) now rest =
-    (after : Rest) × ReadsNext v last known lines t after × IsCertified known t × Passes v last (with_theorem known t) after ts now rest
+    (after : Rest) × ReadsNext v last known lines t after × IsCertified known t
+    × Passes v last (with_theorem known t) after ts now rest
 
 -- the number of a line
 abbrev pub number_of_line : Result LineView LineFault → ℕ
@@ -47,11 +51,14 @@ JudgedAfter n (x ∷ xs) = Garbled (number_of_line x)
 
 -- the last line comes
 abbrev pub EndsThere : Version → ℕ → List TitledStatement → Rest → Judgement → Type 0
-EndsThere v last known lines j = (rest : Rest) × (piece_from known last (at_start v) lines ≡ Ok (Last, rest)) × (j ≡ JudgedAfter (length known) rest)
+EndsThere v last known lines j =
+    (rest : Rest) × (piece_from known last (at_start v) lines ≡ Ok (Last, rest))
+    × (j ≡ JudgedAfter (length known) rest)
 
 -- a line of the next block has no form at its place
 abbrev pub BreaksThere : Version → ℕ → List TitledStatement → Rest → Judgement → Type 0
-BreaksThere v last known lines j = (line : ℕ) × (piece_from known last (at_start v) lines ≡ Err line) × (j ≡ Garbled line)
+BreaksThere v last known lines j =
+    (line : ℕ) × (piece_from known last (at_start v) lines ≡ Err line) × (j ≡ Garbled line)
 
 -- each line of the next block has a form, and this is the first that is not certified
 abbrev pub FailsThere : Version → ℕ → List TitledStatement → Rest → Judgement → Type 0
@@ -61,7 +68,9 @@ FailsThere v last known lines j =
 
 -- with this known, these lines end so
 abbrev pub Closes : Version → ℕ → List TitledStatement → Rest → Judgement → Type 0
-Closes v last known lines j = EndsThere v last known lines j ⊎ (BreaksThere v last known lines j ⊎ FailsThere v last known lines j)
+Closes v last known lines j =
+    EndsThere v last known lines j
+    ⊎ (BreaksThere v last known lines j ⊎ FailsThere v last known lines j)
 
 -- these lines after the head of this version are theorems, each certified by those before it, and
 -- then end so
@@ -97,7 +106,9 @@ JudgesLines (Ok l ∷ lines) j = JudgedAfterHead (version_of l) lines j
 
 -- the lines of a derivation text: each has at most 262,144 bytes, and all bytes count
 abbrev pub lines_of_text : List ℕ → Rest
-lines_of_text text = lines_of (record { longest = 262144; most = length text }) (record { line = 1; before = 0 }) text
+lines_of_text text =
+    lines_of (record { longest = 262144; most = length text })
+        (record { line = 1; before = 0 }) text
 
 -- a derivation text is judged so
 abbrev pub JudgesText : List ℕ → Judgement → Type 0

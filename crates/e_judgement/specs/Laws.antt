@@ -5,7 +5,8 @@ use Rattle.e_judgement.specs.Judged.{JudgesText}
 
 -- no text is verified and refused, or refused in two ways
 abbrev pub TextsHaveOneJudgement : Type 0
-TextsHaveOneJudgement = (text : List ℕ) (a b : Judgement) → JudgesText text a → JudgesText text b → a ≡ b
+TextsHaveOneJudgement =
+    (text : List ℕ) (a b : Judgement) → JudgesText text a → JudgesText text b → a ≡ b
 
 -- each text is verified, bad or garbled
 abbrev pub EachTextIsJudged : Type 0

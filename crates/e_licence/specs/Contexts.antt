@@ -26,4 +26,6 @@ pub record IsWithin (s t : Scope) : Type 0 where
 
 -- the last held state is the present one again, and is held no more
 abbrev pub IsReleased : Basis → Basis → Type 0
-IsReleased old new = (before : List State) (last : State) → old.held ≡ before ++ last ∷ [] → new ≡ record { scope = last.scope; facts = last.facts; held = before }
+IsReleased old new =
+    (before : List State) (last : State) → old.held ≡ before ++ last ∷ []
+    → new ≡ record { scope = last.scope; facts = last.facts; held = before }

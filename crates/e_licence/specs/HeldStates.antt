@@ -20,11 +20,13 @@ pub record IsHeldState (facts : List Lit) (h : Held) : Type 0 where
 -- their checkpoints are from `low` to `high`, none less than the one before it
 abbrev pub AreHeld : ℕ → ℕ → List Lit → List Held → Type 0
 AreHeld low high facts [] = low ≤ high
-AreHeld low high facts (h ∷ hs) = (low ≤ h.facts) × IsHeldState facts h × AreHeld h.facts high facts hs
+AreHeld low high facts (h ∷ hs) =
+    (low ≤ h.facts) × IsHeldState facts h × AreHeld h.facts high facts hs
 
 -- the facts are in scope, well formed and not too many, so are those of the held states, and what
 -- is solved is that of the first of them
-pub record IsHeldContext (scope : Scope) (facts : List Lit) (held : List Held) (solved : Option MetricFacts) : Type 0 where
+pub record IsHeldContext (scope : Scope) (facts : List Lit) (held : List Held)
+    (solved : Option MetricFacts) : Type 0 where
   pub good : IsTrue (are_limited_facts scope facts)
   pub states : AreHeld 0 (length facts) facts held
   pub metric_facts : IfSome solved (AreFronts facts)

@@ -1,5 +1,6 @@
 -- Uses of earlier theorems, by their spelling.
-use Rattle.std.specs.Prelude.{ℕ, Bool, true, false, List, [], Option, Some, None, Result, Ok, codes, if◌then◌else◌}
+use Rattle.std.specs.Prelude.{ℕ, Bool, true, false, List, [], Option, Some, None, Result, Ok, codes}
+use Rattle.std.specs.Prelude.{if◌then◌else◌}
 use Rattle.std.specs.Str.{bytes_eq}
 use Rattle.e_text.specs.Names.{name_of}
 use Rattle.e_line.specs.declared.fault.FaultKind.{FaultKind}
@@ -13,7 +14,8 @@ is_blank_argument w = bytes_eq w (codes "_")
 
 -- an argument: a name, or the blank
 abbrev pub argument_of : List ℕ → Result (Option (List ℕ)) FaultKind
-argument_of w = if is_blank_argument w then Ok None else (or_malformed (name_of w) >>= λ n. Ok (Some n))
+argument_of w =
+    if is_blank_argument w then Ok None else (or_malformed (name_of w) >>= λ n. Ok (Some n))
 
 abbrev pub arguments_of : List (List ℕ) → Result (List (Option (List ℕ))) FaultKind
 arguments_of words = each argument_of words

@@ -1,6 +1,7 @@
 -- The lines of a book by their spelling alone: those of theorems, with items among their literals,
 -- and the first line of a definition.
-use Rattle.std.specs.Prelude.{ℕ, Bool, true, false, ◌&&◌, List, [], ◌∷◌, take, drop, Result, Ok, Err, codes, if◌then◌else◌}
+use Rattle.std.specs.Prelude.{ℕ, Bool, true, false, ◌&&◌, List, [], ◌∷◌, take, drop, Result, Ok}
+use Rattle.std.specs.Prelude.{Err, codes, if◌then◌else◌}
 use Rattle.std.specs.List.{slice_split, list_any}
 use Rattle.std.specs.Str.{bytes_eq}
 use Rattle.e_line.specs.declared.fault.FaultKind.{FaultKind}
@@ -36,7 +37,8 @@ as_of words = do
 -- a literal, or the word as, a title and names
 unfoldable pub item_of : List (List ℕ) → Result RawItem FaultKind
 item_of [] = Err Malformed
-item_of (w ∷ ws) = if is_as w then (as_of ws >>= λ a. Ok (As a)) else (lit_of (w ∷ ws) >>= λ l. Ok (Literal l))
+item_of (w ∷ ws) =
+    if is_as w then (as_of ws >>= λ a. Ok (As a)) else (lit_of (w ∷ ws) >>= λ l. Ok (Literal l))
 
 -- one or more of these between semicolons
 abbrev pub items_of : List (List ℕ) → Result (List RawItem) FaultKind
@@ -62,7 +64,8 @@ define_of words = do
 unfoldable pub placing_of : List (List ℕ) → Result Listing FaultKind
 placing_of head =
     if are_words_of superpose_pieces head
-    then (names_of (new_words superpose_pieces head) >>= λ new. names_of (argument_words superpose_pieces head) >>= λ args. Ok (Superpose args new))
+    then (names_of (new_words superpose_pieces head) >>= λ new. names_of
+        (argument_words superpose_pieces head) >>= λ args. Ok (Superpose args new))
     else Err Malformed
 
 unfoldable pub listed : Listing → List (List ℕ) → Result BookLine FaultKind
@@ -78,7 +81,8 @@ line_named w ws =
     if bytes_eq w (codes "given") && has_item ws then listed Given ws else
     if bytes_eq w (codes "show") && has_item ws then listed Show ws else
     if bytes_eq w (codes "claim") && has_item ws then listed Claim ws else
-    if bytes_eq w (codes "superpose") && has_item (drop 13 ws) then (placing_of (take 13 ws) >>= λ line. listed line (drop 13 ws)) else
+    if bytes_eq w (codes "superpose") && has_item (drop 13 ws)
+        then (placing_of (take 13 ws) >>= λ line. listed line (drop 13 ws)) else
     (raw_line_named w ws >>= λ f. Ok (Plain f))
 
 unfoldable pub book_line_of : List (List ℕ) → Result BookLine FaultKind
@@ -88,7 +92,8 @@ book_line_of (w ∷ ws) = line_named w ws
 -- ---- a line that takes literals, with these literals
 
 abbrev pub raw_superpose_line : (args new : List (List ℕ)) → List RawLit → RawLine
-raw_superpose_line args new shown = rawlines.Superpose (record { args = args; new = new; shown = shown })
+raw_superpose_line args new shown =
+    rawlines.Superpose (record { args = args; new = new; shown = shown })
 
 abbrev pub listing_form : Listing → List RawLit → RawLine
 listing_form Given raws = rawlines.Given raws

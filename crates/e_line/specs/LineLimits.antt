@@ -18,7 +18,8 @@ are_short raws = list_all (λ l. nat_le (length (monos_of l.atom)) most_monomial
 
 -- no coefficient is larger than it may be
 abbrev pub are_small : List RawLit → Bool
-are_small raws = list_all (λ l. list_all (λ m. nat_le m.coeff most_coefficient) (monos_of l.atom)) raws
+are_small raws =
+    list_all (λ l. list_all (λ m. nat_le m.coeff most_coefficient) (monos_of l.atom)) raws
 
 abbrev pub count_monos : List RawLit → ℕ
 count_monos raws = sum_by (λ l. length (monos_of l.atom)) raws

@@ -1,5 +1,7 @@
 -- The forms of literals, by their spelling alone.
-use Rattle.std.specs.Prelude.{ℕ, Bool, true, false, ◌&&◌, ◌==◌, List, [], ◌∷◌, ◌++◌, length, take, drop, Option, Some, None, is_some, Result, Ok, Err, codes, if◌then◌else◌}
+use Rattle.std.specs.Prelude.{ℕ, Bool, true, false, ◌&&◌, ◌==◌, List, [], ◌∷◌, ◌++◌, length, take}
+use Rattle.std.specs.Prelude.{drop, Option, Some, None, is_some, Result, Ok, Err, codes}
+use Rattle.std.specs.Prelude.{if◌then◌else◌}
 use Rattle.std.specs.List.{slice_split, position_or_len, list_all}
 use Rattle.std.specs.Str.{bytes_eq}
 use Rattle.e_text.specs.Names.{name_of}
@@ -8,7 +10,9 @@ use Rattle.e_line.specs.declared.fault.FaultKind.TheVariants.{Malformed}
 use Rattle.e_line.specs.declared.sum.RawMono.{RawMono}
 use Rattle.e_line.specs.declared.literal.RawLit.{RawLit}
 use Rattle.e_line.specs.declared.literal.RawAtom.{RawAtom}
-use Rattle.e_line.specs.declared.literal.RawAtom.TheVariants.{On, Inside, Center, Between, Same, Meets, Equal, SumsEqual, SumsLess, SumsAtMost}
+use Rattle.e_line.specs.declared.literal.RawAtom.TheVariants.{On, Inside, Center, Between, Same}
+use Rattle.e_line.specs.declared.literal.RawAtom.TheVariants.{Meets, Equal, SumsEqual, SumsLess}
+use Rattle.e_line.specs.declared.literal.RawAtom.TheVariants.{SumsAtMost}
 use Rattle.e_line.specs.declared.literal.Sign.{Sign}
 use Rattle.e_line.specs.declared.literal.Sign.TheVariants as signs
 use Rattle.e_line.specs.Reading.{◌>>=◌, each, or_malformed}
@@ -35,21 +39,25 @@ single_name (w ∷ v ∷ ws) = None
 single_name [] = None
 
 -- a sum on each side, and a term in one of them
-unfoldable pub sums_of : List (List ℕ) → List (List ℕ) → Result (List RawMono × List RawMono) FaultKind
+unfoldable pub sums_of : List (List ℕ) → List (List ℕ)
+    → Result (List RawMono × List RawMono) FaultKind
 sums_of left right = do
   x ← sum_of left
   y ← sum_of right
   if length x == 0 && length y == 0 then Err Malformed else Ok (x, y)
 
 -- two names are of equal objects, and else the sides are sums
-abbrev pub equal_sides : Option (List ℕ) → Option (List ℕ) → Result (List RawMono × List RawMono) FaultKind → Result RawAtom FaultKind
+abbrev pub equal_sides : Option (List ℕ) → Option (List ℕ)
+    → Result (List RawMono × List RawMono) FaultKind → Result RawAtom FaultKind
 equal_sides (Some x) (Some y) sums = Ok (Equal x y)
 equal_sides (Some x) None sums = sums >>= λ p. Ok (SumsEqual p.0 p.1)
 equal_sides None y sums = sums >>= λ p. Ok (SumsEqual p.0 p.1)
 
 unfoldable pub sides_of : Sign → List (List ℕ) → List (List ℕ) → Result RawAtom FaultKind
-sides_of signs.Equal left right = equal_sides (single_name left) (single_name right) (sums_of left right)
-sides_of signs.Differ left right = equal_sides (single_name left) (single_name right) (sums_of left right)
+sides_of signs.Equal left right =
+    equal_sides (single_name left) (single_name right) (sums_of left right)
+sides_of signs.Differ left right =
+    equal_sides (single_name left) (single_name right) (sums_of left right)
 sides_of signs.Less left right = sums_of left right >>= λ p. Ok (SumsLess p.0 p.1)
 sides_of signs.AtMost left right = sums_of left right >>= λ p. Ok (SumsAtMost p.0 p.1)
 
@@ -85,11 +93,17 @@ signed neg a = record { neg = neg; atom = a }
 unfoldable pub related : Bool → List ℕ → List (List ℕ) → Result RawLit FaultKind
 related negated w ws =
     if bytes_eq w (codes "on") then (two_names ws >>= λ p. Ok (signed negated (On p.0 p.1))) else
-    if bytes_eq w (codes "inside") then (two_names ws >>= λ p. Ok (signed negated (Inside p.0 p.1))) else
-    if bytes_eq w (codes "center") then (two_names ws >>= λ p. Ok (signed negated (Center p.0 p.1))) else
-    if bytes_eq w (codes "between") then (three_names ws >>= λ p. Ok (signed negated (Between p.0 p.1 p.2))) else
-    if bytes_eq w (codes "same-side") then (three_names ws >>= λ p. Ok (signed negated (Same p.0 p.1 p.2))) else
-    if bytes_eq w (codes "meets") then (two_names ws >>= λ p. Ok (signed negated (Meets p.0 p.1))) else compared negated (w ∷ ws)
+    if bytes_eq w (codes "inside")
+        then (two_names ws >>= λ p. Ok (signed negated (Inside p.0 p.1))) else
+    if bytes_eq w (codes "center")
+        then (two_names ws >>= λ p. Ok (signed negated (Center p.0 p.1))) else
+    if bytes_eq w (codes "between")
+        then (three_names ws >>= λ p. Ok (signed negated (Between p.0 p.1 p.2))) else
+    if bytes_eq w (codes "same-side")
+        then (three_names ws >>= λ p. Ok (signed negated (Same p.0 p.1 p.2))) else
+    if bytes_eq w (codes "meets")
+        then (two_names ws >>= λ p. Ok (signed negated (Meets p.0 p.1)))
+        else compared negated (w ∷ ws)
 
 unfoldable pub signed_of : Bool → List (List ℕ) → Result RawLit FaultKind
 signed_of negated [] = Err Malformed
@@ -119,7 +133,9 @@ lits_of words = each lit_of (slice_split is_semicolon words)
 
 -- one or more diagram literals between semicolons
 unfoldable pub diagram_lits_of : List (List ℕ) → Result (List RawLit) FaultKind
-diagram_lits_of words = lits_of words >>= λ ls. if list_all (λ l. is_diagram_raw l.atom) ls then Ok ls else Err Malformed
+diagram_lits_of words =
+    lits_of words
+    >>= λ ls. if list_all (λ l. is_diagram_raw l.atom) ls then Ok ls else Err Malformed
 
 -- the monomials of a literal, from left to right
 abbrev pub monos_of : RawAtom → List RawMono

@@ -1,5 +1,6 @@
 -- Lines that are spelled as their form is.
-use Rattle.std.specs.Prelude.{ℕ, Bool, true, false, not, ◌&&◌, ◌==◌, List, length, is_some, Result, Ok, Err, if◌then◌else◌}
+use Rattle.std.specs.Prelude.{ℕ, Bool, true, false, not, ◌&&◌, ◌==◌, List, length, is_some, Result}
+use Rattle.std.specs.Prelude.{Ok, Err, if◌then◌else◌}
 use Rattle.std.specs.List.{list_all}
 use Rattle.std.specs.Str.{bytes_eq}
 use Rattle.e_text.specs.Tokens.{tokens_of}
@@ -38,7 +39,9 @@ is_strict_line form = true
 
 -- the form of a line of these words that is spelled as this form is
 unfoldable pub exact_line_of : List ℕ → List (List ℕ) → Result RawLine FaultKind
-exact_line_of line words = raw_line_of words >>= λ f. if is_strict_line f && bytes_eq line (line_of f) then Ok f else Err Malformed
+exact_line_of line words =
+    raw_line_of words
+    >>= λ f. if is_strict_line f && bytes_eq line (line_of f) then Ok f else Err Malformed
 
 -- the words are those of the line
 abbrev pub exact_line : List ℕ → Result RawLine FaultKind

@@ -1,5 +1,6 @@
 -- Sums of magnitudes, by their spelling alone.
-use Rattle.std.specs.Prelude.{ℕ, ◌+◌, Bool, false, List, [], ◌∷◌, Result, Ok, Err, codes, min, if◌then◌else◌}
+use Rattle.std.specs.Prelude.{ℕ, ◌+◌, Bool, false, List, [], ◌∷◌, Result, Ok, Err, codes, min}
+use Rattle.std.specs.Prelude.{if◌then◌else◌}
 use Rattle.std.specs.List.{slice_split}
 use Rattle.std.specs.Str.{bytes_eq}
 use Rattle.e_text.specs.Numerals.{is_numeral, value_from}
@@ -31,12 +32,15 @@ coefficient_of w = min (value_from 0 w) (most_coefficient + 1)
 -- a term after a numeral
 unfoldable pub counted_term : List ℕ → List (List ℕ) → Result RawMono FaultKind
 counted_term w ws =
-    if bytes_eq w (codes "0") then Err Malformed else (term_of ws >>= λ t. Ok (record { coeff = coefficient_of w; term = t }))
+    if bytes_eq w (codes "0") then Err Malformed else
+    (term_of ws >>= λ t. Ok (record { coeff = coefficient_of w; term = t }))
 
 -- a term, with a numeral other than 0 before it or with none
 unfoldable pub mono_of : List (List ℕ) → Result RawMono FaultKind
 mono_of [] = Err Malformed
-mono_of (w ∷ ws) = if is_numeral w then counted_term w ws else (term_named w ws >>= λ t. Ok (record { coeff = 1; term = t }))
+mono_of (w ∷ ws) =
+    if is_numeral w then counted_term w ws else
+    (term_named w ws >>= λ t. Ok (record { coeff = 1; term = t }))
 
 abbrev pub is_plus : List ℕ → Bool
 is_plus word = bytes_eq word (codes "+")

@@ -1,5 +1,6 @@
 -- When a sum of rows is absurd.
-use Rattle.std.specs.Prelude.{List, [], ◌∷◌, map, Bool, true, false, ◌&&◌, ℤ, pos, ◌+ℤ◌, ◌*ℤ◌, int_le}
+use Rattle.std.specs.Prelude.{List, [], ◌∷◌, map, Bool, true, false, ◌&&◌, ℤ, pos, ◌+ℤ◌, ◌*ℤ◌}
+use Rattle.std.specs.Prelude.{int_le}
 use Rattle.std.specs.List.{list_any, list_all}
 use Rattle.std.specs.Ordering.{int_eq}
 use Rattle.e_literal.specs.declared.object.Term.{Term}
@@ -31,4 +32,5 @@ is_strict _ n = false
 abbrev pub is_absurd : List Weighed → Bool
 is_absurd ws =
     list_all (λ t. int_eq (total ws t) (pos 0)) (terms_of_rows (map (λ w. w.row) ws))
-    && (list_all (λ w. allows_multiplier w.row.says w.multiplier) ws && list_any (λ w. is_strict w.row.says w.multiplier) ws)
+    && (list_all (λ w. allows_multiplier w.row.says w.multiplier) ws
+        && list_any (λ w. is_strict w.row.says w.multiplier) ws)

@@ -4,7 +4,10 @@ use Rattle.std.specs.BTreeMap.{BTreeMap}
 use Rattle.e_literal.specs.declared.literal.Atom.TheVariants as atom
 use Rattle.e_literal.specs.declared.normals.Normal.{Normal}
 use Rattle.e_literal.specs.declared.normals.NormalAtom.{NormalAtom as Kept}
-use Rattle.e_literal.specs.declared.normals.NormalAtom.TheVariants.{On, OnC, Inside, Center, Between, Same, MeetLL, MeetLC, MeetCC, EqP, EqL, EqC, MagEq, MagLt}
+use Rattle.e_literal.specs.declared.normals.NormalAtom.TheVariants.{On, OnC, Inside, Center}
+use Rattle.e_literal.specs.declared.normals.NormalAtom.TheVariants.{Between, Same, MeetLL, MeetLC}
+use Rattle.e_literal.specs.declared.normals.NormalAtom.TheVariants.{MeetCC, EqP, EqL, EqC, MagEq}
+use Rattle.e_literal.specs.declared.normals.NormalAtom.TheVariants.{MagLt}
 use Rattle.e_literal.specs.NormalForm.{NormalAtom, Diagram, Equation, Inequality, NormalForm}
 
 abbrev pub normal_atom_of : Kept → NormalAtom

@@ -1,5 +1,6 @@
 -- Rows of the program as the rows that definitions name.
-use Rattle.std.specs.Prelude.{◌≡◌, ◌≤◌, List, [], ◌∷◌, ◌++◌, length, Bool, not, Option, Some, None, IsTrue, pos}
+use Rattle.std.specs.Prelude.{◌≡◌, ◌≤◌, List, [], ◌∷◌, ◌++◌, length, Bool, not, Option, Some, None}
+use Rattle.std.specs.Prelude.{IsTrue, pos}
 use Rattle.std.specs.List.{list_all}
 use Rattle.std.specs.Ordering.{int_eq}
 use Rattle.e_literal.specs.declared.object.Term.{Term}

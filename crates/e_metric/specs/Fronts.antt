@@ -14,7 +14,8 @@ pub record IsFrontSystem (which : Kind) (facts : List Lit) (s : Slot) : Type 0 w
 
 -- the second is a front of each list of facts of which the first is one
 abbrev pub IsFrontAs : Slot → Slot → Type 0
-IsFrontAs s r = (which : Kind) (facts : List Lit) → IsFrontSystem which facts s → IsFrontSystem which facts r
+IsFrontAs s r =
+    (which : Kind) (facts : List Lit) → IsFrontSystem which facts s → IsFrontSystem which facts r
 
 -- and so of each kind, with as many facts as it was asked about
 pub record AreFronts (facts : List Lit) (m : MetricFacts) : Type 0 where

@@ -15,4 +15,6 @@ with_listed seen (t ∷ ts) = with_listed (if has_term seen t then seen else see
 -- the terms of the facts of a kind and of the wanted literal, if it is of the kind, each once, as
 -- it is written first
 abbrev pub distinct_terms : Kind → List Lit → Option Lit → List Term
-distinct_terms which facts wanted = first_terms [] (terms_of_lits (of_kind which facts) ++ terms_of_lits (of_kind which (against_goal wanted)))
+distinct_terms which facts wanted =
+    first_terms []
+        (terms_of_lits (of_kind which facts) ++ terms_of_lits (of_kind which (against_goal wanted)))

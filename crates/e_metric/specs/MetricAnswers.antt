@@ -26,14 +26,17 @@ wanted_in s None = true
 
 -- the sums refute; they name no object but those of the facts and of the wanted literal, and no
 -- literal that is not well formed
-pub record IsMetricCertificate (facts : List Lit) (wanted : Option Lit) (m : MetricCert) : Type 0 where
+pub record IsMetricCertificate (facts : List Lit) (wanted : Option Lit)
+    (m : MetricCert) : Type 0 where
   pub refutes : IsTrue (sums_refute facts wanted m.sums)
-  pub scoped : (s : Scope) → IsTrue (list_all (all_in_scope s) facts) → IsTrue (wanted_in s wanted) → IsTrue (are_sums_in s m.sums)
+  pub scoped : (s : Scope) → IsTrue (list_all (all_in_scope s) facts) → IsTrue (wanted_in s wanted)
+      → IsTrue (are_sums_in s m.sums)
   pub written : IsTrue (are_sums_of version.One m.sums)
 
 -- the system of the kind has a solution, or is wide
 abbrev pub IsSolvedOrWide : List Lit → Option Lit → Kind → Type 0
-IsSolvedOrWide facts wanted which = HasSolution (rows_of_system which facts wanted) ⊎ IsWide (rows_of_system which facts wanted)
+IsSolvedOrWide facts wanted which =
+    HasSolution (rows_of_system which facts wanted) ⊎ IsWide (rows_of_system which facts wanted)
 
 -- w is the width of one of the metric systems, which is wide; and none that is not wide refutes
 pub record IsTooWideSystem (facts : List Lit) (wanted : Option Lit) (w : ℕ) : Type 0 where
@@ -53,7 +56,8 @@ IsMetricAnswer facts wanted (TooWide w) = IsTooWideSystem facts wanted w
 -- the same of the system of one kind, whose values satisfy its rows
 abbrev pub IsKindAnswer : Kind → List Lit → Option Lit → Metric → Type 0
 IsKindAnswer which facts wanted (Yes m) = IsMetricCertificate facts wanted m
-IsKindAnswer which facts wanted (No values) = Satisfy (assigned values) (rows_of_system which facts wanted)
+IsKindAnswer which facts wanted (No values) =
+    Satisfy (assigned values) (rows_of_system which facts wanted)
 IsKindAnswer which facts wanted (TooWide w) = HasWidth (rows_of_system which facts wanted) w
 
 -- the second, if it is a certificate, or else the first

@@ -12,5 +12,6 @@ IsOne n (m ∷ ms) = (n ≡ m) ⊎ IsOne n ms
 pub record AreReordered (ns ms : List NamedRow) : Type 0 where
   pub there : (n : NamedRow) → IsOne n ns → IsOne n ms
   pub back : (n : NamedRow) → IsOne n ms → IsOne n ns
-  pub wide : (more : List NamedRow) → IsWide (map (λ (n : NamedRow). n.row) (ns ++ more)) → IsWide (map (λ (n : NamedRow). n.row) (ms ++ more))
+  pub wide : (more : List NamedRow) → IsWide (map (λ (n : NamedRow). n.row) (ns ++ more))
+      → IsWide (map (λ (n : NamedRow). n.row) (ms ++ more))
   pub many : length ns ≡ length ms

@@ -1,5 +1,6 @@
 -- Uses of earlier theorems, with the objects of their names.
-use Rattle.std.specs.Prelude.{ℕ, ◌==◌, List, [], ◌∷◌, length, Option, Some, None, Result, Ok, Err, filter, is_none}
+use Rattle.std.specs.Prelude.{ℕ, ◌==◌, List, [], ◌∷◌, length, Option, Some, None, Result, Ok, Err}
+use Rattle.std.specs.Prelude.{filter, is_none}
 use Rattle.e_literal.specs.declared.object.Sort.{Sort}
 use Rattle.e_literal.specs.declared.object.Obj.{Obj}
 use Rattle.e_deriv.specs.declared.names.Names.{Names}
@@ -22,8 +23,10 @@ entry_in ns sort None = Ok None
 entry_in ns sort (Some name) = object_as ns sort name >>= λ o. Ok (Some o)
 
 -- an entry for each sort, in order
-abbrev pub entries_in : Names → List Sort → List (Option (List ℕ)) → Result (List (Option Obj)) FaultKind
-entries_in ns (sort ∷ sorts) (name ∷ names) = entry_in ns sort name >>= λ o. entries_in ns sorts names >>= λ os. Ok (o ∷ os)
+abbrev pub entries_in : Names → List Sort → List (Option (List ℕ))
+    → Result (List (Option Obj)) FaultKind
+entries_in ns (sort ∷ sorts) (name ∷ names) =
+    entry_in ns sort name >>= λ o. entries_in ns sorts names >>= λ os. Ok (o ∷ os)
 entries_in ns _ _ = Ok []
 
 abbrev pub count_blanks : List (Option Obj) → ℕ
@@ -32,7 +35,8 @@ count_blanks pattern = length (filter is_none pattern)
 -- the title, then how many arguments and new names there are, then the arguments, then the new
 -- names, from left to right: the place of the theorem, and what stands for its declared
 -- objects
-unfoldable pub apply_in : List TitledStatement → Names → RawApply → Result (ℕ × List (Option Obj)) FaultKind
+unfoldable pub apply_in : List TitledStatement → Names → RawApply
+    → Result (ℕ × List (Option Obj)) FaultKind
 apply_in known ns raw = do
   k ← known_place (place_in known raw.title)
   some ← right_count (length raw.args == length (theorem_of known k).declared)

@@ -1,5 +1,6 @@
 -- The line of each step, with the names of its objects.
-use Rattle.std.specs.Prelude.{ℕ, Bool, true, false, Option, Some, None, List, [], ◌∷◌, map, codes, slice_index_or}
+use Rattle.std.specs.Prelude.{ℕ, Bool, true, false, Option, Some, None, List, [], ◌∷◌, map, codes}
+use Rattle.std.specs.Prelude.{slice_index_or}
 use Rattle.std.specs.Option.{option_map_or}
 use Rattle.e_literal.specs.declared.object.Obj.{Obj}
 use Rattle.e_literal.specs.declared.object.Term.{Term}
@@ -39,8 +40,10 @@ name_of_object ns o = name_at (names_of_sort ns o.sort) o.num
 
 abbrev pub raw_term : Names → Term → RawTerm
 raw_term ns (terms.Seg a b) = rawterms.Seg (name_at ns.points a) (name_at ns.points b)
-raw_term ns (terms.Ang a b c) = rawterms.Ang (name_at ns.points a) (name_at ns.points b) (name_at ns.points c)
-raw_term ns (terms.Area a b c) = rawterms.Area (name_at ns.points a) (name_at ns.points b) (name_at ns.points c)
+raw_term ns (terms.Ang a b c) =
+    rawterms.Ang (name_at ns.points a) (name_at ns.points b) (name_at ns.points c)
+raw_term ns (terms.Area a b c) =
+    rawterms.Area (name_at ns.points a) (name_at ns.points b) (name_at ns.points c)
 raw_term ns terms.Right = rawterms.Right
 
 abbrev pub raw_mono : Names → Mono → RawMono
@@ -55,8 +58,10 @@ raw_atom ns (atoms.On a l) = raw.On (name_at ns.points a) (name_at ns.lines l)
 raw_atom ns (atoms.OnC a c) = raw.On (name_at ns.points a) (name_at ns.circles c)
 raw_atom ns (atoms.Inside a c) = raw.Inside (name_at ns.points a) (name_at ns.circles c)
 raw_atom ns (atoms.Center a c) = raw.Center (name_at ns.points a) (name_at ns.circles c)
-raw_atom ns (atoms.Between a b c) = raw.Between (name_at ns.points a) (name_at ns.points b) (name_at ns.points c)
-raw_atom ns (atoms.Same a b l) = raw.Same (name_at ns.points a) (name_at ns.points b) (name_at ns.lines l)
+raw_atom ns (atoms.Between a b c) =
+    raw.Between (name_at ns.points a) (name_at ns.points b) (name_at ns.points c)
+raw_atom ns (atoms.Same a b l) =
+    raw.Same (name_at ns.points a) (name_at ns.points b) (name_at ns.lines l)
 raw_atom ns (atoms.MeetLL l m) = raw.Meets (name_at ns.lines l) (name_at ns.lines m)
 raw_atom ns (atoms.MeetLC l c) = raw.Meets (name_at ns.lines l) (name_at ns.circles c)
 raw_atom ns (atoms.MeetCC c d) = raw.Meets (name_at ns.circles c) (name_at ns.circles d)
@@ -68,7 +73,8 @@ raw_atom ns (atoms.MagLt x y) = raw.SumsLess (raw_sum ns x) (raw_sum ns y)
 
 -- the negation of X < Y is written Y <= X
 abbrev pub raw_signed : Names → Bool → Atom → RawLit
-raw_signed ns true (atoms.MagLt x y) = record { neg = false; atom = raw.SumsAtMost (raw_sum ns y) (raw_sum ns x) }
+raw_signed ns true (atoms.MagLt x y) =
+    record { neg = false; atom = raw.SumsAtMost (raw_sum ns y) (raw_sum ns x) }
 raw_signed ns neg a = record { neg = neg; atom = raw_atom ns a }
 
 abbrev pub raw_of : Names → Lit → RawLit
@@ -94,7 +100,12 @@ hence_form ns l = rawlines.Hence (raw_of ns l)
 -- other shapes too where these have the same line: the sorts of the arguments tell them apart.
 abbrev pub let_form : Names → Construction → List (List ℕ) → RawLine
 let_form ns form names =
-    rawlines.Let (record { shapes = form.shape ∷ []; new = names; args = map (name_of_object ns) form.args; avoid = map (name_of_object ns) form.avoid })
+    rawlines.Let (record {
+      shapes = form.shape ∷ [];
+      new = names;
+      args = map (name_of_object ns) form.args;
+      avoid = map (name_of_object ns) form.avoid;
+    })
 
 -- what stands for a declared object of an earlier theorem: the name of an object, or a blank
 abbrev pub argument_name : Names → Option Obj → Option (List ℕ)
@@ -102,8 +113,11 @@ argument_name ns None = None
 argument_name ns (Some o) = Some (name_of_object ns o)
 
 -- the line that uses the theorem at a place, by its title
-abbrev pub apply_form : List TitledStatement → Names → ℕ → List (Option Obj) → List (List ℕ) → RawLine
-apply_form known ns theorem args names = rawlines.Apply (record { title = title_at known theorem; args = map (argument_name ns) args; new = names })
+abbrev pub apply_form : List TitledStatement → Names → ℕ → List (Option Obj)
+    → List (List ℕ) → RawLine
+apply_form known ns theorem args names =
+    rawlines.Apply
+        (record { title = title_at known theorem; args = map (argument_name ns) args; new = names })
 
 abbrev pub claim_form : Names → List Lit → RawLine
 claim_form ns shown = rawlines.Claim (map (raw_of ns) shown)
@@ -121,7 +135,9 @@ placed_names ns form =
 
 -- the names before it are those of the objects and of the literals
 abbrev pub superpose_form : Names → Superpose → List (List ℕ) → List Lit → RawLine
-superpose_form ns form names shown = rawlines.Superpose (record { args = placed_names ns form; new = names; shown = map (raw_of ns) shown })
+superpose_form ns form names shown =
+    rawlines.Superpose
+        (record { args = placed_names ns form; new = names; shown = map (raw_of ns) shown })
 
 abbrev pub cases_form : Names → Lit → RawLine
 cases_form ns lit = rawlines.Cases (raw_of ns lit)

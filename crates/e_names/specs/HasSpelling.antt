@@ -10,4 +10,5 @@ is_found_at k (Some i) = i == k
 
 -- the theorem at a place has a title, and is the first with it
 abbrev pub is_named_by_title : List TitledStatement → ℕ → Bool
-is_named_by_title known k = is_title (title_at known k) && is_found_at k (place_in known (title_at known k))
+is_named_by_title known k =
+    is_title (title_at known k) && is_found_at k (place_in known (title_at known k))

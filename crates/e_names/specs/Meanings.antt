@@ -1,5 +1,6 @@
 -- What items stand for: literals of the objects in scope.
-use Rattle.std.specs.Prelude.{ℕ, ◌+◌, ◌-◌, ◌==◌, List, [], ◌∷◌, ◌++◌, length, take, Option, Some, None, Result, Ok, Err}
+use Rattle.std.specs.Prelude.{ℕ, ◌+◌, ◌-◌, ◌==◌, List, [], ◌∷◌, ◌++◌, length, take, Option, Some}
+use Rattle.std.specs.Prelude.{None, Result, Ok, Err}
 use Rattle.e_literal.specs.declared.literal.Lit.{Lit}
 use Rattle.e_theorem.specs.declared.notion.Notion.{Notion}
 use Rattle.e_theorem.specs.Notions.{expanded}
@@ -32,9 +33,11 @@ meant_in notions ns most raw = do
 -- passes a limit, whatever else it has.
 abbrev pub item_in : List Titled → Names → ℕ → RawItem → Result (List Lit × ℕ) FaultKind
 item_in notions ns n (Literal raw) = lit_in ns raw >>= λ l. Ok (l ∷ [], n)
-item_in notions ns n (As raw) = meant_in notions ns (most_expanded + 1 - n) raw >>= λ ls. Ok (ls, n + length ls)
+item_in notions ns n (As raw) =
+    meant_in notions ns (most_expanded + 1 - n) raw >>= λ ls. Ok (ls, n + length ls)
 
 -- what the items of a line stand for, in order, and how many of these literals are of notions
 abbrev pub items_in : List Titled → Names → ℕ → List RawItem → Result (List Lit × ℕ) FaultKind
 items_in notions ns n [] = Ok ([], n)
-items_in notions ns n (item ∷ items) = item_in notions ns n item >>= λ p. items_in notions ns p.1 items >>= λ q. Ok (p.0 ++ q.0, q.1)
+items_in notions ns n (item ∷ items) =
+    item_in notions ns n item >>= λ p. items_in notions ns p.1 items >>= λ q. Ok (p.0 ++ q.0, q.1)

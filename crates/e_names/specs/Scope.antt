@@ -1,5 +1,7 @@
 -- Names resolved to the objects in scope, from left to right.
-use Rattle.std.specs.Prelude.{ℕ, ◌+◌, ◌<◌, ◌^◌, Bool, true, false, not, ◌||◌, ◌==◌, List, [], ◌∷◌, ◌++◌, length, take, drop, Option, Some, None, Result, Ok, Err, if◌then◌else◌}
+use Rattle.std.specs.Prelude.{ℕ, ◌+◌, ◌<◌, ◌^◌, Bool, true, false, not, ◌||◌, ◌==◌, List, [], ◌∷◌}
+use Rattle.std.specs.Prelude.{◌++◌, length, take, drop, Option, Some, None, Result, Ok, Err}
+use Rattle.std.specs.Prelude.{if◌then◌else◌}
 use Rattle.std.specs.List.{position, list_any}
 use Rattle.std.specs.Str.{bytes_eq}
 use Rattle.e_literal.specs.declared.object.Sort.{Sort}
@@ -29,7 +31,8 @@ use Rattle.e_construct.specs.Lines.{takes}
 use Rattle.e_deriv.specs.declared.names.Names.{Names}
 pub use Rattle.e_deriv.specs.Naming.{names_of_sort, with_names}
 use Rattle.e_line.specs.declared.fault.FaultKind.{FaultKind}
-use Rattle.e_line.specs.declared.fault.FaultKind.TheVariants.{Malformed, UnknownName, NameTaken, WrongSort}
+use Rattle.e_line.specs.declared.fault.FaultKind.TheVariants.{Malformed, UnknownName, NameTaken}
+use Rattle.e_line.specs.declared.fault.FaultKind.TheVariants.{WrongSort}
 use Rattle.e_line.specs.declared.sum.RawTerm.{RawTerm}
 use Rattle.e_line.specs.declared.sum.RawTerm.TheVariants as rawterms
 use Rattle.e_line.specs.declared.sum.RawMono.{RawMono}
@@ -47,7 +50,8 @@ pub record FewNames (ns : Names) : Type 0 where
 
 -- the scope of the objects that have these names
 abbrev pub scope_of_names : Names → Scope
-scope_of_names ns = record { points = length ns.points; lines = length ns.lines; circles = length ns.circles }
+scope_of_names ns =
+    record { points = length ns.points; lines = length ns.lines; circles = length ns.circles }
 
 abbrev pub is_among_names : List (List ℕ) → List ℕ → Bool
 is_among_names names name = list_any (λ n. bytes_eq n name) names
@@ -65,7 +69,9 @@ object_in ns sort name = object_at sort (position (λ n. bytes_eq n name) (names
 
 -- the object with this name
 abbrev pub object_of : Names → List ℕ → Option Obj
-object_of ns name = or_else (object_in ns sorts.Point name) (or_else (object_in ns sorts.Line name) (object_in ns sorts.Circle name))
+object_of ns name =
+    or_else (object_in ns sorts.Point name)
+        (or_else (object_in ns sorts.Line name) (object_in ns sorts.Circle name))
 
 abbrev pub known_object : Option Obj → Result Obj FaultKind
 known_object None = Err UnknownName
@@ -85,11 +91,15 @@ number_of_name ns sort name = used ns name >>= λ o. number_of_sort sort o
 -- ---- sums
 
 unfoldable pub term_in : Names → RawTerm → Result Term FaultKind
-term_in ns (rawterms.Seg x y) = number_of_name ns sorts.Point x >>= λ a. number_of_name ns sorts.Point y >>= λ b. Ok (terms.Seg a b)
+term_in ns (rawterms.Seg x y) =
+    number_of_name ns sorts.Point x >>= λ a. number_of_name ns sorts.Point y
+    >>= λ b. Ok (terms.Seg a b)
 term_in ns (rawterms.Ang x y z) =
-    number_of_name ns sorts.Point x >>= λ a. number_of_name ns sorts.Point y >>= λ b. number_of_name ns sorts.Point z >>= λ c. Ok (terms.Ang a b c)
+    number_of_name ns sorts.Point x >>= λ a. number_of_name ns sorts.Point y
+    >>= λ b. number_of_name ns sorts.Point z >>= λ c. Ok (terms.Ang a b c)
 term_in ns (rawterms.Area x y z) =
-    number_of_name ns sorts.Point x >>= λ a. number_of_name ns sorts.Point y >>= λ b. number_of_name ns sorts.Point z >>= λ c. Ok (terms.Area a b c)
+    number_of_name ns sorts.Point x >>= λ a. number_of_name ns sorts.Point y
+    >>= λ b. number_of_name ns sorts.Point z >>= λ c. Ok (terms.Area a b c)
 term_in ns rawterms.Right = Ok terms.Right
 
 abbrev pub kind_of_raw : RawTerm → Magnitude
@@ -107,10 +117,13 @@ first_kind [] [] = magnitudes.Segment
 -- a term of this kind, and then its points
 unfoldable pub mono_in : Names → Magnitude → RawMono → Result Mono FaultKind
 mono_in ns kind m =
-    if same_kind (kind_of_raw m.term) kind then (term_in ns m.term >>= λ t. Ok (record { coeff = m.coeff; term = t })) else Err WrongSort
+    if same_kind (kind_of_raw m.term) kind
+        then (term_in ns m.term >>= λ t. Ok (record { coeff = m.coeff; term = t }))
+        else Err WrongSort
 
 -- all terms have the kind of the first one
-unfoldable pub sums_in : Names → List RawMono → List RawMono → Result (List Mono × List Mono) FaultKind
+unfoldable pub sums_in : Names → List RawMono → List RawMono
+    → Result (List Mono × List Mono) FaultKind
 sums_in ns x y = do
   a ← each (mono_in ns (first_kind x y)) x
   b ← each (mono_in ns (first_kind x y)) y
@@ -143,15 +156,23 @@ equal_at sorts.Line a b = atoms.EqL a b
 equal_at sorts.Circle a b = atoms.EqC a b
 
 unfoldable pub atom_in : Names → RawAtom → Result Atom FaultKind
-atom_in ns (raw.On x y) = number_of_name ns sorts.Point x >>= λ a. used ns y >>= λ o. on_sort a o.sort o.num
-atom_in ns (raw.Inside x y) = number_of_name ns sorts.Point x >>= λ a. number_of_name ns sorts.Circle y >>= λ c. Ok (atoms.Inside a c)
-atom_in ns (raw.Center x y) = number_of_name ns sorts.Point x >>= λ a. number_of_name ns sorts.Circle y >>= λ c. Ok (atoms.Center a c)
+atom_in ns (raw.On x y) =
+    number_of_name ns sorts.Point x >>= λ a. used ns y >>= λ o. on_sort a o.sort o.num
+atom_in ns (raw.Inside x y) =
+    number_of_name ns sorts.Point x >>= λ a. number_of_name ns sorts.Circle y
+    >>= λ c. Ok (atoms.Inside a c)
+atom_in ns (raw.Center x y) =
+    number_of_name ns sorts.Point x >>= λ a. number_of_name ns sorts.Circle y
+    >>= λ c. Ok (atoms.Center a c)
 atom_in ns (raw.Between x y z) =
-    number_of_name ns sorts.Point x >>= λ a. number_of_name ns sorts.Point y >>= λ b. number_of_name ns sorts.Point z >>= λ c. Ok (atoms.Between a b c)
+    number_of_name ns sorts.Point x >>= λ a. number_of_name ns sorts.Point y
+    >>= λ b. number_of_name ns sorts.Point z >>= λ c. Ok (atoms.Between a b c)
 atom_in ns (raw.Same x y z) =
-    number_of_name ns sorts.Point x >>= λ a. number_of_name ns sorts.Point y >>= λ b. number_of_name ns sorts.Line z >>= λ l. Ok (atoms.Same a b l)
+    number_of_name ns sorts.Point x >>= λ a. number_of_name ns sorts.Point y
+    >>= λ b. number_of_name ns sorts.Line z >>= λ l. Ok (atoms.Same a b l)
 atom_in ns (raw.Meets x y) = used ns x >>= λ o. meets_from ns o.sort o.num y
-atom_in ns (raw.Equal x y) = used ns x >>= λ o. number_of_name ns o.sort y >>= λ n. Ok (equal_at o.sort o.num n)
+atom_in ns (raw.Equal x y) =
+    used ns x >>= λ o. number_of_name ns o.sort y >>= λ n. Ok (equal_at o.sort o.num n)
 atom_in ns (raw.SumsEqual x y) = sums_in ns x y >>= λ p. Ok (atoms.MagEq p.0 p.1)
 atom_in ns (raw.SumsLess x y) = sums_in ns x y >>= λ p. Ok (atoms.MagLt p.0 p.1)
 atom_in ns (raw.SumsAtMost x y) = sums_in ns x y >>= λ p. Ok (atoms.MagLt p.1 p.0)
@@ -176,12 +197,15 @@ objects_as ns sort names = each (object_as ns sort) names
 
 -- a name is that of an object in scope, or one of those that are new on the line before it
 abbrev pub is_taken : Names → List (List ℕ) → List ℕ → Bool
-is_taken ns seen name = is_among_names ns.points name || (is_among_names ns.lines name || (is_among_names ns.circles name || is_among_names seen name))
+is_taken ns seen name =
+    is_among_names ns.points name || (is_among_names ns.lines name
+        || (is_among_names ns.circles name || is_among_names seen name))
 
 -- none of the names is taken, and none is new twice
 abbrev pub fresh : Names → List (List ℕ) → List (List ℕ) → Result (Unit {0}) FaultKind
 fresh ns seen [] = Ok tt
-fresh ns seen (name ∷ names) = if is_taken ns seen name then Err NameTaken else fresh ns (seen ++ name ∷ []) names
+fresh ns seen (name ∷ names) =
+    if is_taken ns seen name then Err NameTaken else fresh ns (seen ++ name ∷ []) names
 
 -- a citation is of a rule of diagrams and equality
 abbrev pub known_rule : Option ℕ → Result ℕ FaultKind
@@ -222,10 +246,12 @@ right_sort false = Err WrongSort
 
 -- the arguments, after those that were found: each has a sort that one of the shapes takes there,
 -- after the earlier ones
-abbrev pub arguments_in : Names → List Shape → List Obj → List (List ℕ) → Result (List Obj) FaultKind
+abbrev pub arguments_in : Names → List Shape → List Obj → List (List ℕ)
+    → Result (List Obj) FaultKind
 arguments_in ns shapes found [] = Ok found
 arguments_in ns shapes found (name ∷ names) =
-    used ns name >>= λ o. right_sort (list_any (λ s. takes s (found ++ o ∷ [])) shapes) >>= λ right. arguments_in ns shapes (found ++ o ∷ []) names
+    used ns name >>= λ o. right_sort (list_any (λ s. takes s (found ++ o ∷ [])) shapes)
+    >>= λ right. arguments_in ns shapes (found ++ o ∷ []) names
 
 abbrev pub construction : Shape → List Obj → List Obj → Construction
 construction shape args avoid = record { shape = shape; args = args; avoid = avoid }
@@ -236,7 +262,9 @@ construction shape args avoid = record { shape = shape; args = args; avoid = avo
 abbrev pub first_fitting : Scope → List Obj → List Obj → List Shape → Result Construction FaultKind
 first_fitting s args avoid [] = Err Malformed
 first_fitting s args avoid (shape ∷ shapes) =
-    if fits_construction (construction shape args avoid) s then Ok (construction shape args avoid) else first_fitting s args avoid shapes
+    if fits_construction (construction shape args avoid) s
+        then Ok (construction shape args avoid)
+        else first_fitting s args avoid shapes
 
 -- the new names, then the arguments, then the avoided objects, from left to right. No line of
 -- a book has another number of new names than objects that are made.
@@ -253,7 +281,8 @@ let_in ns l = do
 
 -- an object for each sort, in order
 abbrev pub objects_of_sorts : Names → List Sort → List (List ℕ) → Result (List Obj) FaultKind
-objects_of_sorts ns (sort ∷ sorts) (name ∷ names) = object_as ns sort name >>= λ o. objects_of_sorts ns sorts names >>= λ os. Ok (o ∷ os)
+objects_of_sorts ns (sort ∷ sorts) (name ∷ names) =
+    object_as ns sort name >>= λ o. objects_of_sorts ns sorts names >>= λ os. Ok (o ∷ os)
 objects_of_sorts ns _ _ = Ok []
 
 -- the objects after qed: as many as the goal has made ones, and then each of the sort of its made

@@ -24,19 +24,23 @@ IsNoRefusal _ = Unit {0}
 -- where each step is licensed, with its blanks filled somehow, no stop is a refusal
 abbrev pub LicensedIsNotRefused : Type 0
 LicensedIsNotRefused =
-    (before : List StatementView) (t : StatementView) (script filled : Script) (stop : Stop) → AllLicensed before (proof_lines before t script filled) →
+    (before : List StatementView) (t : StatementView) (script filled : Script) (stop : Stop)
+    → AllLicensed before (proof_lines before t script filled) →
     StopIs before t script stop → IsNoRefusal stop
 
 -- and where no step is wide only a lack of memory stops
 abbrev pub LicensedStopsForMemory : Type 0
 LicensedStopsForMemory =
-    (before : List StatementView) (t : StatementView) (script filled : Script) (stop : Stop) → AllLicensed before (proof_lines before t script filled) →
-    NoneWide before (proof_lines before t script filled) → StopIs before t script stop → stop ≡ NoMemory
+    (before : List StatementView) (t : StatementView) (script filled : Script) (stop : Stop)
+    → AllLicensed before (proof_lines before t script filled) →
+    NoneWide before (proof_lines before t script filled)
+    → StopIs before t script stop → stop ≡ NoMemory
 
 -- nor where a derivation that is certified is licensed as a script, and no step is wide
 abbrev pub DerivedStopsForMemory : Type 0
 DerivedStopsForMemory =
-    (before : List StatementView) (t : StatementView) (d : Script) (stop : Stop) → Certified before t d → NoneWide before (derivation_lines before t d) →
+    (before : List StatementView) (t : StatementView) (d : Script) (stop : Stop)
+    → Certified before t d → NoneWide before (derivation_lines before t d) →
     StopIs before t d stop → stop ≡ NoMemory
 
 -- the stop is a refusal at step n, which lacks this; or memory ran out
@@ -49,5 +53,7 @@ IsRefusalAt n wanted NoMemory = Unit {0}
 -- and says what is lacked
 abbrev pub RefusedStopsThere : Type 0
 RefusedStopsThere =
-    (before : List StatementView) (t : StatementView) (script : Script) (n : ℕ) (wanted : Wanted) (stop : Stop) (first : IsFirstUnlicensed before t script n wanted) →
-    NoneWide before (take n (proof_lines before t script first.context.filled)) → StopIs before t script stop → IsRefusalAt n wanted stop
+    (before : List StatementView) (t : StatementView) (script : Script) (n : ℕ) (wanted : Wanted)
+        (stop : Stop) (first : IsFirstUnlicensed before t script n wanted) →
+    NoneWide before (take n (proof_lines before t script first.context.filled))
+    → StopIs before t script stop → IsRefusalAt n wanted stop

@@ -11,7 +11,8 @@ use Rattle.e_prove.specs.declared.place.Place.{Place}
 -- All steps before the one with this number are licensed, with their blanks filled by the least
 -- good choices; these are the objects in scope before it and the facts, and the names of the
 -- objects, where those are the names of the statement's declared and made objects.
-pub record IsStepPlace (before : List StatementView) (t : StatementView) (names : Names) (script : Script) (n : ℕ) (p : Place) : Type 0 where
+pub record IsStepPlace (before : List StatementView) (t : StatementView) (names : Names)
+    (script : Script) (n : ℕ) (p : Place) : Type 0 where
   pub line : Line
   pub context : IsContext before t script n line
   pub scope : p.context.scope ≡ line.scope

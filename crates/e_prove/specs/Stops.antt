@@ -11,15 +11,19 @@ use Rattle.e_deriv.specs.Refused.{IsRefused, IsTooWideAt}
 -- the step is the first that is not licensed, it lacks this, and the values show it; or each step
 -- before is licensed, and the step is too wide at what is wanted there; out of memory is free
 abbrev pub StopIs : List StatementView → StatementView → Script → Stop → Type 0
-StopIs before t script (Unlicensed step wanted values names) = IsRefused before t script step wanted values
-StopIs before t script (TooWide step wanted width names) = IsTooWideAt before t script step wanted width
+StopIs before t script (Unlicensed step wanted values names) =
+    IsRefused before t script step wanted values
+StopIs before t script (TooWide step wanted width names) =
+    IsTooWideAt before t script step wanted width
 StopIs before t script NoMemory = Unit {0}
 
 -- the names are those in scope before the step, where these are the names of the statement's
 -- declared and made objects
 abbrev pub HasNames : List StatementView → StatementView → Names → Script → Stop → Type 0
-HasNames before t names script (Unlicensed step wanted values seen) = Some seen ≡ slice_get (names_lines before (declared_names t names) script) (step - 1)
-HasNames before t names script (TooWide step wanted width seen) = Some seen ≡ slice_get (names_lines before (declared_names t names) script) (step - 1)
+HasNames before t names script (Unlicensed step wanted values seen) =
+    Some seen ≡ slice_get (names_lines before (declared_names t names) script) (step - 1)
+HasNames before t names script (TooWide step wanted width seen) =
+    Some seen ≡ slice_get (names_lines before (declared_names t names) script) (step - 1)
 HasNames before t names script NoMemory = Unit {0}
 
 -- the stop is at a step before the one with this number; out of memory is free

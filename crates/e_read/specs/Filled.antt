@@ -4,7 +4,8 @@ use Rattle.e_clause.specs.declared.cert.Cert.{Cert}
 use Rattle.e_clause.specs.declared.cert.Against.{Against}
 use Rattle.e_deriv.specs.declared.block.Step.{Step}
 use Rattle.e_deriv.specs.declared.block.Close.{Close}
-use Rattle.e_deriv.specs.Script.{step_script, close_script, Script, Cite, Hence, Make, Apply, Claim, Superposed, Qed, Contradiction, Cases}
+use Rattle.e_deriv.specs.Script.{step_script, close_script, Script, Cite, Hence, Make, Apply, Claim}
+use Rattle.e_deriv.specs.Script.{Superposed, Qed, Contradiction, Cases}
 use Rattle.e_cert.specs.Owed.{first_cert}
 use Rattle.e_cert.specs.declared.kept.StepCerts.{StepCerts}
 use Rattle.e_cert.specs.declared.kept.StepCerts.TheVariants.{Certs, Against as OfContradiction}
@@ -39,9 +40,14 @@ NextCerts old (Some k) new = old ≡ k ∷ new
 -- those that come next. And the certificates that are left.
 unfoldable pub script_with_certs : Script → List StepCerts → Script × List StepCerts
 script_with_certs (Cite by rest) ks = let r = script_with_certs rest ks in (Cite by r.0, r.1)
-script_with_certs (Hence lit cert rest) ks = let r = script_with_certs rest (after_next ks) in (Hence lit (first_cert (next_certs ks)) r.0, r.1)
-script_with_certs (Make form names certs rest) ks = let r = script_with_certs rest (after_next ks) in (Make form names (next_certs ks) r.0, r.1)
-script_with_certs (Apply theorem args names certs rest) ks = let r = script_with_certs rest (after_next ks) in (Apply theorem args names (next_certs ks) r.0, r.1)
+script_with_certs (Hence lit cert rest) ks =
+    let r = script_with_certs rest (after_next ks) in
+    (Hence lit (first_cert (next_certs ks)) r.0, r.1)
+script_with_certs (Make form names certs rest) ks =
+    let r = script_with_certs rest (after_next ks) in (Make form names (next_certs ks) r.0, r.1)
+script_with_certs (Apply theorem args names certs rest) ks =
+    let r = script_with_certs rest (after_next ks) in
+    (Apply theorem args names (next_certs ks) r.0, r.1)
 script_with_certs (Claim shown inner rest) ks =
     let i = script_with_certs inner ks in
     let r = script_with_certs rest i.1 in (Claim shown i.0 r.0, r.1)
@@ -60,7 +66,9 @@ abbrev pub Fills : Script → List StepCerts → Script → List StepCerts → T
 Fills old ks new left = script_with_certs old ks ≡ (new, left)
 
 abbrev pub FillsStep : Step → List StepCerts → Step → List StepCerts → Type 0
-FillsStep old ks new left = (rest : Script) → script_with_certs (step_script old rest) ks ≡ (step_script new (script_with_certs rest left).0, (script_with_certs rest left).1)
+FillsStep old ks new left =
+    (rest : Script) → script_with_certs (step_script old rest) ks
+        ≡ (step_script new (script_with_certs rest left).0, (script_with_certs rest left).1)
 
 abbrev pub FillsClose : Close → List StepCerts → Close → List StepCerts → Type 0
 FillsClose old ks new left = script_with_certs (close_script old) ks ≡ (close_script new, left)

@@ -54,23 +54,31 @@ one_each wanted = due.Literals wanted [] None
 
 -- the given literals of an earlier theorem at its arguments, none of which is a blank
 abbrev pub needs_in : Scope → StatementView → List (Option Obj) → Result (List Lit) FaultKind
-needs_in s t pattern = each or_malformed pattern >>= λ args. or_malformed (use_of t args s) >>= λ u. Ok u.needs
+needs_in s t pattern =
+    each or_malformed pattern >>= λ args. or_malformed (use_of t args s) >>= λ u. Ok u.needs
 
-unfoldable pub needs_of_raw_apply : List TitledStatement → TheoremParser → RawApply → Result (List Lit) FaultKind
-needs_of_raw_apply known d raw = apply_in known d.in_scope raw >>= λ a. needs_in (scope_of_names d.in_scope) (theorem_of known a.0) a.1
+unfoldable pub needs_of_raw_apply : List TitledStatement → TheoremParser → RawApply
+    → Result (List Lit) FaultKind
+needs_of_raw_apply known d raw =
+    apply_in known d.in_scope raw
+    >>= λ a. needs_in (scope_of_names d.in_scope) (theorem_of known a.0) a.1
 
 -- the literals of the goal, with the objects that are named for its made ones
 unfoldable pub needs_at_qed : TheoremParser → List (List ℕ) → Result (List Lit) FaultKind
-needs_at_qed d ns = qed_in d.in_scope (made_in d.blocks d.made) ns >>= λ objects. Ok (goal_with (open_goal d) objects)
+needs_at_qed d ns =
+    qed_in d.in_scope (made_in d.blocks d.made) ns
+    >>= λ objects. Ok (goal_with (open_goal d) objects)
 
 -- what a line owes: one certificate for the literal of hence, for each literal that a construction,
 -- an application or a superposition needs, for each literal of the goal at qed, and one of a
 -- contradiction; no other line owes any
 unfoldable pub due_of : List TitledStatement → TheoremParser → RawLine → Result Obligation FaultKind
 due_of known d (rawlines.Hence raw) = lit_in d.in_scope raw >>= λ l. Ok (one_each (l ∷ []))
-due_of known d (rawlines.Let raw) = let_in d.in_scope raw >>= λ form. Ok (one_each (needs_of_construction form))
+due_of known d (rawlines.Let raw) =
+    let_in d.in_scope raw >>= λ form. Ok (one_each (needs_of_construction form))
 due_of known d (rawlines.Apply raw) = needs_of_raw_apply known d raw >>= λ ls. Ok (one_each ls)
-due_of known d (rawlines.Superpose raw) = superpose_in d.in_scope raw >>= λ p. Ok (one_each (superposing.needs_of_superposition p.0))
+due_of known d (rawlines.Superpose raw) =
+    superpose_in d.in_scope raw >>= λ p. Ok (one_each (superposing.needs_of_superposition p.0))
 due_of known d (rawlines.Qed ns) = needs_at_qed d ns >>= λ ls. Ok (one_each ls)
 due_of known d rawlines.Contradiction = Ok (due.Contradiction None)
 due_of known d form = Ok due.Nothing

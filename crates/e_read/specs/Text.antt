@@ -1,5 +1,7 @@
 -- A block of a derivation text, line by line.
-use Rattle.std.specs.Prelude.{◌≡◌, IfSome, IsTrue, ℕ, ◌≤◌, Bool, true, false, ◌∷◌, ◌++◌, List, [], length, decimal, codes, Option, Some, None, Result, Ok, Err, if◌then◌else◌}
+use Rattle.std.specs.Prelude.{◌≡◌, IfSome, IsTrue, ℕ, ◌≤◌, Bool, true, false, ◌∷◌, ◌++◌, List, []}
+use Rattle.std.specs.Prelude.{length, decimal, codes, Option, Some, None, Result, Ok, Err}
+use Rattle.std.specs.Prelude.{if◌then◌else◌}
 use Rattle.std.specs.Option.{option_to_list}
 use Rattle.std.specs.Str.{bytes_eq}
 use Rattle.e_text.specs.Tokens.{tokens_of, joined_words}
@@ -57,48 +59,68 @@ with_cert_line r m = after_cert_line r.owed m >>= λ o. Ok (record r { owed = o 
 
 -- a line of a certificate, which has a form in the version of the text
 unfoldable pub certified : BlockParser → List ℕ → List (List ℕ) → Result BlockParser FaultKind
-certified r line words = exact_cert_line line words >>= λ m. if cert_line_is_of r.version m then with_cert_line r m else Err Malformed
+certified r line words =
+    exact_cert_line line words
+    >>= λ m. if cert_line_is_of r.version m then with_cert_line r m else Err Malformed
 
 -- what a line owes, with the names in scope before it
 unfoldable pub owed_by : List TitledStatement → TheoremParser → RawLine → Result Pending FaultKind
-owed_by known d f = due_of known d f >>= λ new. Ok (record { names = d.in_scope; due = new; sums = None })
+owed_by known d f =
+    due_of known d f >>= λ new. Ok (record { names = d.in_scope; due = new; sums = None })
 
 -- a line begins a theorem, or goes on with it, and owes certificates of its own
-abbrev pub gone_on : List TitledStatement → Option TheoremParser → RawLine → Result (TheoremParser × Pending) FaultKind
+abbrev pub gone_on : List TitledStatement → Option TheoremParser → RawLine
+    → Result (TheoremParser × Pending) FaultKind
 gone_on known None f = begin known f >>= λ e. Ok (e, owes_nothing)
 gone_on known (Some d) f =
-    if is_apart d f then (owed_by known d f >>= λ o. step known d f >>= λ e. Ok (e, o)) else Err Malformed
+    if is_apart d f then (owed_by known d f >>= λ o. step known d f >>= λ e. Ok (e, o)) else
+    Err Malformed
 
 -- nothing is owed any more, and what was read is kept
 abbrev pub finish_line : BlockParser → Result BlockParser FaultKind
-finish_line r = finish_certs r.owed >>= λ k. Ok (record { version = r.version; parser = r.parser; owed = owes_nothing; kept = r.kept ++ option_to_list k })
+finish_line r =
+    finish_certs r.owed >>= λ k. Ok (record {
+      version = r.version;
+      parser = r.parser;
+      owed = owes_nothing;
+      kept = r.kept ++ option_to_list k;
+    })
 
 -- any other line comes where nothing is owed any more
-unfoldable pub with_form : List TitledStatement → BlockParser → RawLine → Result BlockParser FaultKind
-with_form known r f = finish_line r >>= λ s. gone_on known s.parser f >>= λ e. Ok (record { version = s.version; parser = Some e.0; owed = e.1; kept = s.kept })
+unfoldable pub with_form : List TitledStatement → BlockParser → RawLine
+    → Result BlockParser FaultKind
+with_form known r f =
+    finish_line r >>= λ s. gone_on known s.parser f
+    >>= λ e. Ok (record { version = s.version; parser = Some e.0; owed = e.1; kept = s.kept })
 
-unfoldable pub parser_after_exact_line : List TitledStatement → BlockParser → List ℕ → Result BlockParser FaultKind
+unfoldable pub parser_after_exact_line : List TitledStatement → BlockParser → List ℕ
+    → Result BlockParser FaultKind
 parser_after_exact_line known r line = exact_line line >>= λ f. with_form known r f
 
 abbrev pub is_bar : List ℕ → Bool
 is_bar word = bytes_eq word (codes "|")
 
 -- a line by its words: the sign `|` comes before each line of a certificate
-unfoldable pub worded : List TitledStatement → BlockParser → List ℕ → List (List ℕ) → Result BlockParser FaultKind
+unfoldable pub worded : List TitledStatement → BlockParser → List ℕ → List (List ℕ)
+    → Result BlockParser FaultKind
 worded known r line [] = Err Malformed
-worded known r line (w ∷ ws) = if is_bar w then certified r line ws else parser_after_exact_line known r line
+worded known r line (w ∷ ws) =
+    if is_bar w then certified r line ws else parser_after_exact_line known r line
 
 abbrev pub is_lf_end : LineEnd → Bool
 is_lf_end ends.Lf = true
 is_lf_end end = false
 
 -- a line by its bytes
-unfoldable pub parser_after_bytes : List TitledStatement → BlockParser → List ℕ → Result BlockParser FaultKind
+unfoldable pub parser_after_bytes : List TitledStatement → BlockParser → List ℕ
+    → Result BlockParser FaultKind
 parser_after_bytes known r line = worded known r line (tokens_of line)
 
 -- each line ends with a line feed
-unfoldable pub parser_after_line : List TitledStatement → BlockParser → LineView → Result BlockParser FaultKind
-parser_after_line known r l = if is_lf_end l.end then parser_after_bytes known r l.bytes else Err Malformed
+unfoldable pub parser_after_line : List TitledStatement → BlockParser → LineView
+    → Result BlockParser FaultKind
+parser_after_line known r l =
+    if is_lf_end l.end then parser_after_bytes known r l.bytes else Err Malformed
 
 -- ---- blocks
 
@@ -112,11 +134,13 @@ abbrev pub last_line_of : ℕ → List ℕ
 last_line_of n = joined_words (codes "accepted" ∷ decimal n ∷ [])
 
 abbrev pub is_last_line : List TitledStatement → LineView → Bool
-is_last_line known l = if is_lf_end l.end then bytes_eq l.bytes (last_line_of (length known)) else false
+is_last_line known l =
+    if is_lf_end l.end then bytes_eq l.bytes (last_line_of (length known)) else false
 
 -- a theorem with its certificates at their lines
 abbrev pub derived : TheoremParser → List StepCerts → TheoremView
-derived d kept = let t = entry_of_parser d in record t { script = (script_with_certs t.script kept).0 }
+derived d kept =
+    let t = entry_of_parser d in record t { script = (script_with_certs t.script kept).0 }
 
 abbrev pub garbled_at : {A : Type 0} → ℕ → Result A FaultKind → Result A ℕ
 garbled_at line (Ok x) = Ok x
@@ -131,7 +155,9 @@ abbrev pub finished : Option TheoremParser → List StepCerts → Option Theorem
 finished None kept = None
 finished (Some d) kept = if is_done d then Some (derived d kept) else None
 
-abbrev pub or_on : Option TheoremView → List (Result LineView LineFault) → Result (TextPiece × List (Result LineView LineFault)) ℕ → Result (TextPiece × List (Result LineView LineFault)) ℕ
+abbrev pub or_on : Option TheoremView → List (Result LineView LineFault)
+    → Result (TextPiece × List (Result LineView LineFault)) ℕ
+    → Result (TextPiece × List (Result LineView LineFault)) ℕ
 or_on None lines more = more
 or_on (Some t) lines more = Ok (Derived t, lines)
 
@@ -142,12 +168,14 @@ is_end known (Some d) l = false
 
 -- the rest of what comes next and the lines after it, or the first line that is malformed at its
 -- place; last is the number after the last line
-unfoldable pub piece_from : List TitledStatement → ℕ → BlockParser → List (Result LineView LineFault) → Result (TextPiece × List (Result LineView LineFault)) ℕ
+unfoldable pub piece_from : List TitledStatement → ℕ → BlockParser
+    → List (Result LineView LineFault) → Result (TextPiece × List (Result LineView LineFault)) ℕ
 piece_from known last r [] = Err last
 piece_from known last r (Err f ∷ lines) = Err (line_of_fault f)
 piece_from known last r (Ok line ∷ lines) =
     if is_end known r.parser line then Ok (Last, lines) else
-    (garbled_at line.number (parser_after_line known r line) >>= λ next. or_on (finished next.parser next.kept) lines (piece_from known last next lines))
+    (garbled_at line.number (parser_after_line known r line)
+        >>= λ next. or_on (finished next.parser next.kept) lines (piece_from known last next lines))
 
 -- what a line made of a block, unless memory ran out
 abbrev pub LineReads : Result (Unit {0}) TextFault → BlockParser → Result BlockParser ℕ → Type 0
@@ -158,22 +186,33 @@ LineReads (Err faults.NoMemory) new read = Unit {0}
 -- the next line, or what comes next is garbled whatever of a block has come
 abbrev pub LineIs : Result Line TextFault → Ahead → Ahead → Type 0
 LineIs (Ok line) old new = old.lines ≡ Ok (view_of_line line) ∷ new.lines
-LineIs (Err (faults.Garbled n)) old new = (known : List TitledStatement) (r : BlockParser) → piece_from known (last_line old) r old.lines ≡ Err n
+LineIs (Err (faults.Garbled n)) old new =
+    (known : List TitledStatement) (r : BlockParser)
+    → piece_from known (last_line old) r old.lines ≡ Err n
 LineIs (Err faults.NoMemory) old new = ⊥
 
 -- what comes next, where this line comes before any others and made this of the block, unless
 -- memory ran out
-abbrev pub ProgressIs : List TitledStatement → BlockParser → LineView → BlockParser → Result Progress TextFault → Type 0
-ProgressIs known old line new (Ok turns.Last) = (last : ℕ) (rest : List (Result LineView LineFault)) → piece_from known last old (Ok line ∷ rest) ≡ Ok (Last, rest)
+abbrev pub ProgressIs : List TitledStatement → BlockParser → LineView → BlockParser
+    → Result Progress TextFault → Type 0
+ProgressIs known old line new (Ok turns.Last) =
+    (last : ℕ) (rest : List (Result LineView LineFault))
+    → piece_from known last old (Ok line ∷ rest) ≡ Ok (Last, rest)
 ProgressIs known old line new (Ok turns.Complete) = IsTrue (is_finished new.parser)
-    × ((t : TheoremView) → finished new.parser new.kept ≡ Some t → (last : ℕ) (rest : List (Result LineView LineFault)) → piece_from known last old (Ok line ∷ rest) ≡ Ok (Derived t, rest))
+    × ((t : TheoremView) → finished new.parser new.kept ≡ Some t → (last : ℕ)
+        (rest : List (Result LineView LineFault))
+        → piece_from known last old (Ok line ∷ rest) ≡ Ok (Derived t, rest))
 ProgressIs known old line new (Ok turns.Continue) =
-    (last : ℕ) (rest : List (Result LineView LineFault)) → piece_from known last old (Ok line ∷ rest) ≡ piece_from known last new rest
-ProgressIs known old line new (Err (faults.Garbled n)) = (last : ℕ) (rest : List (Result LineView LineFault)) → piece_from known last old (Ok line ∷ rest) ≡ Err n
+    (last : ℕ) (rest : List (Result LineView LineFault))
+    → piece_from known last old (Ok line ∷ rest) ≡ piece_from known last new rest
+ProgressIs known old line new (Err (faults.Garbled n)) =
+    (last : ℕ) (rest : List (Result LineView LineFault))
+    → piece_from known last old (Ok line ∷ rest) ≡ Err n
 ProgressIs known old line new (Err faults.NoMemory) = Unit {0}
 
 -- what was answered is what comes next, unless memory ran out
-abbrev pub TextReads : List TitledStatement → Result PieceRead TextFault → Ahead → Result (TextPiece × List (Result LineView LineFault)) ℕ → Type 0
+abbrev pub TextReads : List TitledStatement → Result PieceRead TextFault → Ahead
+    → Result (TextPiece × List (Result LineView LineFault)) ℕ → Type 0
 TextReads known (Ok (read.Theorem t)) new from = from ≡ Ok (Derived (entry_of t), new.lines)
 TextReads known (Ok (read.Last n)) new from = (n ≡ length known) × (from ≡ Ok (Last, new.lines))
 TextReads known (Err (faults.Garbled line)) new from = from ≡ Err line

@@ -1,6 +1,7 @@
 -- When the certificates of a derivation have the form that lines of a text can have, whether they
 -- certify or not.
-use Rattle.std.specs.Prelude.{ℤ, ◌^◌, nat_lt, List, [], ◌∷◌, length, Bool, true, false, not, ◌&&◌, ◌==◌, Some, None, IsTrue}
+use Rattle.std.specs.Prelude.{ℤ, ◌^◌, nat_lt, List, [], ◌∷◌, length, Bool, true, false, not, ◌&&◌}
+use Rattle.std.specs.Prelude.{◌==◌, Some, None, IsTrue}
 use Rattle.std.specs.Option.{option_map_or}
 use Rattle.std.specs.List.{list_all}
 use Rattle.e_literal.specs.declared.object.Scope.{Scope}
@@ -13,7 +14,8 @@ use Rattle.e_clause.specs.declared.cert.RowName.TheVariants.{Fact, Goal, FactAt}
 use Rattle.e_clause.specs.declared.cert.Sums.{Sums}
 use Rattle.e_clause.specs.declared.cert.Sums.TheVariants.{One, Two}
 use Rattle.e_clause.specs.declared.cert.Part.{Part}
-use Rattle.e_clause.specs.declared.cert.Part.TheVariants.{Fact as FactPart, Metric, FactAt as FactPartAt}
+use Rattle.e_clause.specs.declared.cert.Part.TheVariants.{Fact as FactPart, Metric}
+use Rattle.e_clause.specs.declared.cert.Part.TheVariants.{FactAt as FactPartAt}
 use Rattle.e_clause.specs.declared.cert.Cert.{Cert}
 use Rattle.e_clause.specs.declared.cert.Cert.TheVariants.{Plain, Transfer}
 use Rattle.e_clause.specs.declared.cert.Against.{Against}
@@ -49,7 +51,8 @@ difference_formed s row = names_difference row && (row_name_in s row && is_writa
 
 abbrev pub sums_formed : Scope → Sums → Bool
 sums_formed s (One sum) = sum_formed s sum
-sums_formed s (Two differs first second) = difference_formed s differs && (sum_formed s first && sum_formed s second)
+sums_formed s (Two differs first second) =
+    difference_formed s differs && (sum_formed s first && sum_formed s second)
 
 -- ---- certificates
 
@@ -66,7 +69,8 @@ has_parts l parts lits = length parts == length (others lits l)
 abbrev pub cert_formed : Scope → Lit → Cert → Bool
 cert_formed s l (Plain p) = part_formed s p
 cert_formed s l (Transfer t) =
-    is_transfer t.rule && (option_map_or (has_parts l t.parts) (Inst t.rule t.args) false && (are_args_in s t && list_all (part_formed s) t.parts))
+    is_transfer t.rule && (option_map_or (has_parts l t.parts) (Inst t.rule t.args) false
+        && (are_args_in s t && list_all (part_formed s) t.parts))
 
 -- as many certificates as literals, each of the form of one for its literal
 abbrev pub certs_formed : Scope → List Lit → List Cert → Bool
@@ -90,7 +94,9 @@ formed_beside _ s = true
 
 -- the line fits, and has a certificate of its form for each literal that it needs
 abbrev pub is_formed : List StatementView → Line → Bool
-is_formed before x = fits before x && (certs_formed x.scope (needs before x) (certs_of x.here) && formed_beside x.here x.scope)
+is_formed before x =
+    fits before x
+    && (certs_formed x.scope (needs before x) (certs_of x.here) && formed_beside x.here x.scope)
 
 -- each line of the derivation does
 abbrev pub Formed : List StatementView → StatementView → Script → Type 0

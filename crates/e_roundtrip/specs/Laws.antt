@@ -23,25 +23,35 @@ use Rattle.e_judgement.specs.declared.judgement.Judgement.TheVariants.{Verified}
 use Rattle.e_judgement.specs.Judged.{JudgesText}
 use Rattle.e_roundtrip.specs.Formed.{Formed}
 use Rattle.e_roundtrip.specs.Spelled.{ShowsEnded, CanBeSpelled}
-use Rattle.e_roundtrip.specs.Written.{AllCanBeSpelled, AllCanBeVerified, SpellsProofs, judgement_of, derivation_text}
+use Rattle.e_roundtrip.specs.Written.{AllCanBeSpelled, AllCanBeVerified, SpellsProofs, judgement_of}
+use Rattle.e_roundtrip.specs.Written.{derivation_text}
 
 -- ---- what is read is spelled so
 
 -- what is read in a version as a theorem with its derivation is spelled so: the lines are exactly
 -- those of its one spelling
 abbrev pub ReadIsSpelled : Type 0
-ReadIsSpelled = (v : Version) (known : List TitledStatement) (last : ℕ) (t : TheoremView) (lines rest : List (Result LineView LineFault)) → piece_from known last (at_start v) lines ≡ Ok (Derived t, rest)
+ReadIsSpelled =
+    (v : Version) (known : List TitledStatement) (last : ℕ) (t : TheoremView)
+        (lines rest : List (Result LineView LineFault))
+    → piece_from known last (at_start v) lines ≡ Ok (Derived t, rest)
     → ShowsEnded lines (spelled_lines known t t.script) rest
 
 -- so their bytes are its one text: no other text is read as the same theorem with the same
 -- derivation
 abbrev pub ReadTextIsSpelled : Type 0
-ReadTextIsSpelled = (v : Version) (known : List TitledStatement) (last : ℕ) (t : TheoremView) (lines rest : List (Result LineView LineFault)) → piece_from known last (at_start v) lines ≡ Ok (Derived t, rest)
+ReadTextIsSpelled =
+    (v : Version) (known : List TitledStatement) (last : ℕ) (t : TheoremView)
+        (lines rest : List (Result LineView LineFault))
+    → piece_from known last (at_start v) lines ≡ Ok (Derived t, rest)
     → text_of_lines lines ≡ spelled known t t.script ++ text_of_lines rest
 
 -- and the derivation can be spelled, by its form: so that form is the form of what is read
 abbrev pub ReadCanBeSpelled : Type 0
-ReadCanBeSpelled = (v : Version) (known : List TitledStatement) (last : ℕ) (t : TheoremView) (lines rest : List (Result LineView LineFault)) → piece_from known last (at_start v) lines ≡ Ok (Derived t, rest)
+ReadCanBeSpelled =
+    (v : Version) (known : List TitledStatement) (last : ℕ) (t : TheoremView)
+        (lines rest : List (Result LineView LineFault))
+    → piece_from known last (at_start v) lines ≡ Ok (Derived t, rest)
     → CanBeSpelled v known t t.script
 
 -- ---- what is spelled is read
@@ -49,29 +59,38 @@ ReadCanBeSpelled = (v : Version) (known : List TitledStatement) (last : ℕ) (t 
 -- a derivation that is certified, and whose certificates name literals that are well formed, has
 -- the form
 abbrev pub CertifiedIsFormed : Type 0
-CertifiedIsFormed = (before : List StatementView) (t : StatementView) (d : Script) → Certified before t d → IsTrue (is_written_well d) → Formed before t d
+CertifiedIsFormed =
+    (before : List StatementView) (t : StatementView) (d : Script) → Certified before t d
+    → IsTrue (is_written_well d) → Formed before t d
 
 -- the lines of a derivation's one spelling, whatever follows them, are read as the theorem with
 -- that derivation
 abbrev pub SpelledIsRead : Type 0
 SpelledIsRead =
-    (v : Version) (known : List TitledStatement) (last : ℕ) (t : TheoremView) (d : Script) (lines rest : List (Result LineView LineFault)) → CanBeSpelled v known t d
-    → ShowsEnded lines (spelled_lines known t d) rest → piece_from known last (at_start v) lines ≡ Ok (Derived (record t { script = d }), rest)
+    (v : Version) (known : List TitledStatement) (last : ℕ) (t : TheoremView) (d : Script)
+        (lines rest : List (Result LineView LineFault)) → CanBeSpelled v known t d
+    → ShowsEnded lines (spelled_lines known t d) rest
+    → piece_from known last (at_start v) lines ≡ Ok (Derived (record t { script = d }), rest)
 
 -- a theorem that can be spelled still can when its blanks are filled: when its script is that of a
 -- certified derivation without the certificates, which differs from its own only in the arguments
 -- at the lines that use earlier theorems
 abbrev pub FilledHasSpelling : Type 0
 FilledHasSpelling =
-    (known : List TitledStatement) (t : TheoremView) (d : Script) → HasSpelling known t → erased d ≡ filled_by (erased t.script) d
-    → Certified (stated_by known) (stated t.statement) d → HasSpelling known (record t { script = erased d })
+    (known : List TitledStatement) (t : TheoremView) (d : Script) → HasSpelling known t
+    → erased d ≡ filled_by (erased t.script) d
+    → Certified (stated_by known) (stated t.statement) d
+    → HasSpelling known (record t { script = erased d })
 
 -- and so it still can when the idle steps of a certified derivation of the first version are left
 -- out
 abbrev pub TrimmedHasSpelling : Type 0
 TrimmedHasSpelling =
-    (known : List TitledStatement) (t : TheoremView) → IsTrue (list_all is_small_statement (stated_by known)) → HasSpelling known (record t { script = erased t.script }) → IsTrue (has_certs_of One t.script)
-    → Certified (stated_by known) (stated t.statement) t.script → HasSpelling known (record t { script = erased (trimmed (stated_by known) (stated t.statement) t.script) })
+    (known : List TitledStatement) (t : TheoremView)
+    → IsTrue (list_all is_small_statement (stated_by known))
+    → HasSpelling known (record t { script = erased t.script }) → IsTrue (has_certs_of One t.script)
+    → Certified (stated_by known) (stated t.statement) t.script → HasSpelling known
+        (record t { script = erased (trimmed (stated_by known) (stated t.statement) t.script) })
 
 -- ---- what is written is judged
 
@@ -80,13 +99,15 @@ TrimmedHasSpelling =
 -- however long it is
 abbrev pub WrittenIsJudged : Type 0
 WrittenIsJudged =
-    (v : Version) (ps : List (TheoremView × Script)) → AllCanBeSpelled v [] ps → JudgesText (derivation_text v ps) (judgement_of [] ps)
+    (v : Version) (ps : List (TheoremView × Script)) → AllCanBeSpelled v [] ps
+    → JudgesText (derivation_text v ps) (judgement_of [] ps)
 
 -- what is written of certified derivations is a derivation text that is judged verified, with their
 -- number
 abbrev pub WrittenIsVerified : Type 0
 WrittenIsVerified =
-    (v : Version) (ps : List (TheoremView × Script)) → AllCanBeVerified v [] ps → JudgesText (derivation_text v ps) (Verified (length ps))
+    (v : Version) (ps : List (TheoremView × Script)) → AllCanBeVerified v [] ps
+    → JudgesText (derivation_text v ps) (Verified (length ps))
 
 -- and a text that is judged verified is so written: it spells proofs, and nothing else
 abbrev pub VerifiedIsWritten : Type 0

@@ -14,15 +14,18 @@ use Rattle.e_roundtrip.specs.Formed.{Formed}
 
 -- the next lines begin with these texts, whatever their numbers, each ended by a line feed, and the
 -- rest follows
-abbrev pub ShowsEnded : List (Result LineView LineFault) → List (List ℕ) → List (Result LineView LineFault) → Type 0
+abbrev pub ShowsEnded : List (Result LineView LineFault) → List (List ℕ)
+    → List (Result LineView LineFault) → Type 0
 ShowsEnded lines [] rest = lines ≡ rest
 ShowsEnded [] (text ∷ texts) rest = ⊥
 ShowsEnded (Err f ∷ lines) (text ∷ texts) rest = ⊥
-ShowsEnded (Ok l ∷ lines) (text ∷ texts) rest = (l.bytes ≡ text) × (l.end ≡ Lf) × ShowsEnded lines texts rest
+ShowsEnded (Ok l ∷ lines) (text ∷ texts) rest =
+    (l.bytes ≡ text) × (l.end ≡ Lf) × ShowsEnded lines texts rest
 
 -- what a derivation of a theorem is that lines of a text of this version can spell, by its form
 -- alone: whether its certificates certify is not asked
-pub record CanBeSpelled (v : Version) (known : List TitledStatement) (t : TheoremView) (d : Script) : Type 0 where
+pub record CanBeSpelled (v : Version) (known : List TitledStatement) (t : TheoremView)
+    (d : Script) : Type 0 where
   -- the theorem has a spelling, with the derivation's script for its own
   pub plain : HasSpelling known (record t { script = erased d })
   -- each line has as many certificates as it owes, each of the form that lines can have

@@ -17,17 +17,20 @@ use Rattle.e_judgement.specs.Judged.{with_theorem, head_of}
 -- before it are known
 abbrev pub AllCanBeSpelled : Version → List TitledStatement → List (TheoremView × Script) → Type 0
 AllCanBeSpelled v known [] = Unit {0}
-AllCanBeSpelled v known (p ∷ ps) = CanBeSpelled v known p.0 p.1 × AllCanBeSpelled v (with_theorem known p.0) ps
+AllCanBeSpelled v known (p ∷ ps) =
+    CanBeSpelled v known p.0 p.1 × AllCanBeSpelled v (with_theorem known p.0) ps
 
 -- lines can spell the derivation, and each of its certificates certifies
-pub record CanBeVerified (v : Version) (known : List TitledStatement) (t : TheoremView) (d : Script) : Type 0 where
+pub record CanBeVerified (v : Version) (known : List TitledStatement) (t : TheoremView)
+    (d : Script) : Type 0 where
   pub spelled : CanBeSpelled v known t d
   pub certified : Certified (stated_by known) (stated t.statement) d
 
 -- theorems, each with a derivation of it: each where those before it are known
 abbrev pub AllCanBeVerified : Version → List TitledStatement → List (TheoremView × Script) → Type 0
 AllCanBeVerified v known [] = Unit {0}
-AllCanBeVerified v known (p ∷ ps) = CanBeVerified v known p.0 p.1 × AllCanBeVerified v (with_theorem known p.0) ps
+AllCanBeVerified v known (p ∷ ps) =
+    CanBeVerified v known p.0 p.1 × AllCanBeVerified v (with_theorem known p.0) ps
 
 -- after the verdict on a derivation: bad at the line that is not certified, or what those after it
 -- are judged
@@ -39,7 +42,8 @@ judged_after title (Err step) after = Bad title step
 abbrev pub judgement_of : List TitledStatement → List (TheoremView × Script) → Judgement
 judgement_of known [] = Verified (length known)
 judgement_of known (p ∷ ps) =
-    judged_after p.0.title (verdict (stated_by known) (stated p.0.statement) p.1) (judgement_of (with_theorem known p.0) ps)
+    judged_after p.0.title (verdict (stated_by known) (stated p.0.statement) p.1)
+        (judgement_of (with_theorem known p.0) ps)
 
 -- the blocks of derivations, one after the other
 abbrev pub spelled_blocks : List TitledStatement → List (TheoremView × Script) → List ℕ
@@ -61,7 +65,8 @@ derivation_text v ps = version_line v ++ (spelled_blocks [] ps ++ accepted_block
 -- each derivation proves its theorem's statement from those of the theorems before it
 abbrev pub AllProved : List TitledStatement → List (TheoremView × Script) → Type 0
 AllProved known [] = Unit {0}
-AllProved known (p ∷ ps) = IsProof (stated_by known) (stated p.0.statement) p.1 × AllProved (with_theorem known p.0) ps
+AllProved known (p ∷ ps) =
+    IsProof (stated_by known) (stated p.0.statement) p.1 × AllProved (with_theorem known p.0) ps
 
 -- the text is the head line of its version, the spellings of this many theorems, each with a
 -- derivation that proves it, and the line with their number

@@ -22,10 +22,12 @@ use Rattle.e_judgement.specs.declared.judgement.Judgement.TheVariants as judgeme
 use Rattle.e_judgement.specs.Judged.{JudgesText, with_theorem}
 use Rattle.e_run.specs.declared.status.Status.{Status}
 use Rattle.e_run.specs.declared.status.Status.TheVariants as status
-use Rattle.e_run.specs.Outcome.{BookOutcome, OutcomeAt, NextIs, Begins, IsFront, IsOutcomeOf, RefusedAt, TooWideAt, HasWide, end_line_number, lines_of_book}
+use Rattle.e_run.specs.Outcome.{BookOutcome, OutcomeAt, NextIs, Begins, IsFront, IsOutcomeOf}
+use Rattle.e_run.specs.Outcome.{RefusedAt, TooWideAt, HasWide, end_line_number, lines_of_book}
 use Rattle.e_run.specs.Outcome as outcome
 use Rattle.e_run.specs.Wrote.{Wrote}
-use Rattle.e_run.specs.LastLines.{head_line, accepted_line, fault_line, read_fault_line, no_memory_line, usage_line}
+use Rattle.e_run.specs.LastLines.{head_line, accepted_line, fault_line, read_fault_line}
+use Rattle.e_run.specs.LastLines.{no_memory_line, usage_line}
 
 -- a theorem with a derivation of it
 pub record Derived : Type 0 where
@@ -41,7 +43,8 @@ pub record IsDerived (known : List TitledStatement) (d : Derived) : Type 0 where
   pub proves : IsProof (stated_by known) (stated d.theorem.statement) d.derivation
   pub certified : Certified (stated_by known) (stated d.theorem.statement) d.derivation
   pub own : erased d.derivation ≡ filled_by (erased d.theorem.script) d.derivation
-  pub least : AllLicensed (stated_by known) (proof_lines (stated_by known) (stated d.theorem.statement) d.theorem.script d.derivation)
+  pub least : AllLicensed (stated_by known)
+      (proof_lines (stated_by known) (stated d.theorem.statement) d.theorem.script d.derivation)
   pub written : IsTrue (is_written_well d.derivation)
   pub version : IsTrue (has_certs_of One d.derivation)
 
@@ -68,7 +71,8 @@ blocks_of known [] = []
 blocks_of known (d ∷ ds) = block_of known d ++ blocks_of (with_theorem known d.theorem) ds
 
 -- with this known, these bytes are the block of a derivation of the theorem
-pub record HasBlock (known : List TitledStatement) (theorem : TheoremView) (bytes : List ℕ) : Type 0 where
+pub record HasBlock (known : List TitledStatement) (theorem : TheoremView)
+    (bytes : List ℕ) : Type 0 where
   pub derivation : Script
   pub sound : IsDerived known (record { theorem = theorem; derivation = derivation })
   pub spells : bytes ≡ spelled known theorem derivation
@@ -78,7 +82,8 @@ abbrev pub written_with : List Derived → List ℕ → List ℕ
 written_with ds last = head_line ++ (blocks_of [] ds ++ last)
 
 -- theorems with their derivations, which are the first of the book, and what holds after them
-pub record OutputUpTo (lines : Rest) (Holds : Known → Rest → Type 0) (last out : List ℕ) : Type 0 where
+pub record OutputUpTo (lines : Rest) (Holds : Known → Rest → Type 0)
+    (last out : List ℕ) : Type 0 where
   pub derived : List Derived
   pub sound : AllDerived [] derived
   pub known : Known
@@ -92,14 +97,17 @@ abbrev pub OutcomeAfter : Rest → BookOutcome → Known → Rest → Type 0
 OutcomeAfter lines end known rest = OutcomeAt (end_line_number lines) known rest end
 
 -- the next theorem is refused at this line
-abbrev pub Refuses : Rest → List ℕ → ℕ → Wanted → Option (List (Term × ℕ)) → Names → Known → Rest → Type 0
+abbrev pub Refuses : Rest → List ℕ → ℕ → Wanted → Option (List (Term × ℕ)) → Names
+    → Known → Rest → Type 0
 Refuses lines title step wanted values names known rest =
-    NextIs (end_line_number lines) known rest (λ t. RefusedAt known.theorems t title step wanted values names)
+    NextIs (end_line_number lines) known rest
+        (λ t. RefusedAt known.theorems t title step wanted values names)
 
 -- a line of the next theorem is too wide
 abbrev pub Widens : Rest → List ℕ → ℕ → Wanted → ℕ → Names → Known → Rest → Type 0
 Widens lines title step wanted width names known rest =
-    NextIs (end_line_number lines) known rest (λ t. TooWideAt known.theorems t title step wanted width names)
+    NextIs (end_line_number lines) known rest
+        (λ t. TooWideAt known.theorems t title step wanted width names)
 
 -- theorems with their derivations: some of the first ones of the book
 pub record CutOff (lines : Rest) (last out : List ℕ) : Type 0 where
@@ -114,12 +122,17 @@ IsVerifiedText n out = JudgesText out (judgements.Verified n)
 
 -- what is due in all with an answer to a book of these lines
 abbrev pub Outputs : Rest → Status → List ℕ → Type 0
-Outputs lines (status.Accepted n) out = OutputUpTo lines (OutcomeAfter lines (outcome.Accepted n)) (accepted_line n) out × IsVerifiedText n out
+Outputs lines (status.Accepted n) out =
+    OutputUpTo lines (OutcomeAfter lines (outcome.Accepted n)) (accepted_line n) out
+    × IsVerifiedText n out
 Outputs lines (status.Unlicensed title step wanted values) out =
-    (names : Names) × OutputUpTo lines (Refuses lines title step wanted values names) (unlicensed_text title step wanted values names) out
+    (names : Names) × OutputUpTo lines (Refuses lines title step wanted values names)
+        (unlicensed_text title step wanted values names) out
 Outputs lines (status.TooWide title step wanted width) out =
-    (names : Names) × OutputUpTo lines (Widens lines title step wanted width names) (too_wide_text title step wanted width names) out
-Outputs lines (status.Fault f) out = OutputUpTo lines (OutcomeAfter lines (outcome.Faulty f)) (fault_line f) out
+    (names : Names) × OutputUpTo lines (Widens lines title step wanted width names)
+        (too_wide_text title step wanted width names) out
+Outputs lines (status.Fault f) out =
+    OutputUpTo lines (OutcomeAfter lines (outcome.Faulty f)) (fault_line f) out
 Outputs lines status.ReadFault out = CutOff lines read_fault_line out
 Outputs lines status.NoMemory out = CutOff lines no_memory_line out
 Outputs lines _ out = ⊥
@@ -132,7 +145,8 @@ Checks lines old new answer = Wrote (Outputs lines) old new answer
 -- source or the sink, and out of memory, can come in place of it
 abbrev pub IsAnswer : Rest → BookOutcome → Status → Type 0
 IsAnswer lines (outcome.Accepted n) (status.Accepted m) = m ≡ n
-IsAnswer lines (outcome.Unlicensed title step wanted names) (status.Unlicensed p i w values) = (p ≡ title) × (i ≡ step) × (w ≡ wanted)
+IsAnswer lines (outcome.Unlicensed title step wanted names) (status.Unlicensed p i w values) =
+    (p ≡ title) × (i ≡ step) × (w ≡ wanted)
 IsAnswer lines (outcome.Faulty f) (status.Fault g) = g ≡ f
 IsAnswer lines end (status.TooWide title step wanted width) = HasWide lines
 IsAnswer lines end status.ReadFault = Unit {0}
@@ -142,7 +156,9 @@ IsAnswer lines end other = ⊥
 
 -- where a source exposes its bytes, whatever the outcome of that book is, the answer is that
 abbrev pub Answers : Option (List ℕ) → Status → Type 0
-Answers left answer = (text : List ℕ) (end : BookOutcome) → left ≡ Some text → IsOutcomeOf text end → IsAnswer (lines_of_book text) end answer
+Answers left answer =
+    (text : List ℕ) (end : BookOutcome) → left ≡ Some text → IsOutcomeOf text end
+    → IsAnswer (lines_of_book text) end answer
 
 -- where a source exposes its bytes, the text is all of them
 abbrev pub IsAllOf : Option (List ℕ) → List ℕ → Type 0
@@ -151,7 +167,8 @@ IsAllOf (Some bytes) text = text ≡ bytes
 
 -- the book that a source exposes is answered so, and this was written
 abbrev pub ChecksBook : Option (List ℕ) → Option (List ℕ) → Option (List ℕ) → Status → Type 0
-ChecksBook left old new answer = (text : List ℕ) × IsAllOf left text × Checks (lines_of_book text) old new answer
+ChecksBook left old new answer =
+    (text : List ℕ) × IsAllOf left text × Checks (lines_of_book text) old new answer
 
 abbrev pub IsWriteFault : Status → Type 0
 IsWriteFault status.WriteFault = Unit {0}

@@ -25,7 +25,8 @@ DrawsAndWrites text old new answer = Wrote (FigureAnswer text) old new answer
 
 -- the figure text that a source exposes is answered so, and this was written
 abbrev pub DrawsText : Option (List ℕ) → Option (List ℕ) → Option (List ℕ) → Status → Type 0
-DrawsText left old new answer = (text : List ℕ) × IsAllOf left text × DrawsAndWrites text old new answer
+DrawsText left old new answer =
+    (text : List ℕ) × IsAllOf left text × DrawsAndWrites text old new answer
 
 -- the fault is out of memory, which says nothing of the text
 abbrev pub lacks_memory : BookFault → Bool
@@ -39,4 +40,5 @@ figure_answer (Err f) = status.Fault f
 
 -- where a source exposes its bytes, the answer is that of this figure text, or the run failed
 abbrev pub AnswersFigure : Option (List ℕ) → Status → Type 0
-AnswersFigure left answer = (text : List ℕ) → left ≡ Some text → (answer ≡ figure_answer (drawn_of text)) ⊎ IsFailure answer
+AnswersFigure left answer =
+    (text : List ℕ) → left ≡ Some text → (answer ≡ figure_answer (drawn_of text)) ⊎ IsFailure answer

@@ -71,7 +71,8 @@ verified_line n = codes "verified " ++ (decimal n ++ codes "\n")
 
 -- the number of lines that are suggested; of a thousand whether more are left
 abbrev pub suggested_line : ℕ → Bool → List ℕ
-suggested_line n more = codes "suggest " ++ (decimal n ++ (if more then codes " more\n" else codes "\n"))
+suggested_line n more =
+    codes "suggest " ++ (decimal n ++ (if more then codes " more\n" else codes "\n"))
 
 abbrev pub no_step_line : List ℕ
 no_step_line = codes "no step\n"
@@ -92,4 +93,5 @@ text_limit_line = codes "text limit\n"
 
 abbrev pub tried_line : ℕ → ℕ → List ℕ
 tried_line n s =
-    codes "trial " ++ (decimal n ++ (codes " theorems " ++ (decimal n ++ (codes " steps " ++ (decimal s ++ (codes " verified " ++ (decimal n ++ codes "\n")))))))
+    codes "trial " ++ (decimal n ++ (codes " theorems " ++ (decimal n
+        ++ (codes " steps " ++ (decimal s ++ (codes " verified " ++ (decimal n ++ codes "\n")))))))

@@ -13,15 +13,20 @@ use Rattle.e_run.specs.Answers.{Refuses, Widens}
 -- where the next theorem is refused, the book's outcome is that stop
 abbrev pub RefusalIsOutcome : Type 0
 RefusalIsOutcome =
-    (lines : Rest) (theorems : List TheoremView) (known : Known) (rest : Rest) (title : List ℕ) (step : ℕ) (wanted : Wanted) (values : Option (List (Term × ℕ))) (names : Names) →
-    Begins lines theorems known rest → Refuses lines title step wanted values names known rest → IsOutcome lines theorems (Unlicensed title step wanted names)
+    (lines : Rest) (theorems : List TheoremView) (known : Known) (rest : Rest) (title : List ℕ)
+        (step : ℕ) (wanted : Wanted) (values : Option (List (Term × ℕ))) (names : Names) →
+    Begins lines theorems known rest → Refuses lines title step wanted values names known rest
+    → IsOutcome lines theorems (Unlicensed title step wanted names)
 
 -- where a line is too wide that is reached, the lines have a wide one
 abbrev pub TooWideIsWide : Type 0
 TooWideIsWide =
-    (lines : Rest) (theorems : List TheoremView) (known : Known) (rest : Rest) (title : List ℕ) (step : ℕ) (wanted : Wanted) (width : ℕ) (names : Names) →
-    Begins lines theorems known rest → Widens lines title step wanted width names known rest → HasWide lines
+    (lines : Rest) (theorems : List TheoremView) (known : Known) (rest : Rest) (title : List ℕ)
+        (step : ℕ) (wanted : Wanted) (width : ℕ) (names : Names) →
+    Begins lines theorems known rest
+    → Widens lines title step wanted width names known rest → HasWide lines
 
 -- no book is accepted and stopped, stopped at two lines, or has two first faults
 abbrev pub BooksHaveOneOutcome : Type 0
-BooksHaveOneOutcome = (text : List ℕ) (a b : BookOutcome) → IsOutcomeOf text a → IsOutcomeOf text b → a ≡ b
+BooksHaveOneOutcome =
+    (text : List ℕ) (a b : BookOutcome) → IsOutcomeOf text a → IsOutcomeOf text b → a ≡ b

@@ -1,6 +1,7 @@
 -- The outcome of a book: its theorems and definitions are taken one after another, up to the first
 -- fault or the first unlicensed line.
-use Rattle.std.specs.Prelude.{◌≡◌, ℕ, ◌+◌, ◌-◌, slice_get, List, [], ◌∷◌, ◌++◌, length, Option, Some, None, Result, Ok, Err}
+use Rattle.std.specs.Prelude.{◌≡◌, ℕ, ◌+◌, ◌-◌, slice_get, List, [], ◌∷◌, ◌++◌, length, Option}
+use Rattle.std.specs.Prelude.{Some, None, Result, Ok, Err}
 use Rattle.e_text.specs.Lines.{lines_of}
 use Rattle.e_theorem.specs.Statements.{stated}
 use Rattle.e_deriv.specs.declared.stop.Wanted.{Wanted}
@@ -24,7 +25,8 @@ use Rattle.e_judgement.specs.Judged.{with_theorem}
 -- with this known, each line of the theorem's script is licensed, with its blanks filled
 pub record IsLicensed (known : List TitledStatement) (t : TheoremView) : Type 0 where
   pub filled : Script
-  pub licensed : AllLicensed (stated_by known) (proof_lines (stated_by known) (stated t.statement) t.script filled)
+  pub licensed : AllLicensed (stated_by known)
+      (proof_lines (stated_by known) (stated t.statement) t.script filled)
 
 -- after a theorem, and after a definition, this is known
 abbrev pub and_theorem : Known → TheoremView → Known
@@ -37,9 +39,11 @@ and_notion known n = record known { notions = known.notions ++ n ∷ [] }
 abbrev pub Defines : ℕ → Known → Rest → List Titled → Known → Rest → Type 0
 Defines last known lines [] now rest = (known ≡ now) × (lines ≡ rest)
 Defines last known lines (n ∷ ns) now rest =
-    (after : Rest) × (item_from known last None lines ≡ Ok (Some (OfNotion n, after))) × Defines last (and_notion known n) after ns now rest
+    (after : Rest) × (item_from known last None lines ≡ Ok (Some (OfNotion n, after)))
+    × Defines last (and_notion known n) after ns now rest
 
-pub record AreDefined (last : ℕ) (known : Known) (lines : Rest) (now : Known) (rest : Rest) : Type 0 where
+pub record AreDefined (last : ℕ) (known : Known) (lines : Rest) (now : Known)
+    (rest : Rest) : Type 0 where
   pub notions : List Titled
   pub defines : Defines last known lines notions now rest
 
@@ -49,7 +53,8 @@ abbrev pub Takes : ℕ → Known → Rest → List TheoremView → Known → Res
 Takes last known lines [] now rest = AreDefined last known lines now rest
 Takes last known lines (t ∷ ts) now rest =
     (here : Known) × (before : Rest) × AreDefined last known lines here before
-    × (after : Rest) × (item_from here last None before ≡ Ok (Some (OfTheorem t, after))) × IsLicensed here.theorems t
+    × (after : Rest) × (item_from here last None before ≡ Ok (Some (OfTheorem t, after)))
+    × IsLicensed here.theorems t
     × Takes last (and_theorem here t) after ts now rest
 
 -- how a book ends: all its theorems are taken; a line is not licensed; a line has a fault
@@ -60,18 +65,23 @@ pub data BookOutcome : Type 0 where
 
 -- with this known, the next theorem has this title, its line of this number is the first unlicensed
 -- one and lacks this, and these are the names of the objects in scope before it
-pub record StopsAt (known : List TitledStatement) (t : TheoremView) (title : List ℕ) (step : ℕ) (wanted : Wanted) (names : Names) : Type 0 where
+pub record StopsAt (known : List TitledStatement) (t : TheoremView) (title : List ℕ) (step : ℕ)
+    (wanted : Wanted) (names : Names) : Type 0 where
   pub titled : t.title ≡ title
   pub first : IsFirstUnlicensed (stated_by known) (stated t.statement) t.script step wanted
-  pub named : Some names ≡ slice_get (names_lines (stated_by known) (declared_names (stated t.statement) t.names) t.script) (step - 1)
+  pub named : Some names ≡ slice_get (names_lines (stated_by known)
+      (declared_names (stated t.statement) t.names) t.script) (step - 1)
 
 -- with this known, the next theorem of these lines is one of which this holds
 abbrev pub NextIs : ℕ → Known → Rest → (TheoremView → Type 0) → Type 0
-NextIs last known lines P = (t : TheoremView) × (after : Rest) × (item_from known last None lines ≡ Ok (Some (OfTheorem t, after))) × P t
+NextIs last known lines P =
+    (t : TheoremView) × (after : Rest)
+    × (item_from known last None lines ≡ Ok (Some (OfTheorem t, after))) × P t
 
 -- with this known, these lines end so
 abbrev pub OutcomeAt : ℕ → Known → Rest → BookOutcome → Type 0
-OutcomeAt last known lines (Accepted n) = (item_from known last None lines ≡ Ok None) × (length known.theorems ≡ n)
+OutcomeAt last known lines (Accepted n) =
+    (item_from known last None lines ≡ Ok None) × (length known.theorems ≡ n)
 OutcomeAt last known lines (Unlicensed title step wanted names) =
     NextIs last known lines (λ t. StopsAt known.theorems t title step wanted names)
 OutcomeAt last known lines (Faulty fault) = item_from known last None lines ≡ Err fault
@@ -83,7 +93,8 @@ end_line_number lines = 1 + length lines
 -- these are the first theorems of the lines, each licensed, with definitions between them; then
 -- this is known, and these lines are left
 abbrev pub Begins : Rest → List TheoremView → Known → Rest → Type 0
-Begins lines theorems known rest = Takes (end_line_number lines) nothing_known lines theorems known rest
+Begins lines theorems known rest =
+    Takes (end_line_number lines) nothing_known lines theorems known rest
 
 -- the lines are these theorems, each licensed, and then end so
 pub record IsOutcome (lines : Rest) (theorems : List TheoremView) (end : BookOutcome) : Type 0 where
@@ -100,7 +111,8 @@ pub record IsFront (lines : Rest) (theorems : List TheoremView) : Type 0 where
 
 -- the lines of a book: a line has at most 1,600 bytes, and a book 4,194,304
 abbrev pub lines_of_book : List ℕ → Rest
-lines_of_book text = lines_of (record { longest = 1600; most = 4194304 }) (record { line = 1; before = 0 }) text
+lines_of_book text =
+    lines_of (record { longest = 1600; most = 4194304 }) (record { line = 1; before = 0 }) text
 
 -- the outcome of a book is this
 pub record IsOutcomeOf (text : List ℕ) (end : BookOutcome) : Type 0 where
@@ -111,16 +123,20 @@ pub record IsOutcomeOf (text : List ℕ) (end : BookOutcome) : Type 0 where
 
 -- with this known, the theorem has this title, its line of this number is the first unlicensed one
 -- and lacks this, these values show it, and these are the names of the objects in scope before it
-pub record RefusedAt (known : List TitledStatement) (t : TheoremView) (title : List ℕ) (step : ℕ) (wanted : Wanted) (values : Option (List (Term × ℕ))) (names : Names) : Type 0 where
+pub record RefusedAt (known : List TitledStatement) (t : TheoremView) (title : List ℕ) (step : ℕ)
+    (wanted : Wanted) (values : Option (List (Term × ℕ))) (names : Names) : Type 0 where
   pub titled : t.title ≡ title
   pub refused : IsRefused (stated_by known) (stated t.statement) t.script step wanted values
-  pub named : Some names ≡ slice_get (names_lines (stated_by known) (declared_names (stated t.statement) t.names) t.script) (step - 1)
+  pub named : Some names ≡ slice_get (names_lines (stated_by known)
+      (declared_names (stated t.statement) t.names) t.script) (step - 1)
 
 -- with this known, each line before is licensed, and this one is too wide at what is wanted there
-pub record TooWideAt (known : List TitledStatement) (t : TheoremView) (title : List ℕ) (step : ℕ) (wanted : Wanted) (width : ℕ) (names : Names) : Type 0 where
+pub record TooWideAt (known : List TitledStatement) (t : TheoremView) (title : List ℕ) (step : ℕ)
+    (wanted : Wanted) (width : ℕ) (names : Names) : Type 0 where
   pub titled : t.title ≡ title
   pub too_wide : IsTooWideAt (stated_by known) (stated t.statement) t.script step wanted width
-  pub named : Some names ≡ slice_get (names_lines (stated_by known) (declared_names (stated t.statement) t.names) t.script) (step - 1)
+  pub named : Some names ≡ slice_get (names_lines (stated_by known)
+      (declared_names (stated t.statement) t.names) t.script) (step - 1)
 
 -- with this known, a line of the theorem is wide, and each line before it is licensed
 pub record HasWideLine (known : List TitledStatement) (t : TheoremView) : Type 0 where

@@ -1,6 +1,7 @@
 -- What the commands answer that write something of each theorem of a derivation text as soon as it
 -- is verified, and what they write.
-use Rattle.std.specs.Prelude.{◌≡◌, ◌⊎◌, ℕ, ◌+◌, ◌<◌, ◌≤◌, ◌^◌, List, [], ◌∷◌, ◌++◌, length, flat_map, codes, Ok, Err, Option, Some, None}
+use Rattle.std.specs.Prelude.{◌≡◌, ◌⊎◌, ℕ, ◌+◌, ◌<◌, ◌≤◌, ◌^◌, List, [], ◌∷◌, ◌++◌, length}
+use Rattle.std.specs.Prelude.{flat_map, codes, Ok, Err, Option, Some, None}
 use Rattle.e_clause.specs.declared.cert.Version.{Version}
 use Rattle.e_clause.specs.declared.cert.Version.TheVariants.{One, Two}
 use Rattle.e_theorem.specs.Statements.{stated}
@@ -13,12 +14,14 @@ use Rattle.e_trim.specs.Trimmed.{trimmed}
 use Rattle.e_trim.specs.Applied.{applied_by}
 use Rattle.e_judgement.specs.declared.judgement.Judgement.{Judgement}
 use Rattle.e_judgement.specs.declared.judgement.Judgement.TheVariants as judgements
-use Rattle.e_judgement.specs.Judged.{with_theorem, Passes, Closes, version_of, JudgedAfterHead, lines_of_text}
+use Rattle.e_judgement.specs.Judged.{with_theorem, Passes, Closes, version_of, JudgedAfterHead}
+use Rattle.e_judgement.specs.Judged.{lines_of_text}
 use Rattle.e_run.specs.declared.command.Job.{Job}
 use Rattle.e_run.specs.declared.command.Job.TheVariants.{Upgrade, Trim, Uses}
 use Rattle.e_run.specs.declared.status.Status.{Status}
 use Rattle.e_run.specs.declared.status.Status.TheVariants as status
-use Rattle.e_run.specs.LastLines.{head_line, second_head_line, accepted_line, listed_line, bad_line, garbled_line, text_limit_line, read_fault_line, no_memory_line}
+use Rattle.e_run.specs.LastLines.{head_line, second_head_line, accepted_line, listed_line, bad_line}
+use Rattle.e_run.specs.LastLines.{garbled_line, text_limit_line, read_fault_line, no_memory_line}
 use Rattle.e_run.specs.Wrote.{Wrote}
 use Rattle.e_run.specs.Answers.{IsAllOf, IsVerifiedText}
 use Rattle.e_run.specs.VerifierAnswers.{IsFailure}
@@ -27,7 +30,8 @@ use Rattle.e_run.specs.VerifierAnswers.{IsFailure}
 
 -- its block, where the derivation cites facts by their places
 abbrev pub upgraded_block : List TitledStatement → TheoremView → List ℕ
-upgraded_block known t = spelled known t (derivation_with_places (stated_by known) (stated t.statement) t.script)
+upgraded_block known t =
+    spelled known t (derivation_with_places (stated_by known) (stated t.statement) t.script)
 
 -- its block, where the derivation has no step that nothing needs
 abbrev pub trimmed_block : List TitledStatement → TheoremView → List ℕ
@@ -38,7 +42,8 @@ abbrev pub title_word : List TitledStatement → ℕ → List ℕ
 title_word known k = 32 ∷ title_at known k
 
 abbrev pub uses_line : List TitledStatement → TheoremView → List ℕ
-uses_line known t = codes "uses " ++ (t.title ++ (flat_map (title_word known) (applied_by t.script) ++ 10 ∷ []))
+uses_line known t =
+    codes "uses " ++ (t.title ++ (flat_map (title_word known) (applied_by t.script) ++ 10 ∷ []))
 
 abbrev pub block_of : Job → List TitledStatement → TheoremView → List ℕ
 block_of Upgrade known t = upgraded_block known t
@@ -48,7 +53,8 @@ block_of Uses known t = uses_line known t
 -- of theorems, each where those before it are known
 abbrev pub rewritten_blocks : Job → List TitledStatement → List TheoremView → List ℕ
 rewritten_blocks job known [] = []
-rewritten_blocks job known (t ∷ ts) = block_of job known t ++ rewritten_blocks job (with_theorem known t) ts
+rewritten_blocks job known (t ∷ ts) =
+    block_of job known t ++ rewritten_blocks job (with_theorem known t) ts
 
 -- ---- what comes before and after
 
@@ -99,12 +105,14 @@ read_as Uses head = head
 
 -- these theorems come first in lines after the head of this version, each certified by those before
 -- it; then this is known, and these lines are left
-abbrev pub BeginsCertified : Version → Rest → List TheoremView → List TitledStatement → Rest → Type 0
+abbrev pub BeginsCertified : Version → Rest → List TheoremView
+    → List TitledStatement → Rest → Type 0
 BeginsCertified v lines ts known rest = Passes v (2 + length lines) [] lines ts known rest
 
 abbrev pub AreFirstAfterHead : Option Version → Rest → List TheoremView → Type 0
 AreFirstAfterHead None lines ts = ts ≡ []
-AreFirstAfterHead (Some v) lines ts = (known : List TitledStatement) × (rest : Rest) × BeginsCertified v lines ts known rest
+AreFirstAfterHead (Some v) lines ts =
+    (known : List TitledStatement) × (rest : Rest) × BeginsCertified v lines ts known rest
 
 -- some theorems of a text, the first ones; without a head line that the command takes it has none
 abbrev pub AreFirstTheorems : Job → Rest → List TheoremView → Type 0
@@ -114,7 +122,9 @@ AreFirstTheorems job (Ok l ∷ lines) ts = AreFirstAfterHead (read_as job (versi
 
 abbrev pub EndsAfterHead : Option Version → Rest → List TheoremView → Judgement → Type 0
 EndsAfterHead None lines ts j = (ts ≡ []) × (j ≡ judgements.Garbled 1)
-EndsAfterHead (Some v) lines ts j = (known : List TitledStatement) × (rest : Rest) × BeginsCertified v lines ts known rest × Closes v (2 + length lines) known rest j
+EndsAfterHead (Some v) lines ts j =
+    (known : List TitledStatement) × (rest : Rest) × BeginsCertified v lines ts known rest
+    × Closes v (2 + length lines) known rest j
 
 -- all theorems of a text before the place where it ends so; without a head line that the command
 -- takes it is garbled at line 1
@@ -143,12 +153,18 @@ pub record RewroteSome (job : Job) (text : List ℕ) (last out : List ℕ) : Typ
 -- line comes what is written of all theorems before the place where the text ends. A fault of the
 -- source comes before anything is judged.
 abbrev pub RewriteAnswer : Job → List ℕ → Status → List ℕ → Type 0
-RewriteAnswer job text (status.Upgraded n) out = (job ≡ Upgrade) × RewroteUpTo job text (judgements.Verified n) out × IsVerifiedText n out
-RewriteAnswer job text (status.Trimmed n) out = (job ≡ Trim) × RewroteUpTo job text (judgements.Verified n) out × IsVerifiedText n out
-RewriteAnswer job text (status.Listed n) out = (job ≡ Uses) × RewroteUpTo job text (judgements.Verified n) out
-RewriteAnswer job text (status.Bad title step) out = RewroteUpTo job text (judgements.Bad title step) out
-RewriteAnswer job text (status.Garbled line) out = RewroteUpTo job text (judgements.Garbled line) out
-RewriteAnswer job text status.TextLimit out = (2 ^ 60 < length text) × (out ≡ head_of_job job ++ text_limit_line)
+RewriteAnswer job text (status.Upgraded n) out =
+    (job ≡ Upgrade) × RewroteUpTo job text (judgements.Verified n) out × IsVerifiedText n out
+RewriteAnswer job text (status.Trimmed n) out =
+    (job ≡ Trim) × RewroteUpTo job text (judgements.Verified n) out × IsVerifiedText n out
+RewriteAnswer job text (status.Listed n) out =
+    (job ≡ Uses) × RewroteUpTo job text (judgements.Verified n) out
+RewriteAnswer job text (status.Bad title step) out =
+    RewroteUpTo job text (judgements.Bad title step) out
+RewriteAnswer job text (status.Garbled line) out =
+    RewroteUpTo job text (judgements.Garbled line) out
+RewriteAnswer job text status.TextLimit out =
+    (2 ^ 60 < length text) × (out ≡ head_of_job job ++ text_limit_line)
 RewriteAnswer job text status.ReadFault out = out ≡ head_of_job job ++ read_fault_line
 RewriteAnswer job text status.NoMemory out = RewroteSome job text no_memory_line out
 RewriteAnswer job text _ out = ⊥
@@ -158,8 +174,10 @@ abbrev pub Rewrites : Job → List ℕ → Option (List ℕ) → Option (List �
 Rewrites job text old new answer = Wrote (RewriteAnswer job text) old new answer
 
 -- the text that a source exposes is answered so, and this was written
-abbrev pub RewritesText : Job → Option (List ℕ) → Option (List ℕ) → Option (List ℕ) → Status → Type 0
-RewritesText job left old new answer = (text : List ℕ) × IsAllOf left text × Rewrites job text old new answer
+abbrev pub RewritesText : Job → Option (List ℕ) → Option (List ℕ)
+    → Option (List ℕ) → Status → Type 0
+RewritesText job left old new answer =
+    (text : List ℕ) × IsAllOf left text × Rewrites job text old new answer
 
 -- the lines have this judgement for the command, for which a text of a version that it does not
 -- take is garbled at line 1
@@ -176,7 +194,8 @@ JudgesFor job text j = JudgesLinesFor job (lines_of_text text) j
 -- the answer is that, or the run failed
 abbrev pub AnswersRewrite : Job → Option (List ℕ) → Status → Type 0
 AnswersRewrite job left answer =
-    (text : List ℕ) (j : Judgement) → left ≡ Some text → length text ≤ 2 ^ 60 → JudgesFor job text j → (answer ≡ answer_of job j) ⊎ IsFailure answer
+    (text : List ℕ) (j : Judgement) → left ≡ Some text → length text ≤ 2 ^ 60 → JudgesFor job text j
+    → (answer ≡ answer_of job j) ⊎ IsFailure answer
 
 abbrev pub IsRewritten : Status → Type 0
 IsRewritten (status.Upgraded n) = Unit {0}

@@ -3,8 +3,10 @@
 use Rattle.std.specs.Prelude.{ℕ, List, Option}
 use Rattle.e_run.specs.declared.status.Status.{Status}
 use Rattle.e_run.specs.declared.command.Command.{Command}
-use Rattle.e_run.specs.declared.command.Command.TheVariants.{Check, Verify, Figure, Rewrite, Make, Suggest, Trial, Unknown}
-use Rattle.e_run.specs.Answers.{Answers, AnswersUsage, ChecksBook, IsAccepted, IsDrawn, IsReadFault, IsVerified}
+use Rattle.e_run.specs.declared.command.Command.TheVariants.{Check, Verify, Figure, Rewrite, Make}
+use Rattle.e_run.specs.declared.command.Command.TheVariants.{Suggest, Trial, Unknown}
+use Rattle.e_run.specs.Answers.{Answers, AnswersUsage, ChecksBook, IsAccepted, IsDrawn, IsReadFault}
+use Rattle.e_run.specs.Answers.{IsVerified}
 use Rattle.e_run.specs.DrawerAnswers.{AnswersFigure, DrawsText}
 use Rattle.e_run.specs.Input.{IsAtEnd}
 use Rattle.e_run.specs.MadeBooks.{Makes}
@@ -17,7 +19,8 @@ use Rattle.e_run.specs.VerifierAnswers.{AnswersText, VerifiesText}
 
 -- what was written of an accepted book, and of a text that is upgraded or trimmed, and a text that
 -- is verified, spell proofs
-abbrev pub HasProofs : Command → Option (List ℕ) → Option (List ℕ) → Option (List ℕ) → Status → Type 0
+abbrev pub HasProofs : Command → Option (List ℕ) → Option (List ℕ)
+    → Option (List ℕ) → Status → Type 0
 HasProofs Check left old new answer = WroteProofs old new answer
 HasProofs Verify left old new answer = ReadProofs left answer
 HasProofs (Rewrite job) left old new answer = RewroteProofs old new answer
@@ -55,7 +58,8 @@ pub record TakesBook (left after old new : Option (List ℕ)) (answer : Status) 
 
 -- what was taken of the source; a derivation text that is verified, upgraded, trimmed or listed,
 -- and a figure text that is answered, were read to their end
-abbrev pub TakesOf : Command → Option (List ℕ) → Option (List ℕ) → Option (List ℕ) → Option (List ℕ) → Status → Type 0
+abbrev pub TakesOf : Command → Option (List ℕ) → Option (List ℕ) → Option (List ℕ)
+    → Option (List ℕ) → Status → Type 0
 TakesOf Check left after old new answer = TakesBook left after old new answer
 TakesOf Verify left after old new answer = IsVerified answer → IsAtEnd after
 TakesOf Figure left after old new answer = IsDrawn answer → IsAtEnd after

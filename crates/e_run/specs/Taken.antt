@@ -21,7 +21,8 @@ TookFew old new = Taken old new (λ taken. length taken ≤ 4194305)
 
 -- no theorem and no definition is read of these lines where no others come after them
 abbrev pub HaveNone : ℕ → Known → Rest → Type 0
-HaveNone last known lines = (i : BookItem) (after : Rest) → ¬ (item_from known last None lines ≡ Ok (Some (i, after)))
+HaveNone last known lines =
+    (i : BookItem) (after : Rest) → ¬ (item_from known last None lines ≡ Ok (Some (i, after)))
 
 -- all theorems that these lines have, each with its derivation from those before it, and these
 -- bytes are the head line, their blocks and the last lines
@@ -36,8 +37,13 @@ pub record AllTaken (lines : Rest) (last out : List ℕ) : Type 0 where
 
 -- what was taken is lines with their ends, of which this holds, and bytes of one that has not ended
 abbrev pub OfWholeLines : (Rest → Type 0) → List ℕ → Type 0
-OfWholeLines Holds taken = (front rest : List ℕ) × (taken ≡ front ++ rest) × IsClosed front × IsOpen rest × Holds (lines_of_book front)
+OfWholeLines Holds taken =
+    (front rest : List ℕ) × (taken ≡ front ++ rest) × IsClosed front × IsOpen rest
+    × Holds (lines_of_book front)
 
 -- after a read fault: the head line, these blocks and the last line were written
-abbrev pub HandledAll : Option (List ℕ) → Option (List ℕ) → Option (List ℕ) → Option (List ℕ) → Type 0
-HandledAll left0 left1 old new = Taken left0 left1 (OfWholeLines (λ lines. (out : List ℕ) × Grew old new out × AllTaken lines read_fault_line out))
+abbrev pub HandledAll : Option (List ℕ) → Option (List ℕ) → Option (List ℕ)
+    → Option (List ℕ) → Type 0
+HandledAll left0 left1 old new =
+    Taken left0 left1 (OfWholeLines
+        (λ lines. (out : List ℕ) × Grew old new out × AllTaken lines read_fault_line out))

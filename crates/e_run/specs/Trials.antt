@@ -11,14 +11,17 @@ use Rattle.e_run.specs.declared.status.Status.{Status}
 use Rattle.e_run.specs.declared.status.Status.TheVariants as status
 use Rattle.e_run.specs.LastLines.{tried_line, fault_line, accepted_line, no_memory_line}
 use Rattle.e_run.specs.Wrote.{Wrote}
-use Rattle.e_run.specs.Outcome.{BookOutcome, Begins, IsOutcomeOf, lines_of_book, Accepted as AcceptedBook, Faulty as FaultyBook}
-use Rattle.e_run.specs.Answers.{Derived, AllDerived, OutputUpTo, OutcomeAfter, Refuses, Widens, IsAnswer, theorems_of, steps_of}
+use Rattle.e_run.specs.Outcome.{BookOutcome, Begins, IsOutcomeOf, lines_of_book}
+use Rattle.e_run.specs.Outcome.{Accepted as AcceptedBook, Faulty as FaultyBook}
+use Rattle.e_run.specs.Answers.{Derived, AllDerived, OutputUpTo, OutcomeAfter, Refuses, Widens}
+use Rattle.e_run.specs.Answers.{IsAnswer, theorems_of, steps_of}
 use Rattle.e_book.specs.Grammar.{Rest}
 
 -- a book of these lines is accepted with these numbers of theorems and steps, and then `check`
 -- writes this
 pub record IsAccepted (lines : Rest) (theorems steps : ℕ) (out : List ℕ) : Type 0 where
-  pub ended : OutputUpTo lines (OutcomeAfter lines (AcceptedBook theorems)) (accepted_line theorems) out
+  pub ended : OutputUpTo lines (OutcomeAfter lines (AcceptedBook theorems))
+      (accepted_line theorems) out
   pub steps_are : steps ≡ steps_of ended.derived
 
 -- its first theorems have derivations, and this holds after them
@@ -40,10 +43,13 @@ pub record IsTrial (lines : Rest) (theorems steps : ℕ) : Type 0 where
 abbrev pub TrialAnswer : Rest → Status → List ℕ → Type 0
 TrialAnswer lines (status.Tried n s) last = IsTrial lines n s × (last ≡ tried_line n s)
 TrialAnswer lines (status.Unlicensed title step wanted values) last =
-    (names : Names) × IsStopped lines (Refuses lines title step wanted values names) × (last ≡ unlicensed_text title step wanted values names)
+    (names : Names) × IsStopped lines (Refuses lines title step wanted values names)
+    × (last ≡ unlicensed_text title step wanted values names)
 TrialAnswer lines (status.TooWide title step wanted width) last =
-    (names : Names) × IsStopped lines (Widens lines title step wanted width names) × (last ≡ too_wide_text title step wanted width names)
-TrialAnswer lines (status.Fault f) last = IsStopped lines (OutcomeAfter lines (FaultyBook f)) × (last ≡ fault_line f)
+    (names : Names) × IsStopped lines (Widens lines title step wanted width names)
+    × (last ≡ too_wide_text title step wanted width names)
+TrialAnswer lines (status.Fault f) last =
+    IsStopped lines (OutcomeAfter lines (FaultyBook f)) × (last ≡ fault_line f)
 TrialAnswer lines status.NoMemory last = last ≡ no_memory_line
 TrialAnswer lines _ last = ⊥
 
@@ -69,4 +75,6 @@ IsTrialAnswer lines end answer = IsAnswer lines end answer
 
 -- whatever the outcome of the generated book is, the answer is that
 abbrev pub AnswersTrial : ℕ → Status → Type 0
-AnswersTrial n answer = (end : BookOutcome) → IsOutcomeOf (generated_text n) end → IsTrialAnswer (lines_of_book (generated_text n)) end answer
+AnswersTrial n answer =
+    (end : BookOutcome) → IsOutcomeOf (generated_text n) end
+    → IsTrialAnswer (lines_of_book (generated_text n)) end answer

@@ -5,7 +5,8 @@ use Rattle.e_judgement.specs.declared.judgement.Judgement.TheVariants as judgeme
 use Rattle.e_judgement.specs.Judged.{JudgesText}
 use Rattle.e_run.specs.declared.status.Status.{Status}
 use Rattle.e_run.specs.declared.status.Status.TheVariants as status
-use Rattle.e_run.specs.LastLines.{verified_line, bad_line, garbled_line, text_limit_line, read_fault_line, no_memory_line}
+use Rattle.e_run.specs.LastLines.{verified_line, bad_line, garbled_line, text_limit_line}
+use Rattle.e_run.specs.LastLines.{read_fault_line, no_memory_line}
 use Rattle.e_run.specs.Wrote.{Wrote}
 use Rattle.e_run.specs.Answers.{IsAllOf}
 
@@ -24,9 +25,12 @@ judgement_line (judgements.Garbled line) = garbled_line line
 -- The line that is due with an answer. The text has this judgement, or has more bytes than `verify`
 -- takes; a fault of the source and out of memory say nothing of it.
 abbrev pub TextAnswer : List ℕ → Status → List ℕ → Type 0
-TextAnswer text (status.Verified n) out = JudgesText text (judgements.Verified n) × (out ≡ verified_line n)
-TextAnswer text (status.Bad title step) out = JudgesText text (judgements.Bad title step) × (out ≡ bad_line title step)
-TextAnswer text (status.Garbled line) out = JudgesText text (judgements.Garbled line) × (out ≡ garbled_line line)
+TextAnswer text (status.Verified n) out =
+    JudgesText text (judgements.Verified n) × (out ≡ verified_line n)
+TextAnswer text (status.Bad title step) out =
+    JudgesText text (judgements.Bad title step) × (out ≡ bad_line title step)
+TextAnswer text (status.Garbled line) out =
+    JudgesText text (judgements.Garbled line) × (out ≡ garbled_line line)
 TextAnswer text status.TextLimit out = (2 ^ 60 < length text) × (out ≡ text_limit_line)
 TextAnswer text status.ReadFault out = out ≡ read_fault_line
 TextAnswer text status.NoMemory out = out ≡ no_memory_line
@@ -38,7 +42,8 @@ Verifies text old new answer = Wrote (TextAnswer text) old new answer
 
 -- the text that a source exposes is answered so, and this was written
 abbrev pub VerifiesText : Option (List ℕ) → Option (List ℕ) → Option (List ℕ) → Status → Type 0
-VerifiesText left old new answer = (text : List ℕ) × IsAllOf left text × Verifies text old new answer
+VerifiesText left old new answer =
+    (text : List ℕ) × IsAllOf left text × Verifies text old new answer
 
 -- a fault of the source or the sink, or out of memory
 abbrev pub IsFailure : Status → Type 0
@@ -51,4 +56,5 @@ IsFailure _ = ⊥
 -- that, or the run failed
 abbrev pub AnswersText : Option (List ℕ) → Status → Type 0
 AnswersText left answer =
-    (text : List ℕ) (j : Judgement) → left ≡ Some text → length text ≤ 2 ^ 60 → JudgesText text j → (answer ≡ answer_of j) ⊎ IsFailure answer
+    (text : List ℕ) (j : Judgement) → left ≡ Some text → length text ≤ 2 ^ 60 → JudgesText text j
+    → (answer ≡ answer_of j) ⊎ IsFailure answer

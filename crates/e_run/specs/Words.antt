@@ -1,32 +1,42 @@
 -- The words of a command.
-use Rattle.std.specs.Prelude.{ℕ, List, [], ◌∷◌, Bool, true, false, ◌&&◌, nat_le, Option, Some, None, codes, option_and_then, if◌then◌else◌}
+use Rattle.std.specs.Prelude.{ℕ, List, [], ◌∷◌, Bool, true, false, ◌&&◌, nat_le, Option, Some, None}
+use Rattle.std.specs.Prelude.{codes, option_and_then, if◌then◌else◌}
 use Rattle.std.specs.Str.{bytes_eq}
 use Rattle.e_text.specs.Names.{title_of}
 use Rattle.e_text.specs.Numerals.{number_of}
 use Rattle.e_run.specs.declared.command.Command.{Command}
-use Rattle.e_run.specs.declared.command.Command.TheVariants.{Check, Verify, Figure, Rewrite, Make, Suggest, Trial, Unknown}
+use Rattle.e_run.specs.declared.command.Command.TheVariants.{Check, Verify, Figure, Rewrite, Make}
+use Rattle.e_run.specs.declared.command.Command.TheVariants.{Suggest, Trial, Unknown}
 use Rattle.e_run.specs.declared.command.Job.TheVariants.{Upgrade, Trim, Uses}
 
 -- how many theorems: a numeral from 1 to 500
 abbrev pub theorem_count_of : List ℕ → Option ℕ
-theorem_count_of word = option_and_then (λ n. if nat_le 1 n && nat_le n 500 then Some n else None) (number_of word)
+theorem_count_of word =
+    option_and_then (λ n. if nat_le 1 n && nat_le n 500 then Some n else None) (number_of word)
 
 abbrev pub plain_command : List ℕ → Command
 plain_command word =
-    if bytes_eq word (codes "check") then Check else if bytes_eq word (codes "verify") then Verify else
-    if bytes_eq word (codes "upgrade") then Rewrite Upgrade else if bytes_eq word (codes "figure") then Figure else
-    if bytes_eq word (codes "trim") then Rewrite Trim else if bytes_eq word (codes "uses") then Rewrite Uses else Unknown
+    if bytes_eq word (codes "check") then Check else
+    if bytes_eq word (codes "verify") then Verify else
+    if bytes_eq word (codes "upgrade") then Rewrite Upgrade else
+    if bytes_eq word (codes "figure") then Figure else
+    if bytes_eq word (codes "trim") then Rewrite Trim else
+    if bytes_eq word (codes "uses") then Rewrite Uses else Unknown
 
 abbrev pub counted_command : List ℕ → Option ℕ → Command
 counted_command word None = Unknown
-counted_command word (Some n) = if bytes_eq word (codes "make") then Make n else if bytes_eq word (codes "trial") then Trial n else Unknown
+counted_command word (Some n) =
+    if bytes_eq word (codes "make") then Make n else
+    if bytes_eq word (codes "trial") then Trial n else Unknown
 
 -- the number of a step: a numeral from 1 to 1,024
 abbrev pub step_of : List ℕ → Option ℕ
-step_of word = option_and_then (λ n. if nat_le 1 n && nat_le n 1024 then Some n else None) (number_of word)
+step_of word =
+    option_and_then (λ n. if nat_le 1 n && nat_le n 1024 then Some n else None) (number_of word)
 
 abbrev pub placed_command : List ℕ → Option (List ℕ) → Option ℕ → Command
-placed_command word (Some title) (Some step) = if bytes_eq word (codes "suggest") then Suggest title step else Unknown
+placed_command word (Some title) (Some step) =
+    if bytes_eq word (codes "suggest") then Suggest title step else Unknown
 placed_command word _ _ = Unknown
 
 -- `check`, `verify`, `upgrade`, `figure`, `trim` and `uses` are alone, `make` and `trial` come

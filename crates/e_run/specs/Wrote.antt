@@ -6,7 +6,8 @@ use Rattle.e_run.specs.declared.status.Status.{Status}
 use Rattle.e_run.specs.declared.status.Status.TheVariants as status
 
 -- the bytes that are due with the answer were written
-pub record WroteAll (Due : Status → List ℕ → Type 0) (old new : Option (List ℕ)) (answer : Status) : Type 0 where
+pub record WroteAll (Due : Status → List ℕ → Type 0) (old new : Option (List ℕ))
+    (answer : Status) : Type 0 where
   pub out : List ℕ
   pub due : Due answer out
   pub grew : Grew old new out
@@ -21,4 +22,5 @@ pub record WroteFront (Due : Status → List ℕ → Type 0) (old new : Option (
 -- this is the answer, and what is due with it was written; or the answer is a write fault, and a
 -- front of what is due with some answer was written
 abbrev pub Wrote : (Status → List ℕ → Type 0) → Option (List ℕ) → Option (List ℕ) → Status → Type 0
-Wrote Due old new answer = WroteAll Due old new answer ⊎ ((answer ≡ status.WriteFault) × WroteFront Due old new)
+Wrote Due old new answer =
+    WroteAll Due old new answer ⊎ ((answer ≡ status.WriteFault) × WroteFront Due old new)

@@ -1,5 +1,6 @@
 -- What is answered on a list of rows.
-use Rattle.std.specs.Prelude.{◌≡◌, ◌⊎◌, ℕ, zero, suc, ◌^◌, ◌<◌, ◌≤◌, cond, ℤ, pos, ◌≤ℤ◌, List, [], ◌∷◌, map, length, get_or, unsigned_abs}
+use Rattle.std.specs.Prelude.{◌≡◌, ◌⊎◌, ℕ, zero, suc, ◌^◌, ◌<◌, ◌≤◌, cond, ℤ, pos, ◌≤ℤ◌, List, []}
+use Rattle.std.specs.Prelude.{◌∷◌, map, length, get_or, unsigned_abs}
 use Rattle.e_literal.specs.declared.object.Term.{Term}
 use Rattle.e_literal.specs.Same.{term_eq}
 use Rattle.e_literal.specs.Rows.{Row, Says, Zero, AtLeast, More, Not, negative}

@@ -8,7 +8,9 @@ use Rattle.e_literal.specs.Rows.{Row, Says, Zero, AtLeast, More, Not, Summands}
 use Rattle.e_simplex.specs.declared.constraints.Monomial.{Monomial}
 use Rattle.e_simplex.specs.declared.constraints.Constraint.{Constraint}
 use Rattle.e_simplex.specs.declared.constraints.Sense.{Sense}
-use Rattle.e_simplex.specs.declared.constraints.Sense.TheVariants.{Zero as SenseZero, AtLeast as SenseAtLeast, More as SenseMore}
+use Rattle.e_simplex.specs.declared.constraints.Sense.TheVariants.{Zero as SenseZero}
+use Rattle.e_simplex.specs.declared.constraints.Sense.TheVariants.{AtLeast as SenseAtLeast}
+use Rattle.e_simplex.specs.declared.constraints.Sense.TheVariants.{More as SenseMore}
 
 -- where the term comes first, or the length of the list
 abbrev pub place_of : List Term → Term → ℕ
@@ -38,7 +40,8 @@ AllNamed ts (r ∷ rs) = FormNamed ts r.form × AllNamed ts rs
 
 abbrev pub named_form : List Term → Summands → List Monomial
 named_form ts [] = []
-named_form ts (p ∷ ps) = record { coefficient = p.0; column = suc (place_of ts p.1) } ∷ named_form ts ps
+named_form ts (p ∷ ps) =
+    record { coefficient = p.0; column = suc (place_of ts p.1) } ∷ named_form ts ps
 
 -- a row that says `not 0` becomes a constraint that says `more`
 abbrev pub sense_of : Says → Sense
@@ -58,4 +61,6 @@ keeps b _ = not b
 -- the constraints of the rows that say `not 0`, or of the others
 abbrev pub named_constraints : Bool → List Term → List Row → List Constraint
 named_constraints b ts [] = []
-named_constraints b ts (r ∷ rs) = cond (keeps b r.says) (named_constraint ts r ∷ named_constraints b ts rs) (named_constraints b ts rs)
+named_constraints b ts (r ∷ rs) =
+    cond (keeps b r.says) (named_constraint ts r ∷ named_constraints b ts rs)
+        (named_constraints b ts rs)

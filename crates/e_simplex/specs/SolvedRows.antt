@@ -14,6 +14,7 @@ pub record IsTableFor (rows : List GivenRow) (terms : List Term) (s : Table) : T
   pub named : AllNamed terms (all_seen rows)
   pub solved : IsSolved (columns_of s) (named_constraints false terms (all_seen rows)) s
 
-pub record AreSolved (rows : List GivenRow) (terms : List Term) (s : Table) (values : List (Term × ℕ)) : Type 0 where
+pub record AreSolved (rows : List GivenRow) (terms : List Term) (s : Table)
+    (values : List (Term × ℕ)) : Type 0 where
   pub table : IsTableFor rows terms s
   pub satisfied : AreValuesOf (all_seen rows) values

@@ -51,7 +51,9 @@ sum_lines ns sum = (codes "|" ∷ codes "sum" ∷ []) ∷ map (row_line ns) sum
 -- certifies nothing and has no form in a text, and is written as a row all the same
 abbrev pub sums_lines : Names → Sums → List (List (List ℕ))
 sums_lines ns (One sum) = sum_lines ns sum
-sums_lines ns (Two differs above below) = (codes "|" ∷ codes "differs" ∷ row_words ns differs) ∷ (sum_lines ns above ++ sum_lines ns below)
+sums_lines ns (Two differs above below) =
+    (codes "|" ∷ codes "differs" ∷ row_words ns differs)
+    ∷ (sum_lines ns above ++ sum_lines ns below)
 
 abbrev pub metric_lines : Names → MetricCert → List (List (List ℕ))
 metric_lines ns m = (codes "|" ∷ codes "metric" ∷ []) ∷ sums_lines ns m.sums
@@ -63,7 +65,9 @@ part_lines ns (FactAt k) = (codes "|" ∷ codes "fact" ∷ decimal k ∷ []) ∷
 
 -- the rule and its arguments, and the certificates of the parts in order
 abbrev pub transfer_lines : Names → TransferCert → List (List (List ℕ))
-transfer_lines ns t = (codes "|" ∷ codes "transfer" ∷ rule_name t.rule ∷ map (name_of_object ns) t.args) ∷ flat_map (part_lines ns) t.parts
+transfer_lines ns t =
+    (codes "|" ∷ codes "transfer" ∷ rule_name t.rule ∷ map (name_of_object ns) t.args)
+    ∷ flat_map (part_lines ns) t.parts
 
 abbrev pub cert_lines : Names → Cert → List (List (List ℕ))
 cert_lines ns (Plain p) = part_lines ns p

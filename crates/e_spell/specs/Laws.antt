@@ -22,5 +22,6 @@ filled_entry t d = record t { script = filled_by t.script d }
 -- filled, where the derivation is one of its script
 abbrev pub LinesAreTheTheorem : Type 0
 LinesAreTheTheorem =
-    (known : List TitledStatement) (t : TheoremView) (d : Script) → erased d ≡ filled_by t.script d →
+    (known : List TitledStatement) (t : TheoremView) (d : Script)
+    → erased d ≡ filled_by t.script d →
     filter is_plain_line (spelled_lines known t d) ≡ map line_of (forms_of known (filled_entry t d))

@@ -5,18 +5,22 @@ use Rattle.std.specs.Fmt.{decimal}
 use Rattle.e_literal.specs.declared.object.Term.{Term}
 use Rattle.e_deriv.specs.declared.names.Names.{Names}
 use Rattle.e_deriv.specs.declared.stop.Wanted.{Wanted}
-use Rattle.e_deriv.specs.declared.stop.Wanted.TheVariants.{Literal, Match, Contradiction as AContradiction}
+use Rattle.e_deriv.specs.declared.stop.Wanted.TheVariants.{Literal, Match}
+use Rattle.e_deriv.specs.declared.stop.Wanted.TheVariants.{Contradiction as AContradiction}
 use Rattle.e_deriv.specs.declared.stop.Stop.{Stop}
 use Rattle.e_deriv.specs.declared.stop.Stop.TheVariants.{Unlicensed, TooWide, NoMemory}
 use Rattle.e_construct.specs.Construct.{sorts_made}
 use Rattle.e_construct.specs.Superposing as superposing
 use Rattle.e_deriv.specs.Naming.{named}
-use Rattle.e_deriv.specs.Script.{Script, Cite, Hence, Make, Apply, Claim, Superposed, Qed, Contradiction, Cases}
+use Rattle.e_deriv.specs.Script.{Script, Cite, Hence, Make, Apply, Claim, Superposed, Qed}
+use Rattle.e_deriv.specs.Script.{Contradiction, Cases}
 use Rattle.e_names.specs.TitledStatements.{TitledStatement, theorem_of}
 use Rattle.e_book.specs.TheoremViews.{TheoremView}
 use Rattle.e_text.specs.Tokens.{joined_words}
 use Rattle.e_line.specs.Canonical.{line_of, lit_words}
-use Rattle.e_names.specs.Canonical.{raw_of, by_form, hence_form, let_form, apply_form, claim_form, superpose_form, qed_form, contradiction_form, cases_form, else_form, end_form}
+use Rattle.e_names.specs.Canonical.{raw_of, by_form, hence_form, let_form, apply_form, claim_form}
+use Rattle.e_names.specs.Canonical.{superpose_form, qed_form, contradiction_form, cases_form}
+use Rattle.e_names.specs.Canonical.{else_form, end_form}
 use Rattle.e_book.specs.Canonical.{head_forms, names_of_proof, text_of}
 use Rattle.e_spell.specs.Certificates.{named_term, certs_lines, contradiction_lines}
 
@@ -26,23 +30,32 @@ use Rattle.e_spell.specs.Certificates.{named_term, certs_lines, contradiction_li
 -- those of an inner block are gone after it
 unfoldable pub script_lines : List TitledStatement → Names → Script → List (List ℕ)
 script_lines known ns (Cite by rest) = line_of (by_form ns by) ∷ script_lines known ns rest
-script_lines known ns (Hence lit cert rest) = line_of (hence_form ns lit) ∷ (certs_lines ns (option_to_list cert) ++ script_lines known ns rest)
+script_lines known ns (Hence lit cert rest) =
+    line_of (hence_form ns lit)
+    ∷ (certs_lines ns (option_to_list cert) ++ script_lines known ns rest)
 script_lines known ns (Make form names certs rest) =
-    line_of (let_form ns form names) ∷ (certs_lines ns certs ++ script_lines known (named ns (sorts_made form) names) rest)
+    line_of (let_form ns form names)
+    ∷ (certs_lines ns certs ++ script_lines known (named ns (sorts_made form) names) rest)
 script_lines known ns (Apply theorem args names certs rest) =
-    line_of (apply_form known ns theorem args names) ∷ (certs_lines ns certs ++ script_lines known (named ns (theorem_of known theorem).made names) rest)
-script_lines known ns (Claim shown inner rest) = line_of (claim_form ns shown) ∷ (script_lines known ns inner ++ script_lines known ns rest)
+    line_of (apply_form known ns theorem args names) ∷ (certs_lines ns certs
+        ++ script_lines known (named ns (theorem_of known theorem).made names) rest)
+script_lines known ns (Claim shown inner rest) =
+    line_of (claim_form ns shown) ∷ (script_lines known ns inner ++ script_lines known ns rest)
 script_lines known ns (Superposed form names shown certs inner rest) =
     line_of (superpose_form ns form names shown)
-    ∷ (certs_lines ns certs ++ (script_lines known (named ns superposing.sorts_copied names) inner ++ script_lines known ns rest))
+    ∷ (certs_lines ns certs ++ (script_lines known (named ns superposing.sorts_copied names) inner
+        ++ script_lines known ns rest))
 script_lines known ns (Qed objects certs) = line_of (qed_form ns objects) ∷ certs_lines ns certs
-script_lines known ns (Contradiction against) = line_of contradiction_form ∷ contradiction_lines ns against
+script_lines known ns (Contradiction against) =
+    line_of contradiction_form ∷ contradiction_lines ns against
 script_lines known ns (Cases lit first second) =
-    line_of (cases_form ns lit) ∷ (script_lines known ns first ++ line_of else_form ∷ script_lines known ns second)
+    line_of (cases_form ns lit)
+    ∷ (script_lines known ns first ++ line_of else_form ∷ script_lines known ns second)
 
 -- the lines of a theorem after those that are known, with its derivation, in order
 abbrev pub spelled_lines : List TitledStatement → TheoremView → Script → List (List ℕ)
-spelled_lines known t d = map line_of (head_forms t) ++ (script_lines known (names_of_proof t) d ++ line_of end_form ∷ [])
+spelled_lines known t d =
+    map line_of (head_forms t) ++ (script_lines known (names_of_proof t) d ++ line_of end_form ∷ [])
 
 abbrev pub spelled : List TitledStatement → TheoremView → Script → List ℕ
 spelled known t d = text_of (spelled_lines known t d)
@@ -72,20 +85,25 @@ values_words ns None = []
 values_words ns (Some values) = map (value_words ns) values
 
 -- the line that is not licensed, what it lacks, and the values that show it
-abbrev pub unlicensed_words : List ℕ → ℕ → Wanted → Option (List (Term × ℕ)) → Names → List (List (List ℕ))
+abbrev pub unlicensed_words : List ℕ → ℕ → Wanted → Option (List (Term × ℕ)) → Names
+    → List (List (List ℕ))
 unlicensed_words title step wanted values ns =
-    place_words (codes "unlicensed") title step ∷ wanted_line_words ns wanted ∷ values_words ns values
+    place_words (codes "unlicensed") title step ∷ wanted_line_words ns wanted
+    ∷ values_words ns values
 
 abbrev pub unlicensed_text : List ℕ → ℕ → Wanted → Option (List (Term × ℕ)) → Names → List ℕ
-unlicensed_text title step wanted values ns = text_of (map joined_words (unlicensed_words title step wanted values ns))
+unlicensed_text title step wanted values ns =
+    text_of (map joined_words (unlicensed_words title step wanted values ns))
 
 -- the line that is too wide, what is wanted there, and the width
 abbrev pub too_wide_words : List ℕ → ℕ → Wanted → ℕ → Names → List (List (List ℕ))
 too_wide_words title step wanted width ns =
-    place_words (codes "too-wide") title step ∷ wanted_line_words ns wanted ∷ (codes "|" ∷ codes "width" ∷ decimal width ∷ []) ∷ []
+    place_words (codes "too-wide") title step ∷ wanted_line_words ns wanted
+    ∷ (codes "|" ∷ codes "width" ∷ decimal width ∷ []) ∷ []
 
 abbrev pub too_wide_text : List ℕ → ℕ → Wanted → ℕ → Names → List ℕ
-too_wide_text title step wanted width ns = text_of (map joined_words (too_wide_words title step wanted width ns))
+too_wide_text title step wanted width ns =
+    text_of (map joined_words (too_wide_words title step wanted width ns))
 
 -- the last lines of a stop; out of memory has none here
 abbrev pub stop_text : List ℕ → Stop → List ℕ

@@ -15,14 +15,16 @@ abbrev pub blanks : StatementView → List (Option Obj)
 blanks t = map (λ s. None) t.declared
 
 -- the list of all choices of arguments at which each given literal is allowed, each below the next
-pub record AreChoices (t : StatementView) (scope : Scope) (facts : List Lit) (list : List (List Obj)) : Type 0 where
+pub record AreChoices (t : StatementView) (scope : Scope) (facts : List Lit)
+    (list : List (List Obj)) : Type 0 where
   pub good : (args : List Obj) → Contains list args → IsAllowedChoice t scope facts (blanks t) args
   pub ascending : IsTrue (is_ascending list)
   pub all : (args : List Obj) → IsAllowedChoice t scope facts (blanks t) args → Contains list args
 
 -- the first of them, and whether there are more; a law ties this to the list
 abbrev pub AreFirstChoices : StatementView → Scope → List Lit → ℕ → List (List Obj) → Bool → Type 0
-AreFirstChoices t scope facts most choices more = AreFirst t scope facts (blanks t) most choices more
+AreFirstChoices t scope facts most choices more =
+    AreFirst t scope facts (blanks t) most choices more
 
 -- under some choice of arguments a given literal is wide, and w is the width of one of its wide
 -- systems
@@ -30,5 +32,6 @@ abbrev pub SomeArgsAreTooWide : StatementView → Scope → List Lit → ℕ →
 SomeArgsAreTooWide t scope facts w = AnyChoiceIsTooWide t scope facts (blanks t) w
 
 abbrev pub SuggestedIs : StatementView → Basis → ℕ → Suggested → Type 0
-SuggestedIs t b most (suggested.Found choices more) = AreFirstChoices t b.scope b.facts most choices more
+SuggestedIs t b most (suggested.Found choices more) =
+    AreFirstChoices t b.scope b.facts most choices more
 SuggestedIs t b most (suggested.TooWide w) = SomeArgsAreTooWide t b.scope b.facts w

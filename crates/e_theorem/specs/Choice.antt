@@ -1,5 +1,6 @@
 -- Choices for the blanks of an application, and the least good one.
-use Rattle.std.specs.Prelude.{List, [], ◌∷◌, IsTrue, IsFalse, Bool, true, false, ◌&&◌, ◌||◌, ◌==◌, nat_lt, Option, Some, None}
+use Rattle.std.specs.Prelude.{List, [], ◌∷◌, IsTrue, IsFalse, Bool, true, false, ◌&&◌, ◌||◌, ◌==◌}
+use Rattle.std.specs.Prelude.{nat_lt, Option, Some, None}
 use Rattle.e_literal.specs.declared.object.Obj.{Obj}
 use Rattle.e_literal.specs.declared.object.Scope.{Scope}
 use Rattle.e_literal.specs.declared.literal.Lit.{Lit}
@@ -19,7 +20,8 @@ abbrev pub is_choice : StatementView → Scope → List (Option Obj) → List Ob
 is_choice t s pattern args = fills pattern args && are_arguments t s args
 
 -- a good choice: each given literal, renamed, is allowed
-pub record IsAllowedChoice (t : StatementView) (scope : Scope) (facts : List Lit) (pattern : List (Option Obj)) (args : List Obj) : Type 0 where
+pub record IsAllowedChoice (t : StatementView) (scope : Scope) (facts : List Lit)
+    (pattern : List (Option Obj)) (args : List Obj) : Type 0 where
   pub is_choice : IsTrue (is_choice t scope pattern args)
   pub allowed : AllAllowed scope facts (needs_of_use t args scope)
 
@@ -29,10 +31,13 @@ is_below (a ∷ others) (b ∷ bs) = nat_lt a.num b.num || (a.num == b.num && is
 is_below _ _ = false
 
 -- the least good choice
-pub record IsLeastChoice (t : StatementView) (scope : Scope) (facts : List Lit) (pattern : List (Option Obj)) (args : List Obj) : Type 0 where
+pub record IsLeastChoice (t : StatementView) (scope : Scope) (facts : List Lit)
+    (pattern : List (Option Obj)) (args : List Obj) : Type 0 where
   pub good : IsAllowedChoice t scope facts pattern args
-  pub least : (other : List Obj) → IsAllowedChoice t scope facts pattern other → IsFalse (is_below other args)
+  pub least : (other : List Obj) → IsAllowedChoice t scope facts pattern other
+      → IsFalse (is_below other args)
 
 -- no choice is good
 abbrev pub NoneIsAllowed : StatementView → Scope → List Lit → List (Option Obj) → Type 0
-NoneIsAllowed t scope facts pattern = (args : List Obj) → ¬ IsAllowedChoice t scope facts pattern args
+NoneIsAllowed t scope facts pattern =
+    (args : List Obj) → ¬ IsAllowedChoice t scope facts pattern args

@@ -11,7 +11,8 @@ use Rattle.e_literal.specs.Use.{StatementView}
 abbrev pub are_entries : Scope → List Sort → List (Option Obj) → Bool
 are_entries s [] [] = true
 are_entries s (sort ∷ sorts) (None ∷ entries) = are_entries s sorts entries
-are_entries s (sort ∷ sorts) (Some o ∷ entries) = same_sort sort o.sort && (is_in_scope s o && are_entries s sorts entries)
+are_entries s (sort ∷ sorts) (Some o ∷ entries) =
+    same_sort sort o.sort && (is_in_scope s o && are_entries s sorts entries)
 are_entries s _ _ = false
 
 -- one entry for each declared object

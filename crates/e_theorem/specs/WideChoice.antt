@@ -8,19 +8,23 @@ use Rattle.e_clause.specs.Wide.{IsWideLit, IsTooWideLit}
 use Rattle.e_theorem.specs.Choice.{is_choice, is_below, IsLeastChoice}
 
 -- under a choice that is not above the least good one, if there is one, a given literal is wide
-pub record SomeChoiceIsWide (t : StatementView) (scope : Scope) (facts : List Lit) (pattern : List (Option Obj)) : Type 0 where
+pub record SomeChoiceIsWide (t : StatementView) (scope : Scope) (facts : List Lit)
+    (pattern : List (Option Obj)) : Type 0 where
   pub args : List Obj
   pub is_choice : IsTrue (is_choice t scope pattern args)
-  pub not_above : (least : List Obj) → IsLeastChoice t scope facts pattern least → IsFalse (is_below least args)
+  pub not_above : (least : List Obj) → IsLeastChoice t scope facts pattern least
+      → IsFalse (is_below least args)
   pub lit : Lit
   pub is_given : Contains (needs_of_use t args scope) lit
   pub is_wide : IsWideLit scope facts lit
 
 -- the same, and w is the width of one of its wide systems
-pub record SomeChoiceIsTooWide (t : StatementView) (scope : Scope) (facts : List Lit) (pattern : List (Option Obj)) (w : ℕ) : Type 0 where
+pub record SomeChoiceIsTooWide (t : StatementView) (scope : Scope) (facts : List Lit)
+    (pattern : List (Option Obj)) (w : ℕ) : Type 0 where
   pub args : List Obj
   pub is_choice : IsTrue (is_choice t scope pattern args)
-  pub not_above : (least : List Obj) → IsLeastChoice t scope facts pattern least → IsFalse (is_below least args)
+  pub not_above : (least : List Obj) → IsLeastChoice t scope facts pattern least
+      → IsFalse (is_below least args)
   pub lit : Lit
   pub is_given : Contains (needs_of_use t args scope) lit
   pub is_wide : IsTooWideLit scope facts lit w

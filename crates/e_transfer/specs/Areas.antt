@@ -48,7 +48,11 @@ pub record AreOneEach (x y : List Mono) (t : Term) : Type 0 where
 pub record AreEqualAreas (p : Pattern) (t : Term) : Type 0 where
   pub coeff : ℕ
   pub other : Term
-  pub is : lit_of_pattern p ≡ record { neg = false; atom = MagEq (record { coeff = coeff; term = t } ∷ []) (record { coeff = coeff; term = other } ∷ []) }
+  pub is : lit_of_pattern p ≡ record {
+    neg = false;
+    atom = MagEq (record { coeff = coeff; term = t } ∷ [])
+        (record { coeff = coeff; term = other } ∷ []);
+  }
   pub first : IsTrue (is_area_term t)
   pub second : IsTrue (is_area_term other)
 
@@ -56,4 +60,8 @@ pub record AreEqualAreas (p : Pattern) (t : Term) : Type 0 where
 abbrev pub IsFree : List Lit → Term → Type 0
 IsFree facts t =
     (coeff : ℕ) (other : Term) → IsTrue (is_area_term other)
-    → MetricConsequence facts (record { neg = true; atom = MagEq (record { coeff = coeff; term = t } ∷ []) (record { coeff = coeff; term = other } ∷ []) }) → ⊥
+    → MetricConsequence facts (record {
+      neg = true;
+      atom = MagEq (record { coeff = coeff; term = t } ∷ [])
+          (record { coeff = coeff; term = other } ∷ []);
+    }) → ⊥

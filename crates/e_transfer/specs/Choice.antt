@@ -30,4 +30,5 @@ NoneWanted wanted before spans = (d : List ℕ) → FitsSpans spans d → wanted
 
 -- no choice that fits and is below this one is wanted
 abbrev pub NoneBelow : (List ℕ → Type 0) → List ℕ → List Span → List ℕ → Type 0
-NoneBelow wanted before spans c = (d : List ℕ) → FitsSpans spans d → ComesBefore d c → wanted (before ++ d) → ⊥
+NoneBelow wanted before spans c =
+    (d : List ℕ) → FitsSpans spans d → ComesBefore d c → wanted (before ++ d) → ⊥

@@ -26,11 +26,15 @@ pub record IsTooWideTransfer (scope : Scope) (facts : List Lit) (goal : Lit) (w 
 -- a certificate, whose parts name literals that are well formed; or no transfer gives the goal; or
 -- a system is too wide
 abbrev pub IsFound : Scope → List Lit → Lit → Found → Type 0
-IsFound scope facts goal (Yes cert) = IsTrue (transfer_in scope cert) × IsTrue (transfer_certifies facts goal cert) × IsTrue (list_all (is_part_of version.One) cert.parts)
+IsFound scope facts goal (Yes cert) =
+    IsTrue (transfer_in scope cert) × IsTrue (transfer_certifies facts goal cert)
+    × IsTrue (list_all (is_part_of version.One) cert.parts)
 IsFound scope facts goal No = ¬ TransferConsequence scope facts goal
 IsFound scope facts goal (TooWide w) = IsTooWideTransfer scope facts goal w
 
 -- such a certificate; or no transfer gives the goal from facts alone
 abbrev pub IsFoundByFacts : Scope → List Lit → Lit → Option TransferCert → Type 0
-IsFoundByFacts scope facts goal (Some cert) = IsTrue (transfer_in scope cert) × IsTrue (transfer_certifies facts goal cert) × IsTrue (list_all (is_part_of version.One) cert.parts)
+IsFoundByFacts scope facts goal (Some cert) =
+    IsTrue (transfer_in scope cert) × IsTrue (transfer_certifies facts goal cert)
+    × IsTrue (list_all (is_part_of version.One) cert.parts)
 IsFoundByFacts scope facts goal None = ¬ TransferFromFacts scope facts goal

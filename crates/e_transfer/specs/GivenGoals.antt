@@ -1,5 +1,6 @@
 -- When an instance gives a goal.
-use Rattle.std.specs.Prelude.{◌≡◌, ℕ, ◌⊎◌, List, Bool, false, ◌||◌, if◌then◌else◌, IsTrue, MatchBool, Some, slice_get, map, All, Contains}
+use Rattle.std.specs.Prelude.{◌≡◌, ℕ, ◌⊎◌, List, Bool, false, ◌||◌, if◌then◌else◌, IsTrue}
+use Rattle.std.specs.Prelude.{MatchBool, Some, slice_get, map, All, Contains}
 use Rattle.std.specs.List.{list_all, AllZip}
 use Rattle.std.specs.Option.{option_map_or}
 use Rattle.e_literal.specs.declared.object.Obj.{Obj}
@@ -59,7 +60,8 @@ abbrev pub is_at : List Lit → ℕ → Lit → Bool
 is_at lits place goal = option_map_or (λ l. same_lit l goal) (slice_get lits place) false
 
 -- the instance at these arguments over the scope has the goal at the place, and gives it
-pub record GivesGoal (m : Strength) (scope : Scope) (facts : List Lit) (goal : Lit) (rule place : ℕ) (args : List Obj) : Type 0 where
+pub record GivesGoal (m : Strength) (scope : Scope) (facts : List Lit) (goal : Lit) (rule place : ℕ)
+    (args : List Obj) : Type 0 where
   pub lits : List Lit
   pub instance : Inst rule args ≡ Some lits
   pub over : IsTrue (list_all (is_in_scope scope) args)
@@ -69,7 +71,9 @@ pub record GivesGoal (m : Strength) (scope : Scope) (facts : List Lit) (goal : L
 -- what each literal of an instance that gives the goal is: the goal, at its place, and elsewhere
 -- the goal or one whose negation suffices
 abbrev pub IsFittingLiteral : Strength → List Lit → Lit → Bool → Lit → Type 0
-IsFittingLiteral m facts goal here l = MatchBool here (IsTrue (same_lit l goal)) (IsTrue (same_lit l goal) ⊎ Suffices m facts (negation l))
+IsFittingLiteral m facts goal here l =
+    MatchBool here (IsTrue (same_lit l goal))
+        (IsTrue (same_lit l goal) ⊎ Suffices m facts (negation l))
 
 -- ---- why a needed literal holds, or that it does not, or that one of its systems is wide
 
@@ -89,7 +93,8 @@ pub record IsCertifyingPart (scope : Scope) (facts : List Lit) (l : Lit) (p : Pa
 abbrev pub PartIs : Strength → Scope → List Lit → Lit → Verdict Part → Type 0
 PartIs m scope facts l (verdict.Yes p) = IsCertifyingPart scope facts l p
 PartIs m scope facts l verdict.No = Suffices m facts l → ⊥
-PartIs m scope facts l (verdict.TooWide w) = (m ≡ strength.Sums) × IsTrue (is_metric l) × IsTooWideSystem facts (Some l) w
+PartIs m scope facts l (verdict.TooWide w) =
+    (m ≡ strength.Sums) × IsTrue (is_metric l) × IsTooWideSystem facts (Some l) w
 
 -- what is answered on a literal with a wide system: where only narrow ones are searched for, that
 -- it does not suffice
@@ -114,7 +119,8 @@ all_diagrams_hold facts ls = list_all (λ l. is_metric l || has facts l) ls
 -- ---- whether instances give the goal
 
 -- the certificate certifies the goal, and its parts name literals that are well formed
-pub record IsCertifyingTransfer (scope : Scope) (facts : List Lit) (goal : Lit) (cert : TransferCert) : Type 0 where
+pub record IsCertifyingTransfer (scope : Scope) (facts : List Lit) (goal : Lit)
+    (cert : TransferCert) : Type 0 where
   pub over : IsTrue (transfer_in scope cert)
   pub certifies : IsTrue (transfer_certifies facts goal cert)
   pub written : IsTrue (list_all (is_part_of version.One) cert.parts)
@@ -126,27 +132,34 @@ pub record IsWideTransfer (scope : Scope) (facts : List Lit) (goal : Lit) (w : �
   pub has_width : HasWidth rows w
 
 -- one instance
-abbrev pub InstanceIs : Strength → Scope → List Lit → Lit → ℕ → List Obj → Verdict TransferCert → Type 0
-InstanceIs m scope facts goal rule args (verdict.Yes cert) = IsCertifyingTransfer scope facts goal cert
-InstanceIs m scope facts goal rule args verdict.No = (place : ℕ) → GivesGoal m scope facts goal rule place args → ⊥
-InstanceIs m scope facts goal rule args (verdict.TooWide w) = (m ≡ strength.Sums) × IsWideTransfer scope facts goal w
+abbrev pub InstanceIs : Strength → Scope → List Lit → Lit → ℕ → List Obj
+    → Verdict TransferCert → Type 0
+InstanceIs m scope facts goal rule args (verdict.Yes cert) =
+    IsCertifyingTransfer scope facts goal cert
+InstanceIs m scope facts goal rule args verdict.No =
+    (place : ℕ) → GivesGoal m scope facts goal rule place args → ⊥
+InstanceIs m scope facts goal rule args (verdict.TooWide w) =
+    (m ≡ strength.Sums) × IsWideTransfer scope facts goal w
 
 -- ---- many instances
 
 -- none that has the goal at this place of the clause, with variables bound so, gives it
 abbrev pub NoneWithBindings : Strength → Scope → List Lit → Lit → ℕ → ℕ → List Binding → Type 0
 NoneWithBindings m scope facts goal rule place bindings =
-    (args : List Obj) → BindingsAgree (number args) bindings → GivesGoal m scope facts goal rule place args → ⊥
+    (args : List Obj) → BindingsAgree (number args) bindings
+    → GivesGoal m scope facts goal rule place args → ⊥
 
 -- none that has the goal at this place of the clause, with variables as these equations say, gives
 -- it
 abbrev pub NoneWithEquations : Strength → Scope → List Lit → Lit → ℕ → ℕ → List Equation → Type 0
 NoneWithEquations m scope facts goal rule place equations =
-    (args : List Obj) → IsTrue (all_agree (number args) equations) → GivesGoal m scope facts goal rule place args → ⊥
+    (args : List Obj) → IsTrue (all_agree (number args) equations)
+    → GivesGoal m scope facts goal rule place args → ⊥
 
 -- none that has the goal at this place of the clause gives it
 abbrev pub NoneAt : Strength → Scope → List Lit → Lit → ℕ → ℕ → Type 0
-NoneAt m scope facts goal rule place = (args : List Obj) → GivesGoal m scope facts goal rule place args → ⊥
+NoneAt m scope facts goal rule place =
+    (args : List Obj) → GivesGoal m scope facts goal rule place args → ⊥
 
 -- none of the rule gives it
 abbrev pub NoneOf : Strength → Scope → List Lit → Lit → ℕ → Type 0
@@ -154,14 +167,16 @@ NoneOf m scope facts goal rule = (place : ℕ) → NoneAt m scope facts goal rul
 
 -- none of a transfer clause gives it
 abbrev pub NoneGives : Strength → Scope → List Lit → Lit → Type 0
-NoneGives m scope facts goal = (rule : ℕ) → IsTrue (is_transfer rule) → NoneOf m scope facts goal rule
+NoneGives m scope facts goal =
+    (rule : ℕ) → IsTrue (is_transfer rule) → NoneOf m scope facts goal rule
 
 -- one that gives the goal; or none of those that are searched for, as `None` says; or one that is
 -- too wide
 abbrev pub RuleSearchIs : Strength → Scope → List Lit → Lit → Type 0 → Verdict TransferCert → Type 0
 RuleSearchIs m scope facts goal None (verdict.Yes cert) = IsCertifyingTransfer scope facts goal cert
 RuleSearchIs m scope facts goal None verdict.No = None
-RuleSearchIs m scope facts goal None (verdict.TooWide w) = (m ≡ strength.Sums) × IsWideTransfer scope facts goal w
+RuleSearchIs m scope facts goal None (verdict.TooWide w) =
+    (m ≡ strength.Sums) × IsWideTransfer scope facts goal w
 
 -- ---- the answer
 

@@ -1,8 +1,11 @@
 -- Which relations occur among facts, and with which sign.
-use Rattle.std.specs.Prelude.{◌≡◌, ℕ, ◌+◌, ◌*◌, List, Bool, true, false, ◌&&◌, if◌then◌else◌, slice_index_or, slice_get, Some}
+use Rattle.std.specs.Prelude.{◌≡◌, ℕ, ◌+◌, ◌*◌, List, Bool, true, false, ◌&&◌, if◌then◌else◌}
+use Rattle.std.specs.Prelude.{slice_index_or, slice_get, Some}
 use Rattle.std.specs.List.{list_all}
 use Rattle.e_literal.specs.declared.literal.Atom.{Atom}
-use Rattle.e_literal.specs.declared.literal.Atom.TheVariants.{On, OnC, Inside, Center, Between, Same, MeetLL, MeetLC, MeetCC, EqP, EqL, EqC, MagEq, MagLt}
+use Rattle.e_literal.specs.declared.literal.Atom.TheVariants.{On, OnC, Inside, Center, Between}
+use Rattle.e_literal.specs.declared.literal.Atom.TheVariants.{Same, MeetLL, MeetLC, MeetCC, EqP}
+use Rattle.e_literal.specs.declared.literal.Atom.TheVariants.{EqL, EqC, MagEq, MagLt}
 use Rattle.e_literal.specs.declared.literal.Lit.{Lit}
 use Rattle.e_literal.specs.declared.object.Mono.{Mono}
 use Rattle.e_literal.specs.declared.object.Obj.{Obj}
@@ -64,9 +67,11 @@ is_strict_on_areas _ _ = false
 
 -- no literal over objects that is of this one suffices
 abbrev pub NoneSuffices : Strength → List Lit → Lit → Type 0
-NoneSuffices m facts l = (p q c : ℕ → ℕ) → Suffices m facts (record { neg = l.neg; atom = atom_at p q c l.atom }) → ⊥
+NoneSuffices m facts l =
+    (p q c : ℕ → ℕ) → Suffices m facts (record { neg = l.neg; atom = atom_at p q c l.atom }) → ⊥
 
 -- no instance has at this place of the clause the goal, or a literal whose negation suffices
 abbrev pub NoneHolds : Strength → List Lit → Lit → Row → ℕ → Type 0
 NoneHolds m facts goal r at =
-    (l : Lit) → slice_get (clause_of r) at ≡ Some l → (args : List Obj) → IsFittingLiteral m facts goal false (lit_at r args l) → ⊥
+    (l : Lit) → slice_get (clause_of r) at ≡ Some l → (args : List Obj)
+    → IsFittingLiteral m facts goal false (lit_at r args l) → ⊥

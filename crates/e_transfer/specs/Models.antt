@@ -1,5 +1,6 @@
 -- Values of all terms, with which a metric literal that does not follow is mostly seen to be false.
-use Rattle.std.specs.Prelude.{ℕ, ◌+◌, ◌*◌, ◌%◌, List, [], ◌∷◌, Bool, true, false, ◌&&◌, if◌then◌else◌}
+use Rattle.std.specs.Prelude.{ℕ, ◌+◌, ◌*◌, ◌%◌, List, [], ◌∷◌, Bool, true, false, ◌&&◌}
+use Rattle.std.specs.Prelude.{if◌then◌else◌}
 use Rattle.std.specs.List.{list_all}
 use Rattle.e_literal.specs.declared.object.Term.{Term}
 use Rattle.e_literal.specs.declared.object.Term.TheVariants.{Seg, Ang, Area, Right}
@@ -36,7 +37,8 @@ is_flattened _ _ = false
 
 -- the value of a term that is written the one way
 abbrev pub value_when_canonical : Filling → List (Term × ℕ) → Term → ℕ
-value_when_canonical filling values t = if is_flattened filling t then 0 else value_in_list filling values t
+value_when_canonical filling values t =
+    if is_flattened filling t then 0 else value_in_list filling values t
 
 -- the same in whatever order the points of the term are written, and 0 for a segment x x and a flat
 -- area
@@ -52,4 +54,5 @@ fits_terms facts v ts = list_all (fits_term facts v) ts
 
 -- with these values the facts are true, and their terms and right have values that they may have
 abbrev pub is_model : List Lit → (Term → ℕ) → Bool
-is_model facts v = fits_term facts v Right && (fits_terms facts v (terms_of_lits facts) && all_hold v facts)
+is_model facts v =
+    fits_term facts v Right && (fits_terms facts v (terms_of_lits facts) && all_hold v facts)

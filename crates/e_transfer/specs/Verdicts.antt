@@ -7,7 +7,8 @@ use Rattle.e_transfer.specs.Choice.{FitsSpans, Starts, EachKept, NoneWanted, Non
 
 -- the part is kept, or no choice that begins with it is wanted, or something there is too wide
 abbrev pub VerdictIs :
-    {P : Type 0} → (List ℕ → Type 0) → (List ℕ → P → Type 0) → (List ℕ → ℕ → Type 0) → (List ℕ → Type 0) → List ℕ → Verdict P → Type 0
+    {P : Type 0} → (List ℕ → Type 0) → (List ℕ → P → Type 0) → (List ℕ → ℕ → Type 0)
+    → (List ℕ → Type 0) → List ℕ → Verdict P → Type 0
 VerdictIs kept shown wide wanted part (verdict.Yes p) = kept part × shown part p
 VerdictIs kept shown wide wanted part verdict.No = (rest : List ℕ) → wanted (part ++ rest) → ⊥
 VerdictIs kept shown wide wanted part (verdict.TooWide w) = wide part w
@@ -15,9 +16,13 @@ VerdictIs kept shown wide wanted part (verdict.TooWide w) = wide part w
 -- a choice each of whose parts is kept, and none below it is wanted; or none is wanted; or a part
 -- that is too wide, and none below it is wanted
 abbrev pub SearchIs :
-    {P : Type 0} → (List ℕ → Type 0) → (List ℕ → P → Type 0) → (List ℕ → ℕ → Type 0) → (List ℕ → Type 0) → List Span → List ℕ → List ℕ → Verdict P → Type 0
+    {P : Type 0} → (List ℕ → Type 0) → (List ℕ → P → Type 0) → (List ℕ → ℕ → Type 0)
+    → (List ℕ → Type 0) → List Span → List ℕ → List ℕ → Verdict P → Type 0
 SearchIs kept shown wide wanted spans before after (verdict.Yes p) =
-    (c : List ℕ) × FitsSpans spans c × EachKept kept before c × (after ≡ before ++ c) × shown after p × NoneBelow wanted before spans c
-SearchIs kept shown wide wanted spans before after verdict.No = (after ≡ before) × NoneWanted wanted before spans
+    (c : List ℕ) × FitsSpans spans c × EachKept kept before c × (after ≡ before ++ c)
+    × shown after p × NoneBelow wanted before spans c
+SearchIs kept shown wide wanted spans before after verdict.No =
+    (after ≡ before) × NoneWanted wanted before spans
 SearchIs kept shown wide wanted spans before after (verdict.TooWide w) =
-    (c : List ℕ) × Starts spans c × (after ≡ before ++ c) × wide after w × NoneBelow wanted before spans c
+    (c : List ℕ) × Starts spans c × (after ≡ before ++ c) × wide after w
+    × NoneBelow wanted before spans c

@@ -2,7 +2,8 @@
 use Rattle.std.specs.Prelude.{ℕ, List, [], ◌∷◌, ◌++◌, ◌==◌, if◌then◌else◌}
 use Rattle.std.specs.List.{list_any}
 use Rattle.e_deriv.specs.declared.block.Step.{Step}
-use Rattle.e_deriv.specs.Script.{Script, step_script, Cite, Hence, Make, Apply, Claim, Superposed, Qed, Contradiction, Cases}
+use Rattle.e_deriv.specs.Script.{Script, step_script, Cite, Hence, Make, Apply, Claim, Superposed}
+use Rattle.e_deriv.specs.Script.{Qed, Contradiction, Cases}
 
 -- the places of the theorems that its steps apply, in text order
 unfoldable pub places_of : Script → List ℕ

@@ -10,11 +10,13 @@ use Rattle.e_trim.specs.Trimmed.{trimmed}
 
 abbrev pub TrimmedIsCertified : Type 0
 TrimmedIsCertified =
-    (before : List StatementView) (t : StatementView) (d : Script) → IsTrue (list_all is_statement before) → IsTrue (is_statement t) → IsTrue (has_certs_of One d)
+    (before : List StatementView) (t : StatementView) (d : Script)
+    → IsTrue (list_all is_statement before) → IsTrue (is_statement t) → IsTrue (has_certs_of One d)
     → Certified before t d
     → Certified before t (trimmed before t d)
 
 -- it has no more lines, and no more blocks one inside the other
 abbrev pub TrimmedIsShorter : Type 0
 TrimmedIsShorter =
-    (before : List StatementView) (t : StatementView) (d : Script) → (size (trimmed before t d) ≤ size d) × (depth (trimmed before t d) ≤ depth d)
+    (before : List StatementView) (t : StatementView) (d : Script)
+    → (size (trimmed before t d) ≤ size d) × (depth (trimmed before t d) ≤ depth d)

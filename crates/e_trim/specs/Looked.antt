@@ -3,7 +3,8 @@
 -- A literal is looked up by itself and not by its place: that a member of the facts is looked up
 -- means that one the same is among the literals that are looked up, since no two members are the
 -- same.
-use Rattle.std.specs.Prelude.{List, [], ◌∷◌, ◌++◌, map, flat_map, Bool, false, ◌||◌, if◌then◌else◌, ℤ, Option, Some, None}
+use Rattle.std.specs.Prelude.{List, [], ◌∷◌, ◌++◌, map, flat_map, Bool, false, ◌||◌, if◌then◌else◌}
+use Rattle.std.specs.Prelude.{ℤ, Option, Some, None}
 use Rattle.std.specs.Option.{option_map_or}
 use Rattle.std.specs.List.{list_any}
 use Rattle.e_literal.specs.declared.object.Obj.{Obj}
@@ -19,7 +20,8 @@ use Rattle.e_clause.specs.declared.cert.By.{By}
 use Rattle.e_clause.specs.declared.cert.Cert.{Cert}
 use Rattle.e_clause.specs.declared.cert.Cert.TheVariants.{Plain, Transfer}
 use Rattle.e_clause.specs.declared.cert.Part.{Part}
-use Rattle.e_clause.specs.declared.cert.Part.TheVariants.{Fact as FactPart, Metric, FactAt as FactPartAt}
+use Rattle.e_clause.specs.declared.cert.Part.TheVariants.{Fact as FactPart, Metric}
+use Rattle.e_clause.specs.declared.cert.Part.TheVariants.{FactAt as FactPartAt}
 use Rattle.e_clause.specs.declared.cert.TransferCert.{TransferCert}
 use Rattle.e_clause.specs.declared.cert.Against.{Against}
 use Rattle.e_clause.specs.declared.cert.Against.TheVariants.{Clash, Metric as MetricAgainst}
@@ -29,7 +31,8 @@ use Rattle.e_clause.specs.declared.cert.Sums.{Sums}
 use Rattle.e_clause.specs.declared.cert.Sums.TheVariants.{One, Two}
 use Rattle.e_clause.specs.Assignment.{terms_of_atom, terms_of_wanted}
 use Rattle.e_clause.specs.Instance.{Inst}
-use Rattle.e_deriv.specs.Script.{Script, Cite, Hence, Make, Apply, Claim, Superposed, Qed, Contradiction, Cases}
+use Rattle.e_deriv.specs.Script.{Script, Cite, Hence, Make, Apply, Claim, Superposed, Qed}
+use Rattle.e_deriv.specs.Script.{Contradiction, Cases}
 use Rattle.e_deriv.specs.Parts.{args_of}
 use Rattle.e_deriv.specs.Lines.{Line}
 use Rattle.e_deriv.specs.Steps.{needs}
@@ -77,19 +80,22 @@ has_written t l = list_any (term_eq t) (terms_of_atom l.atom)
 
 -- the literal says that the ends of the segment differ, in one order or the other
 abbrev pub parts_ends : Term → Lit → Bool
-parts_ends (Seg a b) l = same_lit l (negation (are_equal_points a b)) || same_lit l (negation (are_equal_points b a))
+parts_ends (Seg a b) l =
+    same_lit l (negation (are_equal_points a b)) || same_lit l (negation (are_equal_points b a))
 parts_ends _ l = false
 
 -- the term of a row: the first fact that has it, unless the certified literal has it
 abbrev pub of_term : List Lit → Option Lit → Term → Wants
 of_term facts wanted t = record {
-  lits = if list_any (term_eq t) (terms_of_wanted wanted) then [] else first_that (has_written t) facts;
+  lits = if list_any (term_eq t) (terms_of_wanted wanted) then [] else
+      first_that (has_written t) facts;
   objects = objects_of_term t;
 }
 
 abbrev pub of_row : List Lit → Option Lit → RowName → Wants
 of_row facts wanted (Fact l) = of_lit l
-of_row facts wanted (Pos t) = both (looked_up (first_that (parts_ends t) facts)) (of_term facts wanted t)
+of_row facts wanted (Pos t) =
+    both (looked_up (first_that (parts_ends t) facts)) (of_term facts wanted t)
 of_row facts wanted (Top t) = of_term facts wanted t
 of_row facts wanted (Least t) = of_term facts wanted t
 of_row facts wanted _ = no_wants
@@ -99,7 +105,9 @@ of_sum facts wanted xs = of_all (λ x. of_row facts wanted x.1) xs
 
 abbrev pub of_sums : List Lit → Option Lit → Sums → Wants
 of_sums facts wanted (One sum) = of_sum facts wanted sum
-of_sums facts wanted (Two differs above below) = both (of_row facts wanted differs) (both (of_sum facts wanted above) (of_sum facts wanted below))
+of_sums facts wanted (Two differs above below) =
+    both (of_row facts wanted differs)
+        (both (of_sum facts wanted above) (of_sum facts wanted below))
 
 -- ---- certificates
 
@@ -115,7 +123,9 @@ of_parts facts (l ∷ ls) (p ∷ ps) = both (of_part facts (negation l) p) (of_p
 of_parts facts _ _ = no_wants
 
 abbrev pub of_transfer : List Lit → Lit → TransferCert → Wants
-of_transfer facts l t = both (needed t.args) (option_map_or (λ lits. of_parts facts (others lits l) t.parts) (Inst t.rule t.args) no_wants)
+of_transfer facts l t =
+    both (needed t.args) (option_map_or (λ lits. of_parts facts (others lits l) t.parts)
+        (Inst t.rule t.args) no_wants)
 
 abbrev pub of_cert : List Lit → Lit → Cert → Wants
 of_cert facts l (Plain p) = of_part facts l p
@@ -133,7 +143,8 @@ of_against facts (MetricAgainst m) = of_sums facts None m.sums
 
 -- a citation looks up the negation of each other literal of the instance
 abbrev pub of_citation : By → Wants
-of_citation by = looked_up (option_map_or (λ lits. map negation (others lits by.lit)) (Inst by.rule by.args) [])
+of_citation by =
+    looked_up (option_map_or (λ lits. map negation (others lits by.lit)) (Inst by.rule by.args) [])
 
 -- beside its certificates for what it needs; a contradiction has a certificate of its own
 abbrev pub of_beside : Script → List Lit → Wants
@@ -148,7 +159,8 @@ named_on (Hence lit cert rest) = objects_of_atom lit.atom
 named_on (Make form names certs rest) = form.args ++ form.avoid
 named_on (Apply theorem args names certs rest) = args_of (Apply theorem args names certs rest)
 named_on (Claim shown inner rest) = objects_of_lits shown
-named_on (Superposed form names shown certs inner rest) = superposing.objects_of form ++ objects_of_lits shown
+named_on (Superposed form names shown certs inner rest) =
+    superposing.objects_of form ++ objects_of_lits shown
 named_on (Qed objects certs) = objects
 named_on (Contradiction against) = []
 named_on (Cases lit first second) = objects_of_atom lit.atom
@@ -156,4 +168,6 @@ named_on (Cases lit first second) = objects_of_atom lit.atom
 -- what the line looks up, blocks inside of it left aside, and the objects that it and its
 -- certificates name
 abbrev pub of_line : List StatementView → Line → Wants
-of_line before x = both (needed (named_on x.here)) (both (of_certs x.facts (needs before x) (certs_of x.here)) (of_beside x.here x.facts))
+of_line before x =
+    both (needed (named_on x.here))
+        (both (of_certs x.facts (needs before x) (certs_of x.here)) (of_beside x.here x.facts))

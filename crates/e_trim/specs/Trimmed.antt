@@ -1,5 +1,6 @@
 -- A derivation without the steps that nothing needs.
-use Rattle.std.specs.Prelude.{ℕ, ◌+◌, List, [], ◌∷◌, ◌++◌, map, filter, Bool, not, ◌&&◌, ◌||◌, nat_lt, if◌then◌else◌, ℤ, Option, Some}
+use Rattle.std.specs.Prelude.{ℕ, ◌+◌, List, [], ◌∷◌, ◌++◌, map, filter, Bool, not, ◌&&◌, ◌||◌}
+use Rattle.std.specs.Prelude.{nat_lt, if◌then◌else◌, ℤ, Option, Some}
 use Rattle.std.specs.Option.{option_map}
 use Rattle.std.specs.List.{list_any}
 use Rattle.e_literal.specs.declared.object.Obj.{Obj}
@@ -20,7 +21,8 @@ use Rattle.e_clause.specs.declared.cert.By.{By}
 use Rattle.e_clause.specs.declared.cert.Cert.{Cert}
 use Rattle.e_clause.specs.declared.cert.Cert.TheVariants.{Plain, Transfer}
 use Rattle.e_clause.specs.declared.cert.Part.{Part}
-use Rattle.e_clause.specs.declared.cert.Part.TheVariants.{Fact as FactPart, Metric, FactAt as FactPartAt}
+use Rattle.e_clause.specs.declared.cert.Part.TheVariants.{Fact as FactPart, Metric}
+use Rattle.e_clause.specs.declared.cert.Part.TheVariants.{FactAt as FactPartAt}
 use Rattle.e_clause.specs.declared.cert.TransferCert.{TransferCert}
 use Rattle.e_clause.specs.declared.cert.MetricCert.{MetricCert}
 use Rattle.e_clause.specs.declared.cert.Against.{Against}
@@ -29,7 +31,8 @@ use Rattle.e_clause.specs.declared.cert.RowName.{RowName}
 use Rattle.e_clause.specs.declared.cert.RowName.TheVariants.{Fact, Pos, Top, Least}
 use Rattle.e_clause.specs.declared.cert.Sums.{Sums}
 use Rattle.e_clause.specs.declared.cert.Sums.TheVariants.{One, Two}
-use Rattle.e_deriv.specs.Script.{Script, Cite, Hence, Make, Apply, Claim, Superposed, Qed, Contradiction, Cases}
+use Rattle.e_deriv.specs.Script.{Script, Cite, Hence, Make, Apply, Claim, Superposed, Qed}
+use Rattle.e_deriv.specs.Script.{Contradiction, Cases}
 use Rattle.e_deriv.specs.Parts.{args_of}
 use Rattle.e_deriv.specs.Goal.{Goal, goal_of, goal_of_statement, facts_of_statement}
 use Rattle.e_deriv.specs.Lines.{Line, line, theorem_at}
@@ -64,12 +67,14 @@ is_needed w o = list_any (same_obj o) w.objects
 -- a step is kept where it supplies a literal, or makes an object, that is wanted after it
 abbrev pub is_kept : List StatementView → Script → Scope → List Lit → Wants → Bool
 is_kept before here s facts w =
-    list_any (supplies facts w) (joins_at before here s) || list_any (is_needed w) (next_objects s (makes_at before here))
+    list_any (supplies facts w) (joins_at before here s)
+    || list_any (is_needed w) (next_objects s (makes_at before here))
 
 -- of what a block wants, what is outside of it: facts that stood before it, and objects that were
 -- in scope
 abbrev pub wants_outside : Scope → List Lit → Wants → Wants
-wants_outside s facts w = record { lits = filter (has facts) w.lits; objects = filter (is_in_scope s) w.objects }
+wants_outside s facts w =
+    record { lits = filter (has facts) w.lits; objects = filter (is_in_scope s) w.objects }
 
 -- ---- from the close backwards
 
@@ -79,32 +84,43 @@ line_at here s facts goal = line here here s facts goal
 
 -- Where this is wanted after a step, and that by the block inside it, what is wanted from the step
 -- on: a step that is not kept wants nothing.
-abbrev pub wants_with_step : List StatementView → Script → Scope → List Lit → Goal → Wants → Wants → Wants
+abbrev pub wants_with_step : List StatementView → Script → Scope → List Lit → Goal
+    → Wants → Wants → Wants
 wants_with_step before here s facts goal inner w =
-    if is_kept before here s facts w then both w (both (of_line before (line_at here s facts goal)) inner) else w
+    if is_kept before here s facts w
+        then both w (both (of_line before (line_at here s facts goal)) inner)
+        else w
 
 -- what the kept steps and the close look up and need, from here to the end of the block
 unfoldable pub wants : List StatementView → Script → Scope → List Lit → Goal → Wants
 wants before (Cite by rest) s facts goal =
-    wants_with_step before (Cite by rest) s facts goal no_wants (wants before rest s (joined facts by.lit) goal)
+    wants_with_step before (Cite by rest) s facts goal no_wants
+        (wants before rest s (joined facts by.lit) goal)
 wants before (Hence lit cert rest) s facts goal =
-    wants_with_step before (Hence lit cert rest) s facts goal no_wants (wants before rest s (joined facts lit) goal)
+    wants_with_step before (Hence lit cert rest) s facts goal no_wants
+        (wants before rest s (joined facts lit) goal)
 wants before (Make form names certs rest) s facts goal =
     wants_with_step before (Make form names certs rest) s facts goal no_wants
-    (wants before rest (grown s (sorts_made form)) (joined_all facts (gives_of_construction form s)) goal)
+    (wants before rest (grown s (sorts_made form))
+        (joined_all facts (gives_of_construction form s)) goal)
 wants before (Apply theorem args names certs rest) s facts goal =
     let here = Apply theorem args names certs rest in
     wants_with_step before here s facts goal no_wants
-    (wants before rest (grown s (theorem_at before theorem).made) (joined_all facts (joins_at before here s)) goal)
+    (wants before rest (grown s (theorem_at before theorem).made)
+        (joined_all facts (joins_at before here s)) goal)
 wants before (Claim shown inner rest) s facts goal =
-    wants_with_step before (Claim shown inner rest) s facts goal (wants_outside s facts (wants before inner s facts (goal_of shown)))
+    wants_with_step before (Claim shown inner rest) s facts goal
+    (wants_outside s facts (wants before inner s facts (goal_of shown)))
     (wants before rest s (joined_all facts shown) goal)
 wants before (Superposed form names shown certs inner rest) s facts goal =
     wants_with_step before (Superposed form names shown certs inner rest) s facts goal
-    (wants_outside s facts (wants before inner (grown s superposing.sorts_copied) (joined_all facts (superposing.gives_of_superposition form s)) (goal_of shown)))
+    (wants_outside s facts (wants before inner (grown s superposing.sorts_copied)
+        (joined_all facts (superposing.gives_of_superposition form s)) (goal_of shown)))
     (wants before rest s (joined_all facts shown) goal)
-wants before (Qed objects certs) s facts goal = of_line before (line_at (Qed objects certs) s facts goal)
-wants before (Contradiction against) s facts goal = of_line before (line_at (Contradiction against) s facts goal)
+wants before (Qed objects certs) s facts goal =
+    of_line before (line_at (Qed objects certs) s facts goal)
+wants before (Contradiction against) s facts goal =
+    of_line before (line_at (Contradiction against) s facts goal)
 wants before (Cases lit first second) s facts goal =
     both (of_line before (line_at (Cases lit first second) s facts goal))
     (both (wants_outside s facts (wants before second s (joined facts (negation lit)) goal))
@@ -118,7 +134,8 @@ is_lesser_of_sort k sort n = same_sort k.sort sort && nat_lt k.num n
 -- how many of the kept objects of the sort have a lesser number
 abbrev pub kept_before : List Obj → Sort → ℕ → ℕ
 kept_before [] sort n = 0
-kept_before (k ∷ kept) sort n = (if is_lesser_of_sort k sort n then 1 else 0) + kept_before kept sort n
+kept_before (k ∷ kept) sort n =
+    (if is_lesser_of_sort k sort n then 1 else 0) + kept_before kept sort n
 
 abbrev pub obj_at : List Obj → Obj → Obj
 obj_at kept o = obj o.sort (kept_before kept o.sort o.num)
@@ -141,7 +158,8 @@ sum_at kept xs = map (λ x. (x.0, row_name_among_kept kept x.1)) xs
 
 abbrev pub sums_at : List Obj → Sums → Sums
 sums_at kept (One sum) = One (sum_at kept sum)
-sums_at kept (Two differs above below) = Two (row_name_among_kept kept differs) (sum_at kept above) (sum_at kept below)
+sums_at kept (Two differs above below) =
+    Two (row_name_among_kept kept differs) (sum_at kept above) (sum_at kept below)
 
 abbrev pub metric_at : List Obj → MetricCert → MetricCert
 metric_at kept m = record { sums = sums_at kept m.sums }
@@ -152,7 +170,8 @@ part_at kept (Metric m) = Metric (metric_at kept m)
 part_at kept (FactPartAt k) = FactPartAt k
 
 abbrev pub transfer_among_kept : List Obj → TransferCert → TransferCert
-transfer_among_kept kept t = record { rule = t.rule; args = map (obj_at kept) t.args; parts = map (part_at kept) t.parts }
+transfer_among_kept kept t =
+    record { rule = t.rule; args = map (obj_at kept) t.args; parts = map (part_at kept) t.parts }
 
 abbrev pub cert_at : List Obj → Cert → Cert
 cert_at kept (Plain p) = Plain (part_at kept p)
@@ -163,13 +182,23 @@ against_at kept (Clash l) = Clash (lit_among_kept kept l)
 against_at kept (MetricAgainst m) = MetricAgainst (metric_at kept m)
 
 abbrev pub by_at : List Obj → By → By
-by_at kept by = record { rule = by.rule; args = map (obj_at kept) by.args; lit = lit_among_kept kept by.lit }
+by_at kept by =
+    record { rule = by.rule; args = map (obj_at kept) by.args; lit = lit_among_kept kept by.lit }
 
 abbrev pub construction_among_kept : List Obj → Construction → Construction
-construction_among_kept kept form = record { shape = form.shape; args = map (obj_at kept) form.args; avoid = map (obj_at kept) form.avoid }
+construction_among_kept kept form =
+    record {
+      shape = form.shape;
+      args = map (obj_at kept) form.args;
+      avoid = map (obj_at kept) form.avoid;
+    }
 
 abbrev pub superpose_at : List Obj → Superpose → Superpose
-superpose_at kept form = record form { points = map (kept_before kept Point) form.points; lines = map (kept_before kept ALine) form.lines }
+superpose_at kept form =
+    record form {
+      points = map (kept_before kept Point) form.points;
+      lines = map (kept_before kept ALine) form.lines;
+    }
 
 abbrev pub args_at : List Obj → List (Option Obj) → List (Option Obj)
 args_at kept args = map (option_map (obj_at kept)) args
@@ -177,10 +206,13 @@ args_at kept args = map (option_map (obj_at kept)) args
 -- ---- trimmed
 
 -- the kept steps and the close, over the kept objects; the objects that a kept step makes are kept
-unfoldable pub trimmed_from : List StatementView → List Obj → Script → Scope → List Lit → Goal → Script
+unfoldable pub trimmed_from : List StatementView → List Obj → Script → Scope
+    → List Lit → Goal → Script
 trimmed_from before kept (Cite by rest) s facts goal =
     let more = trimmed_from before kept rest s (joined facts by.lit) goal in
-    if is_kept before (Cite by rest) s facts (wants before rest s (joined facts by.lit) goal) then Cite (by_at kept by) more else more
+    if is_kept before (Cite by rest) s facts (wants before rest s (joined facts by.lit) goal)
+        then Cite (by_at kept by) more
+        else more
 trimmed_from before kept (Hence lit cert rest) s facts goal =
     let more = trimmed_from before kept rest s (joined facts lit) goal in
     if is_kept before (Hence lit cert rest) s facts (wants before rest s (joined facts lit) goal)
@@ -202,17 +234,24 @@ trimmed_from before kept (Apply theorem args names certs rest) s facts goal =
     else trimmed_from before kept rest (grown s new) after goal
 trimmed_from before kept (Claim shown inner rest) s facts goal =
     let more = trimmed_from before kept rest s (joined_all facts shown) goal in
-    if is_kept before (Claim shown inner rest) s facts (wants before rest s (joined_all facts shown) goal)
-    then Claim (map (lit_among_kept kept) shown) (trimmed_from before kept inner s facts (goal_of shown)) more else more
+    if is_kept before (Claim shown inner rest) s facts (wants before rest s
+        (joined_all facts shown) goal)
+    then Claim (map (lit_among_kept kept) shown)
+        (trimmed_from before kept inner s facts (goal_of shown)) more else more
 trimmed_from before kept (Superposed form names shown certs inner rest) s facts goal =
     let more = trimmed_from before kept rest s (joined_all facts shown) goal in
     let opened = joined_all facts (superposing.gives_of_superposition form s) in
-    if is_kept before (Superposed form names shown certs inner rest) s facts (wants before rest s (joined_all facts shown) goal)
-    then Superposed (superpose_at kept form) names (map (lit_among_kept kept) shown) (map (cert_at kept) certs)
-    (trimmed_from before (kept ++ next_objects s superposing.sorts_copied) inner (grown s superposing.sorts_copied) opened (goal_of shown)) more
+    if is_kept before (Superposed form names shown certs inner rest) s facts (wants before rest s
+        (joined_all facts shown) goal)
+    then Superposed (superpose_at kept form) names (map (lit_among_kept kept) shown)
+    (map (cert_at kept) certs)
+    (trimmed_from before (kept ++ next_objects s superposing.sorts_copied) inner
+        (grown s superposing.sorts_copied) opened (goal_of shown)) more
     else more
-trimmed_from before kept (Qed objects certs) s facts goal = Qed (map (obj_at kept) objects) (map (cert_at kept) certs)
-trimmed_from before kept (Contradiction against) s facts goal = Contradiction (option_map (against_at kept) against)
+trimmed_from before kept (Qed objects certs) s facts goal =
+    Qed (map (obj_at kept) objects) (map (cert_at kept) certs)
+trimmed_from before kept (Contradiction against) s facts goal =
+    Contradiction (option_map (against_at kept) against)
 trimmed_from before kept (Cases lit first second) s facts goal =
     Cases (lit_among_kept kept lit) (trimmed_from before kept first s (joined facts lit) goal)
     (trimmed_from before kept second s (joined facts (negation lit)) goal)
@@ -223,4 +262,5 @@ declared_of t = next_objects nothing t.declared
 
 -- of the derivation of a statement
 abbrev pub trimmed : List StatementView → StatementView → Script → Script
-trimmed before t d = trimmed_from before (declared_of t) d (scope_of t) (facts_of_statement t) (goal_of_statement t)
+trimmed before t d =
+    trimmed_from before (declared_of t) d (scope_of t) (facts_of_statement t) (goal_of_statement t)

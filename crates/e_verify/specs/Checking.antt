@@ -1,5 +1,6 @@
 -- What it is to check the lines of a script one after another, with the blocks inside it.
-use Rattle.std.specs.Prelude.{◌≡◌, ℕ, ◌+◌, ◌<◌, ◌^◌, List, ◌∷◌, length, take, Bool, IsTrue, Result, Err}
+use Rattle.std.specs.Prelude.{◌≡◌, ℕ, ◌+◌, ◌<◌, ◌^◌, List, ◌∷◌, length, take, Bool, IsTrue, Result}
+use Rattle.std.specs.Prelude.{Err}
 use Rattle.std.specs.List.{list_all}
 use Rattle.e_literal.specs.WellFormed.{is_well_formed}
 use Rattle.e_literal.specs.Use.{StatementView}
@@ -24,7 +25,8 @@ lines_in_state before d x goal = lines before d d x.scope x.facts goal
 -- the number of the script's first step that is not certified, or the number after the last, where
 -- the first has this number
 abbrev pub verdict_at : List StatementView → Script → StepState → Goal → ℕ → Result ℕ ℕ
-verdict_at before d x goal first = first_failure (is_certified before) (lines_in_state before d x goal) first
+verdict_at before d x goal first =
+    first_failure (is_certified before) (lines_in_state before d x goal) first
 
 -- a line is refused exactly at the first that is not certified; a stop out of memory may come
 -- anywhere
@@ -34,7 +36,8 @@ RejectIs verdict NoMemory = Unit {0}
 
 -- the literals of the script, of the facts and of the goal are well formed, at most 1,000 objects
 -- of each sort are in scope before each line, and there are numbers for all lines
-pub record IsCheckable (before : List StatementView) (d : Script) (x : StepState) (goal : Goal) (first : ℕ) : Type 0 where
+pub record IsCheckable (before : List StatementView) (d : Script) (x : StepState) (goal : Goal)
+    (first : ℕ) : Type 0 where
   pub written : IsTrue (is_written_well d)
   pub scopes : IsTrue (list_all (λ y. is_small y.scope) (lines_in_state before d x goal))
   pub facts : IsTrue (list_all is_well_formed x.facts)
@@ -42,7 +45,8 @@ pub record IsCheckable (before : List StatementView) (d : Script) (x : StepState
   pub few : first + size d < 2 ^ 32
 
 -- before something the lines are ready
-pub record AreCheckable (before : List StatementView) (whole : Script → Script) (x : StepState) (first : ℕ) : Type 0 where
+pub record AreCheckable (before : List StatementView) (whole : Script → Script) (x : StepState)
+    (first : ℕ) : Type 0 where
   pub rest : Script
   pub goal : Goal
   pub ready : IsCheckable before (whole rest) x goal first
@@ -57,22 +61,31 @@ KeepsFirstFacts x after = take (length x.facts) after.facts ≡ x.facts
 
 -- the line before whatever comes is certified, or is not; where it is, that holds after it, and
 -- well-formed facts stay well formed
-pub record IsChecked (before : List StatementView) (whole : Script → Script) (x after : StepState) (certified : Bool) : Type 0 where
-  pub test : (rest : Script) (goal : Goal) → certified ≡ is_certified before (line_in_state (whole rest) x goal)
-  pub next : IsTrue certified → (rest : Script) (goal : Goal) → lines_in_state before (whole rest) x goal ≡ line_in_state (whole rest) x goal ∷ lines_in_state before rest after goal
+pub record IsChecked (before : List StatementView) (whole : Script → Script) (x after : StepState)
+    (certified : Bool) : Type 0 where
+  pub test : (rest : Script) (goal : Goal)
+      → certified ≡ is_certified before (line_in_state (whole rest) x goal)
+  pub next : IsTrue certified → (rest : Script) (goal : Goal)
+      → lines_in_state before (whole rest) x goal
+      ≡ line_in_state (whole rest) x goal ∷ lines_in_state before rest after goal
   pub kept : IsTrue certified → KeepsFirstFacts x after
-  pub formed : IsTrue certified → IsTrue (list_all is_well_formed x.facts) → IsTrue (list_all is_well_formed after.facts)
+  pub formed : IsTrue certified → IsTrue (list_all is_well_formed x.facts)
+      → IsTrue (list_all is_well_formed after.facts)
 
 -- lines before a script have been checked where this held, and now that holds, and the next line
 -- has that number
-pub record AreVerified (before : List StatementView) (whole : Script → Script) (x : StepState) (first : ℕ) (after : StepState) (next : ℕ) : Type 0 where
-  pub ready : (rest : Script) (goal : Goal) → IsCheckable before (whole rest) x goal first → IsCheckable before rest after goal next
-  pub same : (rest : Script) (goal : Goal) → verdict_at before (whole rest) x goal first ≡ verdict_at before rest after goal next
+pub record AreVerified (before : List StatementView) (whole : Script → Script) (x : StepState)
+    (first : ℕ) (after : StepState) (next : ℕ) : Type 0 where
+  pub ready : (rest : Script) (goal : Goal) → IsCheckable before (whole rest) x goal first
+      → IsCheckable before rest after goal next
+  pub same : (rest : Script) (goal : Goal)
+      → verdict_at before (whole rest) x goal first ≡ verdict_at before rest after goal next
   pub kept : KeepsFirstFacts x after
 
 -- the lines are refused so, whatever comes after them
 abbrev pub LinesReject : List StatementView → (Script → Script) → StepState → ℕ → Reject → Type 0
-LinesReject before whole x first e = (rest : Script) (goal : Goal) → RejectIs (verdict_at before (whole rest) x goal first) e
+LinesReject before whole x first e =
+    (rest : Script) (goal : Goal) → RejectIs (verdict_at before (whole rest) x goal first) e
 
 -- and so is the step
 abbrev pub StepRejects : List StatementView → Step → StepState → ℕ → Reject → Type 0

@@ -1,6 +1,7 @@
 -- A derivation whose certificates cite facts by literals, with the places of these facts for the
 -- literals.
-use Rattle.std.specs.Prelude.{ℕ, List, [], ◌∷◌, map, Bool, true, false, not, ◌&&◌, ◌||◌, if◌then◌else◌, ℤ, neg_ℤ, Option, Some, None, slice_get, unwrap_or}
+use Rattle.std.specs.Prelude.{ℕ, List, [], ◌∷◌, map, Bool, true, false, not, ◌&&◌, ◌||◌}
+use Rattle.std.specs.Prelude.{if◌then◌else◌, ℤ, neg_ℤ, Option, Some, None, slice_get, unwrap_or}
 use Rattle.std.specs.List.{list_all, position_or_len}
 use Rattle.std.specs.Option.{option_map}
 use Rattle.e_literal.specs.declared.object.Mono.{Mono}
@@ -19,7 +20,8 @@ use Rattle.e_clause.specs.declared.cert.RowName.TheVariants.{Fact, Above, Below,
 use Rattle.e_clause.specs.declared.cert.Sums.{Sums}
 use Rattle.e_clause.specs.declared.cert.Sums.TheVariants.{One, Two}
 use Rattle.e_clause.specs.declared.cert.Part.{Part}
-use Rattle.e_clause.specs.declared.cert.Part.TheVariants.{Fact as FactPart, Metric, FactAt as FactPartAt}
+use Rattle.e_clause.specs.declared.cert.Part.TheVariants.{Fact as FactPart, Metric}
+use Rattle.e_clause.specs.declared.cert.Part.TheVariants.{FactAt as FactPartAt}
 use Rattle.e_clause.specs.declared.cert.TransferCert.{TransferCert}
 use Rattle.e_clause.specs.declared.cert.Cert.{Cert}
 use Rattle.e_clause.specs.declared.cert.Cert.TheVariants.{Plain, Transfer}
@@ -28,7 +30,8 @@ use Rattle.e_clause.specs.declared.cert.Against.TheVariants.{Clash, Metric as Me
 use Rattle.e_clause.specs.Instance.{Inst}
 use Rattle.e_construct.specs.Construct.{sorts_made, gives_of_construction}
 use Rattle.e_construct.specs.Superposing as superposing
-use Rattle.e_deriv.specs.Script.{Script, Cite, Hence, Make, Apply, Claim, Superposed, Qed, Contradiction, Cases}
+use Rattle.e_deriv.specs.Script.{Script, Cite, Hence, Make, Apply, Claim, Superposed, Qed}
+use Rattle.e_deriv.specs.Script.{Contradiction, Cases}
 use Rattle.e_deriv.specs.Goal.{Goal, goal_of, goal_of_statement, facts_of_statement}
 use Rattle.e_deriv.specs.Lines.{line, theorem_at}
 use Rattle.e_deriv.specs.Parts.{args_of}
@@ -47,7 +50,9 @@ have_one_form_at x y z w ms = list_all (λ m. is_degenerate m.term || agree_at x
 
 -- the rows of x - y and z - w have one form
 abbrev pub have_one_form : List Mono → List Mono → List Mono → List Mono → Bool
-have_one_form x y z w = have_one_form_at x y z w x && (have_one_form_at x y z w y && (have_one_form_at x y z w z && have_one_form_at x y z w w))
+have_one_form x y z w =
+    have_one_form_at x y z w x
+    && (have_one_form_at x y z w y && (have_one_form_at x y z w z && have_one_form_at x y z w w))
 
 -- two equations that are the same have opposite rows
 abbrev pub have_opposite_rows : Atom → Atom → Bool
@@ -56,7 +61,8 @@ have_opposite_rows _ _ = false
 
 -- the row of the literal is opposite to that of the fact that is the same
 abbrev pub has_opposite_row : List Lit → Lit → Bool
-has_opposite_row facts l = have_opposite_rows l.atom (unwrap_or (slice_get facts (place_of_same facts l)) l).atom
+has_opposite_row facts l =
+    have_opposite_rows l.atom (unwrap_or (slice_get facts (place_of_same facts l)) l).atom
 
 -- ---- sums
 
@@ -93,7 +99,8 @@ two_placed false differs above below = Two differs above below
 abbrev pub sums_with_places : List Lit → Sums → Sums
 sums_with_places facts (One sum) = One (sum_with_places facts sum)
 sums_with_places facts (Two differs above below) =
-    two_placed (turns facts differs) (name_with_place facts differs) (sum_with_places facts above) (sum_with_places facts below)
+    two_placed (turns facts differs) (name_with_place facts differs) (sum_with_places facts above)
+        (sum_with_places facts below)
 
 -- ---- certificates
 
@@ -104,7 +111,8 @@ part_with_places facts l (FactPartAt k) = FactPartAt k
 
 -- one part for each of these literals, in order
 abbrev pub parts_with_places : List Lit → List Lit → List Part → List Part
-parts_with_places facts (l ∷ ls) (p ∷ ps) = part_with_places facts l p ∷ parts_with_places facts ls ps
+parts_with_places facts (l ∷ ls) (p ∷ ps) =
+    part_with_places facts l p ∷ parts_with_places facts ls ps
 parts_with_places facts _ _ = []
 
 -- the parts of a transfer with these literals
@@ -113,7 +121,8 @@ placed_for facts l ps (Some lits) = parts_with_places facts (map negation (other
 placed_for facts l ps None = []
 
 abbrev pub transfer_with_places : List Lit → Lit → TransferCert → TransferCert
-transfer_with_places facts l t = record t { parts = placed_for facts l t.parts (Inst t.rule t.args) }
+transfer_with_places facts l t =
+    record t { parts = placed_for facts l t.parts (Inst t.rule t.args) }
 
 abbrev pub cert_with_places : List Lit → Lit → Cert → Cert
 cert_with_places facts l (Plain p) = Plain (part_with_places facts l p)
@@ -121,12 +130,14 @@ cert_with_places facts l (Transfer t) = Transfer (transfer_with_places facts l t
 
 -- one certificate for each of these literals, in order
 abbrev pub certs_with_places : List Lit → List Lit → List Cert → List Cert
-certs_with_places facts (l ∷ ls) (c ∷ cs) = cert_with_places facts l c ∷ certs_with_places facts ls cs
+certs_with_places facts (l ∷ ls) (c ∷ cs) =
+    cert_with_places facts l c ∷ certs_with_places facts ls cs
 certs_with_places facts _ _ = []
 
 abbrev pub against_with_places : List Lit → Against → Against
 against_with_places facts (Clash l) = Clash l
-against_with_places facts (MetricAgainst m) = MetricAgainst (record { sums = sums_with_places facts m.sums })
+against_with_places facts (MetricAgainst m) =
+    MetricAgainst (record { sums = sums_with_places facts m.sums })
 
 -- ---- derivations
 
@@ -137,27 +148,40 @@ needs_of before d s facts goal = needs before (line d d s facts goal)
 -- The script where certificates have the places of facts, each among the facts before its own line;
 -- what holds before each line is as in its lines.
 unfoldable pub with_places : List StatementView → Script → Scope → List Lit → Goal → Script
-with_places before (Cite by rest) s facts goal = Cite by (with_places before rest s (joined facts by.lit) goal)
-with_places before (Hence lit cert rest) s facts goal = Hence lit (option_map (cert_with_places facts lit) cert) (with_places before rest s (joined facts lit) goal)
+with_places before (Cite by rest) s facts goal =
+    Cite by (with_places before rest s (joined facts by.lit) goal)
+with_places before (Hence lit cert rest) s facts goal =
+    Hence lit (option_map (cert_with_places facts lit) cert)
+        (with_places before rest s (joined facts lit) goal)
 with_places before (Make form names certs rest) s facts goal =
-    Make form names (certs_with_places facts (needs_of before (Make form names certs rest) s facts goal) certs)
-    (with_places before rest (grown s (sorts_made form)) (joined_all facts (gives_of_construction form s)) goal)
+    Make form names
+    (certs_with_places facts (needs_of before (Make form names certs rest) s facts goal) certs)
+    (with_places before rest (grown s (sorts_made form))
+        (joined_all facts (gives_of_construction form s)) goal)
 with_places before (Apply theorem args names certs rest) s facts goal =
-    Apply theorem args names (certs_with_places facts (needs_of before (Apply theorem args names certs rest) s facts goal) certs)
+    Apply theorem args names (certs_with_places facts
+        (needs_of before (Apply theorem args names certs rest) s facts goal) certs)
     (with_places before rest (grown s (theorem_at before theorem).made)
-    (joined_all facts (gives_of_use (theorem_at before theorem) (args_of (Apply theorem args names certs rest)) s)) goal)
+    (joined_all facts (gives_of_use (theorem_at before theorem)
+        (args_of (Apply theorem args names certs rest)) s)) goal)
 with_places before (Claim shown inner rest) s facts goal =
-    Claim shown (with_places before inner s facts (goal_of shown)) (with_places before rest s (joined_all facts shown) goal)
+    Claim shown (with_places before inner s facts (goal_of shown))
+        (with_places before rest s (joined_all facts shown) goal)
 with_places before (Superposed form names shown certs inner rest) s facts goal =
-    Superposed form names shown (certs_with_places facts (superposing.needs_of_superposition form) certs)
-    (with_places before inner (grown s superposing.sorts_copied) (joined_all facts (superposing.gives_of_superposition form s)) (goal_of shown))
+    Superposed form names shown
+    (certs_with_places facts (superposing.needs_of_superposition form) certs)
+    (with_places before inner (grown s superposing.sorts_copied)
+        (joined_all facts (superposing.gives_of_superposition form s)) (goal_of shown))
     (with_places before rest s (joined_all facts shown) goal)
 with_places before (Qed objects certs) s facts goal =
     Qed objects (certs_with_places facts (needs_of before (Qed objects certs) s facts goal) certs)
-with_places before (Contradiction against) s facts goal = Contradiction (option_map (against_with_places facts) against)
+with_places before (Contradiction against) s facts goal =
+    Contradiction (option_map (against_with_places facts) against)
 with_places before (Cases lit first second) s facts goal =
-    Cases lit (with_places before first s (joined facts lit) goal) (with_places before second s (joined facts (negation lit)) goal)
+    Cases lit (with_places before first s (joined facts lit) goal)
+        (with_places before second s (joined facts (negation lit)) goal)
 
 -- the derivation of a statement, where certificates have the places of facts
 abbrev pub derivation_with_places : List StatementView → StatementView → Script → Script
-derivation_with_places before t d = with_places before d (scope_of t) (facts_of_statement t) (goal_of_statement t)
+derivation_with_places before t d =
+    with_places before d (scope_of t) (facts_of_statement t) (goal_of_statement t)

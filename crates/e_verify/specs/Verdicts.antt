@@ -10,7 +10,8 @@ use Rattle.e_deriv.specs.Written.{is_written_well}
 -- the statements have at most 1,000 objects of each sort; the derivation has at most 1,024 lines,
 -- before each of them at most 1,000 objects of each sort are in scope, and its literals are well
 -- formed
-pub record IsVerifiable (before : List StatementView) (t : StatementView) (d : Script) : Type 0 where
+pub record IsVerifiable (before : List StatementView) (t : StatementView)
+    (d : Script) : Type 0 where
   pub statements : IsTrue (list_all is_small_statement before)
   pub statement : IsTrue (is_small_statement t)
   pub short : size d ≤ 1024

@@ -1,5 +1,6 @@
 -- A theorem or a definition as the parser holds it while its lines come.
-use Rattle.std.specs.Prelude.{◌≡◌, ℕ, ◌+◌, ◌≤◌, Bool, true, false, not, ◌||◌, List, [], ◌∷◌, ◌++◌, length, map, Option, Some, None, Result, Ok, Err, if◌then◌else◌}
+use Rattle.std.specs.Prelude.{◌≡◌, ℕ, ◌+◌, ◌≤◌, Bool, true, false, not, ◌||◌, List, [], ◌∷◌, ◌++◌}
+use Rattle.std.specs.Prelude.{length, map, Option, Some, None, Result, Ok, Err, if◌then◌else◌}
 use Rattle.e_text.specs.Tokens.{tokens_of}
 use Rattle.e_text.specs.Lines.{LineView, HaveNoFault}
 use Rattle.e_deriv.specs.declared.names.Names.{Names}
@@ -36,7 +37,8 @@ use Rattle.e_book.specs.ParserViews.{entry_of_parser}
 use Rattle.e_line.specs.Items.{book_line_of, listing_form, is_show}
 use Rattle.e_names.specs.Meanings.{items_in}
 use Rattle.e_book.specs.Grammar.{Rest, is_skipped, put_at, BookFails}
-use Rattle.e_book.specs.Definitions.{BookItem, OfTheorem, OfNotion, Answer, has_notion_title, view_of}
+use Rattle.e_book.specs.Definitions.{BookItem, OfTheorem, OfNotion, Answer, has_notion_title}
+use Rattle.e_book.specs.Definitions.{view_of}
 
 -- ---- a line with items
 
@@ -55,12 +57,15 @@ head_names ns line = Ok tt
 
 -- a line that takes literals may come here
 abbrev pub is_ready : TheoremParser → Listing → Result (Unit {0}) FaultKind
-is_ready d line = right_count (allowed d.place (listing_form line [])) >>= λ right. head_names d.in_scope line
+is_ready d line =
+    right_count (allowed d.place (listing_form line [])) >>= λ right. head_names d.in_scope line
 
 -- the line with its items written out, and how many literals are of notions
-abbrev pub line_written_out : List Titled → TheoremParser → Listing → List RawItem → Result (RawLine × ℕ) FaultKind
+abbrev pub line_written_out : List Titled → TheoremParser → Listing → List RawItem
+    → Result (RawLine × ℕ) FaultKind
 line_written_out notions d line is =
-    is_ready d line >>= λ ready. items_in notions (names_there d) 0 is >>= λ p. Ok (listing_form line (map (raw_of (names_there d)) p.0), p.1)
+    is_ready d line >>= λ ready. items_in notions (names_there d) 0 is
+    >>= λ p. Ok (listing_form line (map (raw_of (names_there d)) p.0), p.1)
 
 -- ---- the first line
 
@@ -68,11 +73,15 @@ abbrev pub coming : Bool → TheoremParser → Coming
 coming defines d = record { defines = defines; parser = d; expanded = 0 }
 
 unfoldable pub begins_theorem : Known → RawLine → Result Coming FaultKind
-begins_theorem known f = if has_notion_title known.notions f then Err NameTaken else (begin known.theorems f >>= λ d. Ok (coming false d))
+begins_theorem known f =
+    if has_notion_title known.notions f then Err NameTaken else
+    (begin known.theorems f >>= λ d. Ok (coming false d))
 
 unfoldable pub begins_definition : Known → List ℕ → Result Coming FaultKind
 begins_definition known t =
-    if is_taken known t then Err NameTaken else (within (length known.notions + 1) most_notions limits.Notions >>= λ few. Ok (coming true (begun t)))
+    if is_taken known t then Err NameTaken else
+    (within (length known.notions + 1) most_notions limits.Notions
+        >>= λ few. Ok (coming true (begun t)))
 
 unfoldable pub begins : Known → BookLine → Result Coming FaultKind
 begins known (Plain f) = begins_theorem known f
@@ -86,9 +95,12 @@ is_showing Showing = true
 is_showing p = false
 
 unfoldable pub defines_on : TheoremParser → RawLine → Result TheoremParser FaultKind
-defines_on d (rawlines.Declare sort new) = right_count (allowed d.place (rawlines.Declare sort new)) >>= λ right. declares d sort new
-defines_on d (rawlines.Show raws) = right_count (allowed d.place (rawlines.Show raws)) >>= λ right. shows d raws
-defines_on d rawlines.End = right_count (is_showing d.place) >>= λ right. Ok (record d { place = Done })
+defines_on d (rawlines.Declare sort new) =
+    right_count (allowed d.place (rawlines.Declare sort new)) >>= λ right. declares d sort new
+defines_on d (rawlines.Show raws) =
+    right_count (allowed d.place (rawlines.Show raws)) >>= λ right. shows d raws
+defines_on d rawlines.End =
+    right_count (is_showing d.place) >>= λ right. Ok (record d { place = Done })
 defines_on d f = Err Malformed
 
 abbrev pub with_parser : Coming → TheoremParser → Coming
@@ -96,7 +108,8 @@ with_parser c d = record c { parser = d }
 
 unfoldable pub goes_on : Known → Coming → RawLine → Result Coming FaultKind
 goes_on known c f =
-    if c.defines then (defines_on c.parser f >>= λ d. Ok (with_parser c d)) else (steps.step known.theorems c.parser f >>= λ d. Ok (with_parser c d))
+    if c.defines then (defines_on c.parser f >>= λ d. Ok (with_parser c d)) else
+    (steps.step known.theorems c.parser f >>= λ d. Ok (with_parser c d))
 
 -- it is taken as it is written out, and then the limit of what items stand for
 unfoldable pub lists : Known → Coming → Listing → List RawItem → Result Coming FaultKind
@@ -131,7 +144,8 @@ notion_of_parser d = titled d.title (record { declared = d.declared; means = d.s
 
 -- what the lines make
 abbrev pub item_of_coming : Coming → BookItem
-item_of_coming c = if c.defines then OfNotion (notion_of_parser c.parser) else OfTheorem (entry_of_parser c.parser)
+item_of_coming c =
+    if c.defines then OfNotion (notion_of_parser c.parser) else OfTheorem (entry_of_parser c.parser)
 
 abbrev pub at_end : ℕ → Option Coming → Answer
 at_end last None = Ok None
@@ -143,36 +157,53 @@ item_from known last c [] = at_end last c
 item_from known last c (Err f ∷ lines) = Err (line_fault f)
 item_from known last c (Ok line ∷ lines) =
     if is_skipped (tokens_of line.bytes) then item_from known last c lines else
-    (put_at line.number (line_step known c (tokens_of line.bytes)) >>= λ d. if is_done d then Ok (Some (item_of_coming d, lines)) else item_from known last (Some d) lines)
+    (put_at line.number (line_step known c (tokens_of line.bytes)) >>= λ d. if is_done d
+        then Ok (Some (item_of_coming d, lines)) else item_from known last (Some d) lines)
 
 -- ---- reading on from what has come, whatever lines come
 
 -- what has come is what some lines made of it
 pub record IsBegun (known : Known) (c : Option Coming) : Type 0 where
   pub front : Rest
-  pub reads : (last : ℕ) (more : Rest) → item_from known last None (front ++ more) ≡ item_from known last c more
+  pub reads : (last : ℕ) (more : Rest)
+      → item_from known last None (front ++ more) ≡ item_from known last c more
 
 -- what the words of a line make of it
-abbrev pub TakesWords : Known → Option Coming → ℕ → List (List ℕ) → Result (Option Item) BookFault → Option Coming → Type 0
-TakesWords known old number words (Ok None) new = (c : Coming) × (line_step known old words ≡ Ok c) × (is_done c ≡ false) × (new ≡ Some c)
-TakesWords known old number words (Ok (Some i)) new = (c : Coming) × (line_step known old words ≡ Ok c) × (is_done c ≡ true) × (view_of i ≡ item_of_coming c) × (new ≡ None)
-TakesWords known old number words (Err f) new = BookFails f (put_at number (line_step known old words))
+abbrev pub TakesWords : Known → Option Coming → ℕ → List (List ℕ) → Result (Option Item) BookFault
+    → Option Coming → Type 0
+TakesWords known old number words (Ok None) new =
+    (c : Coming) × (line_step known old words ≡ Ok c) × (is_done c ≡ false) × (new ≡ Some c)
+TakesWords known old number words (Ok (Some i)) new =
+    (c : Coming) × (line_step known old words ≡ Ok c) × (is_done c ≡ true)
+    × (view_of i ≡ item_of_coming c) × (new ≡ None)
+TakesWords known old number words (Err f) new =
+    BookFails f (put_at number (line_step known old words))
 
 -- what a line makes of it: to read on from here through the line is to read on from there; or the
 -- line ends the theorem or the definition; or it is the first with a fault
-abbrev pub TakesLine : Known → Option Coming → LineView → Result (Option Item) BookFault → Option Coming → Type 0
-TakesLine known old l (Ok None) new = (last : ℕ) (more : Rest) → item_from known last old (Ok l ∷ more) ≡ item_from known last new more
-TakesLine known old l (Ok (Some i)) new = (new ≡ None) × ((last : ℕ) (more : Rest) → item_from known last old (Ok l ∷ more) ≡ Ok (Some (view_of i, more)))
-TakesLine known old l (Err f) new = (last : ℕ) (more : Rest) → BookFails f (item_from known last old (Ok l ∷ more))
+abbrev pub TakesLine : Known → Option Coming → LineView → Result (Option Item) BookFault
+    → Option Coming → Type 0
+TakesLine known old l (Ok None) new =
+    (last : ℕ) (more : Rest)
+    → item_from known last old (Ok l ∷ more) ≡ item_from known last new more
+TakesLine known old l (Ok (Some i)) new =
+    (new ≡ None) × ((last : ℕ)
+        (more : Rest) → item_from known last old (Ok l ∷ more) ≡ Ok (Some (view_of i, more)))
+TakesLine known old l (Err f) new =
+    (last : ℕ) (more : Rest) → BookFails f (item_from known last old (Ok l ∷ more))
 
 -- what the lines that come make of it: all are taken, and none has a fault; or a theorem or a
 -- definition ends, and these are left
-abbrev pub ReadsOn : Known → Option Coming → Rest → Result (Option Item) BookFault → Option Coming → Rest → Type 0
+abbrev pub ReadsOn : Known → Option Coming → Rest → Result (Option Item) BookFault
+    → Option Coming → Rest → Type 0
 ReadsOn known old lines (Ok None) new left =
-    (left ≡ []) × HaveNoFault lines × ((last : ℕ) (more : Rest) → item_from known last old (lines ++ more) ≡ item_from known last new more)
+    (left ≡ []) × HaveNoFault lines × ((last : ℕ)
+        (more : Rest) → item_from known last old (lines ++ more) ≡ item_from known last new more)
 ReadsOn known old lines (Ok (Some i)) new left =
-    (new ≡ None) × (HaveNoFault left → HaveNoFault lines) × ((last : ℕ) (more : Rest) → item_from known last old (lines ++ more) ≡ Ok (Some (view_of i, left ++ more)))
-ReadsOn known old lines (Err f) new left = (last : ℕ) (more : Rest) → BookFails f (item_from known last old (lines ++ more))
+    (new ≡ None) × (HaveNoFault left → HaveNoFault lines) × ((last : ℕ) (more : Rest)
+        → item_from known last old (lines ++ more) ≡ Ok (Some (view_of i, left ++ more)))
+ReadsOn known old lines (Err f) new left =
+    (last : ℕ) (more : Rest) → BookFails f (item_from known last old (lines ++ more))
 
 -- no lines come any more: that is a fault inside a theorem or a definition
 abbrev pub end_of : ℕ → Option Coming → Result (Unit {0}) BookFault

@@ -6,7 +6,9 @@ use Rattle.e_literal.specs.declared.literal.Atom.{Atom}
 use Rattle.e_literal.specs.declared.literal.Atom.TheVariants as atom
 use Rattle.e_literal.specs.Rename.{image_in, paired}
 use Rattle.e_construct.specs.declared.pattern.Relation.{Relation}
-use Rattle.e_construct.specs.declared.pattern.Relation.TheVariants.{On, OnC, Inside, Center, Between, Same, MeetLL, MeetLC, MeetCC, EqP}
+use Rattle.e_construct.specs.declared.pattern.Relation.TheVariants.{On, OnC, Inside, Center}
+use Rattle.e_construct.specs.declared.pattern.Relation.TheVariants.{Between, Same, MeetLL, MeetLC}
+use Rattle.e_construct.specs.declared.pattern.Relation.TheVariants.{MeetCC, EqP}
 use Rattle.e_construct.specs.declared.pattern.Pattern.{Pattern}
 use Rattle.e_construct.specs.declared.pattern.Pattern.TheVariants.{Is, Not}
 use Rattle.e_construct.specs.declared.pattern.Avoids.{Avoids as CodeAvoids}
@@ -38,8 +40,15 @@ avoids_of (avoids.AnyApartFrom o) = AnyApartFrom o
 
 abbrev pub shape_row_view : Row → ShapeRow
 shape_row_view r =
-    record { args = r.args.now; needs = map lit_of_shape_pattern r.needs.now; made = r.made.now; gives = map lit_of_shape_pattern r.gives.now; avoids = avoids_of r.avoids }
+    record {
+      args = r.args.now;
+      needs = map lit_of_shape_pattern r.needs.now;
+      made = r.made.now;
+      gives = map lit_of_shape_pattern r.gives.now;
+      avoids = avoids_of r.avoids;
+    }
 
 -- the objects for the variables: the arguments, and the new objects
 abbrev pub image_of : Naming → Obj → Option Obj
-image_of n = image_in (paired n.letters.now n.objects.now ++ paired n.new_letters.now n.new_objects.now)
+image_of n =
+    image_in (paired n.letters.now n.objects.now ++ paired n.new_letters.now n.new_objects.now)

@@ -1,9 +1,12 @@
 -- The keys by which diagram literals are looked up, and the places of metric ones.
-use Rattle.std.specs.Prelude.{◌≡◌, ℕ, ◌+◌, List, [], ◌∷◌, Bool, false, Option, Some, None, slice_get}
+use Rattle.std.specs.Prelude.{◌≡◌, ℕ, ◌+◌, List, [], ◌∷◌, Bool, false, Option, Some, None}
+use Rattle.std.specs.Prelude.{slice_get}
 use Rattle.std.specs.Option.{option_map, option_map_or}
 use Rattle.e_literal.specs.declared.literal.Lit.{Lit}
 use Rattle.e_literal.specs.declared.literal.Atom.{Atom}
-use Rattle.e_literal.specs.declared.literal.Atom.TheVariants.{On, OnC, Inside, Center, Between, Same, MeetLL, MeetLC, MeetCC, EqP, EqL, EqC, MagEq, MagLt}
+use Rattle.e_literal.specs.declared.literal.Atom.TheVariants.{On, OnC, Inside, Center, Between}
+use Rattle.e_literal.specs.declared.literal.Atom.TheVariants.{Same, MeetLL, MeetLC, MeetCC, EqP}
+use Rattle.e_literal.specs.declared.literal.Atom.TheVariants.{EqL, EqC, MagEq, MagLt}
 use Rattle.e_facts.specs.declared.key.Key.{Key}
 use Rattle.e_facts.specs.declared.key.Relation.{Relation}
 use Rattle.e_facts.specs.declared.key.Relation.TheVariants as relation
@@ -30,7 +33,9 @@ parts_of_atom (MagLt x y) = None
 -- the key of a diagram literal, and none of a metric one
 abbrev pub key_of_lit : Lit → Option Key
 key_of_lit l =
-    option_map (λ p. record { negated = l.neg; relation = p.0; first = p.1; second = p.2; third = p.3 }) (parts_of_atom l.atom)
+    option_map
+        (λ p. record { negated = l.neg; relation = p.0; first = p.1; second = p.2; third = p.3 })
+        (parts_of_atom l.atom)
 
 abbrev pub with_key : Option Key → List Key → List Key
 with_key None ks = ks

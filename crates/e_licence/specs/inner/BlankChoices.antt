@@ -1,5 +1,6 @@
 -- Choices for the blanks of an application, number by number, and what is licensed at each.
-use Rattle.std.specs.Prelude.{◌-◌, ℕ, List, [], ◌∷◌, Bool, Option, Some, None, ◌&&◌, ◌||◌, ◌==◌, not, map, length, take, IsTrue, Contains}
+use Rattle.std.specs.Prelude.{◌-◌, ℕ, List, [], ◌∷◌, Bool, Option, Some, None, ◌&&◌, ◌||◌, ◌==◌}
+use Rattle.std.specs.Prelude.{not, map, length, take, IsTrue, Contains}
 use Rattle.e_literal.specs.declared.object.Obj.{Obj}
 use Rattle.e_literal.specs.declared.object.Scope.{Scope}
 use Rattle.e_literal.specs.declared.literal.Lit.{Lit}
@@ -31,13 +32,15 @@ numbers_left None (v ∷ c) = c
 
 -- the arguments for all the objects
 abbrev pub filled_arguments : Scope → List Obj → List (Option Obj) → List ℕ → List Obj
-filled_arguments missing (o ∷ os) (e ∷ entries) c = argument_for missing o e c ∷ filled_arguments missing os entries (numbers_left e c)
+filled_arguments missing (o ∷ os) (e ∷ entries) c =
+    argument_for missing o e c ∷ filled_arguments missing os entries (numbers_left e c)
 filled_arguments missing _ _ c = []
 
 -- the numbers in scope for a blank
 abbrev pub spans_of : Scope → List Obj → List (Option Obj) → List Span
 spans_of s (o ∷ os) (Some p ∷ entries) = spans_of s os entries
-spans_of s (o ∷ os) (None ∷ entries) = record { from = 0; to = count_of s o.sort } ∷ spans_of s os entries
+spans_of s (o ∷ os) (None ∷ entries) =
+    record { from = 0; to = count_of s o.sort } ∷ spans_of s os entries
 spans_of s _ _ = []
 
 -- the images of the objects
@@ -48,22 +51,28 @@ images_of_choice s os entries c = paired os (filled_arguments s os entries c)
 
 -- all objects of the literal are in scope now, and not all were at the part before, if there is one
 abbrev pub is_completed : Scope → List Entry → List Entry → Bool → Lit → Bool
-is_completed s now before first l = is_well_formed_in s (renamed (image_in now) l) && (first || not (is_well_formed_in s (renamed (image_in before) l)))
+is_completed s now before first l =
+    is_well_formed_in s (renamed (image_in now) l)
+    && (first || not (is_well_formed_in s (renamed (image_in before) l)))
 
 -- each literal that is completed is allowed
 abbrev pub AllCompleted : Basis → List Entry → List Entry → Bool → List Lit → Type 0
 AllCompleted b now before first [] = Unit {0}
 AllCompleted b now before first (l ∷ ls) =
-    (IsTrue (is_completed b.scope now before first l) → Allowed b.scope b.facts (renamed (image_in now) l)) × AllCompleted b now before first ls
+    (IsTrue (is_completed b.scope now before first l)
+        → Allowed b.scope b.facts (renamed (image_in now) l)) × AllCompleted b now before first ls
 
 -- each literal that the last number completes is allowed
 abbrev pub IsKeptChoice : Basis → List Obj → List (Option Obj) → List Lit → List ℕ → Type 0
 IsKeptChoice b os entries given part =
-    AllCompleted b (images_of_choice b.scope os entries part) (images_of_choice b.scope os entries (take (length part - 1) part)) (length part == 0) given
+    AllCompleted b (images_of_choice b.scope os entries part)
+        (images_of_choice b.scope os entries (take (length part - 1) part)) (length part == 0) given
 
 -- each literal is allowed
 abbrev pub IsWanted : Basis → List Obj → List (Option Obj) → List Lit → List ℕ → Type 0
-IsWanted b os entries given c = AllAllowed b.scope b.facts (map (renamed (image_in (images_of_choice b.scope os entries c))) given)
+IsWanted b os entries given c =
+    AllAllowed b.scope b.facts
+        (map (renamed (image_in (images_of_choice b.scope os entries c))) given)
 
 -- all objects of the literal are in scope, and it is not allowed
 pub record IsRefusedAt (b : Basis) (now : List Entry) (l : Lit) : Type 0 where
@@ -88,7 +97,9 @@ pub record SomeIsWideAt (b : Basis) (now : List Entry) (ls : List Lit) (w : ℕ)
 
 -- what is answered on one literal
 abbrev pub OneIs : Basis → List Entry → List Entry → Bool → Lit → Verdict (Unit {0}) → Type 0
-OneIs b now before first l (verdict.Yes p) = IsTrue (is_completed b.scope now before first l) → Allowed b.scope b.facts (renamed (image_in now) l)
+OneIs b now before first l (verdict.Yes p) =
+    IsTrue (is_completed b.scope now before first l)
+    → Allowed b.scope b.facts (renamed (image_in now) l)
 OneIs b now before first l verdict.No = IsRefusedAt b now l
 OneIs b now before first l (verdict.TooWide w) = IsWideUnder b now l w
 

@@ -1,5 +1,6 @@
 -- The sums of a certificate, from multipliers of the rows of a system.
-use Rattle.std.specs.Prelude.{◌≡◌, ℕ, ◌≤◌, ◌^◌, List, [], ◌∷◌, ◌++◌, if◌then◌else◌, ℤ, pos, neg_ℤ, int_lt, unsigned_abs, length, get_or, set, IsTrue}
+use Rattle.std.specs.Prelude.{◌≡◌, ℕ, ◌≤◌, ◌^◌, List, [], ◌∷◌, ◌++◌, if◌then◌else◌, ℤ, pos, neg_ℤ}
+use Rattle.std.specs.Prelude.{int_lt, unsigned_abs, length, get_or, set, IsTrue}
 use Rattle.std.specs.Ordering.{int_eq}
 use Rattle.e_literal.specs.declared.object.Term.{Term}
 use Rattle.e_literal.specs.Same.{canonical}
@@ -24,7 +25,8 @@ pub record IsWeighable (rows : List GivenRow) (weights : List ℤ) : Type 0 wher
 
 -- the rows whose multiplier is not 0
 abbrev pub named_multipliers : List RowName → List ℤ → List (ℤ × RowName)
-named_multipliers (n ∷ ns) (m ∷ ms) = if int_eq m (pos 0) then named_multipliers ns ms else (m, n) ∷ named_multipliers ns ms
+named_multipliers (n ∷ ns) (m ∷ ms) =
+    if int_eq m (pos 0) then named_multipliers ns ms else (m, n) ∷ named_multipliers ns ms
 named_multipliers _ _ = []
 
 -- the rows whose weight is not 0
@@ -34,18 +36,24 @@ used_rows _ _ = []
 
 -- and these weights
 abbrev pub used_weights : List GivenRow → List ℤ → List ℤ
-used_weights (r ∷ rs) (w ∷ ws) = if int_eq w (pos 0) then used_weights rs ws else w ∷ used_weights rs ws
+used_weights (r ∷ rs) (w ∷ ws) =
+    if int_eq w (pos 0) then used_weights rs ws else w ∷ used_weights rs ws
 used_weights _ _ = []
 
 -- where less than nothing is left of a term, as many times the row that says that it is at least 0
 abbrev pub leasts : (Term → ℤ) → List Term → List (ℤ × RowName)
 leasts left [] = []
-leasts left (t ∷ ts) = if int_lt (left (canonical t)) (pos 0) then (neg_ℤ (left (canonical t)), Least t) ∷ leasts left ts else leasts left ts
+leasts left (t ∷ ts) =
+    if int_lt (left (canonical t)) (pos 0)
+        then (neg_ℤ (left (canonical t)), Least t) ∷ leasts left ts
+        else leasts left ts
 
 -- the rows with their multipliers, and what brings each term to 0, where the terms are weighed by
 -- these weights
-abbrev pub certificate_sum : List RowName → List GivenRow → List ℤ → List ℤ → List Term → List (ℤ × RowName)
-certificate_sum names rows multipliers weights terms = named_multipliers names multipliers ++ leasts (total (weighed rows weights)) terms
+abbrev pub certificate_sum : List RowName → List GivenRow → List ℤ → List ℤ → List Term
+    → List (ℤ × RowName)
+certificate_sum names rows multipliers weights terms =
+    named_multipliers names multipliers ++ leasts (total (weighed rows weights)) terms
 
 -- the number at the place negated
 abbrev pub negated_place : List ℤ → ℕ → List ℤ
@@ -54,6 +62,9 @@ negated_place ms k = set ms k (neg_ℤ (get_or ms k (pos 0)))
 -- one sum; or two, in which the row that differs is named `above` and `below`, and counts the other
 -- way in the second
 abbrev pub certificate_sums : List RowName → List GivenRow → List Term → Absurdity → Sums
-certificate_sums names rows terms (One multipliers) = OneSum (certificate_sum names rows multipliers.items multipliers.items terms)
+certificate_sums names rows terms (One multipliers) =
+    OneSum (certificate_sum names rows multipliers.items multipliers.items terms)
 certificate_sums names rows terms (Two row above below) =
-    TwoSums (get_or names row Goal) (certificate_sum (set names row Above) rows above.items above.items terms) (certificate_sum (set names row Below) rows below.items (negated_place below.items row) terms)
+    TwoSums (get_or names row Goal)
+        (certificate_sum (set names row Above) rows above.items above.items terms) (certificate_sum
+        (set names row Below) rows below.items (negated_place below.items row) terms)

@@ -17,11 +17,13 @@ occurs_in form t = list_any (λ q. term_eq q.1 t) form
 
 -- a term that is 0 in itself, that has its summand already, or that cancels
 abbrev pub is_passed : List Mono → List Mono → Summands → Term → Bool
-is_passed x y form t = is_degenerate t || (occurs_in form t || int_eq (coefficient_in_difference x y t) (pos 0))
+is_passed x y form t =
+    is_degenerate t || (occurs_in form t || int_eq (coefficient_in_difference x y t) (pos 0))
 
 -- the form with the term's summand, unless the term is passed
 abbrev pub with_summand : List Mono → List Mono → Summands → Term → Summands
-with_summand x y form t = if is_passed x y form t then form else form ++ (coefficient_in_difference x y t, t) ∷ []
+with_summand x y form t =
+    if is_passed x y form t then form else form ++ (coefficient_in_difference x y t, t) ∷ []
 
 -- the form with the summands of the monomials' terms
 abbrev pub with_summands : List Mono → List Mono → Summands → List Mono → Summands

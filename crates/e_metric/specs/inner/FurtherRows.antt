@@ -1,5 +1,6 @@
 -- What a goal, or further facts, bring to the system of the facts of their kind.
-use Rattle.std.specs.Prelude.{ℕ, List, [], ◌∷◌, ◌++◌, map, flat_map, take, drop, if◌then◌else◌, Some, None}
+use Rattle.std.specs.Prelude.{ℕ, List, [], ◌∷◌, ◌++◌, map, flat_map, take, drop, if◌then◌else◌}
+use Rattle.std.specs.Prelude.{Some, None}
 use Rattle.e_literal.specs.declared.object.Kind.{Kind}
 use Rattle.e_literal.specs.declared.object.Term.{Term}
 use Rattle.e_literal.specs.declared.object.Term.TheVariants.{Seg}
@@ -20,11 +21,15 @@ terms_added which terms lits = first_terms terms (terms_of_lits (of_kind which l
 
 -- the row of its negation, and those of its fresh terms
 abbrev pub rows_added_by_goal : Kind → List Lit → List Term → Lit → List NamedRow
-rows_added_by_goal which facts fresh goal = rows_named (λ l. Goal) (of_kind which (against_goal (Some goal))) ++ flat_map (rows_of_term facts) fresh
+rows_added_by_goal which facts fresh goal =
+    rows_named (λ l. Goal) (of_kind which (against_goal (Some goal)))
+    ++ flat_map (rows_of_term facts) fresh
 
 -- the rows that occur in the system of the facts and the goal, and not in that of the facts
 abbrev pub further : Kind → List Lit → Lit → List NamedRow
-further which facts goal = rows_added_by_goal which facts (terms_added which (distinct_terms which facts None) (goal ∷ [])) goal
+further which facts goal =
+    rows_added_by_goal which facts
+        (terms_added which (distinct_terms which facts None) (goal ∷ [])) goal
 
 -- a value that a term may have of which no fact speaks
 abbrev pub value_of_fresh : List Lit → Term → ℕ
@@ -33,14 +38,18 @@ value_of_fresh facts _ = 0
 
 -- the values, and those of more terms
 abbrev pub values_extended : List Lit → List (Term × ℕ) → List Term → List (Term × ℕ)
-values_extended facts values fresh = values ++ map (λ t. (canonical t, value_of_fresh facts t)) fresh
+values_extended facts values fresh =
+    values ++ map (λ t. (canonical t, value_of_fresh facts t)) fresh
 
 -- ---- facts from a place on
 
 -- the rows of further facts, and those of their fresh terms by all facts
 abbrev pub rows_added_by_facts : Kind → List Lit → List Lit → List Term → List NamedRow
-rows_added_by_facts which facts more fresh = rows_named Fact (of_kind which more) ++ flat_map (rows_of_term facts) fresh
+rows_added_by_facts which facts more fresh =
+    rows_named Fact (of_kind which more) ++ flat_map (rows_of_term facts) fresh
 
 -- the rows that the facts from a place on bring to the system of those before them
 abbrev pub joining : Kind → List Lit → ℕ → List NamedRow
-joining which facts from = rows_added_by_facts which facts (drop from facts) (terms_added which (distinct_terms which (take from facts) None) (drop from facts))
+joining which facts from =
+    rows_added_by_facts which facts (drop from facts)
+        (terms_added which (distinct_terms which (take from facts) None) (drop from facts))

@@ -9,6 +9,8 @@ use Rattle.e_line.specs.Reading.{Fails}
 use Rattle.e_names.specs.Canonical.{raw_of}
 
 -- the literals that were read are put last, with names, and this many are of notions
-abbrev pub Writes : Names → Result ℕ LineError → (old new : List RawLit) → Result (List Lit × ℕ) FaultKind → Type 0
-Writes ns (Ok n) old new read = (ls : List Lit) × (read ≡ Ok (ls, n)) × (new ≡ old ++ map (raw_of ns) ls)
+abbrev pub Writes : Names → Result ℕ LineError → (old new : List RawLit)
+    → Result (List Lit × ℕ) FaultKind → Type 0
+Writes ns (Ok n) old new read =
+    (ls : List Lit) × (read ≡ Ok (ls, n)) × (new ≡ old ++ map (raw_of ns) ls)
 Writes ns (Err e) old new read = Fails e read

@@ -19,7 +19,8 @@ use Rattle.e_prove.specs.declared.application.Use.{Use}
 -- facts with those that it gives, and their terms are few
 pub record LitsFitAt (t : StatementView) (args : List Obj) (x : Basis) : Type 0 where
   pub needs : IsTrue (are_well_formed_in x.scope (needs_of_use t args x.scope))
-  pub after : IsTrue (are_limited_facts (grown x.scope t.made) (joined_all x.facts (gives_of_use t args x.scope)))
+  pub after : IsTrue
+      (are_limited_facts (grown x.scope t.made) (joined_all x.facts (gives_of_use t args x.scope)))
 
 -- the arguments fit the statement, whatever their blanks are filled with, and at each choice its
 -- literals fit; there are numbers for all objects
@@ -31,7 +32,8 @@ pub record CanApply (t : StatementView) (pattern : List (Option Obj)) (x : Basis
 
 -- the arguments are the least good choice, each given literal has its certificate there, which
 -- names literals that are well formed, and these are the shown ones
-pub record IsUse (t : StatementView) (pattern : List (Option Obj)) (x : Basis) (u : Use) : Type 0 where
+pub record IsUse (t : StatementView) (pattern : List (Option Obj)) (x : Basis)
+    (u : Use) : Type 0 where
   pub least : IsLeastChoice t x.scope x.facts pattern u.args
   pub certified : IsTrue (certify_all x.scope x.facts (needs_of_use t u.args x.scope) u.certs.items)
   pub written : IsTrue (list_all (is_cert_of version.One) u.certs.items)

@@ -34,37 +34,54 @@ has_form before y = form_fits before y y.here
 -- where the step has its form it is licensed, with its blanks filled as in the derived one, and the
 -- derived one is certified; without certificates the derived one is the step with its blanks
 -- filled; its certificates name literals that are well formed; this holds after
-pub record IsLicensedStep (before : List StatementView) (step : Step) (x : StepState) (derived : Step) (after : StepState) : Type 0 where
+pub record IsLicensedStep (before : List StatementView) (step : Step) (x : StepState)
+    (derived : Step) (after : StepState) : Type 0 where
   pub licensed : (rest more : Script) (goal : Goal) →
-      IsTrue (has_form before (line_from_basis (step_script step rest) (step_script derived more) x.context goal)) →
-      Licensed before (line_from_basis (step_script step rest) (step_script derived more) x.context goal)
+      IsTrue (has_form before
+          (line_from_basis (step_script step rest) (step_script derived more) x.context goal)) →
+      Licensed before
+          (line_from_basis (step_script step rest) (step_script derived more) x.context goal)
   pub certified : (rest more : Script) (goal : Goal) →
-      IsTrue (has_form before (line_from_basis (step_script step rest) (step_script derived more) x.context goal)) →
-      IsTrue (is_certified before (line_from_basis (step_script derived more) (step_script derived more) x.context goal))
+      IsTrue (has_form before
+          (line_from_basis (step_script step rest) (step_script derived more) x.context goal)) →
+      IsTrue (is_certified before
+          (line_from_basis (step_script derived more) (step_script derived more) x.context goal))
   pub erased : (rest more : Script) → erased more ≡ filled_by (erased rest) more →
-      erased (step_script derived more) ≡ filled_by (erased (step_script step rest)) (step_script derived more)
-  pub written : (more : Script) → IsTrue (has_certs_of version.One more) → IsTrue (has_certs_of version.One (step_script derived more))
+      erased (step_script derived more)
+      ≡ filled_by (erased (step_script step rest)) (step_script derived more)
+  pub written : (more : Script) → IsTrue (has_certs_of version.One more)
+      → IsTrue (has_certs_of version.One (step_script derived more))
   pub next : (rest more : Script) (goal : Goal) →
       lines_at before (step_script step rest) (step_script derived more) x.context goal
-      ≡ line_from_basis (step_script step rest) (step_script derived more) x.context goal ∷ lines_at before rest more after.context goal
+      ≡ line_from_basis (step_script step rest) (step_script derived more) x.context goal
+          ∷ lines_at before rest more after.context goal
   pub derived_next : (more : Script) (goal : Goal) →
       lines_at before (step_script derived more) (step_script derived more) x.context goal
-      ≡ line_from_basis (step_script derived more) (step_script derived more) x.context goal ∷ lines_at before more more after.context goal
-  pub named : (rest : Script) → names_lines before x.names (step_script step rest) ≡ x.names ∷ names_lines before after.names rest
+      ≡ line_from_basis (step_script derived more) (step_script derived more) x.context goal
+          ∷ lines_at before more more after.context goal
+  pub named : (rest : Script) → names_lines before x.names (step_script step rest)
+      ≡ x.names ∷ names_lines before after.names rest
   pub kept : after.context.held ≡ x.context.held
 
 -- where this holds licensing stops so at the step, however its blanks are filled
 abbrev pub IsStopOfStep : List StatementView → Step → StepState → StepStop → Type 0
-IsStopOfStep before step x h = (rest filled : Script) (goal : Goal) → StepStopsAt before (line_from_basis (step_script step rest) filled x.context goal) h
+IsStopOfStep before step x h =
+    (rest filled : Script) (goal : Goal)
+    → StepStopsAt before (line_from_basis (step_script step rest) filled x.context goal) h
 
 -- where this holds the close is licensed, and the derived one certified, by certificates that name
 -- literals that are well formed; both are one without certificates
-pub record IsLicensedClose (before : List StatementView) (close : Close) (x : Basis) (goal : Goal) (derived : Close) : Type 0 where
-  pub licensed : AllLicensed before (lines_at before (close_script close) (close_script derived) x goal)
-  pub certified : IsTrue (list_all (is_certified before) (lines_at before (close_script derived) (close_script derived) x goal))
-  pub erased : erased (close_script derived) ≡ filled_by (erased (close_script close)) (close_script derived)
+pub record IsLicensedClose (before : List StatementView) (close : Close) (x : Basis) (goal : Goal)
+    (derived : Close) : Type 0 where
+  pub licensed : AllLicensed before
+      (lines_at before (close_script close) (close_script derived) x goal)
+  pub certified : IsTrue (list_all (is_certified before)
+      (lines_at before (close_script derived) (close_script derived) x goal))
+  pub erased : erased (close_script derived)
+      ≡ filled_by (erased (close_script close)) (close_script derived)
   pub written : IsTrue (has_certs_of version.One (close_script derived))
 
 -- where this holds licensing stops so at the close
 abbrev pub IsStopOfClose : List StatementView → Close → Basis → Goal → StepStop → Type 0
-IsStopOfClose before close x goal h = (filled : Script) → StepStopsAt before (line_from_basis (close_script close) filled x goal) h
+IsStopOfClose before close x goal h =
+    (filled : Script) → StepStopsAt before (line_from_basis (close_script close) filled x goal) h

@@ -29,14 +29,17 @@ use Rattle.e_prove.specs.inner.LicensedSteps.{lines_at, has_form}
 
 -- each step of the script has its form in its place, and its literals fit, however blanks are
 -- filled; there are numbers for all objects
-pub record IsReadyFor (before : List StatementView) (script : Script) (x : StepState) (goal : Goal) : Type 0 where
+pub record IsReadyFor (before : List StatementView) (script : Script) (x : StepState)
+    (goal : Goal) : Type 0 where
   pub forms : IsTrue (list_all (has_form before) (lines_at before script script x.context goal))
   pub lits : (filled : Script) → LitsFit before (lines_at before script filled x.context goal)
-  pub scopes : IsTrue (list_all (λ y. is_small y.scope) (lines_at before script script x.context goal))
+  pub scopes :
+      IsTrue (list_all (λ y. is_small y.scope) (lines_at before script script x.context goal))
   pub statements : IsTrue (list_all is_small_statement before)
 
 -- before something the steps are ready, and there are numbers for the steps from this one on
-pub record AreReadySteps (before : List StatementView) (whole : Script → Script) (x : StepState) (first : ℕ) : Type 0 where
+pub record AreReadySteps (before : List StatementView) (whole : Script → Script) (x : StepState)
+    (first : ℕ) : Type 0 where
   pub rest : Script
   pub goal : Goal
   pub ready : IsReadyFor before (whole rest) x goal
@@ -49,9 +52,11 @@ IsReadyStep before step x first = AreReadySteps before (step_script step) x firs
 -- the script is licensed, with its blanks filled as in the derived one, and the derived one is
 -- certified; without certificates that is the script with its blanks filled; its certificates name
 -- literals that are well formed
-pub record IsDerivedFrom (before : List StatementView) (script : Script) (x : StepState) (goal : Goal) (derived : Script) : Type 0 where
+pub record IsDerivedFrom (before : List StatementView) (script : Script) (x : StepState)
+    (goal : Goal) (derived : Script) : Type 0 where
   pub licensed : AllLicensed before (lines_at before script derived x.context goal)
-  pub certified : IsTrue (list_all (is_certified before) (lines_at before derived derived x.context goal))
+  pub certified :
+      IsTrue (list_all (is_certified before) (lines_at before derived derived x.context goal))
   pub erased : erased derived ≡ filled_by (erased script) derived
   pub written : IsTrue (has_certs_of version.One derived)
 
@@ -73,7 +78,8 @@ ArrivesAt before y (Stands scope facts) = (y.scope ≡ scope) × (y.facts ≡ fa
 
 -- it is found at one of the steps, before which all are licensed; the first step has this number
 -- and this one that, and these are the names in scope before it
-pub record IsReachedIn (before : List StatementView) (xs : List Line) (ns : List Names) (first : ℕ) (a : Arrival) (n : ℕ) (names : Names) : Type 0 where
+pub record IsReachedIn (before : List StatementView) (xs : List Line) (ns : List Names) (first : ℕ)
+    (a : Arrival) (n : ℕ) (names : Names) : Type 0 where
   pub place : ℕ
   pub number : n ≡ first + place
   pub line : Line
@@ -83,35 +89,49 @@ pub record IsReachedIn (before : List StatementView) (xs : List Line) (ns : List
   pub named : slice_get ns place ≡ Some names
 
 abbrev pub StopIn : List StatementView → List Line → List Names → ℕ → Stop → Type 0
-StopIn before xs ns first (stop.Unlicensed n wanted values names) = IsReachedIn before xs ns first (Halts (Lacks wanted values)) n names
-StopIn before xs ns first (stop.TooWide n wanted width names) = IsReachedIn before xs ns first (Halts (TooWide wanted width)) n names
+StopIn before xs ns first (stop.Unlicensed n wanted values names) =
+    IsReachedIn before xs ns first (Halts (Lacks wanted values)) n names
+StopIn before xs ns first (stop.TooWide n wanted width names) =
+    IsReachedIn before xs ns first (Halts (TooWide wanted width)) n names
 StopIn before xs ns first stop.NoMemory = Unit {0}
 
 -- it is found at a step of the script, with the blanks before it filled so
-pub record ReachesWithin (before : List StatementView) (script : Script) (x : StepState) (goal : Goal) (first : ℕ) (a : Arrival) (n : ℕ) (names : Names) : Type 0 where
+pub record ReachesWithin (before : List StatementView) (script : Script) (x : StepState)
+    (goal : Goal) (first : ℕ) (a : Arrival) (n : ℕ) (names : Names) : Type 0 where
   pub filled : Script
-  pub reached : IsReachedIn before (lines_at before script filled x.context goal) (names_lines before x.names script) first a n names
+  pub reached : IsReachedIn before (lines_at before script filled x.context goal)
+      (names_lines before x.names script) first a n names
 
 -- at step n of the script this holds, with the blanks before it filled so
 abbrev pub ReachesStep : List StatementView → Script → StepState → Goal → ℕ → ℕ → StepState → Type 0
-ReachesStep before script x goal first n y = ReachesWithin before script x goal first (Stands y.context.scope y.context.facts) n y.names
+ReachesStep before script x goal first n y =
+    ReachesWithin before script x goal first (Stands y.context.scope y.context.facts) n y.names
 
 -- licensing stops so at a step of the script, with the blanks before it filled so
-pub record StopsWithin (before : List StatementView) (script : Script) (x : StepState) (goal : Goal) (first : ℕ) (s : Stop) : Type 0 where
+pub record StopsWithin (before : List StatementView) (script : Script) (x : StepState) (goal : Goal)
+    (first : ℕ) (s : Stop) : Type 0 where
   pub filled : Script
-  pub stops : StopIn before (lines_at before script filled x.context goal) (names_lines before x.names script) first s
+  pub stops : StopIn before (lines_at before script filled x.context goal)
+      (names_lines before x.names script) first s
 
 -- ---- what has been licensed
 
 -- Steps before a script have been licensed where this held, and now that holds, and the next step
 -- has that number: whatever comes after them, what is derived from it is derived from the whole,
 -- and what is found in it, or a stop in it, is found in the whole.
-pub record IsPassed (before : List StatementView) (whole : Script → Script) (x : StepState) (first : ℕ) (derived : Script → Script) (after : StepState) (next : ℕ) : Type 0 where
-  pub ready : (rest : Script) (goal : Goal) → IsReadyFor before (whole rest) x goal → IsReadyFor before rest after goal
-  pub derives : (rest more : Script) (goal : Goal) → IsReadyFor before (whole rest) x goal → IsDerivedFrom before rest after goal more → IsDerivedFrom before (whole rest) x goal (derived more)
-  pub stops : (rest : Script) (goal : Goal) (s : Stop) → IsReadyFor before (whole rest) x goal → StopsWithin before rest after goal next s → StopsWithin before (whole rest) x goal first s
-  pub reaches : (rest : Script) (goal : Goal) (a : Arrival) (n : ℕ) (names : Names) → IsReadyFor before (whole rest) x goal
-      → ReachesWithin before rest after goal next a n names → ReachesWithin before (whole rest) x goal first a n names
+pub record IsPassed (before : List StatementView) (whole : Script → Script) (x : StepState)
+    (first : ℕ) (derived : Script → Script) (after : StepState) (next : ℕ) : Type 0 where
+  pub ready : (rest : Script) (goal : Goal) → IsReadyFor before (whole rest) x goal
+      → IsReadyFor before rest after goal
+  pub derives : (rest more : Script) (goal : Goal) → IsReadyFor before (whole rest) x goal
+      → IsDerivedFrom before rest after goal more
+      → IsDerivedFrom before (whole rest) x goal (derived more)
+  pub stops : (rest : Script) (goal : Goal) (s : Stop) → IsReadyFor before (whole rest) x goal
+      → StopsWithin before rest after goal next s → StopsWithin before (whole rest) x goal first s
+  pub reaches : (rest : Script) (goal : Goal) (a : Arrival) (n : ℕ) (names : Names)
+      → IsReadyFor before (whole rest) x goal
+      → ReachesWithin before rest after goal next a n names
+      → ReachesWithin before (whole rest) x goal first a n names
   pub number : (rest : Script) → first + size (whole rest) ≡ next + size rest
   pub kept : KeepsHeld x after
 
@@ -119,7 +139,8 @@ pub record IsPassed (before : List StatementView) (whole : Script → Script) (x
 abbrev pub StepsStop : List StatementView → (Script → Script) → StepState → ℕ → Stop → Type 0
 StepsStop before whole x first s =
     (rest : Script) (goal : Goal) → IsReadyFor before (whole rest) x goal
-    → StopsWithin before (whole rest) x goal first s × IsStopBefore (first + size (whole rest) - size rest) s
+    → StopsWithin before (whole rest) x goal first s
+        × IsStopBefore (first + size (whole rest) - size rest) s
 
 -- and so does the step
 abbrev pub StepStops : List StatementView → Step → StepState → ℕ → Stop → Type 0
@@ -128,10 +149,12 @@ StepStops before step x first s = StepsStop before (step_script step) x first s
 -- at step n of the step's own block this holds, whatever comes after the step
 abbrev pub ReachesInStep : List StatementView → Step → StepState → ℕ → ℕ → StepState → Type 0
 ReachesInStep before step x first n y =
-    (rest : Script) (goal : Goal) → IsReadyFor before (step_script step rest) x goal → ReachesStep before (step_script step rest) x goal first n y
+    (rest : Script) (goal : Goal) → IsReadyFor before (step_script step rest) x goal
+    → ReachesStep before (step_script step rest) x goal first n y
 
 -- the first block of a split was licensed where its literal is a fact, and now its negation is one
-pub record IsFirstPassed (before : List StatementView) (lit : Lit) (first : Script) (x : StepState) (goal : Goal) (after : StepState) : Type 0 where
+pub record IsFirstPassed (before : List StatementView) (lit : Lit) (first : Script) (x : StepState)
+    (goal : Goal) (after : StepState) : Type 0 where
   pub derived : Script
   pub is_derived : IsDerivedFrom before first (after_literal lit x) goal derived
   pub is_after : after ≡ after_literal (negation lit) x

@@ -21,7 +21,11 @@ use Rattle.e_prove.specs.declared.close.Goal.{Goal as CodeGoal}
 -- before the first step of a statement's proof, where these are the names of its declared and made
 -- objects
 abbrev pub start_with_names : StatementView → Names → StepState
-start_with_names t names = record { context = record { scope = scope_of t; facts = facts_of_statement t; held = [] }; names = declared_names t names }
+start_with_names t names =
+    record {
+      context = record { scope = scope_of t; facts = facts_of_statement t; held = [] };
+      names = declared_names t names;
+    }
 
 -- after a step that gives one literal
 abbrev pub after_literal : Lit → StepState → StepState
@@ -31,7 +35,10 @@ after_literal l x = record x { context = record x.context { facts = joined x.con
 abbrev pub after_make : Construction → List (List ℕ) → StepState → StepState
 after_make form names x =
     record {
-      context = record x.context { scope = grown x.context.scope (sorts_made form); facts = joined_all x.context.facts (gives_of_construction form x.context.scope) };
+      context = record x.context {
+        scope = grown x.context.scope (sorts_made form);
+        facts = joined_all x.context.facts (gives_of_construction form x.context.scope);
+      };
       names = named x.names (sorts_made form) names;
     }
 
@@ -39,7 +46,10 @@ after_make form names x =
 abbrev pub after_apply : StatementView → List Obj → List (List ℕ) → StepState → StepState
 after_apply t args names x =
     record {
-      context = record x.context { scope = grown x.context.scope t.made; facts = joined_all x.context.facts (gives_of_use t args x.context.scope) };
+      context = record x.context {
+        scope = grown x.context.scope t.made;
+        facts = joined_all x.context.facts (gives_of_use t args x.context.scope);
+      };
       names = named x.names t.made names;
     }
 
@@ -47,13 +57,18 @@ after_apply t args names x =
 abbrev pub after_superposed : Superpose → List (List ℕ) → StepState → StepState
 after_superposed form names x =
     record {
-      context = record x.context { scope = grown x.context.scope superposing.sorts_copied; facts = joined_all x.context.facts (superposing.gives_of_superposition form x.context.scope) };
+      context = record x.context {
+        scope = grown x.context.scope superposing.sorts_copied;
+        facts = joined_all x.context.facts
+            (superposing.gives_of_superposition form x.context.scope);
+      };
       names = named x.names superposing.sorts_copied names;
     }
 
 -- after an inner block that shows these literals
 abbrev pub after_block : List Lit → StepState → StepState
-after_block shown x = record x { context = record x.context { facts = joined_all x.context.facts shown } }
+after_block shown x =
+    record x { context = record x.context { facts = joined_all x.context.facts shown } }
 
 -- with other held states
 abbrev pub with_held : List State → StepState → StepState
@@ -67,17 +82,25 @@ held_at x = with_held (x.context.held ++ state_of x.context ∷ []) x
 abbrev pub IsLeft : Names → StepState → StepState → Type 0
 IsLeft names x after =
     (before : List State) (last : State) → x.context.held ≡ before ++ last ∷ [] →
-    after ≡ record { context = record { scope = last.scope; facts = last.facts; held = before }; names = names }
+    after ≡ record {
+      context = record { scope = last.scope; facts = last.facts; held = before };
+      names = names;
+    }
 
 -- and these literals are facts there
 abbrev pub IsLeftWith : Names → List Lit → StepState → StepState → Type 0
 IsLeftWith names shown x after =
     (before : List State) (last : State) → x.context.held ≡ before ++ last ∷ [] →
-    after ≡ record { context = record { scope = last.scope; facts = joined_all last.facts shown; held = before }; names = names }
+    after ≡ record {
+      context = record { scope = last.scope; facts = joined_all last.facts shown; held = before };
+      names = names;
+    }
 
 -- they may join the facts of the last held state
 abbrev pub CanJoinLast : List Lit → StepState → Type 0
-CanJoinLast shown x = (before : List State) (last : State) → x.context.held ≡ before ++ last ∷ [] → IsTrue (are_limited_facts last.scope (joined_all last.facts shown))
+CanJoinLast shown x =
+    (before : List State) (last : State) → x.context.held ≡ before ++ last ∷ []
+    → IsTrue (are_limited_facts last.scope (joined_all last.facts shown))
 
 -- two objects more of each sort have numbers of 16 bits
 pub record HasRoomForMore (s : Scope) : Type 0 where

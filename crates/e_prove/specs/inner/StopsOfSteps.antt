@@ -1,5 +1,6 @@
 -- Why licensing stops at a step.
-use Rattle.std.specs.Prelude.{◌≡◌, ℕ, List, Contains, MatchBool, Option, Some, None, Result, Ok, Err}
+use Rattle.std.specs.Prelude.{◌≡◌, ℕ, List, Contains, MatchBool, Option, Some, None, Result, Ok}
+use Rattle.std.specs.Prelude.{Err}
 use Rattle.e_literal.specs.declared.object.Obj.{Obj}
 use Rattle.e_literal.specs.declared.literal.Lit.{Lit}
 use Rattle.e_literal.specs.Use.{StatementView, needs_of_use}
@@ -24,15 +25,18 @@ use Rattle.e_prove.specs.declared.step_stop.StepStop.TheVariants.{Lacks, TooWide
 
 -- the step lacks this, and the values show it; or it is too wide at this; out of memory is free
 abbrev pub StepStopsAt : List StatementView → Line → StepStop → Type 0
-StepStopsAt before x (Lacks wanted values) = LineLacks before x x.here wanted × IsShown x.here x.facts wanted values
+StepStopsAt before x (Lacks wanted values) =
+    LineLacks before x x.here wanted × IsShown x.here x.facts wanted values
 StepStopsAt before x (TooWide wanted width) = IsTooWide before x x.here wanted width
 StepStopsAt before x NoMemory = Unit {0}
 
 -- the first of the literals that is not allowed is lacked, or one of them is too wide; out of
 -- memory is free
 abbrev pub StepStopsAmong : Basis → List Lit → StepStop → Type 0
-StepStopsAmong x ls (Lacks (Literal l) values) = IsFirstNotAllowed x.scope x.facts ls l × LiteralIsShown x.facts l values
-StepStopsAmong x ls (TooWide (Literal l) width) = Contains ls l × IsTooWideLit x.scope x.facts l width
+StepStopsAmong x ls (Lacks (Literal l) values) =
+    IsFirstNotAllowed x.scope x.facts ls l × LiteralIsShown x.facts l values
+StepStopsAmong x ls (TooWide (Literal l) width) =
+    Contains ls l × IsTooWideLit x.scope x.facts l width
 StepStopsAmong x ls (Lacks Match values) = ⊥
 StepStopsAmong x ls (Lacks Contradiction values) = ⊥
 StepStopsAmong x ls (TooWide Match width) = ⊥
@@ -42,8 +46,10 @@ StepStopsAmong x ls NoMemory = Unit {0}
 -- no choice for the blanks is good, or one that is not above the least good one is too wide; out of
 -- memory is free
 abbrev pub StepStopsFilling : StatementView → Basis → List (Option Obj) → StepStop → Type 0
-StepStopsFilling t x pattern (Lacks Match values) = NoneIsAllowed t x.scope x.facts pattern × (values ≡ None)
-StepStopsFilling t x pattern (TooWide Match width) = SomeChoiceIsTooWide t x.scope x.facts pattern width
+StepStopsFilling t x pattern (Lacks Match values) =
+    NoneIsAllowed t x.scope x.facts pattern × (values ≡ None)
+StepStopsFilling t x pattern (TooWide Match width) =
+    SomeChoiceIsTooWide t x.scope x.facts pattern width
 StepStopsFilling t x pattern (Lacks (Literal l) values) = ⊥
 StepStopsFilling t x pattern (Lacks Contradiction values) = ⊥
 StepStopsFilling t x pattern (TooWide (Literal l) width) = ⊥
@@ -53,7 +59,9 @@ StepStopsFilling t x pattern NoMemory = Unit {0}
 -- why an application of the statement stops: without blanks at one of its given literals, with
 -- blanks at their filling
 abbrev pub StepStopsApplying : StatementView → Basis → List (Option Obj) → StepStop → Type 0
-StepStopsApplying t x pattern h = MatchBool (has_no_blank pattern) (StepStopsAmong x (needs_of_use t (written pattern) x.scope) h) (StepStopsFilling t x pattern h)
+StepStopsApplying t x pattern h =
+    MatchBool (has_no_blank pattern) (StepStopsAmong x (needs_of_use t (written pattern) x.scope) h)
+        (StepStopsFilling t x pattern h)
 
 -- the stop, where what is too wide is answered as a match that is
 abbrev pub match_stop : StepStop → StepStop

@@ -1,5 +1,6 @@
 -- How the blocks of a book end, before the last lines are written.
-use Rattle.std.specs.Prelude.{◌≡◌, ◌⊎◌, ℕ, ◌≤◌, List, [], length, take, Option, Some, Result, Ok, Err}
+use Rattle.std.specs.Prelude.{◌≡◌, ◌⊎◌, ℕ, ◌≤◌, List, [], length, take, Option, Some, Result, Ok}
+use Rattle.std.specs.Prelude.{Err}
 use Rattle.e_io.specs.Bytes.{Grew, GrewByFront}
 use Rattle.e_deriv.specs.declared.stop.Stop.{Stop}
 use Rattle.e_deriv.specs.declared.stop.Stop.TheVariants as stops
@@ -16,11 +17,13 @@ use Rattle.e_run.specs.LastLines.{accepted_line, fault_line}
 use Rattle.e_names.specs.declared.known.Known.{Known}
 use Rattle.e_run.specs.Outcome.{Begins, IsFront}
 use Rattle.e_run.specs.Outcome as outcome
-use Rattle.e_run.specs.Answers.{Derived, AllDerived, OutcomeAfter, Refuses, Widens, theorems_of, steps_of, blocks_of}
+use Rattle.e_run.specs.Answers.{Derived, AllDerived, OutcomeAfter, Refuses, Widens, theorems_of}
+use Rattle.e_run.specs.Answers.{steps_of, blocks_of}
 use Rattle.e_book.specs.Grammar.{Rest}
 
 -- the blocks of these theorems with their derivations were written, and this holds after them
-pub record BlocksUpTo (lines : Rest) (old new : Option (List ℕ)) (Holds : Known → Rest → Type 0) : Type 0 where
+pub record BlocksUpTo (lines : Rest) (old new : Option (List ℕ))
+    (Holds : Known → Rest → Type 0) : Type 0 where
   pub derived : List Derived
   pub sound : AllDerived [] derived
   pub known : Known
@@ -47,24 +50,31 @@ pub record BreaksInside (lines : Rest) (old new : Option (List ℕ)) : Type 0 wh
 
 -- a stop that is not out of memory
 abbrev pub StopsWith : Rest → Option (List ℕ) → Option (List ℕ) → List ℕ → Stop → Type 0
-StopsWith lines old new title (stops.Unlicensed step wanted values names) = BlocksUpTo lines old new (Refuses lines title step wanted values names)
-StopsWith lines old new title (stops.TooWide step wanted width names) = BlocksUpTo lines old new (Widens lines title step wanted width names)
+StopsWith lines old new title (stops.Unlicensed step wanted values names) =
+    BlocksUpTo lines old new (Refuses lines title step wanted values names)
+StopsWith lines old new title (stops.TooWide step wanted width names) =
+    BlocksUpTo lines old new (Widens lines title step wanted width names)
 StopsWith lines old new title stops.NoMemory = ⊥
 
 abbrev pub BookResultIs : Rest → Option (List ℕ) → Option (List ℕ) → BookResult → Type 0
-BookResultIs lines old new (All n s) = (e : BlocksUpTo lines old new (OutcomeAfter lines (outcome.Accepted n))) × (s ≡ steps_of e.derived)
+BookResultIs lines old new (All n s) =
+    (e : BlocksUpTo lines old new (OutcomeAfter lines (outcome.Accepted n)))
+    × (s ≡ steps_of e.derived)
 BookResultIs lines old new (Stopped title stop) = StopsWith lines old new title stop
-BookResultIs lines old new (Faulty f) = BlocksUpTo lines old new (OutcomeAfter lines (outcome.Faulty f))
+BookResultIs lines old new (Faulty f) =
+    BlocksUpTo lines old new (OutcomeAfter lines (outcome.Faulty f))
 
 -- the blocks end so, or memory or the sink gave out; no source was read
-abbrev pub BlocksAre : Rest → Option (List ℕ) → Option (List ℕ) → Result BookResult RunError → Type 0
+abbrev pub BlocksAre : Rest → Option (List ℕ) → Option (List ℕ)
+    → Result BookResult RunError → Type 0
 BlocksAre lines old new (Ok book_result) = BookResultIs lines old new book_result
 BlocksAre lines old new (Err NoMemory) = BreaksOff lines old new
 BlocksAre lines old new (Err ReadFault) = ⊥
 BlocksAre lines old new (Err WriteFault) = BreaksInside lines old new
 
 -- the same where a source was read, which may give out too
-abbrev pub SourceResultIs : Rest → Option (List ℕ) → Option (List ℕ) → Result BookResult RunError → Type 0
+abbrev pub SourceResultIs : Rest → Option (List ℕ) → Option (List ℕ)
+    → Result BookResult RunError → Type 0
 SourceResultIs lines old new (Ok book_result) = BookResultIs lines old new book_result
 SourceResultIs lines old new (Err NoMemory) = BreaksOff lines old new
 SourceResultIs lines old new (Err ReadFault) = BreaksOff lines old new
@@ -77,8 +87,10 @@ IsAll book_result = ⊥
 
 -- a stop ends the blocks, or memory ran out
 abbrev pub result_of_stop : List ℕ → Stop → Result (Option BookResult) RunError
-result_of_stop title (stops.Unlicensed step wanted values names) = Ok (Some (Stopped title (stops.Unlicensed step wanted values names)))
-result_of_stop title (stops.TooWide step wanted width names) = Ok (Some (Stopped title (stops.TooWide step wanted width names)))
+result_of_stop title (stops.Unlicensed step wanted values names) =
+    Ok (Some (Stopped title (stops.Unlicensed step wanted values names)))
+result_of_stop title (stops.TooWide step wanted width names) =
+    Ok (Some (Stopped title (stops.TooWide step wanted width names)))
 result_of_stop title stops.NoMemory = Err NoMemory
 
 -- and so a fault
@@ -99,7 +111,8 @@ last_lines (Faulty f) = fault_line f
 
 -- the answer of a stop
 abbrev pub stop_answer : List ℕ → Stop → Status
-stop_answer title (stops.Unlicensed step wanted values names) = status.Unlicensed title step wanted values
+stop_answer title (stops.Unlicensed step wanted values names) =
+    status.Unlicensed title step wanted values
 stop_answer title (stops.TooWide step wanted width names) = status.TooWide title step wanted width
 stop_answer title stops.NoMemory = status.NoMemory
 
@@ -117,4 +130,5 @@ HasLastLines (Faulty f) = Unit {0}
 -- the last lines were written, or a front of them and the sink failed
 abbrev pub ClosesWith : Option (List ℕ) → Option (List ℕ) → List ℕ → Status → Status → Type 0
 ClosesWith old new last answer result =
-    ((result ≡ answer) × Grew old new last) ⊎ ((result ≡ status.WriteFault) × GrewByFront old new last)
+    ((result ≡ answer) × Grew old new last)
+    ⊎ ((result ≡ status.WriteFault) × GrewByFront old new last)

@@ -22,9 +22,13 @@ pub record AllBlocks (lines : Rest) (old new : Option (List ℕ)) : Type 0 where
   pub grew : Grew old new (blocks_of [] derived)
 
 -- the blocks of all theorems were written whose last line with its end was taken
-abbrev pub HandledBlocks : Option (List ℕ) → Option (List ℕ) → Option (List ℕ) → Option (List ℕ) → Type 0
-HandledBlocks left0 left1 old new = Taken left0 left1 (OfWholeLines (λ lines. AllBlocks lines old new))
+abbrev pub HandledBlocks : Option (List ℕ) → Option (List ℕ) → Option (List ℕ)
+    → Option (List ℕ) → Type 0
+HandledBlocks left0 left1 old new =
+    Taken left0 left1 (OfWholeLines (λ lines. AllBlocks lines old new))
 
 -- the blocks of the book that a source exposes end so, or break off
-abbrev pub TextResultIs : Option (List ℕ) → Option (List ℕ) → Option (List ℕ) → Result BookResult RunError → Type 0
-TextResultIs left old new ended = (text : List ℕ) × IsAllOf left text × SourceResultIs (lines_of_book text) old new ended
+abbrev pub TextResultIs : Option (List ℕ) → Option (List ℕ) → Option (List ℕ)
+    → Result BookResult RunError → Type 0
+TextResultIs left old new ended =
+    (text : List ℕ) × IsAllOf left text × SourceResultIs (lines_of_book text) old new ended

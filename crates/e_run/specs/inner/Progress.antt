@@ -1,5 +1,6 @@
 -- How far a book was taken while its lines come, whatever lines come.
-use Rattle.std.specs.Prelude.{◌≡◌, ℕ, ◌+◌, ◌*◌, ◌≤◌, IsTrue, IfSome, List, [], ◌++◌, length, Option, Some, None, Result, Ok, Err}
+use Rattle.std.specs.Prelude.{◌≡◌, ℕ, ◌+◌, ◌*◌, ◌≤◌, IsTrue, IfSome, List, [], ◌++◌, length, Option}
+use Rattle.std.specs.Prelude.{Some, None, Result, Ok, Err}
 use Rattle.std.specs.List.{list_all}
 use Rattle.e_io.specs.Bytes.{Grew}
 use Rattle.e_text.specs.Lines.{Ahead, HaveNoFault, IsClosed}
@@ -25,7 +26,8 @@ use Rattle.e_run.specs.inner.BookResults.{BookResultIs, BlocksAre}
 
 -- the theorems so far are the first of these lines, each with its derivation, and their blocks were
 -- written; then these lines are left
-pub record History (lines : Rest) (old : Option (List ℕ)) (known : Known) (rest : Rest) (new : Option (List ℕ)) (steps : ℕ) : Type 0 where
+pub record History (lines : Rest) (old : Option (List ℕ)) (known : Known) (rest : Rest)
+    (new : Option (List ℕ)) (steps : ℕ) : Type 0 where
   pub derived : List Derived
   pub sound : AllDerived [] derived
   pub begins : Begins lines (theorems_of derived) known rest
@@ -34,7 +36,8 @@ pub record History (lines : Rest) (old : Option (List ℕ)) (known : Known) (res
 
 -- before the first line
 abbrev pub first_book : Book
-first_book = record { known = nothing_known; reading = record { coming = None }; theorems = 0; steps = 0 }
+first_book =
+    record { known = nothing_known; reading = record { coming = None }; theorems = 0; steps = 0 }
 
 -- what is known of a book between two lines
 pub record IsBook (b : Book) : Type 0 where
@@ -49,22 +52,27 @@ pub record IsBook (b : Book) : Type 0 where
 -- By what comes: all lines of the book, and those that remain. Whatever comes, the theorems so far
 -- are the first of all lines, and to read the next one from its first line is to read on from what
 -- has come of it.
-pub record Reaches (all remaining : Rest → Rest) (old : Option (List ℕ)) (b : Book) (new : Option (List ℕ)) : Type 0 where
+pub record Reaches (all remaining : Rest → Rest) (old : Option (List ℕ)) (b : Book)
+    (new : Option (List ℕ)) : Type 0 where
   pub tail : Rest
   pub history : (more : Rest) → History (all more) old b.known (tail ++ remaining more) new b.steps
-  pub reads : (last : ℕ) (more : Rest) → item_from b.known last None (tail ++ remaining more) ≡ item_from b.known last b.reading.coming (remaining more)
+  pub reads : (last : ℕ) (more : Rest) → item_from b.known last None (tail ++ remaining more)
+      ≡ item_from b.known last b.reading.coming (remaining more)
 
 -- the next theorem or definition is taken, and these lines are left; or the blocks end or break off
 -- at it
-abbrev pub Handles : Rest → Option (List ℕ) → Rest → Result (Option BookResult) RunError → Book → Option (List ℕ) → Type 0
+abbrev pub Handles : Rest → Option (List ℕ) → Rest → Result (Option BookResult) RunError → Book
+    → Option (List ℕ) → Type 0
 Handles lines old after (Ok None) b new = History lines old b.known after new b.steps
 Handles lines old after (Ok (Some book_result)) b new = BookResultIs lines old new book_result
 Handles lines old after (Err error) b new = BlocksAre lines old new (Err error)
 
 -- the lines that remained are taken; or the blocks end or break off at them
-abbrev pub BookTakes : (Rest → Rest) → Option (List ℕ) → Result (Option BookResult) RunError → Book → Option (List ℕ) → Type 0
+abbrev pub BookTakes : (Rest → Rest) → Option (List ℕ) → Result (Option BookResult) RunError → Book
+    → Option (List ℕ) → Type 0
 BookTakes all old (Ok None) b new = Reaches all (λ more. more) old b new
-BookTakes all old (Ok (Some book_result)) b new = (more : Rest) → BookResultIs (all more) old new book_result
+BookTakes all old (Ok (Some book_result)) b new =
+    (more : Rest) → BookResultIs (all more) old new book_result
 BookTakes all old (Err error) b new = (more : Rest) → BlocksAre (all more) old new (Err error)
 
 -- the lines that remained are taken, and none has a fault
@@ -82,7 +90,8 @@ result_at line (Some d) theorems steps = Faulty (Unended line)
 
 -- These bytes were read. Those that are taken are lines with their ends, and none has a fault; so
 -- whatever bytes come, the lines of the book begin with these.
-pub record IsReadUpTo (read : List ℕ) (old : Option (List ℕ)) (b : Book) (u : Untaken) (new : Option (List ℕ)) : Type 0 where
+pub record IsReadUpTo (read : List ℕ) (old : Option (List ℕ)) (b : Book) (u : Untaken)
+    (new : Option (List ℕ)) : Type 0 where
   pub taken : List ℕ
   pub all : read ≡ taken ++ u.bytes.items
   pub closed : IsClosed taken
@@ -93,7 +102,10 @@ pub record IsReadUpTo (read : List ℕ) (old : Option (List ℕ)) (b : Book) (u 
 
 -- all these bytes were read, and the book goes on; or its blocks end or break off at them, whatever
 -- bytes come
-abbrev pub PieceTakes : List ℕ → Option (List ℕ) → Result (Option BookResult) RunError → Book → Untaken → Option (List ℕ) → Type 0
+abbrev pub PieceTakes : List ℕ → Option (List ℕ) → Result (Option BookResult) RunError → Book
+    → Untaken → Option (List ℕ) → Type 0
 PieceTakes read old (Ok None) b u new = IsReadUpTo read old b u new
-PieceTakes read old (Ok (Some book_result)) b u new = (left : List ℕ) → BookResultIs (lines_of_book (read ++ left)) old new book_result
-PieceTakes read old (Err error) b u new = (left : List ℕ) → BlocksAre (lines_of_book (read ++ left)) old new (Err error)
+PieceTakes read old (Ok (Some book_result)) b u new =
+    (left : List ℕ) → BookResultIs (lines_of_book (read ++ left)) old new book_result
+PieceTakes read old (Err error) b u new =
+    (left : List ℕ) → BlocksAre (lines_of_book (read ++ left)) old new (Err error)

@@ -17,4 +17,5 @@ pub record AreWeightsForBoth (rows : List Row) (k : ℕ) (above below : List ℤ
   pub terms : List Term
   pub once : AreOnce terms
   pub named : AllNamed terms rows
-  pub both : AreBothRefuted (length terms + 1) (named_constraints false terms rows) (named_constraints true terms rows) k above below
+  pub both : AreBothRefuted (length terms + 1) (named_constraints false terms rows)
+      (named_constraints true terms rows) k above below

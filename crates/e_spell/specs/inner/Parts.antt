@@ -1,5 +1,6 @@
 -- The texts of the parts of a derivation, as they are written one after the other.
-use Rattle.std.specs.Prelude.{ℕ, ℤ, List, [], ◌∷◌, ◌++◌, map, codes, Option, Some, None, if◌then◌else◌}
+use Rattle.std.specs.Prelude.{ℕ, ℤ, List, [], ◌∷◌, ◌++◌, map, codes, Option, Some, None}
+use Rattle.std.specs.Prelude.{if◌then◌else◌}
 use Rattle.std.specs.List.{flat_map}
 use Rattle.std.specs.Option.{option_to_list}
 use Rattle.std.specs.Fmt.{decimal, signed_decimal}
@@ -25,7 +26,8 @@ use Rattle.e_clause.specs.declared.cert.Cert.TheVariants.{Plain, Transfer}
 use Rattle.e_deriv.specs.declared.names.Names.{Names}
 use Rattle.e_deriv.specs.Naming.{named}
 use Rattle.e_deriv.specs.Script.{Script}
-use Rattle.e_deriv.specs.PlainStep.{PlainStep, Cited, Inferred, Made as MadeStep, Applied, Claimed, Copied}
+use Rattle.e_deriv.specs.PlainStep.{PlainStep, Cited, Inferred, Made as MadeStep, Applied, Claimed}
+use Rattle.e_deriv.specs.PlainStep.{Copied}
 use Rattle.e_deriv.specs.declared.stop.Wanted.{Wanted}
 use Rattle.e_theorem.specs.declared.statement.Statement.{Statement}
 use Rattle.e_line.specs.declared.raw_line.RawLine.{RawLine}
@@ -33,7 +35,9 @@ use Rattle.e_names.specs.TitledStatements.{TitledStatement, theorem_of}
 use Rattle.e_book.specs.TheoremViews.{TheoremView}
 use Rattle.e_text.specs.Tokens.{spaced}
 use Rattle.e_line.specs.Canonical.{lit_words, sort_word, line_of}
-use Rattle.e_names.specs.Canonical.{raw_of, rule_name, name_of_object, by_form, hence_form, let_form, apply_form, claim_form, superpose_form, cases_form, else_form, qed_form, contradiction_form, end_form}
+use Rattle.e_names.specs.Canonical.{raw_of, rule_name, name_of_object, by_form, hence_form}
+use Rattle.e_names.specs.Canonical.{let_form, apply_form, claim_form, superpose_form, cases_form}
+use Rattle.e_names.specs.Canonical.{else_form, qed_form, contradiction_form, end_form}
 use Rattle.e_book.specs.Canonical.{declared_objects, made_objects, names_of_proof, text_of}
 use Rattle.e_spell.specs.declared.declarations.Role.{Role}
 use Rattle.e_spell.specs.declared.declarations.Role.TheVariants.{Declared, Made}
@@ -65,7 +69,8 @@ differs_text ns row = bar_text (codes "differs" ∷ row_words ns row)
 
 abbrev pub sums_text : Names → Sums → List ℕ
 sums_text ns (One sum) = sum_text ns sum
-sums_text ns (Two differs above below) = differs_text ns differs ++ (sum_text ns above ++ sum_text ns below)
+sums_text ns (Two differs above below) =
+    differs_text ns differs ++ (sum_text ns above ++ sum_text ns below)
 
 abbrev pub metric_text : Names → MetricCert → List ℕ
 metric_text ns m = bar_text (codes "metric" ∷ []) ++ sums_text ns m.sums
@@ -84,7 +89,8 @@ parts_text ns ps = flat_map (part_text ns) ps
 
 -- the line of a transfer: its rule and its arguments
 abbrev pub instance_text : Names → ℕ → List Obj → List ℕ
-instance_text ns rule args = bar_text (codes "transfer" ∷ rule_name rule ∷ map (name_of_object ns) args)
+instance_text ns rule args =
+    bar_text (codes "transfer" ∷ rule_name rule ∷ map (name_of_object ns) args)
 
 abbrev pub transfer_text : Names → TransferCert → List ℕ
 transfer_text ns t = instance_text ns t.rule t.args ++ parts_text ns t.parts
@@ -120,19 +126,25 @@ script_text known ns d = text_of (script_lines known ns d)
 -- a step with its certificates, and the block inside it
 abbrev pub step_text : List TitledStatement → Names → PlainStep → List ℕ
 step_text known ns (Cited by) = form_text (by_form ns by)
-step_text known ns (Inferred lit cert) = form_text (hence_form ns lit) ++ certs_text ns (option_to_list cert)
-step_text known ns (MadeStep form names certs) = form_text (let_form ns form names) ++ certs_text ns certs
-step_text known ns (Applied theorem args names certs) = form_text (apply_form known ns theorem args names) ++ certs_text ns certs
-step_text known ns (Claimed shown inner) = form_text (claim_form ns shown) ++ script_text known ns inner
+step_text known ns (Inferred lit cert) =
+    form_text (hence_form ns lit) ++ certs_text ns (option_to_list cert)
+step_text known ns (MadeStep form names certs) =
+    form_text (let_form ns form names) ++ certs_text ns certs
+step_text known ns (Applied theorem args names certs) =
+    form_text (apply_form known ns theorem args names) ++ certs_text ns certs
+step_text known ns (Claimed shown inner) =
+    form_text (claim_form ns shown) ++ script_text known ns inner
 step_text known ns (Copied form names shown certs inner) =
-    superposition_text ns form names shown ++ (certs_text ns certs ++ script_text known (named ns superposing.sorts_copied names) inner)
+    superposition_text ns form names shown
+    ++ (certs_text ns certs ++ script_text known (named ns superposing.sorts_copied names) inner)
 
 -- the names in scope after a step: those of an inner block are gone
 abbrev pub names_after_step : List TitledStatement → Names → PlainStep → Names
 names_after_step known ns (Cited by) = ns
 names_after_step known ns (Inferred lit cert) = ns
 names_after_step known ns (MadeStep form names certs) = named ns (sorts_made form) names
-names_after_step known ns (Applied theorem args names certs) = named ns (theorem_of known theorem).made names
+names_after_step known ns (Applied theorem args names certs) =
+    named ns (theorem_of known theorem).made names
 names_after_step known ns (Claimed shown inner) = ns
 names_after_step known ns (Copied form names shown certs inner) = ns
 
@@ -143,7 +155,8 @@ names_after known ns (s ∷ steps) = names_after known (names_after_step known n
 
 abbrev pub steps_text : List TitledStatement → Names → List PlainStep → List ℕ
 steps_text known ns [] = []
-steps_text known ns (s ∷ steps) = step_text known ns s ++ steps_text known (names_after_step known ns s) steps
+steps_text known ns (s ∷ steps) =
+    step_text known ns s ++ steps_text known (names_after_step known ns s) steps
 
 abbrev pub qed_text : Names → List Obj → List Cert → List ℕ
 qed_text ns objects cs = form_text (qed_form ns objects) ++ certs_text ns cs
@@ -153,7 +166,9 @@ contradicted_text ns against = form_text contradiction_form ++ contradiction_tex
 
 -- two blocks after the line of a split
 abbrev pub split_text : List TitledStatement → Names → Lit → Script → Script → List ℕ
-split_text known ns lit first second = form_text (cases_form ns lit) ++ (script_text known ns first ++ (form_text else_form ++ script_text known ns second))
+split_text known ns lit first second =
+    form_text (cases_form ns lit)
+    ++ (script_text known ns first ++ (form_text else_form ++ script_text known ns second))
 
 abbrev pub proof_text : List TitledStatement → Names → Script → List ℕ
 proof_text known ns d = script_text known ns d ++ form_text end_form
@@ -177,7 +192,8 @@ closing (Some t) = 10 ∷ []
 -- the lines of these objects, after an object of this sort
 abbrev pub objects_rest : Role → Names → Option Sort → List Obj → List ℕ
 objects_rest role ns last [] = closing last
-objects_rest role ns last (o ∷ os) = (opening role last o.sort ++ 32 ∷ name_of_object ns o) ++ objects_rest role ns (Some o.sort) os
+objects_rest role ns last (o ∷ os) =
+    (opening role last o.sort ++ 32 ∷ name_of_object ns o) ++ objects_rest role ns (Some o.sort) os
 
 abbrev pub objects_text : Role → Names → List Obj → List ℕ
 objects_text role ns os = objects_rest role ns None os
@@ -195,7 +211,8 @@ head_text title ns t = title_text title ++ (statement_text ns t ++ (codes "proof
 
 -- the spelling in its parts
 abbrev pub theorem_text : List TitledStatement → TheoremView → Script → List ℕ
-theorem_text known t d = head_text t.title t.names t.statement ++ proof_text known (names_of_proof t) d
+theorem_text known t d =
+    head_text t.title t.names t.statement ++ proof_text known (names_of_proof t) d
 
 -- ---- the last lines of a stop
 

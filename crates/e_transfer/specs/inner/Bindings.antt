@@ -1,5 +1,6 @@
 -- The binding of each variable.
-use Rattle.std.specs.Prelude.{◌≡◌, ℕ, List, Bool, true, ◌==◌, slice_index_or, length, Option, Some, None, IsTrue}
+use Rattle.std.specs.Prelude.{◌≡◌, ℕ, List, Bool, true, ◌==◌, slice_index_or, length, Option, Some}
+use Rattle.std.specs.Prelude.{None, IsTrue}
 use Rattle.e_transfer.specs.declared.equations.Equation.{Equation}
 use Rattle.e_transfer.specs.declared.unify.Binding.{Binding}
 use Rattle.e_transfer.specs.declared.unify.Binding.TheVariants as binding
@@ -22,10 +23,13 @@ BindingsAgree f bindings = (v : ℕ) → IsTrue (binding_agrees f v (binding_at 
 -- numbers that agree with the bindings and the equation agree with the new bindings, and are not
 -- excluded
 abbrev pub TakesIn : List Binding → List Binding → Equation → Bool → Type 0
-TakesIn old new b result = (f : ℕ → ℕ) → BindingsAgree f old → IsTrue (agrees f b) → IsTrue result × BindingsAgree f new
+TakesIn old new b result =
+    (f : ℕ → ℕ) → BindingsAgree f old → IsTrue (agrees f b) → IsTrue result × BindingsAgree f new
 
 -- numbers that agree with the equations agree with the bindings, of which there is one for each
 -- variable; or no numbers do
 abbrev pub BindingsAre : ℕ → List Equation → Option (List Binding) → Type 0
-BindingsAre total equations (Some bindings) = (length bindings ≡ total) × ((f : ℕ → ℕ) → IsTrue (all_agree f equations) → BindingsAgree f bindings)
+BindingsAre total equations (Some bindings) =
+    (length bindings ≡ total)
+    × ((f : ℕ → ℕ) → IsTrue (all_agree f equations) → BindingsAgree f bindings)
 BindingsAre total equations None = (f : ℕ → ℕ) → IsTrue (all_agree f equations) → ⊥

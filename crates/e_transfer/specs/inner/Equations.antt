@@ -3,7 +3,9 @@
 use Rattle.std.specs.Prelude.{ℕ, ◌+◌, List, [], ◌∷◌, Bool, ◌==◌, Option, Some, None}
 use Rattle.std.specs.List.{list_all, list_any}
 use Rattle.e_literal.specs.declared.literal.Atom.{Atom}
-use Rattle.e_literal.specs.declared.literal.Atom.TheVariants.{On, OnC, Inside, Center, Between, Same, MeetLL, MeetLC, MeetCC, EqP, EqL, EqC}
+use Rattle.e_literal.specs.declared.literal.Atom.TheVariants.{On, OnC, Inside, Center, Between}
+use Rattle.e_literal.specs.declared.literal.Atom.TheVariants.{Same, MeetLL, MeetLC, MeetCC, EqP}
+use Rattle.e_literal.specs.declared.literal.Atom.TheVariants.{EqL, EqC}
 use Rattle.e_literal.specs.declared.object.Term.{Term}
 use Rattle.e_literal.specs.declared.object.Term.TheVariants.{Seg, Ang, Area, Right}
 use Rattle.e_clause.specs.Rows.{Row}
@@ -44,12 +46,17 @@ equations_from_atom r (Inside x c) (Inside a b) = both_equations x a (circle_var
 equations_from_atom r (Center x c) (Center a b) = both_equations x a (circle_variable r c) b
 equations_from_atom r (Between x y z) (Between a b c) = all_three x a y b z c
 equations_from_atom r (Same x y l) (Same a b c) = all_three x a y b (line_variable r l) c
-equations_from_atom r (MeetLL l m) (MeetLL a b) = both_equations (line_variable r l) a (line_variable r m) b
-equations_from_atom r (MeetLC l c) (MeetLC a b) = both_equations (line_variable r l) a (circle_variable r c) b
-equations_from_atom r (MeetCC c d) (MeetCC a b) = both_equations (circle_variable r c) a (circle_variable r d) b
+equations_from_atom r (MeetLL l m) (MeetLL a b) =
+    both_equations (line_variable r l) a (line_variable r m) b
+equations_from_atom r (MeetLC l c) (MeetLC a b) =
+    both_equations (line_variable r l) a (circle_variable r c) b
+equations_from_atom r (MeetCC c d) (MeetCC a b) =
+    both_equations (circle_variable r c) a (circle_variable r d) b
 equations_from_atom r (EqP x y) (EqP a b) = both_equations x a y b
-equations_from_atom r (EqL l m) (EqL a b) = both_equations (line_variable r l) a (line_variable r m) b
-equations_from_atom r (EqC c d) (EqC a b) = both_equations (circle_variable r c) a (circle_variable r d) b
+equations_from_atom r (EqL l m) (EqL a b) =
+    both_equations (line_variable r l) a (line_variable r m) b
+equations_from_atom r (EqC c d) (EqC a b) =
+    both_equations (circle_variable r c) a (circle_variable r d) b
 equations_from_atom r _ _ = None
 
 -- ---- terms
@@ -65,7 +72,9 @@ equations_from_term _ _ = None
 -- two terms of a row are one, point by point
 abbrev pub equations_from_terms : Term → Term → Option (List Equation)
 equations_from_terms (Seg x y) (Seg a b) = Some (equation.Same x a ∷ equation.Same y b ∷ [])
-equations_from_terms (Ang x y z) (Ang a b c) = Some (equation.Same x a ∷ equation.Same y b ∷ equation.Same z c ∷ [])
-equations_from_terms (Area x y z) (Area a b c) = Some (equation.Same x a ∷ equation.Same y b ∷ equation.Same z c ∷ [])
+equations_from_terms (Ang x y z) (Ang a b c) =
+    Some (equation.Same x a ∷ equation.Same y b ∷ equation.Same z c ∷ [])
+equations_from_terms (Area x y z) (Area a b c) =
+    Some (equation.Same x a ∷ equation.Same y b ∷ equation.Same z c ∷ [])
 equations_from_terms Right Right = Some []
 equations_from_terms _ _ = None

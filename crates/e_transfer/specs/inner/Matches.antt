@@ -1,5 +1,6 @@
 -- The ways in which a goal at a place of a clause binds the variables.
-use Rattle.std.specs.Prelude.{ℕ, List, [], ◌∷◌, ◌++◌, map, flat_map, Bool, not, ◌==◌, ◌||◌, option_to_list, IsTrue, if◌then◌else◌}
+use Rattle.std.specs.Prelude.{ℕ, List, [], ◌∷◌, ◌++◌, map, flat_map, Bool, not, ◌==◌, ◌||◌}
+use Rattle.std.specs.Prelude.{option_to_list, IsTrue, if◌then◌else◌}
 use Rattle.std.specs.List.{list_all}
 use Rattle.e_literal.specs.declared.object.Mono.{Mono}
 use Rattle.e_literal.specs.declared.object.Term.{Term}
@@ -10,7 +11,8 @@ use Rattle.e_literal.specs.Same.{coeff_of, agree, same_atom, same_lit}
 use Rattle.e_literal.specs.Rename.{mono_at, atom_at}
 use Rattle.e_clause.specs.Rows.{Row}
 use Rattle.e_transfer.specs.declared.equations.Equation.{Equation}
-use Rattle.e_transfer.specs.inner.Equations.{line_variable, circle_variable, some_agree, equations_from_term, equations_from_terms}
+use Rattle.e_transfer.specs.inner.Equations.{line_variable, circle_variable, some_agree}
+use Rattle.e_transfer.specs.inner.Equations.{equations_from_term, equations_from_terms}
 
 -- the atom, or the literal, of a row with these numbers for its variables
 abbrev pub atom_under : Row → (ℕ → ℕ) → Atom → Atom
@@ -21,22 +23,26 @@ lit_under r f l = record { neg = l.neg; atom = atom_under r f l.atom }
 
 -- the literal is the goal only where the variables are as one of the matches says
 abbrev pub Cover : Row → Lit → Lit → List (List Equation) → Type 0
-Cover r l goal matches = (f : ℕ → ℕ) → IsTrue (same_lit (lit_under r f l) goal) → IsTrue (some_agree f matches)
+Cover r l goal matches =
+    (f : ℕ → ℕ) → IsTrue (same_lit (lit_under r f l) goal) → IsTrue (some_agree f matches)
 
 -- the same of atoms
 abbrev pub CoverAtom : Row → Atom → Atom → List (List Equation) → Type 0
-CoverAtom r a goal matches = (f : ℕ → ℕ) → IsTrue (same_atom (atom_under r f a) goal) → IsTrue (some_agree f matches)
+CoverAtom r a goal matches =
+    (f : ℕ → ℕ) → IsTrue (same_atom (atom_under r f a) goal) → IsTrue (some_agree f matches)
 
 -- the orders in which the points of a term may be written
 abbrev pub term_orders : Term → List Term
 term_orders (Seg a b) = Seg a b ∷ Seg b a ∷ []
 term_orders (Ang a b c) = Ang a b c ∷ Ang c b a ∷ []
-term_orders (Area a b c) = Area a b c ∷ Area a c b ∷ Area b a c ∷ Area b c a ∷ Area c a b ∷ Area c b a ∷ []
+term_orders (Area a b c) =
+    Area a b c ∷ Area a c b ∷ Area b a c ∷ Area b c a ∷ Area c a b ∷ Area c b a ∷ []
 term_orders Right = Right ∷ []
 
 -- the ways in which a term of a row may be one with the goal's
 abbrev pub matches_of_term : Term → Term → List (List Equation)
-matches_of_term term goal = flat_map (λ order. option_to_list (equations_from_term term order)) (term_orders goal)
+matches_of_term term goal =
+    flat_map (λ order. option_to_list (equations_from_term term order)) (term_orders goal)
 
 -- the ways in which some term of a sum may be one with the goal's
 abbrev pub matches_of_sum : Term → List Mono → List (List Equation)
@@ -44,7 +50,8 @@ matches_of_sum goal x = flat_map (λ m. matches_of_term m.term goal) x
 
 -- the ways in which two terms of a row may be one
 abbrev pub cancellations_of_terms : Term → Term → List (List Equation)
-cancellations_of_terms term other = flat_map (λ order. option_to_list (equations_from_terms term order)) (term_orders other)
+cancellations_of_terms term other =
+    flat_map (λ order. option_to_list (equations_from_terms term order)) (term_orders other)
 
 -- the ways in which a term may be one with a term of a sum
 abbrev pub cancellations_of_sum : Term → List Mono → List (List Equation)
@@ -78,4 +85,5 @@ sum_under f x = map (mono_at f) x
 -- are as one of the matches says
 abbrev pub CoverSums : List Mono → List Mono → List Mono → List Mono → List (List Equation) → Type 0
 CoverSums x y z w matches =
-    (f : ℕ → ℕ) → IsTrue (agree (sum_under f x) (sum_under f y) z w || agree (sum_under f x) (sum_under f y) w z) → IsTrue (some_agree f matches)
+    (f : ℕ → ℕ) → IsTrue (agree (sum_under f x) (sum_under f y) z w
+        || agree (sum_under f x) (sum_under f y) w z) → IsTrue (some_agree f matches)

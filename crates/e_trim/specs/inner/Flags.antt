@@ -9,7 +9,8 @@ use Rattle.e_literal.specs.Scopes.{grown}
 use Rattle.e_literal.specs.Use.{StatementView}
 use Rattle.e_construct.specs.Construct.{sorts_made, gives_of_construction}
 use Rattle.e_construct.specs.Superposing as superposing
-use Rattle.e_deriv.specs.Script.{Script, Cite, Hence, Make, Apply, Claim, Superposed, Qed, Contradiction, Cases}
+use Rattle.e_deriv.specs.Script.{Script, Cite, Hence, Make, Apply, Claim, Superposed, Qed}
+use Rattle.e_deriv.specs.Script.{Contradiction, Cases}
 use Rattle.e_deriv.specs.Goal.{Goal, goal_of}
 use Rattle.e_deriv.specs.Lines.{theorem_at}
 use Rattle.e_trim.specs.Looked.{Wants, no_wants}
@@ -25,45 +26,55 @@ flag false inner = false ∷ []
 unfoldable pub flags_of : List StatementView → Script → Scope → List Lit → Goal → List Bool
 flags_of before (Cite by rest) s facts goal =
     let after = joined facts by.lit in
-    flags_of before rest s after goal ++ flag (is_kept before (Cite by rest) s facts (wants before rest s after goal)) []
+    flags_of before rest s after goal
+    ++ flag (is_kept before (Cite by rest) s facts (wants before rest s after goal)) []
 flags_of before (Hence lit cert rest) s facts goal =
     let after = joined facts lit in
-    flags_of before rest s after goal ++ flag (is_kept before (Hence lit cert rest) s facts (wants before rest s after goal)) []
+    flags_of before rest s after goal
+    ++ flag (is_kept before (Hence lit cert rest) s facts (wants before rest s after goal)) []
 flags_of before (Make form names certs rest) s facts goal =
     let after = joined_all facts (gives_of_construction form s) in
     let wide = grown s (sorts_made form) in
     flags_of before rest wide after goal
-    ++ flag (is_kept before (Make form names certs rest) s facts (wants before rest wide after goal)) []
+    ++ flag
+        (is_kept before (Make form names certs rest) s facts (wants before rest wide after goal)) []
 flags_of before (Apply theorem args names certs rest) s facts goal =
     let here = Apply theorem args names certs rest in
     let after = joined_all facts (joins_at before here s) in
     let wide = grown s (theorem_at before theorem).made in
-    flags_of before rest wide after goal ++ flag (is_kept before here s facts (wants before rest wide after goal)) []
+    flags_of before rest wide after goal
+    ++ flag (is_kept before here s facts (wants before rest wide after goal)) []
 flags_of before (Claim shown inner rest) s facts goal =
     let after = joined_all facts shown in
     flags_of before rest s after goal
-    ++ flag (is_kept before (Claim shown inner rest) s facts (wants before rest s after goal)) (flags_of before inner s facts (goal_of shown))
+    ++ flag (is_kept before (Claim shown inner rest) s facts (wants before rest s after goal))
+        (flags_of before inner s facts (goal_of shown))
 flags_of before (Superposed form names shown certs inner rest) s facts goal =
     let after = joined_all facts shown in
     let opened = joined_all facts (superposing.gives_of_superposition form s) in
     flags_of before rest s after goal
-    ++ flag (is_kept before (Superposed form names shown certs inner rest) s facts (wants before rest s after goal))
+    ++ flag (is_kept before (Superposed form names shown certs inner rest) s facts
+        (wants before rest s after goal))
     (flags_of before inner (grown s superposing.sorts_copied) opened (goal_of shown))
 flags_of before (Qed objects certs) s facts goal = []
 flags_of before (Contradiction against) s facts goal = []
 flags_of before (Cases lit first second) s facts goal =
-    flags_of before second s (joined facts (negation lit)) goal ++ flags_of before first s (joined facts lit) goal
+    flags_of before second s (joined facts (negation lit)) goal
+    ++ flags_of before first s (joined facts lit) goal
 
 -- what the block inside of a step wants outside of it
 abbrev pub inside_of : List StatementView → Script → Scope → List Lit → Wants
-inside_of before (Claim shown inner rest) s facts = wants_outside s facts (wants before inner s facts (goal_of shown))
+inside_of before (Claim shown inner rest) s facts =
+    wants_outside s facts (wants before inner s facts (goal_of shown))
 inside_of before (Superposed form names shown certs inner rest) s facts =
-    wants_outside s facts (wants before inner (grown s superposing.sorts_copied) (joined_all facts (superposing.gives_of_superposition form s)) (goal_of shown))
+    wants_outside s facts (wants before inner (grown s superposing.sorts_copied)
+        (joined_all facts (superposing.gives_of_superposition form s)) (goal_of shown))
 inside_of before _ s facts = no_wants
 
 -- the flags of the block inside of a step
 abbrev pub step_flags : List StatementView → Script → Scope → List Lit → List Bool
 step_flags before (Claim shown inner rest) s facts = flags_of before inner s facts (goal_of shown)
 step_flags before (Superposed form names shown certs inner rest) s facts =
-    flags_of before inner (grown s superposing.sorts_copied) (joined_all facts (superposing.gives_of_superposition form s)) (goal_of shown)
+    flags_of before inner (grown s superposing.sorts_copied)
+        (joined_all facts (superposing.gives_of_superposition form s)) (goal_of shown)
 step_flags before _ s facts = []

@@ -43,7 +43,8 @@ abbrev pub goal_said : CodeGoal → Goal
 goal_said g = record { made = g.made.now; shown = g.shown.now }
 
 -- the form of each line fits, and at most 1,000 objects of each sort are in scope before it
-pub record IsReady (before : List StatementView) (d : Script) (s : Scope) (facts : List Lit) (goal : Goal) : Type 0 where
+pub record IsReady (before : List StatementView) (d : Script) (s : Scope) (facts : List Lit)
+    (goal : Goal) : Type 0 where
   pub forms : IsTrue (list_all (fits before) (lines before d d s facts goal))
   pub scopes : IsTrue (list_all (λ x. is_small x.scope) (lines before d d s facts goal))
 
@@ -55,14 +56,18 @@ passed before here x = opened (makes_at before here) (joins_at before here x.sco
 pub record StepFits (before : List StatementView) (step : Step) (s : Scope) : Type 0 where
   pub rest : Script
   pub goal : Goal
-  pub fits : IsTrue (fits_at before (step_script step rest) s goal (args_of (step_script step rest)))
+  pub fits :
+      IsTrue (fits_at before (step_script step rest) s goal (args_of (step_script step rest)))
 
 -- the form of the close fits
 abbrev pub CloseFits : Close → Scope → Goal → Type 0
-CloseFits close s goal = (before : List StatementView) → IsTrue (fits_at before (close_script close) s goal (args_of (close_script close)))
+CloseFits close s goal =
+    (before : List StatementView)
+    → IsTrue (fits_at before (close_script close) s goal (args_of (close_script close)))
 
 -- the theorem is one of those before, and the arguments that are written fit it
-pub record IsApplied (before : List StatementView) (theorem : ℕ) (args : List (Option Obj)) (s : Scope) : Type 0 where
+pub record IsApplied (before : List StatementView) (theorem : ℕ) (args : List (Option Obj))
+    (s : Scope) : Type 0 where
   pub place : theorem < length before
   pub fit : IsTrue (are_arguments (theorem_at before theorem) s (written args))
 
@@ -76,21 +81,26 @@ pub record IsReadyToTrim (before : List StatementView) (step : Step) (x : StepSt
 abbrev pub StepWants : List StatementView → Step → StepState → Wants → Wants → Type 0
 StepWants before step x old new =
     (rest : Script) (goal : Goal) →
-    new ≡ both old (both (of_line before (line_at (step_script step rest) x.scope x.facts goal)) (inside_of before (step_script step rest) x.scope x.facts))
+    new ≡ both old (both (of_line before (line_at (step_script step rest) x.scope x.facts goal))
+        (inside_of before (step_script step rest) x.scope x.facts))
 
 -- and these flags to the pile
 abbrev pub StepFlags : List StatementView → Step → StepState → List Bool → List Bool → Type 0
-StepFlags before step x old new = (rest : Script) → new ≡ old ++ step_flags before (step_script step rest) x.scope x.facts
+StepFlags before step x old new =
+    (rest : Script) → new ≡ old ++ step_flags before (step_script step rest) x.scope x.facts
 
 -- a step adds what it wants to what is wanted after it, if it is kept
 abbrev pub StepAdds : List StatementView → Step → StepState → Wants → Wants → Type 0
 StepAdds before step x old new =
-    (rest : Script) (goal : Goal) → new ≡ wants_with_step before (step_script step rest) x.scope x.facts goal (inside_of before (step_script step rest) x.scope x.facts) old
+    (rest : Script) (goal : Goal) → new ≡ wants_with_step before (step_script step rest) x.scope
+        x.facts goal (inside_of before (step_script step rest) x.scope x.facts) old
 
 -- and its flag to the pile, where this is wanted after it
-abbrev pub FlagsAdded : List StatementView → Step → StepState → Wants → List Bool → List Bool → Type 0
+abbrev pub FlagsAdded : List StatementView → Step → StepState → Wants → List Bool
+    → List Bool → Type 0
 FlagsAdded before step x w old new =
-    (rest : Script) → new ≡ old ++ flag (is_kept before (step_script step rest) x.scope x.facts w) (step_flags before (step_script step rest) x.scope x.facts)
+    (rest : Script) → new ≡ old ++ flag (is_kept before (step_script step rest) x.scope x.facts w)
+        (step_flags before (step_script step rest) x.scope x.facts)
 
 -- the facts from before are the first ones still
 abbrev pub KeepsFacts : StepState → StepState → Type 0

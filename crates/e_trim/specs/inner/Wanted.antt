@@ -11,7 +11,8 @@ use Rattle.e_trim.specs.Looked.{Wants, no_wants, both, of_part}
 
 -- the negations of the others of the literal in the instance
 abbrev pub negations_of_others : ℕ → List Obj → Lit → List Lit
-negations_of_others rule args l = option_map_or (λ lits. map negation (others lits l)) (Inst rule args) []
+negations_of_others rule args l =
+    option_map_or (λ lits. map negation (others lits l)) (Inst rule args) []
 
 -- the parts are for these literals
 abbrev pub of_negated : List Lit → List Lit → List Part → Wants

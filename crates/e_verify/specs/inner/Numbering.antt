@@ -22,7 +22,10 @@ abbrev pub HaveFew : List StatementView → Script → StepState → Goal → Ty
 HaveFew before d x goal = IsTrue (list_all has_few (lines_in_state before d x goal))
 
 -- the step has its places, whatever comes after it, where this held before it; now that holds
-pub record IsNumberedStep (before : List StatementView) (whole : Script → Script) (x : StepState) (placed : Script → Script) (after : StepState) : Type 0 where
-  pub same : (rest : Script) (goal : Goal) → places_at before (whole rest) x goal ≡ placed (places_at before rest after goal)
-  pub few : length x.facts < 2 ^ 32 → (rest : Script) (goal : Goal) → HaveFew before rest after goal → HaveFew before (whole rest) x goal
+pub record IsNumberedStep (before : List StatementView) (whole : Script → Script) (x : StepState)
+    (placed : Script → Script) (after : StepState) : Type 0 where
+  pub same : (rest : Script) (goal : Goal)
+      → places_at before (whole rest) x goal ≡ placed (places_at before rest after goal)
+  pub few : length x.facts < 2 ^ 32 → (rest : Script) (goal : Goal) → HaveFew before rest after goal
+      → HaveFew before (whole rest) x goal
   pub kept : KeepsFirstFacts x after

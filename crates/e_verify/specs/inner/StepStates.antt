@@ -21,7 +21,11 @@ with_facts facts x = record x { facts = facts }
 
 -- what the block of a superposition begins with
 abbrev pub state_after_superposed : Superpose → StepState → StepState
-state_after_superposed form x = record { scope = grown x.scope superposing.sorts_copied; facts = joined_all x.facts (superposing.gives_of_superposition form x.scope) }
+state_after_superposed form x =
+    record {
+      scope = grown x.scope superposing.sorts_copied;
+      facts = joined_all x.facts (superposing.gives_of_superposition form x.scope);
+    }
 
 abbrev pub checkpoint_of : StepState → Checkpoint
 checkpoint_of x = record { scope = x.scope; facts = length x.facts }

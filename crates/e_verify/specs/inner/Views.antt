@@ -24,14 +24,28 @@ form_turned true form = negative form
 form_turned false form = form
 
 abbrev pub row_view : CodeRow → Row
-row_view (Sums said x y turned) = record { says = says_view said; form = form_turned turned (normal_summands (plus x.now ++ minus y.now)) }
+row_view (Sums said x y turned) =
+    record {
+      says = says_view said;
+      form = form_turned turned (normal_summands (plus x.now ++ minus y.now));
+    }
 row_view (Pos t) = pos_row t
 row_view (Top t) = top_row t
 row_view Right = right_row
 row_view (Least t) = least_row t
 
 abbrev pub comparison_view : Comparison → Row
-comparison_view c = record { says = says_view c.says; form = normal_summands (plus c.plus.now ++ minus c.minus.now) }
+comparison_view c =
+    record {
+      says = says_view c.says;
+      form = normal_summands (plus c.plus.now ++ minus c.minus.now);
+    }
 
 abbrev pub row_scope_view : RowScope → Place
-row_scope_view p = record { facts = p.facts.now; wanted = option_copied p.wanted; above = option_map row_view p.above; below = option_map row_view p.below }
+row_scope_view p =
+    record {
+      facts = p.facts.now;
+      wanted = option_copied p.wanted;
+      above = option_map row_view p.above;
+      below = option_map row_view p.below;
+    }
