@@ -48,4 +48,4 @@ read_from known last parser (Err f ∷ lines) = Err (line_fault f)
 read_from known last parser (Ok line ∷ lines) =
     if is_skipped (tokens_of line.bytes) then read_from known last parser lines else
     (put_at line.number (line_step known parser (tokens_of line.bytes)) >>= λ d. if is_done d
-        then Ok (Some (entry_of_parser d, lines)) else read_from known last (Some d) lines)
+    then Ok (Some (entry_of_parser d, lines)) else read_from known last (Some d) lines)

@@ -86,7 +86,7 @@ script_forms known ns (Claim shown inner rest) =
     claim_form ns shown ∷ (script_forms known ns inner ++ script_forms known ns rest)
 script_forms known ns (Superposed form names shown certs inner rest) =
     superpose_form ns form names shown ∷ (script_forms known
-        (named ns superposing.sorts_copied names) inner ++ script_forms known ns rest)
+    (named ns superposing.sorts_copied names) inner ++ script_forms known ns rest)
 script_forms known ns (Qed objects certs) = qed_form ns objects ∷ []
 script_forms known ns (Contradiction against) = contradiction_form ∷ []
 script_forms known ns (Cases lit first second) =

@@ -30,7 +30,7 @@ Named = List (List ℕ) × List Cert
 abbrev pub StepLine : Type 0
 StepLine =
     (By ⊎ (Lit × Option Cert)) ⊎ (((Construction × Named) ⊎ (ℕ × (List (Option Obj) × Named)))
-        ⊎ (List Lit ⊎ (Superpose × (List Lit × Named))))
+    ⊎ (List Lit ⊎ (Superpose × (List Lit × Named))))
 
 abbrev pub CloseLine : Type 0
 CloseLine = (List Obj × List Cert) ⊎ (Option Against ⊎ Lit)
@@ -97,15 +97,15 @@ scripts-lines (Apply theorem args names certs rest) more =
     ap (before_one (Apply theorem args names certs)) (scripts-lines rest more)
 scripts-lines (Claim shown inner rest) more =
     scripts-two (Claim shown) inner rest (scripts-lines inner (coded_lines rest more))
-        (scripts-lines rest more)
+    (scripts-lines rest more)
 scripts-lines (Superposed form names shown certs inner rest) more =
     scripts-two (Superposed form names shown certs) inner rest
-        (scripts-lines inner (coded_lines rest more)) (scripts-lines rest more)
+    (scripts-lines inner (coded_lines rest more)) (scripts-lines rest more)
 scripts-lines (Qed objects certs) more = refl
 scripts-lines (Contradiction cert) more = refl
 scripts-lines (Cases lit first second) more =
     scripts-two (Cases lit) first second (scripts-lines first (coded_lines second more))
-        (scripts-lines second more)
+    (scripts-lines second more)
 
 abbrev pub first_script : List Script → Script
 first_script [] = Contradiction None
@@ -117,11 +117,11 @@ named_code = coded× (coded_list (coded_list coded_ℕ)) (coded_list certificate
 abbrev pub step_line_code : Coded StepLine
 step_line_code =
     coded⊎ (coded⊎ citation.the_row.coded
-        (coded× literal.the_row.coded (coded_option certificate.the_row.coded)))
+    (coded× literal.the_row.coded (coded_option certificate.the_row.coded)))
     (coded⊎ (coded⊎ (coded× construction.the_row.coded named_code)
-        (coded× coded_ℕ (coded× (coded_list (coded_option object.the_row.coded)) named_code)))
+    (coded× coded_ℕ (coded× (coded_list (coded_option object.the_row.coded)) named_code)))
     (coded⊎ (coded_list literal.the_row.coded) (coded× superposition.the_row.coded
-        (coded× (coded_list literal.the_row.coded) named_code))))
+    (coded× (coded_list literal.the_row.coded) named_code))))
 
 abbrev pub close_line_code : Coded CloseLine
 close_line_code =
@@ -157,4 +157,4 @@ first_step-before (Copied form names shown certs inner) = refl
 abbrev pub steps_code : Coded (List PlainStep)
 steps_code =
     coded_list (code_by Script script_code
-        (λ s. before s (Contradiction None)) first_step first_step-before)
+    (λ s. before s (Contradiction None)) first_step first_step-before)

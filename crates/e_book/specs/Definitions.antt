@@ -63,7 +63,7 @@ after_first_line known (Plain f) =
 after_first_line known (Define t) =
     if is_taken known t then Err NameTaken else
     (all_kept ((nat_le (length known.notions + 1) most_notions, limits.Notions) ∷ [])
-        >>= λ kept. Ok (InDefinition (nothing_said t) 0))
+    >>= λ kept. Ok (InDefinition (nothing_said t) 0))
 after_first_line known (Listed line items) = Err Malformed
 
 -- ---- a line without items
@@ -92,8 +92,8 @@ plain_line known (InTheorem o n) f =
     line_after known.theorems (Some o) f >>= λ m. Ok (InTheorem m n)
 plain_line known (InDefinition h n) f =
     if says_more f
-        then (line_after known.theorems (Some (Stating h)) f >>= λ o. still_defined n o)
-        else ends_definition h f
+    then (line_after known.theorems (Some (Stating h)) f >>= λ o. still_defined n o)
+    else ends_definition h f
 plain_line known (Defined t) f = Err Malformed
 
 -- ---- a line with items: the literals that they stand for are written out in their place
@@ -121,9 +121,9 @@ after_listed_line known (InTheorem o n) line is =
     written_out known o line is >>= λ w. plain_line known (InTheorem o n) w.0 >>= λ c. counted w.1 c
 after_listed_line known (InDefinition h n) line is =
     if is_show line
-        then (written_out known (Stating h) line is >>= λ w. plain_line known (InDefinition h n) w.0
-            >>= λ c. counted w.1 c)
-        else Err Malformed
+    then (written_out known (Stating h) line is >>= λ w. plain_line known (InDefinition h n) w.0
+    >>= λ c. counted w.1 c)
+    else Err Malformed
 after_listed_line known (Defined t) line is = Err Malformed
 
 -- ---- lines
@@ -165,7 +165,7 @@ item_from known last c (Err f ∷ lines) = Err (line_fault f)
 item_from known last c (Ok line ∷ lines) =
     if is_skipped (tokens_of line.bytes) then item_from known last c lines else
     (put_at line.number (line_said known c (tokens_of line.bytes))
-        >>= λ n. whole_or (whole n) lines (item_from known last (Some n) lines))
+    >>= λ n. whole_or (whole n) lines (item_from known last (Some n) lines))
 
 -- ---- what is answered
 

@@ -18,8 +18,8 @@ Leaves known o (Err f ∷ lines) left = ⊥
 Leaves known o (Ok line ∷ lines) left =
     (is_skipped (tokens_of line.bytes) ≡ true → Leaves known o lines left)
     × (is_skipped (tokens_of line.bytes) ≡ false
-        → (n : Coming) × (line_said known o (tokens_of line.bytes) ≡ Ok n) × (whole n ≡ None)
-        × Leaves known (Some n) lines left)
+    → (n : Coming) × (line_said known o (tokens_of line.bytes) ≡ Ok n) × (whole n ≡ None)
+    × Leaves known (Some n) lines left)
 
 -- a line has this fault here: its bytes, or its form, its names or a limit
 abbrev pub IsFaulty : Known → Option Coming → Result LineView LineFault → BookFault → Type 0

@@ -65,14 +65,14 @@ few_facts before n s (Make form names certs rest) =
 few_facts before n s (Apply theorem args names certs rest) =
     nat_le (n + length (theorem_at before theorem).shown) most_facts
     && few_facts before (n + length (theorem_at before theorem).shown)
-        (grown s (theorem_at before theorem).made) rest
+    (grown s (theorem_at before theorem).made) rest
 few_facts before n s (Claim shown inner rest) =
     few_facts before n s inner
     && (nat_le (n + length shown) most_facts && few_facts before (n + length shown) s rest)
 few_facts before n s (Superposed form names shown certs inner rest) =
     nat_le (n + length (superposing.gives_of_superposition form s)) most_facts
     && (few_facts before (n + length (superposing.gives_of_superposition form s))
-        (grown s superposing.sorts_copied) inner
+    (grown s superposing.sorts_copied) inner
     && (nat_le (n + length shown) most_facts && few_facts before (n + length shown) s rest))
 few_facts before n s (Qed objects certs) = true
 few_facts before n s (Contradiction against) = true
@@ -105,21 +105,21 @@ few_terms before n s (Make form names certs rest) =
 few_terms before n s (Apply theorem args names certs rest) =
     nat_le (n + count_monomials (theorem_at before theorem).shown) most_terms
     && few_terms before (n + count_monomials (theorem_at before theorem).shown)
-        (grown s (theorem_at before theorem).made) rest
+    (grown s (theorem_at before theorem).made) rest
 few_terms before n s (Claim shown inner rest) =
     few_terms before n s inner && (nat_le (n + count_monomials shown) most_terms
-        && few_terms before (n + count_monomials shown) s rest)
+    && few_terms before (n + count_monomials shown) s rest)
 few_terms before n s (Superposed form names shown certs inner rest) =
     nat_le (n + count_monomials (superposing.gives_of_superposition form s)) most_terms
     && (few_terms before (n + count_monomials (superposing.gives_of_superposition form s))
-        (grown s superposing.sorts_copied) inner
+    (grown s superposing.sorts_copied) inner
     && (nat_le (n + count_monomials shown) most_terms
-        && few_terms before (n + count_monomials shown) s rest))
+    && few_terms before (n + count_monomials shown) s rest))
 few_terms before n s (Qed objects certs) = true
 few_terms before n s (Contradiction against) = true
 few_terms before n s (Cases lit first second) =
     nat_le (n + monomials lit.atom) most_terms && (few_terms before (n + monomials lit.atom) s first
-        && few_terms before (n + monomials lit.atom) s second)
+    && few_terms before (n + monomials lit.atom) s second)
 
 -- no line has more blanks than the limit
 unfoldable pub few_blanks : Script → Bool

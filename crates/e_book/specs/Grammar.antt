@@ -47,7 +47,7 @@ abbrev pub begins : List TitledStatement → RawLine → Result Open FaultKind
 begins known (rawlines.Theorem t) =
     if is_known known t then Err NameTaken else
     (all_kept ((nat_le (length known + 1) most_theorems, limits.Theorems) ∷ [])
-        >>= λ kept. Ok (Stating (nothing_said t)))
+    >>= λ kept. Ok (Stating (nothing_said t)))
 begins known f = Err Malformed
 
 abbrev pub is_empty : {A : Type 0} → List A → Bool
@@ -134,7 +134,7 @@ next known (Proving h around steps) f =
 next known (Splitting h around) rawlines.Else = Ok (Proving h around [])
 next known (Proved h script) rawlines.End =
     Ok (Ended
-        (record { title = h.title; names = h.names; statement = h.statement; script = script }))
+    (record { title = h.title; names = h.names; statement = h.statement; script = script }))
 next known o f = Err Malformed
 
 -- a line: its form there, its names, and then the limits
@@ -187,7 +187,7 @@ read_from known last o (Err f ∷ lines) = Err (line_fault f)
 read_from known last o (Ok line ∷ lines) =
     if is_skipped (tokens_of line.bytes) then read_from known last o lines else
     (put_at line.number (line_read known o (tokens_of line.bytes))
-        >>= λ n. or_more (theorem_ended n) lines (read_from known last (Some n) lines))
+    >>= λ n. or_more (theorem_ended n) lines (read_from known last (Some n) lines))
 
 -- ---- what is answered
 

@@ -75,5 +75,5 @@ FaultIsFirst =
 abbrev pub FaultIsOfTheFront : Type 0
 FaultIsOfTheFront =
     (known : Known) (lines : List (Result LineView LineFault)) (fault : BookFault)
-        (b : BreaksAt known None lines fault) (last : ℕ) (other : List (Result LineView LineFault))
+    (b : BreaksAt known None lines fault) (last : ℕ) (other : List (Result LineView LineFault))
     → item_from known last None (b.front ++ b.line ∷ other) ≡ Err fault

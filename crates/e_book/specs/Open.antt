@@ -65,4 +65,4 @@ unfoldable pub after_close : Head → List Enclosing → List PlainStep → Scri
 after_close h [] steps close = Proved h (all_before steps close)
 after_close h (a ∷ around) steps close =
     after_inner_close h around a.steps (all_before steps close)
-        (λ c. after_close h around a.steps c) a.opener
+    (λ c. after_close h around a.steps c) a.opener

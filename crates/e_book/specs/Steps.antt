@@ -240,7 +240,7 @@ closed d [] steps close =
     Ok (record d { steps = steps; blocks = []; close = close; place = Closed })
 closed d (o ∷ os) steps close =
     closed_inside d o os (all_before steps (script_of_close close))
-        (λ c. closed d os o.steps c) o.kind
+    (λ c. closed d os o.steps c) o.kind
 
 -- a block that an inner one interrupts, with what began that one
 abbrev pub outer_with : Saved → BlockKind → OpenBlock
@@ -273,7 +273,7 @@ ClosesInside d o close (Ok None) new =
     → closed_inside d o d.blocks (all_before d.steps (script_of_close close)) again o.kind ≡ Ok new
 ClosesInside d o close (Ok (Some next)) new =
     ((again : CloseLine → Result TheoremParser FaultKind) → closed_inside d o d.blocks
-        (all_before d.steps (script_of_close close)) again o.kind ≡ again next)
+    (all_before d.steps (script_of_close close)) again o.kind ≡ again next)
     × (new ≡ record d { steps = o.steps })
 ClosesInside d o close (Err e) new =
     (again : CloseLine → Result TheoremParser FaultKind)
@@ -289,20 +289,20 @@ shut d close =
 abbrev pub declares : TheoremParser → Sort → List (List ℕ) → Result TheoremParser FaultKind
 declares d sort ns =
     declared d.names sort ns >>= λ names. Ok
-        (record d { names = names; declared = d.declared ++ replicate (length ns) sort })
+    (record d { names = names; declared = d.declared ++ replicate (length ns) sort })
 
 -- given literals: their names, then the limits
 abbrev pub supposes : TheoremParser → List RawLit → Result TheoremParser FaultKind
 supposes d raws =
     with_front d.given (lits_in d.names raws)
     >>= λ ls. within (d.facts + length raws) most_facts limits.Facts >>= λ few. with_terms
-        (record d { given = ls; facts = d.facts + length raws; place = Giving }) raws
+    (record d { given = ls; facts = d.facts + length raws; place = Giving }) raws
 
 -- made objects
 abbrev pub makes : TheoremParser → Sort → List (List ℕ) → Result TheoremParser FaultKind
 makes d sort ns =
     declared d.names sort ns >>= λ names. Ok
-        (record d { names = names; made = d.made ++ replicate (length ns) sort; place = Making })
+    (record d { names = names; made = d.made ++ replicate (length ns) sort; place = Making })
 
 -- shown literals
 abbrev pub shows : TheoremParser → List RawLit → Result TheoremParser FaultKind

@@ -106,8 +106,8 @@ certificate t = Transfer (record { rule = t.rule; args = t.args; parts = t.parts
 abbrev pub transfer_put : List Lit → List Cert → OpenTransfer → Result Obligation FaultKind
 transfer_put wanted certs t =
     if length t.parts == t.owed
-        then Ok (due.Literals wanted (certs ++ certificate t ∷ []) None)
-        else Ok (due.Literals wanted certs (Some t))
+    then Ok (due.Literals wanted (certs ++ certificate t ∷ []) None)
+    else Ok (due.Literals wanted certs (Some t))
 
 -- what needs no rule certifies a part of the transfer that is begun, and else the next literal
 abbrev pub part_put : Obligation → Part → Result Obligation FaultKind

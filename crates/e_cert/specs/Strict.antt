@@ -25,4 +25,4 @@ unfoldable pub exact_cert_line : List ℕ → List (List ℕ) → Result CertLin
 exact_cert_line line words =
     cert_line_of words
     >>= λ m. if is_strict_cert_line m && bytes_eq line (cert_line_text m) then Ok m else
-        Err Malformed
+    Err Malformed

@@ -16,7 +16,7 @@ abbrev pub is_citation : Scope → By → Bool
 is_citation s by =
     is_diagram_rule by.rule
     && (list_all (is_in_scope s) by.args
-        && (all_in_scope s by.lit && is_some (Inst by.rule by.args)))
+    && (all_in_scope s by.lit && is_some (Inst by.rule by.args)))
 
 -- the literal is one of the instance, and the negation of each other is a fact
 abbrev pub instance_gives : List Lit → Lit → List Lit → Bool

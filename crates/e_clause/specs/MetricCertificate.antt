@@ -28,7 +28,7 @@ differing_of facts wanted _ = None
 abbrev pub differing : List Lit → Option Lit → RowName → Option Row
 differing facts wanted name =
     option_and_then (λ r. if says_differ r.says then Some r else None)
-        (differing_of facts wanted name)
+    (differing_of facts wanted name)
 
 -- the row that says that the form is more than 0, and the one that says that it is less
 abbrev pub above_row : Row → Row
@@ -42,9 +42,9 @@ abbrev pub both_refute : List Lit → Option Lit → Row → List (ℤ × RowNam
     → List (ℤ × RowName) → Bool
 both_refute facts wanted r first second =
     refutes
-        (record { facts = facts; wanted = wanted; above = Some (above_row r); below = None }) first
+    (record { facts = facts; wanted = wanted; above = Some (above_row r); below = None }) first
     && refutes
-        (record { facts = facts; wanted = wanted; above = None; below = Some (below_row r) }) second
+    (record { facts = facts; wanted = wanted; above = None; below = Some (below_row r) }) second
 
 -- ---- the sums of a certificate
 
@@ -55,7 +55,7 @@ sums_refute facts wanted (One sum) =
     refutes (record { facts = facts; wanted = wanted; above = None; below = None }) sum
 sums_refute facts wanted (Two differs first second) =
     option_map_or (λ r. both_refute facts wanted r first second)
-        (differing facts wanted differs) false
+    (differing facts wanted differs) false
 
 -- ---- the objects that a certificate names are in the scope before its step
 

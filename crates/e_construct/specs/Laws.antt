@@ -9,4 +9,4 @@ use Rattle.e_construct.specs.Lines.{pieces, count_new, count_arguments}
 abbrev pub LinesNameAllObjects : Type 0
 LinesNameAllObjects =
     (s : Shape) → (count_new (pieces s) ≡ length (shape_row s).made)
-        × (count_arguments (pieces s) ≡ length (shape_row s).args)
+    × (count_arguments (pieces s) ≡ length (shape_row s).args)

@@ -38,7 +38,7 @@ certified_beside _ s facts = true
 abbrev pub is_certified : List StatementView → Line → Bool
 is_certified before x =
     fits before x && (certify_all x.scope x.facts (needs before x) (certs_of x.here)
-        && certified_beside x.here x.scope x.facts)
+    && certified_beside x.here x.scope x.facts)
 
 -- the lines of a derivation, which has no blanks to fill
 abbrev pub derivation_lines : List StatementView → StatementView → Script → List Line

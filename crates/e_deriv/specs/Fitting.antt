@@ -36,7 +36,7 @@ LitsFit before [] = Unit {0}
 LitsFit before (x ∷ xs) =
     IsTrue (are_limited_facts x.scope x.facts)
     × (IsTrue (fits before x)
-        → IsTrue (are_well_formed_in x.scope (needs before x)) × LitsFit before xs)
+    → IsTrue (are_well_formed_in x.scope (needs before x)) × LitsFit before xs)
 
 -- the form of each line fits, and so do the literals, however blanks are filled; there are at most
 -- 1,024 lines, and at most 32 blocks are one inside the other; before each line at most 1,000

@@ -50,7 +50,7 @@ lines before (Hence lit cert rest) f s facts goal =
     ∷ lines before rest (rest_of f) s (joined facts lit) goal
 lines before (Make form names certs rest) f s facts goal =
     line (Make form names certs rest) f s facts goal ∷ lines before rest (rest_of f)
-        (grown s (sorts_made form)) (joined_all facts (gives_of_construction form s)) goal
+    (grown s (sorts_made form)) (joined_all facts (gives_of_construction form s)) goal
 lines before (Apply theorem args names certs rest) f s facts goal =
     line (Apply theorem args names certs rest) f s facts goal
     ∷ lines before rest (rest_of f) (grown s (theorem_at before theorem).made)
@@ -58,11 +58,11 @@ lines before (Apply theorem args names certs rest) f s facts goal =
 lines before (Claim shown inner rest) f s facts goal =
     line (Claim shown inner rest) f s facts goal
     ∷ (lines before inner (inner_of f) s facts (goal_of shown)
-        ++ lines before rest (rest_of f) s (joined_all facts shown) goal)
+    ++ lines before rest (rest_of f) s (joined_all facts shown) goal)
 lines before (Superposed form names shown certs inner rest) f s facts goal =
     line (Superposed form names shown certs inner rest) f s facts goal
     ∷ (lines before inner (inner_of f) (grown s superposing.sorts_copied)
-        (joined_all facts (superposing.gives_of_superposition form s)) (goal_of shown)
+    (joined_all facts (superposing.gives_of_superposition form s)) (goal_of shown)
     ++ lines before rest (rest_of f) s (joined_all facts shown) goal)
 lines before (Qed objects certs) f s facts goal = line (Qed objects certs) f s facts goal ∷ []
 lines before (Contradiction against) f s facts goal =
@@ -70,7 +70,7 @@ lines before (Contradiction against) f s facts goal =
 lines before (Cases lit first second) f s facts goal =
     line (Cases lit first second) f s facts goal
     ∷ (lines before first (inner_of f) s (joined facts lit) goal
-        ++ lines before second (rest_of f) s (joined facts (negation lit)) goal)
+    ++ lines before second (rest_of f) s (joined facts (negation lit)) goal)
 
 -- the lines of a statement's proof
 abbrev pub proof_lines : List StatementView → StatementView → Script → Script → List Line

@@ -42,7 +42,7 @@ names_lines before ns (Claim shown inner rest) =
     ns ∷ (names_lines before ns inner ++ names_lines before ns rest)
 names_lines before ns (Superposed form names shown certs inner rest) =
     ns ∷ (names_lines before (named ns superposing.sorts_copied names) inner
-        ++ names_lines before ns rest)
+    ++ names_lines before ns rest)
 names_lines before ns (Qed objects certs) = ns ∷ []
 names_lines before ns (Contradiction against) = ns ∷ []
 names_lines before ns (Cases lit first second) =

@@ -33,7 +33,7 @@ Proves before s facts goal (Hence lit cert rest) =
 Proves before s facts goal (Make form names certs rest) =
     IsTrue (fits_construction form s) × AllAllowed s facts (needs_of_construction form)
     × Proves before (grown s (sorts_made form))
-        (joined_all facts (gives_of_construction form s)) goal rest
+    (joined_all facts (gives_of_construction form s)) goal rest
 -- no argument is a blank, they fit the theorem, which is an earlier one, and each given literal is
 -- allowed; the made objects come into scope, and the shown literals join the facts
 Proves before s facts goal (Apply theorem args names certs rest) =
@@ -54,7 +54,7 @@ Proves before s facts goal (Superposed form names shown certs inner rest) =
     × AllAllowed s facts (superposing.needs_of_superposition form)
     × IsTrue (are_over s shown)
     × Proves before (grown s superposing.sorts_copied)
-        (joined_all facts (superposing.gives_of_superposition form s)) (goal_of shown) inner
+    (joined_all facts (superposing.gives_of_superposition form s)) (goal_of shown) inner
     × Proves before s (joined_all facts shown) goal rest
 -- each goal literal, with the objects for the made ones, is allowed
 Proves before s facts goal (Qed objects certs) =

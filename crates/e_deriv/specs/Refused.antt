@@ -63,7 +63,7 @@ abbrev pub IsWideAt : List StatementView → Line → Script → Type 0
 IsWideAt before x (Contradiction against) = IsWideContradiction x.facts
 IsWideAt before x (Apply theorem pattern names certs rest) =
     MatchBool (has_no_blank pattern) (SomeIsWide before x)
-        (SomeChoiceIsWide (theorem_at before theorem) x.scope x.facts pattern)
+    (SomeChoiceIsWide (theorem_at before theorem) x.scope x.facts pattern)
 IsWideAt before x _ = SomeIsWide before x
 
 abbrev pub IsWideLine : List StatementView → Line → Type 0

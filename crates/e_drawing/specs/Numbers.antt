@@ -25,8 +25,8 @@ unsigned_of w = if is_numeral w then Ok (pos (value_to most_size w)) else Err Ma
 abbrev pub negative_of : List ℕ → Result ℤ FaultKind
 negative_of w =
     if is_numeral w && nat_lt 0 (value_to most_size w)
-        then Ok (neg_ℤ (pos (value_to most_size w)))
-        else Err Malformed
+    then Ok (neg_ℤ (pos (value_to most_size w)))
+    else Err Malformed
 
 -- a numeral, or a minus sign and a numeral other than 0
 abbrev pub coordinate_of : List ℕ → Result ℤ FaultKind

@@ -69,8 +69,8 @@ can_be_drawn d = has_few_objects d && (is_bounded d && is_figure d)
 abbrev pub figure_of : List Point → List Straight → List Round → Option FigureView
 figure_of points lines circles =
     if can_be_drawn (view_of_figure points lines circles)
-        then Some (view_of_figure points lines circles)
-        else None
+    then Some (view_of_figure points lines circles)
+    else None
 
 -- ---- one object more, put after those of its sort
 

@@ -24,7 +24,7 @@ EveryInstanceIsTrue =
 abbrev pub true_at : FigureView → ℕ → List Obj → ℕ → Bool
 true_at d rule args k =
     option_map_or (λ lits. option_map_or (is_true d) (slice_get lits k) false)
-        (Inst rule args) false
+    (Inst rule args) false
 
 -- the arguments are in the figure's scope
 abbrev pub are_in_figure : FigureView → List Obj → Bool

@@ -57,7 +57,7 @@ line_meets_circle l c =
 abbrev pub circles_meet : Round → Round → Bool
 circles_meet c e =
     int_lt ((dist e.x e.y c.x c.y -ℤ pos c.square -ℤ pos e.square)
-        *ℤ (dist e.x e.y c.x c.y -ℤ pos c.square -ℤ pos e.square))
+    *ℤ (dist e.x e.y c.x c.y -ℤ pos c.square -ℤ pos e.square))
     (pos 4 *ℤ (pos c.square *ℤ pos e.square))
 
 abbrev pub same_point : Point → Point → Bool

@@ -37,7 +37,7 @@ plus_segment i = codes " +" ++ segment i (i + 1)
 abbrev pub show_sum : ℕ → List ℕ
 show_sum m =
     codes "show" ++ (segment 0 1 ++ (flat_map plus_segment (numbers 1 (m - 1))
-        ++ (codes " =" ++ (segment 0 m ++ codes "\n"))))
+    ++ (codes " =" ++ (segment 0 m ++ codes "\n"))))
 
 -- and the first is less than it
 abbrev pub show_less : ℕ → List ℕ
@@ -62,7 +62,7 @@ turned i j k =
 abbrev pub run : ℕ → List ℕ
 run i =
     codes "by b5" ++ (point (i + 1)
-        ++ (point i ++ (point (i - 1) ++ (codes " p0 :" ++ (between (i + 1) i 0 ++ codes "\n")))))
+    ++ (point i ++ (point (i - 1) ++ (codes " p0 :" ++ (between (i + 1) i 0 ++ codes "\n")))))
 
 -- so each point is between the first and the next
 abbrev pub cites : ℕ → List ℕ
@@ -82,13 +82,13 @@ last k = 3 + (k - 1) % 6
 abbrev pub statement : ℕ → ℕ → List ℕ
 statement k m =
     codes "theorem G" ++ (decimal k ++ (codes "\n" ++ (points_line m
-        ++ (flat_map given_between_line (numbers 0 (m - 1)) ++ (show_sum m ++ show_less m)))))
+    ++ (flat_map given_between_line (numbers 0 (m - 1)) ++ (show_sum m ++ show_less m)))))
 
 abbrev pub proof : ℕ → ℕ → List ℕ
 proof k m =
     codes "proof\n" ++ (earlier k m ++ (codes "by b1b p1 p2 p3 : p1 != p2\n" ++ (turned 0 1 2
     ++ (flat_map cites (numbers 2 (m - 2))
-        ++ (flat_map hence_line (numbers 1 (m - 1)) ++ codes "qed\nend\n")))))
+    ++ (flat_map hence_line (numbers 1 (m - 1)) ++ codes "qed\nend\n")))))
 
 abbrev pub generated_theorem_text : ℕ → List ℕ
 generated_theorem_text k = statement k (last k) ++ proof k (last k)

@@ -108,7 +108,7 @@ JudgesLines (Ok l ∷ lines) j = JudgedAfterHead (version_of l) lines j
 abbrev pub lines_of_text : List ℕ → Rest
 lines_of_text text =
     lines_of (record { longest = 262144; most = length text })
-        (record { line = 1; before = 0 }) text
+    (record { line = 1; before = 0 }) text
 
 -- a derivation text is judged so
 abbrev pub JudgesText : List ℕ → Judgement → Type 0

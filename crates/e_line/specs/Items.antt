@@ -65,7 +65,7 @@ unfoldable pub placing_of : List (List ℕ) → Result Listing FaultKind
 placing_of head =
     if are_words_of superpose_pieces head
     then (names_of (new_words superpose_pieces head) >>= λ new. names_of
-        (argument_words superpose_pieces head) >>= λ args. Ok (Superpose args new))
+    (argument_words superpose_pieces head) >>= λ args. Ok (Superpose args new))
     else Err Malformed
 
 unfoldable pub listed : Listing → List (List ℕ) → Result BookLine FaultKind
@@ -82,7 +82,7 @@ line_named w ws =
     if bytes_eq w (codes "show") && has_item ws then listed Show ws else
     if bytes_eq w (codes "claim") && has_item ws then listed Claim ws else
     if bytes_eq w (codes "superpose") && has_item (drop 13 ws)
-        then (placing_of (take 13 ws) >>= λ line. listed line (drop 13 ws)) else
+    then (placing_of (take 13 ws) >>= λ line. listed line (drop 13 ws)) else
     (raw_line_named w ws >>= λ f. Ok (Plain f))
 
 unfoldable pub book_line_of : List (List ℕ) → Result BookLine FaultKind

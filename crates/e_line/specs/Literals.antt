@@ -94,16 +94,16 @@ unfoldable pub related : Bool → List ℕ → List (List ℕ) → Result RawLit
 related negated w ws =
     if bytes_eq w (codes "on") then (two_names ws >>= λ p. Ok (signed negated (On p.0 p.1))) else
     if bytes_eq w (codes "inside")
-        then (two_names ws >>= λ p. Ok (signed negated (Inside p.0 p.1))) else
+    then (two_names ws >>= λ p. Ok (signed negated (Inside p.0 p.1))) else
     if bytes_eq w (codes "center")
-        then (two_names ws >>= λ p. Ok (signed negated (Center p.0 p.1))) else
+    then (two_names ws >>= λ p. Ok (signed negated (Center p.0 p.1))) else
     if bytes_eq w (codes "between")
-        then (three_names ws >>= λ p. Ok (signed negated (Between p.0 p.1 p.2))) else
+    then (three_names ws >>= λ p. Ok (signed negated (Between p.0 p.1 p.2))) else
     if bytes_eq w (codes "same-side")
-        then (three_names ws >>= λ p. Ok (signed negated (Same p.0 p.1 p.2))) else
+    then (three_names ws >>= λ p. Ok (signed negated (Same p.0 p.1 p.2))) else
     if bytes_eq w (codes "meets")
-        then (two_names ws >>= λ p. Ok (signed negated (Meets p.0 p.1)))
-        else compared negated (w ∷ ws)
+    then (two_names ws >>= λ p. Ok (signed negated (Meets p.0 p.1)))
+    else compared negated (w ∷ ws)
 
 unfoldable pub signed_of : Bool → List (List ℕ) → Result RawLit FaultKind
 signed_of negated [] = Err Malformed

@@ -20,8 +20,8 @@ unfoldable pub raw_superpose_of : List (List ℕ) → List (List ℕ) → Result
 raw_superpose_of head rest =
     if are_words_of superpose_pieces head
     then (names_of (new_words superpose_pieces head)
-        >>= λ new. names_of (argument_words superpose_pieces head) >>= λ args. lits_of rest
-        >>= λ ls. Ok (record { args = args; new = new; shown = ls }))
+    >>= λ new. names_of (argument_words superpose_pieces head) >>= λ args. lits_of rest
+    >>= λ ls. Ok (record { args = args; new = new; shown = ls }))
     else Err Malformed
 
 -- what comes after superpose: a word for each piece, and then literals

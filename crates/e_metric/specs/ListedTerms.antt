@@ -17,4 +17,4 @@ with_listed seen (t ∷ ts) = with_listed (if has_term seen t then seen else see
 abbrev pub distinct_terms : Kind → List Lit → Option Lit → List Term
 distinct_terms which facts wanted =
     first_terms []
-        (terms_of_lits (of_kind which facts) ++ terms_of_lits (of_kind which (against_goal wanted)))
+    (terms_of_lits (of_kind which facts) ++ terms_of_lits (of_kind which (against_goal wanted)))

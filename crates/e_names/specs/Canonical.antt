@@ -117,7 +117,7 @@ abbrev pub apply_form : List TitledStatement → Names → ℕ → List (Option 
     → List (List ℕ) → RawLine
 apply_form known ns theorem args names =
     rawlines.Apply
-        (record { title = title_at known theorem; args = map (argument_name ns) args; new = names })
+    (record { title = title_at known theorem; args = map (argument_name ns) args; new = names })
 
 abbrev pub claim_form : Names → List Lit → RawLine
 claim_form ns shown = rawlines.Claim (map (raw_of ns) shown)
@@ -137,7 +137,7 @@ placed_names ns form =
 abbrev pub superpose_form : Names → Superpose → List (List ℕ) → List Lit → RawLine
 superpose_form ns form names shown =
     rawlines.Superpose
-        (record { args = placed_names ns form; new = names; shown = map (raw_of ns) shown })
+    (record { args = placed_names ns form; new = names; shown = map (raw_of ns) shown })
 
 abbrev pub cases_form : Names → Lit → RawLine
 cases_form ns lit = rawlines.Cases (raw_of ns lit)

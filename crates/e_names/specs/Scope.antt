@@ -71,7 +71,7 @@ object_in ns sort name = object_at sort (position (λ n. bytes_eq n name) (names
 abbrev pub object_of : Names → List ℕ → Option Obj
 object_of ns name =
     or_else (object_in ns sorts.Point name)
-        (or_else (object_in ns sorts.Line name) (object_in ns sorts.Circle name))
+    (or_else (object_in ns sorts.Line name) (object_in ns sorts.Circle name))
 
 abbrev pub known_object : Option Obj → Result Obj FaultKind
 known_object None = Err UnknownName
@@ -118,8 +118,8 @@ first_kind [] [] = magnitudes.Segment
 unfoldable pub mono_in : Names → Magnitude → RawMono → Result Mono FaultKind
 mono_in ns kind m =
     if same_kind (kind_of_raw m.term) kind
-        then (term_in ns m.term >>= λ t. Ok (record { coeff = m.coeff; term = t }))
-        else Err WrongSort
+    then (term_in ns m.term >>= λ t. Ok (record { coeff = m.coeff; term = t }))
+    else Err WrongSort
 
 -- all terms have the kind of the first one
 unfoldable pub sums_in : Names → List RawMono → List RawMono
@@ -199,7 +199,7 @@ objects_as ns sort names = each (object_as ns sort) names
 abbrev pub is_taken : Names → List (List ℕ) → List ℕ → Bool
 is_taken ns seen name =
     is_among_names ns.points name || (is_among_names ns.lines name
-        || (is_among_names ns.circles name || is_among_names seen name))
+    || (is_among_names ns.circles name || is_among_names seen name))
 
 -- none of the names is taken, and none is new twice
 abbrev pub fresh : Names → List (List ℕ) → List (List ℕ) → Result (Unit {0}) FaultKind
@@ -263,8 +263,8 @@ abbrev pub first_fitting : Scope → List Obj → List Obj → List Shape → Re
 first_fitting s args avoid [] = Err Malformed
 first_fitting s args avoid (shape ∷ shapes) =
     if fits_construction (construction shape args avoid) s
-        then Ok (construction shape args avoid)
-        else first_fitting s args avoid shapes
+    then Ok (construction shape args avoid)
+    else first_fitting s args avoid shapes
 
 -- the new names, then the arguments, then the avoided objects, from left to right. No line of
 -- a book has another number of new names than objects that are made.

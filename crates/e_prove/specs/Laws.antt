@@ -54,6 +54,6 @@ IsRefusalAt n wanted NoMemory = Unit {0}
 abbrev pub RefusedStopsThere : Type 0
 RefusedStopsThere =
     (before : List StatementView) (t : StatementView) (script : Script) (n : ℕ) (wanted : Wanted)
-        (stop : Stop) (first : IsFirstUnlicensed before t script n wanted) →
+    (stop : Stop) (first : IsFirstUnlicensed before t script n wanted) →
     NoneWide before (take n (proof_lines before t script first.context.filled))
     → StopIs before t script stop → IsRefusalAt n wanted stop

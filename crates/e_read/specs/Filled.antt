@@ -68,7 +68,7 @@ Fills old ks new left = script_with_certs old ks ≡ (new, left)
 abbrev pub FillsStep : Step → List StepCerts → Step → List StepCerts → Type 0
 FillsStep old ks new left =
     (rest : Script) → script_with_certs (step_script old rest) ks
-        ≡ (step_script new (script_with_certs rest left).0, (script_with_certs rest left).1)
+    ≡ (step_script new (script_with_certs rest left).0, (script_with_certs rest left).1)
 
 abbrev pub FillsClose : Close → List StepCerts → Close → List StepCerts → Type 0
 FillsClose old ks new left = script_with_certs (close_script old) ks ≡ (close_script new, left)

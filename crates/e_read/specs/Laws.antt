@@ -32,7 +32,7 @@ pub record ReadsAsBook (known : List TitledStatement) (last : ℕ) (t : TheoremV
 abbrev pub DerivationsAreOfBooks : Type 0
 DerivationsAreOfBooks =
     (v : Version) (known : List TitledStatement) (last : ℕ) (t : TheoremView)
-        (lines rest : List (Result LineView LineFault))
+    (lines rest : List (Result LineView LineFault))
     → piece_from known last (at_start v) lines ≡ Ok (Derived t, rest)
     → ReadsAsBook known last t lines rest
 
@@ -57,6 +57,6 @@ EndsTooSoon v known lines = (last : ℕ) → piece_from known last (at_start v) 
 abbrev pub GarbledLineIsFirst : Type 0
 GarbledLineIsFirst =
     (v : Version) (known : List TitledStatement) (last : ℕ)
-        (lines : List (Result LineView LineFault)) (n : ℕ)
+    (lines : List (Result LineView LineFault)) (n : ℕ)
     → piece_from known last (at_start v) lines ≡ Err n
     → GarblesAt v known lines n ⊎ (EndsTooSoon v known lines × (n ≡ last))

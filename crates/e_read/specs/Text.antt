@@ -175,7 +175,7 @@ piece_from known last r (Err f ∷ lines) = Err (line_of_fault f)
 piece_from known last r (Ok line ∷ lines) =
     if is_end known r.parser line then Ok (Last, lines) else
     (garbled_at line.number (parser_after_line known r line)
-        >>= λ next. or_on (finished next.parser next.kept) lines (piece_from known last next lines))
+    >>= λ next. or_on (finished next.parser next.kept) lines (piece_from known last next lines))
 
 -- what a line made of a block, unless memory ran out
 abbrev pub LineReads : Result (Unit {0}) TextFault → BlockParser → Result BlockParser ℕ → Type 0
@@ -200,8 +200,8 @@ ProgressIs known old line new (Ok turns.Last) =
     → piece_from known last old (Ok line ∷ rest) ≡ Ok (Last, rest)
 ProgressIs known old line new (Ok turns.Complete) = IsTrue (is_finished new.parser)
     × ((t : TheoremView) → finished new.parser new.kept ≡ Some t → (last : ℕ)
-        (rest : List (Result LineView LineFault))
-        → piece_from known last old (Ok line ∷ rest) ≡ Ok (Derived t, rest))
+    (rest : List (Result LineView LineFault))
+    → piece_from known last old (Ok line ∷ rest) ≡ Ok (Derived t, rest))
 ProgressIs known old line new (Ok turns.Continue) =
     (last : ℕ) (rest : List (Result LineView LineFault))
     → piece_from known last old (Ok line ∷ rest) ≡ piece_from known last new rest

@@ -70,7 +70,7 @@ abbrev pub cert_formed : Scope → Lit → Cert → Bool
 cert_formed s l (Plain p) = part_formed s p
 cert_formed s l (Transfer t) =
     is_transfer t.rule && (option_map_or (has_parts l t.parts) (Inst t.rule t.args) false
-        && (are_args_in s t && list_all (part_formed s) t.parts))
+    && (are_args_in s t && list_all (part_formed s) t.parts))
 
 -- as many certificates as literals, each of the form of one for its literal
 abbrev pub certs_formed : Scope → List Lit → List Cert → Bool

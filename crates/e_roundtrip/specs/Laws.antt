@@ -33,7 +33,7 @@ use Rattle.e_roundtrip.specs.Written.{derivation_text}
 abbrev pub ReadIsSpelled : Type 0
 ReadIsSpelled =
     (v : Version) (known : List TitledStatement) (last : ℕ) (t : TheoremView)
-        (lines rest : List (Result LineView LineFault))
+    (lines rest : List (Result LineView LineFault))
     → piece_from known last (at_start v) lines ≡ Ok (Derived t, rest)
     → ShowsEnded lines (spelled_lines known t t.script) rest
 
@@ -42,7 +42,7 @@ ReadIsSpelled =
 abbrev pub ReadTextIsSpelled : Type 0
 ReadTextIsSpelled =
     (v : Version) (known : List TitledStatement) (last : ℕ) (t : TheoremView)
-        (lines rest : List (Result LineView LineFault))
+    (lines rest : List (Result LineView LineFault))
     → piece_from known last (at_start v) lines ≡ Ok (Derived t, rest)
     → text_of_lines lines ≡ spelled known t t.script ++ text_of_lines rest
 
@@ -50,7 +50,7 @@ ReadTextIsSpelled =
 abbrev pub ReadCanBeSpelled : Type 0
 ReadCanBeSpelled =
     (v : Version) (known : List TitledStatement) (last : ℕ) (t : TheoremView)
-        (lines rest : List (Result LineView LineFault))
+    (lines rest : List (Result LineView LineFault))
     → piece_from known last (at_start v) lines ≡ Ok (Derived t, rest)
     → CanBeSpelled v known t t.script
 
@@ -68,7 +68,7 @@ CertifiedIsFormed =
 abbrev pub SpelledIsRead : Type 0
 SpelledIsRead =
     (v : Version) (known : List TitledStatement) (last : ℕ) (t : TheoremView) (d : Script)
-        (lines rest : List (Result LineView LineFault)) → CanBeSpelled v known t d
+    (lines rest : List (Result LineView LineFault)) → CanBeSpelled v known t d
     → ShowsEnded lines (spelled_lines known t d) rest
     → piece_from known last (at_start v) lines ≡ Ok (Derived (record t { script = d }), rest)
 
@@ -90,7 +90,7 @@ TrimmedHasSpelling =
     → IsTrue (list_all is_small_statement (stated_by known))
     → HasSpelling known (record t { script = erased t.script }) → IsTrue (has_certs_of One t.script)
     → Certified (stated_by known) (stated t.statement) t.script → HasSpelling known
-        (record t { script = erased (trimmed (stated_by known) (stated t.statement) t.script) })
+    (record t { script = erased (trimmed (stated_by known) (stated t.statement) t.script) })
 
 -- ---- what is written is judged
 

@@ -43,7 +43,7 @@ abbrev pub judgement_of : List TitledStatement → List (TheoremView × Script) 
 judgement_of known [] = Verified (length known)
 judgement_of known (p ∷ ps) =
     judged_after p.0.title (verdict (stated_by known) (stated p.0.statement) p.1)
-        (judgement_of (with_theorem known p.0) ps)
+    (judgement_of (with_theorem known p.0) ps)
 
 -- the blocks of derivations, one after the other
 abbrev pub spelled_blocks : List TitledStatement → List (TheoremView × Script) → List ℕ

@@ -101,13 +101,13 @@ abbrev pub Refuses : Rest → List ℕ → ℕ → Wanted → Option (List (Term
     → Known → Rest → Type 0
 Refuses lines title step wanted values names known rest =
     NextIs (end_line_number lines) known rest
-        (λ t. RefusedAt known.theorems t title step wanted values names)
+    (λ t. RefusedAt known.theorems t title step wanted values names)
 
 -- a line of the next theorem is too wide
 abbrev pub Widens : Rest → List ℕ → ℕ → Wanted → ℕ → Names → Known → Rest → Type 0
 Widens lines title step wanted width names known rest =
     NextIs (end_line_number lines) known rest
-        (λ t. TooWideAt known.theorems t title step wanted width names)
+    (λ t. TooWideAt known.theorems t title step wanted width names)
 
 -- theorems with their derivations: some of the first ones of the book
 pub record CutOff (lines : Rest) (last out : List ℕ) : Type 0 where
@@ -127,10 +127,10 @@ Outputs lines (status.Accepted n) out =
     × IsVerifiedText n out
 Outputs lines (status.Unlicensed title step wanted values) out =
     (names : Names) × OutputUpTo lines (Refuses lines title step wanted values names)
-        (unlicensed_text title step wanted values names) out
+    (unlicensed_text title step wanted values names) out
 Outputs lines (status.TooWide title step wanted width) out =
     (names : Names) × OutputUpTo lines (Widens lines title step wanted width names)
-        (too_wide_text title step wanted width names) out
+    (too_wide_text title step wanted width names) out
 Outputs lines (status.Fault f) out =
     OutputUpTo lines (OutcomeAfter lines (outcome.Faulty f)) (fault_line f) out
 Outputs lines status.ReadFault out = CutOff lines read_fault_line out

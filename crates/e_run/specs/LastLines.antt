@@ -94,4 +94,4 @@ text_limit_line = codes "text limit\n"
 abbrev pub tried_line : ℕ → ℕ → List ℕ
 tried_line n s =
     codes "trial " ++ (decimal n ++ (codes " theorems " ++ (decimal n
-        ++ (codes " steps " ++ (decimal s ++ (codes " verified " ++ (decimal n ++ codes "\n")))))))
+    ++ (codes " steps " ++ (decimal s ++ (codes " verified " ++ (decimal n ++ codes "\n")))))))

@@ -14,7 +14,7 @@ use Rattle.e_run.specs.Answers.{Refuses, Widens}
 abbrev pub RefusalIsOutcome : Type 0
 RefusalIsOutcome =
     (lines : Rest) (theorems : List TheoremView) (known : Known) (rest : Rest) (title : List ℕ)
-        (step : ℕ) (wanted : Wanted) (values : Option (List (Term × ℕ))) (names : Names) →
+    (step : ℕ) (wanted : Wanted) (values : Option (List (Term × ℕ))) (names : Names) →
     Begins lines theorems known rest → Refuses lines title step wanted values names known rest
     → IsOutcome lines theorems (Unlicensed title step wanted names)
 
@@ -22,7 +22,7 @@ RefusalIsOutcome =
 abbrev pub TooWideIsWide : Type 0
 TooWideIsWide =
     (lines : Rest) (theorems : List TheoremView) (known : Known) (rest : Rest) (title : List ℕ)
-        (step : ℕ) (wanted : Wanted) (width : ℕ) (names : Names) →
+    (step : ℕ) (wanted : Wanted) (width : ℕ) (names : Names) →
     Begins lines theorems known rest
     → Widens lines title step wanted width names known rest → HasWide lines
 

@@ -53,7 +53,7 @@ pub record UpToTheorem (lines : Rest) (title : List ℕ)
 abbrev pub NextUpTo : Rest → List ℕ → (List TitledStatement → TheoremView → Type 0) → Type 0
 NextUpTo lines title Holds =
     UpToTheorem lines title
-        (λ known rest. NextIs (end_line_number lines) known rest (Holds known.theorems))
+    (λ known rest. NextIs (end_line_number lines) known rest (Holds known.theorems))
 
 -- step n of the theorem comes before the step that is asked for: the theorem has another title; or
 -- it has that step, and n is less
@@ -76,7 +76,7 @@ pub record HasTooFewSteps (title : List ℕ) (step : ℕ) (t : TheoremView) : Ty
 abbrev pub HasNamesAt : List TitledStatement → TheoremView → ℕ → Names → Type 0
 HasNamesAt known t step names =
     Some names ≡ slice_get (names_lines (stated_by known)
-        (declared_names (stated t.statement) t.names) t.script) (step - 1)
+    (declared_names (stated t.statement) t.names) t.script) (step - 1)
 
 -- what is due before anything is suggested: the step is reached; there is no such step; an earlier
 -- step is not licensed; a line has a fault up to the end of the theorem
@@ -92,13 +92,13 @@ IsWayOf lines title step AtStep =
     NextUpTo lines title (λ known t. (x : Line) × IsAsked title step known t x)
 IsWayOf lines title step NoStep =
     UpToTheorem lines title
-        (λ known rest. (item_from known (end_line_number lines) None rest ≡ Ok None)
-        ⊎ NextIs (end_line_number lines) known rest (HasTooFewSteps title step))
+    (λ known rest. (item_from known (end_line_number lines) None rest ≡ Ok None)
+    ⊎ NextIs (end_line_number lines) known rest (HasTooFewSteps title step))
 IsWayOf lines title step (Unlicensed p n wanted names) =
     NextUpTo lines title (λ known t. StopsAt known t p n wanted names × IsEarlier title step t n)
 IsWayOf lines title step (Faulty fault) =
     UpToTheorem lines title
-        (λ known rest. item_from known (end_line_number lines) None rest ≡ Err fault)
+    (λ known rest. item_from known (end_line_number lines) None rest ≡ Err fault)
 
 -- ---- what may be applied
 
@@ -122,10 +122,10 @@ Lists names scope facts [] left lines more = (lines ≡ []) × (more ≡ false)
 Lists names scope facts (h ∷ hs) left lines more =
     MatchBool (is_asked_for h)
     ((choices : List (List Obj)) × (some : Bool)
-        × AreFirstChoices (stated h.statement) scope facts left choices some
+    × AreFirstChoices (stated h.statement) scope facts left choices some
     × MatchBool some ((lines ≡ apply_lines h.title names choices) × (more ≡ true))
     ((others : List (List ℕ)) × (lines ≡ apply_lines h.title names choices ++ others)
-        × Lists names scope facts hs (left - length choices) others more))
+    × Lists names scope facts hs (left - length choices) others more))
     (Lists names scope facts hs left lines more)
 
 -- ---- what is due
@@ -173,7 +173,7 @@ SuggestAnswer lines title step (status.Fault f) out =
     IsWayOf lines title step (Faulty f) × (out ≡ fault_line f)
 SuggestAnswer lines title step (status.Unlicensed p n wanted values) out =
     (names : Names) × NextUpTo lines title
-        (λ known t. RefusedAt known t p n wanted values names × IsEarlier title step t n)
+    (λ known t. RefusedAt known t p n wanted values names × IsEarlier title step t n)
     × (out ≡ unlicensed_text p n wanted values names)
 SuggestAnswer lines title step (status.TooWide p n wanted width) out =
     (names : Names) × NextUpTo lines title (Widens title step p n wanted width names)

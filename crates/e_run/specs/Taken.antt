@@ -46,4 +46,4 @@ abbrev pub HandledAll : Option (List ℕ) → Option (List ℕ) → Option (List
     → Option (List ℕ) → Type 0
 HandledAll left0 left1 old new =
     Taken left0 left1 (OfWholeLines
-        (λ lines. (out : List ℕ) × Grew old new out × AllTaken lines read_fault_line out))
+    (λ lines. (out : List ℕ) × Grew old new out × AllTaken lines read_fault_line out))

@@ -63,4 +63,4 @@ abbrev pub named_constraints : Bool → List Term → List Row → List Constrai
 named_constraints b ts [] = []
 named_constraints b ts (r ∷ rs) =
     cond (keeps b r.says) (named_constraint ts r ∷ named_constraints b ts rs)
-        (named_constraints b ts rs)
+    (named_constraints b ts rs)

@@ -38,13 +38,13 @@ script_lines known ns (Make form names certs rest) =
     ∷ (certs_lines ns certs ++ script_lines known (named ns (sorts_made form) names) rest)
 script_lines known ns (Apply theorem args names certs rest) =
     line_of (apply_form known ns theorem args names) ∷ (certs_lines ns certs
-        ++ script_lines known (named ns (theorem_of known theorem).made names) rest)
+    ++ script_lines known (named ns (theorem_of known theorem).made names) rest)
 script_lines known ns (Claim shown inner rest) =
     line_of (claim_form ns shown) ∷ (script_lines known ns inner ++ script_lines known ns rest)
 script_lines known ns (Superposed form names shown certs inner rest) =
     line_of (superpose_form ns form names shown)
     ∷ (certs_lines ns certs ++ (script_lines known (named ns superposing.sorts_copied names) inner
-        ++ script_lines known ns rest))
+    ++ script_lines known ns rest))
 script_lines known ns (Qed objects certs) = line_of (qed_form ns objects) ∷ certs_lines ns certs
 script_lines known ns (Contradiction against) =
     line_of contradiction_form ∷ contradiction_lines ns against

@@ -9,6 +9,6 @@ use Rattle.e_suggest.specs.Suggestions.{AreChoices, AreFirstChoices}
 abbrev pub FirstOfChoices : Type 0
 FirstOfChoices =
     (t : StatementView) (scope : Scope) (facts : List Lit) (all : List (List Obj)) (most : ℕ)
-        (choices : List (List Obj)) (more : Bool) →
+    (choices : List (List Obj)) (more : Bool) →
     AreChoices t scope facts all → AreFirstChoices t scope facts most choices more
     → (choices ≡ take most all) × (more ≡ nat_lt most (length all))

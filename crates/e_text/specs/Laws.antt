@@ -31,7 +31,7 @@ OneByteMoreIsEnough =
 abbrev pub FrontsAreRead : Type 0
 FrontsAreRead = (w : Bounds) (at : Spot) (front more : List ℕ) → IsClosed front
     → lines_of w at (front ++ more)
-        ≡ then_more (lines_of w at front) (lines_of w (spot_after w at front) more)
+    ≡ then_more (lines_of w at front) (lines_of w (spot_after w at front) more)
 
 -- a text has no more lines than bytes
 abbrev pub NoMoreLinesThanBytes : Type 0

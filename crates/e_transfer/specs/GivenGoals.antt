@@ -73,7 +73,7 @@ pub record GivesGoal (m : Strength) (scope : Scope) (facts : List Lit) (goal : L
 abbrev pub IsFittingLiteral : Strength → List Lit → Lit → Bool → Lit → Type 0
 IsFittingLiteral m facts goal here l =
     MatchBool here (IsTrue (same_lit l goal))
-        (IsTrue (same_lit l goal) ⊎ Suffices m facts (negation l))
+    (IsTrue (same_lit l goal) ⊎ Suffices m facts (negation l))
 
 -- ---- why a needed literal holds, or that it does not, or that one of its systems is wide
 

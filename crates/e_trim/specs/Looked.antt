@@ -107,7 +107,7 @@ abbrev pub of_sums : List Lit → Option Lit → Sums → Wants
 of_sums facts wanted (One sum) = of_sum facts wanted sum
 of_sums facts wanted (Two differs above below) =
     both (of_row facts wanted differs)
-        (both (of_sum facts wanted above) (of_sum facts wanted below))
+    (both (of_sum facts wanted above) (of_sum facts wanted below))
 
 -- ---- certificates
 
@@ -125,7 +125,7 @@ of_parts facts _ _ = no_wants
 abbrev pub of_transfer : List Lit → Lit → TransferCert → Wants
 of_transfer facts l t =
     both (needed t.args) (option_map_or (λ lits. of_parts facts (others lits l) t.parts)
-        (Inst t.rule t.args) no_wants)
+    (Inst t.rule t.args) no_wants)
 
 abbrev pub of_cert : List Lit → Lit → Cert → Wants
 of_cert facts l (Plain p) = of_part facts l p
@@ -170,4 +170,4 @@ named_on (Cases lit first second) = objects_of_atom lit.atom
 abbrev pub of_line : List StatementView → Line → Wants
 of_line before x =
     both (needed (named_on x.here))
-        (both (of_certs x.facts (needs before x) (certs_of x.here)) (of_beside x.here x.facts))
+    (both (of_certs x.facts (needs before x) (certs_of x.here)) (of_beside x.here x.facts))

@@ -88,26 +88,26 @@ abbrev pub wants_with_step : List StatementView → Script → Scope → List Li
     → Wants → Wants → Wants
 wants_with_step before here s facts goal inner w =
     if is_kept before here s facts w
-        then both w (both (of_line before (line_at here s facts goal)) inner)
-        else w
+    then both w (both (of_line before (line_at here s facts goal)) inner)
+    else w
 
 -- what the kept steps and the close look up and need, from here to the end of the block
 unfoldable pub wants : List StatementView → Script → Scope → List Lit → Goal → Wants
 wants before (Cite by rest) s facts goal =
     wants_with_step before (Cite by rest) s facts goal no_wants
-        (wants before rest s (joined facts by.lit) goal)
+    (wants before rest s (joined facts by.lit) goal)
 wants before (Hence lit cert rest) s facts goal =
     wants_with_step before (Hence lit cert rest) s facts goal no_wants
-        (wants before rest s (joined facts lit) goal)
+    (wants before rest s (joined facts lit) goal)
 wants before (Make form names certs rest) s facts goal =
     wants_with_step before (Make form names certs rest) s facts goal no_wants
     (wants before rest (grown s (sorts_made form))
-        (joined_all facts (gives_of_construction form s)) goal)
+    (joined_all facts (gives_of_construction form s)) goal)
 wants before (Apply theorem args names certs rest) s facts goal =
     let here = Apply theorem args names certs rest in
     wants_with_step before here s facts goal no_wants
     (wants before rest (grown s (theorem_at before theorem).made)
-        (joined_all facts (joins_at before here s)) goal)
+    (joined_all facts (joins_at before here s)) goal)
 wants before (Claim shown inner rest) s facts goal =
     wants_with_step before (Claim shown inner rest) s facts goal
     (wants_outside s facts (wants before inner s facts (goal_of shown)))
@@ -115,7 +115,7 @@ wants before (Claim shown inner rest) s facts goal =
 wants before (Superposed form names shown certs inner rest) s facts goal =
     wants_with_step before (Superposed form names shown certs inner rest) s facts goal
     (wants_outside s facts (wants before inner (grown s superposing.sorts_copied)
-        (joined_all facts (superposing.gives_of_superposition form s)) (goal_of shown)))
+    (joined_all facts (superposing.gives_of_superposition form s)) (goal_of shown)))
     (wants before rest s (joined_all facts shown) goal)
 wants before (Qed objects certs) s facts goal =
     of_line before (line_at (Qed objects certs) s facts goal)
@@ -211,8 +211,8 @@ unfoldable pub trimmed_from : List StatementView → List Obj → Script → Sco
 trimmed_from before kept (Cite by rest) s facts goal =
     let more = trimmed_from before kept rest s (joined facts by.lit) goal in
     if is_kept before (Cite by rest) s facts (wants before rest s (joined facts by.lit) goal)
-        then Cite (by_at kept by) more
-        else more
+    then Cite (by_at kept by) more
+    else more
 trimmed_from before kept (Hence lit cert rest) s facts goal =
     let more = trimmed_from before kept rest s (joined facts lit) goal in
     if is_kept before (Hence lit cert rest) s facts (wants before rest s (joined facts lit) goal)
@@ -235,18 +235,18 @@ trimmed_from before kept (Apply theorem args names certs rest) s facts goal =
 trimmed_from before kept (Claim shown inner rest) s facts goal =
     let more = trimmed_from before kept rest s (joined_all facts shown) goal in
     if is_kept before (Claim shown inner rest) s facts (wants before rest s
-        (joined_all facts shown) goal)
+    (joined_all facts shown) goal)
     then Claim (map (lit_among_kept kept) shown)
-        (trimmed_from before kept inner s facts (goal_of shown)) more else more
+    (trimmed_from before kept inner s facts (goal_of shown)) more else more
 trimmed_from before kept (Superposed form names shown certs inner rest) s facts goal =
     let more = trimmed_from before kept rest s (joined_all facts shown) goal in
     let opened = joined_all facts (superposing.gives_of_superposition form s) in
     if is_kept before (Superposed form names shown certs inner rest) s facts (wants before rest s
-        (joined_all facts shown) goal)
+    (joined_all facts shown) goal)
     then Superposed (superpose_at kept form) names (map (lit_among_kept kept) shown)
     (map (cert_at kept) certs)
     (trimmed_from before (kept ++ next_objects s superposing.sorts_copied) inner
-        (grown s superposing.sorts_copied) opened (goal_of shown)) more
+    (grown s superposing.sorts_copied) opened (goal_of shown)) more
     else more
 trimmed_from before kept (Qed objects certs) s facts goal =
     Qed (map (obj_at kept) objects) (map (cert_at kept) certs)

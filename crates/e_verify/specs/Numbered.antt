@@ -100,7 +100,7 @@ abbrev pub sums_with_places : List Lit → Sums → Sums
 sums_with_places facts (One sum) = One (sum_with_places facts sum)
 sums_with_places facts (Two differs above below) =
     two_placed (turns facts differs) (name_with_place facts differs) (sum_with_places facts above)
-        (sum_with_places facts below)
+    (sum_with_places facts below)
 
 -- ---- certificates
 
@@ -152,26 +152,26 @@ with_places before (Cite by rest) s facts goal =
     Cite by (with_places before rest s (joined facts by.lit) goal)
 with_places before (Hence lit cert rest) s facts goal =
     Hence lit (option_map (cert_with_places facts lit) cert)
-        (with_places before rest s (joined facts lit) goal)
+    (with_places before rest s (joined facts lit) goal)
 with_places before (Make form names certs rest) s facts goal =
     Make form names
     (certs_with_places facts (needs_of before (Make form names certs rest) s facts goal) certs)
     (with_places before rest (grown s (sorts_made form))
-        (joined_all facts (gives_of_construction form s)) goal)
+    (joined_all facts (gives_of_construction form s)) goal)
 with_places before (Apply theorem args names certs rest) s facts goal =
     Apply theorem args names (certs_with_places facts
-        (needs_of before (Apply theorem args names certs rest) s facts goal) certs)
+    (needs_of before (Apply theorem args names certs rest) s facts goal) certs)
     (with_places before rest (grown s (theorem_at before theorem).made)
     (joined_all facts (gives_of_use (theorem_at before theorem)
-        (args_of (Apply theorem args names certs rest)) s)) goal)
+    (args_of (Apply theorem args names certs rest)) s)) goal)
 with_places before (Claim shown inner rest) s facts goal =
     Claim shown (with_places before inner s facts (goal_of shown))
-        (with_places before rest s (joined_all facts shown) goal)
+    (with_places before rest s (joined_all facts shown) goal)
 with_places before (Superposed form names shown certs inner rest) s facts goal =
     Superposed form names shown
     (certs_with_places facts (superposing.needs_of_superposition form) certs)
     (with_places before inner (grown s superposing.sorts_copied)
-        (joined_all facts (superposing.gives_of_superposition form s)) (goal_of shown))
+    (joined_all facts (superposing.gives_of_superposition form s)) (goal_of shown))
     (with_places before rest s (joined_all facts shown) goal)
 with_places before (Qed objects certs) s facts goal =
     Qed objects (certs_with_places facts (needs_of before (Qed objects certs) s facts goal) certs)
@@ -179,7 +179,7 @@ with_places before (Contradiction against) s facts goal =
     Contradiction (option_map (against_with_places facts) against)
 with_places before (Cases lit first second) s facts goal =
     Cases lit (with_places before first s (joined facts lit) goal)
-        (with_places before second s (joined facts (negation lit)) goal)
+    (with_places before second s (joined facts (negation lit)) goal)
 
 -- the derivation of a statement, where certificates have the places of facts
 abbrev pub derivation_with_places : List StatementView → StatementView → Script → Script

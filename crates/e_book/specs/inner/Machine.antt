@@ -81,7 +81,7 @@ unfoldable pub begins_definition : Known → List ℕ → Result Coming FaultKin
 begins_definition known t =
     if is_taken known t then Err NameTaken else
     (within (length known.notions + 1) most_notions limits.Notions
-        >>= λ few. Ok (coming true (begun t)))
+    >>= λ few. Ok (coming true (begun t)))
 
 unfoldable pub begins : Known → BookLine → Result Coming FaultKind
 begins known (Plain f) = begins_theorem known f
@@ -158,7 +158,7 @@ item_from known last c (Err f ∷ lines) = Err (line_fault f)
 item_from known last c (Ok line ∷ lines) =
     if is_skipped (tokens_of line.bytes) then item_from known last c lines else
     (put_at line.number (line_step known c (tokens_of line.bytes)) >>= λ d. if is_done d
-        then Ok (Some (item_of_coming d, lines)) else item_from known last (Some d) lines)
+    then Ok (Some (item_of_coming d, lines)) else item_from known last (Some d) lines)
 
 -- ---- reading on from what has come, whatever lines come
 
@@ -188,7 +188,7 @@ TakesLine known old l (Ok None) new =
     → item_from known last old (Ok l ∷ more) ≡ item_from known last new more
 TakesLine known old l (Ok (Some i)) new =
     (new ≡ None) × ((last : ℕ)
-        (more : Rest) → item_from known last old (Ok l ∷ more) ≡ Ok (Some (view_of i, more)))
+    (more : Rest) → item_from known last old (Ok l ∷ more) ≡ Ok (Some (view_of i, more)))
 TakesLine known old l (Err f) new =
     (last : ℕ) (more : Rest) → BookFails f (item_from known last old (Ok l ∷ more))
 
@@ -198,10 +198,10 @@ abbrev pub ReadsOn : Known → Option Coming → Rest → Result (Option Item) B
     → Option Coming → Rest → Type 0
 ReadsOn known old lines (Ok None) new left =
     (left ≡ []) × HaveNoFault lines × ((last : ℕ)
-        (more : Rest) → item_from known last old (lines ++ more) ≡ item_from known last new more)
+    (more : Rest) → item_from known last old (lines ++ more) ≡ item_from known last new more)
 ReadsOn known old lines (Ok (Some i)) new left =
     (new ≡ None) × (HaveNoFault left → HaveNoFault lines) × ((last : ℕ) (more : Rest)
-        → item_from known last old (lines ++ more) ≡ Ok (Some (view_of i, left ++ more)))
+    → item_from known last old (lines ++ more) ≡ Ok (Some (view_of i, left ++ more)))
 ReadsOn known old lines (Err f) new left =
     (last : ℕ) (more : Rest) → BookFails f (item_from known last old (lines ++ more))
 

@@ -34,8 +34,8 @@ parts_of_atom (MagLt x y) = None
 abbrev pub key_of_lit : Lit → Option Key
 key_of_lit l =
     option_map
-        (λ p. record { negated = l.neg; relation = p.0; first = p.1; second = p.2; third = p.3 })
-        (parts_of_atom l.atom)
+    (λ p. record { negated = l.neg; relation = p.0; first = p.1; second = p.2; third = p.3 })
+    (parts_of_atom l.atom)
 
 abbrev pub with_key : Option Key → List Key → List Key
 with_key None ks = ks

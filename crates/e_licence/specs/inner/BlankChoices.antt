@@ -60,19 +60,19 @@ abbrev pub AllCompleted : Basis → List Entry → List Entry → Bool → List 
 AllCompleted b now before first [] = Unit {0}
 AllCompleted b now before first (l ∷ ls) =
     (IsTrue (is_completed b.scope now before first l)
-        → Allowed b.scope b.facts (renamed (image_in now) l)) × AllCompleted b now before first ls
+    → Allowed b.scope b.facts (renamed (image_in now) l)) × AllCompleted b now before first ls
 
 -- each literal that the last number completes is allowed
 abbrev pub IsKeptChoice : Basis → List Obj → List (Option Obj) → List Lit → List ℕ → Type 0
 IsKeptChoice b os entries given part =
     AllCompleted b (images_of_choice b.scope os entries part)
-        (images_of_choice b.scope os entries (take (length part - 1) part)) (length part == 0) given
+    (images_of_choice b.scope os entries (take (length part - 1) part)) (length part == 0) given
 
 -- each literal is allowed
 abbrev pub IsWanted : Basis → List Obj → List (Option Obj) → List Lit → List ℕ → Type 0
 IsWanted b os entries given c =
     AllAllowed b.scope b.facts
-        (map (renamed (image_in (images_of_choice b.scope os entries c))) given)
+    (map (renamed (image_in (images_of_choice b.scope os entries c))) given)
 
 -- all objects of the literal are in scope, and it is not allowed
 pub record IsRefusedAt (b : Basis) (now : List Entry) (l : Lit) : Type 0 where

@@ -45,8 +45,8 @@ abbrev pub leasts : (Term → ℤ) → List Term → List (ℤ × RowName)
 leasts left [] = []
 leasts left (t ∷ ts) =
     if int_lt (left (canonical t)) (pos 0)
-        then (neg_ℤ (left (canonical t)), Least t) ∷ leasts left ts
-        else leasts left ts
+    then (neg_ℤ (left (canonical t)), Least t) ∷ leasts left ts
+    else leasts left ts
 
 -- the rows with their multipliers, and what brings each term to 0, where the terms are weighed by
 -- these weights
@@ -66,5 +66,5 @@ certificate_sums names rows terms (One multipliers) =
     OneSum (certificate_sum names rows multipliers.items multipliers.items terms)
 certificate_sums names rows terms (Two row above below) =
     TwoSums (get_or names row Goal)
-        (certificate_sum (set names row Above) rows above.items above.items terms) (certificate_sum
-        (set names row Below) rows below.items (negated_place below.items row) terms)
+    (certificate_sum (set names row Above) rows above.items above.items terms) (certificate_sum
+    (set names row Below) rows below.items (negated_place below.items row) terms)

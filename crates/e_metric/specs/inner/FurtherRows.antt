@@ -29,7 +29,7 @@ rows_added_by_goal which facts fresh goal =
 abbrev pub further : Kind → List Lit → Lit → List NamedRow
 further which facts goal =
     rows_added_by_goal which facts
-        (terms_added which (distinct_terms which facts None) (goal ∷ [])) goal
+    (terms_added which (distinct_terms which facts None) (goal ∷ [])) goal
 
 -- a value that a term may have of which no fact speaks
 abbrev pub value_of_fresh : List Lit → Term → ℕ
@@ -52,4 +52,4 @@ rows_added_by_facts which facts more fresh =
 abbrev pub joining : Kind → List Lit → ℕ → List NamedRow
 joining which facts from =
     rows_added_by_facts which facts (drop from facts)
-        (terms_added which (distinct_terms which (take from facts) None) (drop from facts))
+    (terms_added which (distinct_terms which (take from facts) None) (drop from facts))

@@ -38,14 +38,14 @@ pub record IsLicensedStep (before : List StatementView) (step : Step) (x : StepS
     (derived : Step) (after : StepState) : Type 0 where
   pub licensed : (rest more : Script) (goal : Goal) →
       IsTrue (has_form before
-          (line_from_basis (step_script step rest) (step_script derived more) x.context goal)) →
+      (line_from_basis (step_script step rest) (step_script derived more) x.context goal)) →
       Licensed before
-          (line_from_basis (step_script step rest) (step_script derived more) x.context goal)
+      (line_from_basis (step_script step rest) (step_script derived more) x.context goal)
   pub certified : (rest more : Script) (goal : Goal) →
       IsTrue (has_form before
-          (line_from_basis (step_script step rest) (step_script derived more) x.context goal)) →
+      (line_from_basis (step_script step rest) (step_script derived more) x.context goal)) →
       IsTrue (is_certified before
-          (line_from_basis (step_script derived more) (step_script derived more) x.context goal))
+      (line_from_basis (step_script derived more) (step_script derived more) x.context goal))
   pub erased : (rest more : Script) → erased more ≡ filled_by (erased rest) more →
       erased (step_script derived more)
       ≡ filled_by (erased (step_script step rest)) (step_script derived more)
@@ -54,11 +54,11 @@ pub record IsLicensedStep (before : List StatementView) (step : Step) (x : StepS
   pub next : (rest more : Script) (goal : Goal) →
       lines_at before (step_script step rest) (step_script derived more) x.context goal
       ≡ line_from_basis (step_script step rest) (step_script derived more) x.context goal
-          ∷ lines_at before rest more after.context goal
+      ∷ lines_at before rest more after.context goal
   pub derived_next : (more : Script) (goal : Goal) →
       lines_at before (step_script derived more) (step_script derived more) x.context goal
       ≡ line_from_basis (step_script derived more) (step_script derived more) x.context goal
-          ∷ lines_at before more more after.context goal
+      ∷ lines_at before more more after.context goal
   pub named : (rest : Script) → names_lines before x.names (step_script step rest)
       ≡ x.names ∷ names_lines before after.names rest
   pub kept : after.context.held ≡ x.context.held

@@ -140,7 +140,7 @@ abbrev pub StepsStop : List StatementView → (Script → Script) → StepState 
 StepsStop before whole x first s =
     (rest : Script) (goal : Goal) → IsReadyFor before (whole rest) x goal
     → StopsWithin before (whole rest) x goal first s
-        × IsStopBefore (first + size (whole rest) - size rest) s
+    × IsStopBefore (first + size (whole rest) - size rest) s
 
 -- and so does the step
 abbrev pub StepStops : List StatementView → Step → StepState → ℕ → Stop → Type 0

@@ -61,7 +61,7 @@ StepStopsFilling t x pattern NoMemory = Unit {0}
 abbrev pub StepStopsApplying : StatementView → Basis → List (Option Obj) → StepStop → Type 0
 StepStopsApplying t x pattern h =
     MatchBool (has_no_blank pattern) (StepStopsAmong x (needs_of_use t (written pattern) x.scope) h)
-        (StepStopsFilling t x pattern h)
+    (StepStopsFilling t x pattern h)
 
 -- the stop, where what is too wide is answered as a match that is
 abbrev pub match_stop : StepStop → StepStop

@@ -49,7 +49,7 @@ pub record IsVerified (job : Job) (known : List TitledStatement) (t : TheoremVie
 abbrev pub IsOfSecond : Job → List TitledStatement → TheoremView → Type 0
 IsOfSecond Upgrade known t =
     IsTrue
-        (has_certs_of Two (derivation_with_places (stated_by known) (stated t.statement) t.script))
+    (has_certs_of Two (derivation_with_places (stated_by known) (stated t.statement) t.script))
 IsOfSecond Trim known t = Unit {0}
 IsOfSecond Uses known t = Unit {0}
 
@@ -117,7 +117,7 @@ abbrev pub BlocksWritten : Job → List ℕ → Option (List ℕ) → Option (Li
     → Result Judgement RunError → Type 0
 BlocksWritten job text old new result =
     WroteTheorems job (EndsAfter job (lines_of_text text))
-        (AreFirstTheorems job (lines_of_text text)) old new result
+    (AreFirstTheorems job (lines_of_text text)) old new result
 
 -- theorems that are certified one after another, and what is due of them was written; these lines
 -- are left

@@ -59,7 +59,7 @@ pub record WideWithTwo (w : ℕ) (constraints forms : List Constraint) (k : ℕ)
   pub wide : (d : Constraint) → HasWideMinor
       (rows_of ((constraints ++ get_or forms k d ∷ []) ++ get_or forms place d ∷ [])) w (2 ^ 63)
       ⊎ HasWideMinor (rows_of ((constraints ++ negative_constraint (get_or forms k d) ∷ [])
-          ++ get_or forms place d ∷ [])) w (2 ^ 63)
+      ++ get_or forms place d ∷ [])) w (2 ^ 63)
 
 -- both signs of the form at k are refuted
 pub record AreBothRefuted (w : ℕ) (constraints forms : List Constraint) (k : ℕ)

@@ -9,10 +9,10 @@ abbrev pub row_multipliers : List Row → List ℤ → ℕ → ℕ → ℤ → L
 row_multipliers [] ws n k last = []
 row_multipliers (r ∷ rs) ws n zero last =
     cond (keeps true r.says) (pos 0 ∷ row_multipliers rs ws n zero last)
-        (get_or ws n (pos 0) ∷ row_multipliers rs ws (suc n) zero last)
+    (get_or ws n (pos 0) ∷ row_multipliers rs ws (suc n) zero last)
 row_multipliers (r ∷ rs) ws n (suc k) last =
     cond (keeps true r.says) (cond (eqb k 0) last (pos 0) ∷ row_multipliers rs ws n k last)
-        (get_or ws n (pos 0) ∷ row_multipliers rs ws (suc n) (suc k) last)
+    (get_or ws n (pos 0) ∷ row_multipliers rs ws (suc n) (suc k) last)
 
 -- how many rows say `not 0`
 abbrev pub count_nots : List Row → ℕ

@@ -86,4 +86,4 @@ sum_under f x = map (mono_at f) x
 abbrev pub CoverSums : List Mono → List Mono → List Mono → List Mono → List (List Equation) → Type 0
 CoverSums x y z w matches =
     (f : ℕ → ℕ) → IsTrue (agree (sum_under f x) (sum_under f y) z w
-        || agree (sum_under f x) (sum_under f y) w z) → IsTrue (some_agree f matches)
+    || agree (sum_under f x) (sum_under f y) w z) → IsTrue (some_agree f matches)

@@ -68,4 +68,4 @@ pub record IsPlanFor (r : Row) (scope : Scope) (bindings : List Binding)
   pub reaches : (args : List Obj) → IsTrue (arguments_fit r args)
       → IsTrue (list_all (is_in_scope scope) args) → BindingsAgree (number args) bindings
       → (c : List ℕ) × FitsSpans plan.spans.items c
-          × (chosen_arguments r plan.positions.items c ≡ args)
+      × (chosen_arguments r plan.positions.items c ≡ args)

@@ -43,13 +43,13 @@ kept_step before kept (Apply theorem args names certs rest) s facts more =
     Apply theorem (args_at kept args) names (map (cert_at kept) certs) more
 kept_step before kept (Claim shown inner rest) s facts more =
     Claim (map (lit_among_kept kept) shown)
-        (trimmed_from before kept inner s facts (goal_of shown)) more
+    (trimmed_from before kept inner s facts (goal_of shown)) more
 kept_step before kept (Superposed form names shown certs inner rest) s facts more =
     Superposed (superpose_at kept form) names (map (lit_among_kept kept) shown)
     (map (cert_at kept) certs)
     (trimmed_from before (kept ++ next_objects s superposing.sorts_copied) inner
-        (grown s superposing.sorts_copied)
-        (joined_all facts (superposing.gives_of_superposition form s)) (goal_of shown))
+    (grown s superposing.sorts_copied)
+    (joined_all facts (superposing.gives_of_superposition form s)) (goal_of shown))
     more
 kept_step before kept close s facts more = more
 
@@ -67,7 +67,7 @@ IsBuilt before kept d s pile left done now close =
     (facts : List Lit) (goal : Goal) (under : List Bool)
     → pile ≡ under ++ flags_of before d s facts goal
     → (steps_script now (close_script close)
-        ≡ steps_script done (trimmed_from before kept d s facts goal)) × (left ≡ under)
+    ≡ steps_script done (trimmed_from before kept d s facts goal)) × (left ≡ under)
 
 abbrev pub StepIsBuilt : List StatementView → List Obj → Step → Scope → List Bool
     → List Bool → Step → Type 0
@@ -75,7 +75,7 @@ StepIsBuilt before kept step s pile left new =
     (rest more : Script) (facts : List Lit) (under : List Bool)
     → pile ≡ under ++ step_flags before (step_script step rest) s facts
     → (step_script new more ≡ kept_step before kept (step_script step rest) s facts more)
-        × (left ≡ under)
+    × (left ≡ under)
 
 abbrev pub CloseIsBuilt : List StatementView → List Obj → Script → Scope → List Bool
     → List Bool → Close → Type 0

@@ -82,7 +82,7 @@ abbrev pub StepWants : List StatementView → Step → StepState → Wants → W
 StepWants before step x old new =
     (rest : Script) (goal : Goal) →
     new ≡ both old (both (of_line before (line_at (step_script step rest) x.scope x.facts goal))
-        (inside_of before (step_script step rest) x.scope x.facts))
+    (inside_of before (step_script step rest) x.scope x.facts))
 
 -- and these flags to the pile
 abbrev pub StepFlags : List StatementView → Step → StepState → List Bool → List Bool → Type 0
@@ -93,14 +93,14 @@ StepFlags before step x old new =
 abbrev pub StepAdds : List StatementView → Step → StepState → Wants → Wants → Type 0
 StepAdds before step x old new =
     (rest : Script) (goal : Goal) → new ≡ wants_with_step before (step_script step rest) x.scope
-        x.facts goal (inside_of before (step_script step rest) x.scope x.facts) old
+    x.facts goal (inside_of before (step_script step rest) x.scope x.facts) old
 
 -- and its flag to the pile, where this is wanted after it
 abbrev pub FlagsAdded : List StatementView → Step → StepState → Wants → List Bool
     → List Bool → Type 0
 FlagsAdded before step x w old new =
     (rest : Script) → new ≡ old ++ flag (is_kept before (step_script step rest) x.scope x.facts w)
-        (step_flags before (step_script step rest) x.scope x.facts)
+    (step_flags before (step_script step rest) x.scope x.facts)
 
 -- the facts from before are the first ones still
 abbrev pub KeepsFacts : StepState → StepState → Type 0

@@ -11,4 +11,4 @@ abbrev pub is_well_formed_row_scope : RowScope → Bool
 is_well_formed_row_scope p =
     option_map_or is_well_formed (option_copied p.wanted) true
     && (option_map_or is_small_row p.above true
-        && (option_map_or is_small_row p.below true && list_all is_well_formed p.facts.now))
+    && (option_map_or is_small_row p.below true && list_all is_well_formed p.facts.now))
