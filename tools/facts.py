@@ -121,7 +121,7 @@ def rules_of(top):
     rules = []
     for table in TABLES:
         text = read(top / f"crates/e_clause/specs/Table/{table}.antt")
-        for row in re.findall(r"row \(codes .*(?:\n {8}.*)*", text):
+        for row in re.split(r"\b(?=row \(codes )", text)[1:]:
             _, name, *numbers, premises, conclusions = parsed_all(row)[:7]
             rules.append((name[1].strip('"'), [int(n) for n in numbers], literals_of(premises), literals_of(conclusions)))
     return rules
