@@ -133,8 +133,12 @@ next known (Proving h around steps) f =
     goes_on known (context_at known (Proving h around steps)).names h around steps f
 next known (Splitting h around) rawlines.Else = Ok (Proving h around [])
 next known (Proved h script) rawlines.End =
-    Ok (Ended
-    (record { title = h.title; names = h.names; statement = h.statement; script = script }))
+    Ok (Ended (record {
+      title = h.title;
+      names = h.names;
+      statement = h.statement;
+      script = script;
+    }))
 next known o f = Err Malformed
 
 -- a line: its form there, its names, and then the limits

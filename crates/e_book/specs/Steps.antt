@@ -288,21 +288,27 @@ shut d close =
 -- declared objects
 abbrev pub declares : TheoremParser → Sort → List (List ℕ) → Result TheoremParser FaultKind
 declares d sort ns =
-    declared d.names sort ns >>= λ names. Ok
-    (record d { names = names; declared = d.declared ++ replicate (length ns) sort })
+    declared d.names sort ns >>= λ names. Ok (record d {
+      names = names;
+      declared = d.declared ++ replicate (length ns) sort;
+    })
 
 -- given literals: their names, then the limits
 abbrev pub supposes : TheoremParser → List RawLit → Result TheoremParser FaultKind
 supposes d raws =
     with_front d.given (lits_in d.names raws)
-    >>= λ ls. within (d.facts + length raws) most_facts limits.Facts >>= λ few. with_terms
-    (record d { given = ls; facts = d.facts + length raws; place = Giving }) raws
+    >>= λ ls. within (d.facts + length raws) most_facts limits.Facts
+    >>= λ few. with_terms (record d { given = ls; facts = d.facts + length raws; place = Giving })
+    raws
 
 -- made objects
 abbrev pub makes : TheoremParser → Sort → List (List ℕ) → Result TheoremParser FaultKind
 makes d sort ns =
-    declared d.names sort ns >>= λ names. Ok
-    (record d { names = names; made = d.made ++ replicate (length ns) sort; place = Making })
+    declared d.names sort ns >>= λ names. Ok (record d {
+      names = names;
+      made = d.made ++ replicate (length ns) sort;
+      place = Making;
+    })
 
 -- shown literals
 abbrev pub shows : TheoremParser → List RawLit → Result TheoremParser FaultKind

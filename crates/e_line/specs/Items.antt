@@ -64,8 +64,9 @@ define_of words = do
 unfoldable pub placing_of : List (List ℕ) → Result Listing FaultKind
 placing_of head =
     if are_words_of superpose_pieces head
-    then (names_of (new_words superpose_pieces head) >>= λ new. names_of
-    (argument_words superpose_pieces head) >>= λ args. Ok (Superpose args new))
+    then (names_of (new_words superpose_pieces head)
+    >>= λ new. names_of (argument_words superpose_pieces head)
+    >>= λ args. Ok (Superpose args new))
     else Err Malformed
 
 unfoldable pub listed : Listing → List (List ℕ) → Result BookLine FaultKind

@@ -66,5 +66,6 @@ certificate_sums names rows terms (One multipliers) =
     OneSum (certificate_sum names rows multipliers.items multipliers.items terms)
 certificate_sums names rows terms (Two row above below) =
     TwoSums (get_or names row Goal)
-    (certificate_sum (set names row Above) rows above.items above.items terms) (certificate_sum
-    (set names row Below) rows below.items (negated_place below.items row) terms)
+    (certificate_sum (set names row Above) rows above.items above.items terms)
+    (certificate_sum (set names row Below) rows below.items
+    (negated_place below.items row) terms)
