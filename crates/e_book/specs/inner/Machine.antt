@@ -187,8 +187,9 @@ TakesLine known old l (Ok None) new =
     (last : ℕ) (more : Rest)
     → item_from known last old (Ok l ∷ more) ≡ item_from known last new more
 TakesLine known old l (Ok (Some i)) new =
-    (new ≡ None) × ((last : ℕ)
-    (more : Rest) → item_from known last old (Ok l ∷ more) ≡ Ok (Some (view_of i, more)))
+    (new ≡ None)
+    × ((last : ℕ) (more : Rest)
+    → item_from known last old (Ok l ∷ more) ≡ Ok (Some (view_of i, more)))
 TakesLine known old l (Err f) new =
     (last : ℕ) (more : Rest) → BookFails f (item_from known last old (Ok l ∷ more))
 
@@ -197,8 +198,9 @@ TakesLine known old l (Err f) new =
 abbrev pub ReadsOn : Known → Option Coming → Rest → Result (Option Item) BookFault
     → Option Coming → Rest → Type 0
 ReadsOn known old lines (Ok None) new left =
-    (left ≡ []) × HaveNoFault lines × ((last : ℕ)
-    (more : Rest) → item_from known last old (lines ++ more) ≡ item_from known last new more)
+    (left ≡ []) × HaveNoFault lines
+    × ((last : ℕ) (more : Rest)
+    → item_from known last old (lines ++ more) ≡ item_from known last new more)
 ReadsOn known old lines (Ok (Some i)) new left =
     (new ≡ None) × (HaveNoFault left → HaveNoFault lines) × ((last : ℕ) (more : Rest)
     → item_from known last old (lines ++ more) ≡ Ok (Some (view_of i, left ++ more)))
