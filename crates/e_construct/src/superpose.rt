@@ -11,7 +11,7 @@ use std::alloc::{AllocError, Global};
 
 /// A superposition: the points `a b c d g h`, and the lines `K L`. The triangle `a b c`, whose side
 /// `a b` is on `K`, is put onto `d`, along `L` towards `g`, and on the side of `L` on which `h` is.
-#[derive(Clone, Copy, PartialEq, Eq, Debug)]
+#[derive(Clone, Copy)]
 pub struct Superpose {
     pub points: [u16; 6],
     pub lines: [u16; 2],

@@ -12,14 +12,14 @@ use std::marker::Model;
 use std::mem;
 
 /// A point.
-#[derive(Clone, Copy, PartialEq, Eq, Debug)]
+#[derive(Clone, Copy)]
 pub struct Point {
     pub x: i32,
     pub y: i32,
 }
 
 /// A line, by a point on it and a direction.
-#[derive(Clone, Copy, PartialEq, Eq, Debug)]
+#[derive(Clone, Copy)]
 pub struct Straight {
     pub x: i32,
     pub y: i32,
@@ -28,7 +28,7 @@ pub struct Straight {
 }
 
 /// A circle, by its center and the square of its radius.
-#[derive(Clone, Copy, PartialEq, Eq, Debug)]
+#[derive(Clone, Copy)]
 pub struct Round {
     pub x: i32,
     pub y: i32,

@@ -6,7 +6,7 @@ use crate::object::Term;
 use std::marker::Model;
 
 /// Whole numbers for some terms, as an assignment gives them; contracts see the list of the pairs.
-#[derive(Debug, Drop)]
+#[derive(Drop)]
 pub struct Values {
     pairs: Vec<(Term, u128)>,
 }
