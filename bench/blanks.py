@@ -3,7 +3,7 @@
 Words: the program. Each book has a theorem of a chain of points, in which each given literal ties a point to those before it, and a
 theorem that applies it once, with blanks for the last points of the chain. The facts tie each point to the next one, so there is one good
 choice, or none. The least processor time of some runs counts, less that of the same book with the choice written. The licences are the
-calls that judge one literal, counted by valgrind where it is there; those of the rest of the book are taken away.
+literals that are no facts and are looked at for it, counted by valgrind where it is there; those of the rest of the book are taken away.
 """
 
 import os
@@ -14,7 +14,7 @@ from licences import calls, names, timed
 
 POINTS = (5, 10, 20)
 BLANKS = (1, 2, 3, 4, 5, 6)
-LICENCES = ("e_licence::licensing::Judge::licence",)
+LICENCES = ("e_licence::licensing::by_sums",)
 
 
 def by_facts(x):
