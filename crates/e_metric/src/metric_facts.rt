@@ -470,56 +470,6 @@ impl MetricFacts {
         self.follows_of(alloc, which, facts, goal)
     }
 
-    // The answer of `follows_in_turn`, where the goal is of this kind.
-    fn follows_in_turn_of(
-        &mut self,
-        alloc: Global,
-        which: Kind,
-        facts: &Facts,
-        goal: &Lit,
-    ) -> Result<Metric, AllocError>
-        requires fronts { AreFronts facts.now self.old }
-        requires facts { IsTrue (list_all is_well_formed facts.now) }
-        requires few { length (terms_of_lits facts.now) ≤ 1100 }
-        requires goal { IsTrue (is_well_formed_metric (Some goal.now)) }
-        requires kind { kind_of_atom goal.now.atom ≡ Some which }
-        ensures answer { IfOk result (IsMetricAnswer facts.now (Some goal.now)) }
-        ensures fronts { AreFronts facts.now self.new }
-    {
-        self.bring(alloc, which, facts)?;
-        match self.answer_for_kind(alloc, which, facts, goal)? {
-            Metric::Yes(cert) => Ok(Metric::Yes(cert)),
-            own_answer => match self.bring_all(alloc, facts) {
-                Ok(()) => self.answer(alloc, which, own_answer, facts, goal),
-                Err(error) => {
-                    mem::drop(own_answer);
-                    Err(error)
-                }
-            },
-        }
-    }
-
-    /// The same as [`MetricFacts::follows`], where each kind is first brought up to the facts, but
-    /// only if it is asked: a goal that follows by its own kind asks no other.
-    pub fn follows_in_turn(
-        &mut self,
-        alloc: Global,
-        facts: &Facts,
-        goal: &Lit,
-    ) -> Result<Metric, AllocError>
-        requires fronts { AreFronts facts.now self.old }
-        requires facts { IsTrue (list_all is_well_formed facts.now) }
-        requires few { length (terms_of_lits facts.now) ≤ 1100 }
-        requires goal { IsTrue (is_well_formed_metric (Some goal.now)) }
-        ensures answer { IfOk result (IsMetricAnswer facts.now (Some goal.now)) }
-        ensures yes { IfOk result (λ m. IfYes m (MetricConsequence facts.now goal.now)) }
-        ensures no { IfOk result (λ m. IfNo m (¬ MetricConsequence facts.now goal.now)) }
-        ensures fronts { AreFronts facts.now self.new }
-    {
-        let which = kind(goal).unwrap_or(Kind::Segment);
-        self.follows_in_turn_of(alloc, which, facts, goal)
-    }
-
     /// A certificate of the goal by the facts of its own kind, where they give it. That kind is
     /// brought up to the facts, and no other is asked.
     pub fn certificate_by_kind(

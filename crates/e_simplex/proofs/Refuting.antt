@@ -1,5 +1,5 @@
 -- Weights that refute constraints are multipliers that refute rows.
-use Rattle.std.proofs.Common.{◌≡◌, ℕ, zero, suc, ◌+◌, ◌<◌, ◌≤◌, ◌^◌, List, [], ◌∷◌, ◌++◌, refl, ap, ap₂, arith, sym, ◌∙◌, subst, length, get_or, take, cond, eqb, Bool, true, false, true≢false, ◌⊎◌, inl, inr}
+use Rattle.std.proofs.Common.{◌≡◌, ℕ, zero, suc, ◌+◌, ◌<◌, ◌≤◌, ◌^◌, List, [], ◌∷◌, ◌++◌, refl, ap, ap₂, arith, sym, ◌∙◌, subst, length, get_or, take, cond, eqb, Bool, true, false, true≢false, ◌⊎◌, inl, inr, Result, Ok, Err, IfOk}
 use Rattle.std.specs.Prelude.{unsigned_abs, neg_ℤ}
 use Rattle.std.proofs.lemmas.Bool.{cases_lt, ne_eqb}
 use Rattle.std.proofs.lemmas.List.{length_push}
@@ -437,15 +437,23 @@ pub length_seen : (rows : List GivenRow) → length (all_seen rows) ≡ length r
 length_seen [] = refl
 length_seen (r ∷ rs) = ap suc (length_seen rs)
 
-pub law_holds : (rows : List Row) (v : Verdict) → IsVerdict rows v → (IsWide rows → ⊥) → HasSolution rows → IsHolds v
+law_holds : (rows : List Row) (v : Verdict) → IsVerdict rows v → (IsWide rows → ⊥) → HasSolution rows → IsHolds v
 law_holds rows (Absurd x) h n s = h.none s
 law_holds rows (Holds x) h n s = tt
 law_holds rows TooWide h n s = n h.0
 
-pub law_absurd : (rows : List Row) (v : Verdict) → IsVerdict rows v → (IsWide rows → ⊥) → (HasSolution rows → ⊥) → IsAbsurdVerdict v
+law_absurd : (rows : List Row) (v : Verdict) → IsVerdict rows v → (IsWide rows → ⊥) → (HasSolution rows → ⊥) → IsAbsurdVerdict v
 law_absurd rows (Absurd x) h n s = tt
 law_absurd rows (Holds x) h n s = s (record { values = assigned x; satisfy = h.satisfy })
 law_absurd rows TooWide h n s = n h.0
+
+pub each_law_holds : {E : Type 0} (rows : List Row) (r : Result Verdict E) → IfOk r (IsVerdict rows) → IfOk r (λ v. (IsWide rows → ⊥) → HasSolution rows → IsHolds v)
+each_law_holds rows (Ok v) h = law_holds rows v h
+each_law_holds rows (Err e) h = tt
+
+pub each_law_absurd : {E : Type 0} (rows : List Row) (r : Result Verdict E) → IfOk r (IsVerdict rows) → IfOk r (λ v. (IsWide rows → ⊥) → (HasSolution rows → ⊥) → IsAbsurdVerdict v)
+each_law_absurd rows (Ok v) h = law_absurd rows v h
+each_law_absurd rows (Err e) h = tt
 
 -- what is said of the constraints and columns of a solved table
 pub solved_further : (s : Table) (w : ℕ) (constraints forms fs : List Constraint) → IsSolved w constraints s → fs ≡ forms → AreFurther w constraints forms → AreFurther (columns_of s) (constraints_of s) fs

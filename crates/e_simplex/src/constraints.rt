@@ -19,7 +19,7 @@ pub struct Monomial {
 }
 
 /// What a constraint says of its form.
-#[derive(Clone, Copy, PartialEq, Eq)]
+#[derive(Clone, Copy)]
 pub enum Sense {
     Zero,
     AtLeast,

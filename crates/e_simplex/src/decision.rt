@@ -13,7 +13,7 @@ ghost use Rattle.e_simplex.specs.inner.Weights.{AreWeightsFor, AreWeightsForBoth
 
 use crate::disequalities::{Satisfaction, satisfy_all};
 use crate::multipliers::{multipliers_of_rows, place_of_not};
-use crate::naming::{constraints_where, terms_of};
+use crate::naming::{plain_constraints, terms_of, tried_constraints};
 use crate::solved::{Outcome, solve_constraints};
 use crate::table::Table;
 use e_fraction::Row;
@@ -102,7 +102,7 @@ pub fn verdict_of_solved(
         (named_constraints false terms.now (all_seen rows.now)) solved.now }
     ensures { IfOk result (IsVerdict (all_seen rows.now)) }
 {
-    let forms = constraints_where(alloc, true, terms, rows)?;
+    let forms = tried_constraints(alloc, terms, rows)?;
     match satisfy_all(alloc, solved, &forms)? {
         Satisfaction::TooWide => Ok(Verdict::TooWide),
         Satisfaction::Found(values) => {
@@ -137,10 +137,7 @@ pub fn verdict_of(
             let once = refuted_once(alloc, rows, weights)?;
             Ok(Verdict::Absurd(once))
         }
-        Outcome::Holds(solved) => {
-            let verdict = verdict_of_solved(alloc, rows, terms, solved)?;
-            Ok(verdict)
-        }
+        Outcome::Holds(solved) => verdict_of_solved(alloc, rows, terms, solved),
     }
 }
 
@@ -161,8 +158,7 @@ pub fn decide(alloc: Global, rows: &[Row]) -> Result<Verdict, AllocError>
         → ¬ HasSolution (all_seen rows.now) → IsAbsurd v) }
 {
     let terms = terms_of(alloc, rows)?;
-    let constraints = constraints_where(alloc, false, &terms, rows)?;
+    let constraints = plain_constraints(alloc, &terms, rows)?;
     let outcome = solve_constraints(alloc, constraints, terms.len() + 1)?;
-    let verdict = verdict_of(alloc, rows, &terms, &outcome)?;
-    Ok(verdict)
+    verdict_of(alloc, rows, &terms, &outcome)
 }

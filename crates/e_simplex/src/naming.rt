@@ -1,6 +1,6 @@
 //! Terms and their columns.
 
-ghost use Rattle.std.specs.Prelude.{◌≡◌, ◌+◌, ◌<◌, ◌^◌, IfOk, IsTrue, length, take};
+ghost use Rattle.std.specs.Prelude.{◌≡◌, ◌+◌, ◌<◌, ◌^◌, IfOk, IsTrue, length, take, true, false};
 ghost use Rattle.e_literal.specs.declared.object.Term.{Term};
 ghost use Rattle.e_fraction.specs.Views.{says_of, all_seen};
 ghost use Rattle.e_fraction.specs.Limits.{has_small_coefficients, all_small};
@@ -115,7 +115,7 @@ pub fn is_kept(not: bool, kind: RowKind) -> bool
 }
 
 /// The constraints of the rows that say `not 0`, or of the others.
-pub fn constraints_where(
+fn constraints_where(
     alloc: Global,
     not: bool,
     terms: &[Term],
@@ -135,4 +135,36 @@ pub fn constraints_where(
         }
     }
     Ok(constraints)
+}
+
+/// The constraints of the rows that do not say `not 0`.
+pub fn plain_constraints(
+    alloc: Global,
+    terms: &[Term],
+    rows: &[Row],
+) -> Result<Vec<Constraint>, AllocError>
+    requires once { AreOnce terms.now }
+    requires named { AllNamed terms.now (all_seen rows.now) }
+    requires coefficients { IsTrue (all_small rows.now) }
+    ensures value { IfOk result (λ v.
+        v.items ≡ named_constraints false terms.now (all_seen rows.now)) }
+    ensures small { IfOk result (λ v. AllSmallConstraints v.items) }
+{
+    constraints_where(alloc, false, terms, rows)
+}
+
+/// The constraints of the rows that say `not 0`: their forms are tried as more than 0.
+pub fn tried_constraints(
+    alloc: Global,
+    terms: &[Term],
+    rows: &[Row],
+) -> Result<Vec<Constraint>, AllocError>
+    requires once { AreOnce terms.now }
+    requires named { AllNamed terms.now (all_seen rows.now) }
+    requires coefficients { IsTrue (all_small rows.now) }
+    ensures value { IfOk result (λ v.
+        v.items ≡ named_constraints true terms.now (all_seen rows.now)) }
+    ensures small { IfOk result (λ v. AllSmallConstraints v.items) }
+{
+    constraints_where(alloc, true, terms, rows)
 }

@@ -44,15 +44,12 @@ fn fixed_numbers(
         FixedTo (w + length constraints.now) constraints.now w v.items) }
 {
     let mut fixed = Vec::with_capacity(alloc, w + constraints.len())?;
-    for c in 0..w + constraints.len() {
-        let is_fixed = if c == 0 {
-            true
-        } else if c < w {
-            false
-        } else {
-            is_zero(constraints[c - w].sense)
-        };
-        fixed.push(is_fixed)?;
+    fixed.push(true)?;
+    for _column in 1..w {
+        fixed.push(false)?;
+    }
+    for constraint in constraints {
+        fixed.push(is_zero(constraint.sense))?;
     }
     Ok(fixed)
 }

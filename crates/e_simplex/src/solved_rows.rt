@@ -12,7 +12,7 @@ ghost use Rattle.e_simplex.specs.Solved.{IsSolved, columns_of};
 ghost use Rattle.e_simplex.specs.SolvedRows.{IsTableFor};
 
 use crate::decision::{Absurdity, Verdict, decide, refuted_once, verdict_of, verdict_of_solved};
-use crate::naming::{constraints_where, terms_of, terms_with};
+use crate::naming::{plain_constraints, terms_of, terms_with};
 use crate::solved::{Outcome, solve_constraints};
 use crate::table::Table;
 use e_fraction::{Row, Signed};
@@ -128,7 +128,7 @@ pub fn prepare(alloc: Global, rows: Vec<Row>) -> Result<Prepared, AllocError>
     ensures { IfOk result (IsPreparedRows rows.items) }
 {
     let terms = terms_of(alloc, &rows)?;
-    let constraints = constraints_where(alloc, false, &terms, &rows)?;
+    let constraints = plain_constraints(alloc, &terms, &rows)?;
     match solve_constraints(alloc, constraints, terms.len() + 1 + SPARE)? {
         Outcome::TooWide => Ok(Prepared::TooWide),
         Outcome::Absurd(weights) => {
@@ -156,17 +156,14 @@ fn decided_with(
     let all = rows_with(alloc, rows, more)?;
     let terms = terms_with(alloc, terms, more)?;
     if solved.width() <= terms.len() {
-        let verdict = decide(alloc, &all)?;
-        return Ok(verdict);
+        return decide(alloc, &all);
     }
-    let constraints = constraints_where(alloc, false, &terms, more)?;
+    let constraints = plain_constraints(alloc, &terms, more)?;
     if constraints.is_empty() {
-        let verdict = verdict_of_solved(alloc, &all, &terms, solved)?;
-        return Ok(verdict);
+        return verdict_of_solved(alloc, &all, &terms, solved);
     }
     let outcome = solved.with_all(alloc, &constraints)?;
-    let verdict = verdict_of(alloc, &all, &terms, &outcome)?;
-    Ok(verdict)
+    verdict_of(alloc, &all, &terms, &outcome)
 }
 
 /// Solves rows whose table is solved and further rows, from the solved table. Where those have more
@@ -188,7 +185,7 @@ fn prepared_with(
     if solved.width() <= terms.len() {
         return prepare(alloc, together);
     }
-    let constraints = constraints_where(alloc, false, &terms, more)?;
+    let constraints = plain_constraints(alloc, &terms, more)?;
     match solved.with_all(alloc, &constraints)? {
         Outcome::TooWide => Ok(Prepared::TooWide),
         Outcome::Absurd(weights) => {
@@ -241,8 +238,7 @@ impl SolvedRows {
         ensures absurd { IfOk result (λ v. ¬ IsWide (all_seen (self.now ++ more.now))
             → ¬ HasSolution (all_seen (self.now ++ more.now)) → IsAbsurd v) }
     {
-        let verdict = decided_with(alloc, &self.rows, &self.terms, &self.solved, more)?;
-        Ok(verdict)
+        decided_with(alloc, &self.rows, &self.terms, &self.solved, more)
     }
 
     /// [`prepare`] of the rows and more after them, from the solved table; the rows stay as they
@@ -252,7 +248,6 @@ impl SolvedRows {
         requires coefficients { IsTrue (all_small (self.now ++ more.now)) }
         ensures { IfOk result (IsPreparedRows (self.now ++ more.now)) }
     {
-        let prepared = prepared_with(alloc, &self.rows, &self.terms, &self.solved, more)?;
-        Ok(prepared)
+        prepared_with(alloc, &self.rows, &self.terms, &self.solved, more)
     }
 }

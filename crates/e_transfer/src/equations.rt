@@ -11,7 +11,7 @@ use std::alloc::{AllocError, Global};
 
 /// What is known of one variable, or of two. Variables are named by their places among the rule's
 /// arguments.
-#[derive(Clone, Copy, PartialEq, Eq)]
+#[derive(Clone, Copy)]
 pub enum Equation {
     /// The variable is the object with this number.
     Is(usize, u16),

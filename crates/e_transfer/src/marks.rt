@@ -1,7 +1,7 @@
 //! Which relations occur among the facts, and with which sign: what an instance needs of another
 //! relation or sign is no fact.
 
-ghost use Rattle.std.specs.Prelude.{◌≡◌, ◌≢◌, ◌<◌, length, slice_get, IsTrue, Some, true, false};
+ghost use Rattle.std.specs.Prelude.{◌≡◌, ◌≢◌, ℕ, ◌<◌, length, slice_get, IsTrue, Some, true, false};
 ghost use Rattle.e_literal.specs.Literal.{negation};
 ghost use Rattle.e_clause.specs.Instance.{clause_of};
 ghost use Rattle.e_clause.specs.Table.{table};
@@ -12,7 +12,7 @@ ghost use Rattle.e_transfer.specs.Marks.{are_marked, NoneHolds};
 
 use crate::clause::{clause_len, pattern_at};
 use crate::query::{Query, Strength};
-use e_clause::{Pattern, Row, Rule, Shape};
+use e_clause::{Pattern, Row, Shape};
 use e_facts::Facts;
 use e_literal::{Atom, Lit, Mono, Term};
 
@@ -189,10 +189,10 @@ fn may_be(query: &Query, row: &Row, place: usize, at: usize) -> bool
 
 /// Whether at each place of the clause but this one an instance may have the goal, or a literal
 /// whose negation holds.
-pub fn may_all_hold(query: &Query, rule: Rule, row: &Row, place: usize) -> bool
-    requires { slice_get table rule ≡ Some (row_of row.now) }
-    ensures { result ≡ false → NoneAt query.now.strength query.now.scope query.now.facts.now
-        query.now.goal.now rule place }
+pub fn may_all_hold(query: &Query, row: &Row, place: usize) -> bool
+    ensures { result ≡ false → (rule : ℕ) → slice_get table rule ≡ Some (row_of row.now)
+        → NoneAt query.now.strength query.now.scope query.now.facts.now query.now.goal.now
+        rule place }
 {
     for at in 0..clause_len(row) {
         if !may_be(query, row, place, at) {

@@ -1,6 +1,6 @@
 //! In which order the variables of a rule are chosen, and from which numbers.
 
-ghost use Rattle.std.specs.Prelude.{◌≡◌, ◌<◌, ◌++◌, map, ◌==◌, IfOk, OnOk};
+ghost use Rattle.std.specs.Prelude.{◌≡◌, ℕ, ◌<◌, ◌++◌, map, ◌==◌, IfOk, OnOk};
 ghost use Rattle.std.specs.Prelude.{IsTrue, length, slice_index, nat_lt};
 ghost use Rattle.std.specs.List.{list_all};
 ghost use Rattle.e_clause.specs.Views.{atom_of, lit_of_pattern, row_of};
@@ -41,9 +41,9 @@ fn representatives_of(alloc: Global, bindings: &[Binding]) -> Result<Vec<usize>,
 }
 
 /// Puts a variable last in the order, unless it is there.
-fn add_once(order: &mut Vec<usize>, total: usize, variable: usize) -> Result<(), AllocError>
-    requires { variable < total }
-    ensures grows { OnOk result (Grows total order.old.items order.new.items) }
+fn add_once(order: &mut Vec<usize>, variable: usize) -> Result<(), AllocError>
+    ensures grows { OnOk result ((total : ℕ) → variable < total
+        → Grows total order.old.items order.new.items) }
     ensures there { OnOk result (IsTrue (has_variable order.new.items variable)) }
 {
     if !order.contains(&variable) {
@@ -58,7 +58,7 @@ fn add_bound(order: &mut Vec<usize>, bindings: &[Binding]) -> Result<(), AllocEr
 {
     for (v, binding) in bindings.iter().enumerate() {
         if let Binding::Is(_) = binding {
-            add_once(order, bindings.len(), v)?;
+            add_once(order, v)?;
         }
     }
     Ok(())
@@ -76,7 +76,7 @@ fn add_preferred(
     for v in preferred {
         if let Some(representative) = representatives.get(*v as usize) {
             if *representative < total {
-                add_once(order, total, *representative)?;
+                add_once(order, *representative)?;
             }
         }
     }
@@ -98,7 +98,7 @@ fn order_of(
     add_bound(&mut order, bindings)?;
     add_preferred(&mut order, representatives, bindings.len(), preferred)?;
     for representative in representatives {
-        add_once(&mut order, bindings.len(), *representative)?;
+        add_once(&mut order, *representative)?;
     }
     Ok(order)
 }
@@ -117,11 +117,11 @@ fn position_in(order: &[usize], variable: usize) -> usize
 
 fn positions_of(
     alloc: Global,
-    bindings: &[Binding],
     representatives: &[usize],
     order: &[usize],
 ) -> Result<Vec<usize>, AllocError>
-    requires { OrderIs (length bindings.now) representatives.now order.now }
+    requires { (v : ℕ) → v < length representatives.now
+        → IsTrue (has_variable order.now (slice_index representatives.now v)) }
     ensures { IfOk result (λ v. PositionsAre representatives.now order.now v.items) }
 {
     let mut positions = Vec::new(alloc);
@@ -297,7 +297,7 @@ pub fn make_plan(
 {
     let representatives = representatives_of(alloc, bindings)?;
     let order = order_of(alloc, bindings, &representatives, preferred)?;
-    let positions = positions_of(alloc, bindings, &representatives, &order)?;
+    let positions = positions_of(alloc, &representatives, &order)?;
     let spans = spans_of(alloc, row, scope, bindings, &order)?;
     let mut ready_at = Vec::new(alloc);
     add_ready_at(&mut ready_at, row, &positions, row.premises)?;

@@ -105,7 +105,7 @@ fn search_place(
         query.now.goal.now (NoneAt query.now.strength query.now.scope query.now.facts.now
         query.now.goal.now rule place)) }
 {
-    if !may_all_hold(query, rule, row, place) {
+    if !may_all_hold(query, row, place) {
         return Ok(Verdict::No);
     }
     let (pattern, negated) = pattern_at(row, place);

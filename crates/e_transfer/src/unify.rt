@@ -10,7 +10,7 @@ use e_literal::Items;
 use std::alloc::{AllocError, Global};
 
 /// The binding of a variable.
-#[derive(Clone, Copy, PartialEq, Eq)]
+#[derive(Clone, Copy)]
 pub enum Binding {
     /// It is chosen.
     Free,

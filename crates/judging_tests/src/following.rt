@@ -59,9 +59,10 @@ fn answered_by(
     if goal.is_empty() {
         return Ok(said(known.absurd_in_turn(alloc, facts)?));
     }
+    known.bring_all(alloc, facts)?;
     let goal = lit(alloc, goal)?;
     assert!(rt; is_metric_goal(&goal));
-    let answered = known.follows_in_turn(alloc, facts, &goal);
+    let answered = known.follows(alloc, facts, &goal);
     mem::drop(goal);
     Ok(said(answered?))
 }

@@ -4,7 +4,7 @@ use Rattle.e_simplex.specs.Naming.{named_constraints}
 use Rattle.e_simplex.specs.Constraints.{AllSmallConstraints}
 use Rattle.e_simplex.specs.Solved.{IsFit, IsTableOutcome}
 use Rattle.e_simplex.proofs.NamedConstraints.{fit_constraints}
-use Rattle.e_simplex.proofs.Refuting.{length_seen, law_holds, law_absurd}
+use Rattle.e_simplex.proofs.Refuting.{length_seen, each_law_holds, each_law_absurd}
 use Rattle.e_simplex.proofs.decision.decide.Goals as goal
 
 pub solve_constraints-requires : goal.solve_constraints-requires
@@ -33,7 +33,7 @@ verdict_of-requires-clause-outcome c =
     )
 
 pub returns-clause-holds : goal.returns-clause-holds
-returns-clause-holds c = law_holds (all_seen c.args.rows.now) c.in_ok-verdict.verdict c.in_ok-verdict.ensures
+returns-clause-holds c = each_law_holds (all_seen c.args.rows.now) c.verdict_of.result c.verdict_of.ensures
 
 pub returns-clause-absurd : goal.returns-clause-absurd
-returns-clause-absurd c = law_absurd (all_seen c.args.rows.now) c.in_ok-verdict.verdict c.in_ok-verdict.ensures
+returns-clause-absurd c = each_law_absurd (all_seen c.args.rows.now) c.verdict_of.result c.verdict_of.ensures

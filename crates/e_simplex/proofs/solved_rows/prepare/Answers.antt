@@ -12,8 +12,8 @@ use Rattle.e_simplex.proofs.SpareColumns.{narrow_absurd}
 use Rattle.e_simplex.proofs.Refuting.{length_seen}
 use Rattle.e_simplex.proofs.solved_rows.prepare.Goals as goal
 
-pub constraints_where-requires-clause-named : goal.constraints_where-requires-clause-named
-constraints_where-requires-clause-named c =
+pub plain_constraints-requires-clause-named : goal.plain_constraints-requires-clause-named
+plain_constraints-requires-clause-named c =
     let a : AllNamed c.in_ok-terms.terms.items (all_seen c.args.rows.items) = subst (λ v. AllNamed c.in_ok-terms.terms.items (all_seen v)) c.deref.ensures.value c.in_ok-terms.ensures.all in
     subst (λ v. AllNamed v (all_seen c.deref-3.result.now)) (sym c.deref-2.ensures.value) (subst (λ v. AllNamed c.in_ok-terms.terms.items (all_seen v)) (sym c.deref-3.ensures.value) a)
 

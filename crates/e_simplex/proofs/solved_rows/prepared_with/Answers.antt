@@ -11,8 +11,8 @@ use Rattle.e_simplex.proofs.SpareColumns.{narrow_absurd}
 use Rattle.e_simplex.proofs.Extending.{named_both, fit_both, outcome_both}
 use Rattle.e_simplex.proofs.solved_rows.prepared_with.Goals as goal
 
-pub constraints_where-requires-clause-named : goal.constraints_where-requires-clause-named
-constraints_where-requires-clause-named c = subst (λ v. AllNamed v (all_seen c.args.more.now)) (sym c.deref.ensures.value) c.in_ok-terms.ensures.all
+pub plain_constraints-requires-clause-named : goal.plain_constraints-requires-clause-named
+plain_constraints-requires-clause-named c = subst (λ v. AllNamed v (all_seen c.args.more.now)) (sym c.deref.ensures.value) c.in_ok-terms.ensures.all
 
 pub with_all-requires-clause-fit : goal.with_all-requires-clause-fit
 with_all-requires-clause-fit c =
