@@ -10,7 +10,7 @@ use Rattle.e_literal.specs.declared.literal.Lit.{Lit}
 use Rattle.e_literal.specs.Literal.{all_in_scope}
 use Rattle.e_literal.specs.Scopes.{nothing, grown}
 use Rattle.e_literal.specs.Use.{scope_of}
-use Rattle.e_literal.proofs.Growing.{sorts_next}
+use Rattle.e_literal.proofs.GrownScopes.{sorts_next}
 use Rattle.e_theorem.specs.Statements.{stated}
 use Rattle.e_deriv.specs.declared.names.Names.{Names}
 use Rattle.e_deriv.specs.Naming.{first_names}

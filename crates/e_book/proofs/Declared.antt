@@ -9,7 +9,7 @@ use Rattle.e_literal.specs.declared.object.Scope.{Scope}
 use Rattle.e_literal.specs.Literal.{count_of}
 use Rattle.e_literal.specs.Scopes.{same_sort, with_one, grown, next_objects}
 use Rattle.e_literal.proofs.Sorts.{same_sort_is}
-use Rattle.e_literal.proofs.Growing.{count_one}
+use Rattle.e_literal.proofs.GrownScopes.{count_one}
 use Rattle.e_deriv.specs.declared.names.Names.{Names}
 use Rattle.e_line.specs.declared.fault.FaultKind.{FaultKind}
 use Rattle.e_line.specs.declared.raw_line.RawLine.{RawLine}

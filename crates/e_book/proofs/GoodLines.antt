@@ -23,13 +23,13 @@ use Rattle.e_literal.specs.Facts.{has, joined, joined_all}
 use Rattle.e_literal.specs.Rename.{mono_at, atom_at, number_at, renamed, image_in, paired}
 use Rattle.e_literal.specs.Use.{StatementView, is_statement, are_arguments, image, gives_of_use}
 use Rattle.e_literal.proofs.WithImages.{is_moved_in}
-use Rattle.e_literal.proofs.Growing.{sorts_next}
+use Rattle.e_literal.proofs.GrownScopes.{sorts_next}
 use Rattle.e_literal.proofs.Booleans.{all_both}
 use Rattle.e_clause.specs.declared.cert.By.{By}
 use Rattle.e_clause.specs.Instance.{Inst}
 use Rattle.e_clause.specs.RuleKinds.{is_diagram_rule}
 use Rattle.e_clause.specs.Assignment.{terms_of_atom, terms_of_lits}
-use Rattle.e_clause.specs.Judged.{is_well_formed_in, are_well_formed_in, are_limited_facts}
+use Rattle.e_clause.specs.LimitedFacts.{is_well_formed_in, are_well_formed_in, are_limited_facts}
 use Rattle.e_construct.specs.Construct.{sorts_made, gives_of_construction, fits_construction as fits_form}
 use Rattle.e_construct.specs.Superposing as superposing
 use Rattle.e_construct.proofs.Moving.{is_plain, moved_lit, Within, in_more, every, grows}

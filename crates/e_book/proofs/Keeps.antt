@@ -9,7 +9,7 @@ use Rattle.e_literal.specs.Literal.{all_in_scope}
 use Rattle.e_literal.specs.Scopes.{nothing, with_one, grown}
 use Rattle.e_literal.specs.WellFormed.{is_well_formed}
 use Rattle.e_literal.specs.Use.{scope_of}
-use Rattle.e_literal.proofs.Growing.{grown-append, sorts_next}
+use Rattle.e_literal.proofs.GrownScopes.{grown-append, sorts_next}
 use Rattle.e_literal.proofs.Booleans.{all_both}
 use Rattle.e_text.specs.Tokens.{tokens_of}
 use Rattle.e_text.specs.Lines.{LineView}

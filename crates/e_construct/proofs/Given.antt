@@ -29,7 +29,7 @@ use Rattle.e_literal.specs.declared.literal.Atom.{Atom}
 use Rattle.e_literal.specs.declared.literal.Atom.TheVariants as atoms
 use Rattle.e_literal.proofs.WithImages.{is_moved_in}
 use Rattle.e_literal.proofs.Sorts.{same_sort_is, same_sort_self}
-use Rattle.e_literal.proofs.Growing.{count_one}
+use Rattle.e_literal.proofs.GrownScopes.{count_one}
 use Rattle.e_construct.proofs.Moving.{every, moved_lit, is_plain, renamed_plain, Within, in_more, of_sorts_more, grows}
 
 -- in scope, and no comparison of magnitudes

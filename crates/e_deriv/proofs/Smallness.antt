@@ -4,7 +4,7 @@ use Rattle.e_literal.specs.declared.object.Scope.{Scope}
 use Rattle.e_literal.specs.Scopes.{nothing}
 use Rattle.e_literal.specs.Use.{StatementView, scope_of, is_statement}
 use Rattle.e_literal.proofs.Booleans.{and_left, and_right}
-use Rattle.e_literal.proofs.Growing.{total_grown}
+use Rattle.e_literal.proofs.GrownScopes.{total_grown}
 use Rattle.e_deriv.specs.Fitting.{all_objects, is_small, is_small_statement}
 
 -- at most 1,000 objects of each sort

@@ -4,7 +4,7 @@ use Rattle.std.specs.List.{list_all}
 use Rattle.e_literal.specs.declared.object.Scope.{Scope}
 use Rattle.e_literal.specs.Scopes.{grown}
 use Rattle.e_literal.specs.Use.{StatementView, scope_of, is_statement}
-use Rattle.e_clause.specs.Judged.{are_well_formed_in, are_limited_facts}
+use Rattle.e_clause.specs.LimitedFacts.{are_well_formed_in, are_limited_facts}
 use Rattle.e_theorem.specs.Pattern.{is_pattern}
 use Rattle.e_deriv.specs.Script.{Script, Apply, size, depth}
 use Rattle.e_deriv.specs.Lines.{Line, theorem_at, proof_lines}

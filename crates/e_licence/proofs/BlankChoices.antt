@@ -12,7 +12,7 @@ use Rattle.e_literal.specs.Literal.{obj, count_of, is_in_scope}
 use Rattle.e_literal.specs.Rename.{same_obj}
 use Rattle.e_literal.specs.Scopes.{same_sort, nothing, with_one, next_objects, are_of_sorts}
 use Rattle.e_literal.proofs.Sorts.{same_sort_is, same_sort_self, same_obj_is, same_obj_self}
-use Rattle.e_literal.proofs.Growing.{counts_nothing}
+use Rattle.e_literal.proofs.GrownScopes.{counts_nothing}
 use Rattle.e_literal.proofs.Booleans.{or_not_right, and_left, and_right, eqb_self}
 use Rattle.e_theorem.specs.Choice.{fills, is_below}
 use Rattle.e_theorem.specs.Pattern.{are_entries}

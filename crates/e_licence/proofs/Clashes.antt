@@ -12,7 +12,7 @@ use Rattle.e_literal.proofs.Agreeing.{same_lit_self}
 use Rattle.e_clause.specs.declared.cert.Against.TheVariants.{Clash, Metric as MetricAgainst}
 use Rattle.e_clause.specs.declared.cert.MetricCert.{MetricCert}
 use Rattle.e_clause.specs.Clash.{clash, clashes_at}
-use Rattle.e_clause.specs.Judged.{are_limited_facts}
+use Rattle.e_clause.specs.LimitedFacts.{are_limited_facts}
 use Rattle.e_clause.specs.MetricCertificate.{are_sums_in, metric_contradicts}
 use Rattle.e_clause.specs.Wide.{IsTooWideContradiction}
 use Rattle.e_metric.proofs.terms.FirstTerms.{take_one}
@@ -21,7 +21,7 @@ use Rattle.e_metric.specs.MetricAnswers.{IsMetricCertificate, IsTooWideSystem}
 use Rattle.e_licence.specs.Contexts.{Basis}
 use Rattle.e_licence.specs.inner.Clashes.{IsClashing}
 use Rattle.e_licence.specs.Licences.{IsCertifiedAgainst}
-use Rattle.e_licence.proofs.GoodLiterals.{in_scope}
+use Rattle.e_licence.proofs.LimitsOfFacts.{in_scope}
 
 any_at : (p : Lit → Bool) (ls : List Lit) (i : ℕ) (l : Lit) → slice_get ls i ≡ Some l → p l ≡ true → list_any p ls ≡ true
 any_at p [] i l h e = absurd (cc)

@@ -14,7 +14,7 @@ use Rattle.e_literal.specs.WellFormed.{is_well_formed}
 use Rattle.e_literal.specs.Rename.{same_obj, image_in, paired, renamed}
 use Rattle.e_literal.specs.Scopes.{same_sort, nothing, with_one, next_objects}
 use Rattle.e_clause.specs.Allowed.{Allowed, AllAllowed}
-use Rattle.e_clause.specs.Judged.{is_well_formed_in, are_well_formed_in}
+use Rattle.e_clause.specs.LimitedFacts.{is_well_formed_in, are_well_formed_in}
 use Rattle.e_theorem.proofs.Renaming.{same_renamed}
 use Rattle.e_transfer.specs.Choice.{EachKept}
 use Rattle.e_transfer.specs.Verdicts.{VerdictIs}

@@ -9,7 +9,7 @@ use Rattle.e_literal.specs.Scopes.{nothing, next_objects}
 use Rattle.e_literal.specs.Use.{StatementView, are_arguments, needs_of_use, is_statement}
 use Rattle.e_literal.proofs.Booleans.{and_left, and_right}
 use Rattle.e_clause.specs.Allowed.{AllAllowed}
-use Rattle.e_clause.specs.Judged.{are_well_formed_in}
+use Rattle.e_clause.specs.LimitedFacts.{are_well_formed_in}
 use Rattle.e_clause.specs.Wide.{IsTooWideLit}
 use Rattle.e_theorem.specs.Choice.{fills, is_choice, is_below, IsAllowedChoice, IsLeastChoice, NoneIsAllowed}
 use Rattle.e_theorem.specs.Pattern.{is_pattern}

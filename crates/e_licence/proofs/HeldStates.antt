@@ -5,7 +5,7 @@ use Rattle.std.proofs.lemmas.List.{length-append, length-take, take_all, take-ta
 use Rattle.e_literal.specs.declared.object.Scope.{Scope}
 use Rattle.e_literal.specs.declared.literal.Lit.{Lit}
 use Rattle.e_literal.specs.Facts.{has, joined}
-use Rattle.e_clause.specs.Judged.{are_limited_facts}
+use Rattle.e_clause.specs.LimitedFacts.{are_limited_facts}
 use Rattle.e_facts.specs.declared.facts.Added.{Added}
 use Rattle.e_facts.specs.Adding.{AddedIs}
 use Rattle.e_metric.specs.declared.metric_facts.MetricFacts.{MetricFacts}

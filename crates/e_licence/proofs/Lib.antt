@@ -1,4 +1,4 @@
-pub mod GoodLiterals
+pub mod LimitsOfFacts
 pub mod Fronts
 pub mod HeldStates
 pub mod WiderScopes

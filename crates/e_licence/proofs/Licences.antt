@@ -12,7 +12,7 @@ use Rattle.e_clause.specs.declared.cert.MetricCert.{MetricCert}
 use Rattle.e_clause.specs.declared.cert.Part.TheVariants.{Metric}
 use Rattle.e_clause.specs.declared.cert.Cert.TheVariants.{Plain, Transfer}
 use Rattle.e_clause.specs.declared.cert.TransferCert.{TransferCert}
-use Rattle.e_clause.specs.Judged.{is_well_formed_in, are_limited_facts}
+use Rattle.e_clause.specs.LimitedFacts.{is_well_formed_in, are_limited_facts}
 use Rattle.e_clause.specs.Metric.{MetricConsequence}
 use Rattle.e_clause.specs.MetricCertificate.{are_sums_in, sums_refute, metric_certifies}
 use Rattle.e_clause.specs.Transfer.{Stands, NegationsStand, TransferConsequence}
@@ -25,7 +25,7 @@ use Rattle.e_transfer.specs.declared.finding.Found.TheVariants.{Yes, No, TooWide
 use Rattle.e_transfer.specs.FoundTransfers.{IsFound, IsTooWideTransfer}
 use Rattle.e_licence.specs.Contexts.{Basis}
 use Rattle.e_licence.specs.Licences.{IsCertifiedBy}
-use Rattle.e_licence.proofs.GoodLiterals.{in_scope}
+use Rattle.e_licence.proofs.LimitsOfFacts.{in_scope}
 
 -- ---- the literal follows
 

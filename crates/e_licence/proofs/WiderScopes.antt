@@ -12,7 +12,7 @@ use Rattle.e_literal.specs.declared.literal.Lit.{Lit}
 use Rattle.e_literal.specs.Literal.{count_of, is_in_scope, objects_of_atom, all_in_scope}
 use Rattle.e_literal.specs.WellFormed.{is_well_formed}
 use Rattle.e_literal.proofs.Booleans.{and_left, and_right}
-use Rattle.e_clause.specs.Judged.{is_well_formed_in, are_well_formed_in, are_few, are_limited_facts}
+use Rattle.e_clause.specs.LimitedFacts.{is_well_formed_in, are_well_formed_in, are_few, are_limited_facts}
 use Rattle.e_metric.specs.declared.metric_facts.MetricFacts.{MetricFacts}
 use Rattle.e_licence.specs.declared.held.Held.{Held}
 use Rattle.e_licence.specs.Contexts.{IsWithin}

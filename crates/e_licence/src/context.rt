@@ -3,7 +3,7 @@
 ghost use Rattle.std.specs.Prelude.{◌≡◌, ◌<◌, [], ◌∷◌, ◌++◌, length, IsTrue, IfOk};
 ghost use Rattle.std.specs.Prelude.{IfErr, IfSome, OnOk, OnErr, option_copied};
 ghost use Rattle.e_literal.specs.Facts.{joined};
-ghost use Rattle.e_clause.specs.Judged.{are_limited_facts, is_well_formed_in};
+ghost use Rattle.e_clause.specs.LimitedFacts.{are_limited_facts, is_well_formed_in};
 ghost use Rattle.e_facts.specs.Adding.{AddedIs};
 ghost use Rattle.e_metric.specs.Fronts.{AreFronts};
 ghost use Rattle.e_licence.specs.Contexts.{IsReleased, IsWithin, state_of};

@@ -2,7 +2,7 @@
 
 ghost use Rattle.std.specs.Prelude.{IsTrue, IsFalse, IfOk, Some};
 ghost use Rattle.e_literal.specs.Facts.{has, is_metric};
-ghost use Rattle.e_clause.specs.Judged.{is_well_formed_in};
+ghost use Rattle.e_clause.specs.LimitedFacts.{is_well_formed_in};
 ghost use Rattle.e_clause.specs.Metric.{MetricConsequence};
 ghost use Rattle.e_metric.specs.Fronts.{AreFronts};
 ghost use Rattle.e_metric.specs.MetricAnswers.{IsMetricAnswer, IfNo};

@@ -79,7 +79,7 @@ pub fn with_one(scope: Scope, sort: Sort) -> Scope
 }
 
 /// The scope with one more object for each sort of the list.
-#[tactic(auto, using(crate::proofs::Growing::growing))]
+#[tactic(auto, using(crate::proofs::GrownScopes::growing))]
 pub fn grown(scope: Scope, sorts: &[Sort]) -> Scope
     requires points { scope.points + length sorts.now < 2 ^ 16 }
     requires lines { scope.lines + length sorts.now < 2 ^ 16 }
@@ -96,7 +96,7 @@ pub fn grown(scope: Scope, sorts: &[Sort]) -> Scope
 /// The objects that come next, one for each sort of the list.
 ///
 /// It fails only when out of memory.
-#[tactic(auto, using(crate::proofs::Growing::growing))]
+#[tactic(auto, using(crate::proofs::GrownScopes::growing))]
 pub fn next_objects(alloc: Global, scope: Scope, sorts: &[Sort]) -> Result<Vec<Obj>, AllocError>
     requires points { scope.points + length sorts.now < 2 ^ 16 }
     requires lines { scope.lines + length sorts.now < 2 ^ 16 }

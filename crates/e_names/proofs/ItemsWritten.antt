@@ -14,7 +14,7 @@ use Rattle.e_literal.specs.WellFormed.{is_well_formed}
 use Rattle.e_literal.specs.Scopes.{are_of_sorts}
 use Rattle.e_literal.specs.Rename.{renamed}
 use Rattle.e_literal.specs.Use.{is_statement, are_arguments, image}
-use Rattle.e_clause.specs.Judged.{is_well_formed_in, are_well_formed_in}
+use Rattle.e_clause.specs.LimitedFacts.{is_well_formed_in, are_well_formed_in}
 use Rattle.e_theorem.specs.declared.notion.Notion.{Notion}
 use Rattle.e_theorem.specs.Notions.{as_stated, expanded, means_something}
 use Rattle.e_theorem.proofs.Uses.{gives_good}

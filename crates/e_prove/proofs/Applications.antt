@@ -16,7 +16,7 @@ use Rattle.e_literal.proofs.Sorts.{same_obj_self}
 use Rattle.e_literal.proofs.Booleans.{and_left, and_right}
 use Rattle.e_clause.specs.declared.cert.Cert.{Cert}
 use Rattle.e_clause.specs.Certify.{certify_all}
-use Rattle.e_clause.specs.Judged.{are_well_formed_in}
+use Rattle.e_clause.specs.LimitedFacts.{are_well_formed_in}
 use Rattle.e_clause.proofs.Sound.{all_allowed_of_certified}
 use Rattle.e_theorem.specs.Choice.{fills, is_choice, IsLeastChoice}
 use Rattle.e_theorem.specs.Pattern.{is_pattern, are_entries}

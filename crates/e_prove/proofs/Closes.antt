@@ -9,7 +9,7 @@ use Rattle.e_literal.specs.Use.{StatementView}
 use Rattle.e_clause.specs.declared.cert.Cert.{Cert}
 use Rattle.e_clause.specs.declared.cert.Against.{Against}
 use Rattle.e_clause.specs.Certify.{certify_all}
-use Rattle.e_clause.specs.Judged.{are_well_formed_in}
+use Rattle.e_clause.specs.LimitedFacts.{are_well_formed_in}
 use Rattle.e_clause.proofs.Sound.{all_allowed_of_certified, contradictory_of_certified}
 use Rattle.e_clause.specs.Wide.{IsTooWideContradiction}
 use Rattle.e_literal.specs.declared.object.Term.{Term}

@@ -11,7 +11,7 @@ use Rattle.e_literal.specs.Use.{StatementView}
 use Rattle.e_literal.proofs.Booleans.{and_left, and_right, all_left, all_right}
 use Rattle.e_clause.specs.declared.cert.Cert.{Cert}
 use Rattle.e_clause.specs.Certify.{certify_all}
-use Rattle.e_clause.specs.Judged.{are_well_formed_in}
+use Rattle.e_clause.specs.LimitedFacts.{are_well_formed_in}
 use Rattle.e_clause.proofs.Sound.{all_allowed_of_certified}
 use Rattle.e_clause.specs.declared.cert.Version.TheVariants as version
 use Rattle.e_clause.specs.Versions.{is_cert_of}

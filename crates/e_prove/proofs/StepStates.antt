@@ -15,9 +15,9 @@ use Rattle.e_literal.specs.declared.object.Obj.{Obj}
 use Rattle.e_literal.specs.Scopes.{grown}
 use Rattle.e_literal.specs.Use.{StatementView, gives_of_use}
 use Rattle.e_literal.proofs.Booleans.{and_left, and_right}
-use Rattle.e_literal.proofs.Growing.{grown_bounds}
+use Rattle.e_literal.proofs.GrownScopes.{grown_bounds}
 use Rattle.e_clause.specs.Assignment.{terms_of_atom, terms_of_lits}
-use Rattle.e_clause.specs.Judged.{is_well_formed_in, are_well_formed_in, are_few, most_terms_of_step, are_limited_facts}
+use Rattle.e_clause.specs.LimitedFacts.{is_well_formed_in, are_well_formed_in, are_few, most_terms_of_step, are_limited_facts}
 use Rattle.e_construct.specs.declared.construction.Construction.{Construction}
 use Rattle.e_construct.specs.Construct.{sorts_made, gives_of_construction}
 use Rattle.e_construct.specs.declared.superpose.Superpose.{Superpose}

@@ -5,7 +5,7 @@ use Rattle.e_literal.specs.declared.literal.Lit.{Lit}
 use Rattle.e_literal.specs.Facts.{joined_all}
 use Rattle.e_literal.specs.Use.{StatementView}
 use Rattle.e_clause.specs.declared.cert.Cert.{Cert}
-use Rattle.e_clause.specs.Judged.{are_limited_facts}
+use Rattle.e_clause.specs.LimitedFacts.{are_limited_facts}
 use Rattle.e_construct.specs.declared.superpose.Superpose.{Superpose}
 use Rattle.e_construct.specs.Superposing as superposing
 use Rattle.e_deriv.specs.declared.block.Block.{Block}

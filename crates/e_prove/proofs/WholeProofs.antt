@@ -7,8 +7,8 @@ use Rattle.e_literal.specs.declared.object.Sort.{Sort}
 use Rattle.e_literal.specs.declared.object.Obj.{Obj}
 use Rattle.e_literal.specs.Scopes.{nothing, next_objects}
 use Rattle.e_literal.specs.Use.{StatementView, scope_of}
-use Rattle.e_literal.proofs.Growing.{total_grown, grown_bounds}
-use Rattle.e_clause.specs.Judged.{are_limited_facts}
+use Rattle.e_literal.proofs.GrownScopes.{total_grown, grown_bounds}
+use Rattle.e_clause.specs.LimitedFacts.{are_limited_facts}
 use Rattle.e_deriv.specs.declared.names.Names.{Names}
 use Rattle.e_deriv.specs.declared.stop.Stop.{Stop}
 use Rattle.e_deriv.specs.declared.stop.Stop.TheVariants as stop

@@ -5,7 +5,7 @@ ghost use Rattle.std.specs.List.{list_all};
 ghost use Rattle.e_literal.specs.Use.{StatementView, are_arguments, needs_of_use, gives_of_use};
 ghost use Rattle.e_clause.specs.declared.cert.Cert.{Cert as Certificate};
 ghost use Rattle.e_clause.specs.Certify.{certify_all};
-ghost use Rattle.e_clause.specs.Judged.{are_well_formed_in};
+ghost use Rattle.e_clause.specs.LimitedFacts.{are_well_formed_in};
 ghost use Rattle.e_theorem.specs.Statements.{stated};
 ghost use Rattle.e_deriv.specs.declared.block.Step.TheVariants.{Apply};
 ghost use Rattle.e_deriv.specs.Fitting.{is_small, is_small_statement};

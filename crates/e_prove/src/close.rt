@@ -3,7 +3,7 @@ ghost use Rattle.std.specs.Prelude.{◌≡◌, List, Option, IfOk, IfErr, IsTrue
 ghost use Rattle.e_literal.specs.Use.{StatementView};
 ghost use Rattle.e_clause.specs.declared.cert.Against.{Against};
 ghost use Rattle.e_clause.specs.declared.cert.Cert.{Cert};
-ghost use Rattle.e_clause.specs.Judged.{are_well_formed_in};
+ghost use Rattle.e_clause.specs.LimitedFacts.{are_well_formed_in};
 ghost use Rattle.e_deriv.specs.declared.block.Close.TheVariants.{Qed, Contradiction};
 ghost use Rattle.e_deriv.specs.Goal.{Goal as BlockGoal, are_for, goal_with as goal_at};
 ghost use Rattle.e_prove.specs.inner.StepStates.{goal_view};

@@ -4,7 +4,7 @@ ghost use Rattle.e_literal.specs.Literal.{negation};
 ghost use Rattle.e_literal.specs.Facts.{joined, joined_all};
 ghost use Rattle.e_literal.specs.Scopes;
 ghost use Rattle.e_literal.specs.Use.{scope_of};
-ghost use Rattle.e_clause.specs.Judged.{are_limited_facts};
+ghost use Rattle.e_clause.specs.LimitedFacts.{are_limited_facts};
 ghost use Rattle.e_theorem.specs.Statements.{stated};
 ghost use Rattle.e_deriv.specs.Goal.{facts_of_statement};
 ghost use Rattle.e_deriv.specs.Naming.{named};

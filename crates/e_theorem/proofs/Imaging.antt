@@ -15,7 +15,7 @@ use Rattle.e_literal.specs.Literal.{obj, count_of, is_in_scope}
 use Rattle.e_literal.specs.Scopes.{same_sort, nothing, with_one, grown, next_objects, are_of_sorts}
 use Rattle.e_literal.specs.Rename.{same_obj, image_in, paired, renamed}
 use Rattle.e_literal.specs.Use.{StatementView, scope_of, nth_of_sort, image, are_arguments}
-use Rattle.e_literal.proofs.Growing.{grown_bounds, counts_nothing, sorts_next}
+use Rattle.e_literal.proofs.GrownScopes.{grown_bounds, counts_nothing, sorts_next}
 use Rattle.e_literal.proofs.WithImages.{image_in_second}
 use Rattle.e_literal.proofs.Sorts.{same_sort_is, sorts_of_objects}
 use Rattle.e_literal.proofs.Booleans.{and_left, and_right}

@@ -16,7 +16,7 @@ use Rattle.e_literal.specs.Use.{StatementView, scope_of, image, are_arguments, n
 use Rattle.e_literal.proofs.WithImages.{is_moved_in, renamed_scope, renamed_well_formed}
 use Rattle.e_literal.proofs.Sorts.{same_sort_is}
 use Rattle.e_literal.proofs.Booleans.{and_left, and_right}
-use Rattle.e_clause.specs.Judged.{is_well_formed_in, are_well_formed_in}
+use Rattle.e_clause.specs.LimitedFacts.{is_well_formed_in, are_well_formed_in}
 use Rattle.e_theorem.proofs.Imaging.{counted, counts_grow, made_image, counted_here, counted_other, this_one, none_before, imaged, only_first, paired_after}
 use Rattle.e_theorem.proofs.Renaming.{same_renamed}
 

@@ -7,8 +7,8 @@ pub mod Lists
 pub mod Plans
 pub mod Instances
 pub mod Needs
-pub mod GoodLiterals
-pub mod GoodFacts
+pub mod WellFormedNeeds
+pub mod FactConditions
 pub mod Clauses
 pub mod SearchedPlaces
 pub mod RuleSearches

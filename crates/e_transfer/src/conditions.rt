@@ -3,7 +3,7 @@
 ghost use Rattle.std.specs.Prelude.{◌≡◌};
 ghost use Rattle.std.specs.List.{list_all};
 ghost use Rattle.e_literal.specs.Literal.{all_in_scope};
-ghost use Rattle.e_clause.specs.Judged;
+ghost use Rattle.e_clause.specs.LimitedFacts;
 
 use e_facts::Facts;
 use e_literal::{Lit, Scope, in_scope};
@@ -11,15 +11,15 @@ use e_metric::{are_few_facts, is_well_formed};
 
 /// Whether the literal is in scope and well formed.
 pub fn is_well_formed_in(scope: Scope, lit: &Lit) -> bool
-    ensures { result ≡ Judged.is_well_formed_in scope lit.now }
+    ensures { result ≡ LimitedFacts.is_well_formed_in scope lit.now }
 {
     in_scope(lit, scope) && is_well_formed(lit)
 }
 
 /// Whether the facts are in scope and well formed, and their terms are few.
-#[tactic(auto, using(crate::proofs::GoodFacts::good_parts))]
+#[tactic(auto, using(crate::proofs::FactConditions::good_parts))]
 pub fn are_limited_facts(scope: Scope, facts: &Facts) -> bool
-    ensures { result ≡ Judged.are_limited_facts scope facts.now }
+    ensures { result ≡ LimitedFacts.are_limited_facts scope facts.now }
 {
     are_in_scope(scope, facts) && are_few_facts(facts)
 }

@@ -2,7 +2,7 @@
 
 ghost use Rattle.std.specs.Prelude.{IfOk, IsTrue, IsFalse};
 ghost use Rattle.e_literal.specs.Facts.{has};
-ghost use Rattle.e_clause.specs.Judged.{are_limited_facts, is_well_formed_in};
+ghost use Rattle.e_clause.specs.LimitedFacts.{are_limited_facts, is_well_formed_in};
 ghost use Rattle.e_clause.specs.Wide.{TransferFromFacts};
 ghost use Rattle.e_metric.specs.Fronts.{AreFronts};
 ghost use Rattle.e_transfer.specs.FoundTransfers.{IsFound, IsFoundByFacts};

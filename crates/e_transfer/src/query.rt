@@ -2,7 +2,7 @@
 
 ghost use Rattle.std.specs.Prelude.{◌≡◌, IsTrue, option_copied, not, ◌||◌, true, false};
 ghost use Rattle.std.specs.Option.{ForSome};
-ghost use Rattle.e_clause.specs.Judged.{are_limited_facts};
+ghost use Rattle.e_clause.specs.LimitedFacts.{are_limited_facts};
 ghost use Rattle.e_transfer.specs.declared.models.Filling.TheVariants as filling;
 ghost use Rattle.e_transfer.specs.Models.{is_model, value_by};
 ghost use Rattle.e_transfer.specs.Areas.{name_areas_of};

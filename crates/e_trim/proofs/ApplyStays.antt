@@ -11,7 +11,7 @@ use Rattle.e_literal.specs.Rename.{same_obj}
 use Rattle.e_literal.specs.Facts.{joined_all}
 use Rattle.e_literal.specs.WellFormed.{is_well_formed}
 use Rattle.e_literal.specs.Use.{StatementView, scope_of, is_statement, are_arguments, needs_of_use, gives_of_use}
-use Rattle.e_literal.proofs.Growing.{counts_nothing}
+use Rattle.e_literal.proofs.GrownScopes.{counts_nothing}
 use Rattle.e_literal.proofs.Sorts.{same_obj_self}
 use Rattle.e_theorem.specs.Choice.{fills, is_choice}
 use Rattle.e_theorem.proofs.Uses.{needs_declared}
@@ -146,7 +146,7 @@ apply_goes before st kept s facts goal theorem args names certs rest v h more no
         let objects = (cover_left kept own.lits (needed os) (both looked no_wants) c).objects in
         let own_certs = cover_left kept own.lits looked no_wants (cover_right kept own.lits (needed os) (both looked no_wants) c) in
         let vars = next_objects nothing th.declared in
-        let z : sorts vars ≡ sorts os = Rattle.e_literal.proofs.Growing.sorts_next nothing th.declared ∙ sorts_are s th.declared os fit in
+        let z : sorts vars ≡ sorts os = Rattle.e_literal.proofs.GrownScopes.sorts_next nothing th.declared ∙ sorts_are s th.declared os fit in
         let speaks = given_speaks th th.given (good_scope (scope_of th) th.given halves.0) in
         let os' = map (obj_at kept) os in
         let fit' = arguments_at kept th s os fit objects in

@@ -29,7 +29,7 @@ use Rattle.e_construct.specs.declared.superpose.Superpose.{Superpose}
 use Rattle.e_construct.specs.Shapes.{ShapeRow, Avoids, NoObject, AnyObject, AnyApartFrom, shape_row}
 use Rattle.e_construct.specs.Construct.{row_of_construction, sorts_of, unequal, argument, of_sort, needs_of_avoided, sorts_made, avoiding, made_by_row, gives_of_avoided, gives_of_construction, needs_of_construction, fits_construction, avoids_well}
 use Rattle.e_construct.specs.Superposing as superposing
-use Rattle.e_literal.proofs.Growing.{sorts_next, counts_nothing}
+use Rattle.e_literal.proofs.GrownScopes.{sorts_next, counts_nothing}
 use Rattle.e_theorem.proofs.Imaging.{counted_here, counted_other, this_one, sources, targets, imaged, sorts_agree, same_images}
 use Rattle.e_trim.specs.Trimmed.{kept_before, obj_at, lit_among_kept, construction_among_kept, superpose_at}
 use Rattle.e_trim.proofs.Members.{In, in_left, in_right, in_either, all_in}

@@ -14,7 +14,7 @@ use Rattle.e_literal.specs.Scopes.{same_sort, nothing, with_one, grown, next_obj
 use Rattle.e_literal.specs.Rename.{renamed, number_at, image_in, paired}
 use Rattle.e_literal.specs.WellFormed.{is_well_formed}
 use Rattle.e_literal.specs.Use.{StatementView, scope_of, is_statement}
-use Rattle.e_literal.proofs.Growing.{counts_nothing}
+use Rattle.e_literal.proofs.GrownScopes.{counts_nothing}
 use Rattle.e_theorem.proofs.Imaging.{counted_here, counted_other}
 use Rattle.e_clause.specs.declared.cert.Cert.{Cert}
 use Rattle.e_clause.specs.declared.cert.Version.TheVariants as version

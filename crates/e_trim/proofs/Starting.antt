@@ -9,7 +9,7 @@ use Rattle.e_literal.specs.declared.literal.Lit.{Lit}
 use Rattle.e_literal.specs.Scopes.{nothing, next_objects}
 use Rattle.e_literal.specs.Use.{StatementView, scope_of, is_statement}
 use Rattle.e_literal.proofs.Booleans.{and_left, and_right}
-use Rattle.e_literal.proofs.Growing.{total_grown}
+use Rattle.e_literal.proofs.GrownScopes.{total_grown}
 use Rattle.e_clause.specs.Certify.{certify_all}
 use Rattle.e_deriv.specs.declared.block.Block.{Block}
 use Rattle.e_deriv.specs.Script.{Script, script_of}

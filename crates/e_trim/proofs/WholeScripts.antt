@@ -82,7 +82,7 @@ goes before st (Cases l one other) kept s facts goal v h =
 
 -- a literal over the declared objects is over the kept ones
 declared_over : (t : StatementView) (l : Lit) → all_in_scope (scope_of t) l ≡ true → OverLit (declared_of t) l
-declared_over t l h o i = next_in nothing t.declared o (omega (arith, Rattle.e_literal.proofs.Growing.counts_nothing o.sort)) (Rattle.std.proofs.lemmas.Bool.ltb-true o.num (count_of (scope_of t) o.sort) (all_in (is_in_scope (scope_of t)) (objects_of_atom l.atom) o h i))
+declared_over t l h o i = next_in nothing t.declared o (omega (arith, Rattle.e_literal.proofs.GrownScopes.counts_nothing o.sort)) (Rattle.std.proofs.lemmas.Bool.ltb-true o.num (count_of (scope_of t) o.sort) (all_in (is_in_scope (scope_of t)) (objects_of_atom l.atom) o h i))
 
 given_in : (t : StatementView) (ls facts : List Lit) → list_all (λ (l : Lit). is_well_formed l && all_in_scope (scope_of t) l) ls ≡ true → ((m : Lit) → In m facts → all_in_scope (scope_of t) m ≡ true) → (m : Lit) → In m (joined_all facts ls) → all_in_scope (scope_of t) m ≡ true
 given_in t [] facts h k m i = k m i
@@ -111,7 +111,7 @@ trimmed_certified before t d st own one c =
     } in
     let ready : Ready kept (scope_of t) facts facts goal goal w = record {
       stays = stays;
-      needed = λ o i h. next_in nothing t.declared o (omega (arith, Rattle.e_literal.proofs.Growing.counts_nothing o.sort)) (Rattle.std.proofs.lemmas.Bool.ltb-true o.num (count_of (scope_of t) o.sort) h);
+      needed = λ o i h. next_in nothing t.declared o (omega (arith, Rattle.e_literal.proofs.GrownScopes.counts_nothing o.sort)) (Rattle.std.proofs.lemmas.Bool.ltb-true o.num (count_of (scope_of t) o.sort) h);
       bound = λ k i. next_below nothing t.declared k i;
       goes = inr (record { statement = t; before = refl; after = refl; more = []; first = sym (append-nil kept); above = λ o i. absurd i; wide = λ x. omega arith; good = own });
     } in

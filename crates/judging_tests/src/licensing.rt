@@ -1,7 +1,7 @@
 //! Worked steps, whose answers were found by hand.
 
 ghost use Rattle.std.specs.Prelude.{◌≡◌, ◌<◌, [], length, IsTrue, IfOk, OnOk};
-ghost use Rattle.e_clause.specs.Judged;
+ghost use Rattle.e_clause.specs.LimitedFacts;
 ghost use Rattle.judging_tests.specs.Points;
 
 use crate::literals::{facts_of, lit};
@@ -25,7 +25,7 @@ const SCOPE: Scope = Scope {
 };
 
 fn begun(alloc: Global, scope: Scope, facts: Facts) -> Result<Context, AllocError>
-    requires { IsTrue (Judged.are_limited_facts scope facts) }
+    requires { IsTrue (LimitedFacts.are_limited_facts scope facts) }
     ensures { IfOk result (λ c. c ≡ record { scope = scope; facts = facts; held = [] }) }
 {
     match Context::new(alloc, scope, facts) {

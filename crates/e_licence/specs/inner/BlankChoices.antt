@@ -8,7 +8,7 @@ use Rattle.e_literal.specs.declared.map.Entry.{Entry}
 use Rattle.e_literal.specs.Literal.{obj, count_of}
 use Rattle.e_literal.specs.Rename.{image_in, renamed, paired}
 use Rattle.e_clause.specs.Allowed.{Allowed, AllAllowed}
-use Rattle.e_clause.specs.Judged.{is_well_formed_in}
+use Rattle.e_clause.specs.LimitedFacts.{is_well_formed_in}
 use Rattle.e_clause.specs.Wide.{IsTooWideLit}
 use Rattle.e_transfer.specs.declared.walk.Span.{Span}
 use Rattle.e_transfer.specs.declared.walk.Verdict.{Verdict}

@@ -6,7 +6,7 @@ use Rattle.e_literal.specs.Facts.{joined_all}
 use Rattle.e_literal.specs.Scopes.{grown}
 use Rattle.e_literal.specs.Use.{StatementView, needs_of_use, gives_of_use}
 use Rattle.e_clause.specs.Certify.{certify_all}
-use Rattle.e_clause.specs.Judged.{are_well_formed_in, are_limited_facts}
+use Rattle.e_clause.specs.LimitedFacts.{are_well_formed_in, are_limited_facts}
 use Rattle.e_theorem.specs.Choice.{is_choice, IsLeastChoice}
 use Rattle.e_theorem.specs.Pattern.{is_pattern}
 use Rattle.e_deriv.specs.Fitting.{is_small, is_small_statement}

@@ -8,7 +8,7 @@ use Rattle.e_literal.specs.declared.literal.Lit.{Lit}
 use Rattle.e_literal.specs.declared.object.Obj.{Obj}
 use Rattle.e_literal.specs.Scopes.{are_of_sorts}
 use Rattle.e_literal.specs.Use.{StatementView, scope_of, are_arguments}
-use Rattle.e_literal.proofs.Growing.{sorts_next}
+use Rattle.e_literal.proofs.GrownScopes.{sorts_next}
 use Rattle.e_construct.specs.declared.construction.Construction.{Construction}
 use Rattle.e_construct.specs.declared.superpose.Superpose.{Superpose}
 use Rattle.e_construct.specs.Construct.{sorts_made, gives_of_construction, needs_of_construction}

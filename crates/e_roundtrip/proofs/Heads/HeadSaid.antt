@@ -7,7 +7,7 @@ use Rattle.e_literal.specs.declared.literal.Lit.{Lit}
 use Rattle.e_literal.specs.Literal.{count_of}
 use Rattle.e_literal.specs.declared.object.Scope.{Scope}
 use Rattle.e_literal.specs.Scopes.{nothing, grown, next_objects}
-use Rattle.e_literal.proofs.Growing.{grown-append}
+use Rattle.e_literal.proofs.GrownScopes.{grown-append}
 use Rattle.e_deriv.specs.declared.names.Names.{Names}
 use Rattle.e_deriv.specs.Naming.{names_of_sort, with_names}
 use Rattle.e_line.specs.declared.raw_line.RawLine.{RawLine}

@@ -9,7 +9,7 @@ use Rattle.e_literal.specs.declared.object.Scope.{Scope}
 use Rattle.e_literal.specs.Literal.{obj, count_of}
 use Rattle.e_literal.specs.Scopes.{same_sort, with_one, grown, next_objects}
 use Rattle.e_literal.proofs.Sorts.{same_sort_self}
-use Rattle.e_literal.proofs.Growing.{count_one}
+use Rattle.e_literal.proofs.GrownScopes.{count_one}
 use Rattle.e_deriv.specs.declared.names.Names.{Names}
 use Rattle.e_deriv.specs.Naming.{names_of_sort, with_names}
 use Rattle.e_names.specs.Scope.{scope_of_names}

@@ -7,7 +7,7 @@ use Rattle.e_literal.specs.Literal.{all_in_scope}
 use Rattle.e_literal.specs.Scopes.{grown, nothing}
 use Rattle.e_literal.specs.Use.{StatementView, scope_of, is_statement}
 use Rattle.e_literal.specs.WellFormed.{is_well_formed}
-use Rattle.e_literal.proofs.Growing.{total_grown}
+use Rattle.e_literal.proofs.GrownScopes.{total_grown}
 use Rattle.e_literal.proofs.Booleans.{and_left, and_right}
 use Rattle.e_deriv.specs.Script.{Script}
 use Rattle.e_deriv.specs.Goal.{Goal, goal_of_statement, facts_of_statement}

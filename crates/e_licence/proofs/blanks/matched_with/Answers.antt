@@ -1,7 +1,7 @@
 use Rattle.std.proofs.Common.{ap, ◌∙◌}
 use Rattle.std.specs.List.{list_all}
 use Rattle.e_literal.specs.WellFormed.{is_well_formed}
-use Rattle.e_licence.proofs.GoodLiterals.{well_formed}
+use Rattle.e_licence.proofs.LimitsOfFacts.{well_formed}
 use Rattle.e_licence.proofs.blanks.matched_with.Goals as goal
 
 pub prepare-requires-clause-facts : goal.prepare-requires-clause-facts

@@ -4,7 +4,7 @@ use Rattle.e_literal.specs.WellFormed.{is_well_formed}
 use Rattle.e_clause.specs.Assignment.{terms_of_lits}
 use Rattle.e_metric.specs.Fronts.{AreFronts}
 use Rattle.e_metric.specs.MetricAnswers.{IsMetricAnswer}
-use Rattle.e_licence.proofs.GoodLiterals.{well_formed, few_terms}
+use Rattle.e_licence.proofs.LimitsOfFacts.{well_formed, few_terms}
 use Rattle.e_licence.proofs.Clashes.{by_sums, too_wide}
 use Rattle.e_licence.proofs.contradiction.by_arithmetic.Goals as goal
 

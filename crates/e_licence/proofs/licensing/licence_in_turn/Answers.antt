@@ -4,7 +4,7 @@ use Rattle.std.specs.List.{list_all}
 use Rattle.e_literal.specs.Facts.{is_metric}
 use Rattle.e_literal.specs.WellFormed.{is_well_formed}
 use Rattle.e_metric.specs.MetricAnswers.{IsMetricCertificate}
-use Rattle.e_licence.proofs.GoodLiterals.{well_formed}
+use Rattle.e_licence.proofs.LimitsOfFacts.{well_formed}
 use Rattle.e_licence.proofs.Licences.{by_sums}
 use Rattle.e_licence.proofs.licensing.licence_in_turn.Goals as goal
 

@@ -1,7 +1,7 @@
 use Rattle.std.proofs.Common.{◌≡◌, sym, subst, true}
 use Rattle.std.proofs.lemmas.Result.{err_from_is_err_and}
 use Rattle.e_clause.specs.Certify.{certify_all}
-use Rattle.e_clause.specs.Judged.{are_well_formed_in}
+use Rattle.e_clause.specs.LimitedFacts.{are_well_formed_in}
 use Rattle.e_theorem.specs.Statements.{stated}
 use Rattle.e_prove.specs.inner.StopsOfSteps.{StepStopsAmong}
 use Rattle.e_prove.proofs.Applications.{room_for, needs_there}

@@ -1,6 +1,6 @@
 use Rattle.std.proofs.Common.{◌≡◌, ◌+◌, ◌++◌, ◌∷◌, [], rules, arith, refl, sym, ap, ◌∙◌, subst, true}
 use Rattle.e_literal.specs.Literal.{negation}
-use Rattle.e_clause.specs.Judged.{are_limited_facts}
+use Rattle.e_clause.specs.LimitedFacts.{are_limited_facts}
 use Rattle.e_theorem.specs.Statements.{all_stated}
 use Rattle.e_deriv.specs.declared.block.Close.TheViews.{the_lemmas}
 use Rattle.e_deriv.specs.Script.{script_of, step_script, close_script, size}

@@ -1,7 +1,7 @@
 use Rattle.std.proofs.Common.{◌≡◌, ◌++◌, ◌∷◌, [], rules, ap, sym, ◌∙◌, subst, true}
 use Rattle.e_literal.specs.Literal.{negation}
 use Rattle.e_literal.specs.Facts.{joined}
-use Rattle.e_clause.specs.Judged.{are_limited_facts}
+use Rattle.e_clause.specs.LimitedFacts.{are_limited_facts}
 use Rattle.e_licence.specs.Contexts.{state_of}
 use Rattle.e_theorem.specs.Statements.{all_stated}
 use Rattle.e_deriv.specs.Script.{script_of}

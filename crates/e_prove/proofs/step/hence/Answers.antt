@@ -1,6 +1,6 @@
 use Rattle.std.proofs.Common.{◌≡◌, sym, ap, ◌∙◌, subst, true}
 use Rattle.e_literal.specs.Facts.{joined}
-use Rattle.e_clause.specs.Judged.{are_limited_facts}
+use Rattle.e_clause.specs.LimitedFacts.{are_limited_facts}
 use Rattle.e_licence.specs.Contexts.{Basis}
 use Rattle.e_prove.specs.inner.StepStates.{after_literal}
 use Rattle.e_prove.proofs.HeldStates.{unless}

@@ -1,8 +1,8 @@
 use Rattle.std.proofs.Common.{◌≤◌, ◌^◌, ◌+ℤ◌, ◌+◌, ◌*◌, to_z, SFits, to_z-of_z, arith}
 use Rattle.std.specs.Prelude.{unsigned_abs}
 use mir.Syntax.{w128}
-use Rattle.e_simplex.proofs.Pivoting.{fits_small}
-use Rattle.e_simplex.proofs.Forms.{coefficient_more, sum_size}
+use Rattle.e_simplex.proofs.pivots.Pivoting.{fits_small}
+use Rattle.e_simplex.proofs.columns.Forms.{coefficient_more, sum_size}
 use Rattle.e_simplex.proofs.constraints.coefficient.Goals as goal
 
 pub overflow_add-sum : goal.overflow_add-sum

@@ -1,7 +1,7 @@
 use Rattle.std.proofs.Common.{◌≤◌, ◌^◌, ◌+ℤ◌, ◌+◌, ◌*◌, to_z, SFits, to_z-of_z, arith}
 use Rattle.std.specs.Prelude.{unsigned_abs}
 use mir.Syntax.{w128}
-use Rattle.e_simplex.proofs.Forms.{form_value_more, sum_size, part_size}
+use Rattle.e_simplex.proofs.columns.Forms.{form_value_more, sum_size, part_size}
 use Rattle.e_simplex.proofs.constraints.value_of.Goals as goal
 use Rattle.e_literal.proofs.Arith.{fits_wide}
 

@@ -3,8 +3,8 @@ use Rattle.e_fraction.specs.Views.{all_seen}
 use Rattle.e_simplex.specs.Naming.{named_constraints}
 use Rattle.e_simplex.specs.Constraints.{AllSmallConstraints}
 use Rattle.e_simplex.specs.Solved.{IsFit, IsTableOutcome}
-use Rattle.e_simplex.proofs.NamedConstraints.{fit_constraints}
-use Rattle.e_simplex.proofs.Refuting.{length_seen, each_law_holds, each_law_absurd}
+use Rattle.e_simplex.proofs.columns.NamedConstraints.{fit_constraints}
+use Rattle.e_simplex.proofs.verdicts.Refuting.{length_seen, each_law_holds, each_law_absurd}
 use Rattle.e_simplex.proofs.decision.decide.Goals as goal
 
 pub solve_constraints-requires : goal.solve_constraints-requires

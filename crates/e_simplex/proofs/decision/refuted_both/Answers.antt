@@ -1,11 +1,11 @@
 use Rattle.std.proofs.Common.{◌-◌, arith, length, get_or, pos, SFits, to_z-of_z, []}
 use mir.Syntax.{w128}
 use Rattle.e_fraction.specs.Views.{all_seen}
-use Rattle.e_simplex.proofs.RowMultipliers.{nots_most}
+use Rattle.e_simplex.proofs.verdicts.RowMultipliers.{nots_most}
 use Rattle.e_simplex.specs.declared.constraints.Constraint.{Constraint}
 use Rattle.e_simplex.specs.declared.constraints.Sense.TheVariants.{More}
-use Rattle.e_simplex.proofs.Assigning.{none_two}
-use Rattle.e_simplex.proofs.Refuting.{small_anywhere, is_below, above_long, below_long, both_refute}
+use Rattle.e_simplex.proofs.verdicts.Assigning.{none_two}
+use Rattle.e_simplex.proofs.verdicts.Refuting.{small_anywhere, is_below, above_long, below_long, both_refute}
 use Rattle.e_simplex.proofs.decision.refuted_both.Goals as goal
 use Rattle.e_literal.proofs.Arith.{fits_wide}
 

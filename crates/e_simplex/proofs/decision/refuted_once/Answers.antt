@@ -1,8 +1,8 @@
 use Rattle.e_fraction.specs.Views.{all_seen}
 use Rattle.std.proofs.Common.{subst, sym}
 use Rattle.e_simplex.specs.Answer.{Refutes}
-use Rattle.e_simplex.proofs.Assigning.{none_one}
-use Rattle.e_simplex.proofs.Refuting.{refutes_one}
+use Rattle.e_simplex.proofs.verdicts.Assigning.{none_one}
+use Rattle.e_simplex.proofs.verdicts.Refuting.{refutes_one}
 use Rattle.e_simplex.proofs.decision.refuted_once.Goals as goal
 
 pub returns : goal.returns

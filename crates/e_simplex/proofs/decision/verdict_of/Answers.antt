@@ -4,8 +4,8 @@ use Rattle.e_fraction.proofs.Wideness.{wide_rows_width}
 use Rattle.e_simplex.specs.Constraints.{IsAbsurd}
 use Rattle.e_simplex.specs.Naming.{named_constraints}
 use Rattle.e_simplex.specs.Solved.{IsSolved}
-use Rattle.e_simplex.proofs.WideRows.{wide_over}
-use Rattle.e_simplex.proofs.SpareColumns.{narrow_absurd}
+use Rattle.e_simplex.proofs.columns.WideRows.{wide_over}
+use Rattle.e_simplex.proofs.columns.SpareColumns.{narrow_absurd}
 use Rattle.e_simplex.proofs.decision.verdict_of.Goals as goal
 
 pub returns-in-TooWide : goal.returns-in-TooWide

@@ -6,11 +6,11 @@ use Rattle.e_simplex.specs.Solved.{columns_of}
 use Rattle.e_simplex.specs.inner.Paired.{PairedTo}
 use Rattle.e_simplex.specs.inner.Disequalities.{AreBothRefuted}
 use Rattle.e_fraction.proofs.Wideness.{wide_rows_width}
-use Rattle.e_simplex.proofs.Refuting.{length_seen, solved_further, solved_wide, solved_unequal, solved_both_refuted}
-use Rattle.e_simplex.proofs.NamedConstraints.{further_constraints}
-use Rattle.e_simplex.proofs.WideRows.{wide_with_some_over}
-use Rattle.e_simplex.proofs.SpareColumns.{narrow_both}
-use Rattle.e_simplex.proofs.Assigning.{values_answered}
+use Rattle.e_simplex.proofs.verdicts.Refuting.{length_seen, solved_further, solved_wide, solved_unequal, solved_both_refuted}
+use Rattle.e_simplex.proofs.columns.NamedConstraints.{further_constraints}
+use Rattle.e_simplex.proofs.columns.WideRows.{wide_with_some_over}
+use Rattle.e_simplex.proofs.columns.SpareColumns.{narrow_both}
+use Rattle.e_simplex.proofs.verdicts.Assigning.{values_answered}
 use Rattle.e_simplex.proofs.decision.verdict_of_solved.Goals as goal
 
 pub satisfy_all-requires-clause-forms : goal.satisfy_all-requires-clause-forms

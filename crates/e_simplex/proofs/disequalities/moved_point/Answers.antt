@@ -1,7 +1,7 @@
 use Rattle.std.proofs.Common.{◌<◌, ◌^◌, arith, sym, subst, length, get_or, pos}
 use Rattle.std.specs.Prelude.{unsigned_abs}
 use Rattle.e_simplex.specs.inner.Tried.{AreBelowBut}
-use Rattle.e_simplex.proofs.NextPoints.{all_below}
+use Rattle.e_simplex.proofs.forms_not_zero.NextPoints.{all_below}
 use Rattle.e_simplex.proofs.disequalities.moved_point.Goals as goal
 
 pub combined-requires-in-None-clause-small_second : goal.combined-requires-in-None-clause-small_second

@@ -3,7 +3,7 @@ use Rattle.std.proofs.lemmas.List.{get_or_read}
 use Rattle.e_simplex.specs.declared.constraints.Constraint.{Constraint}
 use Rattle.e_simplex.specs.inner.Disequalities.{LargeForm, IsMoved}
 use Rattle.e_simplex.specs.Solved.{columns_of, constraints_of}
-use Rattle.e_simplex.proofs.NextPoints.{next_point_is, step_wide_two}
+use Rattle.e_simplex.proofs.forms_not_zero.NextPoints.{next_point_is, step_wide_two}
 use Rattle.e_simplex.proofs.disequalities.next_point.Goals as goal
 
 pub returns-in-None : goal.returns-in-None

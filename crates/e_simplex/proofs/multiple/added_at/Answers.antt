@@ -1,7 +1,7 @@
 use Rattle.std.proofs.Common.{◌≡◌, pos, ◌+ℤ◌, ◌*ℤ◌, get_or, to_z, SFits, to_z-of_z, arith}
 use Rattle.std.proofs.lemmas.Int.{to_z_pos}
 use mir.Syntax.{w128}
-use Rattle.e_simplex.proofs.Multiples.{multiple_size, added_size, fits_size}
+use Rattle.e_simplex.proofs.forms_not_zero.Multiples.{multiple_size, added_size, fits_size}
 use Rattle.e_simplex.proofs.multiple.added_at.Goals as goal
 
 pub overflow_add-result : goal.overflow_add-result

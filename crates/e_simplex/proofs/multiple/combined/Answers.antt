@@ -1,7 +1,7 @@
 use Rattle.std.proofs.Common.{SFits, to_z-of_z}
 use mir.Syntax.{w128}
-use Rattle.e_simplex.proofs.Forms.{fits_type}
-use Rattle.e_simplex.proofs.Multiples.{added_more}
+use Rattle.e_simplex.proofs.columns.Forms.{fits_type}
+use Rattle.e_simplex.proofs.forms_not_zero.Multiples.{added_more}
 use Rattle.e_simplex.proofs.multiple.combined.Goals as goal
 
 pub loop-j-preserved : goal.loop-j-preserved

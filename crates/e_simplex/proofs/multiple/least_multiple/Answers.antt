@@ -1,5 +1,5 @@
 use Rattle.std.proofs.Common.{arith}
-use Rattle.e_simplex.proofs.Multiples.{never_all_bad, bad_more}
+use Rattle.e_simplex.proofs.forms_not_zero.Multiples.{never_all_bad, bad_more}
 use Rattle.e_simplex.proofs.multiple.least_multiple.Goals as goal
 
 pub loop-t-preserved : goal.loop-t-preserved

@@ -3,8 +3,8 @@ use mir.Syntax.{w128}
 use Rattle.e_fraction.specs.Views.{says_of, seen, all_seen}
 use Rattle.e_simplex.specs.Naming.{keeps}
 use Rattle.e_simplex.specs.inner.RowMultipliers.{row_multipliers, multiplier_of_row}
-use Rattle.e_simplex.proofs.Forms.{fits_type}
-use Rattle.e_simplex.proofs.RowMultipliers.{row_multipliers_more, nots_more, count_most, take_done, take_length}
+use Rattle.e_simplex.proofs.columns.Forms.{fits_type}
+use Rattle.e_simplex.proofs.verdicts.RowMultipliers.{row_multipliers_more, nots_more, count_most, take_done, take_length}
 use Rattle.e_simplex.proofs.multipliers.multipliers_of_rows.Goals as goal
 
 pub loop-i-preserved : goal.loop-i-preserved

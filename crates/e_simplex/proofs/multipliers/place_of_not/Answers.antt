@@ -1,7 +1,7 @@
 use Rattle.std.proofs.Common.{◌≡◌, suc, cond, true, get_or, arith, ap, sym, ◌∙◌}
 use Rattle.e_fraction.specs.Views.{says_of, seen}
 use Rattle.e_simplex.specs.Naming.{keeps}
-use Rattle.e_simplex.proofs.RowMultipliers.{nots_more, count_most, is_not_at}
+use Rattle.e_simplex.proofs.verdicts.RowMultipliers.{nots_more, count_most, is_not_at}
 use Rattle.e_simplex.proofs.multipliers.place_of_not.Goals.{else-is_not-via-then-is_not+else-seen-k, else-is_not-via-else-is_not}
 use Rattle.e_simplex.proofs.multipliers.place_of_not.Goals as goal
 

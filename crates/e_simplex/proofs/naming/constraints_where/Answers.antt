@@ -5,8 +5,8 @@ use Rattle.std.proofs.Common.{true}
 use Rattle.e_fraction.specs.Limits.{has_small_coefficients}
 use Rattle.e_fraction.proofs.Sums.{small_row}
 use Rattle.e_simplex.specs.Constraints.{AllSmallConstraints}
-use Rattle.e_simplex.proofs.Negatives.{small_push}
-use Rattle.e_simplex.proofs.Places.{row_named, constraints_more, constraints_same}
+use Rattle.e_simplex.proofs.columns.Negatives.{small_push}
+use Rattle.e_simplex.proofs.columns.Places.{row_named, constraints_more, constraints_same}
 use Rattle.e_simplex.proofs.naming.constraints_where.Goals.{then-is_kept+in_ok-named_constraint+in_ok-push, else-is_kept}
 use Rattle.e_simplex.proofs.naming.constraints_where.Goals as goal
 

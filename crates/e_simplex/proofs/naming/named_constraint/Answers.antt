@@ -6,9 +6,9 @@ use mir.Syntax.{w64}
 use Rattle.e_simplex.specs.Naming.{place_of, IsIn}
 use Rattle.std.proofs.Common.{◌≤◌}
 use Rattle.e_fraction.specs.Views.{seen}
-use Rattle.e_simplex.proofs.RowMultipliers.{take_done}
-use Rattle.e_simplex.proofs.NamedConstraints.{small_like, small_constraint}
-use Rattle.e_simplex.proofs.Places.{named_at, named_more}
+use Rattle.e_simplex.proofs.verdicts.RowMultipliers.{take_done}
+use Rattle.e_simplex.proofs.columns.NamedConstraints.{small_like, small_constraint}
+use Rattle.e_simplex.proofs.columns.Places.{named_at, named_more}
 use Rattle.e_simplex.proofs.naming.named_constraint.Goals as goal
 
 pub overflow_add-place : goal.overflow_add-place

@@ -4,7 +4,7 @@ use Rattle.std.specs.Option.{unwrap_or}
 use Rattle.std.proofs.lemmas.Iterator.{YieldsList-from_slice}
 use Rattle.std.proofs.lemmas.Iterator.Search.{position_from_yields_List}
 use Rattle.e_literal.specs.Same.{term_eq}
-use Rattle.e_simplex.proofs.Places.{place_found}
+use Rattle.e_simplex.proofs.columns.Places.{place_found}
 use Rattle.e_simplex.proofs.naming.place.Goals as goal
 
 pub returns-clause-value : goal.returns-clause-value

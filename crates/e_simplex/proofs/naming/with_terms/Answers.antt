@@ -3,7 +3,7 @@ use Rattle.e_literal.specs.declared.object.Term.{Term}
 use Rattle.e_literal.specs.declared.object.Term.TheVariants.{Seg}
 use Rattle.e_fraction.specs.Views.{all_seen}
 use Rattle.e_simplex.specs.Naming.{place_of, Continues, FormNamed}
-use Rattle.e_simplex.proofs.Places.{all_more, continues_push, form_all, terms_new, terms_old}
+use Rattle.e_simplex.proofs.columns.Places.{all_more, continues_push, form_all, terms_new, terms_old}
 use Rattle.e_simplex.proofs.naming.with_terms.Goals.{then-place-len+in_ok-push, else-place-len}
 use Rattle.e_simplex.proofs.naming.with_terms.Goals as goal
 

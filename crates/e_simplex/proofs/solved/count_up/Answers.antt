@@ -1,5 +1,5 @@
 use Rattle.std.proofs.Common.{ap, ◌∙◌, ◌++◌, ◌∷◌, []}
-use Rattle.e_simplex.proofs.Solving.{numbers_push}
+use Rattle.e_simplex.proofs.outcomes.Solving.{numbers_push}
 use Rattle.e_simplex.proofs.solved.count_up.Goals as goal
 
 pub loop-i-preserved : goal.loop-i-preserved

@@ -1,5 +1,5 @@
 use Rattle.std.proofs.lemmas.Result.{IfOk-weaker}
-use Rattle.e_simplex.proofs.Solving.{begun_here, fit_here, outcome_of}
+use Rattle.e_simplex.proofs.outcomes.Solving.{begun_here, fit_here, outcome_of}
 use Rattle.e_simplex.proofs.solved.solve_constraints.Goals as goal
 
 pub solved-requires-clause-fit : goal.solved-requires-clause-fit

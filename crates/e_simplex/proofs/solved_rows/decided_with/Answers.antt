@@ -4,7 +4,7 @@ use Rattle.e_fraction.specs.Views.{all_seen}
 use Rattle.e_simplex.specs.Constraints.{AllSmallConstraints}
 use Rattle.e_simplex.specs.Naming.{AllNamed, named_constraints}
 use Rattle.e_simplex.specs.Solved.{IsSolved, IsTableOutcome, columns_of}
-use Rattle.e_simplex.proofs.Extending.{named_both, fit_both, outcome_both, solved_both}
+use Rattle.e_simplex.proofs.joined_rows.Extending.{named_both, fit_both, outcome_both, solved_both}
 use Rattle.e_simplex.proofs.solved_rows.decided_with.Goals as goal
 
 pub plain_constraints-requires-clause-named : goal.plain_constraints-requires-clause-named

@@ -6,10 +6,10 @@ use Rattle.e_simplex.specs.Constraints.{AllSmallConstraints, IsAbsurd, rows_of}
 use Rattle.e_simplex.specs.Naming.{AllNamed, named_constraints}
 use Rattle.e_simplex.specs.Solved.{IsFit, IsSolved}
 use Rattle.e_simplex.specs.inner.Weights.{AreWeightsFor}
-use Rattle.e_simplex.proofs.NamedConstraints.{fit_constraints}
-use Rattle.e_simplex.proofs.WideRows.{wide_over}
-use Rattle.e_simplex.proofs.SpareColumns.{narrow_absurd}
-use Rattle.e_simplex.proofs.Refuting.{length_seen}
+use Rattle.e_simplex.proofs.columns.NamedConstraints.{fit_constraints}
+use Rattle.e_simplex.proofs.columns.WideRows.{wide_over}
+use Rattle.e_simplex.proofs.columns.SpareColumns.{narrow_absurd}
+use Rattle.e_simplex.proofs.verdicts.Refuting.{length_seen}
 use Rattle.e_simplex.proofs.solved_rows.prepare.Goals as goal
 
 pub plain_constraints-requires-clause-named : goal.plain_constraints-requires-clause-named

@@ -6,9 +6,9 @@ use Rattle.e_simplex.specs.Naming.{AllNamed, named_constraints}
 use Rattle.e_simplex.specs.Solved.{IsSolved, columns_of}
 use Rattle.e_simplex.specs.inner.Weights.{AreWeightsFor}
 use Rattle.e_simplex.specs.declared.solved.Outcome.TheVariants as outcome
-use Rattle.e_simplex.proofs.WideRows.{wide_over}
-use Rattle.e_simplex.proofs.SpareColumns.{narrow_absurd}
-use Rattle.e_simplex.proofs.Extending.{named_both, fit_both, outcome_both}
+use Rattle.e_simplex.proofs.columns.WideRows.{wide_over}
+use Rattle.e_simplex.proofs.columns.SpareColumns.{narrow_absurd}
+use Rattle.e_simplex.proofs.joined_rows.Extending.{named_both, fit_both, outcome_both}
 use Rattle.e_simplex.proofs.solved_rows.prepared_with.Goals as goal
 
 pub plain_constraints-requires-clause-named : goal.plain_constraints-requires-clause-named

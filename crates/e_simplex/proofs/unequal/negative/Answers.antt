@@ -1,6 +1,6 @@
 use Rattle.std.proofs.Common.{◌≡◌, ◌+◌, sym, subst, take}
 use Rattle.e_simplex.specs.inner.Tried.{negated}
-use Rattle.e_simplex.proofs.Negatives.{negated_more}
+use Rattle.e_simplex.proofs.columns.Negatives.{negated_more}
 use Rattle.e_simplex.proofs.unequal.negative.Goals as goal
 
 pub loop-x-preserved : goal.loop-x-preserved

@@ -2,7 +2,7 @@ use Rattle.std.proofs.Common.{◌≡◌, sym, subst}
 use Rattle.e_simplex.specs.Constraints.{IsSmallConstraint, FormWithin}
 use Rattle.e_simplex.specs.Solved.{columns_of, constraints_of}
 use Rattle.e_simplex.specs.inner.Tried.{negative_constraint}
-use Rattle.e_simplex.proofs.Negatives.{one_constraint, last_constraint, fit_other, negative_small, negative_within, found_above, found_below}
+use Rattle.e_simplex.proofs.columns.Negatives.{one_constraint, last_constraint, fit_other, negative_small, negative_within, found_above, found_below}
 use Rattle.e_simplex.proofs.unequal.try_both.Goals as goal
 
 pub with-requires-in-Absurd-clause-fit : goal.with-requires-in-Absurd-clause-fit

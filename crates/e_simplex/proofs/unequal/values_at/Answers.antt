@@ -2,8 +2,8 @@ use Rattle.std.proofs.Common.{SFits, to_z-of_z, ap, ◌∙◌}
 use Rattle.std.proofs.lemmas.List.{get_or_read}
 use mir.Syntax.{w128}
 use Rattle.e_simplex.specs.Constraints.{value_of_monomials}
-use Rattle.e_simplex.proofs.Forms.{fits_type}
-use Rattle.e_simplex.proofs.Combining.{values_more}
+use Rattle.e_simplex.proofs.columns.Forms.{fits_type}
+use Rattle.e_simplex.proofs.forms_not_zero.Combining.{values_more}
 use Rattle.e_simplex.proofs.unequal.values_at.Goals as goal
 
 pub loop-constraint-preserved : goal.loop-constraint-preserved

@@ -1,5 +1,5 @@
 use Rattle.e_literal.proofs.Booleans.{and_left}
-use Rattle.e_clause.specs.Judged.{are_well_formed_in, are_few}
+use Rattle.e_clause.specs.LimitedFacts.{are_well_formed_in, are_few}
 use Rattle.e_transfer.proofs.Needs.{facts_well, facts_few}
 use Rattle.e_transfer.proofs.finding.find.Goals as goal
 

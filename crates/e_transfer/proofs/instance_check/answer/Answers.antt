@@ -1,7 +1,7 @@
 use Rattle.std.proofs.Common.{ap, subst}
 use Rattle.std.specs.Prelude.{option_copied}
 use Rattle.e_literal.proofs.Booleans.{and_left}
-use Rattle.e_clause.specs.Judged.{are_well_formed_in, are_few}
+use Rattle.e_clause.specs.LimitedFacts.{are_well_formed_in, are_few}
 use Rattle.e_metric.specs.Fronts.{AreFronts}
 use Rattle.e_transfer.proofs.Needs.{facts_well}
 use Rattle.e_transfer.proofs.instance_check.answer.Goals as goal

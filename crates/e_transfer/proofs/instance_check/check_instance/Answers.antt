@@ -8,7 +8,7 @@ use Rattle.e_literal.specs.WellFormed.{is_well_formed}
 use Rattle.e_clause.specs.Instance.{Inst}
 use Rattle.e_transfer.specs.GivenGoals.{all_diagrams_hold, needs_beside}
 use Rattle.e_transfer.proofs.Needs.{wide_transfer, good_cert, refused_not_one, refused_diagram, parts_kept, parts_stopped}
-use Rattle.e_transfer.proofs.GoodLiterals.{good_needs}
+use Rattle.e_transfer.proofs.WellFormedNeeds.{good_needs}
 use Rattle.e_transfer.proofs.instance_check.check_instance.Goals as goal
 
 pub returns-then-not-has_goal : goal.returns-then-not-has_goal

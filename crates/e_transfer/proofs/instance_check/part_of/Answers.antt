@@ -3,7 +3,7 @@ use Rattle.std.specs.Prelude.{is_some, Some}
 use Rattle.std.proofs.lemmas.Bool.{and_from}
 use Rattle.e_literal.specs.Facts.{is_metric}
 use Rattle.e_literal.proofs.Booleans.{and_left}
-use Rattle.e_clause.specs.Judged.{are_well_formed_in, are_few}
+use Rattle.e_clause.specs.LimitedFacts.{are_well_formed_in, are_few}
 use Rattle.e_clause.specs.MetricCertificate.{sums_refute}
 use Rattle.e_transfer.proofs.Needs.{facts_over, answer_yes}
 use Rattle.e_transfer.proofs.ModelValues.{insufficient}

@@ -1,6 +1,6 @@
 use Rattle.std.proofs.Common.{◌≡◌, sym, subst, true}
 use Rattle.e_literal.specs.Facts.{joined}
-use Rattle.e_clause.specs.Judged.{are_limited_facts}
+use Rattle.e_clause.specs.LimitedFacts.{are_limited_facts}
 use Rattle.e_licence.specs.Contexts.{Basis}
 use Rattle.e_licence.proofs.HeldStates.{after_add, add_joins, add_keeps, add_is}
 use Rattle.e_licence.proofs.context.Context.add.Goals as goal

@@ -1,5 +1,5 @@
 use Rattle.std.proofs.Common.{◌≡◌, subst, true}
-use Rattle.e_clause.specs.Judged.{are_limited_facts}
+use Rattle.e_clause.specs.LimitedFacts.{are_limited_facts}
 use Rattle.e_licence.specs.Contexts.{Basis}
 use Rattle.e_licence.proofs.context.Context.good.Goals as goal
 

@@ -1,4 +1,4 @@
-use Rattle.e_licence.proofs.GoodLiterals.{well_formed}
+use Rattle.e_licence.proofs.LimitsOfFacts.{well_formed}
 use Rattle.e_licence.proofs.context.Context.solve.Goals as goal
 
 pub bring_all-brought-requires-clause-facts : goal.bring_all-brought-requires-clause-facts

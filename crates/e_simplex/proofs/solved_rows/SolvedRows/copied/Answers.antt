@@ -1,5 +1,5 @@
 use Rattle.std.proofs.Common.{◌∙◌}
-use Rattle.e_simplex.proofs.Copying.{same_standing}
+use Rattle.e_simplex.proofs.outcomes.Copying.{same_standing}
 use Rattle.e_simplex.proofs.solved_rows.SolvedRows.copied.Goals as goal
 
 pub invariant_of-result : goal.invariant_of-result

@@ -1,7 +1,7 @@
 use Rattle.std.proofs.Common.{◌++◌, ◌∙◌, subst, IfOk}
 use Rattle.e_fraction.specs.Views.{all_seen}
 use Rattle.e_simplex.specs.Answer.{IsVerdict}
-use Rattle.e_simplex.proofs.Refuting.{each_law_holds, each_law_absurd}
+use Rattle.e_simplex.proofs.verdicts.Refuting.{each_law_holds, each_law_absurd}
 use Rattle.e_simplex.proofs.solved_rows.SolvedRows.decide_with.Goals as goal
 
 pub returns-clause-verdict : goal.returns-clause-verdict

@@ -1,6 +1,6 @@
 use Rattle.std.proofs.Common.{to_z-of_z, ◌∙◌}
-use Rattle.e_simplex.proofs.Pivoting.{fits_small}
-use Rattle.e_simplex.proofs.Copying.{same_solved}
+use Rattle.e_simplex.proofs.pivots.Pivoting.{fits_small}
+use Rattle.e_simplex.proofs.outcomes.Copying.{same_solved}
 use Rattle.e_simplex.proofs.table.Table.copied.Goals as goal
 
 pub returns : goal.returns

@@ -1,7 +1,7 @@
 use Rattle.std.proofs.Common.{refl, subst}
 use Rattle.e_simplex.specs.Constraints.{FixedTo}
 use Rattle.std.proofs.Common.{◌+◌, length}
-use Rattle.e_simplex.proofs.Solving.{begun}
+use Rattle.e_simplex.proofs.outcomes.Solving.{begun}
 use Rattle.e_simplex.proofs.table.Table.new.Goals as goal
 
 pub returns : goal.returns

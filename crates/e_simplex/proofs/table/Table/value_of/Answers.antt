@@ -1,8 +1,8 @@
 use Rattle.std.proofs.Common.{SFits, to_z-of_z, length, subst}
 use mir.Syntax.{w128}
 use Rattle.e_simplex.specs.inner.Readings.{FoundAt, IsMissing}
-use Rattle.e_simplex.proofs.Pivoting.{fits_small}
-use Rattle.e_simplex.proofs.Reading.{row_value, no_value}
+use Rattle.e_simplex.proofs.pivots.Pivoting.{fits_small}
+use Rattle.e_simplex.proofs.outcomes.Reading.{row_value, no_value}
 use Rattle.e_simplex.proofs.table.Table.value_of.Goals as goal
 
 pub returns-in-Some-clause-value : goal.returns-in-Some-clause-value

@@ -2,9 +2,9 @@ use Rattle.std.proofs.Common.{◌≡◌, ◌∙◌, SFits, to_z-of_z, length, ar
 use mir.Syntax.{w128}
 use Rattle.e_simplex.specs.Solved.{columns_of}
 use Rattle.e_simplex.specs.inner.Readings.{ValuesTo}
-use Rattle.e_simplex.proofs.Pivoting.{fits_small}
-use Rattle.e_simplex.proofs.Reading.{values_more}
-use Rattle.e_simplex.proofs.Solving.{solved_shaped, solved_values, solved_bounds, solved_further}
+use Rattle.e_simplex.proofs.pivots.Pivoting.{fits_small}
+use Rattle.e_simplex.proofs.outcomes.Reading.{values_more}
+use Rattle.e_simplex.proofs.outcomes.Solving.{solved_shaped, solved_values, solved_bounds, solved_further}
 use Rattle.e_simplex.proofs.table.Table.values.Goals as goal
 
 pub value_of-requires : goal.value_of-requires

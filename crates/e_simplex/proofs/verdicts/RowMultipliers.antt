@@ -8,7 +8,7 @@ use Rattle.e_fraction.specs.Views.{seen, all_seen}
 use Rattle.e_simplex.specs.Naming.{keeps}
 use Rattle.e_simplex.specs.Answer.{IsNotAt}
 use Rattle.e_simplex.specs.inner.RowMultipliers.{row_multipliers, count_nots, multiplier_of_row}
-use Rattle.e_simplex.proofs.NamedConstraints.{kept_not}
+use Rattle.e_simplex.proofs.columns.NamedConstraints.{kept_not}
 
 eqb_suc : (a b : ℕ) → eqb a b ≡ eqb (suc a) (suc b)
 eqb_suc a b = elim (cases_eq a b) [

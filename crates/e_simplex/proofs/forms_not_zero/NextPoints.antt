@@ -14,7 +14,7 @@ use Rattle.e_simplex.specs.Solved.{WideFurther}
 use Rattle.e_simplex.specs.inner.Tried.{AreFoundValues, negative_constraint, AreValues, AreBelowBut}
 use Rattle.e_simplex.specs.inner.Points.{IsPoint}
 use Rattle.e_simplex.specs.inner.Disequalities.{AreFurther, LargeForm, IsMoved, WideWithTwo}
-use Rattle.e_simplex.proofs.PointSteps.{point_step}
+use Rattle.e_simplex.proofs.forms_not_zero.PointSteps.{point_step}
 
 some_constraint : Constraint
 some_constraint = record { sense = More; form = [] }

@@ -15,9 +15,9 @@ use Rattle.e_simplex.specs.inner.Disequalities.{WideWith, WideWithTwo, WideWithS
 use Rattle.e_literal.proofs.Arith.{sums}
 use Rattle.e_fraction.proofs.Moved.{wide_last}
 use Rattle.e_fraction.proofs.Numbering.{column, SameEntries, wide_named}
-use Rattle.e_simplex.proofs.Disequal.{Similar, similar_det}
-use Rattle.e_simplex.proofs.SpareColumns.{narrow_wide, narrow_some}
-use Rattle.e_simplex.proofs.NamedConstraints.{constraint_entry, negative_entry, kept_not, within_constraints}
+use Rattle.e_simplex.proofs.forms_not_zero.Disequal.{Similar, similar_det}
+use Rattle.e_simplex.proofs.columns.SpareColumns.{narrow_wide, narrow_some}
+use Rattle.e_simplex.proofs.columns.NamedConstraints.{constraint_entry, negative_entry, kept_not, within_constraints}
 
 abbrev signed : Row → Bool → SignedRow
 signed r d = record { row = r; down = d }

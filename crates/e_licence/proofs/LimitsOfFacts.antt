@@ -9,7 +9,7 @@ use Rattle.e_literal.specs.Literal.{all_in_scope}
 use Rattle.e_literal.specs.WellFormed.{is_well_formed}
 use Rattle.e_literal.proofs.Booleans.{and_left, and_right}
 use Rattle.e_clause.specs.Assignment.{terms_of_lits}
-use Rattle.e_clause.specs.Judged.{are_well_formed_in, are_few, most_terms_of_step, are_limited_facts}
+use Rattle.e_clause.specs.LimitedFacts.{are_well_formed_in, are_few, most_terms_of_step, are_limited_facts}
 use Rattle.e_transfer.proofs.Needs.{facts_well, facts_over}
 
 -- good facts are well formed

@@ -14,7 +14,7 @@ use Rattle.e_simplex.specs.Constraints.{form_at, value_of_monomials, FormWithin,
 use Rattle.e_simplex.specs.Solved.{IsSolved, IsFit, columns_of, constraints_of, AreBelow, WideFurther}
 use Rattle.e_simplex.specs.inner.Tried.{negated, negative_constraint, AreFoundValues}
 use Rattle.e_literal.proofs.Arith.{sums, neg_mul, size_negative}
-use Rattle.e_simplex.proofs.Deciding.{forms_push}
+use Rattle.e_simplex.proofs.outcomes.Deciding.{forms_push}
 
 negated_push : (xs : List Monomial) (x : Monomial) → negated (xs ++ x ∷ []) ≡ negated xs ++ record { coefficient = neg_ℤ x.coefficient; column = x.column } ∷ []
 negated_push [] x = refl

@@ -18,8 +18,8 @@ use Rattle.e_simplex.specs.Solved.{IsFit}
 use Rattle.e_simplex.specs.inner.Disequalities.{AreFurther}
 use Rattle.e_simplex.specs.inner.Tried.{negative_constraint}
 use Rattle.e_simplex.specs.declared.constraints.Sense.TheVariants.{More as SenseMore}
-use Rattle.e_simplex.proofs.Negatives.{small_push, negated_at}
-use Rattle.e_simplex.proofs.Deciding.{forms_push}
+use Rattle.e_simplex.proofs.columns.Negatives.{small_push, negated_at}
+use Rattle.e_simplex.proofs.outcomes.Deciding.{forms_push}
 use Rattle.std.proofs.lemmas.List.{length_push}
 use Rattle.e_simplex.specs.Naming.{place_of, IsIn, AreOnce, FormNamed, AllNamed, named_form, named_constraint, named_constraints, sense_of, keeps}
 use Rattle.e_literal.proofs.Arith.{sums, one_mul}
@@ -28,7 +28,7 @@ use Rattle.e_literal.proofs.Terms.{term_eq_is, equal_terms}
 use Rattle.e_literal.proofs.Booleans.{and_left, and_right}
 use Rattle.e_fraction.proofs.Sums.{small_coefficient}
 use Rattle.e_fraction.proofs.Numbering.{column}
-use Rattle.e_simplex.proofs.Places.{term_at}
+use Rattle.e_simplex.proofs.columns.Places.{term_at}
 
 -- ---- columns
 

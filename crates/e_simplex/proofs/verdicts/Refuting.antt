@@ -32,11 +32,11 @@ use Rattle.e_simplex.specs.inner.Tried.{negated, negative_constraint}
 use Rattle.e_literal.proofs.Arith.{sums}
 use Rattle.e_literal.proofs.Valued.{coefficient_negative}
 use Rattle.e_fraction.proofs.Minors.{unit-other}
-use Rattle.e_simplex.proofs.Negatives.{negated_at, negative_within}
-use Rattle.e_simplex.proofs.Deciding.{forms_push}
-use Rattle.e_simplex.proofs.NamedConstraints.{kept_not, more_constraints, within_constraints, form_column, form_past, absent_term}
-use Rattle.e_simplex.proofs.Assigning.{main_cons}
-use Rattle.e_simplex.proofs.Places.{term_at}
+use Rattle.e_simplex.proofs.columns.Negatives.{negated_at, negative_within}
+use Rattle.e_simplex.proofs.outcomes.Deciding.{forms_push}
+use Rattle.e_simplex.proofs.columns.NamedConstraints.{kept_not, more_constraints, within_constraints, form_column, form_past, absent_term}
+use Rattle.e_simplex.proofs.verdicts.Assigning.{main_cons}
+use Rattle.e_simplex.proofs.columns.Places.{term_at}
 
 -- ---- the rows with one that says `not 0` changed
 

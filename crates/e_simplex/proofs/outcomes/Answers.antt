@@ -6,7 +6,7 @@ use Rattle.e_fraction.specs.Tableau.{Slacked, unit, full, full_rows}
 use Rattle.e_literal.proofs.Arith.{sums, minus_one, add_mul, sub_mul, mul_add, mul_assoc, mul_swap}
 use Rattle.e_fraction.proofs.Columns.{replaced}
 use Rattle.e_fraction.proofs.Cramer.{Linear, EachRow, InColumns-det, Adds_nothing, rows_add_nothing, cramer}
-use Rattle.e_simplex.proofs.Clash.{replaced-scale}
+use Rattle.e_simplex.proofs.termination.Clash.{replaced-scale}
 use Rattle.e_fraction.proofs.Minors.{unit-same, unit-other, Lacks, Apart, Within}
 
 -- ---- the rows weighed by the numbers of f at their slack columns

@@ -13,7 +13,7 @@ use Rattle.e_simplex.specs.inner.Multiple.{AddedTo, NoneIsZero}
 use Rattle.e_simplex.specs.inner.Tried.{AreValues}
 use Rattle.e_simplex.specs.inner.Points.{IsPoint}
 use Rattle.e_literal.proofs.Arith.{sums}
-use Rattle.e_simplex.proofs.Combining.{combined_solution, combined_values}
+use Rattle.e_simplex.proofs.forms_not_zero.Combining.{combined_solution, combined_values}
 
 -- a number below (k * 4097 + 1) * b and at most 4,097 times one below b
 grown : (k b t : ℕ) (x y : ℤ) → t ≤ 4097 → unsigned_abs x < (k * 4097 + 1) * b → unsigned_abs y ≤ b → unsigned_abs (x +ℤ pos t *ℤ y) < ((k + 1) * 4097 + 1) * b

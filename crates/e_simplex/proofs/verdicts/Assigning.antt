@@ -20,11 +20,11 @@ use Rattle.e_simplex.specs.inner.Paired.{PairedTo}
 use Rattle.e_simplex.specs.inner.Disequalities.{AreUnequal, AreBothRefuted}
 use Rattle.e_simplex.specs.inner.Tried.{negative_constraint}
 use Rattle.e_literal.proofs.Arith.{sums}
-use Rattle.e_simplex.proofs.Negatives.{negated_value, negative_within}
-use Rattle.e_simplex.proofs.NamedConstraints.{kept_not, within_constraints, more_constraints}
-use Rattle.e_simplex.proofs.Deciding.{forms_push}
-use Rattle.e_simplex.proofs.Refutes.{no_solution}
-use Rattle.e_simplex.proofs.Places.{term_at}
+use Rattle.e_simplex.proofs.columns.Negatives.{negated_value, negative_within}
+use Rattle.e_simplex.proofs.columns.NamedConstraints.{kept_not, within_constraints, more_constraints}
+use Rattle.e_simplex.proofs.outcomes.Deciding.{forms_push}
+use Rattle.e_simplex.proofs.verdicts.Refutes.{no_solution}
+use Rattle.e_simplex.proofs.columns.Places.{term_at}
 
 -- ---- the constraints of one row more
 

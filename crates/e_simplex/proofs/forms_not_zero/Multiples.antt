@@ -11,7 +11,7 @@ use Rattle.std.proofs.Common.{[], ◌∷◌, ◌++◌, ◌∙◌}
 use Rattle.std.proofs.lemmas.List.{length_push, get_or_push, get_or_append_left}
 use Rattle.e_simplex.specs.inner.Multiple.{IsBad, added, AddedTo}
 use Rattle.e_literal.proofs.Arith.{sums}
-use Rattle.e_simplex.proofs.Disequal.{some_good, one_bad}
+use Rattle.e_simplex.proofs.forms_not_zero.Disequal.{some_good, one_bad}
 
 pub multiple_size : (b : ℤ) (t : ℕ) → unsigned_abs b < 2 ^ 65 → t < 2 ^ 13 → unsigned_abs (pos t *ℤ b) ≤ 2 ^ 78
 multiple_size b t h l =

@@ -1,0 +1,7 @@
+-- What the table at the end of a run says of its constraints.
+pub mod Answers
+pub mod Concluding
+pub mod Deciding
+pub mod Reading
+pub mod Solving
+pub mod Copying
