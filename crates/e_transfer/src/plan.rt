@@ -41,9 +41,9 @@ fn representatives_of(alloc: Global, bindings: &[Binding]) -> Result<Vec<usize>,
 }
 
 /// Puts a variable last in the order, unless it is there.
-fn add_once(order: &mut Vec<usize>, variable: usize) -> Result<(), AllocError>
-    ensures grows { OnOk result ((total : ℕ) → variable < total
-        → Grows total order.old.items order.new.items) }
+fn add_once(order: &mut Vec<usize>, total: usize, variable: usize) -> Result<(), AllocError>
+    requires { variable < total }
+    ensures grows { OnOk result (Grows total order.old.items order.new.items) }
     ensures there { OnOk result (IsTrue (has_variable order.new.items variable)) }
 {
     if !order.contains(&variable) {
@@ -58,7 +58,7 @@ fn add_bound(order: &mut Vec<usize>, bindings: &[Binding]) -> Result<(), AllocEr
 {
     for (v, binding) in bindings.iter().enumerate() {
         if let Binding::Is(_) = binding {
-            add_once(order, v)?;
+            add_once(order, bindings.len(), v)?;
         }
     }
     Ok(())
@@ -76,7 +76,7 @@ fn add_preferred(
     for v in preferred {
         if let Some(representative) = representatives.get(*v as usize) {
             if *representative < total {
-                add_once(order, *representative)?;
+                add_once(order, total, *representative)?;
             }
         }
     }
@@ -98,7 +98,7 @@ fn order_of(
     add_bound(&mut order, bindings)?;
     add_preferred(&mut order, representatives, bindings.len(), preferred)?;
     for representative in representatives {
-        add_once(&mut order, *representative)?;
+        add_once(&mut order, bindings.len(), *representative)?;
     }
     Ok(order)
 }
