@@ -1,12 +1,12 @@
 //! The certificates that a line owes, while their lines come.
-ghost use Rattle.std.specs.Prelude.{◌≡◌, ◌+◌, ◌++◌, ◌∷◌, [], length, IfOk, Some, None};
+ghost use Rattle.std.specs.Prelude.{◌≡◌, ◌+◌, ◌++◌, ◌∷◌, [], length, OnOk, Some, None};
 ghost use Rattle.e_clause.specs.Instance.{number_of_rule};
 ghost use Rattle.e_clause.specs.declared.cert.Part.TheVariants as parts;
-ghost use Rattle.e_line.specs.Reading.{Gives};
+ghost use Rattle.e_line.specs.Reading.{Gives, Moves};
 ghost use Rattle.e_names.specs.Scope.{FewNames};
 ghost use Rattle.e_cert.specs.Owed.{fact_in, row_in, with_row, row_put, sum_begun};
-ghost use Rattle.e_cert.specs.Owed.{differs_put, sums_ended, has_more, transfer_put, part_put};
-ghost use Rattle.e_cert.specs.Owed.{metric_put, takes_metric, clash_put, transfer_rule};
+ghost use Rattle.e_cert.specs.Owed.{differs_put, sums_ended, has_more, certificate, transfer_put};
+ghost use Rattle.e_cert.specs.Owed.{part_put, metric_put, takes_metric, clash_put, transfer_rule};
 ghost use Rattle.e_cert.specs.Owed.{count_others, transfer_at, open_transfer_in, transfer_begun};
 ghost use Rattle.e_cert.specs.Owed.{with_sums_ended, after_cert_line, kept_of, finish_certs};
 
@@ -117,63 +117,16 @@ fn row_in(alloc: Global, names: &Names, row: &RawRow) -> Result<RowName, LineErr
     }
 }
 
-/// The sum with one more row.
-fn with_row(sum: Rows, multiplier: i128, row: RowName) -> Result<Rows, LineError>
-    ensures { Gives (λ s. s) result (with_row sum multiplier row) }
+/// One more row of a sum.
+fn add_row(sum: &mut Rows, multiplier: i128, row: RowName) -> Result<(), LineError>
+    ensures { Moves result sum.new (with_row sum.old multiplier row) }
 {
-    let mut sum = sum;
     if sum.len() >= MAX_ROWS {
         mem::drop(row);
         return Err(malformed());
     }
     sum.push(multiplier, row)?;
-    Ok(sum)
-}
-
-/// A row comes where a sum is begun.
-fn row_put(sums: Option<OpenSums>, multiplier: i128, row: RowName) -> Result<OpenSums, LineError>
-    ensures { Gives (λ s. s) result (row_put sums multiplier row) }
-{
-    match sums {
-        Some(sums) => row_after(sums, multiplier, row),
-        None => {
-            mem::drop(row);
-            Err(malformed())
-        }
-    }
-}
-
-/// A row comes after what has come of the sums.
-fn row_after(sums: OpenSums, multiplier: i128, row: RowName) -> Result<OpenSums, LineError>
-    ensures { Gives (λ s. s) result (row_put (Some sums) multiplier row) }
-{
-    match sums {
-        OpenSums::One(sum) => Ok(OpenSums::One(with_row(sum, multiplier, row)?)),
-        OpenSums::Above(differs, sum) => match with_row(sum, multiplier, row) {
-            Ok(sum) => Ok(OpenSums::Above(differs, sum)),
-            Err(trouble) => {
-                mem::drop(differs);
-                Err(trouble)
-            }
-        },
-        OpenSums::Below(differs, above, sum) => match with_row(sum, multiplier, row) {
-            Ok(sum) => Ok(OpenSums::Below(differs, above, sum)),
-            Err(trouble) => {
-                mem::drop(differs);
-                mem::drop(above);
-                Err(trouble)
-            }
-        },
-        OpenSums::Begun => {
-            mem::drop(row);
-            Err(malformed())
-        }
-        OpenSums::Differs(differs) => {
-            mem::drop(differs);
-            mem::drop(row);
-            Err(malformed())
-        }
-    }
+    Ok(())
 }
 
 /// A sum is begun.
@@ -207,20 +160,6 @@ fn sum_after(alloc: Global, sums: OpenSums) -> Result<OpenSums, LineError>
     }
 }
 
-/// A row that differs comes right after the head.
-fn differs_put(sums: Option<OpenSums>, differs: RowName) -> Result<OpenSums, LineError>
-    ensures { Gives (λ s. s) result (differs_put sums differs) }
-{
-    let is_begun = matches!(&sums, Some(OpenSums::Begun));
-    mem::drop(sums);
-    if is_begun {
-        Ok(OpenSums::Differs(differs))
-    } else {
-        mem::drop(differs);
-        Err(malformed())
-    }
-}
-
 /// The sums of a metric certificate that ends here.
 fn sums_ended(sums: OpenSums) -> Result<Sums, LineError>
     ensures { Gives (λ s. s) result (sums_ended sums) }
@@ -250,90 +189,6 @@ fn sums_ended(sums: OpenSums) -> Result<Sums, LineError>
     }
 }
 
-/// The transfer is a certificate once it has all its parts.
-fn transfer_put(
-    wanted: Items<Lit>,
-    certs: Certs,
-    transfer: OpenTransfer,
-) -> Result<Obligation, LineError>
-    ensures { Gives (λ d. d) result (transfer_put wanted certs transfer) }
-{
-    let mut certs = certs;
-    if transfer.parts.len() != transfer.owed {
-        return Ok(Obligation::Literals {
-            wanted,
-            certs,
-            transfer: Some(transfer),
-        });
-    }
-    let OpenTransfer {
-        rule,
-        args,
-        parts,
-        ..
-    } = transfer;
-    certs.push(Cert::Transfer(TransferCert { rule, args, parts }))?;
-    Ok(Obligation::Literals {
-        wanted,
-        certs,
-        transfer: None,
-    })
-}
-
-/// What needs no rule certifies a part of the transfer that is begun, and else the next literal.
-fn part_put(due: Obligation, part: Part) -> Result<Obligation, LineError>
-    ensures { Gives (λ d. d) result (part_put due part) }
-{
-    match due {
-        Obligation::Literals {
-            wanted,
-            certs,
-            transfer,
-        } => match transfer {
-            None => literal_put(wanted, certs, part),
-            Some(transfer) => {
-                let mut transfer = transfer;
-                transfer.parts.push(part)?;
-                transfer_put(wanted, certs, transfer)
-            }
-        },
-        other => {
-            mem::drop(other);
-            mem::drop(part);
-            Err(malformed())
-        }
-    }
-}
-
-/// The next literal is certified with no rule.
-fn literal_put(wanted: Items<Lit>, certs: Certs, part: Part) -> Result<Obligation, LineError>
-    ensures { Gives (λ d. d) result (part_put (Obligation.Literals wanted certs None) part) }
-{
-    let mut certs = certs;
-    if certs.len() >= wanted.len() {
-        mem::drop(part);
-        return Err(malformed());
-    }
-    certs.push(Cert::Plain(part))?;
-    Ok(Obligation::Literals {
-        wanted,
-        certs,
-        transfer: None,
-    })
-}
-
-/// A metric certificate may be of a contradiction too.
-fn metric_put(due: Obligation, cert: MetricCert) -> Result<Obligation, LineError>
-    ensures { Gives (λ d. d) result (metric_put due cert) }
-{
-    match due {
-        Obligation::Contradiction { against: None } => Ok(Obligation::Contradiction {
-            against: Some(Against::Metric(cert)),
-        }),
-        other => part_put(other, Part::Metric(cert)),
-    }
-}
-
 fn takes_metric(due: &Obligation) -> bool
     ensures { result ≡ takes_metric due.now }
 {
@@ -345,21 +200,6 @@ fn takes_metric(due: &Obligation) -> bool
         } => true,
         Obligation::Literals { wanted, certs, .. } => certs.len() < wanted.len(),
         Obligation::Contradiction { against } => against.is_none(),
-    }
-}
-
-fn clash_put(due: Obligation, lit: Lit) -> Result<Obligation, LineError>
-    ensures { Gives (λ d. d) result (clash_put due lit) }
-{
-    let is_open = matches!(&due, Obligation::Contradiction { against: None });
-    mem::drop(due);
-    if is_open {
-        Ok(Obligation::Contradiction {
-            against: Some(Against::Clash { lit }),
-        })
-    } else {
-        mem::drop(lit);
-        Err(malformed())
     }
 }
 
@@ -433,6 +273,51 @@ fn transfer_in(
     transfer_at(alloc, wanted, rule, args)
 }
 
+impl OpenTransfer {
+    /// The certificate of a transfer that has all its parts.
+    fn into_cert(self) -> Cert
+        ensures { result ≡ certificate self }
+    {
+        let OpenTransfer {
+            rule,
+            args,
+            parts,
+            ..
+        } = self;
+        Cert::Transfer(TransferCert { rule, args, parts })
+    }
+}
+
+/// The transfer is a certificate once it has all its parts.
+fn transfer_put(
+    wanted: Items<Lit>,
+    certs: Certs,
+    transfer: OpenTransfer,
+) -> Result<Obligation, LineError>
+    ensures { Gives (λ d. d) result (transfer_put wanted certs transfer) }
+{
+    let mut certs = certs;
+    if transfer.parts.len() != transfer.owed {
+        return Ok(Obligation::Literals {
+            wanted,
+            certs,
+            transfer: Some(transfer),
+        });
+    }
+    let OpenTransfer {
+        rule,
+        args,
+        parts,
+        ..
+    } = transfer;
+    certs.push(Cert::Transfer(TransferCert { rule, args, parts }))?;
+    Ok(Obligation::Literals {
+        wanted,
+        certs,
+        transfer: None,
+    })
+}
+
 /// A transfer is begun for the next literal.
 fn transfer_begun(
     alloc: Global,
@@ -463,170 +348,179 @@ fn transfer_begun(
     }
 }
 
+impl Obligation {
+    /// What needs no rule certifies a part of the transfer that is begun, and else the next
+    /// literal. After an error no clause says what is owed, here and in what follows.
+    fn put_part(&mut self, part: Part) -> Result<(), LineError>
+        ensures { Moves result self.new (part_put self.old part) }
+    {
+        let Obligation::Literals {
+            wanted,
+            certs,
+            transfer,
+        } = self
+        else {
+            mem::drop(part);
+            return Err(malformed());
+        };
+        let Some(begun) = transfer else {
+            if certs.len() >= wanted.len() {
+                mem::drop(part);
+                return Err(malformed());
+            }
+            certs.push(Cert::Plain(part))?;
+            return Ok(());
+        };
+        begun.parts.push(part)?;
+        if begun.parts.len() != begun.owed {
+            return Ok(());
+        }
+        if let Some(complete) = transfer.take() {
+            certs.push(complete.into_cert())?;
+        }
+        Ok(())
+    }
+
+    /// A metric certificate may be of a contradiction too.
+    fn put_metric(&mut self, cert: MetricCert) -> Result<(), LineError>
+        ensures { Moves result self.new (metric_put self.old cert) }
+    {
+        if !matches!(self, Obligation::Contradiction { against: None }) {
+            return self.put_part(Part::Metric(cert));
+        }
+        let against = Some(Against::Metric(cert));
+        mem::drop(mem::replace(self, Obligation::Contradiction { against }));
+        Ok(())
+    }
+
+    /// The literal of a clash certifies a contradiction.
+    fn put_clash(&mut self, lit: Lit) -> Result<(), LineError>
+        ensures { Moves result self.new (clash_put self.old lit) }
+    {
+        if !matches!(self, Obligation::Contradiction { against: None }) {
+            mem::drop(lit);
+            return Err(malformed());
+        }
+        let against = Some(Against::Clash { lit });
+        mem::drop(mem::replace(self, Obligation::Contradiction { against }));
+        Ok(())
+    }
+
+    /// A transfer is begun for the next literal.
+    fn begin_transfer(
+        &mut self,
+        alloc: Global,
+        names: &Names,
+        title: Title,
+        raws: &[Name],
+    ) -> Result<(), LineError>
+        requires { FewNames names.now }
+        ensures { Moves result self.new (transfer_begun names.now self.old title raws.now) }
+    {
+        let due = mem::replace(self, Obligation::Nothing);
+        let due = transfer_begun(alloc, names, due, title, raws)?;
+        mem::drop(mem::replace(self, due));
+        Ok(())
+    }
+}
+
 impl Pending {
     /// A line that is no row and no sum ends the sums before it.
-    fn ended(self) -> Result<Pending, LineError>
-        requires { FewNames self.names }
-        ensures value { Gives (λ o. o) result (with_sums_ended self self.sums) }
-        ensures names { IfOk result (λ o. o.names ≡ self.names) }
+    fn end_sums(&mut self) -> Result<(), LineError>
+        ensures value { Moves result self.new (with_sums_ended self.old self.old.sums) }
+        ensures names { OnOk result (self.new.names ≡ self.old.names) }
     {
-        let Pending { names, due, sums } = self;
-        let Some(sums) = sums else {
-            return Ok(Pending {
-                names,
-                due,
-                sums: None,
-            });
+        let Some(sums) = self.sums.take() else {
+            return Ok(());
         };
-        let sums = match sums_ended(sums) {
-            Ok(sums) => sums,
-            Err(trouble) => {
-                mem::drop(names);
-                mem::drop(due);
-                return Err(trouble);
-            }
-        };
-        match metric_put(due, MetricCert { sums }) {
-            Ok(due) => Ok(Pending {
-                names,
-                due,
-                sums: None,
-            }),
-            Err(trouble) => {
-                mem::drop(names);
-                Err(trouble)
+        let sums = sums_ended(sums)?;
+        self.due.put_metric(MetricCert { sums })
+    }
+
+    /// A sum is begun.
+    #[tactic(auto, unfolding(crate::specs::Owed::after_cert_line))]
+    fn begin_sum(&mut self, alloc: Global) -> Result<(), LineError>
+        ensures value { Moves result self.new (after_cert_line self.old CertLine.Sum) }
+        ensures names { OnOk result (self.new.names ≡ self.old.names) }
+    {
+        let sums = sum_begun(alloc, self.sums.take())?;
+        mem::drop(mem::replace(&mut self.sums, Some(sums)));
+        Ok(())
+    }
+
+    /// A row that differs comes right after the head.
+    #[tactic(auto, unfolding(crate::specs::Owed::after_cert_line))]
+    fn put_differs(&mut self, alloc: Global, raw: &RawRow) -> Result<(), LineError>
+        requires { FewNames self.old.names }
+        ensures value { Moves result self.new
+            (after_cert_line self.old (CertLine.Differs raw.now)) }
+        ensures names { OnOk result (self.new.names ≡ self.old.names) }
+    {
+        let differs = row_in(alloc, &self.names, raw)?;
+        if !matches!(self.sums, Some(OpenSums::Begun)) {
+            mem::drop(differs);
+            return Err(malformed());
+        }
+        mem::drop(mem::replace(&mut self.sums, Some(OpenSums::Differs(differs))));
+        Ok(())
+    }
+
+    /// A row comes where a sum is begun.
+    #[tactic(auto, unfolding(crate::specs::Owed::after_cert_line))]
+    fn put_row(&mut self, alloc: Global, multiplier: i128, raw: &RawRow) -> Result<(), LineError>
+        requires { FewNames self.old.names }
+        ensures value { Moves result self.new
+            (after_cert_line self.old (CertLine.Row multiplier raw.now)) }
+        ensures names { OnOk result (self.new.names ≡ self.old.names) }
+    {
+        let row = row_in(alloc, &self.names, raw)?;
+        match &mut self.sums {
+            Some(OpenSums::One(sum)) => add_row(sum, multiplier, row),
+            Some(OpenSums::Above(_, sum)) => add_row(sum, multiplier, row),
+            Some(OpenSums::Below(_, _, sum)) => add_row(sum, multiplier, row),
+            _ => {
+                mem::drop(row);
+                Err(malformed())
             }
         }
     }
 
-    /// What is owed after a line of a certificate.
+    /// Takes a line of a certificate. After an error no clause says what is owed.
     #[tactic(auto, unfolding(crate::specs::Owed::after_cert_line))]
-    pub fn after_cert_line(self, alloc: Global, cert_line: &CertLine) -> Result<Pending, LineError>
-        requires { FewNames self.names }
-        ensures value { Gives (λ o. o) result (after_cert_line self cert_line.now) }
-        ensures names { IfOk result (λ o. o.names ≡ self.names) }
+    pub fn after_cert_line(&mut self, alloc: Global, cert_line: &CertLine) -> Result<(), LineError>
+        requires { FewNames self.old.names }
+        ensures value { Moves result self.new (after_cert_line self.old cert_line.now) }
+        ensures names { OnOk result (self.new.names ≡ self.old.names) }
     {
         match cert_line {
             CertLine::Fact => {
-                let Pending { names, due, sums } = self.ended()?;
-                match part_put(due, Part::Fact) {
-                    Ok(due) => Ok(Pending { names, due, sums }),
-                    Err(trouble) => {
-                        mem::drop(names);
-                        mem::drop(sums);
-                        Err(trouble)
-                    }
-                }
+                self.end_sums()?;
+                self.due.put_part(Part::Fact)
             }
             CertLine::FactAt(place) => {
-                let Pending { names, due, sums } = self.ended()?;
-                match part_put(due, Part::FactAt(*place)) {
-                    Ok(due) => Ok(Pending { names, due, sums }),
-                    Err(trouble) => {
-                        mem::drop(names);
-                        mem::drop(sums);
-                        Err(trouble)
-                    }
-                }
+                self.end_sums()?;
+                self.due.put_part(Part::FactAt(*place))
             }
             CertLine::Metric => {
-                let mut owed = self.ended()?;
-                if !takes_metric(&owed.due) {
-                    mem::drop(owed);
+                self.end_sums()?;
+                if !takes_metric(&self.due) {
                     return Err(malformed());
                 }
-                mem::drop(mem::replace(&mut owed.sums, Some(OpenSums::Begun)));
-                Ok(owed)
+                mem::drop(mem::replace(&mut self.sums, Some(OpenSums::Begun)));
+                Ok(())
             }
             CertLine::Transfer(title, raws) => {
-                let Pending { names, due, sums } = self.ended()?;
-                match transfer_begun(alloc, &names, due, *title, raws.items()) {
-                    Ok(due) => Ok(Pending { names, due, sums }),
-                    Err(trouble) => {
-                        mem::drop(names);
-                        mem::drop(sums);
-                        Err(trouble)
-                    }
-                }
+                self.end_sums()?;
+                self.due
+                    .begin_transfer(alloc, &self.names, *title, raws.items())
             }
             CertLine::Clash(raw) => {
-                let owed = self.ended()?;
-                let lit = match lit_in(alloc, &owed.names, raw) {
-                    Ok(lit) => lit,
-                    Err(trouble) => {
-                        mem::drop(owed);
-                        return Err(trouble);
-                    }
-                };
-                let Pending { names, due, sums } = owed;
-                match clash_put(due, lit) {
-                    Ok(due) => Ok(Pending { names, due, sums }),
-                    Err(trouble) => {
-                        mem::drop(names);
-                        mem::drop(sums);
-                        Err(trouble)
-                    }
-                }
+                self.end_sums()?;
+                self.due.put_clash(lit_in(alloc, &self.names, raw)?)
             }
-            CertLine::Sum => {
-                let Pending { names, due, sums } = self;
-                match sum_begun(alloc, sums) {
-                    Ok(sums) => Ok(Pending {
-                        names,
-                        due,
-                        sums: Some(sums),
-                    }),
-                    Err(trouble) => {
-                        mem::drop(names);
-                        mem::drop(due);
-                        Err(trouble)
-                    }
-                }
-            }
-            CertLine::Differs(raw) => {
-                let differs = match row_in(alloc, &self.names, raw) {
-                    Ok(differs) => differs,
-                    Err(trouble) => {
-                        mem::drop(self);
-                        return Err(trouble);
-                    }
-                };
-                let Pending { names, due, sums } = self;
-                match differs_put(sums, differs) {
-                    Ok(sums) => Ok(Pending {
-                        names,
-                        due,
-                        sums: Some(sums),
-                    }),
-                    Err(trouble) => {
-                        mem::drop(names);
-                        mem::drop(due);
-                        Err(trouble)
-                    }
-                }
-            }
-            CertLine::Row(multiplier, raw) => {
-                let row = match row_in(alloc, &self.names, raw) {
-                    Ok(row) => row,
-                    Err(trouble) => {
-                        mem::drop(self);
-                        return Err(trouble);
-                    }
-                };
-                let Pending { names, due, sums } = self;
-                match row_put(sums, *multiplier, row) {
-                    Ok(sums) => Ok(Pending {
-                        names,
-                        due,
-                        sums: Some(sums),
-                    }),
-                    Err(trouble) => {
-                        mem::drop(names);
-                        mem::drop(due);
-                        Err(trouble)
-                    }
-                }
-            }
+            CertLine::Sum => self.begin_sum(alloc),
+            CertLine::Differs(raw) => self.put_differs(alloc, raw),
+            CertLine::Row(multiplier, raw) => self.put_row(alloc, *multiplier, raw),
         }
     }
 
@@ -636,7 +530,12 @@ impl Pending {
         requires { FewNames self.names }
         ensures { Gives (λ k. k) result (finish_certs self) }
     {
-        let Pending { names, due, sums } = self.ended()?;
+        let mut owed = self;
+        if let Err(error) = owed.end_sums() {
+            mem::drop(owed);
+            return Err(error);
+        }
+        let Pending { names, due, sums } = owed;
         mem::drop(names);
         mem::drop(sums);
         kept_of(due)

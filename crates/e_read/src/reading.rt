@@ -21,7 +21,7 @@ use crate::kept::AllCerts;
 use crate::needs::due_of;
 use crate::strict::is_apart;
 use e_book::{Section, Theorem, TheoremParser};
-use e_cert::{CertLine, Obligation, Pending, cert_line_is_of, exact_cert_line};
+use e_cert::{Obligation, Pending, cert_line_is_of, exact_cert_line};
 use e_clause::Version;
 use e_deriv::Names;
 use e_line::{FaultKind, LineError, RawLine, collected, exact_line_of};
@@ -170,7 +170,7 @@ impl BlockParser {
     }
 
     /// Takes a line of a certificate.
-    #[tactic(auto, unfolding(crate::specs::Text::certified))]
+    #[tactic(auto, unfolding(crate::specs::Text::certified, crate::specs::Text::with_cert_line))]
     fn take_certificate(
         &mut self,
         alloc: Global,
@@ -187,23 +187,9 @@ impl BlockParser {
             mem::drop(cert_line);
             return Err(LineError::Fault(FaultKind::Malformed));
         }
-        let taken = self.take_cert_line(alloc, &cert_line);
+        let taken = self.owed.after_cert_line(alloc, &cert_line);
         mem::drop(cert_line);
         taken
-    }
-
-    /// Takes what a line of a certificate says.
-    #[tactic(auto, unfolding(crate::specs::Text::with_cert_line))]
-    fn take_cert_line(&mut self, alloc: Global, cert_line: &CertLine) -> Result<(), LineError>
-        requires { FewNames self.old.owed.names }
-        ensures value { Moves result self.new (with_cert_line self.old cert_line.now) }
-        ensures parser { OnOk result (self.new.parser ≡ self.old.parser) }
-        ensures names { OnOk result (self.new.owed.names ≡ self.old.owed.names) }
-    {
-        let owed = mem::replace(&mut self.owed, owes_nothing(alloc));
-        let owed = owed.after_cert_line(alloc, cert_line)?;
-        mem::drop(mem::replace(&mut self.owed, owed));
-        Ok(())
     }
 
     /// Takes any other line: nothing is owed any more.
