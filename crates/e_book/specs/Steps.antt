@@ -253,6 +253,13 @@ outer_with around kind =
       kind = kind;
     }
 
+-- a block that an inner one interrupts with more facts: the limits of facts and of monomials
+unfoldable pub with_facts : Saved → List Lit → Result Saved FaultKind
+with_facts around lits = do
+  few ← within (around.facts + length lits) most_facts limits.Facts
+  n ← terms_after around.terms lits
+  Ok (record around { facts = around.facts + length lits; terms = n })
+
 -- after the first block of a split, where the second begins
 abbrev pub second_begun : TheoremParser → Saved → Lit → Script → TheoremParser
 second_begun d around lit first =

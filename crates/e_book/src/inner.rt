@@ -28,6 +28,26 @@ pub struct Saved {
     terms: usize,
 }
 
+impl Saved {
+    ghost use Rattle.e_line.specs.Limits.{most_facts, most_terms};
+    ghost use Rattle.e_book.specs.Steps.{with_facts};
+
+    /// These literals are facts too: the limits of facts and of monomials.
+    #[tactic(auto, unfolding(crate::specs::Steps::with_facts))]
+    fn add_facts(&mut self, lits: &[Lit]) -> Result<(), LineError>
+        requires facts { self.old.facts ≤ most_facts }
+        requires terms { self.old.terms ≤ most_terms }
+        ensures value { Moves result self.new (with_facts self.old lits.now) }
+        ensures facts { OnOk result (self.new.facts ≤ most_facts) }
+        ensures terms { OnOk result (self.new.terms ≤ most_terms) }
+        ensures kept { OnOk result (self.new.in_scope ≡ self.old.in_scope) }
+    {
+        self.facts = facts_of(self.facts, lits)?;
+        self.terms = terms_of(self.terms, lits)?;
+        Ok(())
+    }
+}
+
 /// The names with new ones, each after those of its sort: the limits of objects.
 fn names_with(
     alloc: Global,
@@ -308,7 +328,7 @@ impl TheoremParser {
         };
         match kind {
             BlockKind::Claim { shown } => {
-                self.end_claim(alloc, around, shown, inner)?;
+                self.end_claim(around, shown, inner)?;
                 Ok(None)
             }
             BlockKind::Superpose { form, names, shown } => {
@@ -347,11 +367,10 @@ impl TheoremParser {
 
     /// The block of a claim is closed: the limits of facts and of monomials, and the claim is a
     /// step of the block around.
-    #[tactic(auto, using(e_deriv::proofs::Scripts::plain_steps), unfolding(crate::specs::Steps::resumed, crate::specs::Steps::counted_from))]
+    #[tactic(auto, using(e_deriv::proofs::Scripts::plain_steps, crate::proofs::Interrupted::resumed_with))]
     fn end_claim(
         &mut self,
-        alloc: Global,
-        around: Saved,
+        mut around: Saved,
         shown: Items<Lit>,
         inner: Closed,
     ) -> Result<(), LineError>
@@ -362,37 +381,24 @@ impl TheoremParser {
             (Claimed shown inner)) }
         ensures fits { OnOk result (FitsScope self.new) }
     {
-        let facts = match facts_of(around.facts, shown.items()) {
-            Ok(facts) => facts,
-            Err(trouble) => {
-                mem::drop(around);
-                mem::drop(shown);
-                mem::drop(inner);
-                return Err(trouble);
-            }
-        };
-        let terms = match terms_of(around.terms, shown.items()) {
-            Ok(terms) => terms,
-            Err(trouble) => {
-                mem::drop(around);
-                mem::drop(shown);
-                mem::drop(inner);
-                return Err(trouble);
-            }
-        };
+        if let Err(trouble) = around.add_facts(shown.items()) {
+            mem::drop(around);
+            mem::drop(shown);
+            mem::drop(inner);
+            return Err(trouble);
+        }
         let inner = inner.into_box();
-        let step = Step::Claim { shown, inner };
-        self.resume(around, facts, terms, step)?;
+        self.resume(around, Step::Claim { shown, inner })?;
         Ok(())
     }
 
     /// The block of a superposition is closed: the limits of facts and of monomials, and the
     /// superposition is a step of the block around.
-    #[tactic(auto, using(e_deriv::proofs::Scripts::plain_steps), unfolding(crate::specs::Steps::resumed, crate::specs::Steps::counted_from))]
+    #[tactic(auto, using(e_deriv::proofs::Scripts::plain_steps, crate::proofs::Interrupted::resumed_with))]
     fn end_superposition(
         &mut self,
         alloc: Global,
-        around: Saved,
+        mut around: Saved,
         form: Superpose,
         names: Items<Name>,
         shown: Items<Lit>,
@@ -405,26 +411,13 @@ impl TheoremParser {
             self.old.blocks shown (Copied form names shown [] inner)) }
         ensures fits { OnOk result (FitsScope self.new) }
     {
-        let facts = match facts_of(around.facts, shown.items()) {
-            Ok(facts) => facts,
-            Err(trouble) => {
-                mem::drop(around);
-                mem::drop(names);
-                mem::drop(shown);
-                mem::drop(inner);
-                return Err(trouble);
-            }
-        };
-        let terms = match terms_of(around.terms, shown.items()) {
-            Ok(terms) => terms,
-            Err(trouble) => {
-                mem::drop(around);
-                mem::drop(names);
-                mem::drop(shown);
-                mem::drop(inner);
-                return Err(trouble);
-            }
-        };
+        if let Err(trouble) = around.add_facts(shown.items()) {
+            mem::drop(around);
+            mem::drop(names);
+            mem::drop(shown);
+            mem::drop(inner);
+            return Err(trouble);
+        }
         let inner = inner.into_box();
         let step = Step::Superposed {
             form,
@@ -433,30 +426,24 @@ impl TheoremParser {
             certs: Items::empty(alloc),
             inner,
         };
-        self.resume(around, facts, terms, step)?;
+        self.resume(around, step)?;
         Ok(())
     }
 
-    /// The block around one that is closed goes on with a step, and with this many facts and
-    /// monomials.
-    fn resume(
-        &mut self,
-        around: Saved,
-        facts: usize,
-        terms: usize,
-        step: Step,
-    ) -> Result<(), AllocError>
+    /// The block around one that is closed goes on with a step.
+    fn resume(&mut self, around: Saved, step: Step) -> Result<(), AllocError>
         ensures { OnOk result (self.new ≡ record self.old {
           steps = around.steps ++ plain_step step ∷ [];
           in_scope = around.in_scope;
-          facts = facts;
-          terms = terms;
+          facts = around.facts;
+          terms = around.terms;
         }) }
     {
         let Saved {
             steps,
             in_scope,
-            ..
+            facts,
+            terms,
         } = around;
         mem::drop(mem::replace(&mut self.steps, steps));
         if let Err(error) = self.steps.push(step) {
