@@ -155,6 +155,15 @@ room_inside d given = do
   shallow ← within (length d.blocks + 2) most_depth limits.Depth
   within (d.facts + given) most_facts limits.Facts
 
+-- the limits of a line that begins an inner block with these facts, and of its literals as they are
+-- written: how many monomials are facts in the block
+unfoldable pub terms_inside : TheoremParser → (given : List Lit) → (raws : List RawLit)
+    → Result ℕ FaultKind
+terms_inside d given raws = do
+  room ← room_inside d (length given)
+  few ← few_monos raws
+  terms_after d.terms given
+
 -- a line that begins an inner block, within these limits
 unfoldable pub deeper : TheoremParser → BlockKind → ℕ → Result TheoremParser FaultKind
 deeper d kind given = do
