@@ -17,7 +17,8 @@ use Rattle.e_book.specs.declared.steps.CloseLine.TheVariants as closes
 use Rattle.e_line.specs.Reading.{◌>>=◌, Fails, Moves}
 use Rattle.e_book.specs.ParserViews.{script_of_close}
 use Rattle.e_line.specs.Limits.{most_facts, most_depth, within}
-use Rattle.e_book.specs.Steps.{terms_after, counted_from, resumed, closed_inside, closed, ClosesInside, FitsOuter, FitsScope}
+use Rattle.e_book.specs.declared.inner.Saved.{Saved}
+use Rattle.e_book.specs.Steps.{terms_after, counted_from, outer_with, with_facts, resumed, closed_inside, closed, ClosesInside, FitsOuter, FitsScope}
 
 -- a test finds something in a list whichever way it goes
 pub any_reversed : {X : Type 0} (p : X → Bool) (xs : List X) → list_any p (reverse xs) ≡ list_any p xs
@@ -111,3 +112,18 @@ resumed_fails d p new o close shown step inner what e is taken block shows fails
     let here : closed_inside d o d.blocks (all_before d.steps (script_of_close close)) again o.kind ≡ resumed d o d.blocks shown step =
     ap (λ (s : Script). closed_inside d o d.blocks s again o.kind) (sym block) ∙ ap (λ (x : BlockKind). closed_inside d o d.blocks inner again x) is ∙ shows again in
     subst (Fails e) (there ∙ sym here) fails
+
+-- ---- a block goes on with what the one inside shows
+
+resumed_as : (d : TheoremParser) (around : Saved) (os : List OpenBlock) (n : ℕ) (s : PlainStep) (few : Result (Unit {0}) FaultKind) (terms : Result ℕ FaultKind)
+    → ((few >>= λ u. terms >>= λ m. Ok (record d { facts = n; terms = m })) >>= λ e. Ok (record e { steps = around.steps ++ s ∷ []; in_scope = around.in_scope; blocks = os }))
+    ≡ ((few >>= λ u. terms >>= λ m. Ok (record around { facts = n; terms = m })) >>= λ a. Ok (record d { steps = a.steps ++ s ∷ []; in_scope = a.in_scope; facts = a.facts; terms = a.terms; blocks = os }))
+resumed_as d around os n s (Ok u) (Ok m) = refl
+resumed_as d around os n s (Ok u) (Err e) = refl
+resumed_as d around os n s (Err e) terms = refl
+
+pub resumed_with : (d : TheoremParser) (around : Saved) (what : BlockKind) (os : List OpenBlock) (shown : List Lit) (s : PlainStep)
+    → resumed d (outer_with around what) os shown s ≡ (with_facts around shown >>= λ a. Ok (record d { steps = a.steps ++ s ∷ []; in_scope = a.in_scope; facts = a.facts; terms = a.terms; blocks = os }))
+unfolding resumed counted_from with_facts
+resumed_with d around what os shown s =
+    resumed_as d around os (around.facts + length shown) s (within (around.facts + length shown) most_facts limits.Facts) (terms_after around.terms shown)

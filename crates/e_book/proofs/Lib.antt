@@ -3,7 +3,7 @@ pub mod Interrupted
 pub mod Copies
 pub mod WrittenScripts
 pub mod Answered
-pub mod SplitCounts
+pub mod BlockBegins
 pub mod KeptSums
 pub mod FittingScripts
 pub mod OpenBlocks

@@ -155,6 +155,15 @@ room_inside d given = do
   shallow ← within (length d.blocks + 2) most_depth limits.Depth
   within (d.facts + given) most_facts limits.Facts
 
+-- the limits of a line that begins an inner block with these facts, and of its literals as they are
+-- written: how many monomials are facts in the block
+unfoldable pub terms_inside : TheoremParser → (given : List Lit) → (raws : List RawLit)
+    → Result ℕ FaultKind
+terms_inside d given raws = do
+  room ← room_inside d (length given)
+  few ← few_monos raws
+  terms_after d.terms given
+
 -- a line that begins an inner block, within these limits
 unfoldable pub deeper : TheoremParser → BlockKind → ℕ → Result TheoremParser FaultKind
 deeper d kind given = do
@@ -252,6 +261,13 @@ outer_with around kind =
       terms = around.terms;
       kind = kind;
     }
+
+-- a block that an inner one interrupts with more facts: the limits of facts and of monomials
+unfoldable pub with_facts : Saved → List Lit → Result Saved FaultKind
+with_facts around lits = do
+  few ← within (around.facts + length lits) most_facts limits.Facts
+  n ← terms_after around.terms lits
+  Ok (record around { facts = around.facts + length lits; terms = n })
 
 -- after the first block of a split, where the second begins
 abbrev pub second_begun : TheoremParser → Saved → Lit → Script → TheoremParser

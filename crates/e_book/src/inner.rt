@@ -5,9 +5,7 @@ ghost use Rattle.e_deriv.specs.Naming.{named};
 ghost use Rattle.e_book.specs.LineLimits.{few_objects, FewNamed};
 
 use crate::blocks::{BlockKind, Closed, OpenBlock};
-use crate::limits::{
-    MAX_DEPTH, MAX_FACTS, MAX_STEPS, facts_of, few_objects, monomials, terms_of, terms_with,
-};
+use crate::limits::{MAX_DEPTH, MAX_FACTS, MAX_STEPS, facts_of, few_objects, monomials, terms_of};
 use crate::parser::{Section, TheoremParser};
 use crate::steps::{CloseLine, Steps};
 use e_construct::Superpose;
@@ -26,6 +24,26 @@ pub struct Saved {
     in_scope: Names,
     facts: usize,
     terms: usize,
+}
+
+impl Saved {
+    ghost use Rattle.e_line.specs.Limits.{most_facts, most_terms};
+    ghost use Rattle.e_book.specs.Steps.{with_facts};
+
+    /// These literals are facts too: the limits of facts and of monomials.
+    #[tactic(auto, unfolding(crate::specs::Steps::with_facts))]
+    fn add_facts(&mut self, lits: &[Lit]) -> Result<(), LineError>
+        requires facts { self.old.facts ≤ most_facts }
+        requires terms { self.old.terms ≤ most_terms }
+        ensures value { Moves result self.new (with_facts self.old lits.now) }
+        ensures facts { OnOk result (self.new.facts ≤ most_facts) }
+        ensures terms { OnOk result (self.new.terms ≤ most_terms) }
+        ensures kept { OnOk result (self.new.in_scope ≡ self.old.in_scope) }
+    {
+        self.facts = facts_of(self.facts, lits)?;
+        self.terms = terms_of(self.terms, lits)?;
+        Ok(())
+    }
 }
 
 /// The names with new ones, each after those of its sort: the limits of objects.
@@ -57,7 +75,7 @@ impl TheoremParser {
     ghost use Rattle.e_line.specs.Limits.{most_depth, most_terms};
     ghost use Rattle.e_book.specs.LineLimits.{few_objects};
     ghost use Rattle.e_book.specs.Steps.{FitsScope, FitsOuter, HasRoom, ClosesInside, concluded};
-    ghost use Rattle.e_book.specs.Steps.{with_terms, room_inside, interrupted, begun_with};
+    ghost use Rattle.e_book.specs.Steps.{room_inside, terms_inside, interrupted, begun_with};
     ghost use Rattle.e_book.specs.Steps.{begun_terms, claimed, superposed, copies_begun, split};
     ghost use Rattle.e_book.specs.Steps.{outer_with, resumed, second_begun, closed, shut};
     ghost use Rattle.e_book.specs.Blocks.{made_in};
@@ -79,25 +97,39 @@ impl TheoremParser {
         Ok(())
     }
 
-    /// An inner block begins, in which this many literals are facts at once.
-    fn interrupt(&mut self, alloc: Global, kind: BlockKind, given: usize) -> Result<(), AllocError>
+    /// The limits of a line that begins an inner block with these facts and has these literals as
+    /// they are written: it gives how many monomials are facts in the block.
+    #[tactic(auto, unfolding(crate::specs::Steps::terms_inside))]
+    fn terms_inside(&self, given: &[Lit], raw: &[RawLit]) -> Result<usize, LineError>
+        requires { FitsScope self.now }
+        ensures value { Gives (λ n. n) result (terms_inside self.now given.now raw.now) }
+        ensures room { IfOk result (λ n. HasRoom self.now (length given.now)) }
+    {
+        self.room_inside(given.len())?;
+        few_monos(raw)?;
+        terms_of(self.terms, given)
+    }
+
+    /// An inner block begins, with these names in scope and this many facts.
+    fn interrupt(
+        &mut self,
+        alloc: Global,
+        kind: BlockKind,
+        inside: Names,
+        given: usize,
+    ) -> Result<(), AllocError>
         requires parser { FitsScope self.old }
         requires room { HasRoom self.old given }
+        requires inside { FewNamed inside }
         requires begun { begun_with kind ≤ given }
         requires terms { self.old.terms + begun_terms kind ≤ most_terms }
-        ensures value { OnOk result (self.new ≡ interrupted self.old kind given) }
+        ensures value { OnOk result
+            (self.new ≡ record (interrupted self.old kind given) { in_scope = inside }) }
         ensures fits { OnOk result (FitsScope self.new) }
     {
-        let in_scope = match self.in_scope.copy(alloc) {
-            Ok(in_scope) => in_scope,
-            Err(error) => {
-                mem::drop(kind);
-                return Err(error);
-            }
-        };
         let outer = OpenBlock {
             steps: mem::replace(&mut self.steps, Steps::new(alloc)),
-            in_scope,
+            in_scope: mem::replace(&mut self.in_scope, inside),
             facts: self.facts,
             terms: self.terms,
             kind,
@@ -119,7 +151,8 @@ impl TheoremParser {
         put_lits(alloc, &self.in_scope, raw, &mut shown)?;
         self.room_inside(0)?;
         few_monos(raw)?;
-        self.interrupt(alloc, BlockKind::Claim { shown }, 0)?;
+        let inside = self.in_scope.copy(alloc)?;
+        self.interrupt(alloc, BlockKind::Claim { shown }, inside, 0)?;
         Ok(())
     }
 
@@ -144,7 +177,7 @@ impl TheoremParser {
 
     /// The block of a superposition begins with these names and facts: the limits of steps, of
     /// depth and of facts, those of the literals that it shows, and that of monomials.
-    #[tactic(auto, unfolding(crate::specs::Steps::copies_begun, crate::specs::Steps::deeper, crate::specs::Steps::room_inside))]
+    #[tactic(auto, using(crate::proofs::BlockBegins::begun_with_copies, crate::proofs::BlockBegins::few_inside))]
     fn begin_copies(
         &mut self,
         alloc: Global,
@@ -161,17 +194,7 @@ impl TheoremParser {
             (copies_begun self.old kind after given.now shown.now) }
         ensures fits { OnOk result (FitsScope self.new) }
     {
-        if let Err(trouble) = self.room_inside(given.len()) {
-            mem::drop(kind);
-            mem::drop(after);
-            return Err(trouble);
-        }
-        if let Err(trouble) = few_monos(shown) {
-            mem::drop(kind);
-            mem::drop(after);
-            return Err(trouble);
-        }
-        let terms = match terms_of(self.terms, given) {
+        let terms = match self.terms_inside(given, shown) {
             Ok(terms) => terms,
             Err(trouble) => {
                 mem::drop(kind);
@@ -179,40 +202,22 @@ impl TheoremParser {
                 return Err(trouble);
             }
         };
-        if let Err(trouble) = self.interrupt(alloc, kind, given.len()) {
-            mem::drop(after);
-            return Err(trouble.into());
-        }
+        self.interrupt(alloc, kind, after, given.len())?;
         self.terms = terms;
-        let before = mem::replace(&mut self.in_scope, after);
-        mem::drop(before);
         Ok(())
     }
 
     /// A split: its literal, and then the limits.
-    #[tactic(auto, using(crate::proofs::SplitCounts::split_few), unfolding(crate::specs::Steps::split, crate::specs::Steps::deeper, crate::specs::Steps::room_inside, crate::specs::Steps::with_terms))]
+    #[tactic(auto, using(crate::proofs::BlockBegins::begun_with_lit, crate::proofs::BlockBegins::few_inside, crate::proofs::BlockBegins::split_few))]
     pub(crate) fn on_cases(&mut self, alloc: Global, raw: &RawLit) -> Result<(), LineError>
         requires { FitsScope self.old }
         ensures value { Moves result self.new (split self.old raw.now) }
         ensures fits { OnOk result (FitsScope self.new) }
     {
         let lit = lit_in(alloc, &self.in_scope, raw)?;
-        if let Err(trouble) = self.room_inside(1) {
-            mem::drop(lit);
-            return Err(trouble);
-        }
-        if let Err(trouble) = few_monos(slice::from_ref(raw)) {
-            mem::drop(lit);
-            return Err(trouble);
-        }
-        let terms = match terms_with(self.terms, slice::from_ref(raw)) {
-            Ok(terms) => terms,
-            Err(trouble) => {
-                mem::drop(lit);
-                return Err(trouble);
-            }
-        };
-        self.interrupt(alloc, BlockKind::First { lit }, 1)?;
+        let terms = self.terms_inside(slice::from_ref(&lit), slice::from_ref(raw))?;
+        let inside = self.in_scope.copy(alloc)?;
+        self.interrupt(alloc, BlockKind::First { lit }, inside, 1)?;
         self.terms = terms;
         Ok(())
     }
@@ -308,7 +313,7 @@ impl TheoremParser {
         };
         match kind {
             BlockKind::Claim { shown } => {
-                self.end_claim(alloc, around, shown, inner)?;
+                self.end_claim(around, shown, inner)?;
                 Ok(None)
             }
             BlockKind::Superpose { form, names, shown } => {
@@ -347,11 +352,10 @@ impl TheoremParser {
 
     /// The block of a claim is closed: the limits of facts and of monomials, and the claim is a
     /// step of the block around.
-    #[tactic(auto, using(e_deriv::proofs::Scripts::plain_steps), unfolding(crate::specs::Steps::resumed, crate::specs::Steps::counted_from))]
+    #[tactic(auto, using(e_deriv::proofs::Scripts::plain_steps, crate::proofs::Interrupted::resumed_with))]
     fn end_claim(
         &mut self,
-        alloc: Global,
-        around: Saved,
+        mut around: Saved,
         shown: Items<Lit>,
         inner: Closed,
     ) -> Result<(), LineError>
@@ -362,37 +366,24 @@ impl TheoremParser {
             (Claimed shown inner)) }
         ensures fits { OnOk result (FitsScope self.new) }
     {
-        let facts = match facts_of(around.facts, shown.items()) {
-            Ok(facts) => facts,
-            Err(trouble) => {
-                mem::drop(around);
-                mem::drop(shown);
-                mem::drop(inner);
-                return Err(trouble);
-            }
-        };
-        let terms = match terms_of(around.terms, shown.items()) {
-            Ok(terms) => terms,
-            Err(trouble) => {
-                mem::drop(around);
-                mem::drop(shown);
-                mem::drop(inner);
-                return Err(trouble);
-            }
-        };
+        if let Err(trouble) = around.add_facts(shown.items()) {
+            mem::drop(around);
+            mem::drop(shown);
+            mem::drop(inner);
+            return Err(trouble);
+        }
         let inner = inner.into_box();
-        let step = Step::Claim { shown, inner };
-        self.resume(around, facts, terms, step)?;
+        self.resume(around, Step::Claim { shown, inner })?;
         Ok(())
     }
 
     /// The block of a superposition is closed: the limits of facts and of monomials, and the
     /// superposition is a step of the block around.
-    #[tactic(auto, using(e_deriv::proofs::Scripts::plain_steps), unfolding(crate::specs::Steps::resumed, crate::specs::Steps::counted_from))]
+    #[tactic(auto, using(e_deriv::proofs::Scripts::plain_steps, crate::proofs::Interrupted::resumed_with))]
     fn end_superposition(
         &mut self,
         alloc: Global,
-        around: Saved,
+        mut around: Saved,
         form: Superpose,
         names: Items<Name>,
         shown: Items<Lit>,
@@ -405,26 +396,13 @@ impl TheoremParser {
             self.old.blocks shown (Copied form names shown [] inner)) }
         ensures fits { OnOk result (FitsScope self.new) }
     {
-        let facts = match facts_of(around.facts, shown.items()) {
-            Ok(facts) => facts,
-            Err(trouble) => {
-                mem::drop(around);
-                mem::drop(names);
-                mem::drop(shown);
-                mem::drop(inner);
-                return Err(trouble);
-            }
-        };
-        let terms = match terms_of(around.terms, shown.items()) {
-            Ok(terms) => terms,
-            Err(trouble) => {
-                mem::drop(around);
-                mem::drop(names);
-                mem::drop(shown);
-                mem::drop(inner);
-                return Err(trouble);
-            }
-        };
+        if let Err(trouble) = around.add_facts(shown.items()) {
+            mem::drop(around);
+            mem::drop(names);
+            mem::drop(shown);
+            mem::drop(inner);
+            return Err(trouble);
+        }
         let inner = inner.into_box();
         let step = Step::Superposed {
             form,
@@ -433,30 +411,24 @@ impl TheoremParser {
             certs: Items::empty(alloc),
             inner,
         };
-        self.resume(around, facts, terms, step)?;
+        self.resume(around, step)?;
         Ok(())
     }
 
-    /// The block around one that is closed goes on with a step, and with this many facts and
-    /// monomials.
-    fn resume(
-        &mut self,
-        around: Saved,
-        facts: usize,
-        terms: usize,
-        step: Step,
-    ) -> Result<(), AllocError>
+    /// The block around one that is closed goes on with a step.
+    fn resume(&mut self, around: Saved, step: Step) -> Result<(), AllocError>
         ensures { OnOk result (self.new ≡ record self.old {
           steps = around.steps ++ plain_step step ∷ [];
           in_scope = around.in_scope;
-          facts = facts;
-          terms = terms;
+          facts = around.facts;
+          terms = around.terms;
         }) }
     {
         let Saved {
             steps,
             in_scope,
-            ..
+            facts,
+            terms,
         } = around;
         mem::drop(mem::replace(&mut self.steps, steps));
         if let Err(error) = self.steps.push(step) {
