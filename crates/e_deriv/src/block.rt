@@ -1,9 +1,12 @@
 //! Blocks, steps and closes.
+ghost use Rattle.std.specs.Prelude.{◌≡◌, IfOk};
 
 use e_clause::{Against, By, Cert};
 use e_construct::{Construction, Superpose};
 use e_literal::{Items, Lit, Obj};
 use e_text::Name;
+use std::alloc::{AllocError, Global};
+use std::mem;
 
 /// Steps, and the close that ends them.
 ///
@@ -82,4 +85,31 @@ pub enum Close {
         first: Box<Block>,
         second: Box<Block>,
     },
+}
+
+/// Two blocks, boxed. It fails only out of memory.
+pub fn boxed(
+    alloc: Global,
+    first: Block,
+    second: Block,
+) -> Result<(Box<Block>, Box<Block>), AllocError>
+    ensures first { IfOk result (λ p. p.0.value ≡ first) }
+    ensures second { IfOk result (λ p. p.1.value ≡ second) }
+{
+    let first = match Box::new(alloc, first) {
+        Ok(first) => first,
+        Err(failed) => {
+            mem::drop(failed);
+            mem::drop(second);
+            return Err(AllocError);
+        }
+    };
+    match Box::new(alloc, second) {
+        Ok(second) => Ok((first, second)),
+        Err(failed) => {
+            mem::drop(failed);
+            mem::drop(first);
+            Err(AllocError)
+        }
+    }
 }

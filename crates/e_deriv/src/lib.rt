@@ -9,7 +9,7 @@ mod names;
 mod sizes;
 mod stop;
 
-pub use block::{Block, Close, Step};
+pub use block::{Block, Close, Step, boxed};
 pub use e_clause::Against;
 pub use erasing::{copy_by, copy_construction, copy_lits, erase};
 pub use laws::{

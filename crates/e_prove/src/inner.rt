@@ -9,7 +9,7 @@ use crate::block::{ProvedBlock, ProvedClose, ProvedStep};
 use crate::step_state::StepState;
 use e_clause::Cert;
 use e_construct::Superpose;
-use e_deriv::{Block, Close, Names, Step, Stop, copy_lits};
+use e_deriv::{Close, Names, Step, Stop, boxed, copy_lits};
 use e_literal::{Items, Lit, copy};
 use e_text::Name;
 use std::alloc::{AllocError, Global};
@@ -140,29 +140,6 @@ pub fn split(
             mem::drop(first);
             mem::drop(second);
             Err(Stop::NoMemory)
-        }
-    }
-}
-
-/// Two blocks, boxed.
-fn boxed(alloc: Global, first: Block, second: Block) -> Result<(Box<Block>, Box<Block>), AllocError>
-    ensures first { IfOk result (λ p. p.0.value ≡ first) }
-    ensures second { IfOk result (λ p. p.1.value ≡ second) }
-{
-    let first = match Box::new(alloc, first) {
-        Ok(first) => first,
-        Err(failed) => {
-            mem::drop(failed);
-            mem::drop(second);
-            return Err(AllocError);
-        }
-    };
-    match Box::new(alloc, second) {
-        Ok(second) => Ok((first, second)),
-        Err(failed) => {
-            mem::drop(failed);
-            mem::drop(first);
-            Err(AllocError)
         }
     }
 }

@@ -9,7 +9,7 @@ ghost use Rattle.e_verify.specs.inner.StepStates.{restored, with_facts};
 use crate::step_state::{Checkpoint, StepState};
 use e_clause::Cert;
 use e_construct::Superpose;
-use e_deriv::{Block, Close, Step, copy_lits};
+use e_deriv::{Block, Close, Step, boxed, copy_lits};
 use e_literal::{Items, Lit, copy};
 use e_text::Name;
 use std::alloc::{AllocError, Global};
@@ -103,29 +103,6 @@ pub fn superposed(
         certs,
         inner,
     })
-}
-
-/// Two blocks, boxed.
-fn boxed(alloc: Global, first: Block, second: Block) -> Result<(Box<Block>, Box<Block>), AllocError>
-    ensures first { IfOk result (λ p. p.0.value ≡ first) }
-    ensures second { IfOk result (λ p. p.1.value ≡ second) }
-{
-    let first = match Box::new(alloc, first) {
-        Ok(first) => first,
-        Err(failed) => {
-            mem::drop(failed);
-            mem::drop(second);
-            return Err(AllocError);
-        }
-    };
-    match Box::new(alloc, second) {
-        Ok(second) => Ok((first, second)),
-        Err(failed) => {
-            mem::drop(failed);
-            mem::drop(first);
-            Err(AllocError)
-        }
-    }
 }
 
 /// A split whose blocks have their places.

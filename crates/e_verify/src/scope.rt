@@ -3,7 +3,7 @@
 ghost use Rattle.std.specs.Prelude.{◌≡◌};
 ghost use Rattle.std.specs.List.{list_all};
 ghost use Rattle.e_literal.specs.Literal;
-ghost use Rattle.e_literal.specs.Literal.{is_in_scope, objects_of_term};
+ghost use Rattle.e_literal.specs.Literal.{is_in_scope};
 ghost use Rattle.e_clause.specs.Certify;
 ghost use Rattle.e_clause.specs.MetricCertificate;
 ghost use Rattle.e_clause.specs.PartCertificate;
@@ -11,7 +11,7 @@ ghost use Rattle.e_clause.specs.TransferCertificate;
 ghost use Rattle.e_deriv.specs.Steps;
 
 use e_clause::{Cert, Part, RowName, Sum, Sums, TransferCert};
-use e_literal::{Lit, Obj, Scope, Term, count, in_scope};
+use e_literal::{Lit, Obj, Scope, count, in_scope, term_in_scope};
 
 /// Whether the objects that the certificate names are in scope.
 pub fn cert_in(scope: Scope, cert: &Cert) -> bool
@@ -78,7 +78,9 @@ fn name_in(scope: Scope, name: &RowName) -> bool
 {
     match name {
         RowName::Fact(lit) => in_scope(lit, scope),
-        RowName::Pos(term) | RowName::Top(term) | RowName::Least(term) => term_in(scope, *term),
+        RowName::Pos(term) | RowName::Top(term) | RowName::Least(term) => term_in_scope(
+            *term, scope,
+        ),
         RowName::Goal | RowName::Right | RowName::Above | RowName::Below | RowName::FactAt(_) =>
             true,
     }
@@ -89,16 +91,4 @@ pub fn are_over(scope: Scope, lits: &[Lit]) -> bool
     ensures { result ≡ Steps.are_over scope lits.now }
 {
     lits.iter().all(|lit| in_scope(lit, scope))
-}
-
-fn term_in(scope: Scope, term: Term) -> bool
-    ensures { result ≡ list_all (is_in_scope scope) (objects_of_term term) }
-{
-    match term {
-        Term::Seg(a, b) => a < scope.points && b < scope.points,
-        Term::Ang(a, b, c) | Term::Area(a, b, c) => {
-            a < scope.points && b < scope.points && c < scope.points
-        }
-        Term::Right => true,
-    }
 }
