@@ -8,7 +8,6 @@ ghost use Rattle.e_clause.specs.Judged.{is_well_formed_in, are_well_formed_in};
 ghost use Rattle.e_deriv.specs.Steps.{instance_gives, is_cited as gives_cited};
 ghost use Rattle.e_clause.specs.declared.cert.Version.TheVariants as version;
 ghost use Rattle.e_clause.specs.Versions.{is_cert_of};
-ghost use Rattle.e_licence.specs.Licences.{IsLicence};
 ghost use Rattle.e_prove.specs.inner.StopsOfSteps.{StepStopsAmong};
 
 use crate::step_stop::StepStop;
@@ -30,7 +29,17 @@ pub fn licensed(alloc: Global, context: &mut Context, lit: &Lit) -> Result<Cert,
     ensures kept { context.new ≡ context.old }
 {
     let answer = context.licence(alloc, lit)?;
-    to_cert(alloc, context, lit, answer)
+    match answer {
+        Licensed::Yes(cert) => Ok(cert),
+        Licensed::No(values) => {
+            let wanted = Wanted::Literal(copy(alloc, lit)?);
+            Err(StepStop::Lacks { wanted, values })
+        }
+        Licensed::TooWide(width) => {
+            let wanted = Wanted::Literal(copy(alloc, lit)?);
+            Err(StepStop::TooWide { wanted, width })
+        }
+    }
 }
 
 /// A certificate of each literal, where each is allowed. They are licensed in order, and the first
@@ -49,27 +58,6 @@ pub fn licences(alloc: Global, context: &mut Context, lits: &[Lit]) -> Result<Ve
         certs.push(cert)?;
     }
     Ok(certs)
-}
-
-/// What is answered on a literal: its certificate, or a stop.
-fn to_cert(alloc: Global, context: &Context, lit: &Lit, answer: Licensed) -> Result<Cert, StepStop>
-    requires { IsLicence context.now lit.now answer }
-    ensures ok { IfOk result
-        (λ c. IsTrue (certifies context.now.scope context.now.facts lit.now c)) }
-    ensures written { IfOk result (λ c. IsTrue (is_cert_of version.One c)) }
-    ensures err { IfErr result (StepStopsAmong context.now (lit.now ∷ [])) }
-{
-    match answer {
-        Licensed::Yes(cert) => Ok(cert),
-        Licensed::No(values) => {
-            let wanted = Wanted::Literal(copy(alloc, lit)?);
-            Err(StepStop::Lacks { wanted, values })
-        }
-        Licensed::TooWide(width) => {
-            let wanted = Wanted::Literal(copy(alloc, lit)?);
-            Err(StepStop::TooWide { wanted, width })
-        }
-    }
 }
 
 /// Whether the cited instance gives the literal.

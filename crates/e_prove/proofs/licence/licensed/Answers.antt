@@ -1,16 +1,17 @@
-use Rattle.std.proofs.Common.{◌≡◌, ◌∷◌, [], sym, subst, true}
-use Rattle.std.specs.Prelude.{IfOk, IfErr}
-use Rattle.e_clause.specs.Certify.{certifies}
-use Rattle.e_licence.specs.Contexts.{Basis}
+use Rattle.std.proofs.Common.{ap, subst}
+use Rattle.e_deriv.specs.declared.stop.Wanted.TheVariants.{Literal}
 use Rattle.e_licence.specs.Licences.{IsLicence}
-use Rattle.e_prove.specs.inner.StopsOfSteps.{StepStopsAmong}
+use Rattle.e_prove.proofs.LicensedLiterals.{one_lacks, one_too_wide}
 use Rattle.e_prove.proofs.licence.licensed.Goals as goal
 
-pub to_cert-requires : goal.to_cert-requires
-to_cert-requires c = subst (λ (b : Basis). IsLicence b c.args.lit.now c.in_ok-answer.answer) (sym c.in_ok-answer.ensures.same) c.in_ok-answer.ensures.licence
+pub returns-in_ok-copy-in-No-clause-err : goal.returns-in_ok-copy-in-No-clause-err
+returns-in_ok-copy-in-No-clause-err c =
+    let x = c.args.context.now in
+    let l = c.args.lit.now in
+    one_lacks x l _ c.in-No.values (ap Literal c.in_ok-copy-in-No.ensures) (subst (IsLicence x l) c.in-No.is c.in_ok-answer.ensures.licence)
 
-pub returns-clause-ok : goal.returns-clause-ok
-returns-clause-ok c = subst (λ (b : Basis). IfOk c.to_cert.result (λ d. certifies b.scope b.facts c.args.lit.now d ≡ true)) c.in_ok-answer.ensures.same c.to_cert.ensures.ok
-
-pub returns-clause-err : goal.returns-clause-err
-returns-clause-err c = subst (λ (b : Basis). IfErr c.to_cert.result (StepStopsAmong b (c.args.lit.now ∷ []))) c.in_ok-answer.ensures.same c.to_cert.ensures.err
+pub returns-in_ok-copy-in-TooWide-clause-err : goal.returns-in_ok-copy-in-TooWide-clause-err
+returns-in_ok-copy-in-TooWide-clause-err c =
+    let x = c.args.context.now in
+    let l = c.args.lit.now in
+    one_too_wide x l _ c.in-TooWide.width (ap Literal c.in_ok-copy-in-TooWide.ensures) (subst (IsLicence x l) c.in-TooWide.is c.in_ok-answer.ensures.licence)
