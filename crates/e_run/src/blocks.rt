@@ -38,7 +38,7 @@ pub enum BookResult {
 }
 
 /// Why the blocks break off.
-#[derive(Clone, Copy, PartialEq, Eq)]
+#[derive(Clone, Copy)]
 pub enum RunError {
     NoMemory,
     ReadFault,

@@ -12,7 +12,7 @@ const MOST_THEOREMS: u128 = 500;
 const MOST_STEPS: u128 = 1024;
 
 /// What is written of a derivation text that is verified, theorem by theorem.
-#[derive(Clone, Copy, PartialEq, Eq)]
+#[derive(Clone, Copy)]
 pub enum Job {
     /// The block of the theorem with its derivation in the second version.
     Upgrade,
@@ -23,7 +23,7 @@ pub enum Job {
 }
 
 /// What a run is asked for.
-#[derive(Clone, Copy, PartialEq, Eq)]
+#[derive(Clone, Copy)]
 pub enum Command {
     Check,
     Verify,
