@@ -1,5 +1,5 @@
 //! `figure`: a figure text is read and answered.
-ghost use Rattle.std.specs.Prelude.{◌≡◌, ◌≤◌, ◌<◌, ◌^◌, length, Err};
+ghost use Rattle.std.specs.Prelude.{◌≡◌, ◌≤◌, ◌<◌, ◌^◌, ℕ, List, length, Err};
 ghost use Rattle.e_io.specs.Bytes.{Rose};
 ghost use Rattle.e_drawing.specs.Answers.{drawn_of};
 ghost use Rattle.e_run.specs.Answers.{IsDrawn, IsReadFault, IsWriteFault};
@@ -23,9 +23,9 @@ pub fn lacks_memory(fault: BookFault) -> bool
 }
 
 /// Writes the line of a fault, and gives its answer.
-fn tell_fault<K: Sink>(alloc: Global, text: &[u8], at: BookFault, sink: &mut K) -> Status
-    requires { drawn_of text.now ≡ Err at }
-    ensures draws { DrawsAndWrites text.now (K.written sink.old) (K.written sink.new) result }
+fn report_fault<K: Sink>(alloc: Global, at: BookFault, sink: &mut K) -> Status
+    ensures draws { (text : List ℕ) → drawn_of text ≡ Err at
+        → DrawsAndWrites text (K.written sink.old) (K.written sink.new) result }
     ensures rises { K.faults sink.old ≤ K.faults sink.new }
     ensures cause { IsWriteFault result → Rose (K.faults sink.old) (K.faults sink.new) }
     ensures no_read { IsReadFault result → ⊥ }
@@ -37,7 +37,7 @@ fn tell_fault<K: Sink>(alloc: Global, text: &[u8], at: BookFault, sink: &mut K) 
 }
 
 /// Answers a figure text.
-fn tell<K: Sink>(alloc: Global, text: &[u8], sink: &mut K) -> Status
+fn answer<K: Sink>(alloc: Global, text: &[u8], sink: &mut K) -> Status
     requires { length text.now < 2 ^ 31 }
     ensures draws { DrawsAndWrites text.now (K.written sink.old) (K.written sink.new) result }
     ensures rises { K.faults sink.old ≤ K.faults sink.new }
@@ -56,7 +56,7 @@ fn tell<K: Sink>(alloc: Global, text: &[u8], sink: &mut K) -> Status
             if lacks_memory(at) {
                 return close(sink, b"no memory\n", Status::NoMemory);
             }
-            tell_fault(alloc, text, at, sink)
+            report_fault(alloc, at, sink)
         }
     }
 }
@@ -76,5 +76,5 @@ pub fn figure<S: Source, K: Sink>(alloc: Global, source: &mut S, sink: &mut K) -
         Err(InputFault::ReadFault) => return close(sink, b"read fault\n", Status::ReadFault),
         Err(InputFault::NoMemory) => return close(sink, b"no memory\n", Status::NoMemory),
     };
-    tell(alloc, &text, sink)
+    answer(alloc, &text, sink)
 }

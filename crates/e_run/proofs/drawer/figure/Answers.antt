@@ -17,10 +17,10 @@ returns-in-Err-NoMemory-clause-draws g c =
 
 pub returns-clause-draws : goal.returns-clause-draws
 returns-clause-draws g c =
-    read_figure (g.S.Source.left c.args.source.now) c.in-Ok.text.items (g.K.Sink.written c.args.sink.now) (g.K.Sink.written c.tell.new.sink) c.tell.result c.in-Ok.ensures.text
-    (subst (λ (t : List ℕ). DrawsAndWrites t (g.K.Sink.written c.args.sink.now) (g.K.Sink.written c.tell.new.sink) c.tell.result) c.deref.ensures.value c.tell.ensures.draws)
+    read_figure (g.S.Source.left c.args.source.now) c.in-Ok.text.items (g.K.Sink.written c.args.sink.now) (g.K.Sink.written c.answer.new.sink) c.answer.result c.in-Ok.ensures.text
+    (subst (λ (t : List ℕ). DrawsAndWrites t (g.K.Sink.written c.args.sink.now) (g.K.Sink.written c.answer.new.sink) c.answer.result) c.deref.ensures.value c.answer.ensures.draws)
 
 pub returns-clause-end : goal.returns-clause-end
 returns-clause-end g c =
     λ d. c.in-Ok.ensures.end
-    (omega (arith, c.deref.ensures.len, drawn_is_short c.deref.result.now (g.K.Sink.written c.args.sink.now) (g.K.Sink.written c.tell.new.sink) c.tell.result c.tell.ensures.draws d))
+    (omega (arith, c.deref.ensures.len, drawn_is_short c.deref.result.now (g.K.Sink.written c.args.sink.now) (g.K.Sink.written c.answer.new.sink) c.answer.result c.answer.ensures.draws d))
