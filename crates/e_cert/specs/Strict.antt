@@ -20,7 +20,7 @@ is_strict_cert_line (certlines.Differs r) = is_strict_row r
 is_strict_cert_line (certlines.Row m r) = is_strict_row r
 is_strict_cert_line cert_line = true
 
--- the same of a line of a certificate, where these are the words after its sign
+-- the form of a line of a certificate that is spelled so, where these are the words after its sign
 unfoldable pub exact_cert_line : List ℕ → List (List ℕ) → Result CertLine FaultKind
 exact_cert_line line words =
     cert_line_of words

@@ -39,7 +39,8 @@ fn cert_line_text(alloc: Global, cert_line: &CertLine, room: usize) -> Result<Ve
     Ok(line)
 }
 
-/// The same of a line of a certificate, where these are the words after its sign.
+/// The form of a line of a certificate that is spelled as this form is, where these are the words
+/// after its sign.
 #[tactic(auto, unfolding(crate::specs::Strict::exact_cert_line))]
 pub fn exact_cert_line(alloc: Global, line: &[u8], words: &[&[u8]]) -> Result<CertLine, LineError>
     ensures { Gives (λ m. m) result (exact_cert_line line.now (texts words.now)) }

@@ -136,7 +136,7 @@ impl FaultKind {
 impl LineError {
     ghost use Rattle.e_line.specs.Faults.{trouble_at};
 
-    /// The same, at a line.
+    /// The fault, at a line; or out of memory.
     pub fn at(self, line: u32) -> BookFault
         ensures { result ≡ trouble_at line self }
     {
