@@ -35,7 +35,7 @@ pub enum Piece {
 }
 
 /// Why a derivation text is refused.
-#[derive(Clone, Copy, Debug, PartialEq, Eq, Error)]
+#[derive(Clone, Copy, Debug, Error)]
 pub enum TextFault {
     /// The first line that is malformed at its place; or, where the text ends too early, the line
     /// after its last.

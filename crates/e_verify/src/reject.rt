@@ -7,7 +7,7 @@ use std::alloc::AllocError;
 use thiserror::Error;
 
 /// Why a derivation is refused.
-#[derive(Debug, Drop, PartialEq, Eq, Error)]
+#[derive(Debug, Drop, Error)]
 pub enum Reject {
     /// The line with this number, counted from 1 among the step and close lines, is the first that
     /// is not certified.
