@@ -166,7 +166,8 @@ fn copy_objects(alloc: Global, objects: &[Obj]) -> Result<Items<Obj>, AllocError
     Ok(Items::new(Vec::from_slice(alloc, objects)?))
 }
 
-fn copy_names(alloc: Global, names: &[Name]) -> Result<Items<Name>, AllocError>
+/// Equal names.
+pub fn copy_names(alloc: Global, names: &[Name]) -> Result<Items<Name>, AllocError>
     ensures { IfOk result (λ n. n ≡ names.now) }
 {
     Ok(Items::new(Vec::from_slice(alloc, names)?))

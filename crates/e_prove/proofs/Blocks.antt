@@ -1,5 +1,5 @@
 -- Blocks whose steps are licensed one after another, and what the code says of them.
-use Rattle.std.proofs.Common.{◌≡◌, ℕ, ◌+◌, ◌-◌, ◌≤◌, ◌<◌, ◌^◌, List, [], ◌∷◌, ◌++◌, length, drop, get_or, refl, sym, ap, ◌∙◌, subst, Option, Result, Ok, Err, arith, Box, Global}
+use Rattle.std.proofs.Common.{◌≡◌, ◌⊎◌, inl, inr, ℕ, ◌+◌, ◌-◌, ◌≤◌, ◌<◌, ◌^◌, List, [], ◌∷◌, ◌++◌, length, drop, get_or, refl, sym, ap, ◌∙◌, subst, Option, Result, Ok, Err, arith, Box, Global}
 use Rattle.std.proofs.lemmas.Grind.{common_steps}
 use Rattle.std.specs.Prelude.{IfOk, OnOk, take}
 use Rattle.e_literal.specs.declared.literal.Lit.{Lit}
@@ -222,6 +222,17 @@ pub apply_one : (theorem : ℕ) (args : List (Option Obj)) (names : List (List �
 unfolding step_script size
 apply_one theorem args names certs rest = refl
 
+pub line_is_one : (step : Step) (rest : Script)
+    → ((by : By) × (step ≡ CiteStep by))
+    ⊎ (((lit : Lit) × (cert : Option Cert) × (step ≡ HenceStep lit cert))
+    ⊎ (((form : Construction) × (names : List (List ℕ)) × (certs : List Cert) × (step ≡ MakeStep form names certs))
+    ⊎ ((theorem : ℕ) × (args : List (Option Obj)) × (names : List (List ℕ)) × (certs : List Cert) × (step ≡ ApplyStep theorem args names certs))))
+    → size (step_script step rest) ≡ 1 + size rest
+line_is_one step rest (inl e) = ap (λ s. size (step_script s rest)) e.1 ∙ cite_one e.0 rest
+line_is_one step rest (inr (inl e)) = ap (λ s. size (step_script s rest)) e.2 ∙ hence_one e.0 e.1 rest
+line_is_one step rest (inr (inr (inl e))) = ap (λ s. size (step_script s rest)) e.3 ∙ make_one e.0 e.1 e.2 rest
+line_is_one step rest (inr (inr (inr e))) = ap (λ s. size (step_script s rest)) e.4 ∙ apply_one e.0 e.1 e.2 e.3 rest
+
 pub qed_one : (objects : List Obj) (certs : List Cert) → size (close_script (QedClose objects certs)) ≡ 1
 unfolding close_script size
 qed_one objects certs = refl
@@ -229,3 +240,7 @@ qed_one objects certs = refl
 pub contradiction_one : (against : Option Against) → size (close_script (ContradictionClose against)) ≡ 1
 unfolding close_script size
 contradiction_one against = refl
+
+pub close_is_one : (close : Close) → ((objects : List Obj) × (certs : List Cert) × (close ≡ QedClose objects certs)) ⊎ ((against : Option Against) × (close ≡ ContradictionClose against)) → size (close_script close) ≡ 1
+close_is_one close (inl e) = ap (λ k. size (close_script k)) e.2 ∙ qed_one e.0 e.1
+close_is_one close (inr e) = ap (λ k. size (close_script k)) e.1 ∙ contradiction_one e.0

@@ -31,10 +31,7 @@ fn lines_of(step: &Step) -> u32
         → script_size (step_script step.now rest) ≡ result + script_size rest }
 {
     match step {
-        Step::Cite(_) => 1,
-        Step::Hence { .. } => 1,
-        Step::Make { .. } => 1,
-        Step::Apply { .. } => 1,
+        Step::Cite(_) | Step::Hence { .. } | Step::Make { .. } | Step::Apply { .. } => 1,
         Step::Claim { inner, .. } => 1 + size(inner),
         Step::Superposed { inner, .. } => 1 + size(inner),
     }
@@ -108,10 +105,9 @@ fn enter_step(
     ensures earlier { IfErr result (IsStopBefore target) }
 {
     match step {
-        Step::Cite(_) => unreachable!(),
-        Step::Hence { .. } => unreachable!(),
-        Step::Make { .. } => unreachable!(),
-        Step::Apply { .. } => unreachable!(),
+        Step::Cite(_) | Step::Hence { .. } | Step::Make { .. } | Step::Apply { .. } => {
+            unreachable!()
+        }
         Step::Claim { shown, inner } => {
             let goal = Goal {
                 made: &[],
@@ -163,8 +159,7 @@ fn enter_close(
     ensures earlier { IfErr result (IsStopBefore target) }
 {
     match close {
-        Close::Qed { .. } => unreachable!(),
-        Close::Contradiction { .. } => unreachable!(),
+        Close::Qed { .. } | Close::Contradiction { .. } => unreachable!(),
         Close::Cases { lit, first, second } => {
             let count = size(first);
             let middle = number + 1 + count;

@@ -182,8 +182,7 @@ fn needs_at_qed(
     ensures { Gives (λ l. l) result (Needs.needs_at_qed parser.now names.now) }
 {
     let objects = qed_in(alloc, &parser.in_scope, goal_made(parser), names)?;
-    let needs = goal_with(alloc, parser, objects.items())?;
-    Ok(needs)
+    goal_with(alloc, parser, objects.items())
 }
 
 /// What a line owes.

@@ -34,8 +34,7 @@ fn put_theorem(
     let names = first_names(alloc, &theorem.names, declared)?;
     let put = put_proof(alloc, out, known, &names, deriv);
     mem::drop(names);
-    put?;
-    Ok(())
+    put
 }
 
 /// The one spelling of a theorem with a derivation: the theorem's lines to the word `proof`, each

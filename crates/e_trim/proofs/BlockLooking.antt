@@ -33,9 +33,9 @@ use Rattle.e_deriv.proofs.Scripts.{step_script-Claim, step_script-Superposed, cl
 use Rattle.e_trim.specs.Looked.{Wants, no_wants, both, of_line}
 use Rattle.e_trim.specs.Trimmed.{line_at, wants_outside, wants}
 use Rattle.e_trim.specs.inner.Flags.{flags_of, inside_of, step_flags}
-use Rattle.e_trim.specs.inner.StepState.{IsReady, CloseFits, StepWants, StepFlags, KeepsFacts, opened, outer_of_state, left_for}
+use Rattle.e_trim.specs.inner.StepState.{IsReady, CloseFits, StepWants, StepFlags, KeepsFacts, opened, checkpoint_of, restored}
 use Rattle.e_trim.specs.declared.step_state.StepState.{StepState}
-use Rattle.e_trim.specs.declared.step_state.Outer.{Outer}
+use Rattle.e_trim.specs.declared.step_state.Checkpoint.{Checkpoint}
 use Rattle.e_trim.proofs.Both.{both-none, both-assoc}
 use Rattle.e_trim.proofs.BuiltSteps.{room}
 use Rattle.e_trim.proofs.StepForms.{keeps_on, keeps_enough, left_back}
@@ -45,14 +45,14 @@ use Rattle.e_trim.proofs.StepForms.{keeps_on, keeps_enough, left_back}
 pub opened_keeps : (sorts : List Sort) (lits : List Lit) (x after : StepState) → after ≡ opened sorts lits x → KeepsFacts x after
 opened_keeps sorts lits x after e = subst (λ (y : StepState). KeepsFacts x y) (sym e) (stay_all x.facts lits)
 
-pub block_enough : (sorts : List Sort) (lits : List Lit) (x after last : StepState) (outer : Outer) → after ≡ opened sorts lits x → KeepsFacts after last → outer ≡ outer_of_state x → outer.facts ≤ length last.facts
+pub block_enough : (sorts : List Sort) (lits : List Lit) (x after last : StepState) (outer : Checkpoint) → after ≡ opened sorts lits x → KeepsFacts after last → outer ≡ checkpoint_of x → outer.facts ≤ length last.facts
 block_enough sorts lits x after last outer e k o =
     let n = keeps_enough x last (keeps_on x after last (opened_keeps sorts lits x after e) k) in
-    let m = ap (λ (y : Outer). y.facts) o in
+    let m = ap (λ (y : Checkpoint). y.facts) o in
     omega (arith, n, m)
 
-pub block_back : (sorts : List Sort) (lits : List Lit) (x after last left : StepState) (outer : Outer) → after ≡ opened sorts lits x → KeepsFacts after last → outer ≡ outer_of_state x → left ≡ left_for outer last → left ≡ x
-block_back sorts lits x after last left outer e k o f = f ∙ ap (λ y. left_for y last) o ∙ left_back x last (keeps_on x after last (opened_keeps sorts lits x after e) k)
+pub block_back : (sorts : List Sort) (lits : List Lit) (x after last left : StepState) (outer : Checkpoint) → after ≡ opened sorts lits x → KeepsFacts after last → outer ≡ checkpoint_of x → left ≡ restored outer last → left ≡ x
+block_back sorts lits x after last left outer e k o f = f ∙ ap (λ y. restored y last) o ∙ left_back x last (keeps_on x after last (opened_keeps sorts lits x after e) k)
 
 pub block_ready : (before : List StatementView) (d : Script) (goal : Goal) (sorts : List Sort) (lits : List Lit) (x after : StepState) → after ≡ opened sorts lits x → IsReady before d (grown x.scope sorts) (joined_all x.facts lits) goal → IsReady before d after.scope after.facts goal
 block_ready before d goal sorts lits x after e r = subst (λ (y : StepState). IsReady before d y.scope y.facts goal) (sym e) r

@@ -29,7 +29,7 @@ use Rattle.e_deriv.proofs.Keeping.{stay_on, stay_all, no_fewer}
 use Rattle.e_deriv.proofs.Scripts.{step_script-Claim, step_script-Superposed, close_script-Cases}
 use Rattle.e_trim.specs.Trimmed.{lit_among_kept, cert_at, by_at, joins_at, makes_at, is_kept, line_at, wants_with_step, wants, trimmed_from}
 use Rattle.e_trim.specs.inner.Flags.{flag, flags_of, inside_of, step_flags}
-use Rattle.e_trim.specs.inner.StepState.{IsReady, IsReadyToTrim, StepFits, KeepsFacts, passed, outer_of_state, left_for}
+use Rattle.e_trim.specs.inner.StepState.{IsReady, IsReadyToTrim, StepFits, KeepsFacts, passed, checkpoint_of, restored}
 use Rattle.e_trim.specs.inner.Building.{kept_step}
 use Rattle.e_trim.specs.declared.step_state.StepState.{StepState}
 
@@ -212,5 +212,5 @@ pub keeps_enough : (x y : StepState) → KeepsFacts x y → length x.facts ≤ l
 keeps_enough x y h = no_fewer x.facts y.facts h
 
 -- back to where it was
-pub left_back : (x y : StepState) → KeepsFacts x y → left_for (outer_of_state x) y ≡ x
+pub left_back : (x y : StepState) → KeepsFacts x y → restored (checkpoint_of x) y ≡ x
 left_back x y h = ap (λ fs. record { scope = x.scope; facts = fs }) h

@@ -10,9 +10,9 @@ use Rattle.e_deriv.proofs.Keeping.{all_stay}
 use Rattle.e_trim.specs.Looked.{Wants, both, of_line}
 use Rattle.e_trim.specs.Trimmed.{is_kept, line_at, wants_with_step, wants}
 use Rattle.e_trim.specs.inner.Flags.{flag, flags_of, inside_of, step_flags}
-use Rattle.e_trim.specs.inner.StepState.{IsReady, IsReadyToTrim, StepFits, StepAdds, FlagsAdded, StepWants, StepFlags, KeepsFacts, passed, outer_of_state, left_for}
+use Rattle.e_trim.specs.inner.StepState.{IsReady, IsReadyToTrim, StepFits, StepAdds, FlagsAdded, StepWants, StepFlags, KeepsFacts, passed, checkpoint_of, restored}
 use Rattle.e_trim.specs.declared.step_state.StepState.{StepState}
-use Rattle.e_trim.specs.declared.step_state.Outer.{Outer}
+use Rattle.e_trim.specs.declared.step_state.Checkpoint.{Checkpoint}
 use Rattle.e_trim.proofs.StepForms.{ready_rest, ready_fits, ready_small, wants_step, flags_step, passed_keeps, keeps_on, keeps_enough, left_back}
 use Rattle.e_trim.proofs.FirstSteps.{later_steps, whole_is}
 
@@ -50,14 +50,14 @@ past_keeps : (before : List StatementView) (head : Step) (x after : StepState) �
 past_keeps before head x after e =
     let rest = Rattle.e_deriv.specs.Script.Qed [] [] in subst (λ (y : StepState). KeepsFacts x y) (sym (e rest)) (passed_keeps before (step_script head rest) x)
 
-pub look_enough : (before : List StatementView) (head : Step) (x after last : StepState) (outer : Outer) → IsPast before head x after → KeepsFacts after last → outer ≡ outer_of_state x → outer.facts ≤ length last.facts
+pub look_enough : (before : List StatementView) (head : Step) (x after last : StepState) (outer : Checkpoint) → IsPast before head x after → KeepsFacts after last → outer ≡ checkpoint_of x → outer.facts ≤ length last.facts
 look_enough before head x after last outer e k o =
     let n = keeps_enough x last (keeps_on x after last (past_keeps before head x after e) k) in
-    let m = ap (λ (y : Outer). y.facts) o in
+    let m = ap (λ (y : Checkpoint). y.facts) o in
     omega (arith, n, m)
 
-pub look_back_is : (before : List StatementView) (head : Step) (x after last left : StepState) (outer : Outer) → IsPast before head x after → KeepsFacts after last → outer ≡ outer_of_state x → left ≡ left_for outer last → left ≡ x
-look_back_is before head x after last left outer e k o f = f ∙ ap (λ y. left_for y last) o ∙ left_back x last (keeps_on x after last (past_keeps before head x after e) k)
+pub look_back_is : (before : List StatementView) (head : Step) (x after last left : StepState) (outer : Checkpoint) → IsPast before head x after → KeepsFacts after last → outer ≡ checkpoint_of x → left ≡ restored outer last → left ≡ x
+look_back_is before head x after last left outer e k o f = f ∙ ap (λ y. restored y last) o ∙ left_back x last (keeps_on x after last (past_keeps before head x after e) k)
 
 pub still_keeps : (x left : StepState) → left ≡ x → KeepsFacts x left
 still_keeps x left e = subst (λ (y : StepState). KeepsFacts x y) (sym e) (all_stay x.facts)

@@ -18,9 +18,8 @@ use crate::numbering::{
 };
 use crate::steps::makes;
 use e_clause::{Against, Cert};
-use e_deriv::{Block, Close, Step};
-use e_literal::{Items, Obj, Scope, Sort, grown, next_objects};
-use e_text::Name;
+use e_deriv::{Block, Close, Step, copy_names};
+use e_literal::{Obj, Scope, Sort, grown, next_objects};
 use e_theorem::Statement;
 use std::alloc::{AllocError, Global};
 use std::mem;
@@ -40,12 +39,6 @@ fn with_next(
     let next = next_objects(alloc, scope, sorts)?;
     more.extend_from_slice(&next)?;
     Ok(more)
-}
-
-fn copy_names(alloc: Global, names: &[Name]) -> Result<Items<Name>, AllocError>
-    ensures { IfOk result (λ n. n ≡ names.now) }
-{
-    Ok(Items::new(Vec::from_slice(alloc, names)?))
 }
 
 fn new_cert_of(alloc: Global, kept: &[Obj], cert: &Option<Cert>) -> Result<Option<Cert>, AllocError>

@@ -49,10 +49,10 @@ pub fn look(
     match steps {
         [] => look_at_close(alloc, before, close, goal, state, flags),
         [step, steps @ ..] => {
-            let outer = state.hold();
+            let outer = state.checkpoint();
             pass(alloc, before, step, state)?;
             let mut wanted = look(alloc, before, steps, close, goal, state, flags)?;
-            state.release(outer);
+            state.restore(outer);
             look_back(alloc, before, step, state, flags, &mut wanted)?;
             Ok(wanted)
         }
@@ -161,7 +161,7 @@ fn look_inside(
         (joined_all state.old.facts lits.now) (goal_said goal.now)) }
     ensures same { OnOk result (state.new ≡ state.old) }
 {
-    let outer = state.hold();
+    let outer = state.checkpoint();
     state.open(alloc, sorts, lits)?;
     let inside = look(
         alloc,
@@ -172,7 +172,7 @@ fn look_inside(
         state,
         flags,
     )?;
-    state.release(outer);
+    state.restore(outer);
     inside.outside(alloc, state)
 }
 

@@ -3,7 +3,7 @@
 ghost use Rattle.std.specs.Prelude.{◌≡◌, ◌≤◌, ◌<◌, ◌+◌, ◌^◌, length, OnOk, IsTrue};
 ghost use Rattle.e_literal.specs.Facts.{joined_all};
 ghost use Rattle.e_deriv.specs.Fitting.{is_small};
-ghost use Rattle.e_trim.specs.inner.StepState.{outer_of_state, left_for, opened};
+ghost use Rattle.e_trim.specs.inner.StepState.{checkpoint_of, restored, opened};
 
 use e_facts::Facts;
 use e_literal::{Lit, Obj, Scope, Sort, copy, grown};
@@ -16,9 +16,9 @@ pub struct StepState {
     pub facts: Facts,
 }
 
-/// What an inner block is entered from.
+/// Where a line or an inner block is entered: the objects in scope, and how many facts there are.
 #[derive(Clone, Copy)]
-pub struct Outer {
+pub struct Checkpoint {
     pub scope: Scope,
     pub facts: usize,
 }
@@ -31,20 +31,20 @@ pub struct Goal<'a> {
 }
 
 impl StepState {
-    /// What a line, or an inner block, is entered from.
-    pub fn hold(&self) -> Outer
-        ensures { result ≡ outer_of_state self.now }
+    /// Where a line or an inner block is entered, for [`StepState::restore`] after it.
+    pub fn checkpoint(&self) -> Checkpoint
+        ensures { result ≡ checkpoint_of self.now }
     {
-        Outer {
+        Checkpoint {
             scope: self.scope,
             facts: self.facts.mark(),
         }
     }
 
-    /// Back to where it was entered: the objects and facts that came since are gone.
-    pub fn release(&mut self, outer: Outer)
+    /// What held where it was entered holds again: the objects and facts that came since are gone.
+    pub fn restore(&mut self, outer: Checkpoint)
         requires { outer.facts ≤ length self.old.facts }
-        ensures { self.new ≡ left_for outer self.old }
+        ensures { self.new ≡ restored outer self.old }
     {
         self.scope = outer.scope;
         self.facts.back_to(outer.facts);

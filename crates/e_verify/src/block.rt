@@ -46,10 +46,7 @@ pub fn verify_block(
 {
     let mut number = first;
     for step in &block.steps {
-        match verify_step(alloc, before, step, state, number) {
-            Ok(next) => number = next,
-            Err(reject) => return Err(reject),
-        }
+        number = verify_step(alloc, before, step, state, number)?;
     }
     verify_close(alloc, before, &block.close, goal, state, number)
 }
@@ -130,14 +127,10 @@ fn verify_claim(
     }
     let outer = state.checkpoint();
     let goal = Goal { made: &[], shown };
-    match verify_block(alloc, before, inner, &goal, state, number + 1) {
-        Ok(next) => {
-            state.restore(outer);
-            state.assume_all(alloc, shown)?;
-            Ok(next)
-        }
-        Err(reject) => Err(reject),
-    }
+    let next = verify_block(alloc, before, inner, &goal, state, number + 1)?;
+    state.restore(outer);
+    state.assume_all(alloc, shown)?;
+    Ok(next)
 }
 
 /// A superposition without its names and its block.
@@ -175,14 +168,10 @@ fn verify_superposed(
         return Err(Reject::Bad { step: number });
     }
     let goal = Goal { made: &[], shown };
-    match verify_block(alloc, before, inner, &goal, state, number + 1) {
-        Ok(next) => {
-            state.restore(outer);
-            state.assume_all(alloc, shown)?;
-            Ok(next)
-        }
-        Err(reject) => Err(reject),
-    }
+    let next = verify_block(alloc, before, inner, &goal, state, number + 1)?;
+    state.restore(outer);
+    state.assume_all(alloc, shown)?;
+    Ok(next)
 }
 
 /// Checks a close, with the blocks that a split has inside.
@@ -219,10 +208,7 @@ fn verify_close(
             }
             let outer = state.checkpoint();
             state.assume(alloc, lit)?;
-            let next = match verify_block(alloc, before, first, goal, state, number + 1) {
-                Ok(next) => next,
-                Err(reject) => return Err(reject),
-            };
+            let next = verify_block(alloc, before, first, goal, state, number + 1)?;
             state.restore(outer);
             state.assume_not(alloc, lit)?;
             verify_block(alloc, before, second, goal, state, next)

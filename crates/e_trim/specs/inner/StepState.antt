@@ -20,19 +20,19 @@ use Rattle.e_trim.specs.Looked.{Wants, both, of_line}
 use Rattle.e_trim.specs.Trimmed.{joins_at, makes_at, is_kept, line_at, wants_with_step}
 use Rattle.e_trim.specs.inner.Flags.{flag, inside_of, step_flags}
 use Rattle.e_trim.specs.declared.step_state.StepState.{StepState}
-use Rattle.e_trim.specs.declared.step_state.Outer.{Outer}
+use Rattle.e_trim.specs.declared.step_state.Checkpoint.{Checkpoint}
 use Rattle.e_trim.specs.declared.step_state.Goal.{Goal as CodeGoal}
 
 -- before the first line of a statement's proof
 abbrev pub start_of : StatementView → StepState
 start_of t = record { scope = scope_of t; facts = facts_of_statement t }
 
-abbrev pub outer_of_state : StepState → Outer
-outer_of_state x = record { scope = x.scope; facts = length x.facts }
+abbrev pub checkpoint_of : StepState → Checkpoint
+checkpoint_of x = record { scope = x.scope; facts = length x.facts }
 
 -- where a block was entered
-abbrev pub left_for : Outer → StepState → StepState
-left_for outer x = record { scope = outer.scope; facts = take outer.facts x.facts }
+abbrev pub restored : Checkpoint → StepState → StepState
+restored outer x = record { scope = outer.scope; facts = take outer.facts x.facts }
 
 -- with objects of these sorts in scope, and these literals for facts
 abbrev pub opened : List Sort → List Lit → StepState → StepState

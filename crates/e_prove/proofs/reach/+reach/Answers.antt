@@ -11,7 +11,7 @@ use Rattle.e_prove.proofs.LicensedLiterals.{err_map}
 use Rattle.e_prove.proofs.StopsInLists.{stop_before, stop_within, before_more}
 use Rattle.e_prove.proofs.PassedSteps.{stops_as_memory}
 use Rattle.e_prove.proofs.ReadySteps.{claim_parts, claim_lines, superposed_parts, superposed_lines, block_facts, room_of_small}
-use Rattle.e_prove.proofs.Blocks.{passed_start, step_ready, step_stops, step_passed, close_ready, close_few, close_stops, claim_stopped, superposed_stopped, superposed_refused, split_parts, split_second_ready, split_size, split_stops_first, cite_one, hence_one, make_one, apply_one, qed_one, contradiction_one}
+use Rattle.e_prove.proofs.Blocks.{passed_start, step_ready, step_stops, step_passed, close_ready, close_few, close_stops, claim_stopped, superposed_stopped, superposed_refused, split_parts, split_second_ready, split_size, split_stops_first, line_is_one, close_is_one}
 use Rattle.e_prove.proofs.ReachedSteps.{on_ok_map, memory_before, lines_fit, claim_count, superposed_count, same_state_names, step_reaches, step_here, close_reaches, close_here, step_ends, step_stops_before, claim_entered, superposed_entered, split_entered_first, split_entered_second, split_stopped_second}
 use Rattle.e_prove.proofs.reach.+reach.Goals as goal
 use Rattle.e_book.proofs.ScriptParts.{at_least}
@@ -151,26 +151,7 @@ reach-returns-clause-err t c =
 pub enter_step-unreachable-requires : goal.enter_step-unreachable-requires
 enter_step-unreachable-requires t c =
     let rest = c.requires.ready.rest in
-    let one = ap (λ s. size (step_script s rest)) c.in-Cite.is ∙ cite_one _ rest in
-    omega (arith, one, c.requires.inside, c.requires.within rest)
-
-pub enter_step-unreachable-requires-in-Hence : goal.enter_step-unreachable-requires-in-Hence
-enter_step-unreachable-requires-in-Hence t c =
-    let rest = c.requires.ready.rest in
-    let one = ap (λ s. size (step_script s rest)) c.in-Hence.is ∙ hence_one _ _ rest in
-    omega (arith, one, c.requires.inside, c.requires.within rest)
-
-pub enter_step-unreachable-requires-in-Make : goal.enter_step-unreachable-requires-in-Make
-enter_step-unreachable-requires-in-Make t c =
-    let rest = c.requires.ready.rest in
-    let one = ap (λ s. size (step_script s rest)) c.in-Make.is ∙ make_one _ _ _ rest in
-    omega (arith, one, c.requires.inside, c.requires.within rest)
-
-pub enter_step-unreachable-requires-in-Apply : goal.enter_step-unreachable-requires-in-Apply
-enter_step-unreachable-requires-in-Apply t c =
-    let rest = c.requires.ready.rest in
-    let one = ap (λ s. size (step_script s rest)) c.in-Apply.is ∙ apply_one _ _ _ _ rest in
-    omega (arith, one, c.requires.inside, c.requires.within rest)
+    omega (arith, line_is_one c.args.step.now rest c.in-Cite.is, c.requires.inside, c.requires.within rest)
 
 pub enter_step-overflow_add-number : goal.enter_step-overflow_add-number
 enter_step-overflow_add-number t c = let one = at_least (step_script c.args.step.now c.requires.ready.rest) in omega (arith, one, c.requires.ready.few)
@@ -313,11 +294,7 @@ enter_step-returns-in-Ok-clause-err t c =
 -- ---- the blocks of a split
 
 pub enter_close-unreachable-requires : goal.enter_close-unreachable-requires
-enter_close-unreachable-requires t c = let one = ap (λ k. size (close_script k)) c.in-Qed.is ∙ qed_one _ _ in omega (arith, one, c.requires.inside, c.requires.within)
-
-pub enter_close-unreachable-requires-in-Contradiction : goal.enter_close-unreachable-requires-in-Contradiction
-enter_close-unreachable-requires-in-Contradiction t c =
-    let one = ap (λ k. size (close_script k)) c.in-Contradiction.is ∙ contradiction_one _ in omega (arith, one, c.requires.inside, c.requires.within)
+enter_close-unreachable-requires t c = omega (arith, close_is_one c.args.close.now c.in-Qed.is, c.requires.inside, c.requires.within)
 
 pub enter_close-size-count-requires : goal.enter_close-size-count-requires
 enter_close-size-count-requires t c =

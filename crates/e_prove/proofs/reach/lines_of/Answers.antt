@@ -1,20 +1,20 @@
 use Rattle.std.proofs.Common.{◌∙◌, ap, arith}
 use Rattle.e_deriv.specs.Script.{script_of, step_script, size}
 use Rattle.e_prove.proofs.ReachedSteps.{one_line, claim_count, superposed_count}
-use Rattle.e_prove.proofs.Blocks.{cite_one, hence_one, make_one, apply_one}
+use Rattle.e_prove.proofs.Blocks.{line_is_one}
 use Rattle.e_prove.proofs.reach.lines_of.Goals as goal
 
 pub returns-in-Cite : goal.returns-in-Cite
-returns-in-Cite c = λ rest. ap (λ s. size (step_script s rest)) c.in-Cite.is ∙ cite_one _ rest
+returns-in-Cite c = λ rest. line_is_one c.args.step.now rest c.in-Cite.is
 
-pub returns-in-Hence : goal.returns-in-Hence
-returns-in-Hence c = λ rest. ap (λ s. size (step_script s rest)) c.in-Hence.is ∙ hence_one _ _ rest
+pub returns-in-Cite-2 : goal.returns-in-Cite-2
+returns-in-Cite-2 c = λ rest. line_is_one c.args.step.now rest c.in-Cite.is
 
-pub returns-in-Make : goal.returns-in-Make
-returns-in-Make c = λ rest. ap (λ s. size (step_script s rest)) c.in-Make.is ∙ make_one _ _ _ rest
+pub returns-in-Cite-3 : goal.returns-in-Cite-3
+returns-in-Cite-3 c = λ rest. line_is_one c.args.step.now rest c.in-Cite.is
 
-pub returns-in-Apply : goal.returns-in-Apply
-returns-in-Apply c = λ rest. ap (λ s. size (step_script s rest)) c.in-Apply.is ∙ apply_one _ _ _ _ rest
+pub returns-in-Cite-4 : goal.returns-in-Cite-4
+returns-in-Cite-4 c = λ rest. line_is_one c.args.step.now rest c.in-Cite.is
 
 pub returns-in-Claim : goal.returns-in-Claim
 returns-in-Claim c = λ rest. let is = ap (λ s. size (step_script s rest)) c.in-Claim.is ∙ claim_count c.in-Claim.shown c.in-Claim.inner rest in let same = ap (λ b. size (script_of b)) c.deref.ensures in omega (arith, is, same, c.size.ensures)

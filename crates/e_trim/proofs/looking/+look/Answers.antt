@@ -36,26 +36,26 @@ look-look-requires t c = (
   (look_rest (all_stated c.args.before.now) c.args.steps.now c.step-item.result c.args.state.now c.pass.new.state (goal_said c.args.goal.now) (close_script c.args.close.now) (record { some = c.in-len1-up.len_at_least; first = c.step-item.is; ready = c.requires.ready }) c.in_ok-pass-in-len1-up.ensures, c.requires.statements),
 )
 
-pub look-release-requires : goal.look-release-requires
-look-release-requires t c = look_enough (all_stated c.args.before.now) c.step-item.result c.args.state.now c.pass.new.state c.look.new.state c.hold-outer.result c.in_ok-pass-in-len1-up.ensures c.in_ok-wanted-in-len1-up.ensures.kept c.hold-outer.ensures
+pub look-restore-requires : goal.look-restore-requires
+look-restore-requires t c = look_enough (all_stated c.args.before.now) c.step-item.result c.args.state.now c.pass.new.state c.look.new.state c.checkpoint-outer.result c.in_ok-pass-in-len1-up.ensures c.in_ok-wanted-in-len1-up.ensures.kept c.checkpoint-outer.ensures
 
 pub look-look_back-requires : goal.look-look_back-requires
 look-look_back-requires t c = (
   omega (arith, c.decreases, step_falls c.step-item.result (steps_script (later_steps c.args.steps.now) (close_script c.args.close.now)) (steps_script c.args.steps.now (close_script c.args.close.now)) (whole_is c.args.steps.now c.step-item.result (close_script c.args.close.now) c.in-len1-up.len_at_least c.step-item.is)),
-  (subst (IsReadyToTrim (all_stated c.args.before.now) c.step-item.result) (sym (look_back_is (all_stated c.args.before.now) c.step-item.result c.args.state.now c.pass.new.state c.look.new.state c.release.new.self c.hold-outer.result c.in_ok-pass-in-len1-up.ensures c.in_ok-wanted-in-len1-up.ensures.kept c.hold-outer.ensures c.release.ensures)) (look_step_ready (all_stated c.args.before.now) c.args.steps.now c.step-item.result c.args.state.now (goal_said c.args.goal.now) (close_script c.args.close.now) (record { some = c.in-len1-up.len_at_least; first = c.step-item.is; ready = c.requires.ready })), c.requires.statements),
+  (subst (IsReadyToTrim (all_stated c.args.before.now) c.step-item.result) (sym (look_back_is (all_stated c.args.before.now) c.step-item.result c.args.state.now c.pass.new.state c.look.new.state c.restore.new.self c.checkpoint-outer.result c.in_ok-pass-in-len1-up.ensures c.in_ok-wanted-in-len1-up.ensures.kept c.checkpoint-outer.ensures c.restore.ensures)) (look_step_ready (all_stated c.args.before.now) c.args.steps.now c.step-item.result c.args.state.now (goal_said c.args.goal.now) (close_script c.args.close.now) (record { some = c.in-len1-up.len_at_least; first = c.step-item.is; ready = c.requires.ready })), c.requires.statements),
 )
 
 pub look-returns-in_ok-look_back-in-len1-up-clause-wanted : goal.look-returns-in_ok-look_back-in-len1-up-clause-wanted
 look-returns-in_ok-look_back-in-len1-up-clause-wanted t c =
-    wanted_whole (all_stated c.args.before.now) c.args.steps.now c.step-item.result c.args.state.now c.pass.new.state c.release.new.self (goal_said c.args.goal.now) (close_script c.args.close.now) c.in_ok-wanted-in-len1-up.wanted c.look_back.new.out (record { some = c.in-len1-up.len_at_least; first = c.step-item.is; ready = c.requires.ready }) c.in_ok-pass-in-len1-up.ensures (look_back_is (all_stated c.args.before.now) c.step-item.result c.args.state.now c.pass.new.state c.look.new.state c.release.new.self c.hold-outer.result c.in_ok-pass-in-len1-up.ensures c.in_ok-wanted-in-len1-up.ensures.kept c.hold-outer.ensures c.release.ensures) c.in_ok-wanted-in-len1-up.ensures.wanted c.in_ok-look_back-in-len1-up.ensures.wanted
+    wanted_whole (all_stated c.args.before.now) c.args.steps.now c.step-item.result c.args.state.now c.pass.new.state c.restore.new.self (goal_said c.args.goal.now) (close_script c.args.close.now) c.in_ok-wanted-in-len1-up.wanted c.look_back.new.out (record { some = c.in-len1-up.len_at_least; first = c.step-item.is; ready = c.requires.ready }) c.in_ok-pass-in-len1-up.ensures (look_back_is (all_stated c.args.before.now) c.step-item.result c.args.state.now c.pass.new.state c.look.new.state c.restore.new.self c.checkpoint-outer.result c.in_ok-pass-in-len1-up.ensures c.in_ok-wanted-in-len1-up.ensures.kept c.checkpoint-outer.ensures c.restore.ensures) c.in_ok-wanted-in-len1-up.ensures.wanted c.in_ok-look_back-in-len1-up.ensures.wanted
 
 pub look-returns-in_ok-look_back-in-len1-up-clause-flags : goal.look-returns-in_ok-look_back-in-len1-up-clause-flags
 look-returns-in_ok-look_back-in-len1-up-clause-flags t c =
-    flags_whole (all_stated c.args.before.now) c.args.steps.now c.step-item.result c.args.state.now c.pass.new.state c.release.new.self (goal_said c.args.goal.now) (close_script c.args.close.now) c.in_ok-wanted-in-len1-up.wanted c.args.flags.now.items c.look.new.flags.items c.look_back.new.flags.items (record { some = c.in-len1-up.len_at_least; first = c.step-item.is; ready = c.requires.ready }) c.in_ok-pass-in-len1-up.ensures (look_back_is (all_stated c.args.before.now) c.step-item.result c.args.state.now c.pass.new.state c.look.new.state c.release.new.self c.hold-outer.result c.in_ok-pass-in-len1-up.ensures c.in_ok-wanted-in-len1-up.ensures.kept c.hold-outer.ensures c.release.ensures) c.in_ok-wanted-in-len1-up.ensures.wanted c.in_ok-wanted-in-len1-up.ensures.flags
+    flags_whole (all_stated c.args.before.now) c.args.steps.now c.step-item.result c.args.state.now c.pass.new.state c.restore.new.self (goal_said c.args.goal.now) (close_script c.args.close.now) c.in_ok-wanted-in-len1-up.wanted c.args.flags.now.items c.look.new.flags.items c.look_back.new.flags.items (record { some = c.in-len1-up.len_at_least; first = c.step-item.is; ready = c.requires.ready }) c.in_ok-pass-in-len1-up.ensures (look_back_is (all_stated c.args.before.now) c.step-item.result c.args.state.now c.pass.new.state c.look.new.state c.restore.new.self c.checkpoint-outer.result c.in_ok-pass-in-len1-up.ensures c.in_ok-wanted-in-len1-up.ensures.kept c.checkpoint-outer.ensures c.restore.ensures) c.in_ok-wanted-in-len1-up.ensures.wanted c.in_ok-wanted-in-len1-up.ensures.flags
     c.in_ok-look_back-in-len1-up.ensures.flags
 
 pub look-returns-in_ok-look_back-in-len1-up-clause-kept : goal.look-returns-in_ok-look_back-in-len1-up-clause-kept
-look-returns-in_ok-look_back-in-len1-up-clause-kept t c = later_keeps c.args.state.now c.release.new.self c.look_back.new.state (look_back_is (all_stated c.args.before.now) c.step-item.result c.args.state.now c.pass.new.state c.look.new.state c.release.new.self c.hold-outer.result c.in_ok-pass-in-len1-up.ensures c.in_ok-wanted-in-len1-up.ensures.kept c.hold-outer.ensures c.release.ensures) c.in_ok-look_back-in-len1-up.ensures.kept
+look-returns-in_ok-look_back-in-len1-up-clause-kept t c = later_keeps c.args.state.now c.restore.new.self c.look_back.new.state (look_back_is (all_stated c.args.before.now) c.step-item.result c.args.state.now c.pass.new.state c.look.new.state c.restore.new.self c.checkpoint-outer.result c.in_ok-pass-in-len1-up.ensures c.in_ok-wanted-in-len1-up.ensures.kept c.checkpoint-outer.ensures c.restore.ensures) c.in_ok-look_back-in-len1-up.ensures.kept
 
 -- ---- a block
 
@@ -65,16 +65,16 @@ look_inside-look-requires t c = (
   (subst (λ d. IsReady (all_stated c.args.before.now) d c.open.new.self.scope c.open.new.self.facts (goal_said c.args.goal.now)) (sym (ap (λ xs. steps_script xs (close_script c.args.block.now.close)) c.deref.ensures.value)) (block_ready (all_stated c.args.before.now) (script_of c.args.block.now) (goal_said c.args.goal.now) c.args.sorts.now c.args.lits.now c.args.state.now c.open.new.self c.in_ok-open.ensures c.requires.ready), c.requires.statements),
 )
 
-pub look_inside-release-requires : goal.look_inside-release-requires
-look_inside-release-requires t c = block_enough c.args.sorts.now c.args.lits.now c.args.state.now c.open.new.self c.look.new.state c.hold-outer.result c.in_ok-open.ensures c.in_ok-inside.ensures.kept c.hold-outer.ensures
+pub look_inside-restore-requires : goal.look_inside-restore-requires
+look_inside-restore-requires t c = block_enough c.args.sorts.now c.args.lits.now c.args.state.now c.open.new.self c.look.new.state c.checkpoint-outer.result c.in_ok-open.ensures c.in_ok-inside.ensures.kept c.checkpoint-outer.ensures
 
 pub look_inside-returns-clause-wanted : goal.look_inside-returns-clause-wanted
 look_inside-returns-clause-wanted t c =
-    ok_map (λ (w : Wants). w ≡ wants_outside c.release.new.self.scope c.release.new.self.facts c.in_ok-inside.inside) (λ (w : Wants). w ≡ wants_outside c.args.state.now.scope c.args.state.now.facts (wants (all_stated c.args.before.now) (script_of c.args.block.now) (grown c.args.state.now.scope c.args.sorts.now) (joined_all c.args.state.now.facts c.args.lits.now) (goal_said c.args.goal.now))) c.outside.result
-    (λ w h. block_wants (all_stated c.args.before.now) (script_of c.args.block.now) (goal_said c.args.goal.now) c.args.sorts.now c.args.lits.now c.args.state.now c.open.new.self c.release.new.self c.in_ok-inside.inside w c.in_ok-open.ensures (block_back c.args.sorts.now c.args.lits.now c.args.state.now c.open.new.self c.look.new.state c.release.new.self c.hold-outer.result c.in_ok-open.ensures c.in_ok-inside.ensures.kept c.hold-outer.ensures c.release.ensures) (c.in_ok-inside.ensures.wanted ∙ ap (λ d. wants (all_stated c.args.before.now) d c.open.new.self.scope c.open.new.self.facts (goal_said c.args.goal.now)) (ap (λ xs. steps_script xs (close_script c.args.block.now.close)) c.deref.ensures.value)) h) c.outside.ensures
+    ok_map (λ (w : Wants). w ≡ wants_outside c.restore.new.self.scope c.restore.new.self.facts c.in_ok-inside.inside) (λ (w : Wants). w ≡ wants_outside c.args.state.now.scope c.args.state.now.facts (wants (all_stated c.args.before.now) (script_of c.args.block.now) (grown c.args.state.now.scope c.args.sorts.now) (joined_all c.args.state.now.facts c.args.lits.now) (goal_said c.args.goal.now))) c.outside.result
+    (λ w h. block_wants (all_stated c.args.before.now) (script_of c.args.block.now) (goal_said c.args.goal.now) c.args.sorts.now c.args.lits.now c.args.state.now c.open.new.self c.restore.new.self c.in_ok-inside.inside w c.in_ok-open.ensures (block_back c.args.sorts.now c.args.lits.now c.args.state.now c.open.new.self c.look.new.state c.restore.new.self c.checkpoint-outer.result c.in_ok-open.ensures c.in_ok-inside.ensures.kept c.checkpoint-outer.ensures c.restore.ensures) (c.in_ok-inside.ensures.wanted ∙ ap (λ d. wants (all_stated c.args.before.now) d c.open.new.self.scope c.open.new.self.facts (goal_said c.args.goal.now)) (ap (λ xs. steps_script xs (close_script c.args.block.now.close)) c.deref.ensures.value)) h) c.outside.ensures
 
 pub look_inside-returns-clause-same : goal.look_inside-returns-clause-same
-look_inside-returns-clause-same t c = on_ok c.outside.result (block_back c.args.sorts.now c.args.lits.now c.args.state.now c.open.new.self c.look.new.state c.release.new.self c.hold-outer.result c.in_ok-open.ensures c.in_ok-inside.ensures.kept c.hold-outer.ensures c.release.ensures)
+look_inside-returns-clause-same t c = on_ok c.outside.result (block_back c.args.sorts.now c.args.lits.now c.args.state.now c.open.new.self c.look.new.state c.restore.new.self c.checkpoint-outer.result c.in_ok-open.ensures c.in_ok-inside.ensures.kept c.checkpoint-outer.ensures c.restore.ensures)
 
 -- ---- back at a step
 

@@ -1,4 +1,5 @@
 use Rattle.std.proofs.Common.{rules, arith, refl, sym, ap, ◌∙◌, subst, ℕ, List}
+use Rattle.std.proofs.lemmas.Result.{err_from_is_err_and}
 use Rattle.e_theorem.specs.Statements.{all_stated}
 use Rattle.e_deriv.specs.declared.block.Close.TheViews.{the_lemmas}
 use Rattle.e_deriv.specs.Script.{script_of, step_script, close_script, Cite, Hence, Make, Apply, Claim, Superposed}
@@ -25,11 +26,13 @@ verify_block-verify_step-requires t c = (
   ),
 )
 
-pub verify_block-returns-in-Err-clause-err : goal.verify_block-returns-in-Err-clause-err
-verify_block-returns-in-Err-clause-err t c =
-    step_rejects (all_stated c.args.before.now) c.args.block.now.steps.items c.deref-step-items.result.now (close_script c.args.block.now.close) c.loop-step.step-index c.step-item.result c.loop-step.state (block_goal c.args.goal.now) c.loop-step.number
-    (verdict_at (all_stated c.args.before.now) (script_of c.args.block.now) c.args.state.now (block_goal c.args.goal.now) c.args.first) c.in-Err.reject
-    c.deref-step-items.ensures.value c.loop-step-test.true c.step-item.is c.loop-step.invariant.same c.in-Err.ensures.err
+pub verify_block-returns-in_err-number-clause-err : goal.verify_block-returns-in_err-number-clause-err
+verify_block-returns-in_err-number-clause-err t c =
+    let p = err_from_is_err_and c.from_residual.result c.from_residual.ensures.1 in
+    rw (p.1, p.2)
+    (step_rejects (all_stated c.args.before.now) c.args.block.now.steps.items c.deref-step-items.result.now (close_script c.args.block.now.close) c.loop-step.step-index c.step-item.result c.loop-step.state (block_goal c.args.goal.now) c.loop-step.number
+    (verdict_at (all_stated c.args.before.now) (script_of c.args.block.now) c.args.state.now (block_goal c.args.goal.now) c.args.first) c.in_err-number.field-0.0
+    c.deref-step-items.ensures.value c.loop-step-test.true c.step-item.is c.loop-step.invariant.same c.in_err-number.ensures.err)
 
 pub verify_block-loop-step-preserved : goal.verify_block-loop-step-preserved
 verify_block-loop-step-preserved t c =
@@ -39,11 +42,11 @@ verify_block-loop-step-preserved t c =
     let close = close_script c.args.block.now.close in
     let g = block_goal c.args.goal.now in
     record {
-      same = step_same before items seen close c.loop-step.step-index c.step-item.result c.loop-step.state c.verify_step.new.state g c.loop-step.number c.in-Ok.next
-          (verdict_at before (script_of c.args.block.now) c.args.state.now g c.args.first) c.deref-step-items.ensures.value c.loop-step-test.true c.step-item.is c.loop-step.invariant.same c.in-Ok.ensures.ok;
-      ready = step_next before items seen close c.loop-step.step-index c.step-item.result c.loop-step.state c.verify_step.new.state g c.loop-step.number c.in-Ok.next
-          c.deref-step-items.ensures.value c.loop-step-test.true c.step-item.is c.loop-step.invariant.ready c.in-Ok.ensures.ok;
-      kept = kept_on c.args.state.now c.loop-step.state c.verify_step.new.state c.loop-step.invariant.kept c.in-Ok.ensures.ok.kept;
+      same = step_same before items seen close c.loop-step.step-index c.step-item.result c.loop-step.state c.verify_step.new.state g c.loop-step.number c.in_ok-number.number
+          (verdict_at before (script_of c.args.block.now) c.args.state.now g c.args.first) c.deref-step-items.ensures.value c.loop-step-test.true c.step-item.is c.loop-step.invariant.same c.in_ok-number.ensures.ok;
+      ready = step_next before items seen close c.loop-step.step-index c.step-item.result c.loop-step.state c.verify_step.new.state g c.loop-step.number c.in_ok-number.number
+          c.deref-step-items.ensures.value c.loop-step-test.true c.step-item.is c.loop-step.invariant.ready c.in_ok-number.ensures.ok;
+      kept = kept_on c.args.state.now c.loop-step.state c.verify_step.new.state c.loop-step.invariant.kept c.in_ok-number.ensures.ok.kept;
     }
 
 pub verify_block-verify_close-requires : goal.verify_block-verify_close-requires
@@ -223,14 +226,16 @@ verify_claim-verify_block-requires t c = (
   (claim_ready (all_stated c.args.before.now) c.args.shown.now (script_of c.args.inner.now) c.args.state.now c.args.number c.requires.ready, c.requires.statements),
 )
 
-pub verify_claim-returns-in_ok-assume_all-in-Ok-clause-ok : goal.verify_claim-returns-in_ok-assume_all-in-Ok-clause-ok
-verify_claim-returns-in_ok-assume_all-in-Ok-clause-ok t c =
-    claim_done (all_stated c.args.before.now) c.args.shown.now (script_of c.args.inner.now) c.args.state.now c.verify_block.new.state c.restore.new.self c.assume_all.new.self c.checkpoint-outer.result c.args.number c.in-Ok.next
-    (sym c.are_over.ensures ∙ c.if-not-are_over.false) c.in-Ok.ensures.ok c.checkpoint-outer.ensures c.in-Ok.ensures.kept c.restore.ensures c.in_ok-assume_all-in-Ok.ensures
+pub verify_claim-returns-clause-ok : goal.verify_claim-returns-clause-ok
+verify_claim-returns-clause-ok t c =
+    claim_done (all_stated c.args.before.now) c.args.shown.now (script_of c.args.inner.now) c.args.state.now c.verify_block.new.state c.restore.new.self c.assume_all.new.self c.checkpoint-outer.result c.args.number c.in_ok-next.next
+    (sym c.are_over.ensures ∙ c.if-not-are_over.false) c.in_ok-next.ensures.ok c.checkpoint-outer.ensures c.in_ok-next.ensures.kept c.restore.ensures c.in_ok-assume_all.ensures
 
-pub verify_claim-returns-in-Err-clause-err : goal.verify_claim-returns-in-Err-clause-err
-verify_claim-returns-in-Err-clause-err t c =
-    claim_stops (all_stated c.args.before.now) c.args.shown.now (script_of c.args.inner.now) c.args.state.now c.args.number c.in-Err.reject (sym c.are_over.ensures ∙ c.if-not-are_over.false) c.in-Err.ensures.err
+pub verify_claim-returns-in_err-next-clause-err : goal.verify_claim-returns-in_err-next-clause-err
+verify_claim-returns-in_err-next-clause-err t c =
+    let p = err_from_is_err_and c.from_residual.result c.from_residual.ensures.1 in
+    rw (p.1, p.2)
+    (claim_stops (all_stated c.args.before.now) c.args.shown.now (script_of c.args.inner.now) c.args.state.now c.args.number c.in_err-next.field-0.0 (sym c.are_over.ensures ∙ c.if-not-are_over.false) c.in_err-next.ensures.err)
 
 -- ---- closes
 
@@ -353,20 +358,22 @@ verify_superposed-verify_block-requires t c =
       ),
     )
 
-pub verify_superposed-returns-in_ok-assume_all-in-Ok-clause-ok : goal.verify_superposed-returns-in_ok-assume_all-in-Ok-clause-ok
-verify_superposed-returns-in_ok-assume_all-in-Ok-clause-ok t c =
+pub verify_superposed-returns-clause-ok : goal.verify_superposed-returns-clause-ok
+verify_superposed-returns-clause-ok t c =
     let before = all_stated c.args.before.now in
     let h = c.args.superposition.now in
-    superposed_done before h.form.now h.shown.now h.certs.now (script_of c.args.inner.now) c.args.state.now c.superpose.new.state c.verify_block.new.state c.restore.new.self c.assume_all.new.self c.checkpoint-outer.result c.args.number c.in-Ok.next
-    c.in_ok-superpose.field-0 (c.in_ok-superpose.ensures.after c.if-not-branch.false) c.if-not-branch.false (c.in_ok-superpose.ensures.test before) c.in-Ok.ensures.ok c.checkpoint-outer.ensures c.in-Ok.ensures.kept c.restore.ensures
-    c.in_ok-assume_all-in-Ok.ensures
+    superposed_done before h.form.now h.shown.now h.certs.now (script_of c.args.inner.now) c.args.state.now c.superpose.new.state c.verify_block.new.state c.restore.new.self c.assume_all.new.self c.checkpoint-outer.result c.args.number c.in_ok-next.next
+    c.in_ok-superpose.field-0 (c.in_ok-superpose.ensures.after c.if-not-branch.false) c.if-not-branch.false (c.in_ok-superpose.ensures.test before) c.in_ok-next.ensures.ok c.checkpoint-outer.ensures c.in_ok-next.ensures.kept c.restore.ensures
+    c.in_ok-assume_all.ensures
 
-pub verify_superposed-returns-in-Err-clause-err : goal.verify_superposed-returns-in-Err-clause-err
-verify_superposed-returns-in-Err-clause-err t c =
+pub verify_superposed-returns-in_err-next-clause-err : goal.verify_superposed-returns-in_err-next-clause-err
+verify_superposed-returns-in_err-next-clause-err t c =
     let before = all_stated c.args.before.now in
     let h = c.args.superposition.now in
-    superposed_stops before h.form.now h.shown.now h.certs.now (script_of c.args.inner.now) c.args.state.now c.superpose.new.state c.args.number c.in_ok-superpose.field-0 c.in-Err.reject (c.in_ok-superpose.ensures.after c.if-not-branch.false)
-    c.if-not-branch.false (c.in_ok-superpose.ensures.test before) c.in-Err.ensures.err
+    let p = err_from_is_err_and c.from_residual-in_err-next.result c.from_residual-in_err-next.ensures.1 in
+    rw (p.1, p.2)
+    (superposed_stops before h.form.now h.shown.now h.certs.now (script_of c.args.inner.now) c.args.state.now c.superpose.new.state c.args.number c.in_ok-superpose.field-0 c.in_err-next.field-0.0 (c.in_ok-superpose.ensures.after c.if-not-branch.false)
+    c.if-not-branch.false (c.in_ok-superpose.ensures.test before) c.in_err-next.ensures.err)
 
 -- ---- a split
 
@@ -388,11 +395,13 @@ verify_close-verify_block-requires t c =
       ),
     )
 
-pub verify_close-returns-in-Err-clause-err : goal.verify_close-returns-in-Err-clause-err
-verify_close-returns-in-Err-clause-err t c =
+pub verify_close-returns-in_err-next-in-Cases-clause-err : goal.verify_close-returns-in_err-next-in-Cases-clause-err
+verify_close-returns-in_err-next-in-Cases-clause-err t c =
     let y = c.in-Cases in
-    first_stops (all_stated c.args.before.now) c.args.close.now y.lit y.first y.second c.deref.result.now c.args.state.now c.assume.new.self (block_goal c.args.goal.now) c.args.number c.in-Err.reject y.is c.deref.ensures c.in_ok-assume-in-Cases.ensures
-    (sym c.in_scope.ensures ∙ c.if-not-in_scope.false) c.in-Err.ensures.err
+    let p = err_from_is_err_and c.from_residual-in_err-next-in-Cases.result c.from_residual-in_err-next-in-Cases.ensures.1 in
+    rw (p.1, p.2)
+    (first_stops (all_stated c.args.before.now) c.args.close.now y.lit y.first y.second c.deref.result.now c.args.state.now c.assume.new.self (block_goal c.args.goal.now) c.args.number c.in_err-next-in-Cases.field-0.0 y.is c.deref.ensures c.in_ok-assume-in-Cases.ensures
+    (sym c.in_scope.ensures ∙ c.if-not-in_scope.false) c.in_err-next-in-Cases.ensures.err)
 
 pub verify_close-verify_block-requires-in-Cases : goal.verify_close-verify_block-requires-in-Cases
 verify_close-verify_block-requires-in-Cases t c =
@@ -400,10 +409,10 @@ verify_close-verify_block-requires-in-Cases t c =
     let before = all_stated c.args.before.now in
     let g = block_goal c.args.goal.now in
     let x = c.args.state.now in
-    let b = after_first before y.lit y.first c.deref.result.now x c.assume.new.self c.verify_block.new.state c.restore.new.self c.assume_not.new.self c.checkpoint-outer.result g c.args.number c.in-Ok.next c.deref.ensures c.in_ok-assume-in-Cases.ensures
-    c.in-Ok.ensures.ok c.checkpoint-outer.ensures c.in-Ok.ensures.kept c.restore.ensures c.in_ok-assume_not-in-Cases.ensures in (
+    let b = after_first before y.lit y.first c.deref.result.now x c.assume.new.self c.verify_block.new.state c.restore.new.self c.assume_not.new.self c.checkpoint-outer.result g c.args.number c.in_ok-next-in-Cases.next c.deref.ensures c.in_ok-assume-in-Cases.ensures
+    c.in_ok-next-in-Cases.ensures.ok c.checkpoint-outer.ensures c.in_ok-next-in-Cases.ensures.kept c.restore.ensures c.in_ok-assume_not-in-Cases.ensures in (
       search (rules, the_lemmas),
-      (second_ready before c.args.close.now y.lit y.first y.second c.deref-in-Cases.result.now x c.assume_not.new.self g c.args.number c.in-Ok.next y.is c.deref-in-Cases.ensures b c.requires.ready, c.requires.statements),
+      (second_ready before c.args.close.now y.lit y.first y.second c.deref-in-Cases.result.now x c.assume_not.new.self g c.args.number c.in_ok-next-in-Cases.next y.is c.deref-in-Cases.ensures b c.requires.ready, c.requires.statements),
     )
 
 pub verify_close-returns-in_ok-assume_not-in-Cases-clause-ok : goal.verify_close-returns-in_ok-assume_not-in-Cases-clause-ok
@@ -412,10 +421,10 @@ verify_close-returns-in_ok-assume_not-in-Cases-clause-ok t c =
     let before = all_stated c.args.before.now in
     let g = block_goal c.args.goal.now in
     let x = c.args.state.now in
-    let b = after_first before y.lit y.first c.deref.result.now x c.assume.new.self c.verify_block.new.state c.restore.new.self c.assume_not.new.self c.checkpoint-outer.result g c.args.number c.in-Ok.next c.deref.ensures c.in_ok-assume-in-Cases.ensures
-    c.in-Ok.ensures.ok c.checkpoint-outer.ensures c.in-Ok.ensures.kept c.restore.ensures c.in_ok-assume_not-in-Cases.ensures in
-    ok_as c.verify_block-in-Cases.result (verdict_at before (close_script c.args.close.now) x g c.args.number) (verdict_at before (script_of c.deref-in-Cases.result.now) c.assume_not.new.self g c.in-Ok.next)
-    (split_same before c.args.close.now y.lit y.first y.second c.deref-in-Cases.result.now x c.assume_not.new.self g c.args.number c.in-Ok.next y.is c.deref-in-Cases.ensures (sym c.in_scope.ensures ∙ c.if-not-in_scope.false) b) c.verify_block-in-Cases.ensures.ok
+    let b = after_first before y.lit y.first c.deref.result.now x c.assume.new.self c.verify_block.new.state c.restore.new.self c.assume_not.new.self c.checkpoint-outer.result g c.args.number c.in_ok-next-in-Cases.next c.deref.ensures c.in_ok-assume-in-Cases.ensures
+    c.in_ok-next-in-Cases.ensures.ok c.checkpoint-outer.ensures c.in_ok-next-in-Cases.ensures.kept c.restore.ensures c.in_ok-assume_not-in-Cases.ensures in
+    ok_as c.verify_block-in-Cases.result (verdict_at before (close_script c.args.close.now) x g c.args.number) (verdict_at before (script_of c.deref-in-Cases.result.now) c.assume_not.new.self g c.in_ok-next-in-Cases.next)
+    (split_same before c.args.close.now y.lit y.first y.second c.deref-in-Cases.result.now x c.assume_not.new.self g c.args.number c.in_ok-next-in-Cases.next y.is c.deref-in-Cases.ensures (sym c.in_scope.ensures ∙ c.if-not-in_scope.false) b) c.verify_block-in-Cases.ensures.ok
 
 pub verify_close-returns-in_ok-assume_not-in-Cases-clause-kept : goal.verify_close-returns-in_ok-assume_not-in-Cases-clause-kept
 verify_close-returns-in_ok-assume_not-in-Cases-clause-kept t c =
@@ -423,9 +432,9 @@ verify_close-returns-in_ok-assume_not-in-Cases-clause-kept t c =
     let before = all_stated c.args.before.now in
     let g = block_goal c.args.goal.now in
     let x = c.args.state.now in
-    let b = after_first before y.lit y.first c.deref.result.now x c.assume.new.self c.verify_block.new.state c.restore.new.self c.assume_not.new.self c.checkpoint-outer.result g c.args.number c.in-Ok.next c.deref.ensures c.in_ok-assume-in-Cases.ensures
-    c.in-Ok.ensures.ok c.checkpoint-outer.ensures c.in-Ok.ensures.kept c.restore.ensures c.in_ok-assume_not-in-Cases.ensures in
-    on_ok c.verify_block-in-Cases.result c.verify_block-in-Cases.ensures.kept (λ k. kept_after_first before y.lit (script_of y.first.value) x c.assume_not.new.self c.verify_block-in-Cases.new.state g c.args.number c.in-Ok.next b k)
+    let b = after_first before y.lit y.first c.deref.result.now x c.assume.new.self c.verify_block.new.state c.restore.new.self c.assume_not.new.self c.checkpoint-outer.result g c.args.number c.in_ok-next-in-Cases.next c.deref.ensures c.in_ok-assume-in-Cases.ensures
+    c.in_ok-next-in-Cases.ensures.ok c.checkpoint-outer.ensures c.in_ok-next-in-Cases.ensures.kept c.restore.ensures c.in_ok-assume_not-in-Cases.ensures in
+    on_ok c.verify_block-in-Cases.result c.verify_block-in-Cases.ensures.kept (λ k. kept_after_first before y.lit (script_of y.first.value) x c.assume_not.new.self c.verify_block-in-Cases.new.state g c.args.number c.in_ok-next-in-Cases.next b k)
 
 pub verify_close-returns-in_ok-assume_not-in-Cases-clause-err : goal.verify_close-returns-in_ok-assume_not-in-Cases-clause-err
 verify_close-returns-in_ok-assume_not-in-Cases-clause-err t c =
@@ -433,7 +442,7 @@ verify_close-returns-in_ok-assume_not-in-Cases-clause-err t c =
     let before = all_stated c.args.before.now in
     let g = block_goal c.args.goal.now in
     let x = c.args.state.now in
-    let b = after_first before y.lit y.first c.deref.result.now x c.assume.new.self c.verify_block.new.state c.restore.new.self c.assume_not.new.self c.checkpoint-outer.result g c.args.number c.in-Ok.next c.deref.ensures c.in_ok-assume-in-Cases.ensures
-    c.in-Ok.ensures.ok c.checkpoint-outer.ensures c.in-Ok.ensures.kept c.restore.ensures c.in_ok-assume_not-in-Cases.ensures in
-    err_as c.verify_block-in-Cases.result (verdict_at before (close_script c.args.close.now) x g c.args.number) (verdict_at before (script_of c.deref-in-Cases.result.now) c.assume_not.new.self g c.in-Ok.next)
-    (split_same before c.args.close.now y.lit y.first y.second c.deref-in-Cases.result.now x c.assume_not.new.self g c.args.number c.in-Ok.next y.is c.deref-in-Cases.ensures (sym c.in_scope.ensures ∙ c.if-not-in_scope.false) b) c.verify_block-in-Cases.ensures.err
+    let b = after_first before y.lit y.first c.deref.result.now x c.assume.new.self c.verify_block.new.state c.restore.new.self c.assume_not.new.self c.checkpoint-outer.result g c.args.number c.in_ok-next-in-Cases.next c.deref.ensures c.in_ok-assume-in-Cases.ensures
+    c.in_ok-next-in-Cases.ensures.ok c.checkpoint-outer.ensures c.in_ok-next-in-Cases.ensures.kept c.restore.ensures c.in_ok-assume_not-in-Cases.ensures in
+    err_as c.verify_block-in-Cases.result (verdict_at before (close_script c.args.close.now) x g c.args.number) (verdict_at before (script_of c.deref-in-Cases.result.now) c.assume_not.new.self g c.in_ok-next-in-Cases.next)
+    (split_same before c.args.close.now y.lit y.first y.second c.deref-in-Cases.result.now x c.assume_not.new.self g c.args.number c.in_ok-next-in-Cases.next y.is c.deref-in-Cases.ensures (sym c.in_scope.ensures ∙ c.if-not-in_scope.false) b) c.verify_block-in-Cases.ensures.err
