@@ -128,7 +128,7 @@ fn with_objects(
 }
 
 /// The literals of the goal of the whole proof with these objects for its made ones.
-#[tactic(auto, using(crate::proofs::Rooms::made_fits, e_literal::proofs::GrownScopes::sorts_next))]
+#[tactic(auto, using(crate::proofs::Rooms::made_fits, e_literal::proofs::Growing::sorts_next))]
 fn whole_goal_with(
     alloc: Global,
     parser: &TheoremParser,
@@ -182,7 +182,8 @@ fn needs_at_qed(
     ensures { Gives (λ l. l) result (Needs.needs_at_qed parser.now names.now) }
 {
     let objects = qed_in(alloc, &parser.in_scope, goal_made(parser), names)?;
-    goal_with(alloc, parser, objects.items())
+    let needs = goal_with(alloc, parser, objects.items())?;
+    Ok(needs)
 }
 
 /// What a line owes.
