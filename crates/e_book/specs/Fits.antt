@@ -15,7 +15,7 @@ use Rattle.e_theorem.specs.Statements.{stated}
 use Rattle.e_deriv.specs.declared.names.Names.{Names}
 use Rattle.e_deriv.specs.Script.{Script, Cite, Hence, Make, Apply, Claim, Superposed, Qed}
 use Rattle.e_deriv.specs.Script.{Contradiction, Cases, size, depth}
-use Rattle.e_deriv.specs.Lines.{theorem_at, proof_lines}
+use Rattle.e_deriv.specs.PlacedSteps.{theorem_at, proof_steps}
 use Rattle.e_deriv.specs.Naming.{named, declared_names}
 use Rattle.e_deriv.specs.Fitting.{all_objects, form_fits}
 use Rattle.e_line.specs.Limits.{most_of, most_steps, most_depth, most_facts, most_terms}
@@ -151,10 +151,10 @@ pub record Fits (known : List TitledStatement) (t : TheoremView) : Type 0 where
   pub good_given : IsTrue (list_all is_well_formed t.statement.given)
   pub good_shown : IsTrue (list_all is_well_formed t.statement.shown)
   pub good_script : IsTrue (has_good_literals t.script)
-  -- each line of the script has objects of the right sorts, all in scope where it stands, whatever
+  -- each step of the script has objects of the right sorts, all in scope where it stands, whatever
   -- its blanks are filled with; each theorem that it uses is an earlier one
   pub script : IsTrue (list_all (λ x. form_fits (stated_by known) x x.here)
-      (proof_lines (stated_by known) (stated t.statement) t.script t.script))
+      (proof_steps (stated_by known) (stated t.statement) t.script t.script))
   pub new_names : NewNamesFit (stated_by known)
       (declared_names (stated t.statement) t.names) t.script
   pub steps : size t.script ≤ most_steps

@@ -145,7 +145,7 @@ impl BlockStack {
 
     /// Whether one of them was interrupted by a claim or a superposition, whose block makes
     /// nothing.
-    #[tactic(auto, using(crate::proofs::Interrupted::any_reversed))]
+    #[tactic(auto, using(crate::proofs::grammar::Interrupted::any_reversed))]
     pub fn has_claim(&self) -> bool
         ensures { result ≡ Rattle.e_book.specs.Blocks.has_claim self.now }
     {

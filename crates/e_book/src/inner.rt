@@ -177,7 +177,7 @@ impl TheoremParser {
 
     /// The block of a superposition begins with these names and facts: the limits of steps, of
     /// depth and of facts, those of the literals that it shows, and that of monomials.
-    #[tactic(auto, using(crate::proofs::BlockBegins::begun_with_copies, crate::proofs::BlockBegins::few_inside))]
+    #[tactic(auto, using(crate::proofs::grammar::BlockBegins::begun_with_copies, crate::proofs::grammar::BlockBegins::few_inside))]
     fn begin_copies(
         &mut self,
         alloc: Global,
@@ -208,7 +208,7 @@ impl TheoremParser {
     }
 
     /// A split: its literal, and then the limits.
-    #[tactic(auto, using(crate::proofs::BlockBegins::begun_with_lit, crate::proofs::BlockBegins::few_inside, crate::proofs::BlockBegins::split_few))]
+    #[tactic(auto, using(crate::proofs::grammar::BlockBegins::begun_with_lit, crate::proofs::grammar::BlockBegins::few_inside, crate::proofs::grammar::BlockBegins::split_few))]
     pub(crate) fn on_cases(&mut self, alloc: Global, raw: &RawLit) -> Result<(), LineError>
         requires { FitsScope self.old }
         ensures value { Moves result self.new (split self.old raw.now) }
@@ -278,7 +278,7 @@ impl TheoremParser {
 
     /// The open block is closed inside the one around it. After the second block of a split the
     /// answer is the split, which closes the block around too.
-    #[tactic(auto, using(crate::proofs::Interrupted::emptied))]
+    #[tactic(auto, using(crate::proofs::grammar::Interrupted::emptied))]
     fn close_inside(
         &mut self,
         alloc: Global,
@@ -352,7 +352,7 @@ impl TheoremParser {
 
     /// The block of a claim is closed: the limits of facts and of monomials, and the claim is a
     /// step of the block around.
-    #[tactic(auto, using(e_deriv::proofs::Scripts::plain_steps, crate::proofs::Interrupted::resumed_with))]
+    #[tactic(auto, using(e_deriv::proofs::Scripts::plain_steps, crate::proofs::grammar::Interrupted::resumed_with))]
     fn end_claim(
         &mut self,
         mut around: Saved,
@@ -379,7 +379,7 @@ impl TheoremParser {
 
     /// The block of a superposition is closed: the limits of facts and of monomials, and the
     /// superposition is a step of the block around.
-    #[tactic(auto, using(e_deriv::proofs::Scripts::plain_steps, crate::proofs::Interrupted::resumed_with))]
+    #[tactic(auto, using(e_deriv::proofs::Scripts::plain_steps, crate::proofs::grammar::Interrupted::resumed_with))]
     fn end_superposition(
         &mut self,
         alloc: Global,

@@ -91,7 +91,7 @@ impl Steps {
     }
 
     /// The block with these steps, closed by this line.
-    #[tactic(auto, using(crate::proofs::PlainSteps::all_plain))]
+    #[tactic(auto, using(crate::proofs::canonical::PlainSteps::all_plain))]
     pub fn into_block(self, alloc: Global, close: CloseLine) -> Block
         ensures { script_of result ≡ all_before self (script_of_close close) }
     {

@@ -10,8 +10,8 @@ use Rattle.e_line.specs.Reading.{◌>>=◌, first_title, end_at, names_of}
 use Rattle.e_text.specs.Numerals.{number_of}
 use Rattle.e_line.specs.Sums.{term_of}
 use Rattle.e_line.specs.Literals.{lit_of, diagram_lit_of}
-use Rattle.e_line.proofs.Bound.{bind_ok, ok_is, read_ok}
-use Rattle.e_line.proofs.Choices.{either, passed}
+use Rattle.e_line.proofs.base.Bound.{bind_ok, ok_is, read_ok}
+use Rattle.e_line.proofs.base.Choices.{either, passed}
 use Rattle.e_cert.specs.declared.cert_line.RawRow.{RawRow}
 use Rattle.e_cert.specs.declared.cert_line.RawRow.TheVariants as rows
 use Rattle.e_cert.specs.declared.cert_line.CertLine.{CertLine}

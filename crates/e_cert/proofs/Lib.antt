@@ -1,3 +1,3 @@
-pub mod GoodKept
+pub mod FormsOfCertificates
 pub mod CertLineLits
-pub mod GoodCertLines
+pub mod FormsOfCertLines

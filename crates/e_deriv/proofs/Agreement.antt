@@ -20,88 +20,88 @@ use Rattle.e_theorem.specs.Choice.{fills, is_choice, IsAllowedChoice}
 use Rattle.e_deriv.specs.Script.{Script, Cite, Hence, Make, Apply, Claim, Superposed, Qed, Contradiction, Cases}
 use Rattle.e_deriv.specs.Parts.{rest_of, inner_of, args_of, written, filled_in, filled_by}
 use Rattle.e_deriv.specs.Goal.{Goal, goal_of, facts_of_statement, goal_of_statement}
-use Rattle.e_deriv.specs.Lines.{Line, line, lines, theorem_at, proof_lines}
+use Rattle.e_deriv.specs.PlacedSteps.{PlacedStep, placed_step, placed_steps, theorem_at, proof_steps}
 use Rattle.e_deriv.specs.Steps.{fits, needs, are_over, is_applied}
 use Rattle.e_deriv.specs.Proves.{Proves, IsProof}
 use Rattle.e_deriv.specs.Licensed.{AllLicensed}
-use Rattle.e_deriv.specs.Certified.{is_certified, certs_of, certified_beside, Certified}
+use Rattle.e_deriv.specs.Certified.{is_certified, certs_of, other_checks, Certified}
 use Rattle.e_deriv.proofs.Choices.{written_again, no_blank_again, fills_again, least_of_good}
 
 -- ---- lists of lines, one after the other
 
-pub both_licensed : (before : List StatementView) (xs ys : List Line) → AllLicensed before xs → AllLicensed before ys → AllLicensed before (xs ++ ys)
+pub both_licensed : (before : List StatementView) (xs ys : List PlacedStep) → AllLicensed before xs → AllLicensed before ys → AllLicensed before (xs ++ ys)
 both_licensed before [] ys h k = k
 both_licensed before (x ∷ xs) ys h k = (h.0, both_licensed before xs ys h.1 k)
 
-pub first_licensed : (before : List StatementView) (xs ys : List Line) → AllLicensed before (xs ++ ys) → AllLicensed before xs
+pub first_licensed : (before : List StatementView) (xs ys : List PlacedStep) → AllLicensed before (xs ++ ys) → AllLicensed before xs
 first_licensed before [] ys h = tt
 first_licensed before (x ∷ xs) ys h = (h.0, first_licensed before xs ys h.1)
 
-pub second_licensed : (before : List StatementView) (xs ys : List Line) → AllLicensed before (xs ++ ys) → AllLicensed before ys
+pub second_licensed : (before : List StatementView) (xs ys : List PlacedStep) → AllLicensed before (xs ++ ys) → AllLicensed before ys
 second_licensed before [] ys h = h
 second_licensed before (x ∷ xs) ys h = second_licensed before xs ys h.1
 
 -- ---- one line
 
 -- what the test of a line says
-record Parts (before : List StatementView) (x : Line) (more : List Line) : Type 0 where
+record Parts (before : List StatementView) (x : PlacedStep) (more : List PlacedStep) : Type 0 where
   form : IsTrue (fits before x)
   certs : IsTrue (certify_all x.scope x.facts (needs before x) (certs_of x.here))
-  beside : IsTrue (certified_beside x.here x.scope x.facts)
+  others : IsTrue (other_checks x.here x.scope x.facts)
   rest : IsTrue (list_all (is_certified before) more)
 
-parts_of : (before : List StatementView) (x : Line) (rest : List Line) → list_all (is_certified before) (x ∷ rest) ≡ true → Parts before x rest
+parts_of : (before : List StatementView) (x : PlacedStep) (rest : List PlacedStep) → list_all (is_certified before) (x ∷ rest) ≡ true → Parts before x rest
 parts_of before x rest h =
     let c = certify_all x.scope x.facts (needs before x) (certs_of x.here) in
-    let b = certified_beside x.here x.scope x.facts in
+    let b = other_checks x.here x.scope x.facts in
     let r = list_all (is_certified before) rest in
     let here = and_left (fits before x && (c && b)) r h in
     let both = and_right (fits before x) (c && b) here in
-    record { form = and_left (fits before x) (c && b) here; certs = and_left c b both; beside = and_right c b both; rest = and_right (fits before x && (c && b)) r h }
+    record { form = and_left (fits before x) (c && b) here; certs = and_left c b both; others = and_right c b both; rest = and_right (fits before x && (c && b)) r h }
 
 -- ---- certified lines are a proof
 
 proves_of_certified : (before : List StatementView) (d : Script) (s : Scope) (facts : List Lit) (goal : Goal) →
-    list_all (is_certified before) (lines before d d s facts goal) ≡ true → Proves before s facts goal d
-unfolding lines Proves
+    list_all (is_certified before) (placed_steps before d d s facts goal) ≡ true → Proves before s facts goal d
+unfolding placed_steps Proves
 proves_of_certified before (Cite by rest) s facts goal h =
-    let x = line (Cite by rest) (Cite by rest) s facts goal in
-    let q = parts_of before x (lines before rest rest s (joined facts by.lit) goal) h in
-    (q.form, q.beside, proves_of_certified before rest s (joined facts by.lit) goal q.rest)
+    let x = placed_step (Cite by rest) (Cite by rest) s facts goal in
+    let q = parts_of before x (placed_steps before rest rest s (joined facts by.lit) goal) h in
+    (q.form, q.others, proves_of_certified before rest s (joined facts by.lit) goal q.rest)
 proves_of_certified before (Hence lit None rest) s facts goal h =
-    let x = line (Hence lit None rest) (Hence lit None rest) s facts goal in
-    let q = parts_of before x (lines before rest rest s (joined facts lit) goal) h in
+    let x = placed_step (Hence lit None rest) (Hence lit None rest) s facts goal in
+    let q = parts_of before x (placed_steps before rest rest s (joined facts lit) goal) h in
     absurd (true≢false (sym q.certs))
 proves_of_certified before (Hence lit (Some cert) rest) s facts goal h =
-    let x = line (Hence lit (Some cert) rest) (Hence lit (Some cert) rest) s facts goal in
-    let q = parts_of before x (lines before rest rest s (joined facts lit) goal) h in
+    let x = placed_step (Hence lit (Some cert) rest) (Hence lit (Some cert) rest) s facts goal in
+    let q = parts_of before x (placed_steps before rest rest s (joined facts lit) goal) h in
     (q.form, (all_allowed_of_certified s facts (needs before x) (certs_of x.here) q.certs).0, proves_of_certified before rest s (joined facts lit) goal q.rest)
 proves_of_certified before (Make form names certs rest) s facts goal h =
-    let x = line (Make form names certs rest) (Make form names certs rest) s facts goal in
+    let x = placed_step (Make form names certs rest) (Make form names certs rest) s facts goal in
     let after = joined_all facts (gives_of_construction form s) in
-    let q = parts_of before x (lines before rest rest (grown s (sorts_made form)) after goal) h in
+    let q = parts_of before x (placed_steps before rest rest (grown s (sorts_made form)) after goal) h in
     (q.form, all_allowed_of_certified s facts (needs before x) certs q.certs, proves_of_certified before rest (grown s (sorts_made form)) after goal q.rest)
 proves_of_certified before (Apply theorem args names certs rest) s facts goal h =
-    let x = line (Apply theorem args names certs rest) (Apply theorem args names certs rest) s facts goal in
+    let x = placed_step (Apply theorem args names certs rest) (Apply theorem args names certs rest) s facts goal in
     let t = theorem_at before theorem in
     let after = joined_all facts (gives_of_use t (written args) s) in
-    let q = parts_of before x (lines before rest rest (grown s t.made) after goal) h in
-    (q.beside, q.form, all_allowed_of_certified s facts (needs before x) certs q.certs, proves_of_certified before rest (grown s t.made) after goal q.rest)
+    let q = parts_of before x (placed_steps before rest rest (grown s t.made) after goal) h in
+    (q.others, q.form, all_allowed_of_certified s facts (needs before x) certs q.certs, proves_of_certified before rest (grown s t.made) after goal q.rest)
 proves_of_certified before (Claim shown inner rest) s facts goal h =
-    let x = line (Claim shown inner rest) (Claim shown inner rest) s facts goal in
-    let one = lines before inner inner s facts (goal_of shown) in
-    let other = lines before rest rest s (joined_all facts shown) goal in
+    let x = placed_step (Claim shown inner rest) (Claim shown inner rest) s facts goal in
+    let one = placed_steps before inner inner s facts (goal_of shown) in
+    let other = placed_steps before rest rest s (joined_all facts shown) goal in
     let q = parts_of before x (one ++ other) h in (
       q.form,
       proves_of_certified before inner s facts (goal_of shown) (all_left (is_certified before) one other q.rest),
       proves_of_certified before rest s (joined_all facts shown) goal (all_right (is_certified before) one other q.rest),
     )
 proves_of_certified before (Superposed form names shown certs inner rest) s facts goal h =
-    let x = line (Superposed form names shown certs inner rest) (Superposed form names shown certs inner rest) s facts goal in
+    let x = placed_step (Superposed form names shown certs inner rest) (Superposed form names shown certs inner rest) s facts goal in
     let g = grown s superposing.sorts_copied in
     let given = joined_all facts (superposing.gives_of_superposition form s) in
-    let one = lines before inner inner g given (goal_of shown) in
-    let other = lines before rest rest s (joined_all facts shown) goal in
+    let one = placed_steps before inner inner g given (goal_of shown) in
+    let other = placed_steps before rest rest s (joined_all facts shown) goal in
     let q = parts_of before x (one ++ other) h in (
       and_left (superposing.fits_superposition form s) (are_over s shown) q.form,
       all_allowed_of_certified s facts (needs before x) certs q.certs,
@@ -110,19 +110,19 @@ proves_of_certified before (Superposed form names shown certs inner rest) s fact
       proves_of_certified before rest s (joined_all facts shown) goal (all_right (is_certified before) one other q.rest),
     )
 proves_of_certified before (Qed objects certs) s facts goal h =
-    let x = line (Qed objects certs) (Qed objects certs) s facts goal in
+    let x = placed_step (Qed objects certs) (Qed objects certs) s facts goal in
     let q = parts_of before x [] h in
     (q.form, all_allowed_of_certified s facts (needs before x) certs q.certs)
 proves_of_certified before (Contradiction None) s facts goal h =
-    let q = parts_of before (line (Contradiction None) (Contradiction None) s facts goal) [] h in
-    absurd (true≢false (sym q.beside))
+    let q = parts_of before (placed_step (Contradiction None) (Contradiction None) s facts goal) [] h in
+    absurd (true≢false (sym q.others))
 proves_of_certified before (Contradiction (Some a)) s facts goal h =
-    let q = parts_of before (line (Contradiction (Some a)) (Contradiction (Some a)) s facts goal) [] h in
-    contradictory_of_certified s facts a q.beside
+    let q = parts_of before (placed_step (Contradiction (Some a)) (Contradiction (Some a)) s facts goal) [] h in
+    contradictory_of_certified s facts a q.others
 proves_of_certified before (Cases lit first second) s facts goal h =
-    let x = line (Cases lit first second) (Cases lit first second) s facts goal in
-    let one = lines before first first s (joined facts lit) goal in
-    let other = lines before second second s (joined facts (negation lit)) goal in
+    let x = placed_step (Cases lit first second) (Cases lit first second) s facts goal in
+    let one = placed_steps before first first s (joined facts lit) goal in
+    let other = placed_steps before second second s (joined facts (negation lit)) goal in
     let q = parts_of before x (one ++ other) h in (
       q.form,
       proves_of_certified before first s (joined facts lit) goal (all_left (is_certified before) one other q.rest),
@@ -139,9 +139,9 @@ applied_again before theorem s pattern args h =
     and_from low (is_choice t s (filled_in args) args) (and_left low (is_choice t s pattern args) h)
     (and_from (fills (filled_in args) args) (are_arguments t s args) (fills_again args) (and_right (fills pattern args) (are_arguments t s args) (and_right low (is_choice t s pattern args) h)))
 
-proves_of_licensed : (before : List StatementView) (d f : Script) (s : Scope) (facts : List Lit) (goal : Goal) → AllLicensed before (lines before d f s facts goal) → Proves before s facts goal (filled_by d f)
-unfolding lines Proves filled_by
-proves_of_licensed before (Cite by rest) f s facts goal h = (h.0.fits, h.0.beside, proves_of_licensed before rest (rest_of f) s (joined facts by.lit) goal h.1)
+proves_of_licensed : (before : List StatementView) (d f : Script) (s : Scope) (facts : List Lit) (goal : Goal) → AllLicensed before (placed_steps before d f s facts goal) → Proves before s facts goal (filled_by d f)
+unfolding placed_steps Proves filled_by
+proves_of_licensed before (Cite by rest) f s facts goal h = (h.0.fits, h.0.others, proves_of_licensed before rest (rest_of f) s (joined facts by.lit) goal h.1)
 proves_of_licensed before (Hence lit cert rest) f s facts goal h = (h.0.fits, h.0.allowed.0, proves_of_licensed before rest (rest_of f) s (joined facts lit) goal h.1)
 proves_of_licensed before (Make form names certs rest) f s facts goal h =
     (h.0.fits, h.0.allowed, proves_of_licensed before rest (rest_of f) (grown s (sorts_made form)) (joined_all facts (gives_of_construction form s)) goal h.1)
@@ -156,8 +156,8 @@ proves_of_licensed before (Apply theorem pattern names certs rest) f s facts goa
           (proves_of_licensed before rest (rest_of f) (grown s t.made) (joined_all facts (gives_of_use t args s)) goal h.1),
     )
 proves_of_licensed before (Claim shown inner rest) f s facts goal h =
-    let one = lines before inner (inner_of f) s facts (goal_of shown) in
-    let other = lines before rest (rest_of f) s (joined_all facts shown) goal in (
+    let one = placed_steps before inner (inner_of f) s facts (goal_of shown) in
+    let other = placed_steps before rest (rest_of f) s (joined_all facts shown) goal in (
       h.0.fits,
       proves_of_licensed before inner (inner_of f) s facts (goal_of shown) (first_licensed before one other h.1),
       proves_of_licensed before rest (rest_of f) s (joined_all facts shown) goal (second_licensed before one other h.1),
@@ -165,8 +165,8 @@ proves_of_licensed before (Claim shown inner rest) f s facts goal h =
 proves_of_licensed before (Superposed form names shown certs inner rest) f s facts goal h =
     let g = grown s superposing.sorts_copied in
     let given = joined_all facts (superposing.gives_of_superposition form s) in
-    let one = lines before inner (inner_of f) g given (goal_of shown) in
-    let other = lines before rest (rest_of f) s (joined_all facts shown) goal in (
+    let one = placed_steps before inner (inner_of f) g given (goal_of shown) in
+    let other = placed_steps before rest (rest_of f) s (joined_all facts shown) goal in (
       and_left (superposing.fits_superposition form s) (are_over s shown) h.0.fits,
       h.0.allowed,
       and_right (superposing.fits_superposition form s) (are_over s shown) h.0.fits,
@@ -174,10 +174,10 @@ proves_of_licensed before (Superposed form names shown certs inner rest) f s fac
       proves_of_licensed before rest (rest_of f) s (joined_all facts shown) goal (second_licensed before one other h.1),
     )
 proves_of_licensed before (Qed objects certs) f s facts goal h = (h.0.fits, h.0.allowed)
-proves_of_licensed before (Contradiction against) f s facts goal h = h.0.beside
+proves_of_licensed before (Contradiction against) f s facts goal h = h.0.others
 proves_of_licensed before (Cases lit first second) f s facts goal h =
-    let one = lines before first (inner_of f) s (joined facts lit) goal in
-    let other = lines before second (rest_of f) s (joined facts (negation lit)) goal in (
+    let one = placed_steps before first (inner_of f) s (joined facts lit) goal in
+    let other = placed_steps before second (rest_of f) s (joined facts (negation lit)) goal in (
       h.0.fits,
       proves_of_licensed before first (inner_of f) s (joined facts lit) goal (first_licensed before one other h.1),
       proves_of_licensed before second (rest_of f) s (joined facts (negation lit)) goal (second_licensed before one other h.1),
@@ -185,38 +185,38 @@ proves_of_licensed before (Cases lit first second) f s facts goal h =
 
 -- ---- each line of a proof is licensed
 
-licensed_of_proves : (before : List StatementView) (d : Script) (s : Scope) (facts : List Lit) (goal : Goal) → Proves before s facts goal d → AllLicensed before (lines before d d s facts goal)
-unfolding lines Proves
-licensed_of_proves before (Cite by rest) s facts goal h = (record { fits = h.0; allowed = tt; beside = h.1 }, licensed_of_proves before rest s (joined facts by.lit) goal h.2)
-licensed_of_proves before (Hence lit cert rest) s facts goal h = (record { fits = h.0; allowed = (h.1, tt); beside = tt }, licensed_of_proves before rest s (joined facts lit) goal h.2)
+licensed_of_proves : (before : List StatementView) (d : Script) (s : Scope) (facts : List Lit) (goal : Goal) → Proves before s facts goal d → AllLicensed before (placed_steps before d d s facts goal)
+unfolding placed_steps Proves
+licensed_of_proves before (Cite by rest) s facts goal h = (record { fits = h.0; allowed = tt; others = h.1 }, licensed_of_proves before rest s (joined facts by.lit) goal h.2)
+licensed_of_proves before (Hence lit cert rest) s facts goal h = (record { fits = h.0; allowed = (h.1, tt); others = tt }, licensed_of_proves before rest s (joined facts lit) goal h.2)
 licensed_of_proves before (Make form names certs rest) s facts goal h =
-    (record { fits = h.0; allowed = h.1; beside = tt }, licensed_of_proves before rest (grown s (sorts_made form)) (joined_all facts (gives_of_construction form s)) goal h.2)
+    (record { fits = h.0; allowed = h.1; others = tt }, licensed_of_proves before rest (grown s (sorts_made form)) (joined_all facts (gives_of_construction form s)) goal h.2)
 licensed_of_proves before (Apply theorem args names certs rest) s facts goal h =
     let t = theorem_at before theorem in
     let good : IsAllowedChoice t s facts args (written args) = record { is_choice = and_right (ltb theorem (length before)) (is_choice t s args (written args)) h.1; allowed = h.2 } in (
-      record { fits = h.1; allowed = h.2; beside = least_of_good t s facts args (written args) h.0 good },
+      record { fits = h.1; allowed = h.2; others = least_of_good t s facts args (written args) h.0 good },
       licensed_of_proves before rest (grown s t.made) (joined_all facts (gives_of_use t (written args) s)) goal h.3,
     )
 licensed_of_proves before (Claim shown inner rest) s facts goal h =
-    let one = lines before inner inner s facts (goal_of shown) in
-    let other = lines before rest rest s (joined_all facts shown) goal in (
-      record { fits = h.0; allowed = tt; beside = tt },
+    let one = placed_steps before inner inner s facts (goal_of shown) in
+    let other = placed_steps before rest rest s (joined_all facts shown) goal in (
+      record { fits = h.0; allowed = tt; others = tt },
       both_licensed before one other (licensed_of_proves before inner s facts (goal_of shown) h.1) (licensed_of_proves before rest s (joined_all facts shown) goal h.2),
     )
 licensed_of_proves before (Superposed form names shown certs inner rest) s facts goal h =
     let g = grown s superposing.sorts_copied in
     let given = joined_all facts (superposing.gives_of_superposition form s) in
-    let one = lines before inner inner g given (goal_of shown) in
-    let other = lines before rest rest s (joined_all facts shown) goal in (
-      record { fits = and_from (superposing.fits_superposition form s) (are_over s shown) h.0 h.2; allowed = h.1; beside = tt },
+    let one = placed_steps before inner inner g given (goal_of shown) in
+    let other = placed_steps before rest rest s (joined_all facts shown) goal in (
+      record { fits = and_from (superposing.fits_superposition form s) (are_over s shown) h.0 h.2; allowed = h.1; others = tt },
       both_licensed before one other (licensed_of_proves before inner g given (goal_of shown) h.3) (licensed_of_proves before rest s (joined_all facts shown) goal h.4),
     )
-licensed_of_proves before (Qed objects certs) s facts goal h = (record { fits = h.0; allowed = h.1; beside = tt }, tt)
-licensed_of_proves before (Contradiction against) s facts goal h = (record { fits = refl; allowed = tt; beside = h }, tt)
+licensed_of_proves before (Qed objects certs) s facts goal h = (record { fits = h.0; allowed = h.1; others = tt }, tt)
+licensed_of_proves before (Contradiction against) s facts goal h = (record { fits = refl; allowed = tt; others = h }, tt)
 licensed_of_proves before (Cases lit first second) s facts goal h =
-    let one = lines before first first s (joined facts lit) goal in
-    let other = lines before second second s (joined facts (negation lit)) goal in (
-      record { fits = h.0; allowed = tt; beside = tt },
+    let one = placed_steps before first first s (joined facts lit) goal in
+    let other = placed_steps before second second s (joined facts (negation lit)) goal in (
+      record { fits = h.0; allowed = tt; others = tt },
       both_licensed before one other (licensed_of_proves before first s (joined facts lit) goal h.1) (licensed_of_proves before second s (joined facts (negation lit)) goal h.2),
     )
 
@@ -225,8 +225,8 @@ licensed_of_proves before (Cases lit first second) s facts goal h =
 pub proof_of_certified : (before : List StatementView) (t : StatementView) (d : Script) → Certified before t d → IsProof before t d
 proof_of_certified before t d h = proves_of_certified before d (scope_of t) (facts_of_statement t) (goal_of_statement t) h
 
-pub proof_of_licensed : (before : List StatementView) (t : StatementView) (d f : Script) → AllLicensed before (proof_lines before t d f) → IsProof before t (filled_by d f)
+pub proof_of_licensed : (before : List StatementView) (t : StatementView) (d f : Script) → AllLicensed before (proof_steps before t d f) → IsProof before t (filled_by d f)
 proof_of_licensed before t d f h = proves_of_licensed before d f (scope_of t) (facts_of_statement t) (goal_of_statement t) h
 
-pub licensed_of_proof : (before : List StatementView) (t : StatementView) (d : Script) → IsProof before t d → AllLicensed before (proof_lines before t d d)
+pub licensed_of_proof : (before : List StatementView) (t : StatementView) (d : Script) → IsProof before t d → AllLicensed before (proof_steps before t d d)
 licensed_of_proof before t d h = licensed_of_proves before d (scope_of t) (facts_of_statement t) (goal_of_statement t) h

@@ -25,12 +25,12 @@ use Rattle.e_clause.specs.Instance.{Inst}
 use Rattle.e_deriv.specs.declared.stop.Wanted.TheVariants.{Literal, Contradiction as AContradiction}
 use Rattle.e_deriv.specs.declared.names.Names.{Names}
 use Rattle.e_deriv.specs.Script.{Script, Cite, Hence, Make, Apply, Claim, Qed, Contradiction, Cases, size, depth, erased}
-use Rattle.e_deriv.specs.Lines.{line, lines}
+use Rattle.e_deriv.specs.PlacedSteps.{placed_step, placed_steps}
 use Rattle.e_deriv.specs.Goal.{goal_of_statement}
 use Rattle.e_deriv.specs.Licensed.{IsFirstUnlicensed}
 use Rattle.e_deriv.specs.Refused.{IsRefused}
 use Rattle.e_deriv.specs.Certified.{Certified, verdict}
-use Rattle.e_deriv.specs.Naming.{names_lines, declared_names}
+use Rattle.e_deriv.specs.Naming.{names_of_steps, declared_names}
 
 abbrev point : ℕ → Obj
 point n = obj Point n
@@ -58,24 +58,24 @@ three_lines = refl
 
 -- each of the three lines is certified
 four_certified : Certified [] four derivation
-unfolding lines joined Inst table incidence
+unfolding placed_steps joined Inst table incidence
 four_certified = refl
 
 four_verified : verdict [] four derivation ≡ Ok 4
-unfolding lines joined Inst table incidence
+unfolding placed_steps joined Inst table incidence
 four_verified = refl
 
 -- a script's hence has no certificate
 bare_at_two : verdict [] four (erased derivation) ≡ Err 2
-unfolding lines joined Inst table incidence erased
+unfolding placed_steps joined Inst table incidence erased
 bare_at_two = refl
 
 -- with one premise less the first line is not licensed, and it lacks the literal cited
 one_less_stops : IsFirstUnlicensed [] one_less (erased derivation) 1 (Literal (between 0 1 3))
-unfolding lines joined Inst table incidence erased
+unfolding placed_steps joined Inst table incidence erased
 one_less_stops =
     record {
-      line = line (erased derivation) (erased derivation) (record { points = 4; lines = 0; circles = 0 }) (between 0 1 2 ∷ []) (goal_of_statement one_less);
+      line = placed_step (erased derivation) (erased derivation) (record { points = 4; lines = 0; circles = 0 }) (between 0 1 2 ∷ []) (goal_of_statement one_less);
       context = record { filled = erased derivation; place = 0; number = refl; at = refl; earlier = tt };
       lacks = (refl, refl);
     }
@@ -103,12 +103,12 @@ abbrev made_derivation : Script
 made_derivation = made_between (Plain Fact ∷ []) (Plain Fact ∷ Plain Fact ∷ Plain Fact ∷ [])
 
 halfway_certified : Certified [] (halfway apart_points) made_derivation
-unfolding lines joined shape_row
+unfolding placed_steps joined shape_row
 halfway_certified = refl
 
 -- a construction has one certificate for each of its needs
 one_less_certificate : verdict [] (halfway apart_points) (made_between (Plain Fact ∷ []) (Plain Fact ∷ Plain Fact ∷ [])) ≡ Err 2
-unfolding lines joined shape_row
+unfolding placed_steps joined shape_row
 one_less_certificate = refl
 
 -- the points are `a` and `b`, and `c` is the statement's name of the point between them
@@ -116,11 +116,11 @@ abbrev names_of_halfway : Names
 names_of_halfway = record { points = (97 ∷ []) ∷ (98 ∷ []) ∷ (99 ∷ []) ∷ []; lines = []; circles = [] }
 
 -- in the proof the name of the statement's made point is not in scope; each new name is in scope after its line
-three_names : names_lines [] (declared_names (halfway apart_points) names_of_halfway) made_derivation ≡
+three_names : names_of_steps [] (declared_names (halfway apart_points) names_of_halfway) made_derivation ≡
     record { points = (97 ∷ []) ∷ (98 ∷ []) ∷ []; lines = []; circles = [] }
     ∷ record { points = (97 ∷ []) ∷ (98 ∷ []) ∷ []; lines = (109 ∷ []) ∷ []; circles = [] }
     ∷ record { points = (97 ∷ []) ∷ (98 ∷ []) ∷ (101 ∷ []) ∷ []; lines = (109 ∷ []) ∷ []; circles = [] } ∷ []
-unfolding names_lines shape_row
+unfolding names_of_steps shape_row
 three_names = refl
 
 -- ---- no facts do not contradict each other
@@ -137,10 +137,10 @@ agree (inr u) = u.fails (λ t. 1) refl refl
 
 -- a contradiction without facts is refused at line 1, and any value of right from 1 on shows it
 nothing_refuses : IsRefused [] nothing (Contradiction None) 1 AContradiction (Some ((Right, 1) ∷ []))
-unfolding lines
+unfolding placed_steps
 nothing_refuses =
     record {
-      line = line (Contradiction None) (Contradiction None) no_scope [] (goal_of_statement nothing);
+      line = placed_step (Contradiction None) (Contradiction None) no_scope [] (goal_of_statement nothing);
       context = record { filled = Contradiction None; place = 0; number = refl; at = refl; earlier = tt };
       lacks = agree;
       shown = record { in_order = refl; of_step = λ t. refl; counterexample = record { is_admissible = refl; facts_hold = refl; wanted_fails = refl } };
@@ -162,7 +162,7 @@ abbrev split : Script
 split = Cases on_line (Qed [] (Plain Fact ∷ [])) (Contradiction (Some (Clash on_line)))
 
 split_certified : Certified [] stands_on split
-unfolding lines joined
+unfolding placed_steps joined
 split_certified = refl
 
 three_lines_of_a_split : size split ≡ 3
@@ -175,7 +175,7 @@ two_deep = refl
 
 -- the first block has the literal for a fact, not its negation
 no_clash_in_the_first : verdict [] stands_on (Cases on_line (Contradiction (Some (Clash on_line))) (Qed [] (Plain Fact ∷ []))) ≡ Err 2
-unfolding lines joined
+unfolding placed_steps joined
 no_clash_in_the_first = refl
 
 -- a claim whose block makes a point between the others
@@ -191,17 +191,17 @@ on_one_line =
     record { declared = Point ∷ Point ∷ Line ∷ []; given = apart (point 0) (point 1) ∷ on 0 0 ∷ on 1 0 ∷ []; made = []; shown = two_on_line }
 
 claim_certified : Certified [] on_one_line (with_point two_on_line (Qed [] (Plain Fact ∷ [])))
-unfolding lines joined shape_row
+unfolding placed_steps joined shape_row
 claim_certified = refl
 
 -- after the claim the point is gone
 point_is_gone : verdict [] on_one_line (with_point two_on_line (Hence (between 0 2 1) (Some (Plain Fact)) (Qed [] (Plain Fact ∷ [])))) ≡ Err 4
-unfolding lines joined shape_row
+unfolding placed_steps joined shape_row
 point_is_gone = refl
 
 -- what a claim shows cannot speak of it
 point_is_not_claimed : verdict [] on_one_line (with_point (between 0 2 1 ∷ []) (Qed [] (Plain Fact ∷ []))) ≡ Err 1
-unfolding lines joined shape_row
+unfolding placed_steps joined shape_row
 point_is_not_claimed = refl
 
 -- ---- an earlier theorem: a point of a line is on it
@@ -216,14 +216,14 @@ abbrev applied : List (Option Obj) → Script
 applied args = Apply 0 args [] (Plain Fact ∷ []) (Qed [] (Plain Fact ∷ []))
 
 application_certified : Certified (about_lines ∷ []) two_lines (applied (Some (point 0) ∷ Some (obj Line 0) ∷ []))
-unfolding lines joined
+unfolding placed_steps joined
 application_certified = refl
 
 -- a derivation has no blank, and applies an earlier theorem
 blank_is_left : verdict (about_lines ∷ []) two_lines (applied (Some (point 0) ∷ None ∷ [])) ≡ Err 1
-unfolding lines joined
+unfolding placed_steps joined
 blank_is_left = refl
 
 no_such_theorem : verdict [] two_lines (applied (Some (point 0) ∷ Some (obj Line 0) ∷ [])) ≡ Err 1
-unfolding lines joined
+unfolding placed_steps joined
 no_such_theorem = refl

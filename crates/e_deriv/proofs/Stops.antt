@@ -21,7 +21,7 @@ use Rattle.e_deriv.specs.declared.stop.Wanted.TheVariants.{Literal, Match, Contr
 use Rattle.e_deriv.specs.Script.{Script, Cite, Hence, Make, Apply, Claim, Superposed, Qed, Contradiction, Cases, size}
 use Rattle.e_deriv.specs.Parts.{rest_of, inner_of, args_of, written}
 use Rattle.e_deriv.specs.Goal.{Goal, goal_of, facts_of_statement, goal_of_statement}
-use Rattle.e_deriv.specs.Lines.{Line, line, lines, theorem_at, proof_lines}
+use Rattle.e_deriv.specs.PlacedSteps.{PlacedStep, placed_step, placed_steps, theorem_at, proof_steps}
 use Rattle.e_deriv.specs.Steps.{fits, needs_at}
 use Rattle.e_deriv.specs.Licensed.{Licensed, AllLicensed, IsFirstNotAllowed, Lacks, IsContext, IsFirstUnlicensed}
 use Rattle.e_deriv.specs.Laws.{SamePlace}
@@ -61,23 +61,23 @@ one_not_allowed s facts ls l l' a b =
 
 -- ---- one line
 
-abbrev at_place : Script → Scope → List Lit → Goal → List Obj → Line
+abbrev at_place : Script → Scope → List Lit → Goal → List Obj → PlacedStep
 at_place here s facts goal args = record { scope = s; facts = facts; goal = goal; here = here; args = args }
 
 lacks_nothing : (before : List StatementView) (here : Script) (s : Scope) (facts : List Lit) (goal : Goal) (args : List Obj) (w : Wanted) →
     Licensed before (at_place here s facts goal args) → ¬ Lacks before (at_place here s facts goal args) here w
-lacks_nothing before (Cite by rest) s facts goal args (Literal l) h k = true≢false (sym h.beside ∙ k.0)
+lacks_nothing before (Cite by rest) s facts goal args (Literal l) h k = true≢false (sym h.others ∙ k.0)
 lacks_nothing before (Hence lit cert rest) s facts goal args (Literal l) h k = none_not_allowed s facts (needs_at before (Hence lit cert rest) s goal args) l h.allowed k
 lacks_nothing before (Make form names certs rest) s facts goal args (Literal l) h k = none_not_allowed s facts (needs_at before (Make form names certs rest) s goal args) l h.allowed k
 lacks_nothing before (Apply theorem pattern names certs rest) s facts goal args (Literal l) h k =
     let t = theorem_at before theorem in
     let same : args ≡ written pattern = only_choice pattern args k.0 (and_left (fills pattern args) (are_arguments t s args) (and_right _ (is_choice t s pattern args) h.fits)) in
     none_not_allowed s facts (needs_of_use t (written pattern) s) l (subst (λ xs. AllAllowed s facts (needs_of_use t xs s)) same h.allowed) k.1
-lacks_nothing before (Apply theorem pattern names certs rest) s facts goal args Match h k = k.1 args h.beside.good
+lacks_nothing before (Apply theorem pattern names certs rest) s facts goal args Match h k = k.1 args h.others.good
 lacks_nothing before (Superposed form names shown certs inner rest) s facts goal args (Literal l) h k =
     none_not_allowed s facts (needs_at before (Superposed form names shown certs inner rest) s goal args) l h.allowed k
 lacks_nothing before (Qed objects certs) s facts goal args (Literal l) h k = none_not_allowed s facts (needs_at before (Qed objects certs) s goal args) l h.allowed k
-lacks_nothing before (Contradiction against) s facts goal args AContradiction h k = k h.beside
+lacks_nothing before (Contradiction against) s facts goal args AContradiction h k = k h.others
 lacks_nothing before here s facts goal args w h k = k
 
 -- what a line lacks does not look at how its blanks are filled
@@ -118,47 +118,47 @@ lacks_same before here s facts goal args Match w h k = absurd h
 lacks_same before here s facts goal args v w h k = absurd h
 
 -- at one place a line lacks one thing, and nothing where it is licensed
-place_is : (x y : Line) → SamePlace x y → x ≡ at_place y.here y.scope y.facts y.goal x.args
+place_is : (x y : PlacedStep) → SamePlace x y → x ≡ at_place y.here y.scope y.facts y.goal x.args
 place_is x y e =
     ap (λ h. at_place h x.scope x.facts x.goal x.args) e.here ∙ ap (λ s. at_place y.here s x.facts x.goal x.args) e.scope
     ∙ ap (λ f. at_place y.here y.scope f x.goal x.args) e.facts ∙ ap (λ g. at_place y.here y.scope y.facts g x.args) e.goal
 
-lacks_moved : (before : List StatementView) (x y : Line) (w : Wanted) → SamePlace x y → Lacks before x x.here w → Lacks before y y.here w
+lacks_moved : (before : List StatementView) (x y : PlacedStep) (w : Wanted) → SamePlace x y → Lacks before x x.here w → Lacks before y y.here w
 lacks_moved before x y w e k =
     lacks_again before y.here y.scope y.facts y.goal x.args y.args w (subst (λ z. Lacks before z z.here w) (place_is x y e) k)
 
-pub lacks_not : (before : List StatementView) (x y : Line) (w : Wanted) → SamePlace x y → Lacks before x x.here w → Licensed before y → ⊥
+pub lacks_not : (before : List StatementView) (x y : PlacedStep) (w : Wanted) → SamePlace x y → Lacks before x x.here w → Licensed before y → ⊥
 lacks_not before x y w e k h = lacks_nothing before y.here y.scope y.facts y.goal y.args w h (lacks_moved before x y w e k)
 
-lacks_one : (before : List StatementView) (x y : Line) (v w : Wanted) → SamePlace x y → Lacks before x x.here v → Lacks before y y.here w → v ≡ w
+lacks_one : (before : List StatementView) (x y : PlacedStep) (v w : Wanted) → SamePlace x y → Lacks before x x.here v → Lacks before y y.here w → v ≡ w
 lacks_one before x y v w e h k = lacks_same before y.here y.scope y.facts y.goal y.args v w (lacks_moved before x y v e h) k
 
 -- ---- lists of lines
 
 -- the line at a place, where all lines before it are licensed
-pub record Stands (before : List StatementView) (xs : List Line) (p : ℕ) (x : Line) : Type 0 where
+pub record Stands (before : List StatementView) (xs : List PlacedStep) (p : ℕ) (x : PlacedStep) : Type 0 where
   pub at : slice_get xs p ≡ Some x
   pub earlier : AllLicensed before (take p xs)
 
 -- in two lists that begin alike
-first_place : (before : List StatementView) (a b : Line) (xs ys : List Line) (x y : Line) → SamePlace a b → Stands before (a ∷ xs) zero x → Stands before (b ∷ ys) zero y → SamePlace x y
+first_place : (before : List StatementView) (a b : PlacedStep) (xs ys : List PlacedStep) (x y : PlacedStep) → SamePlace a b → Stands before (a ∷ xs) zero x → Stands before (b ∷ ys) zero y → SamePlace x y
 first_place before a b xs ys x y e p q =
     subst (λ z. SamePlace z y) (same_Some a x p.at) (subst (λ z. SamePlace a z) (same_Some b y q.at) e)
 
-stands_after : (before : List StatementView) (a : Line) (xs : List Line) (p : ℕ) (x : Line) → Stands before (a ∷ xs) (suc p) x → Stands before xs p x
+stands_after : (before : List StatementView) (a : PlacedStep) (xs : List PlacedStep) (p : ℕ) (x : PlacedStep) → Stands before (a ∷ xs) (suc p) x → Stands before xs p x
 stands_after before a xs p x h = record { at = h.at; earlier = h.earlier.1 }
 
 -- a line of two lists one after the other stands in the first or in the second, and so in two such pairs of the same lengths
-record Both (before : List StatementView) (xs xs' : List Line) (p : ℕ) (x y : Line) : Type 0 where
+record Both (before : List StatementView) (xs xs' : List PlacedStep) (p : ℕ) (x y : PlacedStep) : Type 0 where
   one : Stands before xs p x
   other : Stands before xs' p y
 
-record Further (before : List StatementView) (ys ys' : List Line) (x y : Line) : Type 0 where
+record Further (before : List StatementView) (ys ys' : List PlacedStep) (x y : PlacedStep) : Type 0 where
   place : ℕ
   one : Stands before ys place x
   other : Stands before ys' place y
 
-parted : (before : List StatementView) (xs xs' ys ys' : List Line) (p : ℕ) (x y : Line) → length xs ≡ length xs' →
+parted : (before : List StatementView) (xs xs' ys ys' : List PlacedStep) (p : ℕ) (x y : PlacedStep) → length xs ≡ length xs' →
     Stands before (xs ++ ys) p x → Stands before (xs' ++ ys') p y → Both before xs xs' p x y ⊎ Further before ys ys' x y
 parted before [] [] ys ys' p x y n h k = inr (record { place = p; one = h; other = k })
 parted before [] (b ∷ xs') ys ys' p x y n h k = absurd (omega (arith, n))
@@ -173,8 +173,8 @@ parted before (a ∷ xs) (b ∷ xs') ys ys' (suc p) x y n h k =
       | inr r ↦ inr r
     ]
 
-pub lines_length : (before : List StatementView) (d f : Script) (s : Scope) (facts : List Lit) (goal : Goal) → length (lines before d f s facts goal) ≡ size d
-unfolding lines size
+pub lines_length : (before : List StatementView) (d f : Script) (s : Scope) (facts : List Lit) (goal : Goal) → length (placed_steps before d f s facts goal) ≡ size d
+unfolding placed_steps size
 lines_length before (Cite by rest) f s facts goal = let h = lines_length before rest (rest_of f) s (joined facts by.lit) goal in omega (arith, h)
 lines_length before (Hence lit cert rest) f s facts goal = let h = lines_length before rest (rest_of f) s (joined facts lit) goal in omega (arith, h)
 lines_length before (Make form names certs rest) f s facts goal =
@@ -182,71 +182,71 @@ lines_length before (Make form names certs rest) f s facts goal =
 lines_length before (Apply theorem args names certs rest) f s facts goal =
     let h = lines_length before rest (rest_of f) (grown s (theorem_at before theorem).made) (joined_all facts (gives_of_use (theorem_at before theorem) (args_of f) s)) goal in omega (arith, h)
 lines_length before (Claim shown inner rest) f s facts goal =
-    let one = lines before inner (inner_of f) s facts (goal_of shown) in
-    let other = lines before rest (rest_of f) s (joined_all facts shown) goal in
+    let one = placed_steps before inner (inner_of f) s facts (goal_of shown) in
+    let other = placed_steps before rest (rest_of f) s (joined_all facts shown) goal in
     let h = lines_length before inner (inner_of f) s facts (goal_of shown) in
     let k = lines_length before rest (rest_of f) s (joined_all facts shown) goal in
     omega (arith, h, k, length-append one other)
 lines_length before (Superposed form names shown certs inner rest) f s facts goal =
-    let one = lines before inner (inner_of f) (grown s superposing.sorts_copied) (joined_all facts (superposing.gives_of_superposition form s)) (goal_of shown) in
-    let other = lines before rest (rest_of f) s (joined_all facts shown) goal in
+    let one = placed_steps before inner (inner_of f) (grown s superposing.sorts_copied) (joined_all facts (superposing.gives_of_superposition form s)) (goal_of shown) in
+    let other = placed_steps before rest (rest_of f) s (joined_all facts shown) goal in
     let h = lines_length before inner (inner_of f) (grown s superposing.sorts_copied) (joined_all facts (superposing.gives_of_superposition form s)) (goal_of shown) in
     let k = lines_length before rest (rest_of f) s (joined_all facts shown) goal in
     omega (arith, h, k, length-append one other)
 lines_length before (Qed objects certs) f s facts goal = refl
 lines_length before (Contradiction against) f s facts goal = refl
 lines_length before (Cases lit first second) f s facts goal =
-    let one = lines before first (inner_of f) s (joined facts lit) goal in
-    let other = lines before second (rest_of f) s (joined facts (negation lit)) goal in
+    let one = placed_steps before first (inner_of f) s (joined facts lit) goal in
+    let other = placed_steps before second (rest_of f) s (joined facts (negation lit)) goal in
     let h = lines_length before first (inner_of f) s (joined facts lit) goal in
     let k = lines_length before second (rest_of f) s (joined facts (negation lit)) goal in
     omega (arith, h, k, length-append one other)
 
-pub same_length : (before : List StatementView) (d f f' : Script) (s : Scope) (facts : List Lit) (goal : Goal) → length (lines before d f s facts goal) ≡ length (lines before d f' s facts goal)
+pub same_length : (before : List StatementView) (d f f' : Script) (s : Scope) (facts : List Lit) (goal : Goal) → length (placed_steps before d f s facts goal) ≡ length (placed_steps before d f' s facts goal)
 same_length before d f f' s facts goal = lines_length before d f s facts goal ∙ sym (lines_length before d f' s facts goal)
 
 -- ---- one context
 
-alike : (here f f' : Script) (s : Scope) (facts : List Lit) (goal : Goal) → SamePlace (line here f s facts goal) (line here f' s facts goal)
+alike : (here f f' : Script) (s : Scope) (facts : List Lit) (goal : Goal) → SamePlace (placed_step here f s facts goal) (placed_step here f' s facts goal)
 alike here f f' s facts goal = record { scope = refl; facts = refl; goal = refl; here = refl }
 
-nothing_after : (before : List StatementView) (a : Line) (p : ℕ) (x : Line) → Stands before (a ∷ []) (suc p) x → ⊥
+nothing_after : (before : List StatementView) (a : PlacedStep) (p : ℕ) (x : PlacedStep) → Stands before (a ∷ []) (suc p) x → ⊥
 nothing_after before a p x h = none-some x h.at
 
-same_context : (before : List StatementView) (d f f' : Script) (s : Scope) (facts : List Lit) (goal : Goal) (p : ℕ) (x y : Line) →
-    Stands before (lines before d f s facts goal) p x → Stands before (lines before d f' s facts goal) p y → SamePlace x y
-unfolding lines
+same_context : (before : List StatementView) (d f f' : Script) (s : Scope) (facts : List Lit) (goal : Goal) (p : ℕ) (x y : PlacedStep) →
+    Stands before (placed_steps before d f s facts goal) p x → Stands before (placed_steps before d f' s facts goal) p y → SamePlace x y
+unfolding placed_steps
 same_context before (Cite by rest) f f' s facts goal zero x y h k =
-    first_place before _ _ (lines before rest (rest_of f) s (joined facts by.lit) goal) (lines before rest (rest_of f') s (joined facts by.lit) goal) x y (alike (Cite by rest) f f' s facts goal) h k
+    first_place before _ _ (placed_steps before rest (rest_of f) s (joined facts by.lit) goal) (placed_steps before rest (rest_of f') s (joined facts by.lit) goal) x y (alike (Cite by rest) f f' s facts goal) h k
 same_context before (Cite by rest) f f' s facts goal (suc p) x y h k =
     same_context before rest (rest_of f) (rest_of f') s (joined facts by.lit) goal p x y (stands_after before _ _ p x h) (stands_after before _ _ p y k)
 same_context before (Hence lit cert rest) f f' s facts goal zero x y h k =
-    first_place before _ _ (lines before rest (rest_of f) s (joined facts lit) goal) (lines before rest (rest_of f') s (joined facts lit) goal) x y (alike (Hence lit cert rest) f f' s facts goal) h k
+    first_place before _ _ (placed_steps before rest (rest_of f) s (joined facts lit) goal) (placed_steps before rest (rest_of f') s (joined facts lit) goal) x y (alike (Hence lit cert rest) f f' s facts goal) h k
 same_context before (Hence lit cert rest) f f' s facts goal (suc p) x y h k =
     same_context before rest (rest_of f) (rest_of f') s (joined facts lit) goal p x y (stands_after before _ _ p x h) (stands_after before _ _ p y k)
 same_context before (Make form names certs rest) f f' s facts goal zero x y h k =
     let after = joined_all facts (gives_of_construction form s) in
-    first_place before _ _ (lines before rest (rest_of f) (grown s (sorts_made form)) after goal) (lines before rest (rest_of f') (grown s (sorts_made form)) after goal) x y (alike (Make form names certs rest) f f' s facts goal) h k
+    first_place before _ _ (placed_steps before rest (rest_of f) (grown s (sorts_made form)) after goal) (placed_steps before rest (rest_of f') (grown s (sorts_made form)) after goal) x y (alike (Make form names certs rest) f f' s facts goal) h k
 same_context before (Make form names certs rest) f f' s facts goal (suc p) x y h k =
     same_context before rest (rest_of f) (rest_of f') (grown s (sorts_made form)) (joined_all facts (gives_of_construction form s)) goal p x y (stands_after before _ _ p x h) (stands_after before _ _ p y k)
 same_context before (Apply theorem pattern names certs rest) f f' s facts goal zero x y h k =
     let t = theorem_at before theorem in
-    first_place before _ _ (lines before rest (rest_of f) (grown s t.made) (joined_all facts (gives_of_use t (args_of f) s)) goal)
-    (lines before rest (rest_of f') (grown s t.made) (joined_all facts (gives_of_use t (args_of f') s)) goal) x y (alike (Apply theorem pattern names certs rest) f f' s facts goal) h k
+    first_place before _ _ (placed_steps before rest (rest_of f) (grown s t.made) (joined_all facts (gives_of_use t (args_of f) s)) goal)
+    (placed_steps before rest (rest_of f') (grown s t.made) (joined_all facts (gives_of_use t (args_of f') s)) goal) x y (alike (Apply theorem pattern names certs rest) f f' s facts goal) h k
 same_context before (Apply theorem pattern names certs rest) f f' s facts goal (suc p) x y h k =
     let t = theorem_at before theorem in
-    let e : args_of f' ≡ args_of f = least_is_one t s facts pattern (args_of f') (args_of f) k.earlier.0.beside h.earlier.0.beside in
-    let below = stands_after before _ (lines before rest (rest_of f') (grown s t.made) (joined_all facts (gives_of_use t (args_of f') s)) goal) p y k in
+    let e : args_of f' ≡ args_of f = least_is_one t s facts pattern (args_of f') (args_of f) k.earlier.0.others h.earlier.0.others in
+    let below = stands_after before _ (placed_steps before rest (rest_of f') (grown s t.made) (joined_all facts (gives_of_use t (args_of f') s)) goal) p y k in
     same_context before rest (rest_of f) (rest_of f') (grown s t.made) (joined_all facts (gives_of_use t (args_of f) s)) goal p x y (stands_after before _ _ p x h)
-    (subst (λ xs. Stands before (lines before rest (rest_of f') (grown s t.made) (joined_all facts (gives_of_use t xs s)) goal) p y) e below)
+    (subst (λ xs. Stands before (placed_steps before rest (rest_of f') (grown s t.made) (joined_all facts (gives_of_use t xs s)) goal) p y) e below)
 same_context before (Claim shown inner rest) f f' s facts goal zero x y h k =
-    first_place before _ _ (lines before inner (inner_of f) s facts (goal_of shown) ++ lines before rest (rest_of f) s (joined_all facts shown) goal)
-    (lines before inner (inner_of f') s facts (goal_of shown) ++ lines before rest (rest_of f') s (joined_all facts shown) goal) x y (alike (Claim shown inner rest) f f' s facts goal) h k
+    first_place before _ _ (placed_steps before inner (inner_of f) s facts (goal_of shown) ++ placed_steps before rest (rest_of f) s (joined_all facts shown) goal)
+    (placed_steps before inner (inner_of f') s facts (goal_of shown) ++ placed_steps before rest (rest_of f') s (joined_all facts shown) goal) x y (alike (Claim shown inner rest) f f' s facts goal) h k
 same_context before (Claim shown inner rest) f f' s facts goal (suc p) x y h k =
-    let one = lines before inner (inner_of f) s facts (goal_of shown) in
-    let one' = lines before inner (inner_of f') s facts (goal_of shown) in
-    let other = lines before rest (rest_of f) s (joined_all facts shown) goal in
-    let other' = lines before rest (rest_of f') s (joined_all facts shown) goal in
+    let one = placed_steps before inner (inner_of f) s facts (goal_of shown) in
+    let one' = placed_steps before inner (inner_of f') s facts (goal_of shown) in
+    let other = placed_steps before rest (rest_of f) s (joined_all facts shown) goal in
+    let other' = placed_steps before rest (rest_of f') s (joined_all facts shown) goal in
     elim (parted before one one' other other' p x y (same_length before inner (inner_of f) (inner_of f') s facts (goal_of shown)) (stands_after before _ _ p x h) (stands_after before _ _ p y k)) [
       | inl r ↦ same_context before inner (inner_of f) (inner_of f') s facts (goal_of shown) p x y r.one r.other
       | inr r ↦ same_context before rest (rest_of f) (rest_of f') s (joined_all facts shown) goal r.place x y r.one r.other
@@ -254,15 +254,15 @@ same_context before (Claim shown inner rest) f f' s facts goal (suc p) x y h k =
 same_context before (Superposed form names shown certs inner rest) f f' s facts goal zero x y h k =
     let g = grown s superposing.sorts_copied in
     let given = joined_all facts (superposing.gives_of_superposition form s) in
-    first_place before _ _ (lines before inner (inner_of f) g given (goal_of shown) ++ lines before rest (rest_of f) s (joined_all facts shown) goal)
-    (lines before inner (inner_of f') g given (goal_of shown) ++ lines before rest (rest_of f') s (joined_all facts shown) goal) x y (alike (Superposed form names shown certs inner rest) f f' s facts goal) h k
+    first_place before _ _ (placed_steps before inner (inner_of f) g given (goal_of shown) ++ placed_steps before rest (rest_of f) s (joined_all facts shown) goal)
+    (placed_steps before inner (inner_of f') g given (goal_of shown) ++ placed_steps before rest (rest_of f') s (joined_all facts shown) goal) x y (alike (Superposed form names shown certs inner rest) f f' s facts goal) h k
 same_context before (Superposed form names shown certs inner rest) f f' s facts goal (suc p) x y h k =
     let g = grown s superposing.sorts_copied in
     let given = joined_all facts (superposing.gives_of_superposition form s) in
-    let one = lines before inner (inner_of f) g given (goal_of shown) in
-    let one' = lines before inner (inner_of f') g given (goal_of shown) in
-    let other = lines before rest (rest_of f) s (joined_all facts shown) goal in
-    let other' = lines before rest (rest_of f') s (joined_all facts shown) goal in
+    let one = placed_steps before inner (inner_of f) g given (goal_of shown) in
+    let one' = placed_steps before inner (inner_of f') g given (goal_of shown) in
+    let other = placed_steps before rest (rest_of f) s (joined_all facts shown) goal in
+    let other' = placed_steps before rest (rest_of f') s (joined_all facts shown) goal in
     elim (parted before one one' other other' p x y (same_length before inner (inner_of f) (inner_of f') g given (goal_of shown)) (stands_after before _ _ p x h) (stands_after before _ _ p y k)) [
       | inl r ↦ same_context before inner (inner_of f) (inner_of f') g given (goal_of shown) p x y r.one r.other
       | inr r ↦ same_context before rest (rest_of f) (rest_of f') s (joined_all facts shown) goal r.place x y r.one r.other
@@ -272,13 +272,13 @@ same_context before (Qed objects certs) f f' s facts goal (suc p) x y h k = absu
 same_context before (Contradiction against) f f' s facts goal zero x y h k = first_place before _ _ [] [] x y (alike (Contradiction against) f f' s facts goal) h k
 same_context before (Contradiction against) f f' s facts goal (suc p) x y h k = absurd (nothing_after before _ p x h)
 same_context before (Cases lit first second) f f' s facts goal zero x y h k =
-    first_place before _ _ (lines before first (inner_of f) s (joined facts lit) goal ++ lines before second (rest_of f) s (joined facts (negation lit)) goal)
-    (lines before first (inner_of f') s (joined facts lit) goal ++ lines before second (rest_of f') s (joined facts (negation lit)) goal) x y (alike (Cases lit first second) f f' s facts goal) h k
+    first_place before _ _ (placed_steps before first (inner_of f) s (joined facts lit) goal ++ placed_steps before second (rest_of f) s (joined facts (negation lit)) goal)
+    (placed_steps before first (inner_of f') s (joined facts lit) goal ++ placed_steps before second (rest_of f') s (joined facts (negation lit)) goal) x y (alike (Cases lit first second) f f' s facts goal) h k
 same_context before (Cases lit first second) f f' s facts goal (suc p) x y h k =
-    let one = lines before first (inner_of f) s (joined facts lit) goal in
-    let one' = lines before first (inner_of f') s (joined facts lit) goal in
-    let other = lines before second (rest_of f) s (joined facts (negation lit)) goal in
-    let other' = lines before second (rest_of f') s (joined facts (negation lit)) goal in
+    let one = placed_steps before first (inner_of f) s (joined facts lit) goal in
+    let one' = placed_steps before first (inner_of f') s (joined facts lit) goal in
+    let other = placed_steps before second (rest_of f) s (joined facts (negation lit)) goal in
+    let other' = placed_steps before second (rest_of f') s (joined facts (negation lit)) goal in
     elim (parted before one one' other other' p x y (same_length before first (inner_of f) (inner_of f') s (joined facts lit) goal) (stands_after before _ _ p x h) (stands_after before _ _ p y k)) [
       | inl r ↦ same_context before first (inner_of f) (inner_of f') s (joined facts lit) goal p x y r.one r.other
       | inr r ↦ same_context before second (rest_of f) (rest_of f') s (joined facts (negation lit)) goal r.place x y r.one r.other
@@ -287,12 +287,12 @@ same_context before (Cases lit first second) f f' s facts goal (suc p) x y h k =
 -- ---- lists in which lines are licensed
 
 -- an earlier line is licensed
-pub record Earlier (before : List StatementView) (xs : List Line) (p : ℕ) : Type 0 where
-  pub line : Line
+pub record Earlier (before : List StatementView) (xs : List PlacedStep) (p : ℕ) : Type 0 where
+  pub line : PlacedStep
   pub stands : Stands before xs p line
   pub licensed : Licensed before line
 
-pub earlier_line : (before : List StatementView) (xs : List Line) (p q : ℕ) (y : Line) → p < q → Stands before xs q y → Earlier before xs p
+pub earlier_line : (before : List StatementView) (xs : List PlacedStep) (p q : ℕ) (y : PlacedStep) → p < q → Stands before xs q y → Earlier before xs p
 earlier_line before [] p q y lt h = absurd (none-some y h.at)
 earlier_line before (a ∷ xs) p zero y lt h = absurd (omega (arith, lt))
 earlier_line before (a ∷ xs) zero (suc q) y lt h = record { line = a; stands = record { at = refl; earlier = tt }; licensed = h.earlier.0 }
@@ -301,7 +301,7 @@ earlier_line before (a ∷ xs) (suc p) (suc q) y lt h =
     record { line = e.line; stands = record { at = e.stands.at; earlier = (h.earlier.0, e.stands.earlier) }; licensed = e.licensed }
 
 -- in a list of licensed lines each is
-pub licensed_line : (before : List StatementView) (xs ys : List Line) (p : ℕ) (y : Line) → length xs ≡ length ys → AllLicensed before xs → slice_get ys p ≡ Some y → Earlier before xs p
+pub licensed_line : (before : List StatementView) (xs ys : List PlacedStep) (p : ℕ) (y : PlacedStep) → length xs ≡ length ys → AllLicensed before xs → slice_get ys p ≡ Some y → Earlier before xs p
 licensed_line before [] [] p y n h e = absurd (none-some y e)
 licensed_line before [] (b ∷ ys) p y n h e = absurd (omega (arith, n))
 licensed_line before (a ∷ xs) [] p y n h e = absurd (omega (arith, n))
@@ -315,28 +315,28 @@ licensed_line before (a ∷ xs) (b ∷ ys) (suc p) y n h e =
 same_suc : (p q : ℕ) → suc p ≡ suc q → p ≡ q
 same_suc p q e = omega (arith, e)
 
-abbrev of_context : (before : List StatementView) (t : StatementView) (script : Script) (n : ℕ) (x : Line) (c : IsContext before t script n x) → Stands before (proof_lines before t script c.filled) c.place x
+abbrev of_context : (before : List StatementView) (t : StatementView) (script : Script) (n : ℕ) (x : PlacedStep) (c : IsContext before t script n x) → Stands before (proof_steps before t script c.filled) c.place x
 of_context before t script n x c = record { at = c.at; earlier = c.earlier }
 
-pub one_context : (before : List StatementView) (t : StatementView) (script : Script) (n : ℕ) (x y : Line) → IsContext before t script n x → IsContext before t script n y → SamePlace x y
+pub one_context : (before : List StatementView) (t : StatementView) (script : Script) (n : ℕ) (x y : PlacedStep) → IsContext before t script n x → IsContext before t script n y → SamePlace x y
 one_context before t script n x y a b =
     let e = same_suc a.place b.place (sym a.number ∙ b.number) in
     same_context before script a.filled b.filled (scope_of t) (facts_of_statement t) (goal_of_statement t) a.place x y (of_context before t script n x a)
-    (subst (λ p. Stands before (proof_lines before t script b.filled) p y) (sym e) (of_context before t script n y b))
+    (subst (λ p. Stands before (proof_steps before t script b.filled) p y) (sym e) (of_context before t script n y b))
 
-pub no_stop_of_licensed : (before : List StatementView) (t : StatementView) (script f : Script) (n : ℕ) (w : Wanted) → AllLicensed before (proof_lines before t script f) → ¬ IsFirstUnlicensed before t script n w
+pub no_stop_of_licensed : (before : List StatementView) (t : StatementView) (script f : Script) (n : ℕ) (w : Wanted) → AllLicensed before (proof_steps before t script f) → ¬ IsFirstUnlicensed before t script n w
 no_stop_of_licensed before t script f n w h stop =
     let c = stop.context in
     let s = scope_of t in
     let facts = facts_of_statement t in
     let goal = goal_of_statement t in
-    let e = licensed_line before (proof_lines before t script f) (proof_lines before t script c.filled) c.place stop.line (same_length before script f c.filled s facts goal) h c.at in
+    let e = licensed_line before (proof_steps before t script f) (proof_steps before t script c.filled) c.place stop.line (same_length before script f c.filled s facts goal) h c.at in
     lacks_not before stop.line e.line w (same_context before script c.filled f s facts goal c.place stop.line e.line (of_context before t script n stop.line c) e.stands) stop.lacks e.licensed
 
 -- no line before the first that is not licensed lacks anything
 no_earlier : (before : List StatementView) (t : StatementView) (script : Script) (n m : ℕ) (v w : Wanted) (a : IsFirstUnlicensed before t script n v) (b : IsFirstUnlicensed before t script m w) → a.context.place < b.context.place → ⊥
 no_earlier before t script n m v w a b lt =
-    let e = earlier_line before (proof_lines before t script b.context.filled) a.context.place b.context.place b.line lt (of_context before t script m b.line b.context) in
+    let e = earlier_line before (proof_steps before t script b.context.filled) a.context.place b.context.place b.line lt (of_context before t script m b.line b.context) in
     lacks_not before a.line e.line v (same_context before script a.context.filled b.context.filled (scope_of t) (facts_of_statement t) (goal_of_statement t) a.context.place a.line e.line (of_context before t script n a.line a.context) e.stands) a.lacks e.licensed
 
 pub order : (p q : ℕ) → (p < q) ⊎ ((q < p) ⊎ (p ≡ q))

@@ -2,7 +2,7 @@ pub mod Script
 pub mod PlainStep
 pub mod Parts
 pub mod Goal
-pub mod Lines
+pub mod PlacedSteps
 pub mod Steps
 pub mod Proves
 pub mod Licensed

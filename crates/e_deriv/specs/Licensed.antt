@@ -1,4 +1,4 @@
--- When a line is licensed, whatever the blocks inside it are; the first that is not, and what it
+-- When a step is licensed, whatever the blocks inside it are; the first that is not, and what it
 -- lacks.
 use Rattle.std.specs.Prelude.{◌≡◌, ℕ, suc, List, [], ◌∷◌, ◌++◌, take, slice_get, IsTrue, IsFalse}
 use Rattle.std.specs.Prelude.{Some}
@@ -14,25 +14,25 @@ use Rattle.e_deriv.specs.declared.stop.Wanted.TheVariants.{Literal, Match}
 use Rattle.e_deriv.specs.declared.stop.Wanted.TheVariants.{Contradiction as AContradiction}
 use Rattle.e_deriv.specs.Script.{Script, Cite, Hence, Make, Apply, Superposed, Qed, Contradiction}
 use Rattle.e_deriv.specs.Parts.{has_no_blank}
-use Rattle.e_deriv.specs.Lines.{Line, theorem_at, proof_lines}
+use Rattle.e_deriv.specs.PlacedSteps.{PlacedStep, theorem_at, proof_steps}
 use Rattle.e_deriv.specs.Steps.{fits, needs, needs_as_written, is_cited}
 
 -- beside its form and its needs: a citation's instance gives the literal; the arguments of an
 -- application are the least good choice for its blanks; at a contradiction the facts contradict
 -- each other
-abbrev pub LicensedBeside : List StatementView → Script → Scope → List Lit → List Obj → Type 0
-LicensedBeside before (Cite by rest) s facts args = IsTrue (is_cited facts by)
-LicensedBeside before (Apply theorem pattern names certs rest) s facts args =
+abbrev pub OtherConditions : List StatementView → Script → Scope → List Lit → List Obj → Type 0
+OtherConditions before (Cite by rest) s facts args = IsTrue (is_cited facts by)
+OtherConditions before (Apply theorem pattern names certs rest) s facts args =
     IsLeastChoice (theorem_at before theorem) s facts pattern args
-LicensedBeside before (Contradiction against) s facts args = Contradictory facts
-LicensedBeside before _ s facts args = Unit {0}
+OtherConditions before (Contradiction against) s facts args = Contradictory facts
+OtherConditions before _ s facts args = Unit {0}
 
-pub record Licensed (before : List StatementView) (x : Line) : Type 0 where
+pub record Licensed (before : List StatementView) (x : PlacedStep) : Type 0 where
   pub fits : IsTrue (fits before x)
   pub allowed : AllAllowed x.scope x.facts (needs before x)
-  pub beside : LicensedBeside before x.here x.scope x.facts x.args
+  pub others : OtherConditions before x.here x.scope x.facts x.args
 
-abbrev pub AllLicensed : List StatementView → List Line → Type 0
+abbrev pub AllLicensed : List StatementView → List PlacedStep → Type 0
 AllLicensed before [] = Unit {0}
 AllLicensed before (x ∷ xs) = Licensed before x × AllLicensed before xs
 
@@ -45,9 +45,9 @@ pub record IsFirstNotAllowed (scope : Scope) (facts : List Lit) (ls : List Lit)
   pub allowed : AllAllowed scope facts earlier
   pub not_allowed : ¬ Allowed scope facts l
 
--- what a line that is not licensed lacks; an application with blanks lacks a choice for them that
+-- what a step that is not licensed lacks; an application with blanks lacks a choice for them that
 -- is good
-abbrev pub Lacks : List StatementView → Line → Script → Wanted → Type 0
+abbrev pub Lacks : List StatementView → PlacedStep → Script → Wanted → Type 0
 Lacks before x (Cite by rest) (Literal l) = IsFalse (is_cited x.facts by) × (l ≡ by.lit)
 Lacks before x (Hence lit cert rest) (Literal l) =
     IsFirstNotAllowed x.scope x.facts (needs_as_written before x) l
@@ -65,19 +65,19 @@ Lacks before x (Qed objects certs) (Literal l) =
 Lacks before x (Contradiction against) AContradiction = ¬ Contradictory x.facts
 Lacks before x _ _ = ⊥
 
--- the line has number n from 1 on, of the statement's script with its blanks filled, and all lines
+-- the step has number n from 1 on, of the statement's script with its blanks filled, and all steps
 -- before it are licensed
 pub record IsContext (before : List StatementView) (t : StatementView) (script : Script) (n : ℕ)
-    (x : Line) : Type 0 where
+    (x : PlacedStep) : Type 0 where
   pub filled : Script
   pub place : ℕ
   pub number : n ≡ suc place
-  pub at : slice_get (proof_lines before t script filled) place ≡ Some x
-  pub earlier : AllLicensed before (take place (proof_lines before t script filled))
+  pub at : slice_get (proof_steps before t script filled) place ≡ Some x
+  pub earlier : AllLicensed before (take place (proof_steps before t script filled))
 
--- line n is the first that is not licensed, and it lacks this
+-- step n is the first that is not licensed, and it lacks this
 pub record IsFirstUnlicensed (before : List StatementView) (t : StatementView) (script : Script)
     (n : ℕ) (wanted : Wanted) : Type 0 where
-  pub line : Line
+  pub line : PlacedStep
   pub context : IsContext before t script n line
   pub lacks : Lacks before line line.here wanted

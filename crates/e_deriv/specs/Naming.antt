@@ -1,4 +1,4 @@
--- The names of the objects in scope, before each line of a script.
+-- The names of the objects in scope, before each step of a script.
 use Rattle.std.specs.Prelude.{ℕ, List, [], ◌∷◌, ◌++◌, take}
 use Rattle.e_literal.specs.declared.object.Sort.{Sort}
 use Rattle.e_literal.specs.declared.object.Sort.TheVariants as sorts
@@ -7,7 +7,7 @@ use Rattle.e_literal.specs.Use.{StatementView, scope_of}
 use Rattle.e_construct.specs.Construct.{sorts_made}
 use Rattle.e_construct.specs.Superposing as superposing
 use Rattle.e_deriv.specs.declared.names.Names.{Names}
-use Rattle.e_deriv.specs.Lines.{theorem_at}
+use Rattle.e_deriv.specs.PlacedSteps.{theorem_at}
 use Rattle.e_deriv.specs.Script.{Script, Cite, Hence, Make, Apply, Claim, Superposed, Qed}
 use Rattle.e_deriv.specs.Script.{Contradiction, Cases}
 
@@ -29,24 +29,24 @@ named ns (sort ∷ kinds) (name ∷ names) =
     named (with_names ns sort (names_of_sort ns sort ++ name ∷ [])) kinds names
 named ns _ _ = ns
 
--- the names in scope before each line, in text order, where these are in scope before the first;
+-- the names in scope before each step, in text order, where these are in scope before the first;
 -- those that an inner block brings are gone after it
-unfoldable pub names_lines : List StatementView → Names → Script → List Names
-names_lines before ns (Cite by rest) = ns ∷ names_lines before ns rest
-names_lines before ns (Hence lit cert rest) = ns ∷ names_lines before ns rest
-names_lines before ns (Make form names certs rest) =
-    ns ∷ names_lines before (named ns (sorts_made form) names) rest
-names_lines before ns (Apply theorem args names certs rest) =
-    ns ∷ names_lines before (named ns (theorem_at before theorem).made names) rest
-names_lines before ns (Claim shown inner rest) =
-    ns ∷ (names_lines before ns inner ++ names_lines before ns rest)
-names_lines before ns (Superposed form names shown certs inner rest) =
-    ns ∷ (names_lines before (named ns superposing.sorts_copied names) inner
-    ++ names_lines before ns rest)
-names_lines before ns (Qed objects certs) = ns ∷ []
-names_lines before ns (Contradiction against) = ns ∷ []
-names_lines before ns (Cases lit first second) =
-    ns ∷ (names_lines before ns first ++ names_lines before ns second)
+unfoldable pub names_of_steps : List StatementView → Names → Script → List Names
+names_of_steps before ns (Cite by rest) = ns ∷ names_of_steps before ns rest
+names_of_steps before ns (Hence lit cert rest) = ns ∷ names_of_steps before ns rest
+names_of_steps before ns (Make form names certs rest) =
+    ns ∷ names_of_steps before (named ns (sorts_made form) names) rest
+names_of_steps before ns (Apply theorem args names certs rest) =
+    ns ∷ names_of_steps before (named ns (theorem_at before theorem).made names) rest
+names_of_steps before ns (Claim shown inner rest) =
+    ns ∷ (names_of_steps before ns inner ++ names_of_steps before ns rest)
+names_of_steps before ns (Superposed form names shown certs inner rest) =
+    ns ∷ (names_of_steps before (named ns superposing.sorts_copied names) inner
+    ++ names_of_steps before ns rest)
+names_of_steps before ns (Qed objects certs) = ns ∷ []
+names_of_steps before ns (Contradiction against) = ns ∷ []
+names_of_steps before ns (Cases lit first second) =
+    ns ∷ (names_of_steps before ns first ++ names_of_steps before ns second)
 
 -- the names of the objects of a scope, which are the first of each sort
 abbrev pub first_names : Scope → Names → Names

@@ -16,7 +16,7 @@ use Rattle.e_deriv.specs.Script.{Contradiction, Cases}
 use Rattle.e_deriv.specs.Goal.{Goal, goal_of, are_for, goal_with, goal_of_statement}
 use Rattle.e_deriv.specs.Goal.{facts_of_statement}
 use Rattle.e_deriv.specs.Parts.{written, has_no_blank}
-use Rattle.e_deriv.specs.Lines.{theorem_at}
+use Rattle.e_deriv.specs.PlacedSteps.{theorem_at}
 use Rattle.e_deriv.specs.Steps.{is_citation, is_cited, is_applied, are_over}
 
 unfoldable pub Proves : List StatementView → Scope → List Lit → Goal → Script → Type 0

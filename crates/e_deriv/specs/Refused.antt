@@ -1,4 +1,4 @@
--- Why a script is refused: its first step that is not licensed, with values that show it; or a line
+-- Why a script is refused: its first step that is not licensed, with values that show it; or a step
 -- that is too wide.
 use Rattle.std.specs.Prelude.{◌≡◌, ℕ, List, IsTrue, IsFalse, Contains, MatchBool, Option, Some}
 use Rattle.std.specs.Prelude.{None}
@@ -15,7 +15,7 @@ use Rattle.e_deriv.specs.declared.stop.Wanted.TheVariants.{Literal, Match}
 use Rattle.e_deriv.specs.declared.stop.Wanted.TheVariants.{Contradiction as AContradiction}
 use Rattle.e_deriv.specs.Script.{Script, Cite, Apply, Contradiction}
 use Rattle.e_deriv.specs.Parts.{has_no_blank}
-use Rattle.e_deriv.specs.Lines.{Line, theorem_at}
+use Rattle.e_deriv.specs.PlacedSteps.{PlacedStep, theorem_at}
 use Rattle.e_deriv.specs.Steps.{needs_as_written}
 use Rattle.e_deriv.specs.Licensed.{Lacks, IsContext}
 
@@ -33,44 +33,44 @@ abbrev pub AgreementIsShown : List Lit → Option (List (Term × ℕ)) → Type 
 AgreementIsShown facts (Some values) = ListsCounterexample facts None values
 AgreementIsShown facts None = ⊥
 
--- what the line lacks is shown by these values; a citation has none, and so has a match
+-- what the step lacks is shown by these values; a citation has none, and so has a match
 abbrev pub IsShown : Script → List Lit → Wanted → Option (List (Term × ℕ)) → Type 0
 IsShown (Cite by rest) facts (Literal l) values = values ≡ None
 IsShown here facts (Literal l) values = LiteralIsShown facts l values
 IsShown here facts Match values = values ≡ None
 IsShown here facts AContradiction values = AgreementIsShown facts values
 
--- line n is the first that is not licensed, it lacks this, and these values show it
+-- step n is the first that is not licensed, it lacks this, and these values show it
 pub record IsRefused (before : List StatementView) (t : StatementView) (script : Script) (n : ℕ)
     (wanted : Wanted) (values : Option (List (Term × ℕ))) : Type 0 where
-  pub line : Line
+  pub line : PlacedStep
   pub context : IsContext before t script n line
   pub lacks : Lacks before line line.here wanted
   pub shown : IsShown line.here line.facts wanted values
 
--- ---- wide lines
+-- ---- wide steps
 
 -- one of the literals is wide
-pub record SomeIsWide (before : List StatementView) (x : Line) : Type 0 where
+pub record SomeIsWide (before : List StatementView) (x : PlacedStep) : Type 0 where
   pub lit : Lit
   pub is_one : Contains (needs_as_written before x) lit
   pub is_wide : IsWideLit x.scope x.facts lit
 
--- a literal that the line needs is wide, for an application with blanks under a choice that is not
+-- a literal that the step needs is wide, for an application with blanks under a choice that is not
 -- above the least good one; or its contradiction is. A citation, a claim and a split need nothing
 -- and are never wide.
-abbrev pub IsWideAt : List StatementView → Line → Script → Type 0
+abbrev pub IsWideAt : List StatementView → PlacedStep → Script → Type 0
 IsWideAt before x (Contradiction against) = IsWideContradiction x.facts
 IsWideAt before x (Apply theorem pattern names certs rest) =
     MatchBool (has_no_blank pattern) (SomeIsWide before x)
     (SomeChoiceIsWide (theorem_at before theorem) x.scope x.facts pattern)
 IsWideAt before x _ = SomeIsWide before x
 
-abbrev pub IsWideLine : List StatementView → Line → Type 0
-IsWideLine before x = IsWideAt before x x.here
+abbrev pub IsWideStep : List StatementView → PlacedStep → Type 0
+IsWideStep before x = IsWideAt before x x.here
 
--- what is wanted on the line is wide, and w is the width of one of its wide systems
-abbrev pub IsTooWide : List StatementView → Line → Script → Wanted → ℕ → Type 0
+-- what is wanted at the step is wide, and w is the width of one of its wide systems
+abbrev pub IsTooWide : List StatementView → PlacedStep → Script → Wanted → ℕ → Type 0
 IsTooWide before x (Contradiction against) AContradiction w = IsTooWideContradiction x.facts w
 IsTooWide before x (Contradiction against) _ w = ⊥
 IsTooWide before x (Apply theorem pattern names certs rest) (Literal l) w =
@@ -83,9 +83,9 @@ IsTooWide before x _ (Literal l) w =
     Contains (needs_as_written before x) l × IsTooWideLit x.scope x.facts l w
 IsTooWide before x _ _ w = ⊥
 
--- each line before line n is licensed, and line n is too wide at what is wanted there
+-- each step before step n is licensed, and step n is too wide at what is wanted there
 pub record IsTooWideAt (before : List StatementView) (t : StatementView) (script : Script) (n : ℕ)
     (wanted : Wanted) (w : ℕ) : Type 0 where
-  pub line : Line
+  pub line : PlacedStep
   pub context : IsContext before t script n line
   pub too_wide : IsTooWide before line line.here wanted w

@@ -62,7 +62,7 @@ steps_script (s ∷ steps) rest = step_script s (steps_script steps rest)
 abbrev pub script_of : Block → Script
 script_of b = steps_script b.steps.items (close_script b.close)
 
--- step and close lines
+-- the steps, closes too
 unfoldable pub size : Script → ℕ
 size (Cite by rest) = 1 + size rest
 size (Hence lit cert rest) = 1 + size rest

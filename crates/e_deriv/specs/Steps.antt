@@ -1,4 +1,4 @@
--- What has to be so at a line beside what it has to be allowed: its objects are in scope, its form
+-- What has to be so at a step beside what it has to be allowed: its objects are in scope, its form
 -- fits. What it needs.
 use Rattle.std.specs.Prelude.{ℕ, List, [], ◌∷◌, length, Bool, true, ◌&&◌, nat_lt, Option}
 use Rattle.std.specs.List.{list_all}
@@ -16,7 +16,7 @@ use Rattle.e_deriv.specs.Script.{Contradiction, Cases}
 use Rattle.e_deriv.specs.Goal.{Goal, are_for, goal_with}
 use Rattle.e_theorem.specs.Choice.{is_choice}
 use Rattle.e_deriv.specs.Parts.{args_of}
-use Rattle.e_deriv.specs.Lines.{Line, theorem_at}
+use Rattle.e_deriv.specs.PlacedSteps.{PlacedStep, theorem_at}
 
 -- all objects of the literals are in scope
 abbrev pub are_over : Scope → List Lit → Bool
@@ -27,7 +27,7 @@ abbrev pub is_applied : List StatementView → ℕ → Scope → List (Option Ob
 is_applied before theorem s pattern args =
     nat_lt theorem (length before) && is_choice (theorem_at before theorem) s pattern args
 
--- the line's form fits where it stands; what a superposition shows does not speak of the copied
+-- the step's form fits where it stands; what a superposition shows does not speak of the copied
 -- points
 abbrev pub fits_at : List StatementView → Script → Scope → Goal → List Obj → Bool
 fits_at before (Cite by rest) s goal args = is_citation s by
@@ -42,7 +42,7 @@ fits_at before (Qed objects certs) s goal args = are_for goal s objects
 fits_at before (Contradiction against) s goal args = true
 fits_at before (Cases lit first second) s goal args = all_in_scope s lit
 
--- the literals that the line needs, in order
+-- the literals that the step needs, in order
 abbrev pub needs_at : List StatementView → Script → Scope → Goal → List Obj → List Lit
 needs_at before (Hence lit cert rest) s goal args = lit ∷ []
 needs_at before (Make form names certs rest) s goal args = needs_of_form form
@@ -56,12 +56,12 @@ needs_at before (Claim shown inner rest) s goal args = []
 needs_at before (Contradiction against) s goal args = []
 needs_at before (Cases lit first second) s goal args = []
 
-abbrev pub fits : List StatementView → Line → Bool
+abbrev pub fits : List StatementView → PlacedStep → Bool
 fits before x = fits_at before x.here x.scope x.goal x.args
 
-abbrev pub needs : List StatementView → Line → List Lit
+abbrev pub needs : List StatementView → PlacedStep → List Lit
 needs before x = needs_at before x.here x.scope x.goal x.args
 
--- the needs of a line with the arguments that are written on it, where none is a blank
-abbrev pub needs_as_written : List StatementView → Line → List Lit
+-- the needs of a step with the arguments that are written in it, where none is a blank
+abbrev pub needs_as_written : List StatementView → PlacedStep → List Lit
 needs_as_written before x = needs_at before x.here x.scope x.goal (args_of x.here)

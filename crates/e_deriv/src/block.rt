@@ -10,7 +10,7 @@ use std::mem;
 
 /// Steps, and the close that ends them.
 ///
-/// A script has no certificates; a derivation has one for each literal that a line needs.
+/// A script has no certificates; a derivation has one for each literal that a step needs.
 #[cycle(block)]
 #[derive(Drop)]
 pub struct Block {

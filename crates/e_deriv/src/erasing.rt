@@ -11,7 +11,7 @@ use e_literal::{Items, Lit, Obj, copy};
 use e_text::Name;
 use std::alloc::{AllocError, Global};
 
-/// The script of a block: the same lines without their certificates.
+/// The script of a block: the same steps without their certificates.
 #[cycle(erase)]
 #[tactic(auto, using(crate::proofs::Scripts::erasing))]
 pub fn erase(alloc: Global, block: &Block) -> Result<Block, AllocError>

@@ -8,22 +8,22 @@ pub fn certified_proves()
     ensures { CertifiedProves }
 {}
 
-/// A script of which each line is licensed is a proof, with its blanks filled.
+/// A script of which each step is licensed is a proof, with its blanks filled.
 pub fn licensed_proves()
     ensures { LicensedProves }
 {}
 
-/// Each line of a proof is licensed.
+/// Each step of a proof is licensed.
 pub fn proof_is_licensed()
     ensures { ProofIsLicensed }
 {}
 
-/// The scope, the facts and the goal at the line of a number are determined by the script.
+/// The scope, the facts and the goal at the step of a number are determined by the script.
 pub fn context_is_one()
     ensures { ContextIsOne }
 {}
 
-/// Where each line is licensed none is the first that is not.
+/// Where each step is licensed none is the first that is not.
 pub fn licensed_has_no_stop()
     ensures { LicensedHasNoStop }
 {}

@@ -4,7 +4,7 @@ ghost use Rattle.e_deriv.specs.Script.{script_of};
 
 use crate::block::{Block, Close, Step};
 
-/// How many step and close lines it has, those of the blocks inside it too.
+/// How many steps it has, closes too, and those of the blocks inside it.
 #[tactic(auto, using(crate::proofs::Scripts::sizes))]
 pub fn size(block: &Block) -> u32
     requires { Rattle.e_deriv.specs.Script.size (script_of block.now) < 2 ^ 32 }

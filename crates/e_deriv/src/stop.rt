@@ -6,7 +6,7 @@ use crate::names::Names;
 use e_literal::{Lit, Values};
 use std::alloc::{AllocError, AllocFailed};
 
-/// What an unlicensed line lacks.
+/// What an unlicensed step lacks.
 #[derive(Drop)]
 pub enum Wanted {
     /// The first literal that is not allowed; the cited one of a citation.
@@ -21,23 +21,23 @@ pub enum Wanted {
 #[derive(Drop)]
 pub enum Stop {
     Unlicensed {
-        /// The line's number among the step and close lines, from 1.
+        /// The step's number, from 1; closes are steps too.
         step: u32,
         wanted: Wanted,
         /// Where a metric literal or a contradiction is wanted: values of the terms of the step
         /// with which the facts are true and the wanted literal is false.
         values: Option<Values>,
-        /// The names of the objects in scope before the line.
+        /// The names of the objects in scope before the step.
         names: Names,
     },
     /// Each step before is licensed, and a minor of a system of this one has size at least 2^63.
     TooWide {
-        /// The line's number among the step and close lines, from 1.
+        /// The step's number, from 1; closes are steps too.
         step: u32,
         wanted: Wanted,
         /// The width of the system.
         width: u128,
-        /// The names of the objects in scope before the line.
+        /// The names of the objects in scope before the step.
         names: Names,
     },
     NoMemory,

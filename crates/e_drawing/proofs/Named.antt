@@ -14,7 +14,7 @@ use Rattle.e_line.specs.Reading.{◌>>=◌}
 use Rattle.e_names.specs.Scope.{fresh}
 use Rattle.e_book.specs.LineLimits.{FewNamed}
 use Rattle.e_book.specs.Steps.{declared}
-use Rattle.e_line.proofs.Bound.{bind_ok, ok_is}
+use Rattle.e_line.proofs.base.Bound.{bind_ok, ok_is}
 use Rattle.e_drawing.specs.declared.plan.Plan.{Plan}
 use Rattle.e_drawing.specs.Plans.{FitsPlan}
 

@@ -12,7 +12,7 @@ use Rattle.e_line.specs.declared.fault.BookFault.TheVariants as faults
 use Rattle.e_line.specs.Faults.{trouble_at, line_fault}
 use Rattle.e_line.specs.Reading.{◌>>=◌, Fails}
 use Rattle.e_book.specs.Grammar.{is_skipped, put_at, BookFails}
-use Rattle.e_line.proofs.Bound.{bind_ok}
+use Rattle.e_line.proofs.base.Bound.{bind_ok}
 use Rattle.e_drawing.specs.declared.plan.Plan.{Plan}
 use Rattle.e_drawing.specs.Texts.{words_step, plan_at_end, plan_from, PlanIs, TakesPlanLine}
 

@@ -2,12 +2,12 @@
 use Rattle.std.proofs.Common.{◌≡◌, inl, inr, ℕ, zero, suc, ◌+◌, ◌<◌, ◌≤◌, List, [], ◌∷◌, length, Option, Some, None, Result, Ok, Err, refl, ap, arith}
 use Rattle.e_clause.specs.declared.cert.Version.{Version}
 use Rattle.e_theorem.specs.Statements.{stated}
-use Rattle.e_deriv.specs.Certified.{is_certified, derivation_lines, verdict}
+use Rattle.e_deriv.specs.Certified.{is_certified, derivation_steps, verdict}
 use Rattle.e_line.specs.Reading.{◌>>=◌}
 use Rattle.e_names.specs.TitledStatements.{TitledStatement, stated_by}
 use Rattle.e_book.specs.TheoremViews.{TheoremView}
 use Rattle.e_book.specs.Grammar.{Rest}
-use Rattle.e_line.proofs.Bound.{bind_ok}
+use Rattle.e_line.proofs.base.Bound.{bind_ok}
 use Rattle.e_read.specs.declared.reading.BlockParser.{BlockParser}
 use Rattle.e_read.specs.Text.{TextPiece, Derived, Last, at_start, parser_after_line, garbled_at, finished, or_on, is_end, piece_from}
 use Rattle.e_read.proofs.TakenLines.{either}
@@ -66,7 +66,7 @@ module _ (v : Version) where
       → Runs last (with_theorem known t) after → Runs last known lines
   by_verdict last known lines after t reads (Ok n) is more =
       let before = stated_by known in
-      goes_on last known lines after t reads (all_pass (is_certified before) (derivation_lines before (stated t.statement) t.script) 1 n is) more
+      goes_on last known lines after t reads (all_pass (is_certified before) (derivation_steps before (stated t.statement) t.script) 1 n is) more
   by_verdict last known lines after t reads (Err step) is more = ends_here last known lines (Bad t.title step) (inr (inr (t, after, step, reads, is, refl)))
 
   by_piece : (last : ℕ) (known : List TitledStatement) (lines : Rest) (a : Result Found ℕ) → piece_from known last (at_start v) lines ≡ a

@@ -4,8 +4,8 @@ use Rattle.std.specs.Prelude.{Option, Some, None}
 use Rattle.std.specs.List.{list_all}
 use Rattle.e_clause.specs.declared.cert.Version.{Version}
 use Rattle.e_theorem.specs.Statements.{stated}
-use Rattle.e_deriv.specs.Lines.{Line, first_failure}
-use Rattle.e_deriv.specs.Certified.{is_certified, derivation_lines, verdict}
+use Rattle.e_deriv.specs.PlacedSteps.{PlacedStep, first_failure}
+use Rattle.e_deriv.specs.Certified.{is_certified, derivation_steps, verdict}
 use Rattle.e_names.specs.TitledStatements.{TitledStatement, stated_by}
 use Rattle.e_book.specs.TheoremViews.{TheoremView}
 use Rattle.e_book.specs.Grammar.{Rest}
@@ -66,7 +66,7 @@ passes_not : (n k : ℕ) → let x : Result ℕ ℕ = Ok n in x ≡ fails_at k �
 passes_not n k e = absurd cc
 
 -- where each line passes there is no first failure
-no_failure : (p : Line → Bool) (xs : List Line) (n k : ℕ) → list_all p xs ≡ true → first_failure p xs n ≡ Err k → ⊥
+no_failure : (p : PlacedStep → Bool) (xs : List PlacedStep) (n k : ℕ) → list_all p xs ≡ true → first_failure p xs n ≡ Err k → ⊥
 no_failure p [] n k h e = passes_not n k e
 no_failure p (x ∷ xs) n k h e = by (p x) (λ good later. no_failure p xs (n + 1) k good later) h e
   where
@@ -76,7 +76,7 @@ no_failure p (x ∷ xs) n k h e = by (p x) (λ good later. no_failure p xs (n + 
 
 pub certified_no_failure : (known : List TitledStatement) (t : TheoremView) (step : ℕ) → IsCertified known t → verdict (stated_by known) (stated t.statement) t.script ≡ Err step → ⊥
 certified_no_failure known t step c e =
-    no_failure (is_certified (stated_by known)) (derivation_lines (stated_by known) (stated t.statement) t.script) 1 step c e
+    no_failure (is_certified (stated_by known)) (derivation_steps (stated_by known) (stated t.statement) t.script) 1 step c e
 
 same_bad : (known : List TitledStatement) (t u : TheoremView) (n m : ℕ) → t ≡ u → verdict (stated_by known) (stated t.statement) t.script ≡ Err n → verdict (stated_by known) (stated u.statement) u.script ≡ Err m → Bad t.title n ≡ Bad u.title m
 same_bad known t u n m e h k =

@@ -9,7 +9,7 @@ use Rattle.e_deriv.specs.Fitting.{is_small_statement}
 use Rattle.e_names.specs.TitledStatements.{TitledStatement, stated_by}
 use Rattle.e_book.specs.TheoremViews.{TheoremView}
 use Rattle.e_book.specs.Grammar.{last_line, Rest}
-use Rattle.e_book.proofs.Fitting.{one_more_stated}
+use Rattle.e_book.proofs.fit_theorems.Fitting.{one_more_stated}
 use Rattle.e_read.specs.Text.{at_start, piece_from}
 use Rattle.e_judgement.specs.declared.judgement.Judgement.{Judgement}
 use Rattle.e_judgement.specs.declared.judgement.Judgement.TheVariants.{Garbled}

@@ -12,12 +12,12 @@ use Rattle.e_deriv.specs.Fitting.{is_small_statement, IsFitting}
 use Rattle.e_names.specs.TitledStatements.{TitledStatement, stated_by}
 use Rattle.e_book.specs.TheoremViews.{TheoremView}
 use Rattle.e_book.specs.HasSpelling.{HasSpelling}
-use Rattle.e_book.proofs.Fitting.{fitting}
-use Rattle.e_book.proofs.WrittenScripts.{erased_literals, written_well}
+use Rattle.e_book.proofs.fit_theorems.Fitting.{fitting}
+use Rattle.e_book.proofs.fit_theorems.WrittenScripts.{erased_literals, written_well}
 use Rattle.e_verify.specs.Verdicts.{IsVerifiable}
 use Rattle.e_read.specs.Text.{at_start, piece_from, without_certs}
 use Rattle.e_read.proofs.Bridge.{derives}
-use Rattle.e_read.proofs.GoodReadings.{good_certs_read}
+use Rattle.e_read.proofs.ReadCertificates.{good_certs_read}
 use Rattle.e_judgement.proofs.WithCertificates.{size_erased, small_with}
 
 pub verifiable : (v : Version) (known : List TitledStatement) (last : ℕ) (lines rest : List (Result LineView LineFault)) (t : TheoremView) → list_all is_small_statement (stated_by known) ≡ true → is_small_statement (stated t.statement) ≡ true → HasSpelling known (without_certs t)

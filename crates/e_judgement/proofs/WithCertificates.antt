@@ -15,7 +15,7 @@ use Rattle.e_construct.specs.Superposing as superposing
 use Rattle.e_deriv.specs.Script.{Script, Cite, Hence, Make, Apply, Claim, Superposed, Qed, Contradiction, Cases, size, erased}
 use Rattle.e_deriv.specs.Parts.{rest_of, inner_of, args_of}
 use Rattle.e_deriv.specs.Goal.{Goal, goal_of}
-use Rattle.e_deriv.specs.Lines.{Line, lines, theorem_at}
+use Rattle.e_deriv.specs.PlacedSteps.{PlacedStep, placed_steps, theorem_at}
 use Rattle.e_deriv.specs.Fitting.{is_small}
 
 pub size_erased : (s : Script) → size (erased s) ≡ size s
@@ -32,55 +32,55 @@ size_erased (Cases lit first second) = ap (λ n. 1 + n + size (erased second)) (
 
 -- ---- scopes
 
-abbrev is_small_line : Line → Bool
+abbrev is_small_line : PlacedStep → Bool
 is_small_line x = is_small x.scope
 
-parted : (xs ys : List Line) → list_all is_small_line (xs ++ ys) ≡ true → (list_all is_small_line xs ≡ true) × (list_all is_small_line ys ≡ true)
+parted : (xs ys : List PlacedStep) → list_all is_small_line (xs ++ ys) ≡ true → (list_all is_small_line xs ≡ true) × (list_all is_small_line ys ≡ true)
 parted xs ys h = and_parts (list_all is_small_line xs) (list_all is_small_line ys) (sym (list_all-append is_small_line xs ys) ∙ h)
 
 -- the scopes before the lines are the same, whatever the facts, the goals and the arguments are
-pub small_with : (bs : List StatementView) (d f g : Script) (s : Scope) (facts more : List Lit) (goal aim : Goal) → list_all is_small_line (lines bs (erased d) f s facts goal) ≡ true → list_all is_small_line (lines bs d g s more aim) ≡ true
-unfolding lines erased
+pub small_with : (bs : List StatementView) (d f g : Script) (s : Scope) (facts more : List Lit) (goal aim : Goal) → list_all is_small_line (placed_steps bs (erased d) f s facts goal) ≡ true → list_all is_small_line (placed_steps bs d g s more aim) ≡ true
+unfolding placed_steps erased
 small_with bs (Cite by rest) f g s facts more goal aim h =
-    let p = and_parts (is_small s) (list_all is_small_line (lines bs (erased rest) (rest_of f) s (joined facts by.lit) goal)) h in
+    let p = and_parts (is_small s) (list_all is_small_line (placed_steps bs (erased rest) (rest_of f) s (joined facts by.lit) goal)) h in
     and_from _ _ p.0 (small_with bs rest (rest_of f) (rest_of g) s (joined facts by.lit) (joined more by.lit) goal aim p.1)
 small_with bs (Hence lit cert rest) f g s facts more goal aim h =
-    let p = and_parts (is_small s) (list_all is_small_line (lines bs (erased rest) (rest_of f) s (joined facts lit) goal)) h in
+    let p = and_parts (is_small s) (list_all is_small_line (placed_steps bs (erased rest) (rest_of f) s (joined facts lit) goal)) h in
     and_from _ _ p.0 (small_with bs rest (rest_of f) (rest_of g) s (joined facts lit) (joined more lit) goal aim p.1)
 small_with bs (Make form names certs rest) f g s facts more goal aim h =
     let t = grown s (sorts_made form) in
-    let p = and_parts (is_small s) (list_all is_small_line (lines bs (erased rest) (rest_of f) t (joined_all facts (gives_of_construction form s)) goal)) h in
+    let p = and_parts (is_small s) (list_all is_small_line (placed_steps bs (erased rest) (rest_of f) t (joined_all facts (gives_of_construction form s)) goal)) h in
     and_from _ _ p.0 (small_with bs rest (rest_of f) (rest_of g) t (joined_all facts (gives_of_construction form s)) (joined_all more (gives_of_construction form s)) goal aim p.1)
 small_with bs (Apply theorem args names certs rest) f g s facts more goal aim h =
     let u = theorem_at bs theorem in
     let t = grown s u.made in
-    let p = and_parts (is_small s) (list_all is_small_line (lines bs (erased rest) (rest_of f) t (joined_all facts (gives_of_use u (args_of f) s)) goal)) h in
+    let p = and_parts (is_small s) (list_all is_small_line (placed_steps bs (erased rest) (rest_of f) t (joined_all facts (gives_of_use u (args_of f) s)) goal)) h in
     and_from _ _ p.0 (small_with bs rest (rest_of f) (rest_of g) t (joined_all facts (gives_of_use u (args_of f) s)) (joined_all more (gives_of_use u (args_of g) s)) goal aim p.1)
 small_with bs (Claim shown inner rest) f g s facts more goal aim h =
-    let inside = lines bs (erased inner) (inner_of f) s facts (goal_of shown) in
-    let after = lines bs (erased rest) (rest_of f) s (joined_all facts shown) goal in
+    let inside = placed_steps bs (erased inner) (inner_of f) s facts (goal_of shown) in
+    let after = placed_steps bs (erased rest) (rest_of f) s (joined_all facts shown) goal in
     let p = and_parts (is_small s) (list_all is_small_line (inside ++ after)) h in
     let q = parted inside after p.1 in
     and_from _ _ p.0
-    (all_both is_small_line (lines bs inner (inner_of g) s more (goal_of shown)) _ (small_with bs inner (inner_of f) (inner_of g) s facts more (goal_of shown) (goal_of shown) q.0)
+    (all_both is_small_line (placed_steps bs inner (inner_of g) s more (goal_of shown)) _ (small_with bs inner (inner_of f) (inner_of g) s facts more (goal_of shown) (goal_of shown) q.0)
     (small_with bs rest (rest_of f) (rest_of g) s (joined_all facts shown) (joined_all more shown) goal aim q.1))
 small_with bs (Superposed form names shown certs inner rest) f g s facts more goal aim h =
     let t = grown s superposing.sorts_copied in
     let given = superposing.gives_of_superposition form s in
-    let inside = lines bs (erased inner) (inner_of f) t (joined_all facts given) (goal_of shown) in
-    let after = lines bs (erased rest) (rest_of f) s (joined_all facts shown) goal in
+    let inside = placed_steps bs (erased inner) (inner_of f) t (joined_all facts given) (goal_of shown) in
+    let after = placed_steps bs (erased rest) (rest_of f) s (joined_all facts shown) goal in
     let p = and_parts (is_small s) (list_all is_small_line (inside ++ after)) h in
     let q = parted inside after p.1 in
     and_from _ _ p.0
-    (all_both is_small_line (lines bs inner (inner_of g) t (joined_all more given) (goal_of shown)) _ (small_with bs inner (inner_of f) (inner_of g) t (joined_all facts given) (joined_all more given) (goal_of shown) (goal_of shown) q.0)
+    (all_both is_small_line (placed_steps bs inner (inner_of g) t (joined_all more given) (goal_of shown)) _ (small_with bs inner (inner_of f) (inner_of g) t (joined_all facts given) (joined_all more given) (goal_of shown) (goal_of shown) q.0)
     (small_with bs rest (rest_of f) (rest_of g) s (joined_all facts shown) (joined_all more shown) goal aim q.1))
 small_with bs (Qed objects certs) f g s facts more goal aim h = and_from _ _ (and_parts (is_small s) true h).0 refl
 small_with bs (Contradiction against) f g s facts more goal aim h = and_from _ _ (and_parts (is_small s) true h).0 refl
 small_with bs (Cases lit first second) f g s facts more goal aim h =
-    let one = lines bs (erased first) (inner_of f) s (joined facts lit) goal in
-    let two = lines bs (erased second) (rest_of f) s (joined facts (negation lit)) goal in
+    let one = placed_steps bs (erased first) (inner_of f) s (joined facts lit) goal in
+    let two = placed_steps bs (erased second) (rest_of f) s (joined facts (negation lit)) goal in
     let p = and_parts (is_small s) (list_all is_small_line (one ++ two)) h in
     let q = parted one two p.1 in
     and_from _ _ p.0
-    (all_both is_small_line (lines bs first (inner_of g) s (joined more lit) aim) _ (small_with bs first (inner_of f) (inner_of g) s (joined facts lit) (joined more lit) goal aim q.0)
+    (all_both is_small_line (placed_steps bs first (inner_of g) s (joined more lit) aim) _ (small_with bs first (inner_of f) (inner_of g) s (joined facts lit) (joined more lit) goal aim q.0)
     (small_with bs second (rest_of f) (rest_of g) s (joined facts (negation lit)) (joined more (negation lit)) goal aim q.1))

@@ -26,7 +26,7 @@ abbrev pub ReadsNext : Version → ℕ → List TitledStatement → Rest → The
 ReadsNext v last known lines t after =
     piece_from known last (at_start v) lines ≡ Ok (Derived t, after)
 
--- with this known, each certificate of the theorem's derivation certifies at its own line
+-- with this known, each certificate of the theorem's derivation certifies at its own step
 abbrev pub IsCertified : List TitledStatement → TheoremView → Type 0
 IsCertified known t = Certified (stated_by known) (stated t.statement) t.script
 

@@ -99,7 +99,7 @@ fn put_items_of(alloc: Global, words: &[&[u8]], items: &mut Items<RawItem>) -> R
 }
 
 /// One or more of them with semicolons between them.
-#[tactic(auto, using(crate::proofs::Loops::from_none))]
+#[tactic(auto, using(crate::proofs::base::Loops::from_none))]
 fn items_of(alloc: Global, words: &[&[u8]]) -> Result<Items<RawItem>, LineError>
     ensures { Gives (λ i. i) result (items_of (texts words.now)) }
 {

@@ -38,7 +38,7 @@ fn is_word_of(piece: Piece, word: &[u8]) -> bool
 }
 
 /// Whether the words are those of a line, one for each piece.
-#[tactic(auto, using(crate::proofs::Placed::counting))]
+#[tactic(auto, using(crate::proofs::read_again::Placed::counting))]
 pub(crate) fn are_words_of(pieces: &[Piece], words: &[&[u8]]) -> bool
     ensures { result ≡ are_words_of (map piece_view pieces.now) (texts words.now) }
 {

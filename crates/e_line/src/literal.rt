@@ -331,7 +331,7 @@ pub fn diagram_lits_of(alloc: Global, words: &[&[u8]]) -> Result<Items<RawLit>, 
 }
 
 /// One or more literals with semicolons between them.
-#[tactic(auto, using(crate::proofs::Loops::from_none))]
+#[tactic(auto, using(crate::proofs::base::Loops::from_none))]
 pub(crate) fn lits_of(alloc: Global, words: &[&[u8]]) -> Result<Items<RawLit>, LineError>
     ensures { Gives (λ l. l) result (lits_of (texts words.now)) }
 {

@@ -139,7 +139,7 @@ fn put_monos_of(words: &[&[u8]], monos: &mut Items<RawMono>) -> Result<(), LineE
 }
 
 /// Monomials with a plus between two; or none, which is written `0`.
-#[tactic(auto, using(crate::proofs::Loops::from_none), unfolding(crate::specs::Sums::sum_of))]
+#[tactic(auto, using(crate::proofs::base::Loops::from_none), unfolding(crate::specs::Sums::sum_of))]
 pub(crate) fn sum_of(alloc: Global, words: &[&[u8]]) -> Result<Items<RawMono>, LineError>
     ensures { Gives (λ s. s) result (sum_of (texts words.now)) }
 {

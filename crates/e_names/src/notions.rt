@@ -39,7 +39,7 @@ impl Notions {
     }
 
     /// How many there are.
-    #[tactic(auto, using(crate::proofs::NotionsBeside::length_beside))]
+    #[tactic(auto, using(crate::proofs::titles::NotionsBeside::length_beside))]
     pub fn len(&self) -> usize
         ensures { result ≡ length self.now }
     {
@@ -59,7 +59,7 @@ impl Notions {
     }
 
     /// Whether a definition has this title.
-    #[tactic(auto, using(crate::proofs::NotionsBeside::titles_of))]
+    #[tactic(auto, using(crate::proofs::titles::NotionsBeside::titles_of))]
     pub fn is_known(&self, title: Title) -> bool
         ensures { result ≡ defines self.now title }
     {

@@ -41,7 +41,7 @@ impl Theorems {
     }
 
     /// How many there are.
-    #[tactic(auto, using(crate::proofs::SideBySide::length_side_by_side))]
+    #[tactic(auto, using(crate::proofs::titles::SideBySide::length_side_by_side))]
     pub fn len(&self) -> usize
         ensures { result ≡ length self.now }
     {
@@ -61,7 +61,7 @@ impl Theorems {
     }
 
     /// Whether a theorem has this title.
-    #[tactic(auto, using(crate::proofs::SideBySide::titles_of))]
+    #[tactic(auto, using(crate::proofs::titles::SideBySide::titles_of))]
     pub fn is_known(&self, title: Title) -> bool
         ensures { result ≡ is_known self.now title }
     {
@@ -76,7 +76,7 @@ impl Theorems {
     }
 
     /// The title at a place.
-    #[tactic(auto, using(crate::proofs::SideBySide::titles_of, crate::proofs::SideBySide::length_side_by_side))]
+    #[tactic(auto, using(crate::proofs::titles::SideBySide::titles_of, crate::proofs::titles::SideBySide::length_side_by_side))]
     pub fn title(&self, place: usize) -> Title
         requires { place < length self.now }
         ensures { slice_get (titles self.now) place ≡ Some result }
@@ -85,7 +85,7 @@ impl Theorems {
     }
 
     /// What the theorem at a place states.
-    #[tactic(auto, using(crate::proofs::SideBySide::statement_at))]
+    #[tactic(auto, using(crate::proofs::titles::SideBySide::statement_at))]
     pub fn statement(&self, place: usize) -> &Statement
         requires { place < length self.now }
         ensures { stated result.now ≡ theorem_of self.now place }
@@ -94,7 +94,7 @@ impl Theorems {
     }
 
     /// The statements, in order.
-    #[tactic(auto, using(crate::proofs::SideBySide::statements_of))]
+    #[tactic(auto, using(crate::proofs::titles::SideBySide::statements_of))]
     pub fn statements(&self) -> &[Statement]
         ensures { result.now ≡ statements self.now }
     {

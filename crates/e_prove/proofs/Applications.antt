@@ -24,8 +24,8 @@ use Rattle.e_deriv.specs.declared.block.Step.TheVariants.{Apply as ApplyStep}
 use Rattle.e_deriv.specs.declared.stop.Wanted.TheVariants.{Literal, Match, Contradiction}
 use Rattle.e_deriv.specs.Script.{Apply, step_script, erased}
 use Rattle.e_deriv.specs.Parts.{written, has_no_blank, filled_in, filled_by}
-use Rattle.e_deriv.specs.Lines.{lines, theorem_at}
-use Rattle.e_deriv.specs.Naming.{names_lines}
+use Rattle.e_deriv.specs.PlacedSteps.{placed_steps, theorem_at}
+use Rattle.e_deriv.specs.Naming.{names_of_steps}
 use Rattle.e_deriv.specs.Fitting.{is_small, is_small_statement}
 use Rattle.e_deriv.proofs.Choices.{written_again, no_blank_again, fills_again, least_of_good}
 use Rattle.e_deriv.proofs.Stops.{none_not_allowed}
@@ -110,7 +110,7 @@ record Filled (t : StatementView) (pattern entries : List (Option Obj)) (x : Bas
 
 licensed_by_choice : (before : List StatementView) (theorem : ℕ) (pattern entries : List (Option Obj)) (names : List (List ℕ)) (old certs : List Cert) (x : StepState) → Filled (theorem_at before theorem) pattern entries x.context certs →
     IsLicensedStep before (ApplyStep theorem pattern names old) x (ApplyStep theorem entries names certs) (after_apply (theorem_at before theorem) (written entries) names x)
-unfolding lines erased filled_by names_lines step_script has_certs_of
+unfolding placed_steps erased filled_by names_of_steps step_script has_certs_of
 licensed_by_choice before theorem pattern entries names old certs x h =
     let t = theorem_at before theorem in
     let s = x.context.scope in
@@ -121,7 +121,7 @@ licensed_by_choice before theorem pattern entries names old certs x h =
           record {
             fits = and_from low (is_choice t s pattern args) (and_left low (is_pattern t s pattern) form) h.least.good.is_choice;
             allowed = all_allowed_of_certified s x.context.facts (needs_of_use t args s) certs h.certified;
-            beside = h.least;
+            others = h.least;
           };
       certified = λ rest more goal form.
           and_from _ _

@@ -30,7 +30,7 @@ use Rattle.e_prove.specs.inner.PassedSteps.{IsReadyFor, IsReadyStep, IsDerivedFr
 use Rattle.e_prove.proofs.PassedSteps.{passed_none, passed_more, passed_as, stops_first, same_names}
 use Rattle.e_prove.proofs.StopsInLists.{stop_within, before_more, stop_before}
 use Rattle.e_prove.proofs.InnerBlocks.{ClaimReady, claim_size, claim_stops, SuperposedReady, Certifies, superposed_size, superposed_stops, superposed_step_stops, SplitReady, split_ready, split_other, split_derives, split_first, split_second}
-use Rattle.e_book.proofs.KeptBlocks.{size_split}
+use Rattle.e_book.proofs.parsers.KeptBlocks.{size_split}
 
 pub on_ok : {A E : Type 0} (p : Type 0) (r : Result A E) → p → OnOk r p
 on_ok p (Ok a) h = h

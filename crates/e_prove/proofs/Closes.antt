@@ -26,7 +26,7 @@ use Rattle.e_prove.specs.declared.step_state.StepState.{StepState}
 use Rattle.e_prove.specs.inner.PassedSteps.{IsReadyFor}
 use Rattle.e_deriv.specs.Goal.{Goal, are_for, goal_with}
 use Rattle.e_deriv.specs.Parts.{filled_by}
-use Rattle.e_deriv.specs.Lines.{lines}
+use Rattle.e_deriv.specs.PlacedSteps.{placed_steps}
 use Rattle.e_deriv.specs.Versions.{has_certs_of}
 use Rattle.e_licence.specs.Contexts.{Basis}
 use Rattle.e_prove.specs.declared.step_stop.StepStop.{StepStop}
@@ -40,7 +40,7 @@ pub record QedFits (objects : List Obj) (x : Basis) (goal : Goal) : Type 0 where
   pub lits : are_well_formed_in x.scope (goal_with goal objects) ≡ true
 
 qed_lines : (before : List StatementView) (objects : List Obj) (certs : List Cert) (x : StepState) (goal : Goal) → IsReadyFor before (Qed objects certs) x goal → QedFits objects x.context goal
-unfolding lines
+unfolding placed_steps
 qed_lines before objects certs x goal r =
     let form = and_left (are_for goal x.context.scope objects) true r.forms in
     record { form = form; lits = ((r.lits (Qed objects certs)).1 form).0 }
@@ -51,10 +51,10 @@ qed_fits before objects certs x goal r = qed_lines before objects certs x goal r
 
 closed_by : (before : List StatementView) (objects : List Obj) (written certs : List Cert) (x : Basis) (goal : Goal) → are_for goal x.scope objects ≡ true →
     IsTrue (certify_all x.scope x.facts (goal_with goal objects) certs) → IsTrue (list_all (is_cert_of version.One) certs) → IsLicensedClose before (QedClose objects written) x goal (QedClose objects certs)
-unfolding lines erased filled_by close_script has_certs_of
+unfolding placed_steps erased filled_by close_script has_certs_of
 closed_by before objects written certs x goal form h g =
     record {
-      licensed = (record { fits = form; allowed = all_allowed_of_certified x.scope x.facts (goal_with goal objects) certs h; beside = tt }, tt);
+      licensed = (record { fits = form; allowed = all_allowed_of_certified x.scope x.facts (goal_with goal objects) certs h; others = tt }, tt);
       certified = and_from _ _ (and_from _ _ form (and_from _ _ h refl)) refl;
       erased = refl;
       written = g;
@@ -86,10 +86,10 @@ qed_stops before objects written wanted x goal h all k = qed_stops_by before obj
 -- a contradiction with its certificate
 closed_by_against : (before : List StatementView) (written : Option Against) (a : Against) (x : Basis) (goal : Goal) → IsCertifiedAgainst x a →
     IsLicensedClose before (ContradictionClose written) x goal (ContradictionClose (Some a))
-unfolding lines erased filled_by close_script has_certs_of
+unfolding placed_steps erased filled_by close_script has_certs_of
 closed_by_against before written a x goal h =
     record {
-      licensed = (record { fits = refl; allowed = tt; beside = contradictory_of_certified x.scope x.facts a h.certifies }, tt);
+      licensed = (record { fits = refl; allowed = tt; others = contradictory_of_certified x.scope x.facts a h.certifies }, tt);
       certified = and_from _ _ h.certifies refl;
       erased = refl;
       written = h.written;

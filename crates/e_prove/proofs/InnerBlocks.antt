@@ -21,9 +21,9 @@ use Rattle.e_deriv.specs.declared.names.Names.{Names}
 use Rattle.e_deriv.specs.declared.stop.Stop.{Stop}
 use Rattle.e_deriv.specs.Script.{Script, Claim, Superposed, Cases, size, erased}
 use Rattle.e_deriv.specs.Goal.{Goal, goal_of}
-use Rattle.e_deriv.specs.Lines.{Line, lines}
+use Rattle.e_deriv.specs.PlacedSteps.{PlacedStep, placed_steps}
 use Rattle.e_deriv.specs.Steps.{are_over}
-use Rattle.e_deriv.specs.Naming.{named, names_lines}
+use Rattle.e_deriv.specs.Naming.{named, names_of_steps}
 use Rattle.e_deriv.specs.Licensed.{Licensed}
 use Rattle.e_deriv.specs.Certified.{is_certified}
 use Rattle.e_deriv.specs.Parts.{filled_by}
@@ -36,13 +36,13 @@ use Rattle.e_deriv.specs.declared.stop.Wanted.TheVariants.{Literal, Match, Contr
 use Rattle.e_prove.specs.declared.step_state.StepState.{StepState}
 use Rattle.e_prove.specs.inner.StepStates.{after_literal, after_superposed, after_block}
 use Rattle.e_prove.specs.inner.StopsOfSteps.{StepStopsAt, StepStopsAmong}
-use Rattle.e_prove.specs.inner.LicensedSteps.{line_from_basis, has_form}
+use Rattle.e_prove.specs.inner.LicensedSteps.{step_from_basis, has_form}
 use Rattle.e_prove.specs.inner.PassedSteps.{IsReadyFor, IsDerivedFrom, Arrival, IsReachedIn, ReachesWithin, StopsWithin, IsPassed}
 use Rattle.e_prove.proofs.StopsInLists.{reached_after, reached_left, reached_right, stops_by, names_length, all_both, lits_first, lits_second}
 use Rattle.e_deriv.specs.Versions.{has_certs_of}
 
 -- few objects are in scope before the step
-abbrev few_before : Line → Bool
+abbrev few_before : PlacedStep → Bool
 few_before y = is_small y.scope
 
 -- ---- a claim
@@ -53,19 +53,19 @@ pub record ClaimReady (before : List StatementView) (shown : List Lit) (inner : 
   pub block : IsReadyFor before inner x (goal_of shown)
 
 pub claim_ready : (before : List StatementView) (shown : List Lit) (inner rest : Script) (x : StepState) (goal : Goal) → IsReadyFor before (Claim shown inner rest) x goal → ClaimReady before shown inner x
-unfolding lines
+unfolding placed_steps
 claim_ready before shown inner rest x goal r =
     let s = x.context.scope in
     let facts = x.context.facts in
-    let y = line_from_basis (Claim shown inner rest) (Claim shown inner rest) x.context goal in
-    let one = lines before inner inner s facts (goal_of shown) in
-    let other = lines before rest rest s (joined_all facts shown) goal in
+    let y = step_from_basis (Claim shown inner rest) (Claim shown inner rest) x.context goal in
+    let one = placed_steps before inner inner s facts (goal_of shown) in
+    let other = placed_steps before rest rest s (joined_all facts shown) goal in
     let over = and_left (has_form before y) (list_all (has_form before) (one ++ other)) r.forms in
     record {
       over = over;
       block = record {
         forms = all_left (has_form before) one other (and_right (has_form before y) (list_all (has_form before) (one ++ other)) r.forms);
-        lits = λ w. lits_first before (lines before inner w s facts (goal_of shown)) other ((r.lits (Claim shown w rest)).1 over).1;
+        lits = λ w. lits_first before (placed_steps before inner w s facts (goal_of shown)) other ((r.lits (Claim shown w rest)).1 over).1;
         scopes = all_left few_before one other (and_right (few_before y) (list_all few_before (one ++ other)) r.scopes);
         statements = r.statements;
       };
@@ -73,35 +73,35 @@ claim_ready before shown inner rest x goal r =
 
 pub claim_rest : (before : List StatementView) (shown : List Lit) (inner derived rest : Script) (x : StepState) (goal : Goal) → IsDerivedFrom before inner x (goal_of shown) derived → IsReadyFor before (Claim shown inner rest) x goal →
     IsReadyFor before rest (after_block shown x) goal
-unfolding lines
+unfolding placed_steps
 claim_rest before shown inner derived rest x goal d r =
     let s = x.context.scope in
     let facts = x.context.facts in
-    let y = line_from_basis (Claim shown inner rest) (Claim shown inner rest) x.context goal in
-    let one = lines before inner inner s facts (goal_of shown) in
-    let other = lines before rest rest s (joined_all facts shown) goal in
+    let y = step_from_basis (Claim shown inner rest) (Claim shown inner rest) x.context goal in
+    let one = placed_steps before inner inner s facts (goal_of shown) in
+    let other = placed_steps before rest rest s (joined_all facts shown) goal in
     let over = and_left (has_form before y) (list_all (has_form before) (one ++ other)) r.forms in
     record {
       forms = all_right (has_form before) one other (and_right (has_form before y) (list_all (has_form before) (one ++ other)) r.forms);
-      lits = λ w. lits_second before (lines before inner derived s facts (goal_of shown)) (lines before rest w s (joined_all facts shown) goal) d.licensed ((r.lits (Claim shown derived w)).1 over).1;
+      lits = λ w. lits_second before (placed_steps before inner derived s facts (goal_of shown)) (placed_steps before rest w s (joined_all facts shown) goal) d.licensed ((r.lits (Claim shown derived w)).1 over).1;
       scopes = all_right few_before one other (and_right (few_before y) (list_all few_before (one ++ other)) r.scopes);
       statements = r.statements;
     }
 
 claim_derives : (before : List StatementView) (shown : List Lit) (inner derived rest more : Script) (x : StepState) (goal : Goal) → are_over x.context.scope shown ≡ true → IsDerivedFrom before inner x (goal_of shown) derived →
     IsDerivedFrom before rest (after_block shown x) goal more → IsDerivedFrom before (Claim shown inner rest) x goal (Claim shown derived more)
-unfolding lines erased filled_by has_certs_of
+unfolding placed_steps erased filled_by has_certs_of
 claim_derives before shown inner derived rest more x goal over d m =
     let s = x.context.scope in
     let facts = x.context.facts in
     record {
       licensed = (
-        record { fits = over; allowed = tt; beside = tt },
-        both_licensed before (lines before inner derived s facts (goal_of shown)) (lines before rest more s (joined_all facts shown) goal) d.licensed m.licensed,
+        record { fits = over; allowed = tt; others = tt },
+        both_licensed before (placed_steps before inner derived s facts (goal_of shown)) (placed_steps before rest more s (joined_all facts shown) goal) d.licensed m.licensed,
       );
       certified =
           and_from _ _ (and_from _ _ over refl)
-          (all_both (is_certified before) (lines before derived derived s facts (goal_of shown)) (lines before more more s (joined_all facts shown) goal) d.certified m.certified);
+          (all_both (is_certified before) (placed_steps before derived derived s facts (goal_of shown)) (placed_steps before more more s (joined_all facts shown) goal) d.certified m.certified);
       erased = ap₂ (Claim shown) d.erased m.erased;
       written = and_from _ _ d.written m.written;
     }
@@ -109,18 +109,18 @@ claim_derives before shown inner derived rest more x goal over d m =
 -- what is found in its block
 pub claim_reaches : (before : List StatementView) (shown : List Lit) (inner rest : Script) (x : StepState) (goal : Goal) (n : ℕ) (a : Arrival) (i : ℕ) (seen : Names) → are_over x.context.scope shown ≡ true →
     ReachesWithin before inner x (goal_of shown) (n + 1) a i seen → ReachesWithin before (Claim shown inner rest) x goal n a i seen
-unfolding lines names_lines
+unfolding placed_steps names_of_steps
 claim_reaches before shown inner rest x goal n a i seen over k =
     let s = x.context.scope in
     let facts = x.context.facts in
-    let one = lines before inner k.filled s facts (goal_of shown) in
-    let other = lines before rest rest s (joined_all facts shown) goal in
-    let ns = names_lines before x.names inner in
-    let ms = names_lines before x.names rest in
+    let one = placed_steps before inner k.filled s facts (goal_of shown) in
+    let other = placed_steps before rest rest s (joined_all facts shown) goal in
+    let ns = names_of_steps before x.names inner in
+    let ms = names_of_steps before x.names rest in
     record {
       filled = Claim shown k.filled rest;
       reached =
-          reached_after before (line_from_basis (Claim shown inner rest) (Claim shown k.filled rest) x.context goal) (one ++ other) x.names (ns ++ ms) n a i seen (record { fits = over; allowed = tt; beside = tt })
+          reached_after before (step_from_basis (Claim shown inner rest) (Claim shown k.filled rest) x.context goal) (one ++ other) x.names (ns ++ ms) n a i seen (record { fits = over; allowed = tt; others = tt })
           (reached_left before one other ns ms (n + 1) a i seen k.reached);
     }
 
@@ -132,18 +132,18 @@ claim_stops before shown inner rest x goal n stop over k =
 -- and after it
 pub claim_reaches_later : (before : List StatementView) (shown : List Lit) (inner derived rest : Script) (x : StepState) (goal : Goal) (n next : ℕ) (a : Arrival) (i : ℕ) (seen : Names) → are_over x.context.scope shown ≡ true →
     IsDerivedFrom before inner x (goal_of shown) derived → next ≡ n + 1 + size inner → ReachesWithin before rest (after_block shown x) goal next a i seen → ReachesWithin before (Claim shown inner rest) x goal n a i seen
-unfolding lines names_lines
+unfolding placed_steps names_of_steps
 claim_reaches_later before shown inner derived rest x goal n next a i seen over d count k =
     let s = x.context.scope in
     let facts = x.context.facts in
-    let one = lines before inner derived s facts (goal_of shown) in
-    let other = lines before rest k.filled s (joined_all facts shown) goal in
-    let ns = names_lines before x.names inner in
-    let ms = names_lines before x.names rest in
+    let one = placed_steps before inner derived s facts (goal_of shown) in
+    let other = placed_steps before rest k.filled s (joined_all facts shown) goal in
+    let ns = names_of_steps before x.names inner in
+    let ms = names_of_steps before x.names rest in
     record {
       filled = Claim shown derived k.filled;
       reached =
-          reached_after before (line_from_basis (Claim shown inner rest) (Claim shown derived k.filled) x.context goal) (one ++ other) x.names (ns ++ ms) n a i seen (record { fits = over; allowed = tt; beside = tt })
+          reached_after before (step_from_basis (Claim shown inner rest) (Claim shown derived k.filled) x.context goal) (one ++ other) x.names (ns ++ ms) n a i seen (record { fits = over; allowed = tt; others = tt })
           (reached_right before one other ns ms (size inner) (n + 1) a i seen (lines_length before inner derived s facts (goal_of shown)) (names_length before x.names inner) d.licensed
           (subst (λ m. IsReachedIn before other ms m a i seen) count k.reached));
     }
@@ -181,16 +181,16 @@ pub record SuperposedReady (before : List StatementView) (form : Superpose) (nam
 
 pub superposed_ready : (before : List StatementView) (form : Superpose) (names : List (List ℕ)) (shown : List Lit) (certs : List Cert) (inner rest : Script) (x : StepState) (goal : Goal) →
     IsReadyFor before (Superposed form names shown certs inner rest) x goal → SuperposedReady before form names shown inner x
-unfolding lines
+unfolding placed_steps
 superposed_ready before form names shown certs inner rest x goal r =
     let s = x.context.scope in
     let facts = x.context.facts in
     let here = Superposed form names shown certs inner rest in
-    let y = line_from_basis here here x.context goal in
+    let y = step_from_basis here here x.context goal in
     let t = grown s superposing.sorts_copied in
     let given = joined_all facts (superposing.gives_of_superposition form s) in
-    let one = lines before inner inner t given (goal_of shown) in
-    let other = lines before rest rest s (joined_all facts shown) goal in
+    let one = placed_steps before inner inner t given (goal_of shown) in
+    let other = placed_steps before rest rest s (joined_all facts shown) goal in
     let form_fits = and_left (has_form before y) (list_all (has_form before) (one ++ other)) r.forms in
     record {
       fits = and_left (superposing.fits_superposition form s) (are_over s shown) form_fits;
@@ -198,7 +198,7 @@ superposed_ready before form names shown certs inner rest x goal r =
       needs = ((r.lits here).1 form_fits).0;
       block = record {
         forms = all_left (has_form before) one other (and_right (has_form before y) (list_all (has_form before) (one ++ other)) r.forms);
-        lits = λ w. lits_first before (lines before inner w t given (goal_of shown)) other ((r.lits (Superposed form names shown certs w rest)).1 form_fits).1;
+        lits = λ w. lits_first before (placed_steps before inner w t given (goal_of shown)) other ((r.lits (Superposed form names shown certs w rest)).1 form_fits).1;
         scopes = all_left few_before one other (and_right (few_before y) (list_all few_before (one ++ other)) r.scopes);
         statements = r.statements;
       };
@@ -207,21 +207,21 @@ superposed_ready before form names shown certs inner rest x goal r =
 
 pub superposed_rest : (before : List StatementView) (form : Superpose) (names : List (List ℕ)) (shown : List Lit) (certs : List Cert) (inner derived rest : Script) (x : StepState) (goal : Goal) →
     IsDerivedFrom before inner (after_superposed form names x) (goal_of shown) derived → IsReadyFor before (Superposed form names shown certs inner rest) x goal → IsReadyFor before rest (after_block shown x) goal
-unfolding lines
+unfolding placed_steps
 superposed_rest before form names shown certs inner derived rest x goal d r =
     let s = x.context.scope in
     let facts = x.context.facts in
     let here = Superposed form names shown certs inner rest in
-    let y = line_from_basis here here x.context goal in
+    let y = step_from_basis here here x.context goal in
     let t = grown s superposing.sorts_copied in
     let given = joined_all facts (superposing.gives_of_superposition form s) in
-    let one = lines before inner inner t given (goal_of shown) in
-    let other = lines before rest rest s (joined_all facts shown) goal in
+    let one = placed_steps before inner inner t given (goal_of shown) in
+    let other = placed_steps before rest rest s (joined_all facts shown) goal in
     let form_fits = and_left (has_form before y) (list_all (has_form before) (one ++ other)) r.forms in
     record {
       forms = all_right (has_form before) one other (and_right (has_form before y) (list_all (has_form before) (one ++ other)) r.forms);
       lits = λ w.
-          lits_second before (lines before inner derived t given (goal_of shown)) (lines before rest w s (joined_all facts shown) goal) d.licensed
+          lits_second before (placed_steps before inner derived t given (goal_of shown)) (placed_steps before rest w s (joined_all facts shown) goal) d.licensed
           ((r.lits (Superposed form names shown certs derived w)).1 form_fits).1;
       scopes = all_right few_before one other (and_right (few_before y) (list_all few_before (one ++ other)) r.scopes);
       statements = r.statements;
@@ -233,14 +233,14 @@ Certifies form x certs = IsTrue (certify_all x.context.scope x.context.facts (su
 
 superposed_licensed : (before : List StatementView) (form : Superpose) (names : List (List ℕ)) (shown : List Lit) (written certs : List Cert) (inner rest f : Script) (x : StepState) (goal : Goal) →
     superposing.fits_superposition form x.context.scope ≡ true → are_over x.context.scope shown ≡ true → Certifies form x certs →
-    Licensed before (line_from_basis (Superposed form names shown written inner rest) f x.context goal)
+    Licensed before (step_from_basis (Superposed form names shown written inner rest) f x.context goal)
 superposed_licensed before form names shown written certs inner rest f x goal fit over c =
-    record { fits = and_from _ _ fit over; allowed = all_allowed_of_certified x.context.scope x.context.facts (superposing.needs_of_superposition form) certs c.0; beside = tt }
+    record { fits = and_from _ _ fit over; allowed = all_allowed_of_certified x.context.scope x.context.facts (superposing.needs_of_superposition form) certs c.0; others = tt }
 
 superposed_derives : (before : List StatementView) (form : Superpose) (names : List (List ℕ)) (shown : List Lit) (written certs : List Cert) (inner derived rest more : Script) (x : StepState) (goal : Goal) →
     superposing.fits_superposition form x.context.scope ≡ true → are_over x.context.scope shown ≡ true → Certifies form x certs → IsDerivedFrom before inner (after_superposed form names x) (goal_of shown) derived →
     IsDerivedFrom before rest (after_block shown x) goal more → IsDerivedFrom before (Superposed form names shown written inner rest) x goal (Superposed form names shown certs derived more)
-unfolding lines erased filled_by has_certs_of
+unfolding placed_steps erased filled_by has_certs_of
 superposed_derives before form names shown written certs inner derived rest more x goal fit over c d m =
     let s = x.context.scope in
     let facts = x.context.facts in
@@ -249,11 +249,11 @@ superposed_derives before form names shown written certs inner derived rest more
     record {
       licensed = (
         superposed_licensed before form names shown written certs inner rest (Superposed form names shown certs derived more) x goal fit over c,
-        both_licensed before (lines before inner derived t given (goal_of shown)) (lines before rest more s (joined_all facts shown) goal) d.licensed m.licensed,
+        both_licensed before (placed_steps before inner derived t given (goal_of shown)) (placed_steps before rest more s (joined_all facts shown) goal) d.licensed m.licensed,
       );
       certified =
           and_from _ _ (and_from _ _ (and_from _ _ fit over) (and_from _ _ c.0 refl))
-          (all_both (is_certified before) (lines before derived derived t given (goal_of shown)) (lines before more more s (joined_all facts shown) goal) d.certified m.certified);
+          (all_both (is_certified before) (placed_steps before derived derived t given (goal_of shown)) (placed_steps before more more s (joined_all facts shown) goal) d.certified m.certified);
       erased = ap₂ (Superposed form names shown []) d.erased m.erased;
       written = and_from _ _ c.1 (and_from _ _ d.written m.written);
     }
@@ -262,21 +262,21 @@ superposed_derives before form names shown written certs inner derived rest more
 pub superposed_reaches : (before : List StatementView) (form : Superpose) (names : List (List ℕ)) (shown : List Lit) (written certs : List Cert) (inner rest : Script) (x : StepState) (goal : Goal) (n : ℕ) (a : Arrival) (i : ℕ) (seen : Names) →
     superposing.fits_superposition form x.context.scope ≡ true → are_over x.context.scope shown ≡ true → Certifies form x certs →
     ReachesWithin before inner (after_superposed form names x) (goal_of shown) (n + 1) a i seen → ReachesWithin before (Superposed form names shown written inner rest) x goal n a i seen
-unfolding lines names_lines
+unfolding placed_steps names_of_steps
 superposed_reaches before form names shown written certs inner rest x goal n a i seen fit over c k =
     let s = x.context.scope in
     let facts = x.context.facts in
     let t = grown s superposing.sorts_copied in
     let given = joined_all facts (superposing.gives_of_superposition form s) in
-    let one = lines before inner k.filled t given (goal_of shown) in
-    let other = lines before rest rest s (joined_all facts shown) goal in
-    let ns = names_lines before (named x.names superposing.sorts_copied names) inner in
-    let ms = names_lines before x.names rest in
+    let one = placed_steps before inner k.filled t given (goal_of shown) in
+    let other = placed_steps before rest rest s (joined_all facts shown) goal in
+    let ns = names_of_steps before (named x.names superposing.sorts_copied names) inner in
+    let ms = names_of_steps before x.names rest in
     let f = Superposed form names shown certs k.filled rest in
     record {
       filled = f;
       reached =
-          reached_after before (line_from_basis (Superposed form names shown written inner rest) f x.context goal) (one ++ other) x.names (ns ++ ms) n a i seen
+          reached_after before (step_from_basis (Superposed form names shown written inner rest) f x.context goal) (one ++ other) x.names (ns ++ ms) n a i seen
           (superposed_licensed before form names shown written certs inner rest f x goal fit over c) (reached_left before one other ns ms (n + 1) a i seen k.reached);
     }
 
@@ -289,22 +289,22 @@ superposed_stops before form names shown written certs inner rest x goal n stop 
 pub superposed_reaches_later : (before : List StatementView) (form : Superpose) (names : List (List ℕ)) (shown : List Lit) (written certs : List Cert) (inner derived rest : Script) (x : StepState) (goal : Goal) (n next : ℕ) (a : Arrival) (i : ℕ) (seen : Names) →
     superposing.fits_superposition form x.context.scope ≡ true → are_over x.context.scope shown ≡ true → Certifies form x certs → IsDerivedFrom before inner (after_superposed form names x) (goal_of shown) derived →
     next ≡ n + 1 + size inner → ReachesWithin before rest (after_block shown x) goal next a i seen → ReachesWithin before (Superposed form names shown written inner rest) x goal n a i seen
-unfolding lines names_lines
+unfolding placed_steps names_of_steps
 superposed_reaches_later before form names shown written certs inner derived rest x goal n next a i seen fit over c d count k =
     let s = x.context.scope in
     let facts = x.context.facts in
     let t = grown s superposing.sorts_copied in
     let given = joined_all facts (superposing.gives_of_superposition form s) in
-    let one = lines before inner derived t given (goal_of shown) in
-    let other = lines before rest k.filled s (joined_all facts shown) goal in
+    let one = placed_steps before inner derived t given (goal_of shown) in
+    let other = placed_steps before rest k.filled s (joined_all facts shown) goal in
     let inside = named x.names superposing.sorts_copied names in
-    let ns = names_lines before inside inner in
-    let ms = names_lines before x.names rest in
+    let ns = names_of_steps before inside inner in
+    let ms = names_of_steps before x.names rest in
     let f = Superposed form names shown certs derived k.filled in
     record {
       filled = f;
       reached =
-          reached_after before (line_from_basis (Superposed form names shown written inner rest) f x.context goal) (one ++ other) x.names (ns ++ ms) n a i seen
+          reached_after before (step_from_basis (Superposed form names shown written inner rest) f x.context goal) (one ++ other) x.names (ns ++ ms) n a i seen
           (superposed_licensed before form names shown written certs inner rest f x goal fit over c)
           (reached_right before one other ns ms (size inner) (n + 1) a i seen (lines_length before inner derived t given (goal_of shown)) (names_length before inside inner) d.licensed
           (subst (λ m. IsReachedIn before other ms m a i seen) count k.reached));
@@ -335,7 +335,7 @@ passed_superposed before form names shown written certs inner derived x n next f
 
 -- what stops at its needs
 pub superposed_step_stops : (before : List StatementView) (form : Superpose) (names : List (List ℕ)) (shown : List Lit) (written : List Cert) (inner rest f : Script) (x : StepState) (goal : Goal) (h : StepStop) → StepStopsAmong x.context (superposing.needs_of_superposition form) h →
-    StepStopsAt before (line_from_basis (Superposed form names shown written inner rest) f x.context goal) h
+    StepStopsAt before (step_from_basis (Superposed form names shown written inner rest) f x.context goal) h
 superposed_step_stops before form names shown written inner rest f x goal (step_stop.Lacks (Literal l) values) k = k
 superposed_step_stops before form names shown written inner rest f x goal (step_stop.Lacks Match values) k = absurd k
 superposed_step_stops before form names shown written inner rest f x goal (step_stop.Lacks Contradiction values) k = absurd k
@@ -351,19 +351,19 @@ pub record SplitReady (before : List StatementView) (lit : Lit) (first : Script)
   pub one : IsReadyFor before first (after_literal lit x) goal
 
 pub split_ready : (before : List StatementView) (lit : Lit) (first second : Script) (x : StepState) (goal : Goal) → IsReadyFor before (Cases lit first second) x goal → SplitReady before lit first x goal
-unfolding lines
+unfolding placed_steps
 split_ready before lit first second x goal r =
     let s = x.context.scope in
     let facts = x.context.facts in
-    let y = line_from_basis (Cases lit first second) (Cases lit first second) x.context goal in
-    let one = lines before first first s (joined facts lit) goal in
-    let other = lines before second second s (joined facts (negation lit)) goal in
+    let y = step_from_basis (Cases lit first second) (Cases lit first second) x.context goal in
+    let one = placed_steps before first first s (joined facts lit) goal in
+    let other = placed_steps before second second s (joined facts (negation lit)) goal in
     let over = and_left (has_form before y) (list_all (has_form before) (one ++ other)) r.forms in
     record {
       over = over;
       one = record {
         forms = all_left (has_form before) one other (and_right (has_form before y) (list_all (has_form before) (one ++ other)) r.forms);
-        lits = λ w. lits_first before (lines before first w s (joined facts lit) goal) other ((r.lits (Cases lit w second)).1 over).1;
+        lits = λ w. lits_first before (placed_steps before first w s (joined facts lit) goal) other ((r.lits (Cases lit w second)).1 over).1;
         scopes = all_left few_before one other (and_right (few_before y) (list_all few_before (one ++ other)) r.scopes);
         statements = r.statements;
       };
@@ -372,35 +372,35 @@ split_ready before lit first second x goal r =
 -- the second block, where the first is derived
 pub split_other : (before : List StatementView) (lit : Lit) (first second derived : Script) (x : StepState) (goal : Goal) → IsDerivedFrom before first (after_literal lit x) goal derived → IsReadyFor before (Cases lit first second) x goal →
     IsReadyFor before second (after_literal (negation lit) x) goal
-unfolding lines
+unfolding placed_steps
 split_other before lit first second derived x goal d r =
     let s = x.context.scope in
     let facts = x.context.facts in
-    let y = line_from_basis (Cases lit first second) (Cases lit first second) x.context goal in
-    let one = lines before first first s (joined facts lit) goal in
-    let other = lines before second second s (joined facts (negation lit)) goal in
+    let y = step_from_basis (Cases lit first second) (Cases lit first second) x.context goal in
+    let one = placed_steps before first first s (joined facts lit) goal in
+    let other = placed_steps before second second s (joined facts (negation lit)) goal in
     let over = and_left (has_form before y) (list_all (has_form before) (one ++ other)) r.forms in
     record {
       forms = all_right (has_form before) one other (and_right (has_form before y) (list_all (has_form before) (one ++ other)) r.forms);
-      lits = λ w. lits_second before (lines before first derived s (joined facts lit) goal) (lines before second w s (joined facts (negation lit)) goal) d.licensed ((r.lits (Cases lit derived w)).1 over).1;
+      lits = λ w. lits_second before (placed_steps before first derived s (joined facts lit) goal) (placed_steps before second w s (joined facts (negation lit)) goal) d.licensed ((r.lits (Cases lit derived w)).1 over).1;
       scopes = all_right few_before one other (and_right (few_before y) (list_all few_before (one ++ other)) r.scopes);
       statements = r.statements;
     }
 
 pub split_derives : (before : List StatementView) (lit : Lit) (first second one other : Script) (x : StepState) (goal : Goal) → all_in_scope x.context.scope lit ≡ true → IsDerivedFrom before first (after_literal lit x) goal one →
     IsDerivedFrom before second (after_literal (negation lit) x) goal other → IsDerivedFrom before (Cases lit first second) x goal (Cases lit one other)
-unfolding lines erased filled_by has_certs_of
+unfolding placed_steps erased filled_by has_certs_of
 split_derives before lit first second one other x goal over d e =
     let s = x.context.scope in
     let facts = x.context.facts in
     record {
       licensed = (
-        record { fits = over; allowed = tt; beside = tt },
-        both_licensed before (lines before first one s (joined facts lit) goal) (lines before second other s (joined facts (negation lit)) goal) d.licensed e.licensed,
+        record { fits = over; allowed = tt; others = tt },
+        both_licensed before (placed_steps before first one s (joined facts lit) goal) (placed_steps before second other s (joined facts (negation lit)) goal) d.licensed e.licensed,
       );
       certified =
           and_from _ _ (and_from _ _ over refl)
-          (all_both (is_certified before) (lines before one one s (joined facts lit) goal) (lines before other other s (joined facts (negation lit)) goal) d.certified e.certified);
+          (all_both (is_certified before) (placed_steps before one one s (joined facts lit) goal) (placed_steps before other other s (joined facts (negation lit)) goal) d.certified e.certified);
       erased = ap₂ (Cases lit) d.erased e.erased;
       written = and_from _ _ d.written e.written;
     }
@@ -408,19 +408,19 @@ split_derives before lit first second one other x goal over d e =
 -- what is found in the first block
 pub split_reaches_first : (before : List StatementView) (lit : Lit) (first second : Script) (x : StepState) (goal : Goal) (n : ℕ) (a : Arrival) (i : ℕ) (seen : Names) → all_in_scope x.context.scope lit ≡ true →
     ReachesWithin before first (after_literal lit x) goal (n + 1) a i seen → ReachesWithin before (Cases lit first second) x goal n a i seen
-unfolding lines names_lines
+unfolding placed_steps names_of_steps
 split_reaches_first before lit first second x goal n a i seen over k =
     let s = x.context.scope in
     let facts = x.context.facts in
-    let one = lines before first k.filled s (joined facts lit) goal in
-    let other = lines before second second s (joined facts (negation lit)) goal in
-    let ns = names_lines before x.names first in
-    let ms = names_lines before x.names second in
+    let one = placed_steps before first k.filled s (joined facts lit) goal in
+    let other = placed_steps before second second s (joined facts (negation lit)) goal in
+    let ns = names_of_steps before x.names first in
+    let ms = names_of_steps before x.names second in
     let f = Cases lit k.filled second in
     record {
       filled = f;
       reached =
-          reached_after before (line_from_basis (Cases lit first second) f x.context goal) (one ++ other) x.names (ns ++ ms) n a i seen (record { fits = over; allowed = tt; beside = tt })
+          reached_after before (step_from_basis (Cases lit first second) f x.context goal) (one ++ other) x.names (ns ++ ms) n a i seen (record { fits = over; allowed = tt; others = tt })
           (reached_left before one other ns ms (n + 1) a i seen k.reached);
     }
 
@@ -433,19 +433,19 @@ split_first before lit first second x goal n stop over k =
 pub split_reaches_second : (before : List StatementView) (lit : Lit) (first second derived : Script) (x : StepState) (goal : Goal) (n next : ℕ) (a : Arrival) (i : ℕ) (seen : Names) → all_in_scope x.context.scope lit ≡ true →
     IsDerivedFrom before first (after_literal lit x) goal derived → next ≡ n + 1 + size first → ReachesWithin before second (after_literal (negation lit) x) goal next a i seen →
     ReachesWithin before (Cases lit first second) x goal n a i seen
-unfolding lines names_lines
+unfolding placed_steps names_of_steps
 split_reaches_second before lit first second derived x goal n next a i seen over d count k =
     let s = x.context.scope in
     let facts = x.context.facts in
-    let one = lines before first derived s (joined facts lit) goal in
-    let other = lines before second k.filled s (joined facts (negation lit)) goal in
-    let ns = names_lines before x.names first in
-    let ms = names_lines before x.names second in
+    let one = placed_steps before first derived s (joined facts lit) goal in
+    let other = placed_steps before second k.filled s (joined facts (negation lit)) goal in
+    let ns = names_of_steps before x.names first in
+    let ms = names_of_steps before x.names second in
     let f = Cases lit derived k.filled in
     record {
       filled = f;
       reached =
-          reached_after before (line_from_basis (Cases lit first second) f x.context goal) (one ++ other) x.names (ns ++ ms) n a i seen (record { fits = over; allowed = tt; beside = tt })
+          reached_after before (step_from_basis (Cases lit first second) f x.context goal) (one ++ other) x.names (ns ++ ms) n a i seen (record { fits = over; allowed = tt; others = tt })
           (reached_right before one other ns ms (size first) (n + 1) a i seen (lines_length before first derived s (joined facts lit) goal) (names_length before x.names first) d.licensed
           (subst (λ m. IsReachedIn before other ms m a i seen) count k.reached));
     }

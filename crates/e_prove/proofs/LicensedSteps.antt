@@ -14,9 +14,9 @@ use Rattle.e_clause.proofs.Sound.{allowed_of_certified, all_allowed_of_certified
 use Rattle.e_deriv.specs.declared.block.Step.TheVariants.{Cite as CiteStep, Hence as HenceStep, Make as MakeStep}
 use Rattle.e_deriv.specs.Script.{Cite, Hence, Make, step_script, erased}
 use Rattle.e_deriv.specs.Parts.{filled_by}
-use Rattle.e_deriv.specs.Lines.{lines}
+use Rattle.e_deriv.specs.PlacedSteps.{placed_steps}
 use Rattle.e_deriv.specs.Steps.{is_cited}
-use Rattle.e_deriv.specs.Naming.{names_lines}
+use Rattle.e_deriv.specs.Naming.{names_of_steps}
 use Rattle.e_clause.specs.declared.cert.Version.TheVariants as version
 use Rattle.e_clause.specs.Versions.{is_cert_of}
 use Rattle.e_prove.specs.declared.step_state.StepState.{StepState}
@@ -27,10 +27,10 @@ use Rattle.e_deriv.specs.Versions.{has_certs_of}
 -- ---- a citation
 
 licensed_by : (before : List StatementView) (by : By) (x : StepState) → is_cited x.context.facts by ≡ true → IsLicensedStep before (CiteStep by) x (CiteStep by) (after_literal by.lit x)
-unfolding lines erased filled_by names_lines step_script has_certs_of
+unfolding placed_steps erased filled_by names_of_steps step_script has_certs_of
 licensed_by before by x h =
     record {
-      licensed = λ rest more goal form. record { fits = form; allowed = tt; beside = h };
+      licensed = λ rest more goal form. record { fits = form; allowed = tt; others = h };
       certified = λ rest more goal form. and_from _ _ form h;
       erased = λ rest more e. ap (Cite by) e;
       written = λ more k. k;
@@ -48,10 +48,10 @@ licensed_cite before by derived x after same h gives = rw (same, gives) (license
 
 licensed_by_cert : (before : List StatementView) (lit : Lit) (written : Option Cert) (cert : Cert) (x : StepState) → IsTrue (certifies x.context.scope x.context.facts lit cert) → IsTrue (is_cert_of version.One cert) →
     IsLicensedStep before (HenceStep lit written) x (HenceStep lit (Some cert)) (after_literal lit x)
-unfolding lines erased filled_by names_lines step_script has_certs_of
+unfolding placed_steps erased filled_by names_of_steps step_script has_certs_of
 licensed_by_cert before lit written cert x h g =
     record {
-      licensed = λ rest more goal form. record { fits = form; allowed = (allowed_of_certified x.context.scope x.context.facts lit cert h, tt); beside = tt };
+      licensed = λ rest more goal form. record { fits = form; allowed = (allowed_of_certified x.context.scope x.context.facts lit cert h, tt); others = tt };
       certified = λ rest more goal form. and_from _ _ form (and_from _ _ (and_from _ _ h refl) refl);
       erased = λ rest more e. ap (Hence lit None) e;
       written = λ more k. and_from _ _ g k;
@@ -70,10 +70,10 @@ licensed_hence before lit derived written cert x after same h g gives = rw (same
 
 licensed_by_certs : (before : List StatementView) (form : Construction) (names : List (List ℕ)) (written certs : List Cert) (x : StepState) → IsTrue (certify_all x.context.scope x.context.facts (needs_of_construction form) certs) →
     IsTrue (list_all (is_cert_of version.One) certs) → IsLicensedStep before (MakeStep form names written) x (MakeStep form names certs) (after_make form names x)
-unfolding lines erased filled_by names_lines step_script has_certs_of
+unfolding placed_steps erased filled_by names_of_steps step_script has_certs_of
 licensed_by_certs before form names written certs x h g =
     record {
-      licensed = λ rest more goal fit. record { fits = fit; allowed = all_allowed_of_certified x.context.scope x.context.facts (needs_of_construction form) certs h; beside = tt };
+      licensed = λ rest more goal fit. record { fits = fit; allowed = all_allowed_of_certified x.context.scope x.context.facts (needs_of_construction form) certs h; others = tt };
       certified = λ rest more goal fit. and_from _ _ fit (and_from _ _ h refl);
       erased = λ rest more e. ap (Make form names []) e;
       written = λ more k. and_from _ _ g k;

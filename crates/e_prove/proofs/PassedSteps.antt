@@ -15,8 +15,8 @@ use Rattle.e_deriv.specs.declared.stop.Stop.{Stop}
 use Rattle.e_deriv.specs.declared.stop.Stop.TheVariants as stop
 use Rattle.e_deriv.specs.Script.{Script, Cite, Hence, Make, Apply, Claim, Superposed, Qed, Contradiction, Cases, step_script, close_script, size}
 use Rattle.e_deriv.specs.Goal.{Goal}
-use Rattle.e_deriv.specs.Lines.{Line, line, lines}
-use Rattle.e_deriv.specs.Naming.{names_lines}
+use Rattle.e_deriv.specs.PlacedSteps.{PlacedStep, placed_step, placed_steps}
+use Rattle.e_deriv.specs.Naming.{names_of_steps}
 use Rattle.e_deriv.specs.Licensed.{AllLicensed}
 use Rattle.e_deriv.specs.Certified.{is_certified}
 use Rattle.e_deriv.specs.Fitting.{LitsFit, is_small}
@@ -26,7 +26,7 @@ use Rattle.e_prove.specs.declared.step_state.StepState.{StepState}
 use Rattle.e_prove.specs.declared.block.ProvedStep.{ProvedStep}
 use Rattle.e_prove.specs.declared.block.ProvedClose.{ProvedClose}
 use Rattle.e_prove.specs.inner.StopsOfSteps.{StepStopsAt, UnlessNoMemory, StopOf, IsWithNumber}
-use Rattle.e_prove.specs.inner.LicensedSteps.{IsLicensedStep, IsStopOfStep, IsLicensedClose, IsStopOfClose, line_from_basis, lines_at, has_form}
+use Rattle.e_prove.specs.inner.LicensedSteps.{IsLicensedStep, IsStopOfStep, IsLicensedClose, IsStopOfClose, step_from_basis, steps_from_basis, has_form}
 use Rattle.e_prove.specs.inner.PassedSteps.{IsReadyFor, IsDerivedFrom, KeepsHeld, Arrival, Stands, IsReachedIn, StopIn, ReachesWithin, ReachesStep, StopsWithin, IsPassed, StepStops}
 use Rattle.e_prove.proofs.StopsInLists.{reached_first, reached_after, stop_first, stops_by, stop_before, tests_again, form_is_blind, scope_is_blind}
 
@@ -65,20 +65,20 @@ passed_as before f f' g g' x y n m e e' a =
 
 -- ---- a step that has no block inside
 
-pub first_is : (p : Line → Bool) (x : Line) (xs all : List Line) → all ≡ x ∷ xs → list_all p all ≡ true → p x ≡ true
+pub first_is : (p : PlacedStep → Bool) (x : PlacedStep) (xs all : List PlacedStep) → all ≡ x ∷ xs → list_all p all ≡ true → p x ≡ true
 first_is p x xs all e h = and_left (p x) (list_all p xs) (subst (λ ys. list_all p ys ≡ true) e h)
 
-pub rest_are : (p : Line → Bool) (x : Line) (xs all : List Line) → all ≡ x ∷ xs → list_all p all ≡ true → list_all p xs ≡ true
+pub rest_are : (p : PlacedStep → Bool) (x : PlacedStep) (xs all : List PlacedStep) → all ≡ x ∷ xs → list_all p all ≡ true → list_all p xs ≡ true
 rest_are p x xs all e h = and_right (p x) (list_all p xs) (subst (λ ys. list_all p ys ≡ true) e h)
 
-more_certified : (before : List StatementView) (x : Line) (xs all : List Line) → all ≡ x ∷ xs → is_certified before x ≡ true → list_all (is_certified before) xs ≡ true → list_all (is_certified before) all ≡ true
+more_certified : (before : List StatementView) (x : PlacedStep) (xs all : List PlacedStep) → all ≡ x ∷ xs → is_certified before x ≡ true → list_all (is_certified before) xs ≡ true → list_all (is_certified before) all ≡ true
 more_certified before x xs all e h k = subst (λ ys. list_all (is_certified before) ys ≡ true) (sym e) (and_from (is_certified before x) (list_all (is_certified before) xs) h k)
 
 -- a step that is ready has its form, whatever its blanks are filled with
-pub has_form_first : (before : List StatementView) (d f : Script) (x : StepState) (goal : Goal) (xs : List Line) → lines_at before d f x.context goal ≡ line_from_basis d f x.context goal ∷ xs → IsReadyFor before d x goal →
-    has_form before (line_from_basis d f x.context goal) ≡ true
+pub has_form_first : (before : List StatementView) (d f : Script) (x : StepState) (goal : Goal) (xs : List PlacedStep) → steps_from_basis before d f x.context goal ≡ step_from_basis d f x.context goal ∷ xs → IsReadyFor before d x goal →
+    has_form before (step_from_basis d f x.context goal) ≡ true
 has_form_first before d f x goal xs e r =
-    first_is (has_form before) (line_from_basis d f x.context goal) xs (lines_at before d f x.context goal) e
+    first_is (has_form before) (step_from_basis d f x.context goal) xs (steps_from_basis before d f x.context goal) e
     (tests_again before (has_form before) (form_is_blind before) d f d x.context.scope x.context.facts x.context.facts goal ∙ r.forms)
 
 -- what is found after a licensed step
@@ -87,15 +87,15 @@ licensed_reaches : (before : List StatementView) (step derived : Step) (x after 
 licensed_reaches before step derived x after n rest goal a i names j r h =
     let e = step_script step rest in
     let f = step_script derived h.filled in
-    let y = line_from_basis e f x.context goal in
-    let ys = lines_at before rest h.filled after.context goal in
+    let y = step_from_basis e f x.context goal in
+    let ys = steps_from_basis before rest h.filled after.context goal in
     let form = has_form_first before e f x goal ys (j.next rest h.filled goal) r in
     record {
       filled = f;
       reached =
-          subst (λ xs. IsReachedIn before xs (names_lines before x.names e) n a i names) (sym (j.next rest h.filled goal))
+          subst (λ xs. IsReachedIn before xs (names_of_steps before x.names e) n a i names) (sym (j.next rest h.filled goal))
           (subst (λ ns. IsReachedIn before (y ∷ ys) ns n a i names) (sym (j.named rest))
-          (reached_after before y ys x.names (names_lines before after.names rest) n a i names (j.licensed rest h.filled goal form) h.reached));
+          (reached_after before y ys x.names (names_of_steps before after.names rest) n a i names (j.licensed rest h.filled goal form) h.reached));
     }
 
 pub passed_of_licensed : (before : List StatementView) (step derived : Step) (x after : StepState) (n : ℕ) → ((rest : Script) → size (step_script step rest) ≡ 1 + size rest) → IsLicensedStep before step x derived after →
@@ -105,16 +105,16 @@ passed_of_licensed before step derived x after n one j =
       ready = λ rest goal r.
           let d = step_script step rest in
           let f = step_script derived rest in
-          let y = line_from_basis d f x.context goal in
-          let ys = lines_at before rest rest after.context goal in
-          let all = lines_at before d f x.context goal in
+          let y = step_from_basis d f x.context goal in
+          let ys = steps_from_basis before rest rest after.context goal in
+          let all = steps_from_basis before d f x.context goal in
           let s = x.context.scope in
           let facts = x.context.facts in
           record {
             forms = rest_are (has_form before) y ys all (j.next rest rest goal) (tests_again before (has_form before) (form_is_blind before) d f d s facts facts goal ∙ r.forms);
             lits = λ w.
                 let g = step_script derived w in
-                let form = has_form_first before d g x goal (lines_at before rest w after.context goal) (j.next rest w goal) r in
+                let form = has_form_first before d g x goal (steps_from_basis before rest w after.context goal) (j.next rest w goal) r in
                 ((subst (LitsFit before) (j.next rest w goal) (r.lits g)).1 (j.licensed rest w goal form).fits).1;
             scopes = rest_are (λ z. is_small z.scope) y ys all (j.next rest rest goal) (tests_again before (λ z. is_small z.scope) scope_is_blind d f d s facts facts goal ∙ r.scopes);
             statements = r.statements;
@@ -122,10 +122,10 @@ passed_of_licensed before step derived x after n one j =
       derives = λ rest more goal r d.
           let e = step_script step rest in
           let f = step_script derived more in
-          let form = has_form_first before e f x goal (lines_at before rest more after.context goal) (j.next rest more goal) r in
+          let form = has_form_first before e f x goal (steps_from_basis before rest more after.context goal) (j.next rest more goal) r in
           record {
             licensed = subst (AllLicensed before) (sym (j.next rest more goal)) (j.licensed rest more goal form, d.licensed);
-            certified = more_certified before (line_from_basis f f x.context goal) (lines_at before more more after.context goal) (lines_at before f f x.context goal) (j.derived_next more goal) (j.certified rest more goal form) d.certified;
+            certified = more_certified before (step_from_basis f f x.context goal) (steps_from_basis before more more after.context goal) (steps_from_basis before f f x.context goal) (j.derived_next more goal) (j.certified rest more goal form) d.certified;
             erased = j.erased rest more d.erased;
             written = j.written more d.written;
           };
@@ -150,8 +150,8 @@ size_more (steps.Superposed' form names shown certs p0 n0 row0 close0) rest = om
 
 -- ---- what a step that stops is answered as
 
-pub lines_begin : (before : List StatementView) (here f : Script) (s : Scope) (facts : List Lit) (goal : Goal) → (xs : List Line) × (lines before here f s facts goal ≡ line here f s facts goal ∷ xs)
-unfolding lines
+pub lines_begin : (before : List StatementView) (here f : Script) (s : Scope) (facts : List Lit) (goal : Goal) → (xs : List PlacedStep) × (placed_steps before here f s facts goal ≡ placed_step here f s facts goal ∷ xs)
+unfolding placed_steps
 lines_begin before (Cite by rest) f s facts goal = (_, refl)
 lines_begin before (Hence lit cert rest) f s facts goal = (_, refl)
 lines_begin before (Make form names certs rest) f s facts goal = (_, refl)
@@ -162,8 +162,8 @@ lines_begin before (Qed objects certs) f s facts goal = (_, refl)
 lines_begin before (Contradiction against) f s facts goal = (_, refl)
 lines_begin before (Cases lit first second) f s facts goal = (_, refl)
 
-names_begin : (before : List StatementView) (ns : Names) (here : Script) → (ms : List Names) × (names_lines before ns here ≡ ns ∷ ms)
-unfolding names_lines
+names_begin : (before : List StatementView) (ns : Names) (here : Script) → (ms : List Names) × (names_of_steps before ns here ≡ ns ∷ ms)
+unfolding names_of_steps
 names_begin before ns (Cite by rest) = (_, refl)
 names_begin before ns (Hence lit cert rest) = (_, refl)
 names_begin before ns (Make form new certs rest) = (_, refl)
@@ -175,16 +175,16 @@ names_begin before ns (Contradiction against) = (_, refl)
 names_begin before ns (Cases lit first second) = (_, refl)
 
 -- licensing stops at the first step of a script
-pub stops_first : (before : List StatementView) (here : Script) (x : StepState) (goal : Goal) (n : ℕ) (h : StepStop) (s : Stop) → StepStopsAt before (line_from_basis here here x.context goal) h → StopOf h n x.names s →
+pub stops_first : (before : List StatementView) (here : Script) (x : StepState) (goal : Goal) (n : ℕ) (h : StepStop) (s : Stop) → StepStopsAt before (step_from_basis here here x.context goal) h → StopOf h n x.names s →
     StopsWithin before here x goal n s
 stops_first before here x goal n h s k e =
     let a = lines_begin before here here x.context.scope x.context.facts goal in
     let b = names_begin before x.names here in
-    let y = line_from_basis here here x.context goal in
+    let y = step_from_basis here here x.context goal in
     record {
       filled = here;
       stops =
-          subst (λ xs. StopIn before xs (names_lines before x.names here) n s) (sym a.1)
+          subst (λ xs. StopIn before xs (names_of_steps before x.names here) n s) (sym a.1)
           (subst (λ ns. StopIn before (y ∷ a.0) ns n s) (sym b.1) (stop_first before y a.0 x.names b.0 n h s k e));
     }
 
@@ -193,12 +193,12 @@ pub reaches_first : (before : List StatementView) (here : Script) (x : StepState
 reaches_first before here x goal n =
     let a = lines_begin before here here x.context.scope x.context.facts goal in
     let b = names_begin before x.names here in
-    let y = line_from_basis here here x.context goal in
+    let y = step_from_basis here here x.context goal in
     let at = Stands x.context.scope x.context.facts in
     record {
       filled = here;
       reached =
-          subst (λ xs. IsReachedIn before xs (names_lines before x.names here) n at n x.names) (sym a.1)
+          subst (λ xs. IsReachedIn before xs (names_of_steps before x.names here) n at n x.names) (sym a.1)
           (subst (λ ns. IsReachedIn before (y ∷ a.0) ns n at n x.names) (sym b.1) (reached_first before y a.0 x.names b.0 n at (refl, refl)));
     }
 

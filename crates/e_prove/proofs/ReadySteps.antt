@@ -25,21 +25,21 @@ use Rattle.e_deriv.specs.declared.block.Step.TheVariants.{Cite as CiteStep, Henc
 use Rattle.e_deriv.specs.Script.{Script, Cite, Hence, Make, Apply, Claim, Superposed, script_of, step_script, size}
 use Rattle.e_deriv.specs.Goal.{Goal}
 use Rattle.e_deriv.specs.Parts.{written, filled_in}
-use Rattle.e_deriv.specs.Lines.{lines, theorem_at}
+use Rattle.e_deriv.specs.PlacedSteps.{placed_steps, theorem_at}
 use Rattle.e_deriv.specs.Fitting.{LitsFit, is_small, is_small_statement}
 use Rattle.e_deriv.proofs.Choices.{written_again}
 use Rattle.e_deriv.proofs.Scripts.{step_script-Claim, step_script-Superposed}
 use Rattle.e_deriv.proofs.Smallness.{few_of_small}
 use Rattle.e_prove.specs.declared.step_state.StepState.{StepState}
 use Rattle.e_prove.specs.inner.StepStates.{HasRoomForMore, after_make, after_literal}
-use Rattle.e_prove.specs.inner.LicensedSteps.{lines_at, line_from_basis, has_form}
+use Rattle.e_prove.specs.inner.LicensedSteps.{steps_from_basis, step_from_basis, has_form}
 use Rattle.e_prove.specs.inner.PassedSteps.{IsReadyFor, IsReadyStep}
 use Rattle.e_prove.specs.inner.Applications.{LitsFitAt, CanApply}
 use Rattle.e_prove.proofs.PassedSteps.{lines_begin, first_is}
 use Rattle.e_prove.proofs.InnerBlocks.{ClaimReady, claim_ready, SuperposedReady, superposed_ready}
 
 -- the facts that a script begins with are good
-pub first_facts : (before : List StatementView) (here f : Script) (s : Scope) (facts : List Lit) (goal : Goal) → LitsFit before (lines before here f s facts goal) → are_limited_facts s facts ≡ true
+pub first_facts : (before : List StatementView) (here f : Script) (s : Scope) (facts : List Lit) (goal : Goal) → LitsFit before (placed_steps before here f s facts goal) → are_limited_facts s facts ≡ true
 first_facts before here f s facts goal h =
     let begun = lines_begin before here f s facts goal in
     (subst (LitsFit before) begun.1 h).0
@@ -48,7 +48,7 @@ first_facts before here f s facts goal h =
 pub first_scope : (before : List StatementView) (here : Script) (x : StepState) (goal : Goal) → IsReadyFor before here x goal → is_small x.context.scope ≡ true
 first_scope before here x goal r =
     let begun = lines_begin before here here x.context.scope x.context.facts goal in
-    first_is (λ y. is_small y.scope) (line_from_basis here here x.context goal) begun.0 (lines_at before here here x.context goal) begun.1 r.scopes
+    first_is (λ y. is_small y.scope) (step_from_basis here here x.context goal) begun.0 (steps_from_basis before here here x.context goal) begun.1 r.scopes
 
 pub room_of_small : (s : Scope) → is_small s ≡ true → HasRoomForMore s
 room_of_small s h =
@@ -62,13 +62,13 @@ pub record LineReady (s : Scope) (needed : List Lit) (next : StepState) : Type 0
   pub after : are_limited_facts next.context.scope next.context.facts ≡ true
 
 -- the first step of a script that is ready has its form
-form_first : (before : List StatementView) (here : Script) (x : StepState) (goal : Goal) → IsReadyFor before here x goal → has_form before (line_from_basis here here x.context goal) ≡ true
+form_first : (before : List StatementView) (here : Script) (x : StepState) (goal : Goal) → IsReadyFor before here x goal → has_form before (step_from_basis here here x.context goal) ≡ true
 form_first before here x goal r =
     let begun = lines_begin before here here x.context.scope x.context.facts goal in
-    first_is (has_form before) (line_from_basis here here x.context goal) begun.0 (lines_at before here here x.context goal) begun.1 r.forms
+    first_is (has_form before) (step_from_basis here here x.context goal) begun.0 (steps_from_basis before here here x.context goal) begun.1 r.forms
 
 cite_lits : (before : List StatementView) (by : By) (rest : Script) (x : StepState) (goal : Goal) → IsReadyFor before (Cite by rest) x goal → are_limited_facts x.context.scope (joined x.context.facts by.lit) ≡ true
-unfolding lines
+unfolding placed_steps
 cite_lits before by rest x goal r =
     let here = Cite by rest in
     first_facts before rest rest x.context.scope (joined x.context.facts by.lit) goal ((r.lits here).1 (form_first before here x goal r)).1
@@ -78,7 +78,7 @@ unfolding step_script
 cite_good before by x n r = cite_lits before by r.rest x r.goal r.ready
 
 hence_lits : (before : List StatementView) (lit : Lit) (cert : Option Cert) (rest : Script) (x : StepState) (goal : Goal) → IsReadyFor before (Hence lit cert rest) x goal → LineReady x.context.scope (lit ∷ []) (after_literal lit x)
-unfolding lines
+unfolding placed_steps
 hence_lits before lit cert rest x goal r =
     let here = Hence lit cert rest in
     let both = (r.lits here).1 (form_first before here x goal r) in
@@ -93,7 +93,7 @@ one_good s lit h = and_left (is_well_formed_in s lit) true h
 
 make_lits : (before : List StatementView) (form : Construction) (names : List (List ℕ)) (certs : List Cert) (rest : Script) (x : StepState) (goal : Goal) → IsReadyFor before (Make form names certs rest) x goal →
     LineReady x.context.scope (needs_of_form form) (after_make form names x)
-unfolding lines
+unfolding placed_steps
 make_lits before form names certs rest x goal r =
     let s = x.context.scope in
     let here = Make form names certs rest in
@@ -123,7 +123,7 @@ pub record ApplyReady (before : List StatementView) (theorem : ℕ) (pattern : L
 apply_lits : (before : List StatementView) (theorem : ℕ) (pattern : List (Option Obj)) (names : List (List ℕ)) (certs : List Cert) (rest : Script) (x : StepState) (goal : Goal) →
     IsReadyFor before (Apply theorem pattern names certs rest) x goal → theorem < length before → (args : List Obj) →
     is_choice (theorem_at before theorem) x.context.scope pattern (written (filled_in args)) ≡ true → LitsFitAt (theorem_at before theorem) (written (filled_in args)) x.context
-unfolding lines
+unfolding placed_steps
 apply_lits before theorem pattern names certs rest x goal r lt args h =
     let t = theorem_at before theorem in
     let s = x.context.scope in

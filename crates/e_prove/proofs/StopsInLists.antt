@@ -19,8 +19,8 @@ use Rattle.e_deriv.specs.declared.stop.Stop.TheVariants as stop
 use Rattle.e_deriv.specs.Script.{Script, Cite, Hence, Make, Apply, Claim, Superposed, Qed, Contradiction, Cases, size}
 use Rattle.e_deriv.specs.Goal.{Goal, goal_of}
 use Rattle.e_deriv.specs.Parts.{rest_of, inner_of, args_of}
-use Rattle.e_deriv.specs.Lines.{Line, line, lines, theorem_at}
-use Rattle.e_deriv.specs.Naming.{named, names_lines}
+use Rattle.e_deriv.specs.PlacedSteps.{PlacedStep, placed_step, placed_steps, theorem_at}
+use Rattle.e_deriv.specs.Naming.{named, names_of_steps}
 use Rattle.e_deriv.specs.Licensed.{Licensed, AllLicensed}
 use Rattle.e_deriv.specs.Fitting.{LitsFit, is_small}
 use Rattle.e_deriv.proofs.Agreement.{both_licensed}
@@ -58,17 +58,17 @@ take_right (a ∷ xs) ys p (suc q) e = ap (λ zs. a ∷ zs) (take_right xs ys p 
 -- ---- what is found at a step
 
 -- at the first step
-pub reached_first : (before : List StatementView) (x : Line) (xs : List Line) (m : Names) (ns : List Names) (first : ℕ) (a : Arrival) → ArrivesAt before x a → IsReachedIn before (x ∷ xs) (m ∷ ns) first a first m
+pub reached_first : (before : List StatementView) (x : PlacedStep) (xs : List PlacedStep) (m : Names) (ns : List Names) (first : ℕ) (a : Arrival) → ArrivesAt before x a → IsReachedIn before (x ∷ xs) (m ∷ ns) first a first m
 reached_first before x xs m ns first a k = record { place = 0; number = omega arith; line = x; at = refl; earlier = tt; arrives = k; named = refl }
 
 -- after a step that is licensed
-pub reached_after : (before : List StatementView) (x : Line) (xs : List Line) (m : Names) (ns : List Names) (first : ℕ) (a : Arrival) (n : ℕ) (names : Names) →
+pub reached_after : (before : List StatementView) (x : PlacedStep) (xs : List PlacedStep) (m : Names) (ns : List Names) (first : ℕ) (a : Arrival) (n : ℕ) (names : Names) →
     Licensed before x → IsReachedIn before xs ns (first + 1) a n names → IsReachedIn before (x ∷ xs) (m ∷ ns) first a n names
 reached_after before x xs m ns first a n names l k =
     record { place = suc k.place; number = omega (arith, k.number); line = k.line; at = k.at; earlier = (l, k.earlier); arrives = k.arrives; named = k.named }
 
 -- in the first of two lists
-pub reached_left : (before : List StatementView) (xs ys : List Line) (ns ms : List Names) (first : ℕ) (a : Arrival) (n : ℕ) (names : Names) →
+pub reached_left : (before : List StatementView) (xs ys : List PlacedStep) (ns ms : List Names) (first : ℕ) (a : Arrival) (n : ℕ) (names : Names) →
     IsReachedIn before xs ns first a n names → IsReachedIn before (xs ++ ys) (ns ++ ms) first a n names
 reached_left before xs ys ns ms first a n names k =
     record {
@@ -82,7 +82,7 @@ reached_left before xs ys ns ms first a n names k =
     }
 
 -- in the second, where the steps of the first are licensed
-pub reached_right : (before : List StatementView) (xs ys : List Line) (ns ms : List Names) (k first : ℕ) (a : Arrival) (n : ℕ) (names : Names) → length xs ≡ k → length ns ≡ k →
+pub reached_right : (before : List StatementView) (xs ys : List PlacedStep) (ns ms : List Names) (k first : ℕ) (a : Arrival) (n : ℕ) (names : Names) → length xs ≡ k → length ns ≡ k →
     AllLicensed before xs → IsReachedIn before ys ms (first + k) a n names → IsReachedIn before (xs ++ ys) (ns ++ ms) first a n names
 reached_right before xs ys ns ms k first a n names e d l r =
     record {
@@ -98,12 +98,12 @@ reached_right before xs ys ns ms k first a n names e d l r =
 -- ---- stops
 
 -- at the first step, with these names before it
-stop_at_first : (before : List StatementView) (x : Line) (xs : List Line) (m : Names) (ns : List Names) (first : ℕ) (h : StepStop) → StepStopsAt before x h → StopIn before (x ∷ xs) (m ∷ ns) first (stop_of h first m)
+stop_at_first : (before : List StatementView) (x : PlacedStep) (xs : List PlacedStep) (m : Names) (ns : List Names) (first : ℕ) (h : StepStop) → StepStopsAt before x h → StopIn before (x ∷ xs) (m ∷ ns) first (stop_of h first m)
 stop_at_first before x xs m ns first (step_stop.Lacks wanted values) k = reached_first before x xs m ns first (Halts (step_stop.Lacks wanted values)) k
 stop_at_first before x xs m ns first (step_stop.TooWide wanted width) k = reached_first before x xs m ns first (Halts (step_stop.TooWide wanted width)) k
 stop_at_first before x xs m ns first step_stop.NoMemory k = tt
 
-pub stop_first : (before : List StatementView) (x : Line) (xs : List Line) (m : Names) (ns : List Names) (first : ℕ) (h : StepStop) (s : Stop) → StepStopsAt before x h → StopOf h first m s → StopIn before (x ∷ xs) (m ∷ ns) first s
+pub stop_first : (before : List StatementView) (x : PlacedStep) (xs : List PlacedStep) (m : Names) (ns : List Names) (first : ℕ) (h : StepStop) (s : Stop) → StepStopsAt before x h → StopOf h first m s → StopIn before (x ∷ xs) (m ∷ ns) first s
 stop_first before x xs m ns first h (stop.Unlicensed n wanted values names) k e = subst (StopIn before (x ∷ xs) (m ∷ ns) first) (sym e) (stop_at_first before x xs m ns first h k)
 stop_first before x xs m ns first h (stop.TooWide n wanted width names) k e = subst (StopIn before (x ∷ xs) (m ∷ ns) first) (sym e) (stop_at_first before x xs m ns first h k)
 stop_first before x xs m ns first h stop.NoMemory k e = tt
@@ -152,8 +152,8 @@ stop_before h n m names stop.NoMemory less e = tt
 
 -- ---- how many steps there are
 
-pub names_length : (before : List StatementView) (ns : Names) (d : Script) → length (names_lines before ns d) ≡ size d
-unfolding names_lines size
+pub names_length : (before : List StatementView) (ns : Names) (d : Script) → length (names_of_steps before ns d) ≡ size d
+unfolding names_of_steps size
 names_length before ns (Cite by rest) = let h = names_length before ns rest in omega (arith, h)
 names_length before ns (Hence lit cert rest) = let h = names_length before ns rest in omega (arith, h)
 names_length before ns (Make form names certs rest) = let h = names_length before (named ns (sorts_made form) names) rest in omega (arith, h)
@@ -161,38 +161,38 @@ names_length before ns (Apply theorem args names certs rest) = let h = names_len
 names_length before ns (Claim shown inner rest) =
     let h = names_length before ns inner in
     let k = names_length before ns rest in
-    omega (arith, h, k, length-append (names_lines before ns inner) (names_lines before ns rest))
+    omega (arith, h, k, length-append (names_of_steps before ns inner) (names_of_steps before ns rest))
 names_length before ns (Superposed form names shown certs inner rest) =
     let ms = named ns superposing.sorts_copied names in
     let h = names_length before ms inner in
     let k = names_length before ns rest in
-    omega (arith, h, k, length-append (names_lines before ms inner) (names_lines before ns rest))
+    omega (arith, h, k, length-append (names_of_steps before ms inner) (names_of_steps before ns rest))
 names_length before ns (Qed objects certs) = refl
 names_length before ns (Contradiction against) = refl
 names_length before ns (Cases lit first second) =
     let h = names_length before ns first in
     let k = names_length before ns second in
-    omega (arith, h, k, length-append (names_lines before ns first) (names_lines before ns second))
+    omega (arith, h, k, length-append (names_of_steps before ns first) (names_of_steps before ns second))
 
 -- ---- tests of all steps
 
-pub all_both : (p : Line → Bool) (xs ys : List Line) → list_all p xs ≡ true → list_all p ys ≡ true → list_all p (xs ++ ys) ≡ true
+pub all_both : (p : PlacedStep → Bool) (xs ys : List PlacedStep) → list_all p xs ≡ true → list_all p ys ≡ true → list_all p (xs ++ ys) ≡ true
 all_both p xs ys h k = list_all-append p xs ys ∙ and_from _ _ h k
 
 -- ---- tests that look neither at the facts nor at how blanks are filled
 
-pub record IsBlind (p : Line → Bool) : Type 0 where
-  pub same : (here f f' : Script) (s : Scope) (facts facts' : List Lit) (goal : Goal) → p (line here f s facts goal) ≡ p (line here f' s facts' goal)
+pub record IsBlind (p : PlacedStep → Bool) : Type 0 where
+  pub same : (here f f' : Script) (s : Scope) (facts facts' : List Lit) (goal : Goal) → p (placed_step here f s facts goal) ≡ p (placed_step here f' s facts' goal)
 
 both_same : (a b c d : Bool) → a ≡ b → c ≡ d → (a && c) ≡ (b && d)
 both_same a b c d e f = ap₂ (λ x y. x && y) e f
 
-both_lists : (p : Line → Bool) (xs xs' ys ys' : List Line) → list_all p xs ≡ list_all p xs' → list_all p ys ≡ list_all p ys' → list_all p (xs ++ ys) ≡ list_all p (xs' ++ ys')
+both_lists : (p : PlacedStep → Bool) (xs xs' ys ys' : List PlacedStep) → list_all p xs ≡ list_all p xs' → list_all p ys ≡ list_all p ys' → list_all p (xs ++ ys) ≡ list_all p (xs' ++ ys')
 both_lists p xs xs' ys ys' e f = list_all-append p xs ys ∙ both_same _ _ _ _ e f ∙ sym (list_all-append p xs' ys')
 
-pub tests_again : (before : List StatementView) (p : Line → Bool) → IsBlind p → (d f f' : Script) (s : Scope) (facts facts' : List Lit) (goal : Goal) →
-    list_all p (lines before d f s facts goal) ≡ list_all p (lines before d f' s facts' goal)
-unfolding lines
+pub tests_again : (before : List StatementView) (p : PlacedStep → Bool) → IsBlind p → (d f f' : Script) (s : Scope) (facts facts' : List Lit) (goal : Goal) →
+    list_all p (placed_steps before d f s facts goal) ≡ list_all p (placed_steps before d f' s facts' goal)
+unfolding placed_steps
 tests_again before p b (Cite by rest) f f' s facts facts' goal =
     both_same _ _ _ _ (b.same (Cite by rest) f f' s facts facts' goal) (tests_again before p b rest (rest_of f) (rest_of f') s (joined facts by.lit) (joined facts' by.lit) goal)
 tests_again before p b (Hence lit cert rest) f f' s facts facts' goal =
@@ -206,16 +206,16 @@ tests_again before p b (Apply theorem args names certs rest) f f' s facts facts'
     (tests_again before p b rest (rest_of f) (rest_of f') (grown s t.made) (joined_all facts (gives_of_use t (args_of f) s)) (joined_all facts' (gives_of_use t (args_of f') s)) goal)
 tests_again before p b (Claim shown inner rest) f f' s facts facts' goal =
     both_same _ _ _ _ (b.same (Claim shown inner rest) f f' s facts facts' goal)
-    (both_lists p (lines before inner (inner_of f) s facts (goal_of shown)) (lines before inner (inner_of f') s facts' (goal_of shown))
-    (lines before rest (rest_of f) s (joined_all facts shown) goal) (lines before rest (rest_of f') s (joined_all facts' shown) goal)
+    (both_lists p (placed_steps before inner (inner_of f) s facts (goal_of shown)) (placed_steps before inner (inner_of f') s facts' (goal_of shown))
+    (placed_steps before rest (rest_of f) s (joined_all facts shown) goal) (placed_steps before rest (rest_of f') s (joined_all facts' shown) goal)
     (tests_again before p b inner (inner_of f) (inner_of f') s facts facts' (goal_of shown))
     (tests_again before p b rest (rest_of f) (rest_of f') s (joined_all facts shown) (joined_all facts' shown) goal))
 tests_again before p b (Superposed form names shown certs inner rest) f f' s facts facts' goal =
     let g = grown s superposing.sorts_copied in
     let given = superposing.gives_of_superposition form s in
     both_same _ _ _ _ (b.same (Superposed form names shown certs inner rest) f f' s facts facts' goal)
-    (both_lists p (lines before inner (inner_of f) g (joined_all facts given) (goal_of shown)) (lines before inner (inner_of f') g (joined_all facts' given) (goal_of shown))
-    (lines before rest (rest_of f) s (joined_all facts shown) goal) (lines before rest (rest_of f') s (joined_all facts' shown) goal)
+    (both_lists p (placed_steps before inner (inner_of f) g (joined_all facts given) (goal_of shown)) (placed_steps before inner (inner_of f') g (joined_all facts' given) (goal_of shown))
+    (placed_steps before rest (rest_of f) s (joined_all facts shown) goal) (placed_steps before rest (rest_of f') s (joined_all facts' shown) goal)
     (tests_again before p b inner (inner_of f) (inner_of f') g (joined_all facts given) (joined_all facts' given) (goal_of shown))
     (tests_again before p b rest (rest_of f) (rest_of f') s (joined_all facts shown) (joined_all facts' shown) goal))
 tests_again before p b (Qed objects certs) f f' s facts facts' goal = both_same _ _ _ _ (b.same (Qed objects certs) f f' s facts facts' goal) refl
@@ -223,8 +223,8 @@ tests_again before p b (Contradiction against) f f' s facts facts' goal = both_s
 tests_again before p b (Cases lit first second) f f' s facts facts' goal =
     let not_so = negation lit in
     both_same _ _ _ _ (b.same (Cases lit first second) f f' s facts facts' goal)
-    (both_lists p (lines before first (inner_of f) s (joined facts lit) goal) (lines before first (inner_of f') s (joined facts' lit) goal)
-    (lines before second (rest_of f) s (joined facts not_so) goal) (lines before second (rest_of f') s (joined facts' not_so) goal)
+    (both_lists p (placed_steps before first (inner_of f) s (joined facts lit) goal) (placed_steps before first (inner_of f') s (joined facts' lit) goal)
+    (placed_steps before second (rest_of f) s (joined facts not_so) goal) (placed_steps before second (rest_of f') s (joined facts' not_so) goal)
     (tests_again before p b first (inner_of f) (inner_of f') s (joined facts lit) (joined facts' lit) goal)
     (tests_again before p b second (rest_of f) (rest_of f') s (joined facts not_so) (joined facts' not_so) goal))
 
@@ -232,7 +232,7 @@ tests_again before p b (Cases lit first second) f f' s facts facts' goal =
 pub form_is_blind : (before : List StatementView) → IsBlind (has_form before)
 form_is_blind before = record { same = by_form }
   where
-    by_form : (here f f' : Script) (s : Scope) (facts facts' : List Lit) (goal : Goal) → has_form before (line here f s facts goal) ≡ has_form before (line here f' s facts' goal)
+    by_form : (here f f' : Script) (s : Scope) (facts facts' : List Lit) (goal : Goal) → has_form before (placed_step here f s facts goal) ≡ has_form before (placed_step here f' s facts' goal)
     by_form (Cite by rest) f f' s facts facts' goal = refl
     by_form (Hence lit cert rest) f f' s facts facts' goal = refl
     by_form (Make form names certs rest) f f' s facts facts' goal = refl
@@ -248,11 +248,11 @@ scope_is_blind = record { same = λ here f f' s facts facts' goal. refl }
 
 -- ---- literals that fit, in lists of steps
 
-pub lits_first : (before : List StatementView) (xs ys : List Line) → LitsFit before (xs ++ ys) → LitsFit before xs
+pub lits_first : (before : List StatementView) (xs ys : List PlacedStep) → LitsFit before (xs ++ ys) → LitsFit before xs
 lits_first before [] ys h = tt
 lits_first before (x ∷ xs) ys h = (h.0, λ fit. ((h.1 fit).0, lits_first before xs ys (h.1 fit).1))
 
 -- in the second, where the steps of the first are licensed
-pub lits_second : (before : List StatementView) (xs ys : List Line) → AllLicensed before xs → LitsFit before (xs ++ ys) → LitsFit before ys
+pub lits_second : (before : List StatementView) (xs ys : List PlacedStep) → AllLicensed before xs → LitsFit before (xs ++ ys) → LitsFit before ys
 lits_second before [] ys l h = h
 lits_second before (x ∷ xs) ys l h = lits_second before xs ys l.1 (h.1 l.0.fits).1

@@ -14,7 +14,7 @@ use Rattle.e_deriv.specs.declared.stop.Stop.{Stop}
 use Rattle.e_deriv.specs.declared.stop.Stop.TheVariants as stop
 use Rattle.e_deriv.specs.Script.{Script}
 use Rattle.e_deriv.specs.Goal.{Goal, goal_of_statement, facts_of_statement}
-use Rattle.e_deriv.specs.Naming.{names_lines, declared_names}
+use Rattle.e_deriv.specs.Naming.{names_of_steps, declared_names}
 use Rattle.e_deriv.specs.Certified.{Certified}
 use Rattle.e_deriv.specs.Fitting.{IsFitting}
 use Rattle.e_prove.specs.inner.StepStates.{start_with_names}
@@ -68,8 +68,8 @@ pub goal_is : (t : StatementView) (sorts : List Sort) (s : Scope) (kept made : L
 goal_is t sorts s kept made shown a b c d e = rw (d, c, a, b, e) refl
 
 names_at : (before : List StatementView) (t : StatementView) (names : Names) (script : Script) (s : Stop) → StopsWithin before script (start_with_names t names) (goal_of_statement t) 1 s → HasNames before t names script s
-names_at before t names script (stop.Unlicensed n wanted values seen) k = sym (ap (slice_get (names_lines before (declared_names t names) script)) (omega (arith, k.stops.number)) ∙ k.stops.named)
-names_at before t names script (stop.TooWide n wanted width seen) k = sym (ap (slice_get (names_lines before (declared_names t names) script)) (omega (arith, k.stops.number)) ∙ k.stops.named)
+names_at before t names script (stop.Unlicensed n wanted values seen) k = sym (ap (slice_get (names_of_steps before (declared_names t names) script)) (omega (arith, k.stops.number)) ∙ k.stops.named)
+names_at before t names script (stop.TooWide n wanted width seen) k = sym (ap (slice_get (names_of_steps before (declared_names t names) script)) (omega (arith, k.stops.number)) ∙ k.stops.named)
 names_at before t names script stop.NoMemory k = tt
 
 pub names_are : (before : List StatementView) (t : StatementView) (names : Names) (script : Script) (x : _) (goal : Goal) (s : Stop) → x ≡ start_with_names t names → goal ≡ goal_of_statement t → StopsWithin before script x goal 1 s → HasNames before t names script s
@@ -107,7 +107,7 @@ place_at before t names script n y k =
       context = record { filled = k.filled; place = r.place; number = omega (arith, r.number); at = r.at; earlier = r.earlier };
       scope = sym r.arrives.0;
       facts = sym r.arrives.1;
-      named = sym (ap (slice_get (names_lines before (declared_names t names) script)) (omega (arith, r.number)) ∙ r.named);
+      named = sym (ap (slice_get (names_of_steps before (declared_names t names) script)) (omega (arith, r.number)) ∙ r.named);
     }
 
 pub place_is : (before : List StatementView) (t : StatementView) (names : Names) (script : Script) (n : ℕ) (x y : StepState) (goal : Goal) → x ≡ start_with_names t names → goal ≡ goal_of_statement t → ReachesStep before script x goal 1 n y →

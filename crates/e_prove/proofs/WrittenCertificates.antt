@@ -6,7 +6,7 @@ use Rattle.std.proofs.lemmas.Bool.{and_from}
 use Rattle.e_literal.proofs.Booleans.{and_left, and_right}
 use Rattle.e_clause.specs.declared.cert.Cert.{Cert}
 use Rattle.e_book.specs.Fits.{has_good_literals}
-use Rattle.e_book.proofs.WrittenScripts.{erased_literals, filled_literals, written_well}
+use Rattle.e_book.proofs.fit_theorems.WrittenScripts.{erased_literals, filled_literals, written_well}
 use Rattle.e_deriv.specs.declared.block.Block.{Block}
 use Rattle.e_deriv.specs.Script.{Script, script_of, erased}
 use Rattle.e_deriv.specs.Parts.{filled_by}

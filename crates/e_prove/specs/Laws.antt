@@ -5,16 +5,16 @@ use Rattle.e_deriv.specs.declared.stop.Wanted.{Wanted}
 use Rattle.e_deriv.specs.declared.stop.Stop.{Stop}
 use Rattle.e_deriv.specs.declared.stop.Stop.TheVariants.{Unlicensed, TooWide, NoMemory}
 use Rattle.e_deriv.specs.Script.{Script}
-use Rattle.e_deriv.specs.Lines.{Line, proof_lines}
+use Rattle.e_deriv.specs.PlacedSteps.{PlacedStep, proof_steps}
 use Rattle.e_deriv.specs.Licensed.{AllLicensed, IsFirstUnlicensed}
-use Rattle.e_deriv.specs.Certified.{Certified, derivation_lines}
-use Rattle.e_deriv.specs.Refused.{IsWideLine}
+use Rattle.e_deriv.specs.Certified.{Certified, derivation_steps}
+use Rattle.e_deriv.specs.Refused.{IsWideStep}
 use Rattle.e_prove.specs.Stops.{StopIs}
 
 -- none of the steps is wide
-abbrev pub NoneWide : List StatementView → List Line → Type 0
+abbrev pub NoneWide : List StatementView → List PlacedStep → Type 0
 NoneWide before [] = Unit {0}
-NoneWide before (x ∷ xs) = (¬ IsWideLine before x) × NoneWide before xs
+NoneWide before (x ∷ xs) = (¬ IsWideStep before x) × NoneWide before xs
 
 -- the stop is no refusal: a step is too wide to be decided, or memory ran out
 abbrev pub IsNoRefusal : Stop → Type 0
@@ -25,22 +25,22 @@ IsNoRefusal _ = Unit {0}
 abbrev pub LicensedIsNotRefused : Type 0
 LicensedIsNotRefused =
     (before : List StatementView) (t : StatementView) (script filled : Script) (stop : Stop)
-    → AllLicensed before (proof_lines before t script filled) →
+    → AllLicensed before (proof_steps before t script filled) →
     StopIs before t script stop → IsNoRefusal stop
 
 -- and where no step is wide only a lack of memory stops
 abbrev pub LicensedStopsForMemory : Type 0
 LicensedStopsForMemory =
     (before : List StatementView) (t : StatementView) (script filled : Script) (stop : Stop)
-    → AllLicensed before (proof_lines before t script filled) →
-    NoneWide before (proof_lines before t script filled)
+    → AllLicensed before (proof_steps before t script filled) →
+    NoneWide before (proof_steps before t script filled)
     → StopIs before t script stop → stop ≡ NoMemory
 
 -- nor where a derivation that is certified is licensed as a script, and no step is wide
 abbrev pub DerivedStopsForMemory : Type 0
 DerivedStopsForMemory =
     (before : List StatementView) (t : StatementView) (d : Script) (stop : Stop)
-    → Certified before t d → NoneWide before (derivation_lines before t d) →
+    → Certified before t d → NoneWide before (derivation_steps before t d) →
     StopIs before t d stop → stop ≡ NoMemory
 
 -- the stop is a refusal at step n, which lacks this; or memory ran out
@@ -55,5 +55,5 @@ abbrev pub RefusedStopsThere : Type 0
 RefusedStopsThere =
     (before : List StatementView) (t : StatementView) (script : Script) (n : ℕ) (wanted : Wanted)
     (stop : Stop) (first : IsFirstUnlicensed before t script n wanted) →
-    NoneWide before (take n (proof_lines before t script first.context.filled))
+    NoneWide before (take n (proof_steps before t script first.context.filled))
     → StopIs before t script stop → IsRefusalAt n wanted stop

@@ -3,8 +3,8 @@ use Rattle.std.specs.Prelude.{◌≡◌, ℕ, ◌-◌, List, Some, slice_get}
 use Rattle.e_literal.specs.Use.{StatementView}
 use Rattle.e_deriv.specs.declared.names.Names.{Names}
 use Rattle.e_deriv.specs.Script.{Script}
-use Rattle.e_deriv.specs.Lines.{Line}
-use Rattle.e_deriv.specs.Naming.{names_lines, declared_names}
+use Rattle.e_deriv.specs.PlacedSteps.{PlacedStep}
+use Rattle.e_deriv.specs.Naming.{names_of_steps, declared_names}
 use Rattle.e_deriv.specs.Licensed.{IsContext}
 use Rattle.e_prove.specs.declared.place.Place.{Place}
 
@@ -13,8 +13,9 @@ use Rattle.e_prove.specs.declared.place.Place.{Place}
 -- objects, where those are the names of the statement's declared and made objects.
 pub record IsStepPlace (before : List StatementView) (t : StatementView) (names : Names)
     (script : Script) (n : ℕ) (p : Place) : Type 0 where
-  pub line : Line
+  pub line : PlacedStep
   pub context : IsContext before t script n line
   pub scope : p.context.scope ≡ line.scope
   pub facts : p.context.facts ≡ line.facts
-  pub named : Some p.names ≡ slice_get (names_lines before (declared_names t names) script) (n - 1)
+  pub named : Some p.names
+      ≡ slice_get (names_of_steps before (declared_names t names) script) (n - 1)

@@ -5,7 +5,7 @@ use Rattle.e_deriv.specs.declared.names.Names.{Names}
 use Rattle.e_deriv.specs.declared.stop.Stop.{Stop}
 use Rattle.e_deriv.specs.declared.stop.Stop.TheVariants.{Unlicensed, TooWide, NoMemory}
 use Rattle.e_deriv.specs.Script.{Script}
-use Rattle.e_deriv.specs.Naming.{names_lines, declared_names}
+use Rattle.e_deriv.specs.Naming.{names_of_steps, declared_names}
 use Rattle.e_deriv.specs.Refused.{IsRefused, IsTooWideAt}
 
 -- the step is the first that is not licensed, it lacks this, and the values show it; or each step
@@ -21,9 +21,9 @@ StopIs before t script NoMemory = Unit {0}
 -- declared and made objects
 abbrev pub HasNames : List StatementView → StatementView → Names → Script → Stop → Type 0
 HasNames before t names script (Unlicensed step wanted values seen) =
-    Some seen ≡ slice_get (names_lines before (declared_names t names) script) (step - 1)
+    Some seen ≡ slice_get (names_of_steps before (declared_names t names) script) (step - 1)
 HasNames before t names script (TooWide step wanted width seen) =
-    Some seen ≡ slice_get (names_lines before (declared_names t names) script) (step - 1)
+    Some seen ≡ slice_get (names_of_steps before (declared_names t names) script) (step - 1)
 HasNames before t names script NoMemory = Unit {0}
 
 -- the stop is at a step before the one with this number; out of memory is free

@@ -9,7 +9,7 @@ ghost use Rattle.e_clause.specs.LimitedFacts.{are_well_formed_in};
 ghost use Rattle.e_theorem.specs.Statements.{stated};
 ghost use Rattle.e_deriv.specs.declared.block.Step.TheVariants.{Apply};
 ghost use Rattle.e_deriv.specs.Fitting.{is_small, is_small_statement};
-ghost use Rattle.e_deriv.specs.Lines.{theorem_at};
+ghost use Rattle.e_deriv.specs.PlacedSteps.{theorem_at};
 ghost use Rattle.e_deriv.specs.Parts;
 ghost use Rattle.e_deriv.specs.Parts.{has_no_blank};
 ghost use Rattle.e_clause.specs.declared.cert.Version.TheVariants as version;

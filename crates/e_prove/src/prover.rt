@@ -3,7 +3,7 @@ ghost use Rattle.std.specs.Prelude.{◌≡◌, IfOk, IfErr, IsTrue};
 ghost use Rattle.e_theorem.specs.Statements.{stated, all_stated};
 ghost use Rattle.e_deriv.specs.Script.{script_of, erased};
 ghost use Rattle.e_deriv.specs.Parts.{filled_by};
-ghost use Rattle.e_deriv.specs.Lines.{proof_lines};
+ghost use Rattle.e_deriv.specs.PlacedSteps.{proof_steps};
 ghost use Rattle.e_deriv.specs.Licensed.{AllLicensed};
 ghost use Rattle.e_deriv.specs.Fitting.{IsFitting};
 ghost use Rattle.e_deriv.specs.Certified.{Certified};
@@ -42,7 +42,7 @@ pub fn prove(alloc: Global, before: &[Statement], theorem: &Theorem) -> Result<B
     ensures script { IfOk result (λ d. erased (script_of d)
         ≡ filled_by (erased (script_of theorem.now.block)) (script_of d)) }
     ensures least { IfOk
-        result (λ d. AllLicensed (all_stated before.now) (proof_lines (all_stated before.now)
+        result (λ d. AllLicensed (all_stated before.now) (proof_steps (all_stated before.now)
         (stated theorem.now.statement) (script_of theorem.now.block) (script_of d))) }
     ensures written { IfOk result (λ d. IsTrue (has_good_literals (script_of theorem.now.block))
         → IsTrue (is_written_well (script_of d))) }
@@ -75,7 +75,7 @@ pub(crate) fn prove_parts(
         (λ d. Certified (all_stated before.now) (stated statement.now) (script_of d)) }
     ensures script { IfOk result
         (λ d. erased (script_of d) ≡ filled_by (erased (script_of block.now)) (script_of d)) }
-    ensures least { IfOk result (λ d. AllLicensed (all_stated before.now) (proof_lines
+    ensures least { IfOk result (λ d. AllLicensed (all_stated before.now) (proof_steps
         (all_stated before.now) (stated statement.now) (script_of block.now) (script_of d))) }
     ensures certs { IfOk result (λ d. IsTrue (has_certs_of version.One (script_of d))) }
     ensures stop { IfErr result

@@ -23,7 +23,7 @@ use e_theorem::Statement;
 use std::alloc::Global;
 use std::mem;
 
-/// How many step and close lines a step has, with those of the block inside it.
+/// How many steps a step is, with those of the block inside it, closes too.
 fn lines_of(step: &Step) -> u32
     requires { (rest : Script)
         → script_size (step_script step.now rest) < 2 ^ 32 + script_size rest }

@@ -12,7 +12,7 @@ use Rattle.e_book.specs.ParserViews.{entry_of_parser}
 use Rattle.e_book.specs.TheoremViews.{TheoremView}
 use Rattle.e_book.specs.Grammar.{is_skipped}
 use Rattle.e_book.specs.Book.{line_step, is_done, read_from}
-use Rattle.e_line.proofs.Bound.{bind_ok}
+use Rattle.e_line.proofs.base.Bound.{bind_ok}
 use Rattle.e_cert.specs.declared.kept.StepCerts.{StepCerts}
 use Rattle.e_read.specs.declared.reading.BlockParser.{BlockParser}
 use Rattle.e_read.specs.Filled.{script_with_certs}

@@ -11,10 +11,10 @@ use Rattle.e_deriv.specs.Fitting.{is_small_statement}
 use Rattle.e_names.specs.TitledStatements.{TitledStatement}
 use Rattle.e_book.specs.TheoremViews.{TheoremView, entry_of}
 use Rattle.e_book.specs.HasSpelling.{HasSpelling}
-use Rattle.e_book.proofs.Answered.{answered, pair}
-use Rattle.e_book.proofs.Fitting.{reading_states}
-use Rattle.e_book.proofs.GrammarRead.{grammar_read}
-use Rattle.e_book.proofs.ReadSpelled.{read_is_spelled}
+use Rattle.e_book.proofs.parsers.Answered.{answered, pair}
+use Rattle.e_book.proofs.fit_theorems.Fitting.{reading_states}
+use Rattle.e_book.proofs.grammar.GrammarRead.{grammar_read}
+use Rattle.e_book.proofs.fit_theorems.ReadSpelled.{read_is_spelled}
 use Rattle.e_read.specs.declared.reader.Piece.{Piece}
 use Rattle.e_read.specs.declared.reader.Piece.TheVariants as pieces
 use Rattle.e_read.specs.declared.reader.TextFault.{TextFault}
@@ -22,7 +22,7 @@ use Rattle.e_read.specs.Filled.{script_with_certs}
 use Rattle.e_read.specs.Laws.{is_of_theorem, ReadsAsBook}
 use Rattle.e_read.specs.Text.{at_start, piece_from, without_certs, OfTheorem, TextReads}
 use Rattle.e_read.proofs.Bridge.{derives, Plainly, plainly}
-use Rattle.e_read.proofs.GoodReadings.{version_read}
+use Rattle.e_read.proofs.ReadCertificates.{version_read}
 use Rattle.e_read.proofs.Erased.{erased_filled, erased_plain}
 
 -- the theorem without its certificates, as the other lines are read

@@ -5,8 +5,8 @@ pub mod Erased
 pub mod Consequences
 pub mod Rooms
 pub mod GoalSorts
-pub mod GoodCerts
-pub mod GoodReadings
+pub mod FilledCertificates
+pub mod ReadCertificates
 pub mod MadeNames
 pub mod Ends
 pub mod Pieces

@@ -38,8 +38,8 @@ use Rattle.e_names.specs.Scope.{scope_of_names, fresh, lit_in, lits_in, by_in, l
 use Rattle.e_line.specs.LineLimits.{few_monos}
 use Rattle.e_book.specs.LineLimits.{few_objects}
 use Rattle.e_book.specs.Steps.{declared, terms_after_raw, terms_after, with_step, with_terms, built, used_by, applied, deeper, claimed, superposed, split, counted_from, resumed, closed_inside, closed, shut, supposes, shows, proof_begun, cited, inferred, concluded, makes, declares, stepped, step, begin, begun, allowed, count_names}
-use Rattle.e_book.proofs.Answered.{passes, untaken}
-use Rattle.e_line.proofs.Bound.{bind_ok, ok_is, read_ok}
+use Rattle.e_book.proofs.parsers.Answered.{passes, untaken}
+use Rattle.e_line.proofs.base.Bound.{bind_ok, ok_is, read_ok}
 
 -- ---- lines that declare and make nothing leave the names and the made objects as they are
 

@@ -6,7 +6,7 @@ use Rattle.e_literal.specs.Scopes.{nothing, grown}
 use Rattle.e_literal.specs.Use.{StatementView}
 use Rattle.e_literal.proofs.GrownScopes.{total, total_grown}
 use Rattle.e_clause.specs.declared.cert.Version.{Version}
-use Rattle.e_deriv.specs.Lines.{theorem_at}
+use Rattle.e_deriv.specs.PlacedSteps.{theorem_at}
 use Rattle.e_deriv.specs.Fitting.{is_small_statement}
 use Rattle.e_deriv.proofs.Smallness.{few_objects}
 use Rattle.e_book.specs.declared.parser.TheoremParser.{TheoremParser}

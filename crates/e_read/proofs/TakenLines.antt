@@ -17,8 +17,8 @@ use Rattle.e_book.specs.Steps.{begin, step}
 use Rattle.e_book.specs.Grammar.{starts_with_hash, is_skipped}
 use Rattle.e_book.specs.Book.{line_step}
 use Rattle.e_line.specs.Canonical.{line_of}
-use Rattle.e_line.proofs.Bound.{bind_ok, ok_is}
-use Rattle.e_line.proofs.Choices.{passed}
+use Rattle.e_line.proofs.base.Bound.{bind_ok, ok_is}
+use Rattle.e_line.proofs.base.Choices.{passed}
 use Rattle.e_cert.specs.declared.cert_line.CertLine.{CertLine}
 use Rattle.e_cert.specs.declared.owed.Pending.{Pending}
 use Rattle.e_cert.specs.declared.kept.StepCerts.{StepCerts}

@@ -1,8 +1,8 @@
 -- The lines of a proof and of its blocks.
-pub mod ScriptsSaid
-pub mod BlocksSaid
-pub mod ProofSaid
-pub mod LinesSaid
+pub mod SpelledSteps
+pub mod SpelledBlocks
+pub mod LinesOfProofs
+pub mod LinesWithCertificates
 pub mod LinesTaken
 pub mod ScriptAlong
 pub mod FilledBack

@@ -1,5 +1,5 @@
 -- What a derivation is that lines can spell: its form, its blanks filled, its names.
-pub mod Standing
+pub mod PlacedScripts
 pub mod CertifiedFormed
 pub mod FormedLines
 pub mod Filled

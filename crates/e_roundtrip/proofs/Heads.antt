@@ -1,4 +1,4 @@
 -- The lines of a theorem before its proof.
-pub mod HeadSaid
+pub mod SpelledHeads
 pub mod HeadTaken
 pub mod HeadAlong

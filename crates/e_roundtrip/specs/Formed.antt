@@ -27,10 +27,10 @@ use Rattle.e_clause.specs.MetricCertificate.{row_name_in, sum_in}
 use Rattle.e_clause.specs.TransferCertificate.{are_args_in}
 use Rattle.e_clause.specs.Written.{is_writable_name, is_writable_sum}
 use Rattle.e_deriv.specs.Script.{Script, Apply, Contradiction}
-use Rattle.e_deriv.specs.Lines.{Line}
+use Rattle.e_deriv.specs.PlacedSteps.{PlacedStep}
 use Rattle.e_deriv.specs.Parts.{has_no_blank}
 use Rattle.e_deriv.specs.Steps.{fits, needs}
-use Rattle.e_deriv.specs.Certified.{certs_of, derivation_lines}
+use Rattle.e_deriv.specs.Certified.{certs_of, derivation_steps}
 
 -- ---- sums
 
@@ -83,7 +83,7 @@ abbrev pub against_formed : Scope → Against → Bool
 against_formed s (Clash l) = all_in_scope s l && not (is_metric l)
 against_formed s (MetricAgainst m) = sums_formed s m.sums
 
--- ---- lines
+-- ---- steps
 
 -- beside the needs: an application has no blank, and a contradiction has its certificate
 abbrev pub formed_beside : Script → Scope → Bool
@@ -92,12 +92,12 @@ formed_beside (Contradiction (Some against)) s = against_formed s against
 formed_beside (Contradiction None) s = false
 formed_beside _ s = true
 
--- the line fits, and has a certificate of its form for each literal that it needs
-abbrev pub is_formed : List StatementView → Line → Bool
+-- the step fits, and has a certificate of its form for each literal that it needs
+abbrev pub is_formed : List StatementView → PlacedStep → Bool
 is_formed before x =
     fits before x
     && (certs_formed x.scope (needs before x) (certs_of x.here) && formed_beside x.here x.scope)
 
--- each line of the derivation does
+-- each step of the derivation does
 abbrev pub Formed : List StatementView → StatementView → Script → Type 0
-Formed before t d = IsTrue (list_all (is_formed before) (derivation_lines before t d))
+Formed before t d = IsTrue (list_all (is_formed before) (derivation_steps before t d))

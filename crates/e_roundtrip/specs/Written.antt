@@ -32,7 +32,7 @@ AllCanBeVerified v known [] = Unit {0}
 AllCanBeVerified v known (p ∷ ps) =
     CanBeVerified v known p.0 p.1 × AllCanBeVerified v (with_theorem known p.0) ps
 
--- after the verdict on a derivation: bad at the line that is not certified, or what those after it
+-- after the verdict on a derivation: bad at the step that is not certified, or what those after it
 -- are judged
 abbrev pub judged_after : List ℕ → Result ℕ ℕ → Judgement → Judgement
 judged_after title (Ok n) after = after

@@ -1,23 +1,5 @@
-mod Wrote
-mod History
-mod TakenBooks
-mod VerifiedText
-mod LastLinesWritten
-mod OneOutcome
-mod Completeness
-mod WholeBook
-mod Titles
-mod GeneratedTitles
-mod TakenBytes
-mod ReadPieces
-mod VerifierAnswers
-pub mod UsedTitles
-mod VerifiedAgain
-mod UpgradedTexts
-mod TrimmedTexts
-mod RewrittenTexts
-mod MadeBooks
-mod Trials
-mod DrawerAnswers
-mod SuggestedLines
-mod SuggesterAnswers
+pub mod progress
+pub mod written_texts
+pub mod outcomes
+pub mod title_counts
+pub mod answers

@@ -7,7 +7,7 @@ use Rattle.e_deriv.specs.declared.stop.Wanted.{Wanted}
 use Rattle.e_deriv.specs.declared.names.Names.{Names}
 use Rattle.e_deriv.specs.Script.{Script, erased, size}
 use Rattle.e_deriv.specs.Parts.{filled_by}
-use Rattle.e_deriv.specs.Lines.{proof_lines}
+use Rattle.e_deriv.specs.PlacedSteps.{proof_steps}
 use Rattle.e_deriv.specs.Licensed.{AllLicensed}
 use Rattle.e_deriv.specs.Proves.{IsProof}
 use Rattle.e_deriv.specs.Certified.{Certified}
@@ -35,8 +35,8 @@ pub record Derived : Type 0 where
   pub derivation : Script
 
 -- The derivation proves the theorem's statement from those that are known, and each of its
--- certificates certifies at its own line. Without its certificates it is the theorem's own script,
--- with its blanks filled, and so filled each line of the script is licensed: the arguments of each
+-- certificates certifies at its own step. Without its certificates it is the theorem's own script,
+-- with its blanks filled, and so filled each step of the script is licensed: the arguments of each
 -- application are the least good choice. The literals that its certificates name are well formed,
 -- and no fact is named by its place.
 pub record IsDerived (known : List TitledStatement) (d : Derived) : Type 0 where
@@ -44,7 +44,7 @@ pub record IsDerived (known : List TitledStatement) (d : Derived) : Type 0 where
   pub certified : Certified (stated_by known) (stated d.theorem.statement) d.derivation
   pub own : erased d.derivation ≡ filled_by (erased d.theorem.script) d.derivation
   pub least : AllLicensed (stated_by known)
-      (proof_lines (stated_by known) (stated d.theorem.statement) d.theorem.script d.derivation)
+      (proof_steps (stated_by known) (stated d.theorem.statement) d.theorem.script d.derivation)
   pub written : IsTrue (is_written_well d.derivation)
   pub version : IsTrue (has_certs_of One d.derivation)
 
@@ -56,7 +56,7 @@ AllDerived known (d ∷ ds) = IsDerived known d × AllDerived (with_theorem know
 abbrev pub theorems_of : List Derived → List TheoremView
 theorems_of ds = map (λ d. d.theorem) ds
 
--- the step and close lines of their theorems
+-- the steps of their theorems, closes too
 abbrev pub steps_of : List Derived → ℕ
 steps_of [] = 0
 steps_of (d ∷ ds) = steps_of ds + size d.theorem.script
@@ -96,14 +96,14 @@ pub record OutputUpTo (lines : Rest) (Holds : Known → Rest → Type 0)
 abbrev pub OutcomeAfter : Rest → BookOutcome → Known → Rest → Type 0
 OutcomeAfter lines end known rest = OutcomeAt (end_line_number lines) known rest end
 
--- the next theorem is refused at this line
+-- the next theorem is refused at this step
 abbrev pub Refuses : Rest → List ℕ → ℕ → Wanted → Option (List (Term × ℕ)) → Names
     → Known → Rest → Type 0
 Refuses lines title step wanted values names known rest =
     NextIs (end_line_number lines) known rest
     (λ t. RefusedAt known.theorems t title step wanted values names)
 
--- a line of the next theorem is too wide
+-- a step of the next theorem is too wide
 abbrev pub Widens : Rest → List ℕ → ℕ → Wanted → ℕ → Names → Known → Rest → Type 0
 Widens lines title step wanted width names known rest =
     NextIs (end_line_number lines) known rest
@@ -116,7 +116,7 @@ pub record CutOff (lines : Rest) (last out : List ℕ) : Type 0 where
   pub front : IsFront lines (theorems_of derived)
   pub bytes : out ≡ written_with derived last
 
--- it is a derivation text, with n theorems, and each certificate certifies at its own line
+-- it is a derivation text, with n theorems, and each certificate certifies at its own step
 abbrev pub IsVerifiedText : ℕ → List ℕ → Type 0
 IsVerifiedText n out = JudgesText out (judgements.Verified n)
 
@@ -141,7 +141,7 @@ Outputs lines _ out = ⊥
 abbrev pub Checks : Rest → Option (List ℕ) → Option (List ℕ) → Status → Type 0
 Checks lines old new answer = Wrote (Outputs lines) old new answer
 
--- the answer of an outcome, or that a line is too wide where one is that is reached; a fault of the
+-- the answer of an outcome, or that a step is too wide where one is that is reached; a fault of the
 -- source or the sink, and out of memory, can come in place of it
 abbrev pub IsAnswer : Rest → BookOutcome → Status → Type 0
 IsAnswer lines (outcome.Accepted n) (status.Accepted m) = m ≡ n

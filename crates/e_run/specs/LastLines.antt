@@ -77,7 +77,7 @@ suggested_line n more =
 abbrev pub no_step_line : List ℕ
 no_step_line = codes "no step\n"
 
--- the theorem and the number of its line
+-- the theorem and the number of its step
 abbrev pub bad_line : List ℕ → ℕ → List ℕ
 bad_line title step = codes "bad " ++ (title ++ (codes " " ++ (decimal step ++ codes "\n")))
 

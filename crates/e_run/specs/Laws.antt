@@ -1,4 +1,4 @@
--- A book has one outcome, and what is answered at a refusal and at a line that is too wide is its
+-- A book has one outcome, and what is answered at a refusal and at a step that is too wide is its
 -- own.
 use Rattle.std.specs.Prelude.{◌≡◌, ℕ, List, Option}
 use Rattle.e_names.specs.declared.known.Known.{Known}
@@ -18,7 +18,7 @@ RefusalIsOutcome =
     Begins lines theorems known rest → Refuses lines title step wanted values names known rest
     → IsOutcome lines theorems (Unlicensed title step wanted names)
 
--- where a line is too wide that is reached, the lines have a wide one
+-- where a step is too wide that is reached, the lines have a wide one
 abbrev pub TooWideIsWide : Type 0
 TooWideIsWide =
     (lines : Rest) (theorems : List TheoremView) (known : Known) (rest : Rest) (title : List ℕ)
@@ -26,7 +26,7 @@ TooWideIsWide =
     Begins lines theorems known rest
     → Widens lines title step wanted width names known rest → HasWide lines
 
--- no book is accepted and stopped, stopped at two lines, or has two first faults
+-- no book is accepted and stopped, stopped at two steps, or has two first faults
 abbrev pub BooksHaveOneOutcome : Type 0
 BooksHaveOneOutcome =
     (text : List ℕ) (a b : BookOutcome) → IsOutcomeOf text a → IsOutcomeOf text b → a ≡ b

@@ -1,5 +1,5 @@
 -- The outcome of a book: its theorems and definitions are taken one after another, up to the first
--- fault or the first unlicensed line.
+-- fault or the first unlicensed step.
 use Rattle.std.specs.Prelude.{◌≡◌, ℕ, ◌+◌, ◌-◌, slice_get, List, [], ◌∷◌, ◌++◌, length, Option}
 use Rattle.std.specs.Prelude.{Some, None, Result, Ok, Err}
 use Rattle.e_text.specs.Lines.{lines_of}
@@ -8,10 +8,10 @@ use Rattle.e_deriv.specs.declared.stop.Wanted.{Wanted}
 use Rattle.e_deriv.specs.declared.names.Names.{Names}
 use Rattle.e_literal.specs.declared.object.Term.{Term}
 use Rattle.e_deriv.specs.Script.{Script}
-use Rattle.e_deriv.specs.Lines.{Line, proof_lines}
-use Rattle.e_deriv.specs.Naming.{names_lines, declared_names}
+use Rattle.e_deriv.specs.PlacedSteps.{PlacedStep, proof_steps}
+use Rattle.e_deriv.specs.Naming.{names_of_steps, declared_names}
 use Rattle.e_deriv.specs.Licensed.{AllLicensed, IsContext, IsFirstUnlicensed}
-use Rattle.e_deriv.specs.Refused.{IsRefused, IsWideLine, IsTooWideAt}
+use Rattle.e_deriv.specs.Refused.{IsRefused, IsWideStep, IsTooWideAt}
 use Rattle.e_line.specs.declared.fault.BookFault.{BookFault}
 use Rattle.e_names.specs.TitledStatements.{TitledStatement, stated_by}
 use Rattle.e_book.specs.TheoremViews.{TheoremView}
@@ -22,11 +22,11 @@ use Rattle.e_book.specs.Definitions.{OfTheorem, OfNotion, item_from}
 use Rattle.e_book.specs.Grammar.{Rest}
 use Rattle.e_judgement.specs.Judged.{with_theorem}
 
--- with this known, each line of the theorem's script is licensed, with its blanks filled
+-- with this known, each step of the theorem's script is licensed, with its blanks filled
 pub record IsLicensed (known : List TitledStatement) (t : TheoremView) : Type 0 where
   pub filled : Script
   pub licensed : AllLicensed (stated_by known)
-      (proof_lines (stated_by known) (stated t.statement) t.script filled)
+      (proof_steps (stated_by known) (stated t.statement) t.script filled)
 
 -- after a theorem, and after a definition, this is known
 abbrev pub and_theorem : Known → TheoremView → Known
@@ -57,19 +57,19 @@ Takes last known lines (t ∷ ts) now rest =
     × IsLicensed here.theorems t
     × Takes last (and_theorem here t) after ts now rest
 
--- how a book ends: all its theorems are taken; a line is not licensed; a line has a fault
+-- how a book ends: all its theorems are taken; a step is not licensed; a line has a fault
 pub data BookOutcome : Type 0 where
   Accepted : (theorems : ℕ) → BookOutcome
   Unlicensed : (title : List ℕ) (step : ℕ) (wanted : Wanted) (names : Names) → BookOutcome
   Faulty : (fault : BookFault) → BookOutcome
 
--- with this known, the next theorem has this title, its line of this number is the first unlicensed
+-- with this known, the next theorem has this title, its step of this number is the first unlicensed
 -- one and lacks this, and these are the names of the objects in scope before it
 pub record StopsAt (known : List TitledStatement) (t : TheoremView) (title : List ℕ) (step : ℕ)
     (wanted : Wanted) (names : Names) : Type 0 where
   pub titled : t.title ≡ title
   pub first : IsFirstUnlicensed (stated_by known) (stated t.statement) t.script step wanted
-  pub named : Some names ≡ slice_get (names_lines (stated_by known)
+  pub named : Some names ≡ slice_get (names_of_steps (stated_by known)
       (declared_names (stated t.statement) t.names) t.script) (step - 1)
 
 -- with this known, the next theorem of these lines is one of which this holds
@@ -121,35 +121,35 @@ pub record IsOutcomeOf (text : List ℕ) (end : BookOutcome) : Type 0 where
 
 -- ---- how the check of a theorem breaks off
 
--- with this known, the theorem has this title, its line of this number is the first unlicensed one
+-- with this known, the theorem has this title, its step of this number is the first unlicensed one
 -- and lacks this, these values show it, and these are the names of the objects in scope before it
 pub record RefusedAt (known : List TitledStatement) (t : TheoremView) (title : List ℕ) (step : ℕ)
     (wanted : Wanted) (values : Option (List (Term × ℕ))) (names : Names) : Type 0 where
   pub titled : t.title ≡ title
   pub refused : IsRefused (stated_by known) (stated t.statement) t.script step wanted values
-  pub named : Some names ≡ slice_get (names_lines (stated_by known)
+  pub named : Some names ≡ slice_get (names_of_steps (stated_by known)
       (declared_names (stated t.statement) t.names) t.script) (step - 1)
 
--- with this known, each line before is licensed, and this one is too wide at what is wanted there
+-- with this known, each step before is licensed, and this one is too wide at what is wanted there
 pub record TooWideAt (known : List TitledStatement) (t : TheoremView) (title : List ℕ) (step : ℕ)
     (wanted : Wanted) (width : ℕ) (names : Names) : Type 0 where
   pub titled : t.title ≡ title
   pub too_wide : IsTooWideAt (stated_by known) (stated t.statement) t.script step wanted width
-  pub named : Some names ≡ slice_get (names_lines (stated_by known)
+  pub named : Some names ≡ slice_get (names_of_steps (stated_by known)
       (declared_names (stated t.statement) t.names) t.script) (step - 1)
 
--- with this known, a line of the theorem is wide, and each line before it is licensed
-pub record HasWideLine (known : List TitledStatement) (t : TheoremView) : Type 0 where
+-- with this known, a step of the theorem is wide, and each step before it is licensed
+pub record HasWideStep (known : List TitledStatement) (t : TheoremView) : Type 0 where
   pub step : ℕ
-  pub line : Line
+  pub line : PlacedStep
   pub context : IsContext (stated_by known) (stated t.statement) t.script step line
-  pub is_wide : IsWideLine (stated_by known) line
+  pub is_wide : IsWideStep (stated_by known) line
 
--- in a theorem of these lines whose earlier ones are licensed, a line is wide, and each line before
+-- in a theorem of these lines whose earlier ones are licensed, a step is wide, and each step before
 -- it is licensed
 pub record HasWide (lines : Rest) : Type 0 where
   pub theorems : List TheoremView
   pub known : Known
   pub rest : Rest
   pub begins : Begins lines theorems known rest
-  pub wide : NextIs (end_line_number lines) known rest (HasWideLine known.theorems)
+  pub wide : NextIs (end_line_number lines) known rest (HasWideStep known.theorems)

@@ -13,10 +13,10 @@ use Rattle.e_deriv.specs.declared.stop.Wanted.{Wanted}
 use Rattle.e_deriv.specs.declared.stop.Wanted.TheVariants.{Match}
 use Rattle.e_deriv.specs.declared.names.Names.{Names}
 use Rattle.e_deriv.specs.Script.{size}
-use Rattle.e_deriv.specs.Lines.{Line}
-use Rattle.e_deriv.specs.Naming.{names_lines, declared_names}
+use Rattle.e_deriv.specs.PlacedSteps.{PlacedStep}
+use Rattle.e_deriv.specs.Naming.{names_of_steps, declared_names}
 use Rattle.e_deriv.specs.Licensed.{IsContext}
-use Rattle.e_deriv.specs.Refused.{IsWideLine}
+use Rattle.e_deriv.specs.Refused.{IsWideStep}
 use Rattle.e_line.specs.declared.fault.BookFault.{BookFault}
 use Rattle.e_names.specs.TitledStatements.{TitledStatement, is_known, stated_by}
 use Rattle.e_book.specs.TheoremViews.{TheoremView}
@@ -61,9 +61,9 @@ abbrev pub IsEarlier : List ℕ → ℕ → TheoremView → ℕ → Type 0
 IsEarlier title step t n =
     MatchBool (bytes_eq t.title title) ((step ≤ size t.script) × (n < step)) (Unit {0})
 
--- the theorem has the title, and this line is its step, before which all steps are licensed
+-- the theorem has the title, and this is its step, before which all steps are licensed
 pub record IsAsked (title : List ℕ) (step : ℕ) (known : List TitledStatement) (t : TheoremView)
-    (x : Line) : Type 0 where
+    (x : PlacedStep) : Type 0 where
   pub titled : t.title ≡ title
   pub context : IsContext (stated_by known) (stated t.statement) t.script step x
 
@@ -75,7 +75,7 @@ pub record HasTooFewSteps (title : List ℕ) (step : ℕ) (t : TheoremView) : Ty
 -- these are the names of the objects in scope before the step
 abbrev pub HasNamesAt : List TitledStatement → TheoremView → ℕ → Names → Type 0
 HasNamesAt known t step names =
-    Some names ≡ slice_get (names_lines (stated_by known)
+    Some names ≡ slice_get (names_of_steps (stated_by known)
     (declared_names (stated t.statement) t.names) t.script) (step - 1)
 
 -- what is due before anything is suggested: the step is reached; there is no such step; an earlier
@@ -89,7 +89,7 @@ pub data WayOutcome : Type 0 where
 -- the way to the step in a book of these lines ends so
 abbrev pub IsWayOf : Rest → List ℕ → ℕ → WayOutcome → Type 0
 IsWayOf lines title step AtStep =
-    NextUpTo lines title (λ known t. (x : Line) × IsAsked title step known t x)
+    NextUpTo lines title (λ known t. (x : PlacedStep) × IsAsked title step known t x)
 IsWayOf lines title step NoStep =
     UpToTheorem lines title
     (λ known rest. (item_from known (end_line_number lines) None rest ≡ Ok None)
@@ -133,7 +133,7 @@ Lists names scope facts (h ∷ hs) left lines more =
 -- at the step these lines are suggested, at most a thousand, and this is written
 pub record Suggests (title : List ℕ) (step n : ℕ) (more : Bool) (out : List ℕ)
     (known : List TitledStatement) (t : TheoremView) : Type 0 where
-  pub line : Line
+  pub line : PlacedStep
   pub asked : IsAsked title step known t line
   pub names : Names
   pub named : HasNamesAt known t step names
@@ -145,7 +145,7 @@ pub record Suggests (title : List ℕ) (step n : ℕ) (more : Bool) (out : List 
 -- at the step some choice of arguments for a theorem that is asked is too wide
 pub record WidensAtStep (title : List ℕ) (step width : ℕ) (names : Names)
     (known : List TitledStatement) (t : TheoremView) : Type 0 where
-  pub line : Line
+  pub line : PlacedStep
   pub asked : IsAsked title step known t line
   pub named : HasNamesAt known t step names
   pub theorem : TitledStatement
@@ -191,15 +191,15 @@ SuggestsBook title step left old new answer =
 
 -- ---- the other way round
 
--- a step that comes before the asked one, or that one, is wide: the former as a line, the latter
+-- a step that comes before the asked one, or that one, is wide: the former as a step, the latter
 -- under some choice for a theorem that is asked
 pub record HasWideEarlier (title : List ℕ) (step : ℕ) (known : List TitledStatement)
     (t : TheoremView) : Type 0 where
   pub number : ℕ
-  pub line : Line
+  pub line : PlacedStep
   pub earlier : IsEarlier title step t number
   pub context : IsContext (stated_by known) (stated t.statement) t.script number line
-  pub is_wide : IsWideLine (stated_by known) line
+  pub is_wide : IsWideStep (stated_by known) line
 
 abbrev pub HasWideOnWay : List ℕ → ℕ → List TitledStatement → TheoremView → Type 0
 HasWideOnWay title step known t =

@@ -11,7 +11,7 @@ pub fn refusal_is_outcome()
     ensures { RefusalIsOutcome }
 {}
 
-/// Where a line is too wide that is reached, a reached line is wide.
+/// Where a step is too wide that is reached, a reached step is wide.
 pub fn too_wide_is_wide()
     ensures { TooWideIsWide }
 {}

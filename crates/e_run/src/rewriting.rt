@@ -93,7 +93,7 @@ fn trimmed_block(alloc: Global, known: &Theorems, theorem: &Theorem) -> Result<V
 }
 
 /// The title at a place, after a space; past the end no word.
-#[tactic(auto, using(crate::proofs::UsedTitles::titles_at))]
+#[tactic(auto, using(crate::proofs::title_counts::UsedTitles::titles_at))]
 fn put_title_at(out: &mut Vec<u8>, known: &Theorems, place: usize) -> Result<(), AllocError>
     ensures { OnOk result (out.new.items ≡ out.old.items ++ Rewrites.title_word known.now place) }
 {

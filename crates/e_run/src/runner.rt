@@ -44,7 +44,7 @@ use std::alloc::Global;
 /// The answers are those of `Status`, and each has its cause:
 ///
 /// - `Accepted`: each theorem of the book has a derivation that proves it, each certificate of
-///   which is right at its own line; the bytes written spell them, and are verified.
+///   which is right at its own step; the bytes written spell them, and are verified.
 /// - `Unlicensed`: all steps before the named one are licensed, and the named literal is not
 ///   allowed there, or the facts there do not contradict each other where a contradiction is
 ///   wanted. The values, which are in the last lines for a metric literal and for a contradiction

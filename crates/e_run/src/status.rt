@@ -70,7 +70,7 @@ pub enum Status {
         /// The width of the system.
         width: u128,
     },
-    /// The first line of the derivation text that is not certified.
+    /// The first step of the derivation text that is not certified.
     Bad {
         title: Title,
         step: u32,

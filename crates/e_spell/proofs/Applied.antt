@@ -8,7 +8,7 @@ use Rattle.e_literal.specs.declared.object.Sort.{Sort}
 use Rattle.e_theorem.specs.Statements.{stated}
 use Rattle.e_deriv.specs.declared.names.Names.{Names}
 use Rattle.e_deriv.specs.Naming.{named}
-use Rattle.e_deriv.specs.Lines.{no_statement}
+use Rattle.e_deriv.specs.PlacedSteps.{no_statement}
 use Rattle.e_names.specs.TitledStatements.{TitledStatement, titles, statements, stated_by, title_at, theorem_of}
 
 pub title_found : (known : List TitledStatement) (k : ℕ) (title : List ℕ) → slice_get (titles known) k ≡ Some title → title_at known k ≡ title

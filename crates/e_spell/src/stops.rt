@@ -10,7 +10,7 @@ use e_literal::{Term, Values};
 use e_text::{Title, end_line, put, put_number};
 use std::alloc::{AllocError, Global};
 
-/// What happened at a line of a theorem.
+/// What happened at a step of a theorem.
 fn put_place(out: &mut Vec<u8>, what: &[u8], title: Title, step: u32) -> Result<(), AllocError>
     ensures { OnOk result (out.new.items ≡ out.old.items ++ place_line what.now title step) }
 {
@@ -116,13 +116,13 @@ fn spell_too_wide(
 }
 
 /// The last lines of a stop, with the names of the stop: `unlicensed` or `too-wide`, the theorem's
-/// title and the line's number; below it what the line lacks, or what is wanted where it is too
+/// title and the step's number; below it what the step lacks, or what is wanted where it is too
 /// wide; and the values that show that it does not follow, one a line in their order where there
 /// are any, or the width.
 ///
 /// An object without a name is written as `nameless`. It fails only out of memory.
 pub fn spell_stop(alloc: Global, title: Title, stop: &Stop) -> Result<Vec<u8>, AllocError>
-    // The stop is at a line: out of memory has no last lines of a theorem.
+    // The stop is at a step: out of memory has no last lines of a theorem.
     requires { IsStop stop.now }
     ensures { IfOk result (λ v. v.items ≡ stop_text title stop.now) }
 {

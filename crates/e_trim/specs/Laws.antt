@@ -15,7 +15,7 @@ TrimmedIsCertified =
     → Certified before t d
     → Certified before t (trimmed before t d)
 
--- it has no more lines, and no more blocks one inside the other
+-- it has no more steps, and no more blocks one inside the other
 abbrev pub TrimmedIsShorter : Type 0
 TrimmedIsShorter =
     (before : List StatementView) (t : StatementView) (d : Script)

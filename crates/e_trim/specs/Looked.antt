@@ -1,4 +1,4 @@
--- What a line looks up among the facts, and which objects it names.
+-- What a step looks up among the facts, and which objects it names.
 --
 -- A literal is looked up by itself and not by its place: that a member of the facts is looked up
 -- means that one the same is among the literals that are looked up, since no two members are the
@@ -34,7 +34,7 @@ use Rattle.e_clause.specs.Instance.{Inst}
 use Rattle.e_deriv.specs.Script.{Script, Cite, Hence, Make, Apply, Claim, Superposed, Qed}
 use Rattle.e_deriv.specs.Script.{Contradiction, Cases}
 use Rattle.e_deriv.specs.Parts.{args_of}
-use Rattle.e_deriv.specs.Lines.{Line}
+use Rattle.e_deriv.specs.PlacedSteps.{PlacedStep}
 use Rattle.e_deriv.specs.Steps.{needs}
 use Rattle.e_deriv.specs.Certified.{certs_of}
 
@@ -139,7 +139,7 @@ abbrev pub of_against : List Lit → Against → Wants
 of_against facts (Clash l) = both (of_lit l) (of_lit (negation l))
 of_against facts (MetricAgainst m) = of_sums facts None m.sums
 
--- ---- lines
+-- ---- steps
 
 -- a citation looks up the negation of each other literal of the instance
 abbrev pub of_citation : By → Wants
@@ -152,7 +152,7 @@ of_beside (Cite by rest) facts = of_citation by
 of_beside (Contradiction (Some against)) facts = of_against facts against
 of_beside _ facts = no_wants
 
--- the objects that the line names
+-- the objects that the step names
 abbrev pub named_on : Script → List Obj
 named_on (Cite by rest) = by.args ++ objects_of_atom by.lit.atom
 named_on (Hence lit cert rest) = objects_of_atom lit.atom
@@ -165,9 +165,9 @@ named_on (Qed objects certs) = objects
 named_on (Contradiction against) = []
 named_on (Cases lit first second) = objects_of_atom lit.atom
 
--- what the line looks up, blocks inside of it left aside, and the objects that it and its
+-- what the step looks up, blocks inside of it left aside, and the objects that it and its
 -- certificates name
-abbrev pub of_line : List StatementView → Line → Wants
-of_line before x =
+abbrev pub of_step : List StatementView → PlacedStep → Wants
+of_step before x =
     both (needed (named_on x.here))
     (both (of_certs x.facts (needs before x) (certs_of x.here)) (of_beside x.here x.facts))

@@ -4,17 +4,17 @@ use Rattle.std.specs.List.{list_all}
 use Rattle.e_literal.specs.Use.{StatementView}
 use Rattle.e_clause.specs.declared.cert.Version.TheVariants.{One}
 use Rattle.e_deriv.specs.Script.{Script, size}
-use Rattle.e_deriv.specs.Certified.{Certified, derivation_lines}
+use Rattle.e_deriv.specs.Certified.{Certified, derivation_steps}
 use Rattle.e_deriv.specs.Fitting.{is_small, is_small_statement}
 use Rattle.e_deriv.specs.Versions.{has_certs_of}
 
 -- the statements have at most 1,000 objects of each sort; the derivation is of the first version
--- and certified, it has at most 1,024 lines, and before each of them at most 1,000 objects of each
+-- and certified, it has at most 1,024 steps, and before each of them at most 1,000 objects of each
 -- sort are in scope
 pub record IsTrimmable (before : List StatementView) (t : StatementView) (d : Script) : Type 0 where
   pub statements : IsTrue (list_all is_small_statement before)
   pub statement : IsTrue (is_small_statement t)
   pub short : size d ≤ 1024
-  pub scopes : IsTrue (list_all (λ x. is_small x.scope) (derivation_lines before t d))
+  pub scopes : IsTrue (list_all (λ x. is_small x.scope) (derivation_steps before t d))
   pub version : IsTrue (has_certs_of One d)
   pub certified : Certified before t d

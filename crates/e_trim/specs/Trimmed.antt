@@ -35,8 +35,8 @@ use Rattle.e_deriv.specs.Script.{Script, Cite, Hence, Make, Apply, Claim, Superp
 use Rattle.e_deriv.specs.Script.{Contradiction, Cases}
 use Rattle.e_deriv.specs.Parts.{args_of}
 use Rattle.e_deriv.specs.Goal.{Goal, goal_of, goal_of_statement, facts_of_statement}
-use Rattle.e_deriv.specs.Lines.{Line, line, theorem_at}
-use Rattle.e_trim.specs.Looked.{Wants, no_wants, both, of_line}
+use Rattle.e_deriv.specs.PlacedSteps.{PlacedStep, placed_step, theorem_at}
+use Rattle.e_trim.specs.Looked.{Wants, no_wants, both, of_step}
 
 -- ---- what a step supplies
 
@@ -78,9 +78,9 @@ wants_outside s facts w =
 
 -- ---- from the close backwards
 
--- the line at the beginning of a script, which has no blanks to fill
-abbrev pub line_at : Script → Scope → List Lit → Goal → Line
-line_at here s facts goal = line here here s facts goal
+-- the step at the beginning of a script, which has no blanks to fill
+abbrev pub as_step : Script → Scope → List Lit → Goal → PlacedStep
+as_step here s facts goal = placed_step here here s facts goal
 
 -- Where this is wanted after a step, and that by the block inside it, what is wanted from the step
 -- on: a step that is not kept wants nothing.
@@ -88,7 +88,7 @@ abbrev pub wants_with_step : List StatementView → Script → Scope → List Li
     → Wants → Wants → Wants
 wants_with_step before here s facts goal inner w =
     if is_kept before here s facts w
-    then both w (both (of_line before (line_at here s facts goal)) inner)
+    then both w (both (of_step before (as_step here s facts goal)) inner)
     else w
 
 -- what the kept steps and the close look up and need, from here to the end of the block
@@ -118,11 +118,11 @@ wants before (Superposed form names shown certs inner rest) s facts goal =
     (joined_all facts (superposing.gives_of_superposition form s)) (goal_of shown)))
     (wants before rest s (joined_all facts shown) goal)
 wants before (Qed objects certs) s facts goal =
-    of_line before (line_at (Qed objects certs) s facts goal)
+    of_step before (as_step (Qed objects certs) s facts goal)
 wants before (Contradiction against) s facts goal =
-    of_line before (line_at (Contradiction against) s facts goal)
+    of_step before (as_step (Contradiction against) s facts goal)
 wants before (Cases lit first second) s facts goal =
-    both (of_line before (line_at (Cases lit first second) s facts goal))
+    both (of_step before (as_step (Cases lit first second) s facts goal))
     (both (wants_outside s facts (wants before second s (joined facts (negation lit)) goal))
     (wants_outside s facts (wants before first s (joined facts lit) goal)))
 

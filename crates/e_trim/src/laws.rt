@@ -6,7 +6,7 @@ pub fn trimmed_is_certified()
     ensures { TrimmedIsCertified }
 {}
 
-/// What is trimmed of a derivation has no more lines, and no more blocks one inside the other.
+/// What is trimmed of a derivation has no more steps, and no more blocks one inside the other.
 pub fn trimmed_is_shorter()
     ensures { TrimmedIsShorter }
 {}

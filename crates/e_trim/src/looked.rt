@@ -28,7 +28,7 @@ fn is_among(sum: &[Mono], term: Term) -> bool
 }
 
 /// Whether the term is in the literal, as it is written.
-#[tactic(auto, using(crate::proofs::TermsWritten::written_terms))]
+#[tactic(auto, using(crate::proofs::renumbering::TermsWritten::written_terms))]
 fn has_written(lit: &Lit, term: Term) -> bool
     ensures { result ≡ has_written term lit.now }
 {
@@ -99,7 +99,7 @@ fn look_up_written(
 }
 
 /// What the term of a row wants.
-#[tactic(auto, using(crate::proofs::Both::joining))]
+#[tactic(auto, using(crate::proofs::walks::Both::joining))]
 fn look_term<'a>(
     alloc: Global,
     facts: &'a Facts,
@@ -117,7 +117,7 @@ fn look_term<'a>(
 }
 
 /// What the name of a row wants.
-#[tactic(auto, using(crate::proofs::Both::joining))]
+#[tactic(auto, using(crate::proofs::walks::Both::joining))]
 fn look_row<'a>(
     alloc: Global,
     facts: &'a Facts,
@@ -142,7 +142,7 @@ fn look_row<'a>(
 }
 
 /// What a sum wants.
-#[tactic(auto, using(crate::proofs::Both::joining))]
+#[tactic(auto, using(crate::proofs::walks::Both::joining))]
 fn look_sum<'a>(
     alloc: Global,
     facts: &'a Facts,
@@ -160,7 +160,7 @@ fn look_sum<'a>(
 }
 
 /// What the sums of a certificate want.
-#[tactic(auto, using(crate::proofs::Both::joining))]
+#[tactic(auto, using(crate::proofs::walks::Both::joining))]
 fn look_sums<'a>(
     alloc: Global,
     facts: &'a Facts,
@@ -203,7 +203,7 @@ fn look_part(
 }
 
 /// What parts want that certify these literals, one for each.
-#[tactic(auto, using(crate::proofs::Both::paired))]
+#[tactic(auto, using(crate::proofs::walks::Both::paired))]
 fn look_parts(
     alloc: Global,
     facts: &Facts,
@@ -223,7 +223,7 @@ fn look_parts(
 }
 
 /// What a transfer wants that certifies the literal.
-#[tactic(auto, using(crate::proofs::LookedUp::transferring))]
+#[tactic(auto, using(crate::proofs::walks::LookedUp::transferring))]
 fn look_transfer(
     alloc: Global,
     facts: &Facts,
@@ -255,7 +255,7 @@ pub fn look_cert(
 }
 
 /// What certificates of these literals want, one for each.
-#[tactic(auto, using(crate::proofs::Both::paired))]
+#[tactic(auto, using(crate::proofs::walks::Both::paired))]
 pub fn look_certs(
     alloc: Global,
     facts: &Facts,

@@ -17,7 +17,7 @@ fn is_among(places: &[u32], place: u32) -> bool
 }
 
 /// Puts the place last, unless it is there.
-#[tactic(auto, using(crate::proofs::Places::noting))]
+#[tactic(auto, using(crate::proofs::walks::Places::noting))]
 fn note(places: &mut Vec<u32>, place: u32) -> Result<(), AllocError>
     ensures { OnOk result (places.new.items ≡ Applied.noted places.old.items place) }
 {
@@ -29,7 +29,7 @@ fn note(places: &mut Vec<u32>, place: u32) -> Result<(), AllocError>
 
 /// The theorems that the block applies.
 #[cycle(note_block)]
-#[tactic(auto, using(crate::proofs::Places::noting))]
+#[tactic(auto, using(crate::proofs::walks::Places::noting))]
 fn note_block(places: &mut Vec<u32>, block: &Block) -> Result<(), AllocError>
     ensures { OnOk result
         (places.new.items ≡ Applied.noted_all places.old.items (places_of (script_of block.now))) }
@@ -42,7 +42,7 @@ fn note_block(places: &mut Vec<u32>, block: &Block) -> Result<(), AllocError>
 
 /// The theorems that the step applies, and those of the block inside of it.
 #[cycle(note_block)]
-#[tactic(auto, using(crate::proofs::Places::noting))]
+#[tactic(auto, using(crate::proofs::walks::Places::noting))]
 fn note_step(places: &mut Vec<u32>, step: &Step) -> Result<(), AllocError>
     ensures { OnOk result
         (places.new.items ≡ Applied.noted_all places.old.items (Applied.places_of_step step.now)) }
@@ -57,7 +57,7 @@ fn note_step(places: &mut Vec<u32>, step: &Step) -> Result<(), AllocError>
 
 /// The theorems that the blocks of the close apply.
 #[cycle(note_block)]
-#[tactic(auto, using(crate::proofs::Places::noting))]
+#[tactic(auto, using(crate::proofs::walks::Places::noting))]
 fn note_close(places: &mut Vec<u32>, close: &Close) -> Result<(), AllocError>
     ensures { OnOk result (places.new.items
         ≡ Applied.noted_all places.old.items (places_of (close_script close.now))) }

@@ -20,7 +20,7 @@ fn is_less(object: Obj, sort: Sort, number: u16) -> bool
 }
 
 /// How many of the kept objects of the sort have a lesser number.
-#[tactic(auto, using(crate::proofs::Counting::counting))]
+#[tactic(auto, using(crate::proofs::renumbering::Counting::counting))]
 fn number(kept: &[Obj], sort: Sort, number: u16) -> u16
     requires { length kept.now < 2 ^ 16 }
     ensures { result ≡ Trimmed.kept_before kept.now sort number }

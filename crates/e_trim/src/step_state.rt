@@ -16,7 +16,7 @@ pub struct StepState {
     pub facts: Facts,
 }
 
-/// Where a line or an inner block is entered: the objects in scope, and how many facts there are.
+/// Where a step or an inner block is entered: the objects in scope, and how many facts there are.
 #[derive(Clone, Copy)]
 pub struct Checkpoint {
     pub scope: Scope,
@@ -31,7 +31,7 @@ pub struct Goal<'a> {
 }
 
 impl StepState {
-    /// Where a line or an inner block is entered, for [`StepState::restore`] after it.
+    /// Where a step or an inner block is entered, for [`StepState::restore`] after it.
     pub fn checkpoint(&self) -> Checkpoint
         ensures { result ≡ checkpoint_of self.now }
     {

@@ -1,4 +1,4 @@
-//! What a step makes, and what a line wants, blocks inside of it left aside.
+//! What a step makes, and what it wants, blocks inside of it left aside.
 
 ghost use Rattle.std.specs.Prelude.{◌≡◌, ℕ, [], ◌∷◌, map, IfOk, OnOk, IsTrue, List};
 ghost use Rattle.std.specs.List.{list_all, list_any};
@@ -8,13 +8,13 @@ ghost use Rattle.e_theorem.specs.Statements.{all_stated};
 ghost use Rattle.e_deriv.specs.Fitting.{is_small, is_small_statement};
 ghost use Rattle.e_deriv.specs.Goal as goals;
 ghost use Rattle.e_deriv.specs.Goal.{Goal as BlockGoal};
-ghost use Rattle.e_deriv.specs.Lines.{theorem_at};
+ghost use Rattle.e_deriv.specs.PlacedSteps.{theorem_at};
 ghost use Rattle.e_deriv.specs.Parts.{written};
 ghost use Rattle.e_deriv.specs.Script as scripts;
 ghost use Rattle.e_deriv.specs.Script.{Script, step_script, close_script};
-ghost use Rattle.e_trim.specs.Looked.{both, needed, of_line};
+ghost use Rattle.e_trim.specs.Looked.{both, needed, of_step};
 ghost use Rattle.e_trim.specs.Trimmed;
-ghost use Rattle.e_trim.specs.Trimmed.{joins_at, makes_at, line_at};
+ghost use Rattle.e_trim.specs.Trimmed.{joins_at, makes_at, as_step};
 ghost use Rattle.e_trim.specs.declared.step_state.StepState as states;
 ghost use Rattle.e_trim.specs.inner.StepState.{StepFits, IsApplied, CloseFits, goal_said, passed};
 
@@ -31,7 +31,7 @@ use std::alloc::{AllocError, Global};
 use std::mem;
 
 /// The sorts of the objects that the step makes and that live on.
-#[tactic(auto, using(crate::proofs::StepParts::by_step))]
+#[tactic(auto, using(crate::proofs::kept_scripts::StepParts::by_step))]
 pub fn makes<'a>(before: &'a [Statement], step: &'a Step) -> &'a [Sort]
     ensures { (rest : Script)
         → result.now ≡ makes_at (all_stated before.now) (step_script step.now rest) }
@@ -95,7 +95,7 @@ fn use_at(
 }
 
 /// The literals that the step makes facts.
-#[tactic(auto, using(crate::proofs::StepParts::by_step))]
+#[tactic(auto, using(crate::proofs::kept_scripts::StepParts::by_step))]
 pub fn joins(
     alloc: Global,
     before: &[Statement],
@@ -186,7 +186,7 @@ pub fn is_kept(
 fn look_cite(alloc: Global, by: &By, out: &mut Wanted) -> Result<(), AllocError>
     ensures { OnOk result ((before : List StatementView) (rest : Script) (x : states.StepState)
         (goal : BlockGoal) → out.new
-        ≡ both out.old (of_line before (line_at (scripts.Cite by.now rest) x.scope x.facts goal))) }
+        ≡ both out.old (of_step before (as_step (scripts.Cite by.now rest) x.scope x.facts goal))) }
 {
     out.need(by.args.items())?;
     out.need_objects_of(&by.lit)?;
@@ -201,8 +201,8 @@ fn look_hence(
     out: &mut Wanted,
 ) -> Result<(), AllocError>
     ensures { OnOk result ((before : List StatementView) (rest : Script) (goal : BlockGoal)
-        → out.new ≡ both out.old (of_line before
-        (line_at (scripts.Hence lit.now cert.now rest) state.now.scope state.now.facts goal))) }
+        → out.new ≡ both out.old (of_step before
+        (as_step (scripts.Hence lit.now cert.now rest) state.now.scope state.now.facts goal))) }
 {
     out.need_objects_of(lit)?;
     match cert {
@@ -219,7 +219,7 @@ fn look_make(
     out: &mut Wanted,
 ) -> Result<(), AllocError>
     ensures { OnOk result ((before : List StatementView) (names : List (List ℕ)) (rest : Script)
-        (goal : BlockGoal) → out.new ≡ both out.old (of_line before (line_at
+        (goal : BlockGoal) → out.new ≡ both out.old (of_step before (as_step
         (scripts.Make form.now names certs.now rest) state.now.scope state.now.facts goal))) }
 {
     out.need(form.args.items())?;
@@ -241,7 +241,7 @@ fn look_apply(
     requires statements { IsTrue (list_all is_small_statement (all_stated before.now)) }
     requires fits { IsApplied (all_stated before.now) theorem args.now state.now.scope }
     ensures { OnOk result ((names : List (List ℕ)) (rest : Script) (goal : BlockGoal)
-        → out.new ≡ both out.old (of_line (all_stated before.now) (line_at (scripts.Apply theorem
+        → out.new ≡ both out.old (of_step (all_stated before.now) (as_step (scripts.Apply theorem
         args.now names certs.now rest) state.now.scope state.now.facts goal))) }
 {
     let objects = written_of(alloc, args)?;
@@ -263,7 +263,7 @@ fn look_superpose(
 ) -> Result<(), AllocError>
     ensures { OnOk result ((before : List StatementView) (names : List (List ℕ))
         (inner rest : Script) (goal : BlockGoal) → out.new ≡ both out.old
-        (of_line before (line_at (scripts.Superposed form.now names shown.now certs.now inner rest)
+        (of_step before (as_step (scripts.Superposed form.now names shown.now certs.now inner rest)
         state.now.scope state.now.facts goal))) }
 {
     need_superposed(form, out)?;
@@ -290,7 +290,7 @@ fn need_superposed(form: &Superpose, out: &mut Wanted) -> Result<(), AllocError>
     ])
 }
 
-/// What the line of a step wants, the block inside of it left aside.
+/// What a step wants, the block inside of it left aside.
 pub fn look_step(
     alloc: Global,
     before: &[Statement],
@@ -302,8 +302,8 @@ pub fn look_step(
     requires statements { IsTrue (list_all is_small_statement (all_stated before.now)) }
     requires fits { StepFits (all_stated before.now) step.now state.now.scope }
     ensures { OnOk result ((rest : Script) (goal : BlockGoal)
-        → out.new ≡ both out.old (of_line (all_stated before.now)
-        (line_at (step_script step.now rest) state.now.scope state.now.facts goal))) }
+        → out.new ≡ both out.old (of_step (all_stated before.now)
+        (as_step (step_script step.now rest) state.now.scope state.now.facts goal))) }
 {
     match step {
         Step::Cite(by) => look_cite(alloc, by, out),
@@ -349,7 +349,7 @@ fn look_qed(
 ) -> Result<(), AllocError>
     requires one_sort { map (λ o. o.sort) goal.now.made.now ≡ map (λ o. o.sort) objects.now }
     ensures { OnOk result ((before : List StatementView)
-        → out.new ≡ both out.old (of_line before (line_at (scripts.Qed objects.now certs.now)
+        → out.new ≡ both out.old (of_step before (as_step (scripts.Qed objects.now certs.now)
         state.now.scope state.now.facts (goal_said goal.now)))) }
 {
     out.need(objects)?;
@@ -357,7 +357,7 @@ fn look_qed(
     look_certs(alloc, &state.facts, &lits, certs, out)
 }
 
-/// What the line of a close wants, the blocks inside of it left aside.
+/// What a close wants, the blocks inside of it left aside.
 pub fn look_close(
     alloc: Global,
     close: &Close,
@@ -366,8 +366,8 @@ pub fn look_close(
     out: &mut Wanted,
 ) -> Result<(), AllocError>
     requires fits { CloseFits close.now state.now.scope (goal_said goal.now) }
-    ensures { OnOk result ((before : List StatementView) → out.new ≡ both out.old (of_line before
-        (line_at (close_script close.now) state.now.scope state.now.facts (goal_said goal.now)))) }
+    ensures { OnOk result ((before : List StatementView) → out.new ≡ both out.old (of_step before
+        (as_step (close_script close.now) state.now.scope state.now.facts (goal_said goal.now)))) }
 {
     match close {
         Close::Qed { objects, certs } => {

@@ -22,7 +22,7 @@ use e_theorem::Statement;
 use std::alloc::{AllocError, Global};
 use std::mem;
 
-/// What holds before the first line: the declared objects are in scope, and the given literals are
+/// What holds before the first step: the declared objects are in scope, and the given literals are
 /// facts.
 fn begin(alloc: Global, scope: Scope, statement: &Statement) -> Result<StepState, AllocError>
     requires { scope ≡ scope_of (stated statement.now) }

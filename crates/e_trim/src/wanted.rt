@@ -1,4 +1,4 @@
-//! What is wanted after a line: literals that are looked up, and objects that are needed.
+//! What is wanted after a step: literals that are looked up, and objects that are needed.
 
 ghost use Rattle.std.specs.Prelude.{◌≡◌, [], ◌∷◌, ◌++◌, OnOk, IfOk};
 ghost use Rattle.e_literal.specs.Facts.{has};
@@ -72,7 +72,7 @@ impl Wanted {
     }
 
     /// The objects are needed.
-    #[tactic(auto, using(crate::proofs::Both::joining))]
+    #[tactic(auto, using(crate::proofs::walks::Both::joining))]
     pub fn need(&mut self, objects: &[Obj]) -> Result<(), AllocError>
         ensures { OnOk result (self.new ≡ both self.old (needed objects.now)) }
     {
@@ -98,7 +98,7 @@ impl Wanted {
     }
 
     /// The points of a sum are needed.
-    #[tactic(auto, using(crate::proofs::Both::joining))]
+    #[tactic(auto, using(crate::proofs::walks::Both::joining))]
     fn need_sum(&mut self, sum: &[Mono]) -> Result<(), AllocError>
         ensures { OnOk result (self.new ≡ both self.old (needed (objects_of_sum sum.now))) }
     {
@@ -109,7 +109,7 @@ impl Wanted {
     }
 
     /// The points of two sums are needed.
-    #[tactic(auto, using(crate::proofs::Both::joining))]
+    #[tactic(auto, using(crate::proofs::walks::Both::joining))]
     fn need_sums(&mut self, left: &[Mono], right: &[Mono]) -> Result<(), AllocError>
         ensures { OnOk result (self.new
             ≡ both self.old (needed (objects_of_sum left.now ++ objects_of_sum right.now))) }
@@ -138,7 +138,7 @@ impl Wanted {
     }
 
     /// The objects of the literals are needed.
-    #[tactic(auto, using(crate::proofs::Both::joining))]
+    #[tactic(auto, using(crate::proofs::walks::Both::joining))]
     pub fn need_objects_of_all(&mut self, lits: &[Lit]) -> Result<(), AllocError>
         ensures { OnOk result (self.new ≡ both self.old (needed (objects_of_lits lits.now))) }
     {
@@ -149,7 +149,7 @@ impl Wanted {
     }
 
     /// The literal is looked up.
-    #[tactic(auto, using(crate::proofs::Both::joining))]
+    #[tactic(auto, using(crate::proofs::walks::Both::joining))]
     pub fn look_up(&mut self, alloc: Global, lit: &Lit) -> Result<(), AllocError>
         ensures { OnOk result (self.new ≡ both self.old (looked_up (lit.now ∷ []))) }
     {
@@ -158,7 +158,7 @@ impl Wanted {
     }
 
     /// The literals are looked up.
-    #[tactic(auto, using(crate::proofs::Both::joining))]
+    #[tactic(auto, using(crate::proofs::walks::Both::joining))]
     pub fn look_up_all(&mut self, lits: Vec<Lit>) -> Result<(), AllocError>
         ensures { OnOk result (self.new ≡ both self.old (looked_up lits.items)) }
     {
@@ -169,7 +169,7 @@ impl Wanted {
     }
 
     /// The literal is looked up, and its objects are named.
-    #[tactic(auto, using(crate::proofs::Both::joining))]
+    #[tactic(auto, using(crate::proofs::walks::Both::joining))]
     pub fn name(&mut self, alloc: Global, lit: &Lit) -> Result<(), AllocError>
         ensures { OnOk result (self.new ≡ both self.old (of_lit lit.now)) }
     {

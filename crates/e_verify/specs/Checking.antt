@@ -1,4 +1,4 @@
--- What it is to check the lines of a script one after another, with the blocks inside it.
+-- What it is to check the steps of a script one after another, with the blocks inside it.
 use Rattle.std.specs.Prelude.{◌≡◌, ℕ, ◌+◌, ◌<◌, ◌^◌, List, ◌∷◌, length, take, Bool, IsTrue, Result}
 use Rattle.std.specs.Prelude.{Err}
 use Rattle.std.specs.List.{list_all}
@@ -7,7 +7,7 @@ use Rattle.e_literal.specs.Use.{StatementView}
 use Rattle.e_deriv.specs.declared.block.Step.{Step}
 use Rattle.e_deriv.specs.Script.{Script, step_script, size}
 use Rattle.e_deriv.specs.Goal.{Goal}
-use Rattle.e_deriv.specs.Lines.{Line, line, lines, first_failure}
+use Rattle.e_deriv.specs.PlacedSteps.{PlacedStep, placed_step, placed_steps, first_failure}
 use Rattle.e_deriv.specs.Certified.{is_certified}
 use Rattle.e_deriv.specs.Fitting.{is_small}
 use Rattle.e_verify.specs.declared.reject.Reject.{Reject}
@@ -15,36 +15,36 @@ use Rattle.e_verify.specs.declared.reject.Reject.TheVariants.{Bad, NoMemory}
 use Rattle.e_verify.specs.declared.step_state.StepState.{StepState}
 use Rattle.e_deriv.specs.Written.{is_written_well}
 
--- the script's first line, and all its lines, where this holds before it
-abbrev pub line_in_state : Script → StepState → Goal → Line
-line_in_state d x goal = line d d x.scope x.facts goal
+-- the script's first step, and all its steps, where this holds before it
+abbrev pub step_in_state : Script → StepState → Goal → PlacedStep
+step_in_state d x goal = placed_step d d x.scope x.facts goal
 
-abbrev pub lines_in_state : List StatementView → Script → StepState → Goal → List Line
-lines_in_state before d x goal = lines before d d x.scope x.facts goal
+abbrev pub steps_in_state : List StatementView → Script → StepState → Goal → List PlacedStep
+steps_in_state before d x goal = placed_steps before d d x.scope x.facts goal
 
 -- the number of the script's first step that is not certified, or the number after the last, where
 -- the first has this number
 abbrev pub verdict_at : List StatementView → Script → StepState → Goal → ℕ → Result ℕ ℕ
 verdict_at before d x goal first =
-    first_failure (is_certified before) (lines_in_state before d x goal) first
+    first_failure (is_certified before) (steps_in_state before d x goal) first
 
--- a line is refused exactly at the first that is not certified; a stop out of memory may come
+-- a step is refused exactly at the first that is not certified; a stop out of memory may come
 -- anywhere
 abbrev pub RejectIs : Result ℕ ℕ → Reject → Type 0
 RejectIs verdict (Bad step) = verdict ≡ Err step
 RejectIs verdict NoMemory = Unit {0}
 
 -- the literals of the script, of the facts and of the goal are well formed, at most 1,000 objects
--- of each sort are in scope before each line, and there are numbers for all lines
+-- of each sort are in scope before each step, and there are numbers for all steps
 pub record IsCheckable (before : List StatementView) (d : Script) (x : StepState) (goal : Goal)
     (first : ℕ) : Type 0 where
   pub written : IsTrue (is_written_well d)
-  pub scopes : IsTrue (list_all (λ y. is_small y.scope) (lines_in_state before d x goal))
+  pub scopes : IsTrue (list_all (λ y. is_small y.scope) (steps_in_state before d x goal))
   pub facts : IsTrue (list_all is_well_formed x.facts)
   pub shown : IsTrue (list_all is_well_formed goal.shown)
   pub few : first + size d < 2 ^ 32
 
--- before something the lines are ready
+-- before something the steps are ready
 pub record AreCheckable (before : List StatementView) (whole : Script → Script) (x : StepState)
     (first : ℕ) : Type 0 where
   pub rest : Script
@@ -59,20 +59,20 @@ IsCheckableStep before step x first = AreCheckable before (step_script step) x f
 abbrev pub KeepsFirstFacts : StepState → StepState → Type 0
 KeepsFirstFacts x after = take (length x.facts) after.facts ≡ x.facts
 
--- the line before whatever comes is certified, or is not; where it is, that holds after it, and
+-- the step before whatever comes is certified, or is not; where it is, that holds after it, and
 -- well-formed facts stay well formed
 pub record IsChecked (before : List StatementView) (whole : Script → Script) (x after : StepState)
     (certified : Bool) : Type 0 where
   pub test : (rest : Script) (goal : Goal)
-      → certified ≡ is_certified before (line_in_state (whole rest) x goal)
+      → certified ≡ is_certified before (step_in_state (whole rest) x goal)
   pub next : IsTrue certified → (rest : Script) (goal : Goal)
-      → lines_in_state before (whole rest) x goal
-      ≡ line_in_state (whole rest) x goal ∷ lines_in_state before rest after goal
+      → steps_in_state before (whole rest) x goal
+      ≡ step_in_state (whole rest) x goal ∷ steps_in_state before rest after goal
   pub kept : IsTrue certified → KeepsFirstFacts x after
   pub formed : IsTrue certified → IsTrue (list_all is_well_formed x.facts)
       → IsTrue (list_all is_well_formed after.facts)
 
--- lines before a script have been checked where this held, and now that holds, and the next line
+-- steps before a script have been checked where this held, and now that holds, and the next step
 -- has that number
 pub record AreVerified (before : List StatementView) (whole : Script → Script) (x : StepState)
     (first : ℕ) (after : StepState) (next : ℕ) : Type 0 where
@@ -82,11 +82,11 @@ pub record AreVerified (before : List StatementView) (whole : Script → Script)
       → verdict_at before (whole rest) x goal first ≡ verdict_at before rest after goal next
   pub kept : KeepsFirstFacts x after
 
--- the lines are refused so, whatever comes after them
-abbrev pub LinesReject : List StatementView → (Script → Script) → StepState → ℕ → Reject → Type 0
-LinesReject before whole x first e =
+-- the steps are refused so, whatever comes after them
+abbrev pub StepsReject : List StatementView → (Script → Script) → StepState → ℕ → Reject → Type 0
+StepsReject before whole x first e =
     (rest : Script) (goal : Goal) → RejectIs (verdict_at before (whole rest) x goal first) e
 
 -- and so is the step
 abbrev pub StepRejects : List StatementView → Step → StepState → ℕ → Reject → Type 0
-StepRejects before step x first e = LinesReject before (step_script step) x first e
+StepRejects before step x first e = StepsReject before (step_script step) x first e

@@ -33,7 +33,7 @@ use Rattle.e_construct.specs.Superposing as superposing
 use Rattle.e_deriv.specs.Script.{Script, Cite, Hence, Make, Apply, Claim, Superposed, Qed}
 use Rattle.e_deriv.specs.Script.{Contradiction, Cases}
 use Rattle.e_deriv.specs.Goal.{Goal, goal_of, goal_of_statement, facts_of_statement}
-use Rattle.e_deriv.specs.Lines.{line, theorem_at}
+use Rattle.e_deriv.specs.PlacedSteps.{placed_step, theorem_at}
 use Rattle.e_deriv.specs.Parts.{args_of}
 use Rattle.e_deriv.specs.Steps.{needs}
 
@@ -141,12 +141,12 @@ against_with_places facts (MetricAgainst m) =
 
 -- ---- derivations
 
--- the literals that the first line of the script needs
+-- the literals that the first step of the script needs
 abbrev pub needs_of : List StatementView → Script → Scope → List Lit → Goal → List Lit
-needs_of before d s facts goal = needs before (line d d s facts goal)
+needs_of before d s facts goal = needs before (placed_step d d s facts goal)
 
--- The script where certificates have the places of facts, each among the facts before its own line;
--- what holds before each line is as in its lines.
+-- The script where certificates have the places of facts, each among the facts before its own step;
+-- what holds before each step is as in its steps.
 unfoldable pub with_places : List StatementView → Script → Scope → List Lit → Goal → Script
 with_places before (Cite by rest) s facts goal =
     Cite by (with_places before rest s (joined facts by.lit) goal)

@@ -1,4 +1,4 @@
-//! Checking a block line by line, with the blocks inside it.
+//! Checking a block step by step, with the blocks inside it.
 
 ghost use Rattle.std.specs.Prelude.{◌≡◌, ◌+◌, ◌<◌, ◌^◌, ℕ, List, IfOk};
 ghost use Rattle.std.specs.Prelude.{IfErr, OnOk, IsTrue, IsFalse, Ok};
@@ -8,7 +8,7 @@ ghost use Rattle.e_deriv.specs.Fitting.{is_small_statement};
 ghost use Rattle.e_deriv.specs.Script.{Claim, Superposed, script_of, step_script, close_script};
 ghost use Rattle.e_verify.specs.declared.reject.Reject.TheVariants.{Bad as IsBad};
 ghost use Rattle.e_verify.specs.Checking.{AreCheckable, IsCheckable, IsCheckableStep};
-ghost use Rattle.e_verify.specs.Checking.{AreVerified, KeepsFirstFacts, LinesReject};
+ghost use Rattle.e_verify.specs.Checking.{AreVerified, KeepsFirstFacts, StepsReject};
 ghost use Rattle.e_verify.specs.Checking.{RejectIs, StepRejects, verdict_at};
 ghost use Rattle.e_verify.specs.inner.StepStates.{block_goal};
 
@@ -24,8 +24,8 @@ use e_literal::{Lit, in_scope};
 use e_theorem::Statement;
 use std::alloc::Global;
 
-/// Checks the lines of a block in order, with the blocks inside it, where its first line has this
-/// number. The answer is the number of the line after it.
+/// Checks the steps of a block in order, with the blocks inside it, where its first step has this
+/// number. The answer is the number of the step after it.
 #[cycle(block)]
 pub fn verify_block(
     alloc: Global,
@@ -119,7 +119,7 @@ fn verify_claim(
     requires statements { IsTrue (list_all is_small_statement (all_stated before.now)) }
     ensures ok { IfOk result (λ next. AreVerified (all_stated before.now)
         (Claim shown.now (script_of inner.now)) state.old number state.new next) }
-    ensures err { IfErr result (LinesReject (all_stated before.now)
+    ensures err { IfErr result (StepsReject (all_stated before.now)
         (Claim shown.now (script_of inner.now)) state.old number) }
 {
     if !are_over(state.scope, shown) {
@@ -158,7 +158,7 @@ fn verify_superposed(
     ensures ok { IfOk result (λ next. (names : List (List ℕ)) → AreVerified (all_stated before.now)
         (Superposed superposition.now.form.now names superposition.now.shown.now
         superposition.now.certs.now (script_of inner.now)) state.old number state.new next) }
-    ensures err { IfErr result (λ e. (names : List (List ℕ)) → LinesReject (all_stated before.now)
+    ensures err { IfErr result (λ e. (names : List (List ℕ)) → StepsReject (all_stated before.now)
         (Superposed superposition.now.form.now names superposition.now.shown.now
         superposition.now.certs.now (script_of inner.now)) state.old number e) }
 {
@@ -216,7 +216,7 @@ fn verify_close(
     }
 }
 
-/// The verdict on a line with this number: the number of the next where it is certified.
+/// The verdict on a step with this number: the number of the next where it is certified.
 fn verdict_of(certified: bool, number: u32) -> Result<u32, Reject>
     requires { number + 1 < 2 ^ 32 }
     ensures ok { IfOk result (λ next. IsTrue certified × (next ≡ number + 1)) }

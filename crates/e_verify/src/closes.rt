@@ -8,7 +8,7 @@ ghost use Rattle.e_literal.specs.WellFormed.{is_well_formed};
 ghost use Rattle.e_deriv.specs.Certified.{is_certified};
 ghost use Rattle.e_deriv.specs.Goal.{Goal as BlockGoal, goal_with as goal_at};
 ghost use Rattle.e_deriv.specs.Script.{Qed, Contradiction};
-ghost use Rattle.e_verify.specs.Checking.{line_in_state};
+ghost use Rattle.e_verify.specs.Checking.{step_in_state};
 ghost use Rattle.e_verify.specs.inner.StepStates.{block_goal};
 ghost use Rattle.e_clause.specs.Written.{is_writable_cert, is_writable_against};
 
@@ -31,7 +31,7 @@ pub fn qed(
     requires shown { IsTrue (list_all is_well_formed goal.now.shown.now) }
     requires certs { IsTrue (list_all is_writable_cert certs.now) }
     ensures { IfOk result (λ b. (before : List StatementView) → b ≡ is_certified before
-        (line_in_state (Qed objects.now certs.now) state.now (block_goal goal.now))) }
+        (step_in_state (Qed objects.now certs.now) state.now (block_goal goal.now))) }
 {
     if !have_sorts_of(state.scope, goal.made, objects) {
         return Ok(false);
@@ -49,7 +49,7 @@ pub fn contradiction(
     requires facts { IsTrue (list_all is_well_formed state.now.facts) }
     requires against { IsTrue (option_map_or is_writable_against against.now true) }
     ensures { IfOk result (λ b. (before : List StatementView) (goal : BlockGoal)
-        → b ≡ is_certified before (line_in_state (Contradiction against.now) state.now goal)) }
+        → b ≡ is_certified before (step_in_state (Contradiction against.now) state.now goal)) }
 {
     match against {
         Some(against) => certifies_against(alloc, state.scope, &state.facts, against),

@@ -1,4 +1,4 @@
-//! The facts before a line.
+//! The facts before a step.
 
 ghost use Rattle.std.specs.Prelude.{◌≡◌, ◌≤◌, [], take, length, slice_get, OnOk};
 ghost use Rattle.std.specs.List.{list_any, position};
@@ -54,7 +54,7 @@ impl Fact {
     }
 }
 
-/// The facts before a line, which contracts see as their list. No two that are put in are the same.
+/// The facts before a step, which contracts see as their list. No two that are put in are the same.
 #[derive(Drop)]
 pub struct Facts {
     lits: Vec<Fact>,

@@ -44,8 +44,8 @@ const MOST_OBJECTS: u16 = 1_000;
 /// The first number that is no place.
 const PLACES: usize = 1 << 32;
 
-/// The derivation where each certificate cites a fact by its place among the facts before its line,
-/// and none by a literal. It has the same lines, and what is certified stays so. One that has
+/// The derivation where each certificate cites a fact by its place among the facts before its step,
+/// and none by a literal. It has the same steps, and what is certified stays so. One that has
 /// places already is itself.
 ///
 /// A certified derivation fails only out of memory.
@@ -341,7 +341,7 @@ fn make(
     Ok(Step::Make { form, names, certs })
 }
 
-/// An application, as its line says it.
+/// An application, as it is written.
 #[derive(Clone, Copy)]
 struct Application<'a> {
     theorem: u32,
@@ -448,7 +448,7 @@ fn contradiction(
     Ok(Close::Contradiction { against })
 }
 
-/// Whether at most 1,000 objects of each sort are in scope, as before each line of a derivation
+/// Whether at most 1,000 objects of each sort are in scope, as before each step of a derivation
 /// that can be checked.
 fn has_room(scope: Scope) -> bool
     ensures { result ≡ is_small scope }

@@ -9,7 +9,7 @@ use thiserror::Error;
 /// Why a derivation is refused.
 #[derive(Debug, Drop, Error)]
 pub enum Reject {
-    /// The line with this number, counted from 1 among the step and close lines, is the first that
+    /// The step with this number, counted from 1, where closes are steps too, is the first that
     /// is not certified.
     #[error("line {step} is not certified")]
     Bad { step: u32 },

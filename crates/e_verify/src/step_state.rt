@@ -1,4 +1,4 @@
-//! What holds before a line, and after it.
+//! What holds before a step, and after it.
 
 ghost use Rattle.std.specs.Prelude.{◌≡◌, OnOk};
 ghost use Rattle.e_literal.specs.Literal.{negation};
@@ -9,7 +9,7 @@ use crate::facts::Facts;
 use e_literal::{Lit, Obj, Scope, copy, negate};
 use std::alloc::{AllocError, Global};
 
-/// The objects in scope and the facts before a line.
+/// The objects in scope and the facts before a step.
 #[derive(Drop)]
 pub struct StepState {
     pub scope: Scope,

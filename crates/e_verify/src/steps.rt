@@ -15,7 +15,7 @@ ghost use Rattle.e_deriv.specs.Goal.{Goal};
 ghost use Rattle.e_deriv.specs.Script.{Script, Cite, Hence, Make, Apply, Superposed};
 ghost use Rattle.e_deriv.specs.Steps;
 ghost use Rattle.e_deriv.specs.Steps.{is_citation};
-ghost use Rattle.e_verify.specs.Checking.{IsChecked, line_in_state};
+ghost use Rattle.e_verify.specs.Checking.{IsChecked, step_in_state};
 ghost use Rattle.e_verify.specs.inner.StepStates.{state_after_superposed};
 ghost use Rattle.e_clause.specs.Written.{is_writable_cert};
 
@@ -164,7 +164,7 @@ pub fn superpose(
     requires certs { IsTrue (list_all is_writable_cert certs.now) }
     ensures test { IfOk result (λ b. (before : List StatementView) (names : List (List ℕ))
         (inner rest : Script) (goal : Goal) → b ≡ is_certified before
-        (line_in_state (Superposed form.now names shown.now certs.now inner rest) state.old goal)) }
+        (step_in_state (Superposed form.now names shown.now certs.now inner rest) state.old goal)) }
     ensures after { IfOk result (λ b. IsTrue b
         → state.new ≡ state_after_superposed form.now state.old) }
 {

@@ -54,7 +54,7 @@ pub fn verify(
     }
 }
 
-/// What holds before the first line: the declared objects are in scope, and the given literals are
+/// What holds before the first step: the declared objects are in scope, and the given literals are
 /// facts.
 pub(crate) fn begin(
     alloc: Global,

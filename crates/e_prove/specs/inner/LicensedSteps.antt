@@ -7,8 +7,8 @@ use Rattle.e_deriv.specs.declared.block.Close.{Close}
 use Rattle.e_deriv.specs.Script.{Script, step_script, close_script, erased}
 use Rattle.e_deriv.specs.Parts.{filled_by}
 use Rattle.e_deriv.specs.Goal.{Goal}
-use Rattle.e_deriv.specs.Lines.{Line, line, lines}
-use Rattle.e_deriv.specs.Naming.{names_lines}
+use Rattle.e_deriv.specs.PlacedSteps.{PlacedStep, placed_step, placed_steps}
+use Rattle.e_deriv.specs.Naming.{names_of_steps}
 use Rattle.e_deriv.specs.Licensed.{Licensed, AllLicensed}
 use Rattle.e_deriv.specs.Certified.{is_certified}
 use Rattle.e_deriv.specs.Fitting.{form_fits}
@@ -20,15 +20,16 @@ use Rattle.e_prove.specs.declared.step_stop.StepStop.{StepStop}
 use Rattle.e_prove.specs.inner.StopsOfSteps.{StepStopsAt}
 
 -- the steps of a script where this holds, whose blanks are filled as in the second one
-abbrev pub lines_at : List StatementView → Script → Script → Basis → Goal → List Line
-lines_at before script filled x goal = lines before script filled x.scope x.facts goal
+abbrev pub steps_from_basis : List StatementView → Script → Script → Basis → Goal → List PlacedStep
+steps_from_basis before script filled x goal =
+    placed_steps before script filled x.scope x.facts goal
 
 -- the first of them
-abbrev pub line_from_basis : Script → Script → Basis → Goal → Line
-line_from_basis script filled x goal = line script filled x.scope x.facts goal
+abbrev pub step_from_basis : Script → Script → Basis → Goal → PlacedStep
+step_from_basis script filled x goal = placed_step script filled x.scope x.facts goal
 
 -- the step's form fits, whatever its blanks are filled with
-abbrev pub has_form : List StatementView → Line → Bool
+abbrev pub has_form : List StatementView → PlacedStep → Bool
 has_form before y = form_fits before y y.here
 
 -- where the step has its form it is licensed, with its blanks filled as in the derived one, and the
@@ -38,45 +39,45 @@ pub record IsLicensedStep (before : List StatementView) (step : Step) (x : StepS
     (derived : Step) (after : StepState) : Type 0 where
   pub licensed : (rest more : Script) (goal : Goal) →
       IsTrue (has_form before
-      (line_from_basis (step_script step rest) (step_script derived more) x.context goal)) →
+      (step_from_basis (step_script step rest) (step_script derived more) x.context goal)) →
       Licensed before
-      (line_from_basis (step_script step rest) (step_script derived more) x.context goal)
+      (step_from_basis (step_script step rest) (step_script derived more) x.context goal)
   pub certified : (rest more : Script) (goal : Goal) →
       IsTrue (has_form before
-      (line_from_basis (step_script step rest) (step_script derived more) x.context goal)) →
+      (step_from_basis (step_script step rest) (step_script derived more) x.context goal)) →
       IsTrue (is_certified before
-      (line_from_basis (step_script derived more) (step_script derived more) x.context goal))
+      (step_from_basis (step_script derived more) (step_script derived more) x.context goal))
   pub erased : (rest more : Script) → erased more ≡ filled_by (erased rest) more →
       erased (step_script derived more)
       ≡ filled_by (erased (step_script step rest)) (step_script derived more)
   pub written : (more : Script) → IsTrue (has_certs_of version.One more)
       → IsTrue (has_certs_of version.One (step_script derived more))
   pub next : (rest more : Script) (goal : Goal) →
-      lines_at before (step_script step rest) (step_script derived more) x.context goal
-      ≡ line_from_basis (step_script step rest) (step_script derived more) x.context goal
-      ∷ lines_at before rest more after.context goal
+      steps_from_basis before (step_script step rest) (step_script derived more) x.context goal
+      ≡ step_from_basis (step_script step rest) (step_script derived more) x.context goal
+      ∷ steps_from_basis before rest more after.context goal
   pub derived_next : (more : Script) (goal : Goal) →
-      lines_at before (step_script derived more) (step_script derived more) x.context goal
-      ≡ line_from_basis (step_script derived more) (step_script derived more) x.context goal
-      ∷ lines_at before more more after.context goal
-  pub named : (rest : Script) → names_lines before x.names (step_script step rest)
-      ≡ x.names ∷ names_lines before after.names rest
+      steps_from_basis before (step_script derived more) (step_script derived more) x.context goal
+      ≡ step_from_basis (step_script derived more) (step_script derived more) x.context goal
+      ∷ steps_from_basis before more more after.context goal
+  pub named : (rest : Script) → names_of_steps before x.names (step_script step rest)
+      ≡ x.names ∷ names_of_steps before after.names rest
   pub kept : after.context.held ≡ x.context.held
 
 -- where this holds licensing stops so at the step, however its blanks are filled
 abbrev pub IsStopOfStep : List StatementView → Step → StepState → StepStop → Type 0
 IsStopOfStep before step x h =
     (rest filled : Script) (goal : Goal)
-    → StepStopsAt before (line_from_basis (step_script step rest) filled x.context goal) h
+    → StepStopsAt before (step_from_basis (step_script step rest) filled x.context goal) h
 
 -- where this holds the close is licensed, and the derived one certified, by certificates that name
 -- literals that are well formed; both are one without certificates
 pub record IsLicensedClose (before : List StatementView) (close : Close) (x : Basis) (goal : Goal)
     (derived : Close) : Type 0 where
   pub licensed : AllLicensed before
-      (lines_at before (close_script close) (close_script derived) x goal)
+      (steps_from_basis before (close_script close) (close_script derived) x goal)
   pub certified : IsTrue (list_all (is_certified before)
-      (lines_at before (close_script derived) (close_script derived) x goal))
+      (steps_from_basis before (close_script derived) (close_script derived) x goal))
   pub erased : erased (close_script derived)
       ≡ filled_by (erased (close_script close)) (close_script derived)
   pub written : IsTrue (has_certs_of version.One (close_script derived))
@@ -84,4 +85,4 @@ pub record IsLicensedClose (before : List StatementView) (close : Close) (x : Ba
 -- where this holds licensing stops so at the close
 abbrev pub IsStopOfClose : List StatementView → Close → Basis → Goal → StepStop → Type 0
 IsStopOfClose before close x goal h =
-    (filled : Script) → StepStopsAt before (line_from_basis (close_script close) filled x goal) h
+    (filled : Script) → StepStopsAt before (step_from_basis (close_script close) filled x goal) h

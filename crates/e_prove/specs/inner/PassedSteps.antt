@@ -12,8 +12,8 @@ use Rattle.e_deriv.specs.declared.stop.Stop.TheVariants as stop
 use Rattle.e_deriv.specs.Script.{Script, step_script, size, erased}
 use Rattle.e_deriv.specs.Parts.{filled_by}
 use Rattle.e_deriv.specs.Goal.{Goal}
-use Rattle.e_deriv.specs.Lines.{Line}
-use Rattle.e_deriv.specs.Naming.{names_lines}
+use Rattle.e_deriv.specs.PlacedSteps.{PlacedStep}
+use Rattle.e_deriv.specs.Naming.{names_of_steps}
 use Rattle.e_deriv.specs.Licensed.{AllLicensed}
 use Rattle.e_deriv.specs.Certified.{is_certified}
 use Rattle.e_deriv.specs.Fitting.{LitsFit, is_small, is_small_statement}
@@ -25,16 +25,19 @@ use Rattle.e_prove.specs.declared.step_state.StepState.{StepState}
 use Rattle.e_prove.specs.Stops.{IsStopBefore}
 use Rattle.e_prove.specs.inner.StepStates.{after_literal}
 use Rattle.e_prove.specs.inner.StopsOfSteps.{StepStopsAt}
-use Rattle.e_prove.specs.inner.LicensedSteps.{lines_at, has_form}
+use Rattle.e_prove.specs.inner.LicensedSteps.{steps_from_basis, has_form}
 
 -- each step of the script has its form in its place, and its literals fit, however blanks are
 -- filled; there are numbers for all objects
 pub record IsReadyFor (before : List StatementView) (script : Script) (x : StepState)
     (goal : Goal) : Type 0 where
-  pub forms : IsTrue (list_all (has_form before) (lines_at before script script x.context goal))
-  pub lits : (filled : Script) → LitsFit before (lines_at before script filled x.context goal)
+  pub forms :
+      IsTrue (list_all (has_form before) (steps_from_basis before script script x.context goal))
+  pub lits : (filled : Script)
+      → LitsFit before (steps_from_basis before script filled x.context goal)
   pub scopes :
-      IsTrue (list_all (λ y. is_small y.scope) (lines_at before script script x.context goal))
+      IsTrue
+      (list_all (λ y. is_small y.scope) (steps_from_basis before script script x.context goal))
   pub statements : IsTrue (list_all is_small_statement before)
 
 -- before something the steps are ready, and there are numbers for the steps from this one on
@@ -54,9 +57,10 @@ IsReadyStep before step x first = AreReadySteps before (step_script step) x firs
 -- literals that are well formed
 pub record IsDerivedFrom (before : List StatementView) (script : Script) (x : StepState)
     (goal : Goal) (derived : Script) : Type 0 where
-  pub licensed : AllLicensed before (lines_at before script derived x.context goal)
+  pub licensed : AllLicensed before (steps_from_basis before script derived x.context goal)
   pub certified :
-      IsTrue (list_all (is_certified before) (lines_at before derived derived x.context goal))
+      IsTrue
+      (list_all (is_certified before) (steps_from_basis before derived derived x.context goal))
   pub erased : erased derived ≡ filled_by (erased script) derived
   pub written : IsTrue (has_certs_of version.One derived)
 
@@ -72,23 +76,23 @@ pub data Arrival : Type 0 where
   Halts : (h : StepStop) → Arrival
   Stands : (scope : Scope) (facts : List Lit) → Arrival
 
-abbrev pub ArrivesAt : List StatementView → Line → Arrival → Type 0
+abbrev pub ArrivesAt : List StatementView → PlacedStep → Arrival → Type 0
 ArrivesAt before y (Halts h) = StepStopsAt before y h
 ArrivesAt before y (Stands scope facts) = (y.scope ≡ scope) × (y.facts ≡ facts)
 
 -- it is found at one of the steps, before which all are licensed; the first step has this number
 -- and this one that, and these are the names in scope before it
-pub record IsReachedIn (before : List StatementView) (xs : List Line) (ns : List Names) (first : ℕ)
-    (a : Arrival) (n : ℕ) (names : Names) : Type 0 where
+pub record IsReachedIn (before : List StatementView) (xs : List PlacedStep) (ns : List Names)
+    (first : ℕ) (a : Arrival) (n : ℕ) (names : Names) : Type 0 where
   pub place : ℕ
   pub number : n ≡ first + place
-  pub line : Line
+  pub line : PlacedStep
   pub at : slice_get xs place ≡ Some line
   pub earlier : AllLicensed before (take place xs)
   pub arrives : ArrivesAt before line a
   pub named : slice_get ns place ≡ Some names
 
-abbrev pub StopIn : List StatementView → List Line → List Names → ℕ → Stop → Type 0
+abbrev pub StopIn : List StatementView → List PlacedStep → List Names → ℕ → Stop → Type 0
 StopIn before xs ns first (stop.Unlicensed n wanted values names) =
     IsReachedIn before xs ns first (Halts (Lacks wanted values)) n names
 StopIn before xs ns first (stop.TooWide n wanted width names) =
@@ -99,8 +103,8 @@ StopIn before xs ns first stop.NoMemory = Unit {0}
 pub record ReachesWithin (before : List StatementView) (script : Script) (x : StepState)
     (goal : Goal) (first : ℕ) (a : Arrival) (n : ℕ) (names : Names) : Type 0 where
   pub filled : Script
-  pub reached : IsReachedIn before (lines_at before script filled x.context goal)
-      (names_lines before x.names script) first a n names
+  pub reached : IsReachedIn before (steps_from_basis before script filled x.context goal)
+      (names_of_steps before x.names script) first a n names
 
 -- at step n of the script this holds, with the blanks before it filled so
 abbrev pub ReachesStep : List StatementView → Script → StepState → Goal → ℕ → ℕ → StepState → Type 0
@@ -111,8 +115,8 @@ ReachesStep before script x goal first n y =
 pub record StopsWithin (before : List StatementView) (script : Script) (x : StepState) (goal : Goal)
     (first : ℕ) (s : Stop) : Type 0 where
   pub filled : Script
-  pub stops : StopIn before (lines_at before script filled x.context goal)
-      (names_lines before x.names script) first s
+  pub stops : StopIn before (steps_from_basis before script filled x.context goal)
+      (names_of_steps before x.names script) first s
 
 -- ---- what has been licensed
 

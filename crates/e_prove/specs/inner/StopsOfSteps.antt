@@ -17,14 +17,14 @@ use Rattle.e_deriv.specs.declared.stop.Wanted.TheVariants.{Literal, Match, Contr
 use Rattle.e_deriv.specs.declared.stop.Stop.{Stop}
 use Rattle.e_deriv.specs.declared.stop.Stop.TheVariants as stop
 use Rattle.e_deriv.specs.Parts.{written, has_no_blank}
-use Rattle.e_deriv.specs.Lines.{Line}
+use Rattle.e_deriv.specs.PlacedSteps.{PlacedStep}
 use Rattle.e_deriv.specs.Licensed.{Lacks as LineLacks, IsFirstNotAllowed}
 use Rattle.e_deriv.specs.Refused.{LiteralIsShown, IsShown, IsTooWide}
 use Rattle.e_prove.specs.declared.step_stop.StepStop.{StepStop}
 use Rattle.e_prove.specs.declared.step_stop.StepStop.TheVariants.{Lacks, TooWide, NoMemory}
 
 -- the step lacks this, and the values show it; or it is too wide at this; out of memory is free
-abbrev pub StepStopsAt : List StatementView → Line → StepStop → Type 0
+abbrev pub StepStopsAt : List StatementView → PlacedStep → StepStop → Type 0
 StepStopsAt before x (Lacks wanted values) =
     LineLacks before x x.here wanted × IsShown x.here x.facts wanted values
 StepStopsAt before x (TooWide wanted width) = IsTooWide before x x.here wanted width

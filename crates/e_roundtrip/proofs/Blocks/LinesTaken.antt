@@ -18,11 +18,11 @@ use Rattle.e_names.specs.TitledStatements.{TitledStatement}
 use Rattle.e_book.specs.Steps.{step}
 use Rattle.e_book.specs.Book.{is_done}
 use Rattle.e_line.specs.Canonical.{filled, line_pieces, avoid_words, let_words, raw_line_words, line_of}
-use Rattle.e_line.proofs.Bound.{same_bytes}
-use Rattle.e_line.proofs.Pieces.{alike, first_alike}
-use Rattle.e_line.proofs.LetsAgain.{LetNamed, as_read as let_as_read}
-use Rattle.e_line.proofs.Respelled.{GoodForm, as_read, form_again}
-use Rattle.e_book.proofs.LineWords.{words_again}
+use Rattle.e_line.proofs.base.Bound.{same_bytes}
+use Rattle.e_line.proofs.read_again.Pieces.{alike, first_alike}
+use Rattle.e_line.proofs.read_again.LetsAgain.{LetNamed, as_read as let_as_read}
+use Rattle.e_line.proofs.read_again.Respelled.{GoodForm, as_read, form_again}
+use Rattle.e_book.proofs.canonical.LineWords.{words_again}
 use Rattle.e_cert.specs.declared.cert_line.CertLine.{CertLine}
 use Rattle.e_cert.specs.declared.owed.Obligation.{Obligation}
 use Rattle.e_cert.specs.declared.owed.Pending.{Pending}
@@ -30,7 +30,7 @@ use Rattle.e_cert.specs.declared.kept.StepCerts.{StepCerts}
 use Rattle.e_read.specs.declared.reading.BlockParser.{BlockParser}
 use Rattle.e_clause.specs.declared.cert.Version.{Version}
 use Rattle.e_cert.specs.CertLines.{cert_line_text, cert_line_is_of}
-use Rattle.e_cert.proofs.GoodKept.{are_certs_of_version, AreOfVersion}
+use Rattle.e_cert.proofs.FormsOfCertificates.{are_certs_of_version, AreOfVersion}
 use Rattle.e_line.specs.Strict.{is_strict_line, exact_line_of, exact_line}
 use Rattle.e_read.specs.Strict.{is_apart}
 use Rattle.e_cert.specs.Owed.{after_cert_line, finish_certs}

@@ -23,7 +23,7 @@ use Rattle.e_deriv.specs.PlainStep.{Cited, Inferred, Made, Applied, Claimed, Cop
 use Rattle.e_deriv.specs.Naming.{named}
 use Rattle.e_deriv.specs.Script.{Script, Cite, Hence, Make, Apply, Claim, Superposed, Qed, Contradiction, Cases, size, depth, erased}
 use Rattle.e_deriv.specs.Goal.{Goal, goal_of, goal_with}
-use Rattle.e_deriv.specs.Lines.{line, lines}
+use Rattle.e_deriv.specs.PlacedSteps.{placed_step, placed_steps}
 use Rattle.e_deriv.specs.Parts.{written as written_args}
 use Rattle.e_deriv.specs.Steps.{is_citation}
 use Rattle.e_book.specs.declared.blocks.BlockKind.TheVariants as kind
@@ -38,17 +38,17 @@ use Rattle.e_book.specs.Fits.{few_facts, few_terms, has_good_literals, NewNamesF
 use Rattle.e_line.specs.Canonical.{line_of}
 use Rattle.e_names.specs.Canonical.{by_form, hence_form, let_form, apply_form, claim_form, superpose_form, qed_form, contradiction_form, cases_form, else_form}
 use Rattle.e_book.specs.HasSpelling.{is_plain}
-use Rattle.e_names.proofs.Lookups.{objects_named}
-use Rattle.e_names.proofs.LitLookups.{lit_named}
-use Rattle.e_names.proofs.PlainLits.{PlainLit, lits_named}
-use Rattle.e_names.proofs.Cited.{by_good}
-use Rattle.e_names.proofs.Building.{named_scope}
-use Rattle.e_names.proofs.Built.{of_sorts_in_scope, let_named}
-use Rattle.e_names.proofs.Superposed.{superpose_named}
-use Rattle.e_names.proofs.Applied.{apply_named}
-use Rattle.e_book.proofs.FittingScripts.{line_fits}
-use Rattle.e_book.proofs.ScriptParts.{steps_of, close_of, same_script, at_least, deep_at_least}
-use Rattle.e_book.proofs.LinesRead.{Inside, proving, splitting, after_step, deep, copied, resume, second, applied_after, step_cite, step_hence, step_let, step_apply, step_claim, step_superpose, step_cases, step_else, step_qed, step_contradiction, claim_closed, superpose_closed, first_closed, second_closed}
+use Rattle.e_names.proofs.resolution.Lookups.{objects_named}
+use Rattle.e_names.proofs.resolution.LitLookups.{lit_named}
+use Rattle.e_names.proofs.literals.PlainLits.{PlainLit, lits_named}
+use Rattle.e_names.proofs.resolution.Cited.{by_good}
+use Rattle.e_names.proofs.read_lines.Building.{named_scope}
+use Rattle.e_names.proofs.resolution.Built.{of_sorts_in_scope, let_named}
+use Rattle.e_names.proofs.resolution.Superposed.{superpose_named}
+use Rattle.e_names.proofs.resolution.Applied.{apply_named}
+use Rattle.e_book.proofs.fit_theorems.FittingScripts.{line_fits}
+use Rattle.e_book.proofs.canonical.ScriptParts.{steps_of, close_of, same_script, at_least, deep_at_least}
+use Rattle.e_book.proofs.canonical.LinesRead.{Inside, proving, splitting, after_step, deep, copied, resume, second, applied_after, step_cite, step_hence, step_let, step_apply, step_claim, step_superpose, step_cases, step_else, step_qed, step_contradiction, claim_closed, superpose_closed, first_closed, second_closed}
 use Rattle.e_cert.specs.declared.owed.Obligation.TheVariants as due
 use Rattle.e_cert.specs.declared.kept.StepCerts.TheVariants as kept
 use Rattle.e_read.specs.Needs.{one_each, due_of}
@@ -60,29 +60,29 @@ use Rattle.e_roundtrip.proofs.Certificates.RowsAgain.{lit_direct}
 use Rattle.e_roundtrip.proofs.Certificates.CertsPut.{certs_kept, nothing_kept, against_kept}
 use Rattle.e_roundtrip.proofs.Certificates.CertsGood.{good_certs, good_against}
 use Rattle.e_roundtrip.proofs.Blocks.LinesTaken.{along_append}
-use Rattle.e_book.proofs.ScriptRead.{list_names, one_more, no_more, cite_ready, inferred, hence_ready, gifts, constructed, make_good, make_ready, apply_parts, claim_parts, claim_inner, claim_rest, copy_parts, copy_inner, copy_rest, opens, cases_parts, cases_first, cases_second, one_line}
+use Rattle.e_book.proofs.canonical.ScriptRead.{list_names, one_more, no_more, cite_ready, inferred, hence_ready, gifts, constructed, make_good, make_ready, apply_parts, claim_parts, claim_inner, claim_rest, copy_parts, copy_inner, copy_rest, opens, cases_parts, cases_first, cases_second, one_line}
 use Rattle.e_roundtrip.proofs.Certificates.DueAgain.{all_direct, all_written, hence_due, let_due, apply_due, superpose_due, qed_due}
-use Rattle.e_roundtrip.proofs.Formed.Standing.{Stood, first_of, both_of, one_formed, Spelled, goes_along, then_along}
+use Rattle.e_roundtrip.proofs.Formed.PlacedScripts.{Stood, first_of, both_of, one_formed, Spelled, goes_along, then_along}
 
 -- ---- citations
 
 pub cite_next : (known : List TitledStatement) (d : TheoremParser) (i : Inside) (b : By) (rest : Script) (given : List Lit) (goal : Goal) → Stood known d i (Cite b rest) given goal → Stood known d (after_step i (Cited b) 1) rest (joined given b.lit) goal
-unfolding erased lines
+unfolding erased placed_steps
 cite_next known d i b rest given goal s =
     let before = stated_by known in
     let sc = scope_of_names i.in_scope in
     record {
       ready = cite_ready known d i b (erased rest) given goal s.ready;
       goal_is = s.goal_is;
-      formed = (first_of (is_formed before) (line (Cite b rest) (Cite b rest) sc given goal) (lines before rest rest sc (joined given b.lit) goal) s.formed).1;
+      formed = (first_of (is_formed before) (placed_step (Cite b rest) (Cite b rest) sc given goal) (placed_steps before rest rest sc (joined given b.lit) goal) s.formed).1;
     }
 
 cite_along : (known : List TitledStatement) (d : TheoremParser) (i : Inside) (b : By) (rest : Script) (given : List Lit) (goal : Goal) → Stood known d i (Cite b rest) given goal → Spelled known d (after_step i (Cited b) 1) rest → Spelled known d i (Cite b rest)
-unfolding erased script_lines kepts lines size has_good_literals few_facts due_of
+unfolding erased script_lines kepts placed_steps size has_good_literals few_facts due_of
 cite_along known d i b rest given goal s t =
     let r = s.ready in
     let sc = scope_of_names i.in_scope in
-    let fit = (and_parts (is_citation sc b) (list_all (line_fits (stated_by known)) (lines (stated_by known) (erased rest) (erased rest) sc (joined given b.lit) goal)) r.fitting).0 in
+    let fit = (and_parts (is_citation sc b) (list_all (line_fits (stated_by known)) (placed_steps (stated_by known) (erased rest) (erased rest) sc (joined given b.lit) goal)) r.fitting).0 in
     let good = (and_parts (is_diagram_lit b.lit) (has_good_literals (erased rest)) r.good).0 in
     let most = leb-true _ _ (and_parts (leb (i.facts + 1) most_facts) (few_facts (stated_by known) (i.facts + 1) sc (erased rest)) r.facts).0 in
     record {
@@ -103,26 +103,26 @@ cite_along known d i b rest given goal s t =
 -- ---- inferences
 
 pub hence_next : (known : List TitledStatement) (d : TheoremParser) (i : Inside) (l : Lit) (c : Cert) (rest : Script) (given : List Lit) (goal : Goal) → Stood known d i (Hence l (Some c) rest) given goal → Stood known d (inferred i l) rest (joined given l) goal
-unfolding erased lines
+unfolding erased placed_steps
 hence_next known d i l c rest given goal s =
     let before = stated_by known in
     let sc = scope_of_names i.in_scope in
     record {
       ready = hence_ready known d i l (erased rest) given goal s.ready;
       goal_is = s.goal_is;
-      formed = (first_of (is_formed before) (line (Hence l (Some c) rest) (Hence l (Some c) rest) sc given goal) (lines before rest rest sc (joined given l) goal) s.formed).1;
+      formed = (first_of (is_formed before) (placed_step (Hence l (Some c) rest) (Hence l (Some c) rest) sc given goal) (placed_steps before rest rest sc (joined given l) goal) s.formed).1;
     }
 
 hence_along : (known : List TitledStatement) (d : TheoremParser) (i : Inside) (l : Lit) (c : Cert) (rest : Script) (given : List Lit) (goal : Goal) → Stood known d i (Hence l (Some c) rest) given goal → Spelled known d (inferred i l) rest
     → Spelled known d i (Hence l (Some c) rest)
-unfolding erased script_lines kepts lines size has_good_literals few_facts few_terms
+unfolding erased script_lines kepts placed_steps size has_good_literals few_facts few_terms
 hence_along known d i l c rest given goal s t =
     let before = stated_by known in
     let r = s.ready in
     let sc = scope_of_names i.in_scope in
     let n = i.terms + monomials l.atom in
-    let here = line (Hence l (Some c) rest) (Hence l (Some c) rest) sc given goal in
-    let one = one_formed before here (first_of (is_formed before) here (lines before rest rest sc (joined given l) goal) s.formed).0 in
+    let here = placed_step (Hence l (Some c) rest) (Hence l (Some c) rest) sc given goal in
+    let one = one_formed before here (first_of (is_formed before) here (placed_steps before rest rest sc (joined given l) goal) s.formed).0 in
     let good = (and_parts (is_well_formed l) (has_good_literals (erased rest)) r.good).0 in
     let plain : PlainLit i.in_scope l = record { within = one.fitting; good = good } in
     let most = leb-true _ _ (and_parts (leb (i.facts + 1) most_facts) (few_facts before (i.facts + 1) sc (erased rest)) r.facts).0 in
@@ -146,29 +146,29 @@ hence_along known d i l c rest given goal s t =
 
 pub make_next : (known : List TitledStatement) (d : TheoremParser) (i : Inside) (form : Construction) (names : List (List ℕ)) (certs : List Cert) (rest : Script) (given : List Lit) (goal : Goal) → Stood known d i (Make form names certs rest) given goal
     → Stood known d (constructed i form names) rest (joined_all given (gives_of_construction form (scope_of_names i.in_scope))) goal
-unfolding erased lines NewNamesFit
+unfolding erased placed_steps NewNamesFit
 make_next known d i form names certs rest given goal s =
     let before = stated_by known in
     let sc = scope_of_names i.in_scope in
     let facts = joined_all given (gives_of_construction form sc) in
     let scope : grown sc (sorts_made form) ≡ scope_of_names (named i.in_scope (sorts_made form) names) = named_scope i.in_scope (sorts_made form) names s.ready.new_names.1 in
-    let here = line (Make form names certs rest) (Make form names certs rest) sc given goal in
+    let here = placed_step (Make form names certs rest) (Make form names certs rest) sc given goal in
     record {
       ready = make_ready known d i form names (erased rest) given goal s.ready;
       goal_is = s.goal_is;
-      formed = subst (λ (z : Scope). list_all (is_formed before) (lines before rest rest z facts goal) ≡ true) scope (first_of (is_formed before) here (lines before rest rest (grown sc (sorts_made form)) facts goal) s.formed).1;
+      formed = subst (λ (z : Scope). list_all (is_formed before) (placed_steps before rest rest z facts goal) ≡ true) scope (first_of (is_formed before) here (placed_steps before rest rest (grown sc (sorts_made form)) facts goal) s.formed).1;
     }
 
 make_along : (known : List TitledStatement) (d : TheoremParser) (i : Inside) (form : Construction) (names : List (List ℕ)) (certs : List Cert) (rest : Script) (given : List Lit) (goal : Goal) → Stood known d i (Make form names certs rest) given goal
     → Spelled known d (constructed i form names) rest → Spelled known d i (Make form names certs rest)
-unfolding erased script_lines kepts lines is_plain NewNamesFit size few_facts
+unfolding erased script_lines kepts placed_steps is_plain NewNamesFit size few_facts
 make_along known d i form names certs rest given goal s t =
     let before = stated_by known in
     let r = s.ready in
     let sc = scope_of_names i.in_scope in
     let n = i.facts + gifts i form in
-    let here = line (Make form names certs rest) (Make form names certs rest) sc given goal in
-    let one = one_formed before here (first_of (is_formed before) here (lines before rest rest (grown sc (sorts_made form)) (joined_all given (gives_of_construction form sc)) goal) s.formed).0 in
+    let here = placed_step (Make form names certs rest) (Make form names certs rest) sc given goal in
+    let one = one_formed before here (first_of (is_formed before) here (placed_steps before rest rest (grown sc (sorts_made form)) (joined_all given (gives_of_construction form sc)) goal) s.formed).0 in
     let good = make_good known d i form names (erased rest) given goal r in
     let most = leb-true _ _ (and_parts (leb n most_facts) (few_facts before n (grown sc (sorts_made form)) (erased rest)) r.facts).0 in
     record {
@@ -192,23 +192,23 @@ make_along known d i form names certs rest given goal s t =
 pub apply_next : (known : List TitledStatement) (d : TheoremParser) (i : Inside) (theorem : ℕ) (args : List (Option Obj)) (names : List (List ℕ)) (certs : List Cert) (rest : Script) (given : List Lit) (goal : Goal)
     → Stood known d i (Apply theorem args names certs rest) given goal
     → Stood known d (applied_after i (theorem_of known theorem) theorem args names) rest (joined_all given (gives_of_use (theorem_of known theorem) (written_args args) (scope_of_names i.in_scope))) goal
-unfolding erased lines NewNamesFit
+unfolding erased placed_steps NewNamesFit
 apply_next known d i theorem args names certs rest given goal s =
     let before = stated_by known in
     let sc = scope_of_names i.in_scope in
     let t = theorem_of known theorem in
     let facts = joined_all given (gives_of_use t (written_args args) sc) in
     let scope : grown sc t.made ≡ scope_of_names (named i.in_scope t.made names) = named_scope i.in_scope t.made names s.ready.new_names.1 in
-    let here = line (Apply theorem args names certs rest) (Apply theorem args names certs rest) sc given goal in
+    let here = placed_step (Apply theorem args names certs rest) (Apply theorem args names certs rest) sc given goal in
     record {
       ready = (apply_parts known d i theorem args names (erased rest) given goal s.ready).next;
       goal_is = s.goal_is;
-      formed = subst (λ (z : Scope). list_all (is_formed before) (lines before rest rest z facts goal) ≡ true) scope (first_of (is_formed before) here (lines before rest rest (grown sc t.made) facts goal) s.formed).1;
+      formed = subst (λ (z : Scope). list_all (is_formed before) (placed_steps before rest rest z facts goal) ≡ true) scope (first_of (is_formed before) here (placed_steps before rest rest (grown sc t.made) facts goal) s.formed).1;
     }
 
 apply_along : (known : List TitledStatement) (d : TheoremParser) (i : Inside) (theorem : ℕ) (args : List (Option Obj)) (names : List (List ℕ)) (certs : List Cert) (rest : Script) (given : List Lit) (goal : Goal)
     → Stood known d i (Apply theorem args names certs rest) given goal → Spelled known d (applied_after i (theorem_of known theorem) theorem args names) rest → Spelled known d i (Apply theorem args names certs rest)
-unfolding erased script_lines kepts lines size
+unfolding erased script_lines kepts placed_steps size
 apply_along known d i theorem args names certs rest given goal s u =
     let before = stated_by known in
     let r = s.ready in
@@ -216,8 +216,8 @@ apply_along known d i theorem args names certs rest given goal s u =
     let t = theorem_of known theorem in
     let p = apply_parts known d i theorem args names (erased rest) given goal r in
     let after = applied_after i t theorem args names in
-    let here = line (Apply theorem args names certs rest) (Apply theorem args names certs rest) sc given goal in
-    let one = one_formed before here (first_of (is_formed before) here (lines before rest rest (grown sc t.made) (joined_all given (gives_of_use t (written_args args) sc)) goal) s.formed).0 in
+    let here = placed_step (Apply theorem args names certs rest) (Apply theorem args names certs rest) sc given goal in
+    let one = one_formed before here (first_of (is_formed before) here (placed_steps before rest rest (grown sc t.made) (joined_all given (gives_of_use t (written_args args) sc)) goal) s.formed).0 in
     let choice = (and_parts _ (is_choice t sc args (written_args args)) one.fitting).1 in
     let fit = (and_parts (fills args (written_args args)) (are_arguments t sc (written_args args)) choice).1 in
     let wanted = needs_of_use t (written_args args) sc in
@@ -239,15 +239,15 @@ apply_along known d i theorem args names certs rest given goal s u =
 -- ---- claims
 
 claim_formed : (known : List TitledStatement) (d : TheoremParser) (i : Inside) (shown : List Lit) (inner rest : Script) (given : List Lit) (goal : Goal) → Stood known d i (Claim shown inner rest) given goal
-    → (list_all (is_formed (stated_by known)) (lines (stated_by known) inner inner (scope_of_names i.in_scope) given (goal_of shown)) ≡ true)
-    × (list_all (is_formed (stated_by known)) (lines (stated_by known) rest rest (scope_of_names i.in_scope) (joined_all given shown) goal) ≡ true)
-unfolding lines
+    → (list_all (is_formed (stated_by known)) (placed_steps (stated_by known) inner inner (scope_of_names i.in_scope) given (goal_of shown)) ≡ true)
+    × (list_all (is_formed (stated_by known)) (placed_steps (stated_by known) rest rest (scope_of_names i.in_scope) (joined_all given shown) goal) ≡ true)
+unfolding placed_steps
 claim_formed known d i shown inner rest given goal s =
     let before = stated_by known in
     let sc = scope_of_names i.in_scope in
-    let inside = lines before inner inner sc given (goal_of shown) in
-    let after = lines before rest rest sc (joined_all given shown) goal in
-    both_of (is_formed before) inside after (first_of (is_formed before) (line (Claim shown inner rest) (Claim shown inner rest) sc given goal) (inside ++ after) s.formed).1
+    let inside = placed_steps before inner inner sc given (goal_of shown) in
+    let after = placed_steps before rest rest sc (joined_all given shown) goal in
+    both_of (is_formed before) inside after (first_of (is_formed before) (placed_step (Claim shown inner rest) (Claim shown inner rest) sc given goal) (inside ++ after) s.formed).1
 
 pub claim_inside : (known : List TitledStatement) (d : TheoremParser) (i : Inside) (shown : List Lit) (inner rest : Script) (given : List Lit) (goal : Goal) → Stood known d i (Claim shown inner rest) given goal
     → Stood known d (deep i (kind.Claim shown) 0) inner given (goal_of shown)
@@ -297,16 +297,16 @@ claim_along known d i shown inner rest given goal s t u =
 
 pub copy_formed : (known : List TitledStatement) (d : TheoremParser) (i : Inside) (form : Superpose) (names : List (List ℕ)) (shown : List Lit) (certs : List Cert) (inner rest : Script) (given : List Lit) (goal : Goal)
     → Stood known d i (Superposed form names shown certs inner rest) given goal
-    → (list_all (is_formed (stated_by known)) (lines (stated_by known) inner inner (grown (scope_of_names i.in_scope) superposing.sorts_copied) (joined_all given (superposing.gives_of_superposition form (scope_of_names i.in_scope))) (goal_of shown)) ≡ true)
-    × (list_all (is_formed (stated_by known)) (lines (stated_by known) rest rest (scope_of_names i.in_scope) (joined_all given shown) goal) ≡ true)
+    → (list_all (is_formed (stated_by known)) (placed_steps (stated_by known) inner inner (grown (scope_of_names i.in_scope) superposing.sorts_copied) (joined_all given (superposing.gives_of_superposition form (scope_of_names i.in_scope))) (goal_of shown)) ≡ true)
+    × (list_all (is_formed (stated_by known)) (placed_steps (stated_by known) rest rest (scope_of_names i.in_scope) (joined_all given shown) goal) ≡ true)
     × (certs_formed (scope_of_names i.in_scope) (superposing.needs_of_superposition form) certs ≡ true)
-unfolding lines
+unfolding placed_steps
 copy_formed known d i form names shown certs inner rest given goal s =
     let before = stated_by known in
     let sc = scope_of_names i.in_scope in
-    let here = line (Superposed form names shown certs inner rest) (Superposed form names shown certs inner rest) sc given goal in
-    let inside = lines before inner inner (grown sc superposing.sorts_copied) (joined_all given (superposing.gives_of_superposition form sc)) (goal_of shown) in
-    let after = lines before rest rest sc (joined_all given shown) goal in
+    let here = placed_step (Superposed form names shown certs inner rest) (Superposed form names shown certs inner rest) sc given goal in
+    let inside = placed_steps before inner inner (grown sc superposing.sorts_copied) (joined_all given (superposing.gives_of_superposition form sc)) (goal_of shown) in
+    let after = placed_steps before rest rest sc (joined_all given shown) goal in
     let a = first_of (is_formed before) here (inside ++ after) s.formed in
     let b = both_of (is_formed before) inside after a.1 in
     (b.0, b.1, (one_formed before here a.0).certs)
@@ -322,7 +322,7 @@ copy_inside known d i form names shown certs inner rest given goal s =
     record {
       ready = copy_inner known d i form names shown (erased inner) (erased rest) given goal s.ready;
       goal_is = refl;
-      formed = subst (λ (z : Scope). list_all (is_formed before) (lines before inner inner z (joined_all given (superposing.gives_of_superposition form sc)) (goal_of shown)) ≡ true) scope (copy_formed known d i form names shown certs inner rest given goal s).0;
+      formed = subst (λ (z : Scope). list_all (is_formed before) (placed_steps before inner inner z (joined_all given (superposing.gives_of_superposition form sc)) (goal_of shown)) ≡ true) scope (copy_formed known d i form names shown certs inner rest given goal s).0;
     }
 
 pub copy_next : (known : List TitledStatement) (d : TheoremParser) (i : Inside) (n : ℕ) (form : Superpose) (names : List (List ℕ)) (shown : List Lit) (certs : List Cert) (inner rest : Script) (given : List Lit) (goal : Goal) → n ≡ i.lines + 1 + size (erased inner)
@@ -366,15 +366,15 @@ copy_along known d i form names shown certs inner rest given goal s t u =
 -- ---- splits
 
 cases_formed : (known : List TitledStatement) (d : TheoremParser) (i : Inside) (l : Lit) (one two : Script) (given : List Lit) (goal : Goal) → Stood known d i (Cases l one two) given goal
-    → (list_all (is_formed (stated_by known)) (lines (stated_by known) one one (scope_of_names i.in_scope) (joined given l) goal) ≡ true)
-    × (list_all (is_formed (stated_by known)) (lines (stated_by known) two two (scope_of_names i.in_scope) (joined given (negation l)) goal) ≡ true)
-unfolding lines
+    → (list_all (is_formed (stated_by known)) (placed_steps (stated_by known) one one (scope_of_names i.in_scope) (joined given l) goal) ≡ true)
+    × (list_all (is_formed (stated_by known)) (placed_steps (stated_by known) two two (scope_of_names i.in_scope) (joined given (negation l)) goal) ≡ true)
+unfolding placed_steps
 cases_formed known d i l one two given goal s =
     let before = stated_by known in
     let sc = scope_of_names i.in_scope in
-    let in_one = lines before one one sc (joined given l) goal in
-    let in_two = lines before two two sc (joined given (negation l)) goal in
-    both_of (is_formed before) in_one in_two (first_of (is_formed before) (line (Cases l one two) (Cases l one two) sc given goal) (in_one ++ in_two) s.formed).1
+    let in_one = placed_steps before one one sc (joined given l) goal in
+    let in_two = placed_steps before two two sc (joined given (negation l)) goal in
+    both_of (is_formed before) in_one in_two (first_of (is_formed before) (placed_step (Cases l one two) (Cases l one two) sc given goal) (in_one ++ in_two) s.formed).1
 
 pub cases_one : (known : List TitledStatement) (d : TheoremParser) (i : Inside) (l : Lit) (one two : Script) (given : List Lit) (goal : Goal) → Stood known d i (Cases l one two) given goal → Stood known d (opens i l) one (joined given l) goal
 unfolding erased
@@ -430,13 +430,13 @@ cases_along known d i l one two given goal s t u =
 -- ---- other lines that close a block
 
 qed_along : (known : List TitledStatement) (d : TheoremParser) (i : Inside) (os : List Obj) (certs : List Cert) (given : List Lit) (goal : Goal) → Stood known d i (Qed os certs) given goal → Spelled known d i (Qed os certs)
-unfolding erased script_lines kepts lines size
+unfolding erased script_lines kepts placed_steps size
 qed_along known d i os certs given goal s =
     let before = stated_by known in
     let r = s.ready in
     let ns = i.in_scope in
     let sc = scope_of_names ns in
-    let here = line (Qed os certs) (Qed os certs) sc given goal in
+    let here = placed_step (Qed os certs) (Qed os certs) sc given goal in
     let one = one_formed before here (first_of (is_formed before) here [] s.formed).0 in
     let h : are_of_sorts sc (made_in i.blocks d.made) os ≡ true = subst (λ (l : List Sort). are_of_sorts sc l os ≡ true) r.goal_sorts one.fitting in
     let wanted = goal_with goal os in
@@ -456,12 +456,12 @@ qed_along known d i os certs given goal s =
     }
 
 contradiction_along : (known : List TitledStatement) (d : TheoremParser) (i : Inside) (a : Against) (given : List Lit) (goal : Goal) → Stood known d i (Contradiction (Some a)) given goal → Spelled known d i (Contradiction (Some a))
-unfolding erased script_lines kepts lines size due_of
+unfolding erased script_lines kepts placed_steps size due_of
 contradiction_along known d i a given goal s =
     let before = stated_by known in
     let r = s.ready in
     let ns = i.in_scope in
-    let here = line (Contradiction (Some a)) (Contradiction (Some a)) (scope_of_names ns) given goal in
+    let here = placed_step (Contradiction (Some a)) (Contradiction (Some a)) (scope_of_names ns) given goal in
     let one = one_formed before here (first_of (is_formed before) here [] s.formed).0 in
     record {
       last = one_line i;
@@ -482,19 +482,19 @@ contradiction_along known d i a given goal s =
 
 -- a line that lacks its certificate has not the form
 pub no_hence : (known : List TitledStatement) (d : TheoremParser) (i : Inside) (l : Lit) (rest : Script) (given : List Lit) (goal : Goal) → Stood known d i (Hence l None rest) given goal → ⊥
-unfolding lines
+unfolding placed_steps
 no_hence known d i l rest given goal s =
     let before = stated_by known in
     let sc = scope_of_names i.in_scope in
-    let here = line (Hence l None rest) (Hence l None rest) sc given goal in
-    let c = (one_formed before here (first_of (is_formed before) here (lines before rest rest sc (joined given l) goal) s.formed).0).certs in
+    let here = placed_step (Hence l None rest) (Hence l None rest) sc given goal in
+    let c = (one_formed before here (first_of (is_formed before) here (placed_steps before rest rest sc (joined given l) goal) s.formed).0).certs in
     absurd cc
 
 pub no_contradiction : (known : List TitledStatement) (d : TheoremParser) (i : Inside) (given : List Lit) (goal : Goal) → Stood known d i (Contradiction None) given goal → ⊥
-unfolding lines
+unfolding placed_steps
 no_contradiction known d i given goal s =
     let before = stated_by known in
-    let here = line (Contradiction None) (Contradiction None) (scope_of_names i.in_scope) given goal in
+    let here = placed_step (Contradiction None) (Contradiction None) (scope_of_names i.in_scope) given goal in
     let c = (one_formed before here (first_of (is_formed before) here [] s.formed).0).beside in
     absurd cc
 

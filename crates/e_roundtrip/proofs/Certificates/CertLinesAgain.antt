@@ -22,11 +22,11 @@ use Rattle.e_line.specs.Canonical.{term_words, coefficient_words, mono_words, mo
 use Rattle.e_line.specs.Reading.{◌>>=◌, first_title, word_at, end_at}
 use Rattle.e_line.specs.Literals.{lit_of, is_diagram_raw}
 use Rattle.e_line.specs.HasSpelling.{AreNames}
-use Rattle.e_line.proofs.Bound.{same_bytes}
-use Rattle.e_line.proofs.NamesAgain.{titled, names_again}
-use Rattle.e_line.proofs.SumsAgain.{TermNamed, term_again, term_tokens}
-use Rattle.e_line.proofs.LitsAgain.{LitNamed, lit_again, diagram_again, lit_tokens}
-use Rattle.e_line.proofs.LetsAgain.{names_tokens}
+use Rattle.e_line.proofs.base.Bound.{same_bytes}
+use Rattle.e_line.proofs.read_again.NamesAgain.{titled, names_again}
+use Rattle.e_line.proofs.read_again.SumsAgain.{TermNamed, term_again, term_tokens}
+use Rattle.e_line.proofs.read_again.LitsAgain.{LitNamed, lit_again, diagram_again, lit_tokens}
+use Rattle.e_line.proofs.read_again.LetsAgain.{names_tokens}
 use Rattle.e_cert.specs.declared.cert_line.RawRow.{RawRow}
 use Rattle.e_cert.specs.declared.cert_line.RawRow.TheVariants as rows
 use Rattle.e_cert.specs.declared.cert_line.CertLine.{CertLine}

@@ -31,11 +31,11 @@ use Rattle.e_line.specs.Reading.{◌>>=◌, or_malformed, first_title, names_of,
 use Rattle.e_line.specs.Literals.{diagram_lit_of}
 use Rattle.e_names.specs.Scope.{scope_of_names, lit_in, args_in, variables_of, right_count}
 use Rattle.e_names.specs.Fits.{is_diagram_atom}
-use Rattle.e_line.proofs.Bound.{bind_ok, ok_is, read_ok}
-use Rattle.e_names.proofs.InScope.{lit_in_scope}
-use Rattle.e_line.proofs.Choices.{either, passed}
-use Rattle.e_names.proofs.Citations.{good_args}
-use Rattle.e_names.proofs.SaidForms.{lit_plain}
+use Rattle.e_line.proofs.base.Bound.{bind_ok, ok_is, read_ok}
+use Rattle.e_names.proofs.read_lines.InScope.{lit_in_scope}
+use Rattle.e_line.proofs.base.Choices.{either, passed}
+use Rattle.e_names.proofs.read_lines.Citations.{good_args}
+use Rattle.e_names.proofs.read_lines.LiteralsOfForms.{lit_plain}
 use Rattle.e_cert.specs.declared.cert_line.CertLine.{CertLine}
 use Rattle.e_cert.specs.declared.cert_line.CertLine.TheVariants as certlines
 use Rattle.e_cert.specs.declared.owed.OpenSums.{OpenSums}
@@ -49,7 +49,7 @@ use Rattle.e_cert.specs.declared.kept.StepCerts.TheVariants as kept
 use Rattle.e_cert.specs.CertLines.{sized, size_of, multiplier_of, raw_row_of, may_differ, bare_cert_line, differs_of, transfer_of, row_cert_line_of, cert_line_named, cert_line_of, cert_line_text, place_of_digits as place_in, fact_cert_line_of}
 use Rattle.e_cert.specs.Strict.{is_strict_cert_line, exact_cert_line}
 use Rattle.e_cert.specs.Owed.{has_more, certificate, row_in, row_put, sum_begun, differs_put, sums_ended, transfer_put, part_put, metric_put, takes_metric, clash_put, transfer_rule, count_others, transfer_at, open_transfer_in, transfer_begun, with_sums_ended, sums_after, due_after, after_cert_line, kept_of, finish_certs}
-use Rattle.e_cert.proofs.GoodCertLines.{CertLineSaid, strict_said}
+use Rattle.e_cert.proofs.FormsOfCertLines.{CertLineSaid, strict_said}
 use Rattle.e_roundtrip.specs.Formed.{against_formed}
 use Rattle.e_roundtrip.proofs.Certificates.CertLinesRead.{CertLineSigned, cert_line_signed}
 use Rattle.e_roundtrip.proofs.Certificates.OwedSpelled.{due_at_first}

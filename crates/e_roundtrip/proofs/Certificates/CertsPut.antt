@@ -18,8 +18,8 @@ use Rattle.e_line.specs.declared.fault.FaultKind.{FaultKind}
 use Rattle.e_names.specs.Scope.{scope_of_names}
 use Rattle.e_names.specs.Fits.{is_diagram_lit}
 use Rattle.e_names.specs.Canonical.{raw_of, name_of_object, rule_name}
-use Rattle.e_names.proofs.Lookups.{InOrder, objects_named}
-use Rattle.e_names.proofs.LitLookups.{lit_number_again, lit_named, diagram_is_well_formed, diagram_is_raw}
+use Rattle.e_names.proofs.resolution.Lookups.{InOrder, objects_named}
+use Rattle.e_names.proofs.resolution.LitLookups.{lit_number_again, lit_named, diagram_is_well_formed, diagram_is_raw}
 use Rattle.e_cert.specs.declared.cert_line.CertLine.TheVariants as certlines
 use Rattle.e_cert.specs.declared.owed.Obligation.{Obligation}
 use Rattle.e_cert.specs.declared.owed.Obligation.TheVariants as due
@@ -32,7 +32,7 @@ use Rattle.e_spell.specs.Certificates.{part_lines, cert_lines, against_lines}
 use Rattle.e_roundtrip.proofs.Certificates.Feeding.{Fed, owing, Ends, Puts, puts_append, GoodSums, metric_fed, GoodPart, part_fed}
 use Rattle.e_clause.specs.declared.cert.Version.{Version}
 use Rattle.e_clause.specs.Versions.{is_cert_of, is_against_of}
-use Rattle.e_cert.proofs.GoodKept.{AreOfVersion}
+use Rattle.e_cert.proofs.FormsOfCertificates.{AreOfVersion}
 use Rattle.e_roundtrip.proofs.Certificates.VersionLines.{LinesOf, lines_append, metric_of, part_of, parts_of}
 use Rattle.e_roundtrip.proofs.Certificates.TransfersAgain.{GoodTransfer, part_way, rule_titled, transfer_again}
 

@@ -3,7 +3,7 @@ use Rattle.std.proofs.Common.{◌≡◌, ℕ, true, eqb, List, [], ◌∷◌, le
 use Rattle.std.specs.List.{list_all}
 use Rattle.std.proofs.lemmas.Bool.{eq-eqb}
 use Rattle.std.proofs.lemmas.List.{length-map}
-use Rattle.e_book.proofs.LinesRead.{objects_read}
+use Rattle.e_book.proofs.canonical.LinesRead.{objects_read}
 use Rattle.e_literal.specs.declared.object.Obj.{Obj}
 use Rattle.e_literal.specs.declared.object.Scope.{Scope}
 use Rattle.e_literal.specs.declared.literal.Lit.{Lit}
@@ -22,14 +22,14 @@ use Rattle.e_names.specs.TitledStatements.{TitledStatement, theorem_of}
 use Rattle.e_book.specs.Blocks.{made_in}
 use Rattle.e_names.specs.Scope.{scope_of_names, qed_in}
 use Rattle.e_names.specs.Canonical.{raw_of, name_of_object, argument_name, hence_form, let_form, apply_form, superpose_form, qed_form}
-use Rattle.e_line.proofs.Respelled.{as_read}
-use Rattle.e_names.proofs.Lookups.{InOrder}
-use Rattle.e_names.proofs.LitLookups.{lit_number_again}
-use Rattle.e_names.proofs.PlainLits.{PlainLit}
-use Rattle.e_names.proofs.Building.{GoodLet}
-use Rattle.e_names.proofs.Built.{of_sorts_length, let_number_again}
-use Rattle.e_names.proofs.Superposed.{GoodSuperpose, superpose_number_again}
-use Rattle.e_names.proofs.Applied.{GoodApply, apply_number_again}
+use Rattle.e_line.proofs.read_again.Respelled.{as_read}
+use Rattle.e_names.proofs.resolution.Lookups.{InOrder}
+use Rattle.e_names.proofs.resolution.LitLookups.{lit_number_again}
+use Rattle.e_names.proofs.literals.PlainLits.{PlainLit}
+use Rattle.e_names.proofs.read_lines.Building.{GoodLet}
+use Rattle.e_names.proofs.resolution.Built.{of_sorts_length, let_number_again}
+use Rattle.e_names.proofs.resolution.Superposed.{GoodSuperpose, superpose_number_again}
+use Rattle.e_names.proofs.resolution.Applied.{GoodApply, apply_number_again}
 use Rattle.e_line.specs.Strict.{are_direct}
 use Rattle.e_read.specs.Needs.{open_goal, one_each, needs_in, needs_of_raw_apply as needs_of_line, needs_at_qed, due_of}
 use Rattle.e_roundtrip.proofs.Certificates.RowsAgain.{lit_direct}

@@ -29,9 +29,9 @@ use Rattle.e_line.specs.declared.fault.FaultKind.TheVariants.{Malformed}
 use Rattle.e_line.specs.Reading.{◌>>=◌}
 use Rattle.e_line.specs.LineLimits.{few_monos}
 use Rattle.e_names.specs.Scope.{scope_of_names, lit_in, term_in}
-use Rattle.e_line.proofs.Bound.{bind_ok, ok_is, read_ok}
-use Rattle.e_names.proofs.InScope.{term_in_scope, lit_in_scope}
-use Rattle.e_line.proofs.Choices.{passed}
+use Rattle.e_line.proofs.base.Bound.{bind_ok, ok_is, read_ok}
+use Rattle.e_names.proofs.read_lines.InScope.{term_in_scope, lit_in_scope}
+use Rattle.e_line.proofs.base.Choices.{passed}
 use Rattle.e_cert.specs.declared.cert_line.RawRow.{RawRow}
 use Rattle.e_cert.specs.declared.cert_line.RawRow.TheVariants as rows
 use Rattle.e_cert.specs.declared.owed.OpenSums.{OpenSums}
@@ -43,7 +43,7 @@ use Rattle.e_cert.specs.declared.kept.StepCerts.{StepCerts}
 use Rattle.e_cert.specs.declared.kept.StepCerts.TheVariants as kept
 use Rattle.e_cert.specs.CertLines.{may_differ}
 use Rattle.e_cert.specs.Owed.{most_rows, fact_in, row_in, with_row, row_put, sum_begun, differs_put, sums_ended, has_more, certificate, transfer_put, part_put, metric_put, kept_of}
-use Rattle.e_cert.proofs.GoodCertLines.{RowSaid, good_row}
+use Rattle.e_cert.proofs.FormsOfCertLines.{RowSaid, good_row}
 use Rattle.e_roundtrip.specs.Formed.{sum_formed, names_difference, difference_formed, sums_formed, part_formed, has_parts, cert_formed, certs_formed, against_formed}
 use Rattle.e_roundtrip.proofs.Formed.CertifiedFormed.{on_found}
 

@@ -32,8 +32,8 @@ use Rattle.e_names.specs.Scope.{lit_in, term_in, args_in, variables_of, right_co
 use Rattle.e_line.specs.LineLimits.{few_monos}
 use Rattle.e_line.specs.Canonical.{lit_words, term_words}
 use Rattle.e_names.specs.Canonical.{raw_of, rule_name, name_of_object}
-use Rattle.e_line.proofs.Bound.{bind_ok, ok_is, read_ok}
-use Rattle.e_line.proofs.Choices.{passed}
+use Rattle.e_line.proofs.base.Bound.{bind_ok, ok_is, read_ok}
+use Rattle.e_line.proofs.base.Choices.{passed}
 use Rattle.e_cert.specs.declared.cert_line.RawRow.{RawRow}
 use Rattle.e_cert.specs.declared.cert_line.RawRow.TheVariants as rows
 use Rattle.e_cert.specs.declared.cert_line.CertLine.{CertLine}

@@ -14,10 +14,10 @@ use Rattle.e_deriv.specs.declared.names.Names.{Names}
 use Rattle.e_clause.specs.Written.{is_writable_name}
 use Rattle.e_names.specs.Scope.{scope_of_names, term_in}
 use Rattle.e_names.specs.Canonical.{raw_term, raw_signed, raw_of}
-use Rattle.e_line.proofs.SumsAgain.{TermNamed}
-use Rattle.e_names.proofs.Lookups.{InOrder, number_again, named_at}
-use Rattle.e_names.proofs.LitLookups.{lit_number_again, lit_named, TermWithin, two, three}
-use Rattle.e_names.proofs.ShortLits.{few_again}
+use Rattle.e_line.proofs.read_again.SumsAgain.{TermNamed}
+use Rattle.e_names.proofs.resolution.Lookups.{InOrder, number_again, named_at}
+use Rattle.e_names.proofs.resolution.LitLookups.{lit_number_again, lit_named, TermWithin, two, three}
+use Rattle.e_names.proofs.literals.ShortLits.{few_again}
 use Rattle.e_cert.specs.declared.cert_line.RawRow.{RawRow}
 use Rattle.e_cert.specs.declared.cert_line.RawRow.TheVariants as rows
 use Rattle.e_cert.specs.CertLines.{raw_row_words}

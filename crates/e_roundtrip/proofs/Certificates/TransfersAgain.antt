@@ -5,7 +5,7 @@ use Rattle.std.specs.Option.{option_map}
 use Rattle.std.specs.List.{list_all, AllByRecursion}
 use Rattle.std.proofs.lemmas.List.{length-map, drop-drop, take-append-drop, take-map}
 use Rattle.std.proofs.lemmas.Bool.{and_parts}
-use Rattle.e_names.proofs.Cited.{drop_map, sig_of_row}
+use Rattle.e_names.proofs.resolution.Cited.{drop_map, sig_of_row}
 use Rattle.e_text.specs.Names.{is_title}
 use Rattle.e_literal.specs.declared.object.Sort.TheVariants.{Point, Line, Circle}
 use Rattle.e_literal.specs.declared.object.Obj.{Obj}
@@ -23,8 +23,8 @@ use Rattle.e_clause.proofs.Names.{found_by_name}
 use Rattle.e_deriv.specs.declared.names.Names.{Names}
 use Rattle.e_names.specs.Scope.{scope_of_names, objects_as, args_in, variables_of}
 use Rattle.e_names.specs.Canonical.{name_of_object, rule_name}
-use Rattle.e_names.proofs.Lookups.{InOrder, objects_again}
-use Rattle.e_names.proofs.RuleNames.{title_again, rule_name_is}
+use Rattle.e_names.proofs.resolution.Lookups.{InOrder, objects_again}
+use Rattle.e_names.proofs.resolution.RuleNames.{title_again, rule_name_is}
 use Rattle.e_cert.specs.declared.owed.OpenTransfer.{OpenTransfer}
 use Rattle.e_cert.specs.Owed.{transfer_rule, transfer_at, open_transfer_in}
 use Rattle.e_roundtrip.proofs.Certificates.Feeding.{GoodPart}

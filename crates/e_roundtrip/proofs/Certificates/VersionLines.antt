@@ -16,8 +16,8 @@ use Rattle.e_clause.specs.declared.cert.Part.TheVariants as parts
 use Rattle.e_clause.specs.Versions.{by_literals, by_places, is_name_of, is_sum_of, are_sums_of, is_part_of}
 use Rattle.e_deriv.specs.declared.names.Names.{Names}
 use Rattle.e_line.specs.declared.fault.FaultKind.{FaultKind}
-use Rattle.e_names.proofs.Lookups.{InOrder}
-use Rattle.e_line.proofs.Bound.{ok_is}
+use Rattle.e_names.proofs.resolution.Lookups.{InOrder}
+use Rattle.e_line.proofs.base.Bound.{ok_is}
 use Rattle.e_cert.specs.declared.cert_line.CertLine.{CertLine}
 use Rattle.e_cert.specs.declared.cert_line.CertLine.TheVariants as certlines
 use Rattle.e_cert.specs.CertLines.{cert_line_of, cert_line_words, row_is_of, cert_line_is_of}

@@ -34,14 +34,14 @@ use Rattle.e_construct.specs.Construct.{sorts_made, gives_of_construction}
 use Rattle.e_construct.specs.Superposing as superposing
 use Rattle.e_deriv.specs.Script.{Script, Cite, Hence, Make, Apply, Claim, Superposed, Qed, Contradiction, Cases}
 use Rattle.e_deriv.specs.Goal.{Goal, goal_of, goal_of_statement, facts_of_statement}
-use Rattle.e_deriv.specs.Lines.{Line, line, lines, theorem_at}
+use Rattle.e_deriv.specs.PlacedSteps.{PlacedStep, placed_step, placed_steps, theorem_at}
 use Rattle.e_deriv.specs.Parts.{written}
 use Rattle.e_deriv.specs.Steps.{fits, needs}
 use Rattle.e_deriv.specs.Certified.{Certified, certs_of, is_certified}
 use Rattle.e_deriv.specs.Written.{is_written_well}
 use Rattle.e_verify.proofs.checking.PassedLines.{cite_written, hence_written, make_written, apply_written, claim_written, superposed_written, qed_written, contradiction_written, cases_written}
 use Rattle.e_roundtrip.specs.Formed.{Formed, sum_formed, names_difference, difference_formed, sums_formed, part_formed, has_parts, cert_formed, certs_formed, against_formed, formed_beside, is_formed}
-use Rattle.e_roundtrip.proofs.Formed.Standing.{OneCertified, first_of, both_of, one_certified}
+use Rattle.e_roundtrip.proofs.Formed.PlacedScripts.{OneCertified, first_of, both_of, one_certified}
 
 -- ---- sums
 
@@ -141,85 +141,85 @@ against_is s facts (against.Metric m) h g =
 -- ---- lines
 
 -- a line, where its certificates name literals that are well formed, and what stands beside has its form
-line_is : (before : List StatementView) (x : Line) (one : OneCertified before x) → list_all is_writable_cert (certs_of x.here) ≡ true → formed_beside x.here x.scope ≡ true → is_formed before x ≡ true
+line_is : (before : List StatementView) (x : PlacedStep) (one : OneCertified before x) → list_all is_writable_cert (certs_of x.here) ≡ true → formed_beside x.here x.scope ≡ true → is_formed before x ≡ true
 line_is before x one g b =
     and_from (fits before x) (certs_formed x.scope (needs before x) (certs_of x.here) && formed_beside x.here x.scope) one.fitting
     (and_from (certs_formed x.scope (needs before x) (certs_of x.here)) (formed_beside x.here x.scope) (certs_are x.scope x.facts (needs before x) (certs_of x.here) one.certs g) b)
 
 -- the first line, and those after it
-pub then_lines : (before : List StatementView) (x : Line) (xs : List Line) → is_formed before x ≡ true → list_all (is_formed before) xs ≡ true → list_all (is_formed before) (x ∷ xs) ≡ true
+pub then_lines : (before : List StatementView) (x : PlacedStep) (xs : List PlacedStep) → is_formed before x ≡ true → list_all (is_formed before) xs ≡ true → list_all (is_formed before) (x ∷ xs) ≡ true
 then_lines before x xs h k = and_from (is_formed before x) (list_all (is_formed before) xs) h k
 
-formed_lines : (before : List StatementView) (d : Script) (s : Scope) (facts : List Lit) (goal : Goal) → list_all (is_certified before) (lines before d d s facts goal) ≡ true → is_written_well d ≡ true
-    → list_all (is_formed before) (lines before d d s facts goal) ≡ true
-unfolding lines
+formed_lines : (before : List StatementView) (d : Script) (s : Scope) (facts : List Lit) (goal : Goal) → list_all (is_certified before) (placed_steps before d d s facts goal) ≡ true → is_written_well d ≡ true
+    → list_all (is_formed before) (placed_steps before d d s facts goal) ≡ true
+unfolding placed_steps
 formed_lines before (Cite by rest) s facts goal h w =
-    let x = line (Cite by rest) (Cite by rest) s facts goal in
-    let after = lines before rest rest s (joined facts by.lit) goal in
+    let x = placed_step (Cite by rest) (Cite by rest) s facts goal in
+    let after = placed_steps before rest rest s (joined facts by.lit) goal in
     let p = first_of (is_certified before) x after h in
     then_lines before x after (line_is before x (one_certified before x p.0) refl refl) (formed_lines before rest s (joined facts by.lit) goal p.1 (cite_written by rest w).1)
 formed_lines before (Hence lit None rest) s facts goal h w =
-    let x = line (Hence lit None rest) (Hence lit None rest) s facts goal in
-    let after = lines before rest rest s (joined facts lit) goal in
+    let x = placed_step (Hence lit None rest) (Hence lit None rest) s facts goal in
+    let after = placed_steps before rest rest s (joined facts lit) goal in
     let p = first_of (is_certified before) x after h in
     then_lines before x after (line_is before x (one_certified before x p.0) refl refl) (formed_lines before rest s (joined facts lit) goal p.1 (hence_written lit None rest w).2)
 formed_lines before (Hence lit (Some c) rest) s facts goal h w =
-    let x = line (Hence lit (Some c) rest) (Hence lit (Some c) rest) s facts goal in
-    let after = lines before rest rest s (joined facts lit) goal in
+    let x = placed_step (Hence lit (Some c) rest) (Hence lit (Some c) rest) s facts goal in
+    let after = placed_steps before rest rest s (joined facts lit) goal in
     let p = first_of (is_certified before) x after h in
     let g = hence_written lit (Some c) rest w in
     then_lines before x after (line_is before x (one_certified before x p.0) (rw g.1 refl) refl) (formed_lines before rest s (joined facts lit) goal p.1 g.2)
 formed_lines before (Make form names certs rest) s facts goal h w =
-    let x = line (Make form names certs rest) (Make form names certs rest) s facts goal in
-    let after = lines before rest rest (grown s (sorts_made form)) (joined_all facts (gives_of_construction form s)) goal in
+    let x = placed_step (Make form names certs rest) (Make form names certs rest) s facts goal in
+    let after = placed_steps before rest rest (grown s (sorts_made form)) (joined_all facts (gives_of_construction form s)) goal in
     let p = first_of (is_certified before) x after h in
     let g = make_written form names certs rest w in
     then_lines before x after (line_is before x (one_certified before x p.0) g.0 refl) (formed_lines before rest (grown s (sorts_made form)) (joined_all facts (gives_of_construction form s)) goal p.1 g.1)
 formed_lines before (Apply theorem args names certs rest) s facts goal h w =
-    let x = line (Apply theorem args names certs rest) (Apply theorem args names certs rest) s facts goal in
+    let x = placed_step (Apply theorem args names certs rest) (Apply theorem args names certs rest) s facts goal in
     let t = theorem_at before theorem in
     let more = joined_all facts (gives_of_use t (written args) s) in
-    let after = lines before rest rest (grown s t.made) more goal in
+    let after = placed_steps before rest rest (grown s t.made) more goal in
     let p = first_of (is_certified before) x after h in
     let g = apply_written theorem args names certs rest w in
     let one = one_certified before x p.0 in
     then_lines before x after (line_is before x one g.0 one.beside) (formed_lines before rest (grown s t.made) more goal p.1 g.1)
 formed_lines before (Claim shown inner rest) s facts goal h w =
-    let x = line (Claim shown inner rest) (Claim shown inner rest) s facts goal in
-    let inside = lines before inner inner s facts (goal_of shown) in
-    let after = lines before rest rest s (joined_all facts shown) goal in
+    let x = placed_step (Claim shown inner rest) (Claim shown inner rest) s facts goal in
+    let inside = placed_steps before inner inner s facts (goal_of shown) in
+    let after = placed_steps before rest rest s (joined_all facts shown) goal in
     let p = first_of (is_certified before) x (inside ++ after) h in
     let q = both_of (is_certified before) inside after p.1 in
     let g = claim_written shown inner rest w in
     then_lines before x (inside ++ after) (line_is before x (one_certified before x p.0) refl refl)
     (all_both (is_formed before) inside after (formed_lines before inner s facts (goal_of shown) q.0 g.1) (formed_lines before rest s (joined_all facts shown) goal q.1 g.2))
 formed_lines before (Superposed form names shown certs inner rest) s facts goal h w =
-    let x = line (Superposed form names shown certs inner rest) (Superposed form names shown certs inner rest) s facts goal in
+    let x = placed_step (Superposed form names shown certs inner rest) (Superposed form names shown certs inner rest) s facts goal in
     let given = joined_all facts (superposing.gives_of_superposition form s) in
-    let inside = lines before inner inner (grown s superposing.sorts_copied) given (goal_of shown) in
-    let after = lines before rest rest s (joined_all facts shown) goal in
+    let inside = placed_steps before inner inner (grown s superposing.sorts_copied) given (goal_of shown) in
+    let after = placed_steps before rest rest s (joined_all facts shown) goal in
     let p = first_of (is_certified before) x (inside ++ after) h in
     let q = both_of (is_certified before) inside after p.1 in
     let g = superposed_written form names shown certs inner rest w in
     then_lines before x (inside ++ after) (line_is before x (one_certified before x p.0) g.1 refl)
     (all_both (is_formed before) inside after (formed_lines before inner (grown s superposing.sorts_copied) given (goal_of shown) q.0 g.2) (formed_lines before rest s (joined_all facts shown) goal q.1 g.3))
 formed_lines before (Qed objects certs) s facts goal h w =
-    let x = line (Qed objects certs) (Qed objects certs) s facts goal in
+    let x = placed_step (Qed objects certs) (Qed objects certs) s facts goal in
     let p = first_of (is_certified before) x [] h in
     then_lines before x [] (line_is before x (one_certified before x p.0) (qed_written objects certs w) refl) refl
 formed_lines before (Contradiction None) s facts goal h w =
-    let x = line (Contradiction None) (Contradiction None) s facts goal in
+    let x = placed_step (Contradiction None) (Contradiction None) s facts goal in
     let p = first_of (is_certified before) x [] h in
     then_lines before x [] (line_is before x (one_certified before x p.0) refl (one_certified before x p.0).beside) refl
 formed_lines before (Contradiction (Some a)) s facts goal h w =
-    let x = line (Contradiction (Some a)) (Contradiction (Some a)) s facts goal in
+    let x = placed_step (Contradiction (Some a)) (Contradiction (Some a)) s facts goal in
     let p = first_of (is_certified before) x [] h in
     let one = one_certified before x p.0 in
     then_lines before x [] (line_is before x one refl (against_is s facts a one.beside (contradiction_written (Some a) w))) refl
 formed_lines before (Cases lit first second) s facts goal h w =
-    let x = line (Cases lit first second) (Cases lit first second) s facts goal in
-    let one = lines before first first s (joined facts lit) goal in
-    let other = lines before second second s (joined facts (negation lit)) goal in
+    let x = placed_step (Cases lit first second) (Cases lit first second) s facts goal in
+    let one = placed_steps before first first s (joined facts lit) goal in
+    let other = placed_steps before second second s (joined facts (negation lit)) goal in
     let p = first_of (is_certified before) x (one ++ other) h in
     let q = both_of (is_certified before) one other p.1 in
     let g = cases_written lit first second w in

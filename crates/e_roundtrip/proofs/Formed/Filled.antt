@@ -12,7 +12,7 @@ use Rattle.e_construct.specs.Superposing as superposing
 use Rattle.e_deriv.specs.declared.names.Names.{Names}
 use Rattle.e_deriv.specs.Naming.{named}
 use Rattle.e_deriv.specs.Script.{Script, Cite, Hence, Make, Apply, Claim, Superposed, Qed, Contradiction, Cases, size, depth}
-use Rattle.e_deriv.specs.Lines.{theorem_at}
+use Rattle.e_deriv.specs.PlacedSteps.{theorem_at}
 use Rattle.e_deriv.specs.Parts.{rest_of, inner_of, args_of, filled_in, filled_by}
 use Rattle.e_line.specs.Limits.{most_facts, most_terms, most_blanks, monomials, count_monomials}
 use Rattle.e_names.specs.Applies.{count_blanks}

@@ -18,11 +18,11 @@ use Rattle.e_theorem.specs.Pattern.{are_entries, is_pattern}
 use Rattle.e_deriv.specs.Script.{Script, Cite, Hence, Make, Apply, Claim, Superposed, Qed, Contradiction, Cases, erased}
 use Rattle.e_deriv.specs.Goal.{Goal, goal_of}
 use Rattle.e_deriv.specs.Parts.{rest_of, inner_of, args_of, written, has_no_blank}
-use Rattle.e_deriv.specs.Lines.{line, lines, theorem_at}
+use Rattle.e_deriv.specs.PlacedSteps.{placed_step, placed_steps, theorem_at}
 use Rattle.e_deriv.specs.Steps.{is_applied}
 use Rattle.e_deriv.specs.Certified.{is_certified}
-use Rattle.e_book.proofs.FittingScripts.{line_fits}
-use Rattle.e_roundtrip.proofs.Formed.Standing.{first_of, both_of, one_certified}
+use Rattle.e_book.proofs.fit_theorems.FittingScripts.{line_fits}
+use Rattle.e_roundtrip.proofs.Formed.PlacedScripts.{first_of, both_of, one_certified}
 
 -- ---- arguments that are a pattern without blanks
 
@@ -48,63 +48,63 @@ applied_form before theorem s pattern h n =
 
 -- ---- each line
 
-pub forms_of_certified : (before : List StatementView) (d f : Script) (s : Scope) (facts others : List Lit) (goal : Goal) → list_all (is_certified before) (lines before d d s facts goal) ≡ true
-    → list_all (line_fits before) (lines before (erased d) f s others goal) ≡ true
-unfolding lines erased
+pub forms_of_certified : (before : List StatementView) (d f : Script) (s : Scope) (facts others : List Lit) (goal : Goal) → list_all (is_certified before) (placed_steps before d d s facts goal) ≡ true
+    → list_all (line_fits before) (placed_steps before (erased d) f s others goal) ≡ true
+unfolding placed_steps erased
 forms_of_certified before (Cite by rest) f s facts others goal h =
-    let x = line (Cite by rest) (Cite by rest) s facts goal in
-    let p = first_of (is_certified before) x (lines before rest rest s (joined facts by.lit) goal) h in
+    let x = placed_step (Cite by rest) (Cite by rest) s facts goal in
+    let p = first_of (is_certified before) x (placed_steps before rest rest s (joined facts by.lit) goal) h in
     and_from _ _ (one_certified before x p.0).fitting (forms_of_certified before rest (rest_of f) s (joined facts by.lit) (joined others by.lit) goal p.1)
 forms_of_certified before (Hence lit cert rest) f s facts others goal h =
-    let x = line (Hence lit cert rest) (Hence lit cert rest) s facts goal in
-    let p = first_of (is_certified before) x (lines before rest rest s (joined facts lit) goal) h in
+    let x = placed_step (Hence lit cert rest) (Hence lit cert rest) s facts goal in
+    let p = first_of (is_certified before) x (placed_steps before rest rest s (joined facts lit) goal) h in
     and_from _ _ (one_certified before x p.0).fitting (forms_of_certified before rest (rest_of f) s (joined facts lit) (joined others lit) goal p.1)
 forms_of_certified before (Make form names certs rest) f s facts others goal h =
-    let x = line (Make form names certs rest) (Make form names certs rest) s facts goal in
+    let x = placed_step (Make form names certs rest) (Make form names certs rest) s facts goal in
     let g = gives_of_construction form s in
-    let p = first_of (is_certified before) x (lines before rest rest (grown s (sorts_made form)) (joined_all facts g) goal) h in
+    let p = first_of (is_certified before) x (placed_steps before rest rest (grown s (sorts_made form)) (joined_all facts g) goal) h in
     and_from _ _ (one_certified before x p.0).fitting (forms_of_certified before rest (rest_of f) (grown s (sorts_made form)) (joined_all facts g) (joined_all others g) goal p.1)
 forms_of_certified before (Apply theorem args names certs rest) f s facts others goal h =
-    let x = line (Apply theorem args names certs rest) (Apply theorem args names certs rest) s facts goal in
+    let x = placed_step (Apply theorem args names certs rest) (Apply theorem args names certs rest) s facts goal in
     let t = theorem_at before theorem in
     let after = joined_all facts (gives_of_use t (written args) s) in
-    let p = first_of (is_certified before) x (lines before rest rest (grown s t.made) after goal) h in
+    let p = first_of (is_certified before) x (placed_steps before rest rest (grown s t.made) after goal) h in
     let one = one_certified before x p.0 in
     and_from _ _ (applied_form before theorem s args one.fitting one.beside)
     (forms_of_certified before rest (rest_of f) (grown s t.made) after (joined_all others (gives_of_use t (args_of f) s)) goal p.1)
 forms_of_certified before (Claim shown inner rest) f s facts others goal h =
-    let x = line (Claim shown inner rest) (Claim shown inner rest) s facts goal in
-    let inside = lines before inner inner s facts (goal_of shown) in
-    let later = lines before rest rest s (joined_all facts shown) goal in
+    let x = placed_step (Claim shown inner rest) (Claim shown inner rest) s facts goal in
+    let inside = placed_steps before inner inner s facts (goal_of shown) in
+    let later = placed_steps before rest rest s (joined_all facts shown) goal in
     let p = first_of (is_certified before) x (inside ++ later) h in
     let q = both_of (is_certified before) inside later p.1 in
     and_from _ _ (one_certified before x p.0).fitting
-    (all_both (line_fits before) (lines before (erased inner) (inner_of f) s others (goal_of shown)) (lines before (erased rest) (rest_of f) s (joined_all others shown) goal)
+    (all_both (line_fits before) (placed_steps before (erased inner) (inner_of f) s others (goal_of shown)) (placed_steps before (erased rest) (rest_of f) s (joined_all others shown) goal)
     (forms_of_certified before inner (inner_of f) s facts others (goal_of shown) q.0)
     (forms_of_certified before rest (rest_of f) s (joined_all facts shown) (joined_all others shown) goal q.1))
 forms_of_certified before (Superposed form names shown certs inner rest) f s facts others goal h =
-    let x = line (Superposed form names shown certs inner rest) (Superposed form names shown certs inner rest) s facts goal in
+    let x = placed_step (Superposed form names shown certs inner rest) (Superposed form names shown certs inner rest) s facts goal in
     let within = grown s superposing.sorts_copied in
     let g = superposing.gives_of_superposition form s in
-    let inside = lines before inner inner within (joined_all facts g) (goal_of shown) in
-    let later = lines before rest rest s (joined_all facts shown) goal in
+    let inside = placed_steps before inner inner within (joined_all facts g) (goal_of shown) in
+    let later = placed_steps before rest rest s (joined_all facts shown) goal in
     let p = first_of (is_certified before) x (inside ++ later) h in
     let q = both_of (is_certified before) inside later p.1 in
     and_from _ _ (one_certified before x p.0).fitting
-    (all_both (line_fits before) (lines before (erased inner) (inner_of f) within (joined_all others g) (goal_of shown)) (lines before (erased rest) (rest_of f) s (joined_all others shown) goal)
+    (all_both (line_fits before) (placed_steps before (erased inner) (inner_of f) within (joined_all others g) (goal_of shown)) (placed_steps before (erased rest) (rest_of f) s (joined_all others shown) goal)
     (forms_of_certified before inner (inner_of f) within (joined_all facts g) (joined_all others g) (goal_of shown) q.0)
     (forms_of_certified before rest (rest_of f) s (joined_all facts shown) (joined_all others shown) goal q.1))
 forms_of_certified before (Qed objects certs) f s facts others goal h =
-    let x = line (Qed objects certs) (Qed objects certs) s facts goal in
+    let x = placed_step (Qed objects certs) (Qed objects certs) s facts goal in
     and_from _ _ (one_certified before x (first_of (is_certified before) x [] h).0).fitting refl
 forms_of_certified before (Contradiction against) f s facts others goal h = refl
 forms_of_certified before (Cases lit first second) f s facts others goal h =
-    let x = line (Cases lit first second) (Cases lit first second) s facts goal in
-    let one = lines before first first s (joined facts lit) goal in
-    let other = lines before second second s (joined facts (negation lit)) goal in
+    let x = placed_step (Cases lit first second) (Cases lit first second) s facts goal in
+    let one = placed_steps before first first s (joined facts lit) goal in
+    let other = placed_steps before second second s (joined facts (negation lit)) goal in
     let p = first_of (is_certified before) x (one ++ other) h in
     let q = both_of (is_certified before) one other p.1 in
     and_from _ _ (one_certified before x p.0).fitting
-    (all_both (line_fits before) (lines before (erased first) (inner_of f) s (joined others lit) goal) (lines before (erased second) (rest_of f) s (joined others (negation lit)) goal)
+    (all_both (line_fits before) (placed_steps before (erased first) (inner_of f) s (joined others lit) goal) (placed_steps before (erased second) (rest_of f) s (joined others (negation lit)) goal)
     (forms_of_certified before first (inner_of f) s (joined facts lit) (joined others lit) goal q.0)
     (forms_of_certified before second (rest_of f) s (joined facts (negation lit)) (joined others (negation lit)) goal q.1))

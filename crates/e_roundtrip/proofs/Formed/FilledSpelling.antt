@@ -12,7 +12,7 @@ use Rattle.e_names.specs.TitledStatements.{TitledStatement, stated_by}
 use Rattle.e_book.specs.TheoremViews.{TheoremView}
 use Rattle.e_book.specs.Fits.{Fits, NewNamesFit, few_facts, few_terms, few_blanks, has_good_literals}
 use Rattle.e_book.specs.HasSpelling.{is_plain, names_theorems}
-use Rattle.e_book.proofs.WrittenScripts.{filled_literals}
+use Rattle.e_book.proofs.fit_theorems.WrittenScripts.{filled_literals}
 use Rattle.e_read.proofs.Erased.{erased_plain}
 use Rattle.e_roundtrip.specs.Laws.{FilledHasSpelling}
 use Rattle.e_roundtrip.proofs.Formed.Filled.{filled_size, filled_depth, filled_facts, filled_terms, filled_new_names, filled_theorems, filled_plain, filled_blanks}

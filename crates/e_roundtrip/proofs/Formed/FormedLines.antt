@@ -24,15 +24,15 @@ use Rattle.e_deriv.specs.declared.names.Names.{Names}
 use Rattle.e_deriv.specs.Naming.{named}
 use Rattle.e_deriv.specs.Script.{Script, Cite, Hence, Make, Apply, Claim, Superposed, Qed, Contradiction, Cases}
 use Rattle.e_deriv.specs.Goal.{Goal, goal_of, are_for, goal_with}
-use Rattle.e_deriv.specs.Lines.{Line, line, lines}
+use Rattle.e_deriv.specs.PlacedSteps.{PlacedStep, placed_step, placed_steps}
 use Rattle.e_deriv.specs.Parts.{written, has_no_blank}
 use Rattle.e_deriv.specs.Steps.{are_over, is_citation, is_applied, fits, needs}
 use Rattle.e_deriv.specs.Certified.{certs_of}
 use Rattle.e_line.specs.Reading.{◌>>=◌, each, or_malformed}
 use Rattle.e_names.specs.Scope.{scope_of_names}
 use Rattle.e_names.specs.TitledStatements.{TitledStatement, stated_by, theorem_of}
-use Rattle.e_line.proofs.Bound.{bind_ok, ok_is, read_ok}
-use Rattle.e_names.proofs.Building.{named_scope}
+use Rattle.e_line.proofs.base.Bound.{bind_ok, ok_is, read_ok}
+use Rattle.e_names.proofs.read_lines.Building.{named_scope}
 use Rattle.e_cert.specs.Owed.{first_cert}
 use Rattle.e_read.specs.Needs.{needs_in}
 use Rattle.e_roundtrip.specs.Formed.{cert_formed, certs_formed, against_formed, formed_beside, is_formed}
@@ -40,10 +40,10 @@ use Rattle.e_roundtrip.proofs.Formed.CertifiedFormed.{then_lines}
 
 -- the lines of a script that stands where these names are in scope have their form, whatever facts hold before it
 abbrev pub FormedHere : List TitledStatement → Names → Goal → Script → Type 0
-FormedHere known ns goal x = (facts : List Lit) → list_all (is_formed (stated_by known)) (lines (stated_by known) x x (scope_of_names ns) facts goal) ≡ true
+FormedHere known ns goal x = (facts : List Lit) → list_all (is_formed (stated_by known)) (placed_steps (stated_by known) x x (scope_of_names ns) facts goal) ≡ true
 
 -- a line that fits, with certificates of their form, and with what stands beside
-one_formed : (before : List StatementView) (x : Line) → fits before x ≡ true → certs_formed x.scope (needs before x) (certs_of x.here) ≡ true → formed_beside x.here x.scope ≡ true → is_formed before x ≡ true
+one_formed : (before : List StatementView) (x : PlacedStep) → fits before x ≡ true → certs_formed x.scope (needs before x) (certs_of x.here) ≡ true → formed_beside x.here x.scope ≡ true → is_formed before x ≡ true
 one_formed before x f c b =
     let certs = certs_formed x.scope (needs before x) (certs_of x.here) in
     let beside = formed_beside x.here x.scope in
@@ -52,12 +52,12 @@ one_formed before x f c b =
 -- ---- steps
 
 pub cited_formed : (known : List TitledStatement) (ns : Names) (goal : Goal) (by : By) (x : Script) → is_citation (scope_of_names ns) by ≡ true → FormedHere known ns goal x → FormedHere known ns goal (Cite by x)
-unfolding lines
+unfolding placed_steps
 cited_formed known ns goal by x w h facts =
     let before = stated_by known in
     let s = scope_of_names ns in
-    let l = line (Cite by x) (Cite by x) s facts goal in
-    then_lines before l (lines before x x s (joined facts by.lit) goal) (one_formed before l w refl refl) (h (joined facts by.lit))
+    let l = placed_step (Cite by x) (Cite by x) s facts goal in
+    then_lines before l (placed_steps before x x s (joined facts by.lit) goal) (one_formed before l w refl refl) (h (joined facts by.lit))
 
 pub one_each_formed : (s : Scope) (l : Lit) (cs : List Cert) → certs_formed s (l ∷ []) cs ≡ true → length cs ≤ 1
 one_each_formed s l [] h = absurd (true≢false (sym h))
@@ -66,13 +66,13 @@ one_each_formed s l (c ∷ d ∷ cs) h = let p = and_parts (cert_formed s l c) (
 
 pub inferred_formed : (known : List TitledStatement) (ns : Names) (goal : Goal) (lit : Lit) (cs : List Cert) (x : Script) → all_in_scope (scope_of_names ns) lit ≡ true → certs_formed (scope_of_names ns) (lit ∷ []) cs ≡ true
     → FormedHere known ns goal x → FormedHere known ns goal (Hence lit (first_cert cs) x)
-unfolding lines
+unfolding placed_steps
 inferred_formed known ns goal lit [] x w c h facts = absurd (true≢false (sym c))
 inferred_formed known ns goal lit (d ∷ []) x w c h facts =
     let before = stated_by known in
     let s = scope_of_names ns in
-    let l = line (Hence lit (Some d) x) (Hence lit (Some d) x) s facts goal in
-    then_lines before l (lines before x x s (joined facts lit) goal) (one_formed before l w c refl) (h (joined facts lit))
+    let l = placed_step (Hence lit (Some d) x) (Hence lit (Some d) x) s facts goal in
+    then_lines before l (placed_steps before x x s (joined facts lit) goal) (one_formed before l w c refl) (h (joined facts lit))
 inferred_formed known ns goal lit (d ∷ e ∷ cs) x w c h facts =
     let p = and_parts (cert_formed (scope_of_names ns) lit d) (certs_formed (scope_of_names ns) [] (e ∷ cs)) c in absurd (true≢false (sym p.1))
 
@@ -84,14 +84,14 @@ pub record MadeFormed (ns : Names) (form : Construction) (names : List (List ℕ
 
 pub made_formed : (known : List TitledStatement) (ns : Names) (goal : Goal) (form : Construction) (names : List (List ℕ)) (cs : List Cert) (x : Script) → MadeFormed ns form names cs → FormedHere known (named ns (sorts_made form) names) goal x
     → FormedHere known ns goal (Make form names cs x)
-unfolding lines
+unfolding placed_steps
 made_formed known ns goal form names cs x m h facts =
     let before = stated_by known in
     let s = scope_of_names ns in
     let more = joined_all facts (gives_of_construction form s) in
-    let l = line (Make form names cs x) (Make form names cs x) s facts goal in
-    let after = subst (λ (z : Scope). list_all (is_formed before) (lines before x x z more goal) ≡ true) (sym (named_scope ns (sorts_made form) names m.count)) (h more) in
-    then_lines before l (lines before x x (grown s (sorts_made form)) more goal) (one_formed before l m.fits m.certs refl) after
+    let l = placed_step (Make form names cs x) (Make form names cs x) s facts goal in
+    let after = subst (λ (z : Scope). list_all (is_formed before) (placed_steps before x x z more goal) ≡ true) (sym (named_scope ns (sorts_made form) names m.count)) (h more) in
+    then_lines before l (placed_steps before x x (grown s (sorts_made form)) more goal) (one_formed before l m.fits m.certs refl) after
 
 -- a use of an earlier theorem, with its certificates: it fits without blanks, and has one new name for each made object
 pub record UseFormed (known : List TitledStatement) (ns : Names) (theorem : ℕ) (args : List (Option Obj)) (names : List (List ℕ)) (cs : List Cert) : Type 0 where
@@ -102,25 +102,25 @@ pub record UseFormed (known : List TitledStatement) (ns : Names) (theorem : ℕ)
 
 pub applied_formed : (known : List TitledStatement) (ns : Names) (goal : Goal) (theorem : ℕ) (args : List (Option Obj)) (names : List (List ℕ)) (cs : List Cert) (x : Script) → UseFormed known ns theorem args names cs
     → FormedHere known (named ns (theorem_of known theorem).made names) goal x → FormedHere known ns goal (Apply theorem args names cs x)
-unfolding lines
+unfolding placed_steps
 applied_formed known ns goal theorem args names cs x u h facts =
     let before = stated_by known in
     let s = scope_of_names ns in
     let t = theorem_of known theorem in
     let more = joined_all facts (gives_of_use t (written args) s) in
-    let l = line (Apply theorem args names cs x) (Apply theorem args names cs x) s facts goal in
-    let after = subst (λ (z : Scope). list_all (is_formed before) (lines before x x z more goal) ≡ true) (sym (named_scope ns t.made names u.count)) (h more) in
-    then_lines before l (lines before x x (grown s t.made) more goal) (one_formed before l u.fits u.certs u.full) after
+    let l = placed_step (Apply theorem args names cs x) (Apply theorem args names cs x) s facts goal in
+    let after = subst (λ (z : Scope). list_all (is_formed before) (placed_steps before x x z more goal) ≡ true) (sym (named_scope ns t.made names u.count)) (h more) in
+    then_lines before l (placed_steps before x x (grown s t.made) more goal) (one_formed before l u.fits u.certs u.full) after
 
 pub claimed_formed : (known : List TitledStatement) (ns : Names) (goal : Goal) (shown : List Lit) (inner x : Script) → are_over (scope_of_names ns) shown ≡ true → FormedHere known ns (goal_of shown) inner → FormedHere known ns goal x
     → FormedHere known ns goal (Claim shown inner x)
-unfolding lines
+unfolding placed_steps
 claimed_formed known ns goal shown inner x w i h facts =
     let before = stated_by known in
     let s = scope_of_names ns in
-    let l = line (Claim shown inner x) (Claim shown inner x) s facts goal in
-    let inside = lines before inner inner s facts (goal_of shown) in
-    let after = lines before x x s (joined_all facts shown) goal in
+    let l = placed_step (Claim shown inner x) (Claim shown inner x) s facts goal in
+    let inside = placed_steps before inner inner s facts (goal_of shown) in
+    let after = placed_steps before x x s (joined_all facts shown) goal in
     then_lines before l (inside ++ after) (one_formed before l w refl refl) (all_both (is_formed before) inside after (i facts) (h (joined_all facts shown)))
 
 -- a superposition, with its certificates: it fits, what it shows is over the objects before it, and each copied point has a new name
@@ -132,15 +132,15 @@ pub record CopyFormed (ns : Names) (form : Superpose) (names : List (List ℕ)) 
 
 pub copied_formed : (known : List TitledStatement) (ns : Names) (goal : Goal) (form : Superpose) (names : List (List ℕ)) (shown : List Lit) (cs : List Cert) (inner x : Script) → CopyFormed ns form names shown cs
     → FormedHere known (named ns superposing.sorts_copied names) (goal_of shown) inner → FormedHere known ns goal x → FormedHere known ns goal (Superposed form names shown cs inner x)
-unfolding lines
+unfolding placed_steps
 copied_formed known ns goal form names shown cs inner x c i h facts =
     let before = stated_by known in
     let s = scope_of_names ns in
     let given = joined_all facts (superposing.gives_of_superposition form s) in
-    let l = line (Superposed form names shown cs inner x) (Superposed form names shown cs inner x) s facts goal in
-    let inside = lines before inner inner (grown s superposing.sorts_copied) given (goal_of shown) in
-    let after = lines before x x s (joined_all facts shown) goal in
-    let within = subst (λ (z : Scope). list_all (is_formed before) (lines before inner inner z given (goal_of shown)) ≡ true) (sym (named_scope ns superposing.sorts_copied names c.count)) (i given) in
+    let l = placed_step (Superposed form names shown cs inner x) (Superposed form names shown cs inner x) s facts goal in
+    let inside = placed_steps before inner inner (grown s superposing.sorts_copied) given (goal_of shown) in
+    let after = placed_steps before x x s (joined_all facts shown) goal in
+    let within = subst (λ (z : Scope). list_all (is_formed before) (placed_steps before inner inner z given (goal_of shown)) ≡ true) (sym (named_scope ns superposing.sorts_copied names c.count)) (i given) in
     then_lines before l (inside ++ after) (one_formed before l (and_from (superposing.fits_superposition form s) (are_over s shown) c.fits c.over) c.certs refl)
     (all_both (is_formed before) inside after within (h (joined_all facts shown)))
 
@@ -148,28 +148,28 @@ copied_formed known ns goal form names shown cs inner x c i h facts =
 
 pub qed_formed : (known : List TitledStatement) (ns : Names) (goal : Goal) (objects : List Obj) (cs : List Cert) → are_for goal (scope_of_names ns) objects ≡ true → certs_formed (scope_of_names ns) (goal_with goal objects) cs ≡ true
     → FormedHere known ns goal (Qed objects cs)
-unfolding lines
+unfolding placed_steps
 qed_formed known ns goal objects cs w c facts =
     let before = stated_by known in
-    let l = line (Qed objects cs) (Qed objects cs) (scope_of_names ns) facts goal in
+    let l = placed_step (Qed objects cs) (Qed objects cs) (scope_of_names ns) facts goal in
     then_lines before l [] (one_formed before l w c refl) refl
 
 pub contradiction_formed : (known : List TitledStatement) (ns : Names) (goal : Goal) (a : Against) → against_formed (scope_of_names ns) a ≡ true → FormedHere known ns goal (Contradiction (Some a))
-unfolding lines
+unfolding placed_steps
 contradiction_formed known ns goal a c facts =
     let before = stated_by known in
-    let l = line (Contradiction (Some a)) (Contradiction (Some a)) (scope_of_names ns) facts goal in
+    let l = placed_step (Contradiction (Some a)) (Contradiction (Some a)) (scope_of_names ns) facts goal in
     then_lines before l [] (one_formed before l refl refl c) refl
 
 pub cases_formed : (known : List TitledStatement) (ns : Names) (goal : Goal) (lit : Lit) (first second : Script) → all_in_scope (scope_of_names ns) lit ≡ true → FormedHere known ns goal first → FormedHere known ns goal second
     → FormedHere known ns goal (Cases lit first second)
-unfolding lines
+unfolding placed_steps
 cases_formed known ns goal lit first second w h k facts =
     let before = stated_by known in
     let s = scope_of_names ns in
-    let l = line (Cases lit first second) (Cases lit first second) s facts goal in
-    let one = lines before first first s (joined facts lit) goal in
-    let other = lines before second second s (joined facts (negation lit)) goal in
+    let l = placed_step (Cases lit first second) (Cases lit first second) s facts goal in
+    let one = placed_steps before first first s (joined facts lit) goal in
+    let other = placed_steps before second second s (joined facts (negation lit)) goal in
     then_lines before l (one ++ other) (one_formed before l w refl refl) (all_both (is_formed before) one other (h (joined facts lit)) (k (joined facts (negation lit))))
 
 -- ---- arguments that are all written

@@ -24,10 +24,10 @@ use Rattle.e_book.specs.Book.{is_done}
 use Rattle.e_line.specs.Canonical.{line_of}
 use Rattle.e_names.specs.Canonical.{name_of_object, given_form, show_form}
 use Rattle.e_book.specs.Canonical.{Group, group, grouped_before, grouped, declare_form, made_form, declared_objects, made_objects, given_forms, shown_forms}
-use Rattle.e_line.proofs.Respelled.{GoodForm, as_read}
-use Rattle.e_book.proofs.Declared.{Runs}
-use Rattle.e_line.proofs.Bound.{bind_ok, ok_is}
-use Rattle.e_line.proofs.Choices.{passed}
+use Rattle.e_line.proofs.read_again.Respelled.{GoodForm, as_read}
+use Rattle.e_book.proofs.canonical.Declared.{Runs}
+use Rattle.e_line.proofs.base.Bound.{bind_ok, ok_is}
+use Rattle.e_line.proofs.base.Choices.{passed}
 use Rattle.e_cert.specs.declared.owed.Obligation.TheVariants as due
 use Rattle.e_cert.specs.declared.kept.StepCerts.{StepCerts}
 use Rattle.e_line.specs.Strict.{is_strict_line}
@@ -36,7 +36,7 @@ use Rattle.e_read.specs.Needs.{due_of}
 use Rattle.e_roundtrip.proofs.Certificates.RowsAgain.{lit_direct}
 use Rattle.e_roundtrip.proofs.Certificates.CertsPut.{nothing_kept}
 use Rattle.e_roundtrip.proofs.Blocks.LinesTaken.{Stands, Along}
-use Rattle.e_roundtrip.proofs.Formed.Standing.{then_along}
+use Rattle.e_roundtrip.proofs.Formed.PlacedScripts.{then_along}
 
 -- ---- the forms of a statement
 

@@ -26,17 +26,17 @@ use Rattle.e_line.specs.Canonical.{line_of}
 use Rattle.e_names.specs.Canonical.{given_form, show_form}
 use Rattle.e_book.specs.Canonical.{head_forms, given_forms, shown_forms}
 use Rattle.e_book.specs.ParserViews.{statement_of_parser}
-use Rattle.e_book.proofs.Answered.{untaken}
-use Rattle.e_line.proofs.Bound.{bind_ok, ok_is, read_ok}
+use Rattle.e_book.proofs.parsers.Answered.{untaken}
+use Rattle.e_line.proofs.base.Bound.{bind_ok, ok_is, read_ok}
 use Rattle.e_cert.specs.declared.kept.StepCerts.{StepCerts}
 use Rattle.e_line.specs.Strict.{is_direct, are_direct}
 use Rattle.e_read.specs.Strict.{ends_with}
 use Rattle.e_roundtrip.proofs.OneLine.NamesSpelled.{Keeps, keeps_all}
 use Rattle.e_roundtrip.proofs.OneLine.LitsRead.{AllSigned}
 use Rattle.e_roundtrip.proofs.OneLine.LitsSpelled.{canonical, lit_named}
-use Rattle.e_roundtrip.proofs.Heads.HeadSaid.{HeadSaid, title_said, declared_said, given_said, made_said, shown_said}
-use Rattle.e_roundtrip.proofs.Blocks.ScriptsSaid.{no_steps}
-use Rattle.e_roundtrip.proofs.Blocks.BlocksSaid.{Start, BlocksSaid, BodySaid, start_of, head_of}
+use Rattle.e_roundtrip.proofs.Heads.SpelledHeads.{HeadSaid, title_said, declared_said, given_said, made_said, shown_said}
+use Rattle.e_roundtrip.proofs.Blocks.SpelledSteps.{no_steps}
+use Rattle.e_roundtrip.proofs.Blocks.SpelledBlocks.{Start, BlocksSaid, BodySaid, start_of, head_of}
 use Rattle.e_roundtrip.proofs.OneLine.Groups.{with_more}
 
 -- ---- what is said of a theorem at a place

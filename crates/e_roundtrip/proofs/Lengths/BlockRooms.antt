@@ -11,8 +11,8 @@ use Rattle.e_book.specs.TheoremViews.{TheoremView}
 use Rattle.e_line.specs.Canonical.{line_of}
 use Rattle.e_names.specs.Canonical.{end_form}
 use Rattle.e_book.specs.Canonical.{head_forms, names_of_proof}
-use Rattle.e_names.proofs.Lookups.{in_order}
-use Rattle.e_book.proofs.CanonicalRead.{started, begins}
+use Rattle.e_names.proofs.resolution.Lookups.{in_order}
+use Rattle.e_book.proofs.canonical.CanonicalRead.{started, begins}
 use Rattle.e_spell.specs.Spelling.{script_lines, spelled_lines}
 use Rattle.e_roundtrip.specs.Spelled.{CanBeSpelled}
 use Rattle.e_roundtrip.proofs.Texts.SpelledIsRead.{stood}

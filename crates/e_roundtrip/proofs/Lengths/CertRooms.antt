@@ -22,8 +22,8 @@ use Rattle.e_clause.specs.Sum.{is_nonzero_bounded}
 use Rattle.e_deriv.specs.declared.names.Names.{Names}
 use Rattle.e_clause.specs.Written.{is_writable_name}
 use Rattle.e_names.specs.Canonical.{rule_name, name_of_object}
-use Rattle.e_names.proofs.Lookups.{InOrder}
-use Rattle.e_names.proofs.LitLookups.{diagram_is_well_formed}
+use Rattle.e_names.proofs.resolution.Lookups.{InOrder}
+use Rattle.e_names.proofs.resolution.LitLookups.{diagram_is_well_formed}
 use Rattle.e_spell.specs.Certificates.{row_words, row_line, sum_lines, sums_lines, part_lines, cert_lines, certs_lines, against_lines, contradiction_lines}
 use Rattle.e_roundtrip.proofs.Certificates.Feeding.{GoodRow, GoodSum, GoodSums, GoodPart}
 use Rattle.e_roundtrip.proofs.Certificates.CertsPut.{GoodCert, GoodCerts, GoodAgainst}

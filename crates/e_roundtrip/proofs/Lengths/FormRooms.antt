@@ -27,7 +27,7 @@ use Rattle.e_names.specs.TitledStatements.{TitledStatement, title_at}
 use Rattle.e_line.specs.Canonical.{filled, avoid_words, argument_word, made_words, lit_words, lits_words, line_of}
 use Rattle.e_names.specs.Canonical.{argument_name, name_at, name_of_object, raw_of, rule_name, placed_names, by_form, hence_form, let_form, apply_form, claim_form, superpose_form, qed_form, contradiction_form, cases_form, else_form, end_form}
 use Rattle.e_line.specs.HasSpelling.{AreNames}
-use Rattle.e_names.proofs.Lookups.{InOrder}
+use Rattle.e_names.proofs.resolution.Lookups.{InOrder}
 use Rattle.e_roundtrip.proofs.Lengths.Rooms.{is_short, short_name, short_title, Room, room_none, room_more, room_word, room_append, room_line, IsShortLine}
 use Rattle.e_roundtrip.proofs.Lengths.LitRooms.{short_at, short_object, room_objects, room_one, room_lits}
 use Rattle.e_roundtrip.proofs.Lengths.RuleRooms.{short_rule}

@@ -24,7 +24,7 @@ use Rattle.e_line.specs.Canonical.{lit_words, sort_word, line_of}
 use Rattle.e_names.specs.Canonical.{raw_of, name_of_object, given_form, show_form}
 use Rattle.e_book.specs.Canonical.{Group, group, grouped_before, grouped, declare_form, made_form, declared_objects, made_objects, given_forms, shown_forms, head_forms}
 use Rattle.e_book.specs.HasSpelling.{HasSpelling}
-use Rattle.e_names.proofs.Lookups.{InOrder, in_order}
+use Rattle.e_names.proofs.resolution.Lookups.{InOrder, in_order}
 use Rattle.e_roundtrip.proofs.Lengths.Rooms.{is_short, short_title, Room, room_none, room_word, room_append, room_line, IsShortLine}
 use Rattle.e_roundtrip.proofs.Lengths.LitRooms.{short_object, room_one}
 use Rattle.e_roundtrip.proofs.Lengths.FormRooms.{AllWords, room_words}

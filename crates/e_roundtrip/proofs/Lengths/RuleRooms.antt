@@ -16,7 +16,7 @@ use Rattle.e_clause.specs.Table.Lengths.{lengths}
 use Rattle.e_clause.specs.Table.Angles.{angles}
 use Rattle.e_clause.specs.Instance.{arguments_fit, lit_at, clause_of, instance_of_row, Inst}
 use Rattle.e_names.specs.Canonical.{rule_name}
-use Rattle.e_names.proofs.RuleNames.{title_again, rule_name_is}
+use Rattle.e_names.proofs.resolution.RuleNames.{title_again, rule_name_is}
 use Rattle.e_roundtrip.proofs.Lengths.Rooms.{is_short, short_title}
 
 -- ---- names

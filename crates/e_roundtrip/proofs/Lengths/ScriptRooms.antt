@@ -27,7 +27,7 @@ use Rattle.e_theorem.specs.Choice.{fills, is_choice}
 use Rattle.e_deriv.specs.PlainStep.{Cited, Claimed, Copied}
 use Rattle.e_deriv.specs.Script.{Script, Cite, Hence, Make, Apply, Claim, Superposed, Qed, Contradiction, Cases, size, erased}
 use Rattle.e_deriv.specs.Goal.{Goal, goal_of, goal_with}
-use Rattle.e_deriv.specs.Lines.{line, lines}
+use Rattle.e_deriv.specs.PlacedSteps.{placed_step, placed_steps}
 use Rattle.e_deriv.specs.Naming.{named}
 use Rattle.e_deriv.specs.Parts.{written as written_args}
 use Rattle.e_roundtrip.specs.Formed.{is_formed}
@@ -42,14 +42,14 @@ use Rattle.e_line.specs.Canonical.{line_of}
 use Rattle.e_names.specs.Canonical.{else_form}
 use Rattle.e_names.specs.HasSpelling.{is_named_by_title}
 use Rattle.e_book.specs.HasSpelling.{is_plain, names_theorems}
-use Rattle.e_names.proofs.LitLookups.{diagram_is_well_formed}
-use Rattle.e_names.proofs.Built.{of_sorts_length}
-use Rattle.e_book.proofs.LinesRead.{Inside, after_step, deep, copied, resume, second, applied_after}
+use Rattle.e_names.proofs.resolution.LitLookups.{diagram_is_well_formed}
+use Rattle.e_names.proofs.resolution.Built.{of_sorts_length}
+use Rattle.e_book.proofs.canonical.LinesRead.{Inside, after_step, deep, copied, resume, second, applied_after}
 use Rattle.e_spell.specs.Certificates.{certs_lines}
 use Rattle.e_spell.specs.Spelling.{script_lines}
 use Rattle.e_roundtrip.proofs.Certificates.CertsGood.{good_certs, good_against}
-use Rattle.e_book.proofs.ScriptRead.{list_names, inferred, constructed, apply_parts, claim_parts, copy_parts, opens, cases_parts}
-use Rattle.e_roundtrip.proofs.Formed.Standing.{Stood, first_of, one_formed}
+use Rattle.e_book.proofs.canonical.ScriptRead.{list_names, inferred, constructed, apply_parts, claim_parts, copy_parts, opens, cases_parts}
+use Rattle.e_roundtrip.proofs.Formed.PlacedScripts.{Stood, first_of, one_formed}
 use Rattle.e_roundtrip.proofs.Blocks.ScriptAlong.{cite_next, hence_next, make_next, apply_next, claim_inside, claim_next, copy_formed, copy_inside, copy_next, cases_one, cases_two, no_hence, no_contradiction}
 use Rattle.e_roundtrip.proofs.Lengths.Rooms.{short_append}
 use Rattle.e_roundtrip.proofs.Lengths.RuleRooms.{few_cited}
@@ -91,12 +91,12 @@ as_many (Some x ∷ xs) (o ∷ os) h = ap suc (as_many xs os (and_parts (same_ob
 
 -- a citation
 cite_short : (known : List TitledStatement) (d : TheoremParser) (i : Inside) (b : By) (rest : Script) (given : List Lit) (goal : Goal) → Stood known d i (Cite b rest) given goal → AreShortLines known i rest → AreShortLines known i (Cite b rest)
-unfolding erased script_lines lines has_good_literals
+unfolding erased script_lines placed_steps has_good_literals
 cite_short known d i b rest given goal s more =
     let before = stated_by known in
     let sc = scope_of_names i.in_scope in
-    let here = line (Cite b rest) (Cite b rest) sc given goal in
-    let one = one_formed before here (first_of (is_formed before) here (lines before rest rest sc (joined given b.lit) goal) s.formed).0 in
+    let here = placed_step (Cite b rest) (Cite b rest) sc given goal in
+    let one = one_formed before here (first_of (is_formed before) here (placed_steps before rest rest sc (joined given b.lit) goal) s.formed).0 in
     let p = and_parts (is_diagram_rule b.rule) (list_all (is_in_scope sc) b.args && (all_in_scope sc b.lit && is_some (Inst b.rule b.args))) one.fitting in
     let q = and_parts (list_all (is_in_scope sc) b.args) (all_in_scope sc b.lit && is_some (Inst b.rule b.args)) p.1 in
     let r = and_parts (all_in_scope sc b.lit) (is_some (Inst b.rule b.args)) q.1 in
@@ -105,13 +105,13 @@ cite_short known d i b rest given goal s more =
 
 -- an inference with its certificate
 hence_short : (known : List TitledStatement) (d : TheoremParser) (i : Inside) (l : Lit) (c : Cert) (rest : Script) (given : List Lit) (goal : Goal) → Stood known d i (Hence l (Some c) rest) given goal → AreShortLines known i rest → AreShortLines known i (Hence l (Some c) rest)
-unfolding erased script_lines lines has_good_literals
+unfolding erased script_lines placed_steps has_good_literals
 hence_short known d i l c rest given goal s more =
     let before = stated_by known in
     let ns = i.in_scope in
     let sc = scope_of_names ns in
-    let here = line (Hence l (Some c) rest) (Hence l (Some c) rest) sc given goal in
-    let one = one_formed before here (first_of (is_formed before) here (lines before rest rest sc (joined given l) goal) s.formed).0 in
+    let here = placed_step (Hence l (Some c) rest) (Hence l (Some c) rest) sc given goal in
+    let one = one_formed before here (first_of (is_formed before) here (placed_steps before rest rest sc (joined given l) goal) s.formed).0 in
     let good = (and_parts (is_well_formed l) (has_good_literals (erased rest)) s.ready.good).0 in
     let certs = short_certs ns (l ∷ []) (c ∷ []) s.ready.order (good_certs ns (l ∷ []) (c ∷ []) one.certs) in
     (short_hence ns l s.ready.order good, short_append (certs_lines ns (c ∷ [])) (script_lines known ns rest) certs more)
@@ -119,15 +119,15 @@ hence_short known d i l c rest given goal s more =
 -- a construction: what it avoids is bounded by the facts that it gives
 make_short : (known : List TitledStatement) (d : TheoremParser) (i : Inside) (form : Construction) (names : List (List ℕ)) (certs : List Cert) (rest : Script) (given : List Lit) (goal : Goal) → Stood known d i (Make form names certs rest) given goal
     → AreShortLines known (constructed i form names) rest → AreShortLines known i (Make form names certs rest)
-unfolding erased script_lines lines is_plain few_facts
+unfolding erased script_lines placed_steps is_plain few_facts
 make_short known d i form names certs rest given goal s more =
     let before = stated_by known in
     let r = s.ready in
     let ns = i.in_scope in
     let sc = scope_of_names ns in
     let n = i.facts + length (gives_of_construction form sc) in
-    let here = line (Make form names certs rest) (Make form names certs rest) sc given goal in
-    let one = one_formed before here (first_of (is_formed before) here (lines before rest rest (grown sc (sorts_made form)) (joined_all given (gives_of_construction form sc)) goal) s.formed).0 in
+    let here = placed_step (Make form names certs rest) (Make form names certs rest) sc given goal in
+    let one = one_formed before here (first_of (is_formed before) here (placed_steps before rest rest (grown sc (sorts_made form)) (joined_all given (gives_of_construction form sc)) goal) s.formed).0 in
     let most = leb-true _ _ (and_parts (leb n most_facts) (few_facts before n (grown sc (sorts_made form)) (erased rest)) r.facts).0 in
     let words = list_names names (and_parts (list_all _ names) (is_plain (erased rest)) r.plain).0 in
     let own = short_certs ns (needs_of_construction form) certs r.order (good_certs ns (needs_of_construction form) certs one.certs) in
@@ -136,7 +136,7 @@ make_short known d i form names certs rest given goal s more =
 -- the use of an earlier theorem
 apply_short : (known : List TitledStatement) (d : TheoremParser) (i : Inside) (theorem : ℕ) (args : List (Option Obj)) (names : List (List ℕ)) (certs : List Cert) (rest : Script) (given : List Lit) (goal : Goal) → AllFew known
     → Stood known d i (Apply theorem args names certs rest) given goal → AreShortLines known (applied_after i (theorem_of known theorem) theorem args names) rest → AreShortLines known i (Apply theorem args names certs rest)
-unfolding erased script_lines lines NewNamesFit names_theorems
+unfolding erased script_lines placed_steps NewNamesFit names_theorems
 apply_short known d i theorem args names certs rest given goal k s more =
     let before = stated_by known in
     let r = s.ready in
@@ -144,8 +144,8 @@ apply_short known d i theorem args names certs rest given goal k s more =
     let sc = scope_of_names ns in
     let t = theorem_of known theorem in
     let p = apply_parts known d i theorem args names (erased rest) given goal r in
-    let here = line (Apply theorem args names certs rest) (Apply theorem args names certs rest) sc given goal in
-    let one = one_formed before here (first_of (is_formed before) here (lines before rest rest (grown sc t.made) (joined_all given (gives_of_use t (written_args args) sc)) goal) s.formed).0 in
+    let here = placed_step (Apply theorem args names certs rest) (Apply theorem args names certs rest) sc given goal in
+    let one = one_formed before here (first_of (is_formed before) here (placed_steps before rest rest (grown sc t.made) (joined_all given (gives_of_use t (written_args args) sc)) goal) s.formed).0 in
     let choice = (and_parts _ (is_choice t sc args (written_args args)) one.fitting).1 in
     let fit = and_parts (fills args (written_args args)) (are_arguments t sc (written_args args)) choice in
     let count = of_sorts_length sc t.declared (written_args args) fit.1 in
@@ -184,13 +184,13 @@ copy_short known d i form names shown certs inner rest given goal s inside more 
 
 -- the close line that shows the goal
 qed_short : (known : List TitledStatement) (d : TheoremParser) (i : Inside) (os : List Obj) (certs : List Cert) (given : List Lit) (goal : Goal) → Stood known d i (Qed os certs) given goal → length goal.made ≤ 80 → AreShortLines known i (Qed os certs)
-unfolding script_lines lines
+unfolding script_lines placed_steps
 qed_short known d i os certs given goal s few =
     let before = stated_by known in
     let r = s.ready in
     let ns = i.in_scope in
     let sc = scope_of_names ns in
-    let here = line (Qed os certs) (Qed os certs) sc given goal in
+    let here = placed_step (Qed os certs) (Qed os certs) sc given goal in
     let one = one_formed before here (first_of (is_formed before) here [] s.formed).0 in
     let sorts : List Sort = map (λ o. o.sort) goal.made in
     let count = of_sorts_length sc sorts os one.fitting in
@@ -199,11 +199,11 @@ qed_short known d i os certs given goal s few =
 
 -- a contradiction
 contradiction_short : (known : List TitledStatement) (d : TheoremParser) (i : Inside) (a : Against) (given : List Lit) (goal : Goal) → Stood known d i (Contradiction (Some a)) given goal → AreShortLines known i (Contradiction (Some a))
-unfolding script_lines lines
+unfolding script_lines placed_steps
 contradiction_short known d i a given goal s =
     let before = stated_by known in
     let ns = i.in_scope in
-    let here = line (Contradiction (Some a)) (Contradiction (Some a)) (scope_of_names ns) given goal in
+    let here = placed_step (Contradiction (Some a)) (Contradiction (Some a)) (scope_of_names ns) given goal in
     let one = one_formed before here (first_of (is_formed before) here [] s.formed).0 in
     (short_contradiction, short_against ns a s.ready.order (good_against ns a one.beside))
 

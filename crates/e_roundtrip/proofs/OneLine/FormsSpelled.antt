@@ -33,10 +33,10 @@ use Rattle.e_names.specs.Scope.{scope_of_names, used, fresh, lit_in, lits_in, ob
 use Rattle.e_names.specs.Applies.{known_place, entry_in, entries_in, apply_in}
 use Rattle.e_names.specs.Canonical.{name_of_object, placed_names, by_form, hence_form, let_form, argument_name, apply_form, claim_form, superpose_form, cases_form, qed_form}
 use Rattle.e_line.specs.Canonical.{line_pieces, line_of}
-use Rattle.e_names.proofs.Citations.{counted}
-use Rattle.e_line.proofs.Bound.{bind_ok, ok_is, read_ok}
-use Rattle.e_names.proofs.Building.{placed_after}
-use Rattle.e_names.proofs.Uses.{found_title}
+use Rattle.e_names.proofs.read_lines.Citations.{counted}
+use Rattle.e_line.proofs.base.Bound.{bind_ok, ok_is, read_ok}
+use Rattle.e_names.proofs.read_lines.Building.{placed_after}
+use Rattle.e_names.proofs.read_lines.Uses.{found_title}
 use Rattle.e_line.specs.Strict.{is_direct, are_direct}
 use Rattle.e_roundtrip.proofs.OneLine.NamesSpelled.{keeps_all, used_named, number_named, object_named}
 use Rattle.e_roundtrip.proofs.OneLine.LitsRead.{Signed, AllSigned}

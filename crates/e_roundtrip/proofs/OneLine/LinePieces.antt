@@ -12,8 +12,8 @@ use Rattle.e_line.specs.declared.lets.RawLet.{RawLet}
 use Rattle.e_line.specs.Reading.{◌>>=◌, cut_at, names_of}
 use Rattle.e_line.specs.Lets.{are_words_of, new_words, argument_words, is_line_of, shapes_of, avoided_of, let_named, let_of}
 use Rattle.e_line.specs.Canonical.{line_pieces}
-use Rattle.e_line.proofs.Bound.{bind_ok, ok_is, read_ok}
-use Rattle.e_line.proofs.Pieces.{is_own_word, own_words, own_words_of, similar}
+use Rattle.e_line.proofs.base.Bound.{bind_ok, ok_is, read_ok}
+use Rattle.e_line.proofs.read_again.Pieces.{is_own_word, own_words, own_words_of, similar}
 
 -- ---- pieces that have words in common
 

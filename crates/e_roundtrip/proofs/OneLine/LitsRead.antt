@@ -12,9 +12,9 @@ use Rattle.e_line.specs.declared.literal.RawAtom.{RawAtom}
 use Rattle.e_line.specs.declared.literal.RawAtom.TheVariants as raw
 use Rattle.e_line.specs.Reading.{◌>>=◌, or_malformed}
 use Rattle.e_line.specs.Literals.{sign_of, is_sign, single_name, sums_of, equal_sides, sides_of, negation_of, sign_first, compared, signed, lit_of, is_semicolon, lits_of}
-use Rattle.e_line.proofs.Bound.{bind_ok, ok_is, read_ok}
-use Rattle.e_line.proofs.LitsByWord.{OfEachRelation, lit_by_word}
-use Rattle.e_line.proofs.SaidLits.{each_said}
+use Rattle.e_line.proofs.base.Bound.{bind_ok, ok_is, read_ok}
+use Rattle.e_line.proofs.read_lines.LitsByWord.{OfEachRelation, lit_by_word}
+use Rattle.e_line.proofs.read_lines.SumsOfLiterals.{each_said}
 
 abbrev pub is_at_most : RawAtom → Bool
 is_at_most (raw.SumsAtMost x y) = true

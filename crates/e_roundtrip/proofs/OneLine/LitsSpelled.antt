@@ -26,7 +26,7 @@ use Rattle.e_line.specs.Reading.{◌>>=◌, each}
 use Rattle.e_line.specs.Literals.{signed, is_diagram_raw}
 use Rattle.e_names.specs.Scope.{used, number_of_name, on_sort, line_meets, meets_from, equal_at, term_in, kind_of_raw, first_kind, mono_in, sums_in, atom_in, negated_in, lit_in, lits_in}
 use Rattle.e_names.specs.Canonical.{name_at, name_of_object, raw_term, raw_mono, raw_sum, raw_atom, raw_signed, raw_of}
-use Rattle.e_line.proofs.Bound.{bind_ok, ok_is, read_ok}
+use Rattle.e_line.proofs.base.Bound.{bind_ok, ok_is, read_ok}
 use Rattle.e_line.specs.Strict.{is_less, is_direct, are_direct}
 use Rattle.e_roundtrip.proofs.OneLine.NamesSpelled.{Keeps, used_named, number_named}
 use Rattle.e_roundtrip.proofs.OneLine.LitsRead.{is_at_most, Signed, AllSigned}

@@ -12,8 +12,8 @@ use Rattle.e_deriv.specs.declared.names.Names.{Names}
 use Rattle.e_deriv.specs.Naming.{names_of_sort}
 use Rattle.e_names.specs.Scope.{object_at, or_else, object_in, object_of, used, number_of_sort, number_of_name, object_as}
 use Rattle.e_names.specs.Canonical.{nameless, name_at, name_of_object}
-use Rattle.e_line.proofs.Bound.{bind_ok, ok_is, read_ok}
-use Rattle.e_names.proofs.InScope.{known_is}
+use Rattle.e_line.proofs.base.Bound.{bind_ok, ok_is, read_ok}
+use Rattle.e_names.proofs.read_lines.InScope.{known_is}
 
 -- each name of the first list stands at its place in the second, which may be longer
 abbrev pub Holds : List (List ℕ) → List (List ℕ) → Type 0

@@ -17,7 +17,7 @@ use Rattle.e_deriv.specs.declared.names.Names.{Names}
 use Rattle.e_line.specs.Reading.{◌>>=◌}
 use Rattle.e_names.specs.Scope.{object_as, objects_as, args_in}
 use Rattle.e_names.specs.Canonical.{name_of_object, rule_name}
-use Rattle.e_line.proofs.Bound.{bind_ok, ok_is, read_ok}
+use Rattle.e_line.proofs.base.Bound.{bind_ok, ok_is, read_ok}
 use Rattle.e_roundtrip.proofs.OneLine.NamesSpelled.{Keeps, object_named}
 use Rattle.e_roundtrip.proofs.OneLine.LitsSpelled.{each_back}
 

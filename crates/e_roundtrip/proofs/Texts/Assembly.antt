@@ -5,12 +5,12 @@ use Rattle.std.proofs.lemmas.Bool.{and_from}
 use Rattle.e_text.specs.Lines.{numbered}
 use Rattle.e_theorem.specs.Statements.{stated}
 use Rattle.e_deriv.specs.Script.{Script}
-use Rattle.e_deriv.specs.Lines.{Line, first_failure}
-use Rattle.e_deriv.specs.Certified.{is_certified, derivation_lines, verdict}
+use Rattle.e_deriv.specs.PlacedSteps.{PlacedStep, first_failure}
+use Rattle.e_deriv.specs.Certified.{is_certified, derivation_steps, verdict}
 use Rattle.e_names.specs.TitledStatements.{TitledStatement, headed, stated_by}
 use Rattle.e_book.specs.TheoremViews.{TheoremView}
 use Rattle.e_book.specs.Grammar.{Rest}
-use Rattle.e_line.proofs.Bound.{same_bytes}
+use Rattle.e_line.proofs.base.Bound.{same_bytes}
 use Rattle.e_read.specs.Text.{piece_from, last_line_of}
 use Rattle.e_spell.specs.Spelling.{spelled_lines}
 use Rattle.e_roundtrip.specs.Spelled.{ShowsEnded}
@@ -46,7 +46,7 @@ abbrev fails_at : ℕ → Result ℕ ℕ
 fails_at n = Err n
 
 -- where no line fails, all pass
-all_pass : (p : Line → Bool) (xs : List Line) (n m : ℕ) → first_failure p xs n ≡ Ok m → list_all p xs ≡ true
+all_pass : (p : PlacedStep → Bool) (xs : List PlacedStep) (n m : ℕ) → first_failure p xs n ≡ Ok m → list_all p xs ≡ true
 all_pass p [] n m e = refl
 all_pass p (x ∷ xs) n m e = by (p x) refl (all_pass p xs (n + 1) m) e
   where
@@ -78,7 +78,7 @@ module _ (v : Version) where
     theorems = entry_with p ∷ more.theorems;
     now = more.now;
     rest = more.rest;
-    passes = (after, reads, all_pass (is_certified (stated_by known)) (derivation_lines (stated_by known) (stated p.0.statement) p.1) 1 n e, more.passes);
+    passes = (after, reads, all_pass (is_certified (stated_by known)) (derivation_steps (stated_by known) (stated p.0.statement) p.1) 1 n e, more.passes);
     closes = more.closes;
   }
   after_verdict last known p lines after j reads more (Err step) e = record {

@@ -14,7 +14,7 @@ use Rattle.e_names.specs.TitledStatements.{TitledStatement}
 use Rattle.e_book.specs.TheoremViews.{TheoremView}
 use Rattle.e_book.specs.Grammar.{Rest}
 use Rattle.e_names.specs.Scope.{lit_in}
-use Rattle.e_line.proofs.Bound.{bind_ok}
+use Rattle.e_line.proofs.base.Bound.{bind_ok}
 use Rattle.e_cert.specs.declared.cert_line.CertLine.{CertLine}
 use Rattle.e_cert.specs.declared.cert_line.CertLine.TheVariants as certlines
 use Rattle.e_cert.specs.declared.owed.Obligation.TheVariants as due

@@ -16,7 +16,7 @@ use Rattle.e_literal.specs.declared.object.Scope.{Scope}
 use Rattle.e_theorem.specs.Statements.{stated}
 use Rattle.e_deriv.specs.declared.names.Names.{Names}
 use Rattle.e_deriv.specs.Goal.{goal_of_statement, facts_of_statement}
-use Rattle.e_deriv.specs.Lines.{lines as lines_from}
+use Rattle.e_deriv.specs.PlacedSteps.{placed_steps}
 use Rattle.e_line.specs.declared.raw_line.RawLine.{RawLine}
 use Rattle.e_book.specs.declared.parser.Section.{Section}
 use Rattle.e_book.specs.declared.parser.Section.TheVariants.{Done}
@@ -31,9 +31,9 @@ use Rattle.e_book.specs.Steps.{begin, step}
 use Rattle.e_line.specs.Canonical.{line_of}
 use Rattle.e_names.specs.Canonical.{end_form}
 use Rattle.e_book.specs.Canonical.{head_forms, names_of_proof}
-use Rattle.e_line.proofs.Bound.{bind_ok, ok_is, read_ok}
-use Rattle.e_names.proofs.Building.{declared_scope}
-use Rattle.e_line.proofs.Choices.{passed}
+use Rattle.e_line.proofs.base.Bound.{bind_ok, ok_is, read_ok}
+use Rattle.e_names.proofs.read_lines.Building.{declared_scope}
+use Rattle.e_line.proofs.base.Choices.{passed}
 use Rattle.e_cert.specs.declared.owed.Obligation.{Obligation}
 use Rattle.e_cert.specs.declared.owed.Obligation.TheVariants as due
 use Rattle.e_cert.specs.declared.owed.Pending.{Pending}
@@ -47,7 +47,7 @@ use Rattle.e_read.specs.Filled.{script_with_certs}
 use Rattle.e_read.specs.Text.{parser_after_bytes, Derived, Last, owes_nothing, at_start, owed_by, gone_on, worded, is_lf_end, parser_after_line, derived, garbled_at, is_finished, finished, or_on, is_end, piece_from}
 use Rattle.e_clause.specs.declared.cert.Version.{Version}
 use Rattle.e_read.proofs.Consequences.{text_spelled}
-use Rattle.e_read.proofs.GoodReadings.{version_read}
+use Rattle.e_read.proofs.ReadCertificates.{version_read}
 use Rattle.e_read.proofs.TakenLines.{Certified, Stepped, line_taken, form_read, either}
 use Rattle.e_read.proofs.Bridge.{Answer, derives, no_last, garbled_ok, derived_is, goes_on, unfinished, still, closed_is}
 use Rattle.e_spell.specs.Spelling.{script_lines, spelled_lines}
@@ -60,7 +60,7 @@ use Rattle.e_roundtrip.proofs.OneLine.FormsRead.{Read, form_facts}
 use Rattle.e_roundtrip.proofs.Certificates.CertLinesRead.{strict_cert_line_read}
 use Rattle.e_roundtrip.proofs.Certificates.OwedSpelled.{owed_text, kept_text, due_at_first, FitsDue, after_cert_line_spelled, settled_spelled}
 use Rattle.e_roundtrip.proofs.Heads.HeadTaken.{InProof, ParserSaid, puts_begun}
-use Rattle.e_roundtrip.proofs.Blocks.LinesSaid.{Leaves, step_left, due_at_start}
+use Rattle.e_roundtrip.proofs.Blocks.LinesWithCertificates.{Leaves, step_left, due_at_start}
 
 -- ---- what was said so far
 
@@ -313,6 +313,6 @@ read_is_formed_so v known last t lines rest e =
     let facts = facts_of_statement st in
     record {
       plain = plain;
-      formed = subst (λ (s : Scope). list_all (is_formed before) (lines_from before t.script t.script s facts (goal_of_statement st)) ≡ true) (declared_scope st t.names plain.fits.scope) (r.formed facts);
+      formed = subst (λ (s : Scope). list_all (is_formed before) (placed_steps before t.script t.script s facts (goal_of_statement st)) ≡ true) (declared_scope st t.names plain.fits.scope) (r.formed facts);
       version = version_read v known last lines rest t e;
     }

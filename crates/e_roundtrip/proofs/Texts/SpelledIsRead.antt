@@ -14,7 +14,7 @@ use Rattle.e_literal.proofs.GrownScopes.{sorts_next}
 use Rattle.e_theorem.specs.Statements.{stated}
 use Rattle.e_deriv.specs.Script.{Script, erased, Cite, Hence, Make, Apply, Claim, Superposed, Qed, Contradiction, Cases}
 use Rattle.e_deriv.specs.Goal.{Goal, goal_of_statement, facts_of_statement}
-use Rattle.e_deriv.specs.Lines.{lines}
+use Rattle.e_deriv.specs.PlacedSteps.{placed_steps}
 use Rattle.e_line.specs.declared.raw_line.RawLine.TheVariants as rawlines
 use Rattle.e_book.specs.declared.parser.Section.TheVariants.{Closed, Done}
 use Rattle.e_book.specs.declared.parser.TheoremParser.{TheoremParser}
@@ -29,16 +29,16 @@ use Rattle.e_line.specs.Canonical.{line_of}
 use Rattle.e_names.specs.Canonical.{end_form}
 use Rattle.e_book.specs.Canonical.{names_of_proof}
 use Rattle.e_book.specs.HasSpelling.{HasSpelling}
-use Rattle.e_book.proofs.LineWords.{words_again}
-use Rattle.e_names.proofs.Lookups.{InOrder, in_order}
-use Rattle.e_names.proofs.Building.{declared_scope}
-use Rattle.e_names.proofs.Growing.{first_in_order}
-use Rattle.e_book.proofs.FittingScripts.{line_fits}
-use Rattle.e_book.proofs.HeadRead.{run_title}
-use Rattle.e_book.proofs.LinesRead.{Inside, proving}
-use Rattle.e_book.proofs.ScriptParts.{steps_of, close_of, same_script}
-use Rattle.e_book.proofs.ScriptRead.{Ready}
-use Rattle.e_book.proofs.CanonicalRead.{stating_forms, run_statement, started, begins}
+use Rattle.e_book.proofs.canonical.LineWords.{words_again}
+use Rattle.e_names.proofs.resolution.Lookups.{InOrder, in_order}
+use Rattle.e_names.proofs.read_lines.Building.{declared_scope}
+use Rattle.e_names.proofs.distinct_names.OrderedNames.{first_in_order}
+use Rattle.e_book.proofs.fit_theorems.FittingScripts.{line_fits}
+use Rattle.e_book.proofs.canonical.HeadRead.{run_title}
+use Rattle.e_book.proofs.canonical.LinesRead.{Inside, proving}
+use Rattle.e_book.proofs.canonical.ScriptParts.{steps_of, close_of, same_script}
+use Rattle.e_book.proofs.canonical.ScriptRead.{Ready}
+use Rattle.e_book.proofs.canonical.CanonicalRead.{stating_forms, run_statement, started, begins}
 use Rattle.e_cert.specs.declared.owed.Obligation.TheVariants as due
 use Rattle.e_cert.specs.declared.kept.StepCerts.{StepCerts}
 use Rattle.e_read.specs.declared.reading.BlockParser.{BlockParser}
@@ -59,9 +59,9 @@ use Rattle.e_clause.specs.declared.cert.Cert.{Cert}
 use Rattle.e_clause.specs.declared.cert.Against.{Against}
 use Rattle.e_clause.specs.Versions.{is_cert_of, is_against_of}
 use Rattle.e_deriv.specs.Versions.{has_certs_of}
-use Rattle.e_cert.proofs.GoodKept.{are_certs_of_version, AreOfVersion}
+use Rattle.e_cert.proofs.FormsOfCertificates.{are_certs_of_version, AreOfVersion}
 use Rattle.e_roundtrip.proofs.Blocks.LinesTaken.{strict_form_again, no_bar, AllTaken, Stands, Along, along_append, form_leads}
-use Rattle.e_roundtrip.proofs.Formed.Standing.{Stood}
+use Rattle.e_roundtrip.proofs.Formed.PlacedScripts.{Stood}
 use Rattle.e_roundtrip.proofs.Blocks.ScriptAlong.{script_spelled}
 use Rattle.e_roundtrip.proofs.Heads.HeadAlong.{parser_is, head_along, statement_heads}
 
@@ -83,7 +83,7 @@ stood v known t d c o =
       order = first_in_order s t.names o;
       goal_sorts = sorts_next s t.statement.made;
       plain = h.script;
-      fitting = subst (λ (z : Scope). list_all (line_fits before) (lines before (erased d) (erased d) z facts goal) ≡ true) scope h.fits.script;
+      fitting = subst (λ (z : Scope). list_all (line_fits before) (placed_steps before (erased d) (erased d) z facts goal) ≡ true) scope h.fits.script;
       new_names = h.fits.new_names;
       few = omega (arith, h.fits.steps);
       shallow = omega (arith, h.fits.depth);
@@ -96,7 +96,7 @@ stood v known t d c o =
     record {
       ready = ready;
       goal_is = refl;
-      formed = subst (λ (z : Scope). list_all (is_formed before) (lines before d d z facts goal) ≡ true) scope c.formed;
+      formed = subst (λ (z : Scope). list_all (is_formed before) (placed_steps before d d z facts goal) ≡ true) scope c.formed;
     }
 
 -- the parser after the last close line

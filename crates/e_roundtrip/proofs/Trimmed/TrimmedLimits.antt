@@ -35,13 +35,13 @@ use Rattle.e_construct.specs.Construct.{sorts_made, gives_of_construction, gives
 use Rattle.e_construct.specs.Superposing as superposing
 use Rattle.e_deriv.specs.Script.{Script, Cite, Hence, Make, Apply, Claim, Superposed, Qed, Contradiction, Cases, erased, depth}
 use Rattle.e_deriv.specs.Goal.{Goal, goal_of}
-use Rattle.e_deriv.specs.Lines.{theorem_at}
+use Rattle.e_deriv.specs.PlacedSteps.{theorem_at}
 use Rattle.e_deriv.specs.Versions.{has_certs_of}
 use Rattle.e_line.specs.Limits.{most_facts, most_terms, most_blanks, monomials, count_monomials}
 use Rattle.e_names.specs.Applies.{count_blanks}
 use Rattle.e_names.specs.Fits.{is_diagram_atom, is_diagram_lit}
 use Rattle.e_book.specs.Fits.{has_good_literals, few_facts, few_terms, few_blanks}
-use Rattle.e_names.proofs.ShortLits.{count_first}
+use Rattle.e_names.proofs.literals.ShortLits.{count_first}
 use Rattle.e_roundtrip.proofs.Formed.Filled.{both_same}
 use Rattle.e_trim.specs.Trimmed.{obj_at, image_among_kept, lit_among_kept, row_name_among_kept, sum_at, sums_at, part_at, cert_at, against_at, construction_among_kept, superpose_at, args_at, joins_at, is_kept, wants, trimmed_from}
 

@@ -18,7 +18,7 @@ use Rattle.e_deriv.specs.declared.names.Names.{Names}
 use Rattle.e_deriv.specs.Naming.{with_names, named}
 use Rattle.e_deriv.specs.Script.{Script, Cite, Hence, Make, Apply, Claim, Superposed, Qed, Contradiction, Cases, erased}
 use Rattle.e_deriv.specs.Goal.{Goal, goal_of}
-use Rattle.e_deriv.specs.Lines.{theorem_at}
+use Rattle.e_deriv.specs.PlacedSteps.{theorem_at}
 use Rattle.e_line.specs.declared.fault.FaultKind.{FaultKind}
 use Rattle.e_line.specs.declared.fault.FaultKind.TheVariants.{NameTaken}
 use Rattle.e_line.specs.declared.fault.What.{What}
@@ -28,9 +28,9 @@ use Rattle.e_book.specs.LineLimits.{few_objects}
 use Rattle.e_line.specs.Reading.{◌>>=◌}
 use Rattle.e_names.specs.Scope.{is_among_names, is_taken, fresh}
 use Rattle.e_book.specs.Fits.{NewNamesFit}
-use Rattle.e_book.proofs.Answered.{within_ok}
-use Rattle.e_names.proofs.Distinct.{passed, untaken}
-use Rattle.e_line.proofs.Bound.{bind_ok}
+use Rattle.e_book.proofs.parsers.Answered.{within_ok}
+use Rattle.e_names.proofs.distinct_names.Distinct.{passed, untaken}
+use Rattle.e_line.proofs.base.Bound.{bind_ok}
 use Rattle.e_trim.specs.Trimmed.{joins_at, is_kept, wants, trimmed_from}
 
 -- ---- fewer names

@@ -22,7 +22,7 @@ use Rattle.e_theorem.specs.Statements.{stated}
 use Rattle.e_deriv.specs.Naming.{declared_names}
 use Rattle.e_deriv.specs.Script.{Script, Cite, Hence, Make, Apply, Claim, Superposed, Qed, Contradiction, Cases, erased, depth}
 use Rattle.e_deriv.specs.Goal.{Goal, goal_of, goal_of_statement, facts_of_statement}
-use Rattle.e_deriv.specs.Lines.{theorem_at}
+use Rattle.e_deriv.specs.PlacedSteps.{theorem_at}
 use Rattle.e_deriv.specs.Certified.{Certified}
 use Rattle.e_deriv.specs.Fitting.{all_objects, is_small, is_small_statement}
 use Rattle.e_deriv.specs.Versions.{has_certs_of}
@@ -33,13 +33,13 @@ use Rattle.e_book.specs.TheoremViews.{TheoremView}
 use Rattle.e_book.specs.Fits.{Fits, has_good_literals}
 use Rattle.e_names.specs.HasSpelling.{is_named_by_title}
 use Rattle.e_book.specs.HasSpelling.{HasSpelling, is_plain, names_theorems}
-use Rattle.e_book.proofs.Fitting.{small_statement}
-use Rattle.e_book.proofs.WrittenScripts.{erased_literals, written_well}
+use Rattle.e_book.proofs.fit_theorems.Fitting.{small_statement}
+use Rattle.e_book.proofs.fit_theorems.WrittenScripts.{erased_literals, written_well}
 use Rattle.e_read.specs.Text.{at_start, piece_from}
 use Rattle.e_read.proofs.Bridge.{derives}
 use Rattle.e_trim.specs.Trimmed.{declared_of, joins_at, lit_among_kept, is_kept, wants, trimmed_from, trimmed}
-use Rattle.e_trim.proofs.Shorter.{trimmed_shorter}
-use Rattle.e_trim.proofs.WholeScripts.{trimmed_certified}
+use Rattle.e_trim.proofs.kept_scripts.Shorter.{trimmed_shorter}
+use Rattle.e_trim.proofs.kept_scripts.WholeScripts.{trimmed_certified}
 use Rattle.e_judgement.proofs.WithCertificates.{size_erased}
 use Rattle.e_roundtrip.specs.Laws.{TrimmedHasSpelling}
 use Rattle.e_roundtrip.specs.Written.{CanBeVerified}

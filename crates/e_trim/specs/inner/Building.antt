@@ -15,17 +15,17 @@ use Rattle.e_deriv.specs.declared.block.Close.{Close}
 use Rattle.e_deriv.specs.Script.{Script, script_of, steps_script, step_script, close_script, Cite}
 use Rattle.e_deriv.specs.Script.{Hence, Make, Apply, Claim, Superposed}
 use Rattle.e_deriv.specs.Goal.{Goal, goal_of}
-use Rattle.e_deriv.specs.Lines.{lines}
+use Rattle.e_deriv.specs.PlacedSteps.{placed_steps}
 use Rattle.e_deriv.specs.Fitting.{is_small}
 use Rattle.e_trim.specs.Trimmed.{by_at, lit_among_kept, cert_at, construction_among_kept, args_at}
 use Rattle.e_trim.specs.Trimmed.{superpose_at, trimmed_from}
 use Rattle.e_trim.specs.inner.Flags.{flag, flags_of, step_flags}
 
--- with some facts and some goal at most 1,000 objects of each sort are in scope before each line
+-- with some facts and some goal at most 1,000 objects of each sort are in scope before each step
 pub record AreSmall (before : List StatementView) (d : Script) (s : Scope) : Type 0 where
   pub facts : List Lit
   pub goal : Goal
-  pub small : IsTrue (list_all (λ x. is_small x.scope) (lines before d d s facts goal))
+  pub small : IsTrue (list_all (λ x. is_small x.scope) (placed_steps before d d s facts goal))
 
 -- with something after it
 pub record IsSmallStep (before : List StatementView) (step : Step) (s : Scope) : Type 0 where

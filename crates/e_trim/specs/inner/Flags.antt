@@ -12,7 +12,7 @@ use Rattle.e_construct.specs.Superposing as superposing
 use Rattle.e_deriv.specs.Script.{Script, Cite, Hence, Make, Apply, Claim, Superposed, Qed}
 use Rattle.e_deriv.specs.Script.{Contradiction, Cases}
 use Rattle.e_deriv.specs.Goal.{Goal, goal_of}
-use Rattle.e_deriv.specs.Lines.{theorem_at}
+use Rattle.e_deriv.specs.PlacedSteps.{theorem_at}
 use Rattle.e_trim.specs.Looked.{Wants, no_wants}
 use Rattle.e_trim.specs.Trimmed.{joins_at, is_kept, wants, wants_outside}
 

@@ -1,4 +1,4 @@
--- What holds before a line, as the code keeps it, and what a script is that the code walks through.
+-- What holds before a step, as the code keeps it, and what a script is that the code walks through.
 use Rattle.std.specs.Prelude.{◌≡◌, ℕ, ◌+◌, ◌<◌, ◌≤◌, List, ◌++◌, length, take, Bool, Option, IsTrue}
 use Rattle.std.specs.List.{list_all}
 use Rattle.e_literal.specs.declared.object.Obj.{Obj}
@@ -10,20 +10,20 @@ use Rattle.e_literal.specs.Scopes.{grown}
 use Rattle.e_literal.specs.Use.{StatementView, scope_of, are_arguments}
 use Rattle.e_deriv.specs.Goal.{Goal, facts_of_statement}
 use Rattle.e_deriv.specs.Script.{Script, step_script, close_script}
-use Rattle.e_deriv.specs.Lines.{lines, theorem_at}
+use Rattle.e_deriv.specs.PlacedSteps.{placed_steps, theorem_at}
 use Rattle.e_deriv.specs.Steps.{fits, fits_at}
 use Rattle.e_deriv.specs.declared.block.Step.{Step}
 use Rattle.e_deriv.specs.declared.block.Close.{Close}
 use Rattle.e_deriv.specs.Fitting.{is_small}
 use Rattle.e_deriv.specs.Parts.{args_of, written}
-use Rattle.e_trim.specs.Looked.{Wants, both, of_line}
-use Rattle.e_trim.specs.Trimmed.{joins_at, makes_at, is_kept, line_at, wants_with_step}
+use Rattle.e_trim.specs.Looked.{Wants, both, of_step}
+use Rattle.e_trim.specs.Trimmed.{joins_at, makes_at, is_kept, as_step, wants_with_step}
 use Rattle.e_trim.specs.inner.Flags.{flag, inside_of, step_flags}
 use Rattle.e_trim.specs.declared.step_state.StepState.{StepState}
 use Rattle.e_trim.specs.declared.step_state.Checkpoint.{Checkpoint}
 use Rattle.e_trim.specs.declared.step_state.Goal.{Goal as CodeGoal}
 
--- before the first line of a statement's proof
+-- before the first step of a statement's proof
 abbrev pub start_of : StatementView → StepState
 start_of t = record { scope = scope_of t; facts = facts_of_statement t }
 
@@ -42,11 +42,11 @@ opened sorts lits x = record { scope = grown x.scope sorts; facts = joined_all x
 abbrev pub goal_said : CodeGoal → Goal
 goal_said g = record { made = g.made.now; shown = g.shown.now }
 
--- the form of each line fits, and at most 1,000 objects of each sort are in scope before it
+-- the form of each step fits, and at most 1,000 objects of each sort are in scope before it
 pub record IsReady (before : List StatementView) (d : Script) (s : Scope) (facts : List Lit)
     (goal : Goal) : Type 0 where
-  pub forms : IsTrue (list_all (fits before) (lines before d d s facts goal))
-  pub scopes : IsTrue (list_all (λ x. is_small x.scope) (lines before d d s facts goal))
+  pub forms : IsTrue (list_all (fits before) (placed_steps before d d s facts goal))
+  pub scopes : IsTrue (list_all (λ x. is_small x.scope) (placed_steps before d d s facts goal))
 
 -- after a step
 abbrev pub passed : List StatementView → Script → StepState → StepState
@@ -81,7 +81,7 @@ pub record IsReadyToTrim (before : List StatementView) (step : Step) (x : StepSt
 abbrev pub StepWants : List StatementView → Step → StepState → Wants → Wants → Type 0
 StepWants before step x old new =
     (rest : Script) (goal : Goal) →
-    new ≡ both old (both (of_line before (line_at (step_script step rest) x.scope x.facts goal))
+    new ≡ both old (both (of_step before (as_step (step_script step rest) x.scope x.facts goal))
     (inside_of before (step_script step rest) x.scope x.facts))
 
 -- and these flags to the pile

@@ -46,11 +46,11 @@ use Rattle.e_literal.proofs.Booleans.{and_left, and_right}
 use Rattle.e_theorem.specs.Choice.{fills}
 use Rattle.e_theorem.proofs.Uses.{needs_good as use_needs_good}
 use Rattle.e_deriv.specs.Fitting.{is_small_statement, all_objects}
-use Rattle.e_deriv.specs.Lines.{theorem_at, no_statement}
+use Rattle.e_deriv.specs.PlacedSteps.{theorem_at, no_statement}
 use Rattle.e_deriv.specs.Parts.{has_no_blank, written}
 use Rattle.e_deriv.specs.Steps.{is_applied, are_over}
 use Rattle.e_deriv.specs.Certified.{is_certified}
-use Rattle.e_verify.specs.Checking.{line_in_state}
+use Rattle.e_verify.specs.Checking.{step_in_state}
 use Rattle.e_deriv.proofs.Keeping.{stay_joined, stay_all}
 use Rattle.e_deriv.proofs.Smallness.{few_of_small, few_objects}
 use Rattle.e_verify.proofs.checking.FormedFacts.{all_formed, joined_formed, all_joined_formed, make_gives_formed, use_gives_formed}
@@ -117,7 +117,7 @@ few_new s form n h e = let f = few_of_small s h in (omega (arith, f.points, e, f
 
 -- ---- an application
 
-pub refused : (before : List StatementView) (whole : Script → Script) (x after : StepState) → ((rest : Script) (goal : Goal) → is_certified before (line_in_state (whole rest) x goal) ≡ false) → IsChecked before whole x after false
+pub refused : (before : List StatementView) (whole : Script → Script) (x after : StepState) → ((rest : Script) (goal : Goal) → is_certified before (step_in_state (whole rest) x goal) ≡ false) → IsChecked before whole x after false
 refused before whole x after h =
     record { test = λ rest goal. sym (h rest goal); next = λ t. absurd (true≢false (sym t)); kept = λ t. absurd (true≢false (sym t)); formed = λ t g. absurd (true≢false (sym t)) }
 
@@ -205,12 +205,12 @@ few_copies s n h e = let f = few_of_small s h in (omega (arith, f.points, e), om
 
 pub superposed_certified : (form : Superpose) (shown : List Lit) (certs : List Cert) (x : StepState) → superposing.fits_superposition form x.scope ≡ true → are_over x.scope shown ≡ true
     → certify_all x.scope x.facts (superposing.needs_of_superposition form) certs ≡ true → (before : List StatementView) (names : List (List ℕ)) (inner rest : Script) (goal : Goal)
-    → true ≡ is_certified before (line_in_state (Superposed form names shown certs inner rest) x goal)
+    → true ≡ is_certified before (step_in_state (Superposed form names shown certs inner rest) x goal)
 superposed_certified form shown certs x h k m before names inner rest goal = rw (h, k, m) refl
 
 -- where it is certified it fits
 pub superposed_fits : (before : List StatementView) (form : Superpose) (names : List (List ℕ)) (shown : List Lit) (certs : List Cert) (inner rest : Script) (x : StepState) (goal : Goal)
-    → true ≡ is_certified before (line_in_state (Superposed form names shown certs inner rest) x goal) → superposing.fits_superposition form x.scope ≡ true
+    → true ≡ is_certified before (step_in_state (Superposed form names shown certs inner rest) x goal) → superposing.fits_superposition form x.scope ≡ true
 superposed_fits before form names shown certs inner rest x goal h =
     let fit = superposing.fits_superposition form x.scope && are_over x.scope shown in
     let cert = certify_all x.scope x.facts (superposing.needs_of_superposition form) certs && true in

@@ -14,22 +14,22 @@ use Rattle.e_construct.specs.declared.superpose.Superpose.{Superpose}
 use Rattle.e_construct.specs.Construct.{sorts_made, gives_of_construction}
 use Rattle.e_deriv.specs.Script.{Script, Cite, Hence, Make, Apply, Claim, Superposed, Qed, Contradiction, Cases}
 use Rattle.e_deriv.specs.Goal.{Goal, goal_of}
-use Rattle.e_deriv.specs.Lines.{Line, lines, theorem_at}
+use Rattle.e_deriv.specs.PlacedSteps.{PlacedStep, placed_steps, theorem_at}
 use Rattle.e_deriv.specs.Parts.{written}
 use Rattle.e_deriv.specs.Certified.{is_certified}
 use Rattle.e_verify.specs.declared.step_state.StepState.{StepState}
 use Rattle.e_verify.specs.inner.StepStates.{with_facts, state_after_superposed}
-use Rattle.e_verify.specs.Checking.{line_in_state, lines_in_state, IsChecked, KeepsFirstFacts}
+use Rattle.e_verify.specs.Checking.{step_in_state, steps_in_state, IsChecked, KeepsFirstFacts}
 use Rattle.e_verify.proofs.checking.FormedFacts.{all_formed}
 
 pub cite_lines : (before : List StatementView) (by : By) (x : StepState) (rest : Script) (goal : Goal)
-    → lines_in_state before (Cite by rest) x goal ≡ line_in_state (Cite by rest) x goal ∷ lines_in_state before rest (with_facts (joined x.facts by.lit) x) goal
-unfolding lines
+    → steps_in_state before (Cite by rest) x goal ≡ step_in_state (Cite by rest) x goal ∷ steps_in_state before rest (with_facts (joined x.facts by.lit) x) goal
+unfolding placed_steps
 cite_lines before by x rest goal = refl
 
 pub hence_lines : (before : List StatementView) (lit : Lit) (cert : Option Cert) (x : StepState) (rest : Script) (goal : Goal)
-    → lines_in_state before (Hence lit cert rest) x goal ≡ line_in_state (Hence lit cert rest) x goal ∷ lines_in_state before rest (with_facts (joined x.facts lit) x) goal
-unfolding lines
+    → steps_in_state before (Hence lit cert rest) x goal ≡ step_in_state (Hence lit cert rest) x goal ∷ steps_in_state before rest (with_facts (joined x.facts lit) x) goal
+unfolding placed_steps
 hence_lines before lit cert x rest goal = refl
 
 -- after a construction
@@ -37,8 +37,8 @@ abbrev pub after_make : Construction → StepState → StepState
 after_make form x = record { scope = grown x.scope (sorts_made form); facts = joined_all x.facts (gives_of_construction form x.scope) }
 
 pub make_lines : (before : List StatementView) (form : Construction) (names : List (List ℕ)) (certs : List Cert) (x : StepState) (rest : Script) (goal : Goal)
-    → lines_in_state before (Make form names certs rest) x goal ≡ line_in_state (Make form names certs rest) x goal ∷ lines_in_state before rest (after_make form x) goal
-unfolding lines
+    → steps_in_state before (Make form names certs rest) x goal ≡ step_in_state (Make form names certs rest) x goal ∷ steps_in_state before rest (after_make form x) goal
+unfolding placed_steps
 make_lines before form names certs x rest goal = refl
 
 -- after an application
@@ -46,39 +46,39 @@ abbrev pub after_apply : StatementView → List Obj → StepState → StepState
 after_apply t args x = record { scope = grown x.scope t.made; facts = joined_all x.facts (gives_of_use t args x.scope) }
 
 pub apply_lines : (before : List StatementView) (theorem : ℕ) (args : List (Option Obj)) (names : List (List ℕ)) (certs : List Cert) (x : StepState) (rest : Script) (goal : Goal)
-    → lines_in_state before (Apply theorem args names certs rest) x goal ≡ line_in_state (Apply theorem args names certs rest) x goal ∷ lines_in_state before rest (after_apply (theorem_at before theorem) (written args) x) goal
-unfolding lines
+    → steps_in_state before (Apply theorem args names certs rest) x goal ≡ step_in_state (Apply theorem args names certs rest) x goal ∷ steps_in_state before rest (after_apply (theorem_at before theorem) (written args) x) goal
+unfolding placed_steps
 apply_lines before theorem args names certs x rest goal = refl
 
 pub claim_lines : (before : List StatementView) (shown : List Lit) (inner : Script) (x : StepState) (rest : Script) (goal : Goal)
-    → lines_in_state before (Claim shown inner rest) x goal
-    ≡ line_in_state (Claim shown inner rest) x goal ∷ (lines_in_state before inner x (goal_of shown) ++ lines_in_state before rest (with_facts (joined_all x.facts shown) x) goal)
-unfolding lines
+    → steps_in_state before (Claim shown inner rest) x goal
+    ≡ step_in_state (Claim shown inner rest) x goal ∷ (steps_in_state before inner x (goal_of shown) ++ steps_in_state before rest (with_facts (joined_all x.facts shown) x) goal)
+unfolding placed_steps
 claim_lines before shown inner x rest goal = refl
 
 pub superposed_lines : (before : List StatementView) (form : Superpose) (names : List (List ℕ)) (shown : List Lit) (certs : List Cert) (inner : Script) (x : StepState) (rest : Script) (goal : Goal)
-    → lines_in_state before (Superposed form names shown certs inner rest) x goal
-    ≡ line_in_state (Superposed form names shown certs inner rest) x goal ∷ (lines_in_state before inner (state_after_superposed form x) (goal_of shown) ++ lines_in_state before rest (with_facts (joined_all x.facts shown) x) goal)
-unfolding lines
+    → steps_in_state before (Superposed form names shown certs inner rest) x goal
+    ≡ step_in_state (Superposed form names shown certs inner rest) x goal ∷ (steps_in_state before inner (state_after_superposed form x) (goal_of shown) ++ steps_in_state before rest (with_facts (joined_all x.facts shown) x) goal)
+unfolding placed_steps
 superposed_lines before form names shown certs inner x rest goal = refl
 
-pub qed_lines : (before : List StatementView) (objects : List Obj) (certs : List Cert) (x : StepState) (goal : Goal) → lines_in_state before (Qed objects certs) x goal ≡ line_in_state (Qed objects certs) x goal ∷ []
-unfolding lines
+pub qed_lines : (before : List StatementView) (objects : List Obj) (certs : List Cert) (x : StepState) (goal : Goal) → steps_in_state before (Qed objects certs) x goal ≡ step_in_state (Qed objects certs) x goal ∷ []
+unfolding placed_steps
 qed_lines before objects certs x goal = refl
 
-pub contradiction_lines : (before : List StatementView) (against : Option Against) (x : StepState) (goal : Goal) → lines_in_state before (Contradiction against) x goal ≡ line_in_state (Contradiction against) x goal ∷ []
-unfolding lines
+pub contradiction_lines : (before : List StatementView) (against : Option Against) (x : StepState) (goal : Goal) → steps_in_state before (Contradiction against) x goal ≡ step_in_state (Contradiction against) x goal ∷ []
+unfolding placed_steps
 contradiction_lines before against x goal = refl
 
 pub cases_lines : (before : List StatementView) (lit : Lit) (first second : Script) (x : StepState) (goal : Goal)
-    → lines_in_state before (Cases lit first second) x goal
-    ≡ line_in_state (Cases lit first second) x goal ∷ (lines_in_state before first (with_facts (joined x.facts lit) x) goal ++ lines_in_state before second (with_facts (joined x.facts (negation lit)) x) goal)
-unfolding lines
+    → steps_in_state before (Cases lit first second) x goal
+    ≡ step_in_state (Cases lit first second) x goal ∷ (steps_in_state before first (with_facts (joined x.facts lit) x) goal ++ steps_in_state before second (with_facts (joined x.facts (negation lit)) x) goal)
+unfolding placed_steps
 cases_lines before lit first second x goal = refl
 
 -- each script has a first line
-pub some_lines : (before : List StatementView) (d : Script) (x : StepState) (goal : Goal) → (ys : List Line) × (lines_in_state before d x goal ≡ line_in_state d x goal ∷ ys)
-unfolding lines
+pub some_lines : (before : List StatementView) (d : Script) (x : StepState) (goal : Goal) → (ys : List PlacedStep) × (steps_in_state before d x goal ≡ step_in_state d x goal ∷ ys)
+unfolding placed_steps
 some_lines before (Cite by rest) x goal = (_, refl)
 some_lines before (Hence lit cert rest) x goal = (_, refl)
 some_lines before (Make form names certs rest) x goal = (_, refl)
@@ -89,8 +89,8 @@ some_lines before (Qed objects certs) x goal = (_, refl)
 some_lines before (Contradiction against) x goal = (_, refl)
 some_lines before (Cases lit first second) x goal = (_, refl)
 
-pub checked : (before : List StatementView) (whole : Script → Script) (x y after : StepState) (b : Bool) → ((rest : Script) (goal : Goal) → b ≡ is_certified before (line_in_state (whole rest) x goal))
-    → ((rest : Script) (goal : Goal) → lines_in_state before (whole rest) x goal ≡ line_in_state (whole rest) x goal ∷ lines_in_state before rest y goal) → KeepsFirstFacts x y
+pub checked : (before : List StatementView) (whole : Script → Script) (x y after : StepState) (b : Bool) → ((rest : Script) (goal : Goal) → b ≡ is_certified before (step_in_state (whole rest) x goal))
+    → ((rest : Script) (goal : Goal) → steps_in_state before (whole rest) x goal ≡ step_in_state (whole rest) x goal ∷ steps_in_state before rest y goal) → KeepsFirstFacts x y
     → (all_formed x.facts ≡ true → all_formed y.facts ≡ true) → after ≡ y → IsChecked before whole x after b
 checked before whole x y after b t l k f e =
-    record { test = t; next = λ h rest goal. l rest goal ∙ ap (λ z. line_in_state (whole rest) x goal ∷ lines_in_state before rest z goal) (sym e); kept = λ h. subst (KeepsFirstFacts x) (sym e) k; formed = λ h g. ap (λ (z : StepState). all_formed z.facts) e ∙ f g }
+    record { test = t; next = λ h rest goal. l rest goal ∙ ap (λ z. step_in_state (whole rest) x goal ∷ steps_in_state before rest z goal) (sym e); kept = λ h. subst (KeepsFirstFacts x) (sym e) k; formed = λ h g. ap (λ (z : StepState). all_formed z.facts) e ∙ f g }

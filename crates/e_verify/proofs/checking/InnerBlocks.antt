@@ -33,7 +33,7 @@ use Rattle.e_verify.specs.declared.step_state.StepState.{StepState}
 use Rattle.e_verify.specs.declared.step_state.Checkpoint.{Checkpoint}
 use Rattle.e_verify.specs.inner.StepStates.{with_facts, state_after_superposed, checkpoint_of, restored}
 use Rattle.e_clause.specs.Written.{is_writable_cert, is_writable_against}
-use Rattle.e_verify.specs.Checking.{line_in_state, verdict_at, RejectIs, IsCheckable, IsCheckableStep, AreCheckable, KeepsFirstFacts, AreVerified, LinesReject, StepRejects}
+use Rattle.e_verify.specs.Checking.{step_in_state, verdict_at, RejectIs, IsCheckable, IsCheckableStep, AreCheckable, KeepsFirstFacts, AreVerified, StepsReject, StepRejects}
 use Rattle.e_verify.proofs.checking.FirstLines.{some_lines, qed_lines, contradiction_lines}
 use Rattle.e_deriv.proofs.Keeping.{stay_on, stay_joined, stay_all}
 use Rattle.e_verify.proofs.checking.CertifiedLines.{superposed_fits}
@@ -149,7 +149,7 @@ pub all_passed_as : (before : List StatementView) (f g : Script → Script) (x y
 all_passed_as before f g x y n (Ok m) e p = passed_as before f g x y n m e p
 all_passed_as before f g x y n (Err k) e p = tt
 
-pub all_rejected_as : (before : List StatementView) (f g : Script → Script) (x : StepState) (n : ℕ) (r : Result ℕ Reject) → ((d : Script) → g d ≡ f d) → IfErr r (LinesReject before f x n) → IfErr r (LinesReject before g x n)
+pub all_rejected_as : (before : List StatementView) (f g : Script → Script) (x : StepState) (n : ℕ) (r : Result ℕ Reject) → ((d : Script) → g d ≡ f d) → IfErr r (StepsReject before f x n) → IfErr r (StepsReject before g x n)
 all_rejected_as before f g x n (Ok m) e h = tt
 all_rejected_as before f g x n (Err k) e h = λ rest goal. reject_as (verdict_at before (g rest) x goal n) (verdict_at before (f rest) x goal n) k (ap (λ d. verdict_at before d x goal n) (e rest)) (h rest goal)
 
@@ -180,11 +180,11 @@ claim_is s shown seen inner block is same at rest =
 pub claim_ready : (before : List StatementView) (shown : List Lit) (inner : Script) (x : StepState) (n : ℕ) → AreCheckable before (Claim shown inner) x n → IsCheckable before inner x (goal_of shown) (n + 1)
 claim_ready before shown inner x n r = claim_inner before shown inner r.rest x r.goal n r.ready
 
-pub claim_fails : (before : List StatementView) (shown : List Lit) (inner : Script) (x : StepState) (n : ℕ) → are_over x.scope shown ≡ false → LinesReject before (Claim shown inner) x n (Bad n)
+pub claim_fails : (before : List StatementView) (shown : List Lit) (inner : Script) (x : StepState) (n : ℕ) → are_over x.scope shown ≡ false → StepsReject before (Claim shown inner) x n (Bad n)
 claim_fails before shown inner x n h rest goal = claim_bad before shown inner rest x goal n h
 
 pub claim_stops : (before : List StatementView) (shown : List Lit) (inner : Script) (x : StepState) (n : ℕ) (e : Reject) → are_over x.scope shown ≡ true → RejectIs (verdict_at before inner x (goal_of shown) (n + 1)) e
-    → LinesReject before (Claim shown inner) x n e
+    → StepsReject before (Claim shown inner) x n e
 claim_stops before shown inner x n e h k rest goal = claim_rejected before shown inner rest x goal n e h k
 
 pub claim_done : (before : List StatementView) (shown : List Lit) (inner : Script) (x z y after : StepState) (o : Checkpoint) (n m : ℕ) → are_over x.scope shown ≡ true → verdict_at before inner x (goal_of shown) (n + 1) ≡ Ok m
@@ -213,7 +213,7 @@ superposed_ready before form names shown certs inner x z n begun fit r =
 
 -- what the code tests before the block of a superposition
 abbrev pub IsTested : List StatementView → Superpose → List Lit → List Cert → StepState → Bool → Type 0
-IsTested before form shown certs x b = (names : List (List ℕ)) (inner rest : Script) (goal : Goal) → b ≡ is_certified before (line_in_state (Superposed form names shown certs inner rest) x goal)
+IsTested before form shown certs x b = (names : List (List ℕ)) (inner rest : Script) (goal : Goal) → b ≡ is_certified before (step_in_state (Superposed form names shown certs inner rest) x goal)
 
 head_as : (before : List StatementView) (form : Superpose) (names : List (List ℕ)) (shown : List Lit) (certs : List Cert) (x : StepState) (b c : Bool) → b ≡ c → IsTested before form shown certs x b → IsHead before form names shown certs x c
 head_as before form names shown certs x b c is h inner rest goal = sym is ∙ h names inner rest goal
@@ -224,12 +224,12 @@ tested_fits before form shown certs x b is h =
     superposed_fits before form [] shown certs (Qed [] []) (Qed [] []) x (goal_of []) (sym is ∙ h [] (Qed [] []) (Qed [] []) (goal_of []))
 
 pub superposed_fails : (before : List StatementView) (form : Superpose) (shown : List Lit) (certs : List Cert) (inner : Script) (x : StepState) (n : ℕ) (b : Bool) → b ≡ false → IsTested before form shown certs x b
-    → (names : List (List ℕ)) → LinesReject before (Superposed form names shown certs inner) x n (Bad n)
+    → (names : List (List ℕ)) → StepsReject before (Superposed form names shown certs inner) x n (Bad n)
 superposed_fails before form shown certs inner x n b f h names rest goal =
     bad_line before (Superposed form names shown certs inner rest) x goal n (sym (head_as before form names shown certs x b false f h inner rest goal))
 
 pub superposed_stops : (before : List StatementView) (form : Superpose) (shown : List Lit) (certs : List Cert) (inner : Script) (x z : StepState) (n : ℕ) (b : Bool) (e : Reject) → z ≡ state_after_superposed form x → b ≡ true → IsTested before form shown certs x b
-    → RejectIs (verdict_at before inner z (goal_of shown) (n + 1)) e → (names : List (List ℕ)) → LinesReject before (Superposed form names shown certs inner) x n e
+    → RejectIs (verdict_at before inner z (goal_of shown) (n + 1)) e → (names : List (List ℕ)) → StepsReject before (Superposed form names shown certs inner) x n e
 superposed_stops before form shown certs inner x z n b e begun t h k names rest goal =
     superposed_rejected before form names shown certs inner rest x goal n e (head_as before form names shown certs x b true t h)
     (subst (λ w. RejectIs (verdict_at before inner w (goal_of shown) (n + 1)) e) begun k)
@@ -262,27 +262,27 @@ pub contradiction_parts : (before : List StatementView) (c : Close) (against : O
 contradiction_parts before c against x goal n is r = contradiction_written against (subst (λ d. IsCheckable before d x goal n) (contradiction_is c against is) r).written
 
 pub qed_ok : (before : List StatementView) (c : Close) (objects os : List Obj) (certs cs : List Cert) (x : StepState) (goal : Goal) (n : ℕ) (b : Bool) (r : Result ℕ Reject) → c ≡ QedClose objects certs → os ≡ objects → cs ≡ certs
-    → b ≡ is_certified before (line_in_state (Qed os cs) x goal) → IfOk r (λ next. IsTrue b × (next ≡ n + 1)) → IfOk r (λ next. verdict_at before (close_script c) x goal n ≡ Ok next)
+    → b ≡ is_certified before (step_in_state (Qed os cs) x goal) → IfOk r (λ next. IsTrue b × (next ≡ n + 1)) → IfOk r (λ next. verdict_at before (close_script c) x goal n ≡ Ok next)
 qed_ok before c objects os certs cs x goal n b r is o k t h =
     ok_as r (verdict_at before (close_script c) x goal n) (verdict_at before (Qed objects certs) x goal n) (ap (λ d. verdict_at before d x goal n) (qed_is c objects certs is))
     (close_certified before (Qed objects certs) x goal n b r (qed_lines before objects certs x goal)
-    (t ∙ ap (λ q. is_certified before (line_in_state (Qed q cs) x goal)) o ∙ ap (λ q. is_certified before (line_in_state (Qed objects q) x goal)) k) h)
+    (t ∙ ap (λ q. is_certified before (step_in_state (Qed q cs) x goal)) o ∙ ap (λ q. is_certified before (step_in_state (Qed objects q) x goal)) k) h)
 
 pub qed_bad : (before : List StatementView) (c : Close) (objects os : List Obj) (certs cs : List Cert) (x : StepState) (goal : Goal) (n : ℕ) (b : Bool) (r : Result ℕ Reject) → c ≡ QedClose objects certs → os ≡ objects → cs ≡ certs
-    → b ≡ is_certified before (line_in_state (Qed os cs) x goal) → IfErr r (λ e. IsFalse b × (e ≡ Bad n)) → IfErr r (RejectIs (verdict_at before (close_script c) x goal n))
+    → b ≡ is_certified before (step_in_state (Qed os cs) x goal) → IfErr r (λ e. IsFalse b × (e ≡ Bad n)) → IfErr r (RejectIs (verdict_at before (close_script c) x goal n))
 qed_bad before c objects os certs cs x goal n b r is o k t h =
     err_as r (verdict_at before (close_script c) x goal n) (verdict_at before (Qed objects certs) x goal n) (ap (λ d. verdict_at before d x goal n) (qed_is c objects certs is))
     (close_rejected before (Qed objects certs) x goal n b r
-    (t ∙ ap (λ q. is_certified before (line_in_state (Qed q cs) x goal)) o ∙ ap (λ q. is_certified before (line_in_state (Qed objects q) x goal)) k) h)
+    (t ∙ ap (λ q. is_certified before (step_in_state (Qed q cs) x goal)) o ∙ ap (λ q. is_certified before (step_in_state (Qed objects q) x goal)) k) h)
 
 pub contradiction_ok : (before : List StatementView) (c : Close) (against : Option Against) (x : StepState) (goal : Goal) (n : ℕ) (b : Bool) (r : Result ℕ Reject) → c ≡ ContradictionClose against
-    → b ≡ is_certified before (line_in_state (Contradiction against) x goal) → IfOk r (λ next. IsTrue b × (next ≡ n + 1)) → IfOk r (λ next. verdict_at before (close_script c) x goal n ≡ Ok next)
+    → b ≡ is_certified before (step_in_state (Contradiction against) x goal) → IfOk r (λ next. IsTrue b × (next ≡ n + 1)) → IfOk r (λ next. verdict_at before (close_script c) x goal n ≡ Ok next)
 contradiction_ok before c against x goal n b r is t h =
     ok_as r (verdict_at before (close_script c) x goal n) (verdict_at before (Contradiction against) x goal n) (ap (λ d. verdict_at before d x goal n) (contradiction_is c against is))
     (close_certified before (Contradiction against) x goal n b r (contradiction_lines before against x goal) t h)
 
 pub contradiction_bad : (before : List StatementView) (c : Close) (against : Option Against) (x : StepState) (goal : Goal) (n : ℕ) (b : Bool) (r : Result ℕ Reject) → c ≡ ContradictionClose against
-    → b ≡ is_certified before (line_in_state (Contradiction against) x goal) → IfErr r (λ e. IsFalse b × (e ≡ Bad n)) → IfErr r (RejectIs (verdict_at before (close_script c) x goal n))
+    → b ≡ is_certified before (step_in_state (Contradiction against) x goal) → IfErr r (λ e. IsFalse b × (e ≡ Bad n)) → IfErr r (RejectIs (verdict_at before (close_script c) x goal n))
 contradiction_bad before c against x goal n b r is t h =
     err_as r (verdict_at before (close_script c) x goal n) (verdict_at before (Contradiction against) x goal n) (ap (λ d. verdict_at before d x goal n) (contradiction_is c against is))
     (close_rejected before (Contradiction against) x goal n b r t h)

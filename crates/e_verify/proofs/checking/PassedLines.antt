@@ -19,7 +19,7 @@ use Rattle.e_construct.specs.declared.superpose.Superpose.{Superpose}
 use Rattle.e_deriv.specs.declared.block.Step.{Step}
 use Rattle.e_deriv.specs.Script.{Script, Cite, Hence, Make, Apply, Claim, Superposed, Qed, Contradiction, Cases, step_script, size}
 use Rattle.e_deriv.specs.Goal.{Goal, goal_of}
-use Rattle.e_deriv.specs.Lines.{Line, first_failure}
+use Rattle.e_deriv.specs.PlacedSteps.{PlacedStep, first_failure}
 use Rattle.e_deriv.specs.Steps.{are_over}
 use Rattle.e_deriv.specs.Certified.{is_certified}
 use Rattle.e_deriv.specs.Fitting.{is_small}
@@ -31,7 +31,7 @@ use Rattle.e_verify.specs.declared.step_state.StepState.{StepState}
 use Rattle.e_verify.specs.inner.StepStates.{with_facts, state_after_superposed}
 use Rattle.e_clause.specs.Written.{is_writable_cert, is_writable_against}
 use Rattle.e_deriv.specs.Written.{is_written_well}
-use Rattle.e_verify.specs.Checking.{line_in_state, lines_in_state, verdict_at, RejectIs, IsCheckable, IsChecked, AreVerified, StepRejects}
+use Rattle.e_verify.specs.Checking.{step_in_state, steps_in_state, verdict_at, RejectIs, IsCheckable, IsChecked, AreVerified, StepRejects}
 use Rattle.e_verify.proofs.checking.FirstLines.{some_lines, claim_lines, superposed_lines, cases_lines}
 use Rattle.e_deriv.proofs.Keeping.{stay_all}
 use Rattle.e_construct.specs.Superposing as superposing
@@ -54,13 +54,13 @@ not_ok n m e = cc
 not_err : (n m : ℕ) → fine n ≡ bad m → ⊥
 not_err n m e = cc
 
-pub pass_one : (p : Line → Bool) (x : Line) (xs : List Line) (n : ℕ) → p x ≡ true → first_failure p (x ∷ xs) n ≡ first_failure p xs (n + 1)
+pub pass_one : (p : PlacedStep → Bool) (x : PlacedStep) (xs : List PlacedStep) (n : ℕ) → p x ≡ true → first_failure p (x ∷ xs) n ≡ first_failure p xs (n + 1)
 pass_one p x xs n h = ap (λ b. if b then first_failure p xs (n + 1) else Err n) h
 
-pub fail_one : (p : Line → Bool) (x : Line) (xs : List Line) (n : ℕ) → p x ≡ false → first_failure p (x ∷ xs) n ≡ Err n
+pub fail_one : (p : PlacedStep → Bool) (x : PlacedStep) (xs : List PlacedStep) (n : ℕ) → p x ≡ false → first_failure p (x ∷ xs) n ≡ Err n
 fail_one p x xs n h = ap (λ b. if b then first_failure p xs (n + 1) else Err n) h
 
-pub pass_all : (p : Line → Bool) (xs ys : List Line) (n m : ℕ) → first_failure p xs n ≡ Ok m → first_failure p (xs ++ ys) n ≡ first_failure p ys m
+pub pass_all : (p : PlacedStep → Bool) (xs ys : List PlacedStep) (n m : ℕ) → first_failure p xs n ≡ Ok m → first_failure p (xs ++ ys) n ≡ first_failure p ys m
 pass_all p [] ys n m e = ap (first_failure p ys) (ok_is n m e)
 pass_all p (x ∷ xs) ys n m e = by (p x) e (pass_all p xs ys (n + 1) m)
   where
@@ -69,7 +69,7 @@ pass_all p (x ∷ xs) ys n m e = by (p x) e (pass_all p xs ys (n + 1) m)
     by true e f = f e
     by false e f = absurd (not_ok n m e)
 
-fail_all : (p : Line → Bool) (xs ys : List Line) (n k : ℕ) → first_failure p xs n ≡ Err k → first_failure p (xs ++ ys) n ≡ Err k
+fail_all : (p : PlacedStep → Bool) (xs ys : List PlacedStep) (n k : ℕ) → first_failure p xs n ≡ Err k → first_failure p (xs ++ ys) n ≡ Err k
 fail_all p [] ys n k e = absurd (not_err n k e)
 fail_all p (x ∷ xs) ys n k e = by (p x) e (fail_all p xs ys (n + 1) k)
   where
@@ -78,7 +78,7 @@ fail_all p (x ∷ xs) ys n k e = by (p x) e (fail_all p xs ys (n + 1) k)
     by true e f = f e
     by false e f = e
 
-count : (p : Line → Bool) (xs : List Line) (n m : ℕ) → first_failure p xs n ≡ Ok m → m ≡ n + length xs
+count : (p : PlacedStep → Bool) (xs : List PlacedStep) (n m : ℕ) → first_failure p xs n ≡ Ok m → m ≡ n + length xs
 count p [] n m e = omega (arith, ok_is n m e)
 count p (x ∷ xs) n m e = by (p x) e (count p xs (n + 1) m)
   where
@@ -86,7 +86,7 @@ count p (x ∷ xs) n m e = by (p x) e (count p xs (n + 1) m)
     by true e f = omega (arith, f e)
     by false e f = absurd (not_ok n m e)
 
-pub all_pass : (p : Line → Bool) (xs : List Line) (n m : ℕ) → first_failure p xs n ≡ Ok m → list_all p xs ≡ true
+pub all_pass : (p : PlacedStep → Bool) (xs : List PlacedStep) (n m : ℕ) → first_failure p xs n ≡ Ok m → list_all p xs ≡ true
 all_pass p [] n m e = refl
 all_pass p (x ∷ xs) n m e = by (p x) e (all_pass p xs (n + 1) m)
   where
@@ -94,7 +94,7 @@ all_pass p (x ∷ xs) n m e = by (p x) e (all_pass p xs (n + 1) m)
     by true e f = f e
     by false e f = absurd (not_ok n m e)
 
-pub reject_all : (p : Line → Bool) (xs ys : List Line) (n : ℕ) (e : Reject) → RejectIs (first_failure p xs n) e → RejectIs (first_failure p (xs ++ ys) n) e
+pub reject_all : (p : PlacedStep → Bool) (xs ys : List PlacedStep) (n : ℕ) (e : Reject) → RejectIs (first_failure p xs n) e → RejectIs (first_failure p (xs ++ ys) n) e
 reject_all p xs ys n (Bad k) h = fail_all p xs ys n k h
 reject_all p xs ys n NoMemory h = tt
 
@@ -102,27 +102,27 @@ pub reject_as : (v w : Result ℕ ℕ) (e : Reject) → v ≡ w → RejectIs w e
 reject_as v w e is h = subst (λ r. RejectIs r e) (sym is) h
 
 pub size_of : (before : List StatementView) (d : Script) (x : StepState) (goal : Goal) (n m : ℕ) → verdict_at before d x goal n ≡ Ok m → m ≡ n + size d
-size_of before d x goal n m e = count (is_certified before) (lines_in_state before d x goal) n m e ∙ ap (λ k. n + k) (lines_length before d d x.scope x.facts goal)
+size_of before d x goal n m e = count (is_certified before) (steps_in_state before d x goal) n m e ∙ ap (λ k. n + k) (lines_length before d d x.scope x.facts goal)
 
 -- ---- scopes
 
-abbrev is_small_line : Line → Bool
+abbrev is_small_line : PlacedStep → Bool
 is_small_line y = is_small y.scope
 
-rest_small : (y : Line) (ys all : List Line) → all ≡ y ∷ ys → list_all is_small_line all ≡ true → list_all is_small_line ys ≡ true
+rest_small : (y : PlacedStep) (ys all : List PlacedStep) → all ≡ y ∷ ys → list_all is_small_line all ≡ true → list_all is_small_line ys ≡ true
 rest_small y ys all e h = and_right (is_small_line y) (list_all is_small_line ys) (subst (λ zs. list_all is_small_line zs ≡ true) e h)
 
-first_small : (y : Line) (ys all : List Line) → all ≡ y ∷ ys → list_all is_small_line all ≡ true → is_small_line y ≡ true
+first_small : (y : PlacedStep) (ys all : List PlacedStep) → all ≡ y ∷ ys → list_all is_small_line all ≡ true → is_small_line y ≡ true
 first_small y ys all e h = and_left (is_small_line y) (list_all is_small_line ys) (subst (λ zs. list_all is_small_line zs ≡ true) e h)
 
-left_small : (ys zs : List Line) → list_all is_small_line (ys ++ zs) ≡ true → list_all is_small_line ys ≡ true
+left_small : (ys zs : List PlacedStep) → list_all is_small_line (ys ++ zs) ≡ true → list_all is_small_line ys ≡ true
 left_small ys zs h = and_left (list_all is_small_line ys) (list_all is_small_line zs) (sym (list_all-append is_small_line ys zs) ∙ h)
 
-right_small : (ys zs : List Line) → list_all is_small_line (ys ++ zs) ≡ true → list_all is_small_line zs ≡ true
+right_small : (ys zs : List PlacedStep) → list_all is_small_line (ys ++ zs) ≡ true → list_all is_small_line zs ≡ true
 right_small ys zs h = and_right (list_all is_small_line ys) (list_all is_small_line zs) (sym (list_all-append is_small_line ys zs) ∙ h)
 
 pub scope_small : (before : List StatementView) (d : Script) (x : StepState) (goal : Goal) (n : ℕ) → IsCheckable before d x goal n → is_small x.scope ≡ true
-scope_small before d x goal n r = let l = some_lines before d x goal in first_small (line_in_state d x goal) l.0 (lines_in_state before d x goal) l.1 r.scopes
+scope_small before d x goal n r = let l = some_lines before d x goal in first_small (step_in_state d x goal) l.0 (steps_in_state before d x goal) l.1 r.scopes
 
 -- ---- what is written well
 
@@ -199,9 +199,9 @@ make_line form names certs = record { written = λ rest h. (make_written form na
 pub apply_line : (theorem : ℕ) (args : List (Option Obj)) (names : List (List ℕ)) (certs : List Cert) → IsLine (Apply theorem args names certs)
 apply_line theorem args names certs = record { written = λ rest h. (apply_written theorem args names certs rest h).1; size_is = size-Apply theorem args names certs }
 
-pub bad_line : (before : List StatementView) (d : Script) (x : StepState) (goal : Goal) (n : ℕ) → is_certified before (line_in_state d x goal) ≡ false → verdict_at before d x goal n ≡ Err n
+pub bad_line : (before : List StatementView) (d : Script) (x : StepState) (goal : Goal) (n : ℕ) → is_certified before (step_in_state d x goal) ≡ false → verdict_at before d x goal n ≡ Err n
 bad_line before d x goal n h =
-    let l = some_lines before d x goal in ap (λ xs. first_failure (is_certified before) xs n) l.1 ∙ fail_one (is_certified before) (line_in_state d x goal) l.0 n h
+    let l = some_lines before d x goal in ap (λ xs. first_failure (is_certified before) xs n) l.1 ∙ fail_one (is_certified before) (step_in_state d x goal) l.0 n h
 
 pub line_passed : (before : List StatementView) (step : Step) (whole : Script → Script) (x after : StepState) (n : ℕ) (b : Bool) (r : Result ℕ Reject) → ((rest : Script) → step_script step rest ≡ whole rest) → IsLine whole
     → IsChecked before whole x after b → IfOk r (λ next. IsTrue b × (next ≡ n + 1)) → IfOk r (λ next. AreVerified before (step_script step) x n after next)
@@ -212,7 +212,7 @@ line_passed before step whole x after n b (Ok next) is line c h =
           let q = subst (λ d. IsCheckable before d x goal n) (is rest) r in
           record {
             written = line.written rest q.written;
-            scopes = rest_small (line_in_state (whole rest) x goal) (lines_in_state before rest after goal) (lines_in_state before (whole rest) x goal) (c.next h.0 rest goal) q.scopes;
+            scopes = rest_small (step_in_state (whole rest) x goal) (steps_in_state before rest after goal) (steps_in_state before (whole rest) x goal) (c.next h.0 rest goal) q.scopes;
             facts = c.formed h.0 q.facts;
             shown = q.shown;
             few = omega (arith, h.1, q.few, line.size_is rest);
@@ -220,8 +220,8 @@ line_passed before step whole x after n b (Ok next) is line c h =
       same = λ rest goal.
           ap (λ d. verdict_at before d x goal n) (is rest)
           ∙ ap (λ xs. first_failure (is_certified before) xs n) (c.next h.0 rest goal)
-          ∙ pass_one (is_certified before) (line_in_state (whole rest) x goal) (lines_in_state before rest after goal) n (sym (c.test rest goal) ∙ h.0)
-          ∙ ap (first_failure (is_certified before) (lines_in_state before rest after goal)) (sym h.1);
+          ∙ pass_one (is_certified before) (step_in_state (whole rest) x goal) (steps_in_state before rest after goal) n (sym (c.test rest goal) ∙ h.0)
+          ∙ ap (first_failure (is_certified before) (steps_in_state before rest after goal)) (sym h.1);
       kept = c.kept h.0;
     }
 
@@ -235,13 +235,13 @@ line_rejected before step whole x after n b (Err e) is c h =
 
 -- ---- a close that is one line
 
-pub close_certified : (before : List StatementView) (d : Script) (x : StepState) (goal : Goal) (n : ℕ) (b : Bool) (r : Result ℕ Reject) → lines_in_state before d x goal ≡ line_in_state d x goal ∷ [] → b ≡ is_certified before (line_in_state d x goal)
+pub close_certified : (before : List StatementView) (d : Script) (x : StepState) (goal : Goal) (n : ℕ) (b : Bool) (r : Result ℕ Reject) → steps_in_state before d x goal ≡ step_in_state d x goal ∷ [] → b ≡ is_certified before (step_in_state d x goal)
     → IfOk r (λ next. IsTrue b × (next ≡ n + 1)) → IfOk r (λ next. verdict_at before d x goal n ≡ Ok next)
 close_certified before d x goal n b (Err e) one t h = tt
 close_certified before d x goal n b (Ok next) one t h =
-    ap (λ xs. first_failure (is_certified before) xs n) one ∙ pass_one (is_certified before) (line_in_state d x goal) [] n (sym t ∙ h.0) ∙ ap Ok (sym h.1)
+    ap (λ xs. first_failure (is_certified before) xs n) one ∙ pass_one (is_certified before) (step_in_state d x goal) [] n (sym t ∙ h.0) ∙ ap Ok (sym h.1)
 
-pub close_rejected : (before : List StatementView) (d : Script) (x : StepState) (goal : Goal) (n : ℕ) (b : Bool) (r : Result ℕ Reject) → b ≡ is_certified before (line_in_state d x goal)
+pub close_rejected : (before : List StatementView) (d : Script) (x : StepState) (goal : Goal) (n : ℕ) (b : Bool) (r : Result ℕ Reject) → b ≡ is_certified before (step_in_state d x goal)
     → IfErr r (λ e. IsFalse b × (e ≡ Bad n)) → IfErr r (RejectIs (verdict_at before d x goal n))
 close_rejected before d x goal n b (Ok next) t h = tt
 close_rejected before d x goal n b (Err e) t h = subst (RejectIs (verdict_at before d x goal n)) (sym h.1) (bad_line before d x goal n (sym t ∙ h.0))
@@ -251,10 +251,10 @@ close_rejected before d x goal n b (Err e) t h = subst (RejectIs (verdict_at bef
 pub claim_inner : (before : List StatementView) (shown : List Lit) (inner rest : Script) (x : StepState) (goal : Goal) (n : ℕ) → IsCheckable before (Claim shown inner rest) x goal n → IsCheckable before inner x (goal_of shown) (n + 1)
 claim_inner before shown inner rest x goal n r =
     let w = claim_written shown inner rest r.written in
-    let s = rest_small (line_in_state (Claim shown inner rest) x goal) _ (lines_in_state before (Claim shown inner rest) x goal) (claim_lines before shown inner x rest goal) r.scopes in
+    let s = rest_small (step_in_state (Claim shown inner rest) x goal) _ (steps_in_state before (Claim shown inner rest) x goal) (claim_lines before shown inner x rest goal) r.scopes in
     record {
       written = w.1;
-      scopes = left_small (lines_in_state before inner x (goal_of shown)) (lines_in_state before rest (with_facts (joined_all x.facts shown) x) goal) s;
+      scopes = left_small (steps_in_state before inner x (goal_of shown)) (steps_in_state before rest (with_facts (joined_all x.facts shown) x) goal) s;
       facts = r.facts;
       shown = w.0;
       few = omega (arith, r.few, size-Claim shown inner rest);
@@ -265,21 +265,21 @@ pub passed_claim : (before : List StatementView) (shown : List Lit) (inner : Scr
 passed_claim before shown inner x n m h e =
     let after = with_facts (joined_all x.facts shown) x in
     let p = is_certified before in
-    let A = lines_in_state before inner x (goal_of shown) in
+    let A = steps_in_state before inner x (goal_of shown) in
     record {
       ready = λ rest goal r.
-          let s = rest_small (line_in_state (Claim shown inner rest) x goal) _ (lines_in_state before (Claim shown inner rest) x goal) (claim_lines before shown inner x rest goal) r.scopes in
+          let s = rest_small (step_in_state (Claim shown inner rest) x goal) _ (steps_in_state before (Claim shown inner rest) x goal) (claim_lines before shown inner x rest goal) r.scopes in
           record {
             written = (claim_written shown inner rest r.written).2;
-            scopes = right_small A (lines_in_state before rest after goal) s;
+            scopes = right_small A (steps_in_state before rest after goal) s;
             facts = all_joined_formed x.facts shown r.facts (claim_written shown inner rest r.written).0;
             shown = r.shown;
             few = omega (arith, r.few, size-Claim shown inner rest, size_of before inner x (goal_of shown) (n + 1) m e);
           };
       same = λ rest goal.
-          let B = lines_in_state before rest after goal in
+          let B = steps_in_state before rest after goal in
           ap (λ xs. first_failure p xs n) (claim_lines before shown inner x rest goal)
-          ∙ pass_one p (line_in_state (Claim shown inner rest) x goal) (A ++ B) n (rw h refl)
+          ∙ pass_one p (step_in_state (Claim shown inner rest) x goal) (A ++ B) n (rw h refl)
           ∙ pass_all p A B (n + 1) m e;
       kept = stay_all x.facts shown;
     }
@@ -288,10 +288,10 @@ pub claim_rejected : (before : List StatementView) (shown : List Lit) (inner res
     → RejectIs (verdict_at before inner x (goal_of shown) (n + 1)) e → RejectIs (verdict_at before (Claim shown inner rest) x goal n) e
 claim_rejected before shown inner rest x goal n e h k =
     let p = is_certified before in
-    let A = lines_in_state before inner x (goal_of shown) in
-    let B = lines_in_state before rest (with_facts (joined_all x.facts shown) x) goal in
+    let A = steps_in_state before inner x (goal_of shown) in
+    let B = steps_in_state before rest (with_facts (joined_all x.facts shown) x) goal in
     reject_as (verdict_at before (Claim shown inner rest) x goal n) (first_failure p (A ++ B) (n + 1)) e
-    (ap (λ xs. first_failure p xs n) (claim_lines before shown inner x rest goal) ∙ pass_one p (line_in_state (Claim shown inner rest) x goal) (A ++ B) n (rw h refl))
+    (ap (λ xs. first_failure p xs n) (claim_lines before shown inner x rest goal) ∙ pass_one p (step_in_state (Claim shown inner rest) x goal) (A ++ B) n (rw h refl))
     (reject_all p A B (n + 1) e k)
 
 pub claim_bad : (before : List StatementView) (shown : List Lit) (inner rest : Script) (x : StepState) (goal : Goal) (n : ℕ) → are_over x.scope shown ≡ false → verdict_at before (Claim shown inner rest) x goal n ≡ Err n
@@ -304,10 +304,10 @@ pub superposed_inner : (before : List StatementView) (form : Superpose) (names :
 superposed_inner before form names shown certs inner rest x goal n fit r =
     let w = superposed_written form names shown certs inner rest r.written in
     let d = Superposed form names shown certs inner rest in
-    let s = rest_small (line_in_state d x goal) _ (lines_in_state before d x goal) (superposed_lines before form names shown certs inner x rest goal) r.scopes in
+    let s = rest_small (step_in_state d x goal) _ (steps_in_state before d x goal) (superposed_lines before form names shown certs inner x rest goal) r.scopes in
     record {
       written = w.2;
-      scopes = left_small (lines_in_state before inner (state_after_superposed form x) (goal_of shown)) (lines_in_state before rest (with_facts (joined_all x.facts shown) x) goal) s;
+      scopes = left_small (steps_in_state before inner (state_after_superposed form x) (goal_of shown)) (steps_in_state before rest (with_facts (joined_all x.facts shown) x) goal) s;
       facts = all_joined_formed x.facts (superposing.gives_of_superposition form x.scope) r.facts (superposed_gives_formed form x.scope fit);
       shown = w.0;
       few = omega (arith, r.few, size-Superposed form names shown certs inner rest);
@@ -315,29 +315,29 @@ superposed_inner before form names shown certs inner rest x goal n fit r =
 
 -- the superposition itself is certified, whatever its block is
 abbrev pub IsHead : List StatementView → Superpose → List (List ℕ) → List Lit → List Cert → StepState → Bool → Type 0
-IsHead before form names shown certs x b = (inner rest : Script) (goal : Goal) → b ≡ is_certified before (line_in_state (Superposed form names shown certs inner rest) x goal)
+IsHead before form names shown certs x b = (inner rest : Script) (goal : Goal) → b ≡ is_certified before (step_in_state (Superposed form names shown certs inner rest) x goal)
 
 pub passed_superposed : (before : List StatementView) (form : Superpose) (names : List (List ℕ)) (shown : List Lit) (certs : List Cert) (inner : Script) (x : StepState) (n m : ℕ) → IsHead before form names shown certs x true
     → verdict_at before inner (state_after_superposed form x) (goal_of shown) (n + 1) ≡ Ok m → AreVerified before (Superposed form names shown certs inner) x n (with_facts (joined_all x.facts shown) x) m
 passed_superposed before form names shown certs inner x n m h e =
     let after = with_facts (joined_all x.facts shown) x in
     let p = is_certified before in
-    let A = lines_in_state before inner (state_after_superposed form x) (goal_of shown) in
+    let A = steps_in_state before inner (state_after_superposed form x) (goal_of shown) in
     record {
       ready = λ rest goal r.
           let d = Superposed form names shown certs inner rest in
-          let s = rest_small (line_in_state d x goal) _ (lines_in_state before d x goal) (superposed_lines before form names shown certs inner x rest goal) r.scopes in
+          let s = rest_small (step_in_state d x goal) _ (steps_in_state before d x goal) (superposed_lines before form names shown certs inner x rest goal) r.scopes in
           record {
             written = (superposed_written form names shown certs inner rest r.written).3;
-            scopes = right_small A (lines_in_state before rest after goal) s;
+            scopes = right_small A (steps_in_state before rest after goal) s;
             facts = all_joined_formed x.facts shown r.facts (superposed_written form names shown certs inner rest r.written).0;
             shown = r.shown;
             few = omega (arith, r.few, size-Superposed form names shown certs inner rest, size_of before inner (state_after_superposed form x) (goal_of shown) (n + 1) m e);
           };
       same = λ rest goal.
-          let B = lines_in_state before rest after goal in
+          let B = steps_in_state before rest after goal in
           ap (λ xs. first_failure p xs n) (superposed_lines before form names shown certs inner x rest goal)
-          ∙ pass_one p (line_in_state (Superposed form names shown certs inner rest) x goal) (A ++ B) n (sym (h inner rest goal))
+          ∙ pass_one p (step_in_state (Superposed form names shown certs inner rest) x goal) (A ++ B) n (sym (h inner rest goal))
           ∙ pass_all p A B (n + 1) m e;
       kept = stay_all x.facts shown;
     }
@@ -346,10 +346,10 @@ pub superposed_rejected : (before : List StatementView) (form : Superpose) (name
     → IsHead before form names shown certs x true → RejectIs (verdict_at before inner (state_after_superposed form x) (goal_of shown) (n + 1)) e → RejectIs (verdict_at before (Superposed form names shown certs inner rest) x goal n) e
 superposed_rejected before form names shown certs inner rest x goal n e h k =
     let p = is_certified before in
-    let A = lines_in_state before inner (state_after_superposed form x) (goal_of shown) in
-    let B = lines_in_state before rest (with_facts (joined_all x.facts shown) x) goal in
+    let A = steps_in_state before inner (state_after_superposed form x) (goal_of shown) in
+    let B = steps_in_state before rest (with_facts (joined_all x.facts shown) x) goal in
     reject_as (verdict_at before (Superposed form names shown certs inner rest) x goal n) (first_failure p (A ++ B) (n + 1)) e
-    (ap (λ xs. first_failure p xs n) (superposed_lines before form names shown certs inner x rest goal) ∙ pass_one p (line_in_state (Superposed form names shown certs inner rest) x goal) (A ++ B) n (sym (h inner rest goal)))
+    (ap (λ xs. first_failure p xs n) (superposed_lines before form names shown certs inner x rest goal) ∙ pass_one p (step_in_state (Superposed form names shown certs inner rest) x goal) (A ++ B) n (sym (h inner rest goal)))
     (reject_all p A B (n + 1) e k)
 
 -- ---- a split
@@ -358,10 +358,10 @@ pub cases_first : (before : List StatementView) (lit : Lit) (first second : Scri
     → IsCheckable before first (with_facts (joined x.facts lit) x) goal (n + 1)
 cases_first before lit first second x goal n r =
     let w = cases_written lit first second r.written in
-    let s = rest_small (line_in_state (Cases lit first second) x goal) _ (lines_in_state before (Cases lit first second) x goal) (cases_lines before lit first second x goal) r.scopes in
+    let s = rest_small (step_in_state (Cases lit first second) x goal) _ (steps_in_state before (Cases lit first second) x goal) (cases_lines before lit first second x goal) r.scopes in
     record {
       written = w.1;
-      scopes = left_small (lines_in_state before first (with_facts (joined x.facts lit) x) goal) (lines_in_state before second (with_facts (joined x.facts (negation lit)) x) goal) s;
+      scopes = left_small (steps_in_state before first (with_facts (joined x.facts lit) x) goal) (steps_in_state before second (with_facts (joined x.facts (negation lit)) x) goal) s;
       facts = joined_formed x.facts lit r.facts w.0;
       shown = r.shown;
       few = omega (arith, r.few, size-Cases lit first second);
@@ -371,10 +371,10 @@ pub cases_second : (before : List StatementView) (lit : Lit) (first second : Scr
     → verdict_at before first (with_facts (joined x.facts lit) x) goal (n + 1) ≡ Ok m → IsCheckable before second (with_facts (joined x.facts (negation lit)) x) goal m
 cases_second before lit first second x goal n m r e =
     let w = cases_written lit first second r.written in
-    let s = rest_small (line_in_state (Cases lit first second) x goal) _ (lines_in_state before (Cases lit first second) x goal) (cases_lines before lit first second x goal) r.scopes in
+    let s = rest_small (step_in_state (Cases lit first second) x goal) _ (steps_in_state before (Cases lit first second) x goal) (cases_lines before lit first second x goal) r.scopes in
     record {
       written = w.2;
-      scopes = right_small (lines_in_state before first (with_facts (joined x.facts lit) x) goal) (lines_in_state before second (with_facts (joined x.facts (negation lit)) x) goal) s;
+      scopes = right_small (steps_in_state before first (with_facts (joined x.facts lit) x) goal) (steps_in_state before second (with_facts (joined x.facts (negation lit)) x) goal) s;
       facts = joined_formed x.facts (negation lit) r.facts w.0;
       shown = r.shown;
       few = omega (arith, r.few, size-Cases lit first second, size_of before first (with_facts (joined x.facts lit) x) goal (n + 1) m e);
@@ -385,18 +385,18 @@ pub cases_same : (before : List StatementView) (lit : Lit) (first second : Scrip
     → verdict_at before (Cases lit first second) x goal n ≡ verdict_at before second (with_facts (joined x.facts (negation lit)) x) goal m
 cases_same before lit first second x goal n m h e =
     let p = is_certified before in
-    let A = lines_in_state before first (with_facts (joined x.facts lit) x) goal in
-    let B = lines_in_state before second (with_facts (joined x.facts (negation lit)) x) goal in
-    ap (λ xs. first_failure p xs n) (cases_lines before lit first second x goal) ∙ pass_one p (line_in_state (Cases lit first second) x goal) (A ++ B) n (rw h refl) ∙ pass_all p A B (n + 1) m e
+    let A = steps_in_state before first (with_facts (joined x.facts lit) x) goal in
+    let B = steps_in_state before second (with_facts (joined x.facts (negation lit)) x) goal in
+    ap (λ xs. first_failure p xs n) (cases_lines before lit first second x goal) ∙ pass_one p (step_in_state (Cases lit first second) x goal) (A ++ B) n (rw h refl) ∙ pass_all p A B (n + 1) m e
 
 pub cases_rejected : (before : List StatementView) (lit : Lit) (first second : Script) (x : StepState) (goal : Goal) (n : ℕ) (e : Reject) → all_in_scope x.scope lit ≡ true
     → RejectIs (verdict_at before first (with_facts (joined x.facts lit) x) goal (n + 1)) e → RejectIs (verdict_at before (Cases lit first second) x goal n) e
 cases_rejected before lit first second x goal n e h k =
     let p = is_certified before in
-    let A = lines_in_state before first (with_facts (joined x.facts lit) x) goal in
-    let B = lines_in_state before second (with_facts (joined x.facts (negation lit)) x) goal in
+    let A = steps_in_state before first (with_facts (joined x.facts lit) x) goal in
+    let B = steps_in_state before second (with_facts (joined x.facts (negation lit)) x) goal in
     reject_as (verdict_at before (Cases lit first second) x goal n) (first_failure p (A ++ B) (n + 1)) e
-    (ap (λ xs. first_failure p xs n) (cases_lines before lit first second x goal) ∙ pass_one p (line_in_state (Cases lit first second) x goal) (A ++ B) n (rw h refl))
+    (ap (λ xs. first_failure p xs n) (cases_lines before lit first second x goal) ∙ pass_one p (step_in_state (Cases lit first second) x goal) (A ++ B) n (rw h refl))
     (reject_all p A B (n + 1) e k)
 
 pub cases_bad : (before : List StatementView) (lit : Lit) (first second : Script) (x : StepState) (goal : Goal) (n : ℕ) → all_in_scope x.scope lit ≡ false → verdict_at before (Cases lit first second) x goal n ≡ Err n

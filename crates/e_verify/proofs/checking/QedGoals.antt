@@ -15,7 +15,7 @@ use Rattle.e_deriv.specs.Script.{Qed}
 use Rattle.e_deriv.specs.Goal.{Goal, are_for, goal_with}
 use Rattle.e_deriv.specs.Certified.{is_certified}
 use Rattle.e_verify.specs.declared.step_state.StepState.{StepState}
-use Rattle.e_verify.specs.Checking.{line_in_state}
+use Rattle.e_verify.specs.Checking.{step_in_state}
 
 each_formed : (f : Lit → Lit) → ((l : Lit) → is_well_formed (f l) ≡ is_well_formed l) → (ls : List Lit) → list_all is_well_formed ls ≡ true → list_all is_well_formed (map f ls) ≡ true
 each_formed f e [] h = refl
@@ -26,6 +26,6 @@ pub goal_formed : (goal : Goal) (objects : List Obj) → list_all is_well_formed
 goal_formed goal objects h = each_formed (renamed (image_in (paired goal.made objects))) (renamed_well_formed (image_in (paired goal.made objects))) goal.shown h
 
 pub qed_certified : (objects : List Obj) (certs : List Cert) (goal : Goal) (x : StepState) → are_for goal x.scope objects ≡ true → (before : List StatementView)
-    → certify_all x.scope x.facts (goal_with goal objects) certs ≡ is_certified before (line_in_state (Qed objects certs) x goal)
+    → certify_all x.scope x.facts (goal_with goal objects) certs ≡ is_certified before (step_in_state (Qed objects certs) x goal)
 qed_certified objects certs goal x h before =
     sym (ap (λ b. b && (certify_all x.scope x.facts (goal_with goal objects) certs && true)) h ∙ and-true (certify_all x.scope x.facts (goal_with goal objects) certs))

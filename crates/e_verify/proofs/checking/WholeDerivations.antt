@@ -11,7 +11,7 @@ use Rattle.e_literal.proofs.GrownScopes.{total_grown}
 use Rattle.e_literal.proofs.Booleans.{and_left, and_right}
 use Rattle.e_deriv.specs.Script.{Script}
 use Rattle.e_deriv.specs.Goal.{Goal, goal_of_statement, facts_of_statement}
-use Rattle.e_deriv.specs.Certified.{Certified, derivation_lines, is_certified, verdict}
+use Rattle.e_deriv.specs.Certified.{Certified, derivation_steps, is_certified, verdict}
 use Rattle.e_deriv.specs.Fitting.{is_small, is_small_statement, all_objects}
 use Rattle.e_deriv.proofs.Smallness.{few_objects}
 use Rattle.e_verify.specs.declared.step_state.StepState.{StepState}
@@ -56,7 +56,7 @@ start_ready before t d x g v is same =
     }))
 
 pub certified_of : (before : List StatementView) (t : StatementView) (d : Script) (v : Result ℕ ℕ) (n : ℕ) → verdict before t d ≡ v → v ≡ Ok n → Certified before t d
-certified_of before t d v n e h = all_pass (is_certified before) (derivation_lines before t d) 1 n (e ∙ h)
+certified_of before t d v n e h = all_pass (is_certified before) (derivation_steps before t d) 1 n (e ∙ h)
 
 pub few_declared : (t : StatementView) → is_small_statement t ≡ true → length t.declared < 2 ^ 16
 few_declared t h = omega (arith, few_objects t h)

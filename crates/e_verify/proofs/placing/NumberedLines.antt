@@ -29,7 +29,7 @@ use Rattle.e_construct.specs.Construct.{fits_construction as fits_form, sorts_ma
 use Rattle.e_construct.specs.Superposing as superposing
 use Rattle.e_deriv.specs.Script.{Script, Cite, Hence, Make, Apply, Claim, Superposed, Qed, Contradiction, Cases, erased}
 use Rattle.e_deriv.specs.Goal.{Goal, goal_of, are_for}
-use Rattle.e_deriv.specs.Lines.{Line, line, lines, theorem_at}
+use Rattle.e_deriv.specs.PlacedSteps.{PlacedStep, placed_step, placed_steps, theorem_at}
 use Rattle.e_deriv.specs.Parts.{has_no_blank, written}
 use Rattle.e_deriv.specs.Steps.{are_over, is_applied, needs}
 use Rattle.e_deriv.specs.Certified.{is_certified}
@@ -40,11 +40,11 @@ use Rattle.e_verify.specs.inner.Numbering.{has_few}
 use Rattle.e_verify.proofs.checking.PassedLines.{hence_written, make_written, apply_written, claim_written, superposed_written, qed_written, contradiction_written, cases_written, cite_written}
 use Rattle.e_verify.proofs.placing.PlacedCertificates.{certs_certified, against_certified}
 
-abbrev are_certified : List StatementView → List Line → Bool
+abbrev are_certified : List StatementView → List PlacedStep → Bool
 are_certified before xs = list_all (is_certified before) xs
 
-abbrev lines_of : List StatementView → Script → Scope → List Lit → Goal → List Line
-lines_of before d s facts goal = lines before d d s facts goal
+abbrev lines_of : List StatementView → Script → Scope → List Lit → Goal → List PlacedStep
+lines_of before d s facts goal = placed_steps before d d s facts goal
 
 -- ---- certified lines stay certified
 
@@ -59,47 +59,47 @@ both_true a b h k = ap₂ {A = Bool} {B = Bool} (λ x y. x && y) h k
 
 pub numbered_certified : (before : List StatementView) (d : Script) (s : Scope) (facts : List Lit) (goal : Goal) → are_certified before (lines_of before d s facts goal) ≡ true
     → are_certified before (lines_of before (with_places before d s facts goal) s facts goal) ≡ true
-unfolding lines with_places
+unfolding placed_steps with_places
 numbered_certified before (Cite by rest) s facts goal h =
-    let first : Bool = is_certified before (line (Cite by rest) (Cite by rest) s facts goal) in
-    let next : List Line = lines before rest rest s (joined facts by.lit) goal in
+    let first : Bool = is_certified before (placed_step (Cite by rest) (Cite by rest) s facts goal) in
+    let next : List PlacedStep = placed_steps before rest rest s (joined facts by.lit) goal in
     both_true _ _ (and_left first (are_certified before next) h) (numbered_certified before rest s (joined facts by.lit) goal (and_right first (are_certified before next) h))
 numbered_certified before (Hence lit cert rest) s facts goal h =
-    let first : Bool = is_certified before (line (Hence lit cert rest) (Hence lit cert rest) s facts goal) in
-    let next : List Line = lines before rest rest s (joined facts lit) goal in
+    let first : Bool = is_certified before (placed_step (Hence lit cert rest) (Hence lit cert rest) s facts goal) in
+    let next : List PlacedStep = placed_steps before rest rest s (joined facts lit) goal in
     both_true _ _ (by cert (and_left first (are_certified before next) h)) (numbered_certified before rest s (joined facts lit) goal (and_right first (are_certified before next) h))
   where
     placed : Script
     placed = with_places before rest s (joined facts lit) goal
 
-    by : (c : Option Cert) → is_certified before (line (Hence lit c rest) (Hence lit c rest) s facts goal) ≡ true
-        → is_certified before (line (Hence lit (option_map (cert_with_places facts lit) c) placed) (Hence lit (option_map (cert_with_places facts lit) c) placed) s facts goal) ≡ true
+    by : (c : Option Cert) → is_certified before (placed_step (Hence lit c rest) (Hence lit c rest) s facts goal) ≡ true
+        → is_certified before (placed_step (Hence lit (option_map (cert_with_places facts lit) c) placed) (Hence lit (option_map (cert_with_places facts lit) c) placed) s facts goal) ≡ true
     by None k = k
     by (Some c) k = with_certs (all_in_scope s lit) _ _ true (certs_certified s facts (lit ∷ []) (c ∷ [])) k
 numbered_certified before (Make form names certs rest) s facts goal h =
-    let first : Bool = is_certified before (line (Make form names certs rest) (Make form names certs rest) s facts goal) in
-    let next : List Line = lines before rest rest (grown s (sorts_made form)) (joined_all facts (gives_of_construction form s)) goal in
-    both_true _ _ (with_certs (fits_form form s) _ _ true (certs_certified s facts (needs before (line (Make form names certs rest) (Make form names certs rest) s facts goal)) certs) (and_left first (are_certified before next) h))
+    let first : Bool = is_certified before (placed_step (Make form names certs rest) (Make form names certs rest) s facts goal) in
+    let next : List PlacedStep = placed_steps before rest rest (grown s (sorts_made form)) (joined_all facts (gives_of_construction form s)) goal in
+    both_true _ _ (with_certs (fits_form form s) _ _ true (certs_certified s facts (needs before (placed_step (Make form names certs rest) (Make form names certs rest) s facts goal)) certs) (and_left first (are_certified before next) h))
     (numbered_certified before rest (grown s (sorts_made form)) (joined_all facts (gives_of_construction form s)) goal (and_right first (are_certified before next) h))
 numbered_certified before (Apply theorem args names certs rest) s facts goal h =
     let t : StatementView = theorem_at before theorem in
-    let first : Bool = is_certified before (line (Apply theorem args names certs rest) (Apply theorem args names certs rest) s facts goal) in
-    let next : List Line = lines before rest rest (grown s t.made) (joined_all facts (gives_of_use t (written args) s)) goal in
-    both_true _ _ (with_certs (is_applied before theorem s args (written args)) _ _ (has_no_blank args) (certs_certified s facts (needs before (line (Apply theorem args names certs rest) (Apply theorem args names certs rest) s facts goal)) certs) (and_left first (are_certified before next) h))
+    let first : Bool = is_certified before (placed_step (Apply theorem args names certs rest) (Apply theorem args names certs rest) s facts goal) in
+    let next : List PlacedStep = placed_steps before rest rest (grown s t.made) (joined_all facts (gives_of_use t (written args) s)) goal in
+    both_true _ _ (with_certs (is_applied before theorem s args (written args)) _ _ (has_no_blank args) (certs_certified s facts (needs before (placed_step (Apply theorem args names certs rest) (Apply theorem args names certs rest) s facts goal)) certs) (and_left first (are_certified before next) h))
     (numbered_certified before rest (grown s t.made) (joined_all facts (gives_of_use t (written args) s)) goal (and_right first (are_certified before next) h))
 numbered_certified before (Claim shown inner rest) s facts goal h =
-    let first : Bool = is_certified before (line (Claim shown inner rest) (Claim shown inner rest) s facts goal) in
-    let within : List Line = lines before inner inner s facts (goal_of shown) in
-    let next : List Line = lines before rest rest s (joined_all facts shown) goal in
+    let first : Bool = is_certified before (placed_step (Claim shown inner rest) (Claim shown inner rest) s facts goal) in
+    let within : List PlacedStep = placed_steps before inner inner s facts (goal_of shown) in
+    let next : List PlacedStep = placed_steps before rest rest s (joined_all facts shown) goal in
     let later = and_right first (are_certified before (within ++ next)) h in
     both_true _ _ (and_left first (are_certified before (within ++ next)) h)
     (all_both (is_certified before) (lines_of before (with_places before inner s facts (goal_of shown)) s facts (goal_of shown)) (lines_of before (with_places before rest s (joined_all facts shown) goal) s (joined_all facts shown) goal)
     (numbered_certified before inner s facts (goal_of shown) (all_left (is_certified before) within next later))
     (numbered_certified before rest s (joined_all facts shown) goal (all_right (is_certified before) within next later)))
 numbered_certified before (Superposed form names shown certs inner rest) s facts goal h =
-    let first : Bool = is_certified before (line (Superposed form names shown certs inner rest) (Superposed form names shown certs inner rest) s facts goal) in
-    let within : List Line = lines before inner inner (grown s superposing.sorts_copied) (joined_all facts (superposing.gives_of_superposition form s)) (goal_of shown) in
-    let next : List Line = lines before rest rest s (joined_all facts shown) goal in
+    let first : Bool = is_certified before (placed_step (Superposed form names shown certs inner rest) (Superposed form names shown certs inner rest) s facts goal) in
+    let within : List PlacedStep = placed_steps before inner inner (grown s superposing.sorts_copied) (joined_all facts (superposing.gives_of_superposition form s)) (goal_of shown) in
+    let next : List PlacedStep = placed_steps before rest rest s (joined_all facts shown) goal in
     let later = and_right first (are_certified before (within ++ next)) h in
     both_true _ _ (with_certs (superposing.fits_superposition form s && are_over s shown) _ _ true (certs_certified s facts (superposing.needs_of_superposition form) certs) (and_left first (are_certified before (within ++ next)) h))
     (all_both (is_certified before) (lines_of before (with_places before inner (grown s superposing.sorts_copied) (joined_all facts (superposing.gives_of_superposition form s)) (goal_of shown)) (grown s superposing.sorts_copied) (joined_all facts (superposing.gives_of_superposition form s)) (goal_of shown))
@@ -107,16 +107,16 @@ numbered_certified before (Superposed form names shown certs inner rest) s facts
     (numbered_certified before inner (grown s superposing.sorts_copied) (joined_all facts (superposing.gives_of_superposition form s)) (goal_of shown) (all_left (is_certified before) within next later))
     (numbered_certified before rest s (joined_all facts shown) goal (all_right (is_certified before) within next later)))
 numbered_certified before (Qed objects certs) s facts goal h =
-    let first : Bool = is_certified before (line (Qed objects certs) (Qed objects certs) s facts goal) in
-    both_true _ _ (with_certs (are_for goal s objects) _ _ true (certs_certified s facts (needs before (line (Qed objects certs) (Qed objects certs) s facts goal)) certs) (and_left first true h)) refl
+    let first : Bool = is_certified before (placed_step (Qed objects certs) (Qed objects certs) s facts goal) in
+    both_true _ _ (with_certs (are_for goal s objects) _ _ true (certs_certified s facts (needs before (placed_step (Qed objects certs) (Qed objects certs) s facts goal)) certs) (and_left first true h)) refl
 numbered_certified before (Contradiction None) s facts goal h = h
 numbered_certified before (Contradiction (Some against)) s facts goal h =
-    let first : Bool = is_certified before (line (Contradiction (Some against)) (Contradiction (Some against)) s facts goal) in
+    let first : Bool = is_certified before (placed_step (Contradiction (Some against)) (Contradiction (Some against)) s facts goal) in
     both_true _ _ (against_certified s facts against (and_left first true h)) refl
 numbered_certified before (Cases lit one two) s facts goal h =
-    let first : Bool = is_certified before (line (Cases lit one two) (Cases lit one two) s facts goal) in
-    let within : List Line = lines before one one s (joined facts lit) goal in
-    let next : List Line = lines before two two s (joined facts (negation lit)) goal in
+    let first : Bool = is_certified before (placed_step (Cases lit one two) (Cases lit one two) s facts goal) in
+    let within : List PlacedStep = placed_steps before one one s (joined facts lit) goal in
+    let next : List PlacedStep = placed_steps before two two s (joined facts (negation lit)) goal in
     let later = and_right first (are_certified before (within ++ next)) h in
     both_true _ _ (and_left first (are_certified before (within ++ next)) h)
     (all_both (is_certified before) (lines_of before (with_places before one s (joined facts lit) goal) s (joined facts lit) goal) (lines_of before (with_places before two s (joined facts (negation lit)) goal) s (joined facts (negation lit)) goal)
@@ -240,7 +240,7 @@ few_of facts b h = ltb-true (length facts) (2 ^ 32) (and_left (nat_lt (length fa
 
 pub numbered_of_second : (before : List StatementView) (d : Script) (s : Scope) (facts : List Lit) (goal : Goal) → is_written_well d ≡ true → list_all has_few (lines_of before d s facts goal) ≡ true
     → has_certs_of version.Two (with_places before d s facts goal) ≡ true
-unfolding lines with_places has_certs_of
+unfolding placed_steps with_places has_certs_of
 numbered_of_second before (Cite by rest) s facts goal w h = numbered_of_second before rest s (joined facts by.lit) goal (cite_written by rest w).1 (and_right _ _ h)
 numbered_of_second before (Hence lit cert rest) s facts goal w h =
     let k = hence_written lit cert rest w in
@@ -251,34 +251,34 @@ numbered_of_second before (Hence lit cert rest) s facts goal w h =
     by (Some c) k = cert_of_second facts (few_of facts _ h) lit c k
 numbered_of_second before (Make form names certs rest) s facts goal w h =
     let k = make_written form names certs rest w in
-    both_true _ _ (certs_of_second facts (few_of facts _ h) (needs before (line (Make form names certs rest) (Make form names certs rest) s facts goal)) certs k.0)
+    both_true _ _ (certs_of_second facts (few_of facts _ h) (needs before (placed_step (Make form names certs rest) (Make form names certs rest) s facts goal)) certs k.0)
     (numbered_of_second before rest (grown s (sorts_made form)) (joined_all facts (gives_of_construction form s)) goal k.1 (and_right _ _ h))
 numbered_of_second before (Apply theorem args names certs rest) s facts goal w h =
     let k = apply_written theorem args names certs rest w in
-    both_true _ _ (certs_of_second facts (few_of facts _ h) (needs before (line (Apply theorem args names certs rest) (Apply theorem args names certs rest) s facts goal)) certs k.0)
+    both_true _ _ (certs_of_second facts (few_of facts _ h) (needs before (placed_step (Apply theorem args names certs rest) (Apply theorem args names certs rest) s facts goal)) certs k.0)
     (numbered_of_second before rest (grown s (theorem_at before theorem).made) (joined_all facts (gives_of_use (theorem_at before theorem) (written args) s)) goal k.1 (and_right _ _ h))
 numbered_of_second before (Claim shown inner rest) s facts goal w h =
-    let within : List Line = lines before inner inner s facts (goal_of shown) in
-    let next : List Line = lines before rest rest s (joined_all facts shown) goal in
+    let within : List PlacedStep = placed_steps before inner inner s facts (goal_of shown) in
+    let next : List PlacedStep = placed_steps before rest rest s (joined_all facts shown) goal in
     let later = and_right (nat_lt (length facts) (2 ^ 32)) (list_all has_few (within ++ next)) h in
     let k = claim_written shown inner rest w in
     both_true _ _ (numbered_of_second before inner s facts (goal_of shown) k.1 (all_left has_few within next later))
     (numbered_of_second before rest s (joined_all facts shown) goal k.2 (all_right has_few within next later))
 numbered_of_second before (Superposed form names shown certs inner rest) s facts goal w h =
-    let within : List Line = lines before inner inner (grown s superposing.sorts_copied) (joined_all facts (superposing.gives_of_superposition form s)) (goal_of shown) in
-    let next : List Line = lines before rest rest s (joined_all facts shown) goal in
+    let within : List PlacedStep = placed_steps before inner inner (grown s superposing.sorts_copied) (joined_all facts (superposing.gives_of_superposition form s)) (goal_of shown) in
+    let next : List PlacedStep = placed_steps before rest rest s (joined_all facts shown) goal in
     let later = and_right (nat_lt (length facts) (2 ^ 32)) (list_all has_few (within ++ next)) h in
     let k = superposed_written form names shown certs inner rest w in
     both_true _ _ (certs_of_second facts (few_of facts _ h) (superposing.needs_of_superposition form) certs k.1)
     (both_true _ _ (numbered_of_second before inner (grown s superposing.sorts_copied) (joined_all facts (superposing.gives_of_superposition form s)) (goal_of shown) k.2 (all_left has_few within next later))
     (numbered_of_second before rest s (joined_all facts shown) goal k.3 (all_right has_few within next later)))
 numbered_of_second before (Qed objects certs) s facts goal w h =
-    certs_of_second facts (few_of facts _ h) (needs before (line (Qed objects certs) (Qed objects certs) s facts goal)) certs (qed_written objects certs w)
+    certs_of_second facts (few_of facts _ h) (needs before (placed_step (Qed objects certs) (Qed objects certs) s facts goal)) certs (qed_written objects certs w)
 numbered_of_second before (Contradiction None) s facts goal w h = refl
 numbered_of_second before (Contradiction (Some against)) s facts goal w h = against_of_second facts (few_of facts _ h) against (contradiction_written (Some against) w)
 numbered_of_second before (Cases lit one two) s facts goal w h =
-    let within : List Line = lines before one one s (joined facts lit) goal in
-    let next : List Line = lines before two two s (joined facts (negation lit)) goal in
+    let within : List PlacedStep = placed_steps before one one s (joined facts lit) goal in
+    let next : List PlacedStep = placed_steps before two two s (joined facts (negation lit)) goal in
     let later = and_right (nat_lt (length facts) (2 ^ 32)) (list_all has_few (within ++ next)) h in
     let k = cases_written lit one two w in
     both_true _ _ (numbered_of_second before one s (joined facts lit) goal k.1 (all_left has_few within next later))

@@ -24,7 +24,7 @@ use Rattle.e_deriv.specs.declared.block.Close.{Close}
 use Rattle.e_deriv.specs.declared.block.Close.TheVariants.{Qed as QedClose, Contradiction as ContradictionClose, Cases as CasesClose}
 use Rattle.e_deriv.specs.Script.{Script, Cite, Hence, Make, Apply, Claim, Superposed, Qed, Contradiction, Cases, script_of, step_script, steps_script, close_script}
 use Rattle.e_deriv.specs.Goal.{Goal, goal_of, goal_with}
-use Rattle.e_deriv.specs.Lines.{theorem_at}
+use Rattle.e_deriv.specs.PlacedSteps.{theorem_at}
 use Rattle.e_deriv.specs.Parts.{written}
 use Rattle.e_deriv.proofs.Scripts.{steps_at, steps_script-append, step_script-Cite, step_script-Hence, step_script-Make, step_script-Apply, close_script-Qed, close_script-Contradiction, close_script-Cases}
 use Rattle.e_deriv.proofs.Keeping.{stay_joined, stay_all}
@@ -32,7 +32,7 @@ use Rattle.e_verify.specs.declared.step_state.StepState.{StepState}
 use Rattle.e_verify.specs.declared.step_state.Checkpoint.{Checkpoint}
 use Rattle.e_verify.specs.inner.StepStates.{with_facts, state_after_superposed, checkpoint_of, restored}
 use Rattle.e_verify.specs.inner.Numbering.{has_few, HaveFew, IsNumberedStep, places_at}
-use Rattle.e_verify.specs.Checking.{line_in_state, lines_in_state, KeepsFirstFacts}
+use Rattle.e_verify.specs.Checking.{step_in_state, steps_in_state, KeepsFirstFacts}
 use Rattle.e_verify.specs.Numbered.{cert_with_places, certs_with_places, against_with_places, with_places}
 use Rattle.e_verify.proofs.checking.FirstLines.{cite_lines, hence_lines, make_lines, apply_lines, qed_lines, contradiction_lines, cases_lines, claim_lines, superposed_lines, after_make, after_apply}
 use Rattle.e_verify.proofs.checking.InnerBlocks.{kept_on, restored_is}
@@ -88,11 +88,11 @@ cases_places before lit first second x goal = refl
 few_first : (x : StepState) → length x.facts < 2 ^ 32 → nat_lt (length x.facts) (2 ^ 32) ≡ true
 few_first x few = lt-ltb (length x.facts) (2 ^ 32) few
 
-few_line : (before : List StatementView) (d : Script) (x : StepState) (goal : Goal) (rest : Script) (after : StepState) → length x.facts < 2 ^ 32 → lines_in_state before d x goal ≡ line_in_state d x goal ∷ lines_in_state before rest after goal
+few_line : (before : List StatementView) (d : Script) (x : StepState) (goal : Goal) (rest : Script) (after : StepState) → length x.facts < 2 ^ 32 → steps_in_state before d x goal ≡ step_in_state d x goal ∷ steps_in_state before rest after goal
     → HaveFew before rest after goal → HaveFew before d x goal
 few_line before d x goal rest after few is h = ap (list_all has_few) is ∙ ap₂ {A = Bool} {B = Bool} (λ a b. a && b) (few_first x few) h
 
-pub few_close : (before : List StatementView) (d : Script) (x : StepState) (goal : Goal) → length x.facts < 2 ^ 32 → lines_in_state before d x goal ≡ line_in_state d x goal ∷ [] → HaveFew before d x goal
+pub few_close : (before : List StatementView) (d : Script) (x : StepState) (goal : Goal) → length x.facts < 2 ^ 32 → steps_in_state before d x goal ≡ step_in_state d x goal ∷ [] → HaveFew before d x goal
 few_close before d x goal few is = ap (list_all has_few) is ∙ ap₂ {A = Bool} {B = Bool} (λ a b. a && b) (few_first x few) refl
 
 -- ---- steps of one line
@@ -166,7 +166,7 @@ claim_numbered before shown inner numbered x z after o s placed few e k made end
           claim_places before shown inner x rest goal ∙ ap (λ d. Claim shown d (places_at before rest later goal)) (sym placed) ∙ sym (made (places_at before rest later goal));
       few = λ all rest goal h.
           ap (list_all has_few) (claim_lines before shown inner x rest goal)
-          ∙ ap₂ {A = Bool} {B = Bool} (λ a b. a && b) (few_first x all) (all_both has_few (lines_in_state before inner x (goal_of shown)) (lines_in_state before rest later goal) few h);
+          ∙ ap₂ {A = Bool} {B = Bool} (λ a b. a && b) (few_first x all) (all_both has_few (steps_in_state before inner x (goal_of shown)) (steps_in_state before rest later goal) few h);
       kept = stay_all x.facts shown;
     })
 
@@ -188,7 +188,7 @@ superposed_numbered before form names shown certs placed inner numbered x z w af
           ∙ ap₂ {A = List Cert} {B = Script} (λ ps d. Superposed form names shown ps d (places_at before rest later goal)) put block_placed);
       few = λ all rest goal h.
           ap (list_all has_few) (superposed_lines before form names shown certs inner x rest goal)
-          ∙ ap₂ {A = Bool} {B = Bool} (λ a b. a && b) (few_first x all) (all_both has_few (lines_in_state before inner begin (goal_of shown)) (lines_in_state before rest later goal) block_few h);
+          ∙ ap₂ {A = Bool} {B = Bool} (λ a b. a && b) (few_first x all) (all_both has_few (steps_in_state before inner begin (goal_of shown)) (steps_in_state before rest later goal) block_few h);
       kept = stay_all x.facts shown;
     })
 
@@ -238,7 +238,7 @@ qed_same before c k objects seen certs like x goal is same also e =
 
 pub qed_few : (before : List StatementView) (c : Close) (objects : List Obj) (certs : List Cert) (x : StepState) (goal : Goal) → c ≡ QedClose objects certs → length x.facts < 2 ^ 32 → HaveFew before (close_script c) x goal
 qed_few before c objects certs x goal is few =
-    ap (λ d. list_all has_few (lines_in_state before d x goal)) (qed_is c objects certs is) ∙ few_close before (Qed objects certs) x goal few (qed_lines before objects certs x goal)
+    ap (λ d. list_all has_few (steps_in_state before d x goal)) (qed_is c objects certs is) ∙ few_close before (Qed objects certs) x goal few (qed_lines before objects certs x goal)
 
 contradiction_is : (c : Close) (against : Option Against) → c ≡ ContradictionClose against → close_script c ≡ Contradiction against
 contradiction_is c against is = ap close_script is ∙ close_script-Contradiction against
@@ -249,7 +249,7 @@ contradiction_same before c k against x goal is e = contradiction_numbered befor
 
 pub contradiction_few : (before : List StatementView) (c : Close) (against : Option Against) (x : StepState) (goal : Goal) → c ≡ ContradictionClose against → length x.facts < 2 ^ 32 → HaveFew before (close_script c) x goal
 contradiction_few before c against x goal is few =
-    ap (λ d. list_all has_few (lines_in_state before d x goal)) (contradiction_is c against is) ∙ few_close before (Contradiction against) x goal few (contradiction_lines before against x goal)
+    ap (λ d. list_all has_few (steps_in_state before d x goal)) (contradiction_is c against is) ∙ few_close before (Contradiction against) x goal few (contradiction_lines before against x goal)
 
 -- ---- a split
 
@@ -277,10 +277,10 @@ pub cases_few : (before : List StatementView) (c : Close) (lit : Lit) (first sec
 cases_few before c lit first second b1 b2 x z after goal all is at1 at2 begun few1 back few2 =
     let one = with_facts (joined x.facts lit) x in
     let two = with_facts (joined x.facts (negation lit)) x in
-    ap (λ d. list_all has_few (lines_in_state before d x goal)) (ap close_script is ∙ close_script-Cases lit first second)
+    ap (λ d. list_all has_few (steps_in_state before d x goal)) (ap close_script is ∙ close_script-Cases lit first second)
     ∙ ap (list_all has_few) (cases_lines before lit (script_of first.value) (script_of second.value) x goal)
     ∙ ap₂ {A = Bool} {B = Bool} (λ a b. a && b) (few_first x all)
-    (all_both has_few (lines_in_state before (script_of first.value) one goal) (lines_in_state before (script_of second.value) two goal)
+    (all_both has_few (steps_in_state before (script_of first.value) one goal) (steps_in_state before (script_of second.value) two goal)
     (subst (λ b. HaveFew before (script_of b) one goal) at1 (subst (λ q. HaveFew before (script_of b1) q goal) begun few1)) (subst (λ b. HaveFew before (script_of b) two goal) at2 (subst (λ q. HaveFew before (script_of b2) q goal) back few2)))
 
 -- ---- the steps of a block

@@ -1,4 +1,4 @@
--- What holds before a line, and where an inner block is entered.
+-- What holds before a step, and where an inner block is entered.
 use Rattle.std.specs.Prelude.{List, length, take}
 use Rattle.e_literal.specs.declared.literal.Lit.{Lit}
 use Rattle.e_literal.specs.Facts.{joined_all}
@@ -11,7 +11,7 @@ use Rattle.e_verify.specs.declared.step_state.StepState.{StepState}
 use Rattle.e_verify.specs.declared.step_state.Checkpoint.{Checkpoint}
 use Rattle.e_verify.specs.declared.step_state.Goal.{Goal as CodeGoal}
 
--- before the first line of a statement's proof
+-- before the first step of a statement's proof
 abbrev pub state_at_start : StatementView → StepState
 state_at_start t = record { scope = scope_of t; facts = facts_of_statement t }
 

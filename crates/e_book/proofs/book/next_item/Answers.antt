@@ -1,5 +1,5 @@
 use Rattle.e_book.specs.Grammar.{last_line}
-use Rattle.e_book.proofs.ItemsRead.{reads_grammar, items_good, items_fit}
+use Rattle.e_book.proofs.parsers.ItemsRead.{reads_grammar, items_good, items_fit}
 use Rattle.e_book.proofs.book.next_item.Goals as goal
 
 pub returns-clause-read : goal.returns-clause-read

@@ -2,7 +2,7 @@ use Rattle.std.proofs.Common.{◌≡◌, ◌∙◌, None, Some, ap, sym, arith, 
 use Rattle.std.proofs.lemmas.Result.{err_from_is_err_and}
 use Rattle.e_book.specs.Grammar.{last_line}
 use Rattle.e_book.specs.inner.Machine.{item_from}
-use Rattle.e_book.proofs.ReadingOn.{begun_first, from_none, book_fails, whole_item, whole_fault, ended_at, end_none, end_inside}
+use Rattle.e_book.proofs.parsers.ReadingOn.{begun_first, from_none, book_fails, whole_item, whole_fault, ended_at, end_none, end_inside}
 use Rattle.e_book.proofs.book.read_with.Goals as goal
 
 pub read-requires-clause-coming : goal.read-requires-clause-coming

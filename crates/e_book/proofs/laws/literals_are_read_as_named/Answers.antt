@@ -1,4 +1,4 @@
-use Rattle.e_book.proofs.CanonicalItems.{literal_again}
+use Rattle.e_book.proofs.canonical.CanonicalItems.{literal_again}
 use Rattle.e_book.proofs.laws.literals_are_read_as_named.Goals as goal
 
 pub returns : goal.returns

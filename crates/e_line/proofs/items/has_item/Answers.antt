@@ -2,9 +2,9 @@ use Rattle.std.proofs.Common.{◌+◌, ◌-◌, take, drop, sym, ◌∙◌, arit
 use Rattle.e_line.specs.Reading.{texts}
 use Rattle.e_line.specs.Literals.{is_semicolon}
 use Rattle.e_line.specs.Items.{has_item}
-use Rattle.e_line.proofs.Loops.{parts_from}
-use Rattle.e_line.proofs.Texts.{length-texts, part_of}
-use Rattle.e_line.proofs.ItemLoops.{found_here, none_here, none_left}
+use Rattle.e_line.proofs.base.Loops.{parts_from}
+use Rattle.e_line.proofs.read_again.Texts.{length-texts, part_of}
+use Rattle.e_line.proofs.base.ItemLoops.{found_here, none_here, none_left}
 use Rattle.e_line.proofs.items.has_item.Goals as goal
 
 pub returns-then-begins_item : goal.returns-then-begins_item

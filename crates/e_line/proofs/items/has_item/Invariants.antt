@@ -3,7 +3,7 @@ use Rattle.std.specs.List.{list_any}
 use Rattle.e_line.specs.Reading.{texts}
 use Rattle.e_line.specs.Literals.{is_semicolon}
 use Rattle.e_line.specs.Items.{begins_item, has_item}
-use Rattle.e_line.proofs.Loops.{parts_from}
+use Rattle.e_line.proofs.base.Loops.{parts_from}
 use Rattle.e_line.proofs.items.has_item.Given as goal
 
 abbrev pub invariant-loop-at : goal.invariant-loop-at

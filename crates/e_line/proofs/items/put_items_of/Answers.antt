@@ -3,8 +3,8 @@ use Rattle.std.proofs.lemmas.Result.{err_from_is_err_and}
 use Rattle.e_line.specs.Reading.{texts, with_front}
 use Rattle.e_line.specs.Literals.{is_semicolon}
 use Rattle.e_line.specs.Items.{item_of, items_of}
-use Rattle.e_line.proofs.Loops.{goes_on, fails, parts_from}
-use Rattle.e_line.proofs.Texts.{part_of}
+use Rattle.e_line.proofs.base.Loops.{goes_on, fails, parts_from}
+use Rattle.e_line.proofs.read_again.Texts.{part_of}
 use Rattle.e_line.proofs.items.put_items_of.Goals as goal
 
 pub returns-in_err-item : goal.returns-in_err-item

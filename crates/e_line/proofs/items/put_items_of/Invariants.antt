@@ -2,7 +2,7 @@ use Rattle.std.proofs.Common.{◌≡◌, ◌+◌, ◌-◌, ◌≤◌, length}
 use Rattle.e_line.specs.Reading.{with_front, texts, each}
 use Rattle.e_line.specs.Literals.{is_semicolon}
 use Rattle.e_line.specs.Items.{items_of, item_of}
-use Rattle.e_line.proofs.Loops.{parts_from}
+use Rattle.e_line.proofs.base.Loops.{parts_from}
 use Rattle.e_line.proofs.items.put_items_of.Given as goal
 
 abbrev pub invariant-loop-at : goal.invariant-loop-at

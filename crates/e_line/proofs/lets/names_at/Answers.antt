@@ -5,9 +5,9 @@ use Rattle.e_line.specs.declared.fault.FaultKind.TheVariants.{Malformed}
 use Rattle.e_line.specs.declared.fault.LineError.TheVariants.{Fault}
 use Rattle.e_line.specs.Reading.{texts, or_malformed, names_of}
 use Rattle.e_line.specs.Lets.{words_at}
-use Rattle.e_line.proofs.Loops.{goes_on, fails, is_done}
-use Rattle.e_line.proofs.Texts.{text_at, length-texts}
-use Rattle.e_line.proofs.Placed.{word_taken, word_left, none_left}
+use Rattle.e_line.proofs.base.Loops.{goes_on, fails, is_done}
+use Rattle.e_line.proofs.read_again.Texts.{text_at, length-texts}
+use Rattle.e_line.proofs.read_again.Placed.{word_taken, word_left, none_left}
 use Rattle.e_line.proofs.lets.names_at.Goals as goal
 
 pub loop-i-preserved-then-not-is_place_at : goal.loop-i-preserved-then-not-is_place_at

@@ -1,6 +1,6 @@
 use Rattle.std.proofs.Common.{[], ◌∷◌, ◌++◌}
 use Rattle.e_line.specs.Canonical.{lit_words}
-use Rattle.e_line.proofs.Spaced.{after, word_after}
+use Rattle.e_line.proofs.read_again.Spaced.{after, word_after}
 use Rattle.e_line.proofs.lines.put_citation.Goals as goal
 
 pub returns : goal.returns

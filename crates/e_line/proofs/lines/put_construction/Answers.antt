@@ -1,5 +1,5 @@
 use Rattle.e_line.specs.Canonical.{filled, line_pieces, avoid_words}
-use Rattle.e_line.proofs.Spaced.{after}
+use Rattle.e_line.proofs.read_again.Spaced.{after}
 use Rattle.e_line.proofs.lines.put_construction.Goals as goal
 
 pub returns : goal.returns

@@ -3,7 +3,7 @@ use Rattle.std.proofs.lemmas.List.{take_rest}
 use Rattle.e_text.specs.Tokens.{spaced}
 use Rattle.e_line.specs.declared.literal.RawLit.{RawLit}
 use Rattle.e_line.specs.Canonical.{more_words}
-use Rattle.e_line.proofs.Spaced.{first_after}
+use Rattle.e_line.proofs.read_again.Spaced.{first_after}
 use Rattle.e_line.proofs.literals.put_literals.Goals as goal
 
 pub returns-in_ok-put_more_literals-in-len1-up : goal.returns-in_ok-put_more_literals-in-len1-up

@@ -1,5 +1,5 @@
 use Rattle.std.proofs.Common.{◌∙◌}
-use Rattle.e_line.proofs.Spaced.{more_after}
+use Rattle.e_line.proofs.read_again.Spaced.{more_after}
 use Rattle.e_line.proofs.literals.put_more_literals.Goals as goal
 
 pub loop-lit-preserved : goal.loop-lit-preserved

@@ -1,6 +1,6 @@
 use Rattle.std.proofs.Common.{◌∷◌}
 use Rattle.e_line.specs.Canonical.{sum_words}
-use Rattle.e_line.proofs.Spaced.{after}
+use Rattle.e_line.proofs.read_again.Spaced.{after}
 use Rattle.e_line.proofs.literals.put_sums.Goals as goal
 
 pub returns : goal.returns

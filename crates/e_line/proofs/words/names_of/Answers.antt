@@ -3,8 +3,8 @@ use Rattle.e_text.specs.Names.{name_of}
 use Rattle.e_line.specs.declared.fault.FaultKind.TheVariants.{Malformed}
 use Rattle.e_line.specs.declared.fault.LineError.TheVariants.{Fault}
 use Rattle.e_line.specs.Reading.{texts, or_malformed, names_of}
-use Rattle.e_line.proofs.Loops.{goes_on, fails, rest_at}
-use Rattle.e_line.proofs.Texts.{text_at, length-texts}
+use Rattle.e_line.proofs.base.Loops.{goes_on, fails, rest_at}
+use Rattle.e_line.proofs.read_again.Texts.{text_at, length-texts}
 use Rattle.e_line.proofs.words.names_of.Goals as goal
 
 pub returns-in-None : goal.returns-in-None

@@ -5,7 +5,7 @@ use Rattle.std.specs.Iterator.Adapters.{zip_first, zip_second}
 use Rattle.std.proofs.lemmas.Slice.Zip.{either_empty_from_Zip}
 use Rattle.e_literal.specs.declared.object.Obj.{Obj}
 use Rattle.e_line.specs.Reading.{with_front}
-use Rattle.e_names.proofs.Entries.{none_entered}
+use Rattle.e_names.proofs.resolution.Entries.{none_entered}
 use Rattle.e_names.proofs.applies.entries_in.Goals as goal
 
 pub returns : goal.returns

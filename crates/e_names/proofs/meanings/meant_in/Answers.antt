@@ -4,7 +4,7 @@ use Rattle.e_literal.specs.declared.object.Scope.{Scope}
 use Rattle.e_literal.specs.Literal.{all_in_scope}
 use Rattle.e_theorem.specs.Notions.{as_stated}
 use Rattle.e_theorem.specs.Faults.{UseFaultIs}
-use Rattle.e_names.proofs.ItemsWritten.{notion_few, is_known_one, first_within, first_count, args_fit}
+use Rattle.e_names.proofs.read_lines.ItemsWritten.{notion_few, is_known_one, first_within, first_count, args_fit}
 use Rattle.e_names.proofs.meanings.meant_in.Goals as goal
 
 pub expand_first-requires : goal.expand_first-requires

@@ -1,7 +1,7 @@
 use Rattle.std.proofs.Common.{◌+◌, ◌++◌, map, drop, get_or}
 use Rattle.e_names.specs.Canonical.{raw_of}
-use Rattle.e_line.proofs.Loops.{rest_at}
-use Rattle.e_names.proofs.NamesPut.{put_more}
+use Rattle.e_line.proofs.base.Loops.{rest_at}
+use Rattle.e_names.proofs.literals.NamesPut.{put_more}
 use Rattle.e_names.proofs.naming.put_named.Goals as goal
 
 pub loop-lit-preserved : goal.loop-lit-preserved

@@ -1,4 +1,4 @@
-use Rattle.e_names.proofs.NamesPut.{signed_so}
+use Rattle.e_names.proofs.literals.NamesPut.{signed_so}
 use Rattle.e_names.proofs.naming.raw_negated.Goals as goal
 
 pub returns-in_ok-atom-in_default : goal.returns-in_ok-atom-in_default

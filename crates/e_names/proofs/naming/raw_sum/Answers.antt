@@ -2,8 +2,8 @@ use Rattle.std.proofs.Common.{◌+◌, map, drop, get_or}
 use Rattle.e_literal.specs.declared.object.Term.TheVariants.{Seg}
 use Rattle.e_literal.specs.declared.object.Mono.{Mono}
 use Rattle.e_names.specs.Canonical.{raw_mono}
-use Rattle.e_line.proofs.Loops.{rest_at}
-use Rattle.e_names.proofs.NamesPut.{put_more}
+use Rattle.e_line.proofs.base.Loops.{rest_at}
+use Rattle.e_names.proofs.literals.NamesPut.{put_more}
 use Rattle.e_names.proofs.naming.raw_sum.Goals as goal
 
 pub loop-mono-preserved : goal.loop-mono-preserved

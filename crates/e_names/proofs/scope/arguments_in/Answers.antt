@@ -1,7 +1,7 @@
 use Rattle.std.proofs.Common.{◌+◌, [], drop, get_or, sym, ap, ◌∙◌}
 use Rattle.e_names.specs.Scope.{arguments_in, used}
-use Rattle.e_line.proofs.Loops.{rest_at}
-use Rattle.e_names.proofs.Arguments.{argument_taken, argument_refused, one_takes}
+use Rattle.e_line.proofs.base.Loops.{rest_at}
+use Rattle.e_names.proofs.resolution.Arguments.{argument_taken, argument_refused, one_takes}
 use Rattle.e_names.proofs.scope.arguments_in.Goals as goal
 
 pub returns-then-not-is_taken_by : goal.returns-then-not-is_taken_by

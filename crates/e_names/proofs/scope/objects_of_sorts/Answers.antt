@@ -5,7 +5,7 @@ use Rattle.std.specs.Iterator.Adapters.{zip_first, zip_second}
 use Rattle.std.proofs.lemmas.Slice.Zip.{either_empty_from_Zip}
 use Rattle.e_literal.specs.declared.object.Obj.{Obj}
 use Rattle.e_line.specs.Reading.{with_front}
-use Rattle.e_names.proofs.Arguments.{none_of_sorts}
+use Rattle.e_names.proofs.resolution.Arguments.{none_of_sorts}
 use Rattle.e_names.proofs.scope.objects_of_sorts.Goals as goal
 
 pub returns : goal.returns

@@ -24,7 +24,7 @@ use Rattle.e_prove.proofs.StepsWithBlocks.{ready_as, all_passed_as, all_stopped_
 use Rattle.e_licence.specs.Contexts.{state_of}
 use Rattle.e_prove.proofs.HeldStates.{ready_inside, derived_outside, stops_outside, step_stops_outside, names_outside, kept_inside, some_held, left_is, good_after}
 use Rattle.e_prove.proofs.block.+block.Goals as goal
-use Rattle.e_book.proofs.ScriptParts.{at_least}
+use Rattle.e_book.proofs.canonical.ScriptParts.{at_least}
 
 -- ---- a block
 

@@ -14,7 +14,7 @@ use Rattle.e_prove.proofs.ReadySteps.{claim_parts, claim_lines, superposed_parts
 use Rattle.e_prove.proofs.Blocks.{passed_start, step_ready, step_stops, step_passed, close_ready, close_few, close_stops, claim_stopped, superposed_stopped, superposed_refused, split_parts, split_second_ready, split_size, split_stops_first, line_is_one, close_is_one}
 use Rattle.e_prove.proofs.ReachedSteps.{on_ok_map, memory_before, lines_fit, claim_count, superposed_count, same_state_names, step_reaches, step_here, close_reaches, close_here, step_ends, step_stops_before, claim_entered, superposed_entered, split_entered_first, split_entered_second, split_stopped_second}
 use Rattle.e_prove.proofs.reach.+reach.Goals as goal
-use Rattle.e_book.proofs.ScriptParts.{at_least}
+use Rattle.e_book.proofs.canonical.ScriptParts.{at_least}
 
 -- ---- the steps of a block
 

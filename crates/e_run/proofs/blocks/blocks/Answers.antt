@@ -1,7 +1,7 @@
 use Rattle.std.proofs.Common.{◌++◌, length, arith, subst, ap}
 use Rattle.std.proofs.lemmas.List.{append-nil}
 use Rattle.e_run.specs.inner.BookResults.{BlocksAre}
-use Rattle.e_run.proofs.TakenBooks.{first_is_book, reaches_first}
+use Rattle.e_run.proofs.progress.TakenBooks.{first_is_book, reaches_first}
 use Rattle.e_run.proofs.blocks.blocks.Goals as goal
 use Rattle.e_book.specs.Grammar.{Rest}
 

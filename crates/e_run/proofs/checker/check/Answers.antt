@@ -2,9 +2,9 @@ use Rattle.std.proofs.Common.{refl}
 use Rattle.e_run.specs.declared.status.Status.TheVariants as status
 use Rattle.e_run.specs.LastLines.{read_fault_line}
 use Rattle.e_run.specs.Outcome.{lines_of_book}
-use Rattle.e_run.proofs.TakenBytes.{took_none}
-use Rattle.e_run.proofs.LastLinesWritten.{any_book, closed_head, closed_error, closed_cut, closed_inside, has_last_lines}
-use Rattle.e_run.proofs.ReadPieces.{last_grew, handled_closed}
+use Rattle.e_run.proofs.progress.TakenBytes.{took_none}
+use Rattle.e_run.proofs.written_texts.LastLinesWritten.{any_book, closed_head, closed_error, closed_cut, closed_inside, has_last_lines}
+use Rattle.e_run.proofs.progress.ReadPieces.{last_grew, handled_closed}
 use Rattle.e_run.proofs.checker.check.Goals as goal
 
 pub returns-in_default-clause-checks : goal.returns-in_default-clause-checks

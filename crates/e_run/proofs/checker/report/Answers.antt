@@ -1,7 +1,7 @@
 use Rattle.std.proofs.Common.{◌∙◌}
 use Rattle.e_run.specs.declared.status.Status.TheVariants as status
 use Rattle.e_run.specs.LastLines.{no_memory_line}
-use Rattle.e_run.proofs.LastLinesWritten.{closed_error, closed_result_as, off_of_result, accepted_all, other_accepted}
+use Rattle.e_run.proofs.written_texts.LastLinesWritten.{closed_error, closed_result_as, off_of_result, accepted_all, other_accepted}
 use Rattle.e_run.proofs.checker.report.Goals as goal
 
 pub returns-in-Ok-clause-checks : goal.returns-in-Ok-clause-checks

@@ -2,7 +2,7 @@ use Rattle.std.proofs.Common.{refl, sym, ap, ◌∙◌, Ok}
 use Rattle.e_drawing.specs.Answers.{drawn_of}
 use Rattle.e_run.specs.LastLines.{no_memory_line}
 use Rattle.e_run.specs.declared.status.Status.TheVariants as status
-use Rattle.e_run.proofs.DrawerAnswers.{drawn_closed, fault_is}
+use Rattle.e_run.proofs.answers.DrawerAnswers.{drawn_closed, fault_is}
 use Rattle.e_run.proofs.drawer.answer.Goals as goal
 
 pub returns-in-Ok-clause-draws : goal.returns-in-Ok-clause-draws

@@ -2,7 +2,7 @@ use Rattle.std.proofs.Common.{refl, subst, List, ℕ, arith}
 use Rattle.e_run.specs.LastLines.{no_memory_line, read_fault_line}
 use Rattle.e_run.specs.DrawerAnswers.{DrawsAndWrites}
 use Rattle.e_run.specs.declared.status.Status.TheVariants as status
-use Rattle.e_run.proofs.DrawerAnswers.{drawn_closed, any_figure, read_figure, drawn_is_short}
+use Rattle.e_run.proofs.answers.DrawerAnswers.{drawn_closed, any_figure, read_figure, drawn_is_short}
 use Rattle.e_run.proofs.drawer.figure.Goals as goal
 
 pub returns-in-Err-ReadFault-clause-draws : goal.returns-in-Err-ReadFault-clause-draws

@@ -1,7 +1,7 @@
 use Rattle.std.proofs.Common.{refl, ◌∙◌}
 use Rattle.e_run.specs.LastLines.{no_memory_line}
 use Rattle.e_run.specs.declared.status.Status.TheVariants as status
-use Rattle.e_run.proofs.DrawerAnswers.{drawn_closed}
+use Rattle.e_run.proofs.answers.DrawerAnswers.{drawn_closed}
 use Rattle.e_run.proofs.drawer.report_fault.Goals as goal
 
 pub returns-in-Ok-clause-draws : goal.returns-in-Ok-clause-draws

@@ -1,5 +1,5 @@
 use Rattle.std.proofs.Common.{◌+◌, arith}
-use Rattle.e_run.proofs.TakenBytes.{taken_all, taken_enough}
+use Rattle.e_run.proofs.progress.TakenBytes.{taken_all, taken_enough}
 use Rattle.e_run.proofs.input.read_text.Goals as goal
 
 pub returns-in-Ok-eq0-clause-text : goal.returns-in-Ok-eq0-clause-text

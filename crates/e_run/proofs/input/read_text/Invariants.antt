@@ -1,5 +1,5 @@
 use Rattle.std.proofs.Common.{◌≤◌, ◌+◌, ◌-◌, vec_len}
-use Rattle.e_run.proofs.TakenBytes.{TakenSoFar}
+use Rattle.e_run.proofs.progress.TakenBytes.{TakenSoFar}
 use Rattle.e_run.proofs.input.read_text.Given as goal
 
 abbrev pub invariant-loop-buffer : goal.invariant-loop-buffer

@@ -1,5 +1,5 @@
 use Rattle.std.proofs.Common.{◌∙◌}
-use Rattle.e_run.proofs.MadeBooks.{made_closed, unmade_closed}
+use Rattle.e_run.proofs.answers.MadeBooks.{made_closed, unmade_closed}
 use Rattle.e_run.proofs.maker.make.Goals as goal
 
 pub returns-in-Ok-clause-makes : goal.returns-in-Ok-clause-makes

@@ -4,8 +4,8 @@ use Rattle.e_run.specs.declared.blocks.BookResult.{BookResult}
 use Rattle.e_run.specs.Outcome.{lines_of_book}
 use Rattle.e_run.specs.inner.BookResults.{BookResultIs, BlocksAre}
 use Rattle.e_run.specs.inner.Progress.{BookTakes}
-use Rattle.e_run.proofs.TakenBooks.{reaches_remaining}
-use Rattle.e_run.proofs.ReadPieces.{read_taken, whatever_comes}
+use Rattle.e_run.proofs.progress.TakenBooks.{reaches_remaining}
+use Rattle.e_run.proofs.progress.ReadPieces.{read_taken, whatever_comes}
 use Rattle.e_run.proofs.pieces.take_closed.Goals as goal
 use Rattle.e_book.specs.Grammar.{Rest}
 

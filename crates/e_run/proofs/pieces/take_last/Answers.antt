@@ -1,8 +1,8 @@
 use Rattle.std.proofs.Common.{◌++◌, subst, arith}
 use Rattle.e_run.specs.Outcome.{lines_of_book}
 use Rattle.e_run.specs.inner.BookResults.{BlocksAre}
-use Rattle.e_run.proofs.TakenBooks.{reaches_remaining}
-use Rattle.e_run.proofs.ReadPieces.{lines_are, number_is}
+use Rattle.e_run.proofs.progress.TakenBooks.{reaches_remaining}
+use Rattle.e_run.proofs.progress.ReadPieces.{lines_are, number_is}
 use Rattle.e_run.proofs.pieces.take_last.Goals as goal
 use Rattle.e_book.specs.Grammar.{Rest}
 

@@ -4,7 +4,7 @@ use Rattle.e_text.specs.Lines.{IsOpen}
 use Rattle.e_text.proofs.ClosedTexts.{open_both}
 use Rattle.e_run.specs.Outcome.{lines_of_book}
 use Rattle.e_run.specs.inner.BookResults.{BreaksOff, BookResultIs, BlocksAre}
-use Rattle.e_run.proofs.ReadPieces.{read_more, read_open, read_both, closed_part, open_part, off_now, off_in_piece, in_piece, out_of_memory}
+use Rattle.e_run.proofs.progress.ReadPieces.{read_more, read_open, read_both, closed_part, open_part, off_now, off_in_piece, in_piece, out_of_memory}
 use Rattle.e_run.proofs.pieces.take_piece.Goals as goal
 
 -- nothing in the piece has its end

@@ -6,10 +6,10 @@ use Rattle.e_run.specs.Outcome.{lines_of_book}
 use Rattle.e_run.specs.inner.BookResults.{BreaksOff}
 use Rattle.e_run.specs.Taken.{OfWholeLines}
 use Rattle.e_run.specs.inner.Handled.{AllBlocks, HandledBlocks}
-use Rattle.e_run.proofs.TakenBooks.{first_is_book}
-use Rattle.e_run.proofs.TakenBytes.{taken_at_start, taken_all, taken_enough, taken_nothing, taken_then_failed, at_end, taken_of, all_of}
-use Rattle.e_run.proofs.WholeBook.{never_all}
-use Rattle.e_run.proofs.ReadPieces.{read_first, off_now, count_is, read_state_more, ends_in_piece, took_in_piece, all_too_long, text_ends, no_read, if_all, handled_now}
+use Rattle.e_run.proofs.progress.TakenBooks.{first_is_book}
+use Rattle.e_run.proofs.progress.TakenBytes.{taken_at_start, taken_all, taken_enough, taken_nothing, taken_then_failed, at_end, taken_of, all_of}
+use Rattle.e_run.proofs.outcomes.WholeBook.{never_all}
+use Rattle.e_run.proofs.progress.ReadPieces.{read_first, off_now, count_is, read_state_more, ends_in_piece, took_in_piece, all_too_long, text_ends, no_read, if_all, handled_now}
 use Rattle.e_run.proofs.pieces.take_source.Goals as goal
 
 pub loop-buffer-init : goal.loop-buffer-init

@@ -1,7 +1,7 @@
 use Rattle.std.proofs.Common.{◌+◌, ◌-◌, ◌≤◌, vec_len}
 use Rattle.e_text.specs.Lines.{IsOpen}
 use Rattle.e_run.specs.inner.Progress.{IsBook}
-use Rattle.e_run.proofs.ReadPieces.{ReadState}
+use Rattle.e_run.proofs.progress.ReadPieces.{ReadState}
 use Rattle.e_run.proofs.pieces.take_source.Given as goal
 
 abbrev pub invariant-loop-buffer : goal.invariant-loop-buffer

@@ -1,5 +1,5 @@
 use Rattle.std.proofs.Common.{◌∙◌, inr}
-use Rattle.e_run.proofs.RewrittenTexts.{reported, no_read_fault, no_write_fault}
+use Rattle.e_run.proofs.written_texts.RewrittenTexts.{reported, no_read_fault, no_write_fault}
 use Rattle.e_run.proofs.rewriter.report.Goals as goal
 
 pub close-requires : goal.close-requires

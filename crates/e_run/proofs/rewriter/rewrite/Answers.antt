@@ -5,8 +5,8 @@ use Rattle.e_run.specs.LastLines.{no_memory_line, read_fault_line, text_limit_li
 use Rattle.e_run.specs.declared.status.Status.TheVariants as status
 use Rattle.e_run.specs.Rewrites.{AreFirstTheorems, Rewrites}
 use Rattle.e_run.specs.inner.Rewriting.{BlocksWritten, WroteFrontOf, WroteOf}
-use Rattle.e_run.proofs.VerifierAnswers.{any_of, short_of, long_of}
-use Rattle.e_run.proofs.RewrittenTexts.{closed_first, closed_head, closed_inside, closed_judgement, closed_memory, no_theorem}
+use Rattle.e_run.proofs.answers.VerifierAnswers.{any_of, short_of, long_of}
+use Rattle.e_run.proofs.written_texts.RewrittenTexts.{closed_first, closed_head, closed_inside, closed_judgement, closed_memory, no_theorem}
 use Rattle.e_run.proofs.rewriter.rewrite.Goals as goal
 
 pub returns-in_default-clause-rewrites : goal.returns-in_default-clause-rewrites

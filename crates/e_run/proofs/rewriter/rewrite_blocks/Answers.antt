@@ -1,7 +1,7 @@
 use Rattle.std.proofs.Common.{sym, ap, ◌∙◌}
 use Rattle.e_text.specs.Lines.{Ahead}
-use Rattle.e_run.proofs.VerifiedAgain.{read_for}
-use Rattle.e_run.proofs.RewrittenTexts.{not_begun, head_then}
+use Rattle.e_run.proofs.written_texts.VerifiedAgain.{read_for}
+use Rattle.e_run.proofs.written_texts.RewrittenTexts.{not_begun, head_then}
 use Rattle.e_run.proofs.rewriter.rewrite_blocks.Goals as goal
 
 pub begins-requires : goal.begins-requires

@@ -4,7 +4,7 @@ use Rattle.e_book.specs.Grammar.{last_line}
 use Rattle.e_names.specs.TitledStatements.{headed}
 use Rattle.e_book.specs.TheoremViews.{entry_of}
 use Rattle.e_judgement.proofs.Passing.{reads_on, closes_at, small_more}
-use Rattle.e_run.proofs.RewrittenTexts.{is_verified, begins, goes_on, breaks_off, breaks_at, ends_so}
+use Rattle.e_run.proofs.written_texts.RewrittenTexts.{is_verified, begins, goes_on, breaks_off, breaks_at, ends_so}
 use Rattle.e_run.proofs.rewriter.rewrite_theorems.Goals as goal
 
 pub loop-theorem-init : goal.loop-theorem-init

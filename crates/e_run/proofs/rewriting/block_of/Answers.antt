@@ -4,8 +4,8 @@ use Rattle.e_deriv.specs.Script.{script_of}
 use Rattle.e_book.specs.TheoremViews.{entry_of}
 use Rattle.e_run.specs.declared.command.Job.{Job}
 use Rattle.e_run.specs.inner.Rewriting.{HasVersionFor, IsOfSecond}
-use Rattle.e_run.proofs.UpgradedTexts.{holds_on_ok}
-use Rattle.e_run.proofs.RewrittenTexts.{trimmable}
+use Rattle.e_run.proofs.written_texts.UpgradedTexts.{holds_on_ok}
+use Rattle.e_run.proofs.written_texts.RewrittenTexts.{trimmable}
 use Rattle.e_run.proofs.rewriting.block_of.Goals as goal
 
 pub trimmed_block-requires : goal.trimmed_block-requires

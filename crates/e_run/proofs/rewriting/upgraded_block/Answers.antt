@@ -1,4 +1,4 @@
-use Rattle.e_run.proofs.UpgradedTexts.{holds_on_ok}
+use Rattle.e_run.proofs.written_texts.UpgradedTexts.{holds_on_ok}
 use Rattle.e_run.proofs.rewriting.upgraded_block.Goals as goal
 
 pub numbered-requires-clause-verifiable : goal.numbered-requires-clause-verifiable

@@ -2,7 +2,7 @@ use Rattle.std.proofs.Common.{subst, rules, false, true}
 use Rattle.e_licence.specs.Contexts.{Basis}
 use Rattle.e_run.specs.inner.Suggesting.{IsListed}
 use Rattle.e_run.specs.declared.suggestions.Listed.{Listed}
-use Rattle.e_run.proofs.SuggesterAnswers.{listed_answer, wide_at_place}
+use Rattle.e_run.proofs.answers.SuggesterAnswers.{listed_answer, wide_at_place}
 use Rattle.e_run.proofs.suggester.answer_at.Goals as goal
 
 pub returns-in-All : goal.returns-in-All

@@ -1,6 +1,6 @@
 use Rattle.std.proofs.Common.{arith}
 use Rattle.e_book.specs.TheoremViews.{entry_of}
-use Rattle.e_run.proofs.SuggesterAnswers.{too_short_next, stopped_next, answered_next}
+use Rattle.e_run.proofs.answers.SuggesterAnswers.{too_short_next, stopped_next, answered_next}
 use Rattle.e_run.proofs.suggester.answer_on.Goals as goal
 
 pub size-steps-requires : goal.size-steps-requires

@@ -5,7 +5,7 @@ use Rattle.e_book.specs.Grammar.{last_line, BookFails}
 use Rattle.e_run.specs.declared.trial.Answer.{Answer}
 use Rattle.e_run.specs.Outcome.{end_line_number}
 use Rattle.e_run.specs.inner.Suggesting.{IsOnWay, PassesTitles}
-use Rattle.e_run.proofs.SuggesterAnswers.{way_start, no_step_here, faulty_here}
+use Rattle.e_run.proofs.answers.SuggesterAnswers.{way_start, no_step_here, faulty_here}
 use Rattle.e_run.proofs.suggester.answer_to.Goals as goal
 
 pub loop-item-init : goal.loop-item-init

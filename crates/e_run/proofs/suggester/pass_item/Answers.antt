@@ -1,5 +1,5 @@
 use Rattle.e_names.specs.Titled.{titled}
-use Rattle.e_run.proofs.SuggesterAnswers.{notion_passes}
+use Rattle.e_run.proofs.answers.SuggesterAnswers.{notion_passes}
 use Rattle.e_run.proofs.suggester.pass_item.Goals as goal
 
 pub pass_theorem-requires-clause-good : goal.pass_theorem-requires-clause-good

@@ -3,8 +3,8 @@ use Rattle.e_deriv.specs.Script.{script_of}
 use Rattle.e_book.specs.TheoremViews.{entry_of}
 use Rattle.e_names.specs.TitledStatements.{is_known}
 use Rattle.e_names.specs.Titled.{defines}
-use Rattle.e_names.proofs.FreshTitles.{both}
-use Rattle.e_run.proofs.SuggesterAnswers.{titled_passes, stopped_passes, licensed_passes}
+use Rattle.e_names.proofs.titles.FreshTitles.{both}
+use Rattle.e_run.proofs.answers.SuggesterAnswers.{titled_passes, stopped_passes, licensed_passes}
 use Rattle.e_run.proofs.suggester.pass_theorem.Goals as goal
 
 pub returns-then-has_title : goal.returns-then-has_title

@@ -1,5 +1,5 @@
 use Rattle.std.proofs.Common.{◌∙◌, sym}
-use Rattle.e_run.proofs.SuggesterAnswers.{stop_answered, is_stop}
+use Rattle.e_run.proofs.answers.SuggesterAnswers.{stop_answered, is_stop}
 use Rattle.e_run.proofs.suggester.stopped.Goals as goal
 
 pub spell_stop-requires : goal.spell_stop-requires

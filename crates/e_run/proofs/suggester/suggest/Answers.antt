@@ -4,7 +4,7 @@ use Rattle.e_run.specs.Outcome.{lines_of_book}
 use Rattle.e_run.specs.Wrote.{Wrote}
 use Rattle.e_run.specs.SuggesterAnswers.{SuggestAnswer}
 use Rattle.e_run.specs.declared.status.Status.TheVariants as status
-use Rattle.e_run.proofs.SuggesterAnswers.{any_book, read_book, suggested_closed, no_write_of}
+use Rattle.e_run.proofs.answers.SuggesterAnswers.{any_book, read_book, suggested_closed, no_write_of}
 use Rattle.e_run.proofs.suggester.suggest.Goals as goal
 
 pub returns-in-Err-ReadFault-clause-suggests : goal.returns-in-Err-ReadFault-clause-suggests

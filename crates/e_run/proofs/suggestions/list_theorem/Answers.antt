@@ -1,7 +1,7 @@
 use Rattle.std.proofs.Common.{arith, subst, rules}
 use Rattle.e_theorem.specs.Statements.{stated}
 use Rattle.e_suggest.specs.Suggestions.{SuggestedIs}
-use Rattle.e_run.proofs.SuggestedLines.{passed_over, all_listed, full_listed}
+use Rattle.e_run.proofs.answers.SuggestedLines.{passed_over, all_listed, full_listed}
 use Rattle.e_run.proofs.suggestions.list_theorem.Goals as goal
 
 pub returns-then-declared-gt-MOST_DECLARED : goal.returns-then-declared-gt-MOST_DECLARED

@@ -1,7 +1,7 @@
 use Rattle.std.proofs.Common.{arith}
 use Rattle.std.proofs.lemmas.List.{drop_all}
 use Rattle.e_theorem.specs.Statements.{stated}
-use Rattle.e_run.proofs.SuggestedLines.{headed_at, statement_at, listed_start, listed_more, listed_full, listed_wide, listed_all}
+use Rattle.e_run.proofs.answers.SuggestedLines.{headed_at, statement_at, listed_start, listed_more, listed_full, listed_wide, listed_all}
 use Rattle.e_run.proofs.suggestions.list_theorems.Goals as goal
 
 pub loop-at-init : goal.loop-at-init

@@ -6,7 +6,7 @@ use Rattle.e_generate.specs.Generated.{generated_text}
 use Rattle.e_run.specs.Input.{IsTextOf}
 use Rattle.e_run.specs.Outcome.{lines_of_book}
 use Rattle.e_run.specs.Trials.{TrialAnswer}
-use Rattle.e_run.proofs.Trials.{book_lines}
+use Rattle.e_run.proofs.answers.Trials.{book_lines}
 use Rattle.e_run.proofs.trial.answer_for.Goals as goal
 use Rattle.e_book.specs.Grammar.{Rest}
 

@@ -7,7 +7,7 @@ use Rattle.e_run.specs.declared.trial.Answer.{Answer}
 use Rattle.e_run.specs.LastLines.{head_line, tried_line}
 use Rattle.e_run.specs.inner.BookResults.{BookResultIs, last_lines}
 use Rattle.e_run.specs.Trials.{IsTrial, TrialAnswer}
-use Rattle.e_run.proofs.Trials.{is_other, result_answered, accepted_tried, accepted_verified, tried_answered}
+use Rattle.e_run.proofs.answers.Trials.{is_other, result_answered, accepted_tried, accepted_verified, tried_answered}
 use Rattle.e_run.proofs.trial.answer_to.Goals as goal
 use Rattle.e_book.specs.Grammar.{Rest}
 

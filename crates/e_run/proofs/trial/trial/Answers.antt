@@ -3,7 +3,7 @@ use Rattle.e_generate.specs.Generated.{generated_text}
 use Rattle.e_run.specs.LastLines.{no_memory_line}
 use Rattle.e_run.specs.Outcome.{lines_of_book}
 use Rattle.e_run.specs.declared.status.Status.TheVariants as status
-use Rattle.e_run.proofs.Trials.{closed_answered}
+use Rattle.e_run.proofs.answers.Trials.{closed_answered}
 use Rattle.e_run.proofs.trial.trial.Goals as goal
 
 pub returns-in-Err-clause-tries : goal.returns-in-Err-clause-tries

@@ -1,7 +1,7 @@
 use Rattle.std.proofs.Common.{◌∙◌, refl}
 use Rattle.e_run.specs.LastLines.{no_memory_line}
 use Rattle.e_run.specs.declared.status.Status.TheVariants as status
-use Rattle.e_run.proofs.VerifierAnswers.{answered_closed, judgement_closed, no_read_fault, no_write_fault}
+use Rattle.e_run.proofs.answers.VerifierAnswers.{answered_closed, judgement_closed, no_read_fault, no_write_fault}
 use Rattle.e_run.proofs.verifier.report_judgement.Goals as goal
 
 pub close-requires : goal.close-requires

@@ -2,7 +2,7 @@ use Rattle.std.proofs.Common.{refl, subst, List, ℕ, arith}
 use Rattle.e_run.specs.LastLines.{no_memory_line, read_fault_line, text_limit_line}
 use Rattle.e_run.specs.VerifierAnswers.{Verifies}
 use Rattle.e_run.specs.declared.status.Status.TheVariants as status
-use Rattle.e_run.proofs.VerifierAnswers.{answered_closed, any_text, short_text, long_text}
+use Rattle.e_run.proofs.answers.VerifierAnswers.{answered_closed, any_text, short_text, long_text}
 use Rattle.e_run.proofs.verifier.verify.Goals as goal
 
 pub returns-in-Err-ReadFault-clause-verifies : goal.returns-in-Err-ReadFault-clause-verifies

@@ -2,7 +2,7 @@ use Rattle.std.proofs.Common.{sym, ◌∙◌}
 use Rattle.std.specs.Slice.Iter.{iter_rest}
 use Rattle.std.specs.Iterator.Adapters.{zip_first, zip_second}
 use Rattle.std.proofs.lemmas.Slice.Zip.{either_empty_from_Zip}
-use Rattle.e_names.proofs.Arguments.{none_named}
+use Rattle.e_names.proofs.resolution.Arguments.{none_named}
 use Rattle.e_spell.proofs.scope.name_all.Goals as goal
 
 pub returns : goal.returns

@@ -2,7 +2,7 @@ use Rattle.std.proofs.Common.{ap, ◌∙◌, ◌++◌, List, ℕ}
 use Rattle.e_deriv.specs.Script.{script_of}
 use Rattle.e_book.specs.TheoremViews.{entry_of}
 use Rattle.e_spell.specs.inner.Parts.{theorem_text}
-use Rattle.e_spell.proofs.Whole.{spelled_parts}
+use Rattle.e_spell.proofs.PartsOfSpelling.{spelled_parts}
 use Rattle.e_spell.proofs.writer.spell.Goals as goal
 
 pub returns : goal.returns

@@ -6,10 +6,10 @@ use Rattle.e_literal.specs.Scopes.{grown, next_objects}
 use Rattle.e_construct.specs.Superposing as superposing
 use Rattle.e_trim.specs.Trimmed.{obj_at, lit_among_kept, cert_at, args_at}
 use Rattle.e_trim.specs.inner.Building.{IsBuilt, AreSmall, IsSmallStep}
-use Rattle.e_trim.proofs.BuiltSteps.{few_numbers, small_first, small_step, small_claim, small_superposed, small_cases}
-use Rattle.e_trim.proofs.KeptSteps.{cite_built, hence_built, make_built, apply_built, claim_built, superposed_built, qed_built, contradiction_built, cases_built, boxed, copies_room}
-use Rattle.e_trim.proofs.FirstSteps.{ok_map, later_steps, whole_is, begun_small, begun_few, begun_room, begun_step, begun_rest, wide_few, more_few, dropped_whole, kept_whole}
-use Rattle.e_trim.proofs.StepSizes.{rest_falls, step_falls, claim_falls, superposed_falls, first_falls, second_falls}
+use Rattle.e_trim.proofs.kept_scripts.BuiltSteps.{few_numbers, small_first, small_step, small_claim, small_superposed, small_cases}
+use Rattle.e_trim.proofs.kept_scripts.KeptSteps.{cite_built, hence_built, make_built, apply_built, claim_built, superposed_built, qed_built, contradiction_built, cases_built, boxed, copies_room}
+use Rattle.e_trim.proofs.walks.FirstSteps.{ok_map, later_steps, whole_is, begun_small, begun_few, begun_room, begun_step, begun_rest, wide_few, more_few, dropped_whole, kept_whole}
+use Rattle.e_trim.proofs.kept_scripts.StepSizes.{rest_falls, step_falls, claim_falls, superposed_falls, first_falls, second_falls}
 use Rattle.e_trim.proofs.building.+build.Goals as goal
 
 pub build-grown-after-requires-clause-points : goal.build-grown-after-requires-clause-points

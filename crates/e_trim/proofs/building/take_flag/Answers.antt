@@ -1,4 +1,4 @@
-use Rattle.e_trim.proofs.BuiltSteps.{taken}
+use Rattle.e_trim.proofs.kept_scripts.BuiltSteps.{taken}
 use Rattle.e_trim.proofs.building.take_flag.Goals as goal
 
 pub returns-in-Some : goal.returns-in-Some

@@ -1,7 +1,7 @@
 use Rattle.std.proofs.Common.{◌≡◌, OnOk, [], ◌∷◌, sym, ◌∙◌, subst}
 use Rattle.e_facts.proofs.Items.{fact_at}
 use Rattle.e_trim.specs.Looked.{both, looked_up, parts_ends}
-use Rattle.e_trim.proofs.LookedUp.{first_yes, first_no}
+use Rattle.e_trim.proofs.walks.LookedUp.{first_yes, first_no}
 use Rattle.e_trim.proofs.looked.look_up_parting.Goals as goal
 
 pub returns-then-parts_ends : goal.returns-then-parts_ends

@@ -1,7 +1,7 @@
 use Rattle.std.proofs.Common.{◌≡◌, OnOk, [], ◌∷◌, sym, ◌∙◌, subst}
 use Rattle.e_facts.proofs.Items.{fact_at}
 use Rattle.e_trim.specs.Looked.{both, looked_up, has_written}
-use Rattle.e_trim.proofs.LookedUp.{first_yes, first_no}
+use Rattle.e_trim.proofs.walks.LookedUp.{first_yes, first_no}
 use Rattle.e_trim.proofs.looked.look_up_written.Goals as goal
 
 pub returns-then-has_written : goal.returns-then-has_written

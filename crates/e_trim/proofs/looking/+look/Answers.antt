@@ -7,8 +7,8 @@ use Rattle.e_construct.specs.Superposing as superposing
 use Rattle.e_deriv.specs.Goal.{goal_of}
 use Rattle.e_deriv.specs.Fitting.{is_small, is_small_statement}
 use Rattle.e_trim.specs.declared.step_state.StepState.{StepState}
-use Rattle.e_trim.proofs.StepParts.{and_so}
-use Rattle.e_trim.proofs.StepForms.{ready_small, ready_fits, claim_ready, superposed_ready, cases_ready}
+use Rattle.e_trim.proofs.kept_scripts.StepParts.{and_so}
+use Rattle.e_trim.proofs.walks.StepForms.{ready_small, ready_fits, claim_ready, superposed_ready, cases_ready}
 use Rattle.e_literal.specs.Scopes.{grown}
 use Rattle.e_theorem.specs.Statements.{all_stated}
 use Rattle.e_deriv.specs.Script.{close_script, script_of, steps_script, size}
@@ -16,10 +16,10 @@ use Rattle.e_trim.specs.Looked.{Wants}
 use Rattle.e_trim.specs.Trimmed.{wants_outside, wants}
 use Rattle.e_trim.specs.inner.StepState.{goal_said, IsReady, IsReadyToTrim}
 use Rattle.e_trim.specs.inner.Flags.{flags_of}
-use Rattle.e_trim.proofs.FirstSteps.{ok_map, on_ok, later_steps, whole_is}
-use Rattle.e_trim.proofs.StepSizes.{rest_falls, step_falls, claim_falls, superposed_falls, first_falls, second_falls}
-use Rattle.e_trim.proofs.StepLooking.{look_fits, look_small, look_step_ready, look_rest, look_enough, look_back_is, later_keeps, wanted_whole, flags_whole}
-use Rattle.e_trim.proofs.BlockLooking.{block_enough, block_back, block_ready, block_wants, plain_wants, plain_flags, claim_inside, superposed_inside, inside_wants, inside_flags, close_wanted, close_flags, cases_wanted, cases_flags, close_fits, two_more, few_copies, plain_of, no_blocks}
+use Rattle.e_trim.proofs.walks.FirstSteps.{ok_map, on_ok, later_steps, whole_is}
+use Rattle.e_trim.proofs.kept_scripts.StepSizes.{rest_falls, step_falls, claim_falls, superposed_falls, first_falls, second_falls}
+use Rattle.e_trim.proofs.walks.StepLooking.{look_fits, look_small, look_step_ready, look_rest, look_enough, look_back_is, later_keeps, wanted_whole, flags_whole}
+use Rattle.e_trim.proofs.walks.BlockLooking.{block_enough, block_back, block_ready, block_wants, plain_wants, plain_flags, claim_inside, superposed_inside, inside_wants, inside_flags, close_wanted, close_flags, cases_wanted, cases_flags, close_fits, two_more, few_copies, plain_of, no_blocks}
 use Rattle.e_trim.proofs.looking.+look.Goals as goal
 
 -- ---- several steps

@@ -1,7 +1,7 @@
 use Rattle.std.proofs.Common.{length}
 use Rattle.e_theorem.specs.Statements.{all_stated}
-use Rattle.e_trim.proofs.BuiltSteps.{room}
-use Rattle.e_trim.proofs.StepParts.{few_sorts}
+use Rattle.e_trim.proofs.kept_scripts.BuiltSteps.{room}
+use Rattle.e_trim.proofs.kept_scripts.StepParts.{few_sorts}
 use Rattle.e_trim.proofs.steps.is_kept.Goals as goal
 
 pub next_objects-requires-clause-points : goal.next_objects-requires-clause-points

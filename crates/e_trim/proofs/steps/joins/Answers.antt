@@ -3,12 +3,12 @@ use Rattle.e_literal.specs.declared.literal.Lit.{Lit}
 use Rattle.e_literal.specs.Use.{gives_of_use}
 use Rattle.e_theorem.specs.Statements.{all_stated}
 use Rattle.e_deriv.specs.Script.{Script, step_script}
-use Rattle.e_deriv.specs.Lines.{theorem_at}
+use Rattle.e_deriv.specs.PlacedSteps.{theorem_at}
 use Rattle.e_deriv.specs.Parts.{written}
 use Rattle.e_trim.specs.Trimmed.{joins_at}
 use Rattle.e_trim.specs.inner.StepState.{IsApplied, StepFits}
-use Rattle.e_trim.proofs.FirstSteps.{ok_map}
-use Rattle.e_trim.proofs.StepParts.{apply_fits, cite_joins, hence_joins, make_joins, apply_joins}
+use Rattle.e_trim.proofs.walks.FirstSteps.{ok_map}
+use Rattle.e_trim.proofs.kept_scripts.StepParts.{apply_fits, cite_joins, hence_joins, make_joins, apply_joins}
 use Rattle.e_trim.proofs.steps.joins.Goals as goal
 
 pub use_at-requires-clause-fits : goal.use_at-requires-clause-fits

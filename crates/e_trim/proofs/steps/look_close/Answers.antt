@@ -2,10 +2,10 @@ use Rattle.std.proofs.Common.{sym, ap, ◌∙◌, subst, Some, None}
 use Rattle.e_literal.specs.Literal.{objects_of_atom}
 use Rattle.e_deriv.specs.Script.{Qed, Contradiction, Cases, close_script, script_of}
 use Rattle.e_trim.specs.inner.StepState.{CloseFits, goal_said}
-use Rattle.e_trim.proofs.Both.{both-none}
-use Rattle.e_trim.proofs.LookedUp.{line_needs}
-use Rattle.e_trim.proofs.Pairs.{sorts}
-use Rattle.e_trim.proofs.StepParts.{and_so, same_line, qed_sorts, qed_script, contradiction_script, cases_script}
+use Rattle.e_trim.proofs.walks.Both.{both-none}
+use Rattle.e_trim.proofs.walks.LookedUp.{line_needs}
+use Rattle.e_trim.proofs.renumbering.Pairs.{sorts}
+use Rattle.e_trim.proofs.kept_scripts.StepParts.{and_so, same_line, qed_sorts, qed_script, contradiction_script, cases_script}
 use Rattle.e_trim.proofs.steps.look_close.Goals as goal
 
 pub look_qed-requires : goal.look_qed-requires

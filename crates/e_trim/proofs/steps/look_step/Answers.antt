@@ -3,8 +3,8 @@ use Rattle.e_theorem.specs.Statements.{all_stated}
 use Rattle.e_deriv.specs.Script.{Cite, Hence, Make, Apply, Claim, Superposed, step_script, script_of}
 use Rattle.e_trim.specs.Looked.{both, needed, objects_of_lits}
 use Rattle.e_trim.specs.inner.StepState.{IsApplied, StepFits}
-use Rattle.e_trim.proofs.LookedUp.{line_needs}
-use Rattle.e_trim.proofs.StepParts.{and_so, same_line, apply_fits, cite_script, hence_script, make_script, apply_script, claim_script, superposed_script}
+use Rattle.e_trim.proofs.walks.LookedUp.{line_needs}
+use Rattle.e_trim.proofs.kept_scripts.StepParts.{and_so, same_line, apply_fits, cite_script, hence_script, make_script, apply_script, claim_script, superposed_script}
 use Rattle.e_trim.proofs.steps.look_step.Goals as goal
 
 pub look_apply-requires-clause-fits : goal.look_apply-requires-clause-fits

@@ -1,7 +1,7 @@
 use Rattle.std.proofs.Common.{sym, ap, ◌∙◌}
 use Rattle.e_literal.specs.Use.{StatementView}
 use Rattle.e_theorem.specs.Statements.{all_stated}
-use Rattle.e_trim.proofs.StepParts.{made_by_form, made_by_theorem, theorem_there, none_there}
+use Rattle.e_trim.proofs.kept_scripts.StepParts.{made_by_form, made_by_theorem, theorem_there, none_there}
 use Rattle.e_trim.proofs.steps.makes.Goals as goal
 
 pub returns-in-Make : goal.returns-in-Make

@@ -1,7 +1,7 @@
 use Rattle.std.proofs.Common.{rules, ◌≡◌, ◌∙◌, [], ◌∷◌, length, ap, arith}
 use Rattle.e_trim.specs.Looked.{both, needed}
-use Rattle.e_trim.proofs.StepParts.{and_so}
-use Rattle.e_trim.proofs.SuperposedAt.{objects_at, objects_are}
+use Rattle.e_trim.proofs.kept_scripts.StepParts.{and_so}
+use Rattle.e_trim.proofs.renumbering.SuperposedAt.{objects_at, objects_are}
 use Rattle.e_trim.proofs.steps.need_superposed.Goals as goal
 
 pub returns : goal.returns

@@ -1,5 +1,5 @@
 use Rattle.e_theorem.specs.Statements.{all_stated}
-use Rattle.e_trim.proofs.StepParts.{few_sorts}
+use Rattle.e_trim.proofs.kept_scripts.StepParts.{few_sorts}
 use Rattle.e_trim.proofs.steps.pass.Goals as goal
 
 pub open-opened-requires-clause-few : goal.open-opened-requires-clause-few

@@ -3,7 +3,7 @@ use Rattle.e_literal.specs.Use.{are_arguments, needs_of_use, gives_of_use}
 use Rattle.e_theorem.specs.Faults.{UseFaultIs}
 use Rattle.e_theorem.specs.Statements.{stated}
 use Rattle.e_deriv.specs.Parts.{written}
-use Rattle.e_trim.proofs.StepParts.{use_room, theorem_there}
+use Rattle.e_trim.proofs.kept_scripts.StepParts.{use_room, theorem_there}
 use Rattle.e_trim.proofs.steps.use_at.Goals as goal
 
 pub use_of-requires-clause-few : goal.use_of-requires-clause-few

@@ -5,7 +5,7 @@ use Rattle.e_theorem.specs.Statements.{stated, all_stated}
 use Rattle.e_deriv.specs.Script.{script_of, steps_script, close_script}
 use Rattle.e_deriv.proofs.Smallness.{few_objects}
 use Rattle.e_trim.specs.inner.StepState.{IsReady}
-use Rattle.e_trim.proofs.Starting.{scope_room, start_ready, goal_same}
+use Rattle.e_trim.proofs.kept_scripts.Starting.{scope_room, start_ready, goal_same}
 use Rattle.e_trim.proofs.trimming.flags_of.Goals as goal
 
 pub grown-scope-requires-clause-points : goal.grown-scope-requires-clause-points

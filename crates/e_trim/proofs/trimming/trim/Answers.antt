@@ -3,7 +3,7 @@ use Rattle.e_literal.specs.Scopes.{nothing, grown, next_objects}
 use Rattle.e_theorem.specs.Statements.{stated, all_stated}
 use Rattle.e_deriv.specs.Script.{script_of}
 use Rattle.e_deriv.proofs.Smallness.{few_objects}
-use Rattle.e_trim.proofs.Starting.{start_few, built_trimmed, built_certified}
+use Rattle.e_trim.proofs.kept_scripts.Starting.{start_few, built_trimmed, built_certified}
 use Rattle.e_trim.proofs.trimming.trim.Goals as goal
 
 pub next_objects-requires-clause-points : goal.next_objects-requires-clause-points

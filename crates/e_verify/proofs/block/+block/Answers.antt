@@ -4,7 +4,7 @@ use Rattle.e_theorem.specs.Statements.{all_stated}
 use Rattle.e_deriv.specs.declared.block.Close.TheViews.{the_lemmas}
 use Rattle.e_deriv.specs.Script.{script_of, step_script, close_script, Cite, Hence, Make, Apply, Claim, Superposed}
 use Rattle.e_verify.specs.inner.StepStates.{block_goal}
-use Rattle.e_verify.specs.Checking.{verdict_at, IsCheckable, IsChecked, AreVerified, LinesReject}
+use Rattle.e_verify.specs.Checking.{verdict_at, IsCheckable, IsChecked, AreVerified, StepsReject}
 use Rattle.e_deriv.proofs.Keeping.{all_stay}
 use Rattle.e_verify.proofs.checking.PassedLines.{cite_line, hence_line, make_line, apply_line, line_passed, line_rejected}
 use Rattle.e_verify.proofs.checking.InnerBlocks.{step_ready, step_rejects, step_same, step_next, steps_end, kept_on, ok_as, err_as, few_one, few_step, formed_step, small_step, cite_parts, cite_is, hence_is, make_is, apply_is, hence_parts, make_parts, apply_parts, ready_as, all_passed_as, all_rejected_as, ok_with, err_with, few_lines, formed_lines, small_lines, claim_is, claim_ready, claim_fails, claim_stops, claim_done, superposed_is, superposed_parts, superposed_ready, tested_fits, superposed_fails, superposed_stops, superposed_done, qed_parts, contradiction_parts, qed_ok, qed_bad, contradiction_ok, contradiction_bad, split_fails, first_ready, first_stops, after_first, second_ready, split_same, kept_after_first}
@@ -318,7 +318,7 @@ verify_step-returns-in-Superposed-clause-err t c =
     all_rejected_as before (whole y.names) (step_script c.args.step.now) c.args.state.now c.args.number c.verify_superposed.result
     (superposed_is c.args.step.now y.form y.names y.shown c.items-in-Superposed.result.now y.certs c.items-in-Superposed-2.result.now y.inner c.deref-in-Superposed.result.now y.is c.items-in-Superposed.ensures c.items-in-Superposed-2.ensures
     c.deref-in-Superposed.ensures)
-    (err_with c.verify_superposed.result (λ e names. LinesReject before (whole names) c.args.state.now c.args.number e) y.names c.verify_superposed.ensures.err)
+    (err_with c.verify_superposed.result (λ e names. StepsReject before (whole names) c.args.state.now c.args.number e) y.names c.verify_superposed.ensures.err)
 
 pub verify_superposed-superpose-requires-clause-facts : goal.verify_superposed-superpose-requires-clause-facts
 verify_superposed-superpose-requires-clause-facts t c =

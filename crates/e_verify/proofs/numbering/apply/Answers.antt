@@ -8,7 +8,7 @@ use Rattle.e_literal.specs.Scopes.{grown}
 use Rattle.e_literal.specs.Use.{needs_of_use, gives_of_use}
 use Rattle.e_theorem.specs.Statements.{stated, all_stated}
 use Rattle.e_deriv.specs.declared.block.Step.TheVariants.{Apply as ApplyStep}
-use Rattle.e_deriv.specs.Lines.{no_statement}
+use Rattle.e_deriv.specs.PlacedSteps.{no_statement}
 use Rattle.e_deriv.specs.Parts.{has_no_blank, written}
 use Rattle.e_verify.specs.declared.step_state.StepState.{StepState}
 use Rattle.e_verify.specs.Numbered.{certs_with_places}

@@ -1,5 +1,5 @@
 use Rattle.std.proofs.lemmas.Result.{err_from_is_err_and}
-use Rattle.e_book.proofs.OutWritten.{few_there, out_is, out_fails}
+use Rattle.e_book.proofs.canonical.OutWritten.{few_there, out_is, out_fails}
 use Rattle.e_book.proofs.coming.Coming.write.Goals as goal
 
 pub put_items-requires-clause-names : goal.put_items-requires-clause-names

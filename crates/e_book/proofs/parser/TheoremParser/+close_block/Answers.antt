@@ -3,7 +3,7 @@ use Rattle.std.proofs.lemmas.Result.{err_from_is_err_and}
 use Rattle.e_book.specs.declared.parser.TheoremParser.{TheoremParser}
 use Rattle.e_book.specs.declared.steps.CloseLine.{CloseLine}
 use Rattle.e_book.specs.Steps.{ClosesInside}
-use Rattle.e_book.proofs.Interrupted.{top_stops, top_goes_on, top_fails}
+use Rattle.e_book.proofs.grammar.Interrupted.{top_stops, top_goes_on, top_fails}
 use Rattle.e_book.proofs.parser.TheoremParser.+close_block.Goals as goal
 
 pub returns-in_err-close_inside-clause-value : goal.returns-in_err-close_inside-clause-value

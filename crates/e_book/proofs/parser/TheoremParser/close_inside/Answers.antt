@@ -2,7 +2,7 @@ use Rattle.std.proofs.Common.{refl, []}
 use Rattle.std.proofs.lemmas.Result.{err_from_is_err_and}
 use Rattle.e_deriv.specs.PlainStep.{Claimed, Copied}
 use Rattle.e_book.specs.declared.blocks.BlockKind.TheVariants as kind
-use Rattle.e_book.proofs.Interrupted.{resumed_fails}
+use Rattle.e_book.proofs.grammar.Interrupted.{resumed_fails}
 use Rattle.e_book.proofs.parser.TheoremParser.close_inside.Goals as goal
 
 pub returns-in_err-end_claim-in-Claim-clause-value :

@@ -5,13 +5,13 @@ use Rattle.e_line.specs.declared.fault.FaultKind.{FaultKind}
 use Rattle.e_line.specs.declared.fault.LineError.{LineError}
 use Rattle.e_line.specs.declared.literal.RawLit.{RawLit}
 use Rattle.e_line.specs.Reading.{◌>>=◌, Fails}
-use Rattle.e_line.proofs.Bound.{read_ok}
+use Rattle.e_line.proofs.base.Bound.{read_ok}
 use Rattle.e_names.specs.Scope.{lit_in}
-use Rattle.e_names.proofs.ItemsWritten.{fails_on}
+use Rattle.e_names.proofs.read_lines.ItemsWritten.{fails_on}
 use Rattle.e_book.specs.declared.blocks.BlockKind.TheVariants as kind
 use Rattle.e_book.specs.declared.parser.TheoremParser.{TheoremParser}
 use Rattle.e_book.specs.Steps.{interrupted, terms_inside, split}
-use Rattle.e_book.proofs.BlockBegins.{begun_with_lit}
+use Rattle.e_book.proofs.grammar.BlockBegins.{begun_with_lit}
 use Rattle.e_book.proofs.parser.TheoremParser.on_cases.Goals as goal
 
 split_fails : (d : TheoremParser) (r : RawLit) (l : Lit) (given : List Lit) (raws : List RawLit) (e : LineError) → lit_in d.in_scope r ≡ Ok l → given ≡ l ∷ [] → raws ≡ r ∷ [] → Fails e (terms_inside d given raws) → Fails e (split d r)

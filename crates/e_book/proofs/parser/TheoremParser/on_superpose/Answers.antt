@@ -2,7 +2,7 @@ use Rattle.std.proofs.Common.{Result, subst, arith}
 use Rattle.e_book.specs.declared.parser.TheoremParser.{TheoremParser}
 use Rattle.e_line.specs.declared.fault.FaultKind.{FaultKind}
 use Rattle.e_line.specs.Reading.{Moves}
-use Rattle.e_book.proofs.Copies.{superposed_is}
+use Rattle.e_book.proofs.grammar.Copies.{superposed_is}
 use Rattle.e_book.proofs.parser.TheoremParser.on_superpose.Goals as goal
 
 pub returns-clause-value : goal.returns-clause-value

@@ -1,4 +1,4 @@
-use Rattle.e_book.proofs.ReadingOn.{begun_after, good_after}
+use Rattle.e_book.proofs.parsers.ReadingOn.{begun_after, good_after}
 use Rattle.e_book.proofs.reading.Reading.read.Goals as goal
 
 pub returns-clause-begun : goal.returns-clause-begun

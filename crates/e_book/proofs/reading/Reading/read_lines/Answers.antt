@@ -5,7 +5,7 @@ use Rattle.e_text.specs.declared.line.LineFault.{LineFault}
 use Rattle.e_text.specs.Lines.{Ahead, TakesNext, view_of_line}
 use Rattle.e_book.specs.declared.item.Item.{Item}
 use Rattle.e_book.specs.inner.Machine.{TakesLine}
-use Rattle.e_book.proofs.ReadingOn.{alike_more, good_more, ends_item, fails_at_line, fails_in_line, all_taken}
+use Rattle.e_book.proofs.parsers.ReadingOn.{alike_more, good_more, ends_item, fails_at_line, fails_in_line, all_taken}
 use Rattle.e_book.proofs.reading.Reading.read_lines.Goals as goal
 
 pub loop-line-init : goal.loop-line-init

@@ -3,7 +3,7 @@ use Rattle.std.specs.Prelude.{IfSome}
 use Rattle.e_text.specs.Lines.{HaveNoFault}
 use Rattle.e_book.specs.inner.Machine.{FitsComing}
 use Rattle.e_book.specs.Grammar.{last_line}
-use Rattle.e_book.proofs.ReadingOn.{Alike}
+use Rattle.e_book.proofs.parsers.ReadingOn.{Alike}
 use Rattle.e_book.proofs.reading.Reading.read_lines.Given as goal
 
 abbrev pub invariant-loop-line : goal.invariant-loop-line

@@ -1,6 +1,6 @@
 use Rattle.std.proofs.Common.{rules}
 use Rattle.e_text.specs.Lines.{view_of_line}
-use Rattle.e_book.proofs.ReadingOn.{takes_nothing}
+use Rattle.e_book.proofs.parsers.ReadingOn.{takes_nothing}
 use Rattle.e_book.proofs.reading.Reading.take.Goals as goal
 
 pub returns-in_err-words-clause-takes : goal.returns-in_err-words-clause-takes

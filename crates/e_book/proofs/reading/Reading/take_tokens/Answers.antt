@@ -2,7 +2,7 @@ use Rattle.std.proofs.Common.{ℕ, List, sym, ap, subst, ◌∙◌}
 use Rattle.e_text.specs.Lines.{view_of_line}
 use Rattle.e_book.specs.Grammar.{is_skipped}
 use Rattle.e_book.specs.inner.Machine.{TakesWords}
-use Rattle.e_book.proofs.ReadingOn.{takes_skipped, takes_words}
+use Rattle.e_book.proofs.parsers.ReadingOn.{takes_skipped, takes_words}
 use Rattle.e_book.proofs.reading.Reading.take_tokens.Goals as goal
 
 pub returns-then-is_skipped-clause-takes : goal.returns-then-is_skipped-clause-takes

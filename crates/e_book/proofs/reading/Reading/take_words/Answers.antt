@@ -1,7 +1,7 @@
 use Rattle.std.proofs.Common.{sym, ◌∙◌}
 use Rattle.e_line.specs.Reading.{texts}
 use Rattle.e_book.specs.inner.Machine.{line_step}
-use Rattle.e_book.proofs.ReadingOn.{fails_at}
+use Rattle.e_book.proofs.parsers.ReadingOn.{fails_at}
 use Rattle.e_book.proofs.reading.Reading.take_words.Goals as goal
 
 pub returns-in-Err-clause-takes : goal.returns-in-Err-clause-takes

@@ -1,6 +1,6 @@
 use Rattle.e_names.specs.TitledStatements.{is_known}
 use Rattle.e_names.specs.Titled.{defines}
-use Rattle.e_names.proofs.FreshTitles.{neither}
+use Rattle.e_names.proofs.titles.FreshTitles.{neither}
 use Rattle.e_names.proofs.known.Known.add.Goals as goal
 
 pub add-requires : goal.add-requires

@@ -2,8 +2,8 @@ use Rattle.std.proofs.Common.{◌≡◌, ℕ, false, List, [], ◌∷◌, ◌++�
 use Rattle.std.specs.List.{list_any}
 use Rattle.std.specs.Str.{bytes_eq}
 use Rattle.e_names.specs.Titled.{Titled, titled}
-use Rattle.e_names.proofs.SideBySide.{put_new}
-use Rattle.e_names.proofs.NotionsBeside.{titles_of, append_beside}
+use Rattle.e_names.proofs.titles.SideBySide.{put_new}
+use Rattle.e_names.proofs.titles.NotionsBeside.{titles_of, append_beside}
 use Rattle.e_names.proofs.notions.Notions.add.Goals as goal
 
 keys_after : (c : goal.After-unwrap) → c.insert.new.self.keys ≡ c.self.inside.titles.keys ++ c.args.title ∷ []

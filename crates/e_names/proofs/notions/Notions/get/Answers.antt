@@ -3,7 +3,7 @@ use Rattle.std.proofs.lemmas.List.Quantifiers.{position-Some}
 use Rattle.std.specs.List.{position}
 use Rattle.std.specs.Str.{bytes_eq}
 use Rattle.e_names.specs.Titled.{notion_of}
-use Rattle.e_names.proofs.NotionsBeside.{found, not_found}
+use Rattle.e_names.proofs.titles.NotionsBeside.{found, not_found}
 use Rattle.e_names.proofs.notions.Notions.get.Goals as goal
 
 pub index-requires : goal.index-requires

@@ -2,7 +2,7 @@ use Rattle.std.proofs.Common.{◌≡◌, ℕ, false, List, [], ◌∷◌, ◌++�
 use Rattle.std.specs.List.{list_any}
 use Rattle.std.specs.Str.{bytes_eq}
 use Rattle.e_names.specs.TitledStatements.{TitledStatement, headed, titles}
-use Rattle.e_names.proofs.SideBySide.{titles_of, put_new, one_more_each, append_side_by_side}
+use Rattle.e_names.proofs.titles.SideBySide.{titles_of, put_new, one_more_each, append_side_by_side}
 use Rattle.e_names.proofs.theorems.Theorems.add.Goals as goal
 
 keys_after : (c : goal.After-unwrap) → c.insert.new.self.keys ≡ c.self.inside.titles.keys ++ c.args.title ∷ []

@@ -2,7 +2,7 @@ use Rattle.std.proofs.Common.{◌≡◌, ℕ, List, sym, ap, ◌∙◌}
 use Rattle.std.specs.List.{position}
 use Rattle.std.specs.Str.{bytes_eq}
 use Rattle.e_names.specs.TitledStatements.{TitledStatement, titles}
-use Rattle.e_names.proofs.SideBySide.{titles_of}
+use Rattle.e_names.proofs.titles.SideBySide.{titles_of}
 use Rattle.e_names.proofs.theorems.Theorems.place.Goals as goal
 
 pub returns : goal.returns

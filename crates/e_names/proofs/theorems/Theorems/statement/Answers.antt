@@ -1,6 +1,6 @@
 use Rattle.std.proofs.Common.{◌<◌, length, ap, sym, ◌∙◌, arith}
 use Rattle.e_names.specs.TitledStatements.{theorem_of}
-use Rattle.e_names.proofs.SideBySide.{length_side_by_side, statement_at}
+use Rattle.e_names.proofs.titles.SideBySide.{length_side_by_side, statement_at}
 use Rattle.e_names.proofs.theorems.Theorems.statement.Goals as goal
 
 pub index-requires : goal.index-requires

@@ -3,12 +3,12 @@ use Rattle.e_names.specs.declared.known.Known.{Known}
 use Rattle.e_names.specs.TitledStatements.{headed, is_known}
 use Rattle.e_names.specs.Titled.{defines}
 use Rattle.e_book.specs.TheoremViews.{entry_of}
-use Rattle.e_names.proofs.FreshTitles.{both}
-use Rattle.e_book.proofs.Fitting.{fitting, small_statement, one_more_stated}
-use Rattle.e_book.proofs.ReadingOn.{begun_first}
+use Rattle.e_names.proofs.titles.FreshTitles.{both}
+use Rattle.e_book.proofs.fit_theorems.Fitting.{fitting, small_statement, one_more_stated}
+use Rattle.e_book.proofs.parsers.ReadingOn.{begun_first}
 use Rattle.e_run.specs.Answers.{Derived}
-use Rattle.e_run.proofs.History.{goes_on, breaks_off, breaks_inside, stopped, spelled_as, front_spelled_as}
-use Rattle.e_run.proofs.TakenBooks.{stop_none}
+use Rattle.e_run.proofs.progress.History.{goes_on, breaks_off, breaks_inside, stopped, spelled_as, front_spelled_as}
+use Rattle.e_run.proofs.progress.TakenBooks.{stop_none}
 use Rattle.e_run.proofs.book.Book.handle.Goals as goal
 
 pub block-requires-clause-fitting : goal.block-requires-clause-fitting

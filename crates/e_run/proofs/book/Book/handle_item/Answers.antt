@@ -1,6 +1,6 @@
 use Rattle.e_names.specs.Titled.{titled}
-use Rattle.e_run.proofs.History.{breaks_off, notion_taken}
-use Rattle.e_run.proofs.TakenBooks.{with_notion}
+use Rattle.e_run.proofs.progress.History.{breaks_off, notion_taken}
+use Rattle.e_run.proofs.progress.TakenBooks.{with_notion}
 use Rattle.e_run.proofs.book.Book.handle_item.Goals as goal
 
 pub handle-requires-clause-spelled : goal.handle-requires-clause-spelled

@@ -2,7 +2,7 @@ use Rattle.std.proofs.Common.{◌++◌, ℕ, List, Option, Ok, refl, ap, subst, 
 use Rattle.std.proofs.lemmas.Result.{err_from_is_err_and}
 use Rattle.e_run.specs.declared.blocks.BookResult.{BookResult}
 use Rattle.e_run.specs.inner.Progress.{Reaches, Handles}
-use Rattle.e_run.proofs.TakenBooks.{book_with, next_is, next_reaches, all_reached, faulty_here, fault_none, fault_unwritten}
+use Rattle.e_run.proofs.progress.TakenBooks.{book_with, next_is, next_reaches, all_reached, faulty_here, fault_none, fault_unwritten}
 use Rattle.e_run.proofs.book.Book.take.Goals as goal
 use Rattle.e_book.specs.Grammar.{Rest}
 

@@ -2,7 +2,7 @@ use Rattle.std.proofs.Common.{[], Option, Ok, sym, subst, ◌∙◌}
 use Rattle.std.proofs.lemmas.Result.{err_from_is_err_and}
 use Rattle.e_run.specs.declared.blocks.BookResult.{BookResult}
 use Rattle.e_run.specs.inner.Progress.{BookTakes}
-use Rattle.e_run.proofs.TakenBooks.{ends_here}
+use Rattle.e_run.proofs.progress.TakenBooks.{ends_here}
 use Rattle.e_run.proofs.book.Book.take_all.Goals as goal
 
 pub returns-in_err-book_result-clause-ends : goal.returns-in_err-book_result-clause-ends

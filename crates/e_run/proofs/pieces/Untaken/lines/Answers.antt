@@ -1,7 +1,7 @@
 use Rattle.std.proofs.Common.{ap, ◌∙◌, arith, length}
 use Rattle.e_text.specs.Lines.{Ahead}
 use Rattle.e_text.proofs.WholeLines.{length-lines_of}
-use Rattle.e_run.proofs.ReadPieces.{lines_at}
+use Rattle.e_run.proofs.progress.ReadPieces.{lines_at}
 use Rattle.e_run.proofs.pieces.Untaken.lines.Goals as goal
 
 pub at-requires-clause-lines_fit : goal.at-requires-clause-lines_fit

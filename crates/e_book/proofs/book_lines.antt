@@ -1,0 +1,3 @@
+-- The lines of a book, and their first fault.
+pub mod FirstFault
+pub mod LineCount

@@ -1,0 +1,205 @@
+-- Reading on from what has come of a theorem or of a definition, line by line, whatever lines come.
+use Rattle.std.proofs.Common.{◌≡◌, ℕ, Bool, true, false, cond, List, [], ◌∷◌, ◌++◌, Option, Some, None, Result, Ok, Err, refl, sym, ap, subst, ◌∙◌, append_assoc}
+use Rattle.std.specs.Prelude.{IfOk, OnOk, IfSome}
+use Rattle.std.proofs.lemmas.List.{append-nil}
+use Rattle.e_text.specs.Tokens.{tokens_of}
+use Rattle.e_text.specs.Lines.{LineView, HaveNoFault}
+use Rattle.e_text.specs.declared.line.LineFault.{LineFault}
+use Rattle.e_line.specs.declared.fault.FaultKind.{FaultKind}
+use Rattle.e_line.specs.declared.fault.FaultKind.TheVariants as kinds
+use Rattle.e_line.specs.declared.fault.LineError.{LineError}
+use Rattle.e_line.specs.declared.fault.LineError.TheVariants as troubles
+use Rattle.e_line.specs.declared.fault.BookFault.{BookFault}
+use Rattle.e_line.specs.declared.fault.BookFault.TheVariants as faults
+use Rattle.e_book.specs.declared.coming.Coming.{Coming}
+use Rattle.e_book.specs.declared.item.Item.{Item}
+use Rattle.e_line.specs.Faults.{trouble_at, line_fault}
+use Rattle.e_line.specs.Reading.{Fails, ◌>>=◌}
+use Rattle.e_names.specs.declared.known.Known.{Known}
+use Rattle.e_names.specs.Titled.{are_notions}
+use Rattle.e_book.specs.Grammar.{is_skipped, put_at, BookFails}
+use Rattle.e_book.specs.Definitions.{BookItem, HasWellFormedView, view_of}
+use Rattle.e_book.specs.inner.Machine.{line_step, is_done, item_of_coming, at_end, item_from, IsBegun, TakesWords, TakesLine, ReadsOn, end_of}
+use Rattle.e_book.proofs.parsers.ComingKept.{read_is_well_formed}
+
+abbrev Rest : Type 0
+Rest = List (Result LineView LineFault)
+
+abbrev Answer : Type 0
+Answer = Option (BookItem × Rest)
+
+abbrev answered : Answer → Result Answer BookFault
+answered x = Ok x
+
+abbrev pair : BookItem → Rest → Answer
+pair i rest = Some (i, rest)
+
+-- ---- one line, unfolded
+
+on_true : {A : Type 0} (b : Bool) (x y : A) → b ≡ true → cond b x y ≡ x
+on_true true x y h = refl
+on_true false x y h = absurd cc
+
+on_false : {A : Type 0} (b : Bool) (x y : A) → b ≡ false → cond b x y ≡ y
+on_false true x y h = absurd cc
+on_false false x y h = refl
+
+-- what its words make of what has come
+abbrev put : Option Coming → LineView → Known → Result Coming BookFault
+put old l known = put_at l.number (line_step known old (tokens_of l.bytes))
+
+-- what follows
+abbrev then_on : Known → ℕ → Rest → Coming → Result Answer BookFault
+then_on known last more d = cond (is_done d) (answered (pair (item_of_coming d) more)) (item_from known last (Some d) more)
+
+skipped : (known : Known) (last : ℕ) (old : Option Coming) (l : LineView) (more : Rest) → is_skipped (tokens_of l.bytes) ≡ true → item_from known last old (Ok l ∷ more) ≡ item_from known last old more
+skipped known last old l more h =
+    on_true (is_skipped (tokens_of l.bytes)) (item_from known last old more) (put old l known >>= (λ d. then_on known last more d)) h
+
+worded : (known : Known) (last : ℕ) (old : Option Coming) (l : LineView) (more : Rest) → is_skipped (tokens_of l.bytes) ≡ false → item_from known last old (Ok l ∷ more) ≡ (put old l known >>= (λ d. then_on known last more d))
+worded known last old l more h =
+    on_false (is_skipped (tokens_of l.bytes)) (item_from known last old more) (put old l known >>= (λ d. then_on known last more d)) h
+
+-- the words made this parser
+worded_as : (known : Known) (last : ℕ) (old : Option Coming) (l : LineView) (more : Rest) (d : Coming) → is_skipped (tokens_of l.bytes) ≡ false → line_step known old (tokens_of l.bytes) ≡ Ok d → item_from known last old (Ok l ∷ more) ≡ then_on known last more d
+worded_as known last old l more d h e =
+    worded known last old l more h ∙ ap (λ (r : Result Coming FaultKind). put_at l.number r >>= (λ x. then_on known last more x)) e
+
+-- ---- faults
+
+-- a fault that is the answer
+pub book_fails : (f : BookFault) (q : Result Answer BookFault) → q ≡ Err f → BookFails f q
+book_fails faults.NoMemory q h = tt
+book_fails (faults.Malformed line) q h = h
+book_fails (faults.UnknownName line) q h = h
+book_fails (faults.NameTaken line) q h = h
+book_fails (faults.WrongSort line) q h = h
+book_fails (faults.Limit line what) q h = h
+book_fails (faults.Unended line) q h = h
+
+-- a trouble, at its line
+pub fails_at : (n : ℕ) (trouble : LineError) (r : Result Coming FaultKind) → Fails trouble r → BookFails (trouble_at n trouble) (put_at n r)
+fails_at n troubles.NoMemory r h = tt
+fails_at n (troubles.Fault kinds.Malformed) r h = ap (λ (x : Result Coming FaultKind). put_at n x) h
+fails_at n (troubles.Fault kinds.UnknownName) r h = ap (λ (x : Result Coming FaultKind). put_at n x) h
+fails_at n (troubles.Fault kinds.NameTaken) r h = ap (λ (x : Result Coming FaultKind). put_at n x) h
+fails_at n (troubles.Fault kinds.WrongSort) r h = ap (λ (x : Result Coming FaultKind). put_at n x) h
+fails_at n (troubles.Fault (kinds.Limit what)) r h = ap (λ (x : Result Coming FaultKind). put_at n x) h
+fails_at n (troubles.Fault kinds.Unended) r h = ap (λ (x : Result Coming FaultKind). put_at n x) h
+
+-- what fails is not gone on with
+fails_on : (f : BookFault) (q : Result Coming BookFault) (then : Coming → Result Answer BookFault) → BookFails f q → BookFails f (q >>= then)
+fails_on faults.NoMemory q then h = tt
+fails_on (faults.Malformed line) q then h = ap (λ (r : Result Coming BookFault). r >>= then) h
+fails_on (faults.UnknownName line) q then h = ap (λ (r : Result Coming BookFault). r >>= then) h
+fails_on (faults.NameTaken line) q then h = ap (λ (r : Result Coming BookFault). r >>= then) h
+fails_on (faults.WrongSort line) q then h = ap (λ (r : Result Coming BookFault). r >>= then) h
+fails_on (faults.Limit line what) q then h = ap (λ (r : Result Coming BookFault). r >>= then) h
+fails_on (faults.Unended line) q then h = ap (λ (r : Result Coming BookFault). r >>= then) h
+
+-- ---- what a line makes of what has come
+
+pub takes_skipped : (known : Known) (old : Option Coming) (l : LineView) → is_skipped (tokens_of l.bytes) ≡ true → TakesLine known old l (Ok None) old
+takes_skipped known old l h = λ last more. skipped known last old l more h
+
+pub takes_words : (known : Known) (old new : Option Coming) (l : LineView) (r : Result (Option Item) BookFault) → is_skipped (tokens_of l.bytes) ≡ false → TakesWords known old l.number (tokens_of l.bytes) r new → TakesLine known old l r new
+takes_words known old new l (Ok None) h w =
+    λ last more. worded_as known last old l more w.0 h w.1 ∙ on_false (is_done w.0) (answered (pair (item_of_coming w.0) more)) (item_from known last (Some w.0) more) w.2
+    ∙ ap (λ (d : Option Coming). item_from known last d more) (sym w.3)
+takes_words known old new l (Ok (Some t)) h w = (
+  w.4,
+  λ last more. worded_as known last old l more w.0 h w.1 ∙ on_true (is_done w.0) (answered (pair (item_of_coming w.0) more)) (item_from known last (Some w.0) more) w.2
+      ∙ ap (λ (e : BookItem). answered (pair e more)) (sym w.3),
+)
+takes_words known old new l (Err f) h w =
+    λ last more. subst (λ (q : Result Answer BookFault). BookFails f q) (sym (worded known last old l more h)) (fails_on f (put old l known) (λ d. then_on known last more d) w)
+
+-- want of memory says nothing
+pub takes_nothing : (known : Known) (old new : Option Coming) (l : LineView) (r : Result (Option Item) BookFault) → r ≡ Err faults.NoMemory → TakesLine known old l r new
+takes_nothing known old new l r e = subst (λ (x : Result (Option Item) BookFault). TakesLine known old l x new) (sym e) (λ last more. tt)
+
+-- ---- line after line
+
+-- to read on through these lines is to read on through those
+abbrev pub Alike : Known → Option Coming → Rest → Option Coming → Rest → Type 0
+Alike known old lines new left = (last : ℕ) (more : Rest) → item_from known last old (lines ++ more) ≡ item_from known last new (left ++ more)
+
+-- through the first of what is left
+through : (known : Known) (old mid : Option Coming) (lines here left : Rest) (l : LineView) → here ≡ Ok l ∷ left → Alike known old lines mid here
+    → (last : ℕ) (more : Rest) → item_from known last old (lines ++ more) ≡ item_from known last mid (Ok l ∷ (left ++ more))
+through known old mid lines here left l e h last more = h last more ∙ ap (λ (ls : Rest). item_from known last mid (ls ++ more)) e
+
+pub alike_more : (known : Known) (old mid new : Option Coming) (lines here left : Rest) (l : LineView) → here ≡ Ok l ∷ left → Alike known old lines mid here → TakesLine known mid l (Ok None) new → Alike known old lines new left
+alike_more known old mid new lines here left l e h t = λ last more. through known old mid lines here left l e h last more ∙ t last (left ++ more)
+
+pub good_more : (lines here left : Rest) (l : LineView) → here ≡ Ok l ∷ left → (HaveNoFault here → HaveNoFault lines) → HaveNoFault left → HaveNoFault lines
+good_more lines here left l e good g = good (subst HaveNoFault (sym e) g)
+
+pub ends_item : (known : Known) (old mid new : Option Coming) (lines here left : Rest) (l : LineView) (t : Item) → here ≡ Ok l ∷ left → Alike known old lines mid here → (HaveNoFault here → HaveNoFault lines) → TakesLine known mid l (Ok (Some t)) new
+    → ReadsOn known old lines (Ok (Some t)) new left
+ends_item known old mid new lines here left l t e h good taken =
+    (taken.0, good_more lines here left l e good, λ last more. through known old mid lines here left l e h last more ∙ taken.1 last (left ++ more))
+
+pub fails_at_line : (known : Known) (old mid new other : Option Coming) (lines here left any : Rest) (l : LineView) (f : BookFault) → here ≡ Ok l ∷ left → Alike known old lines mid here → TakesLine known mid l (Err f) new → ReadsOn known old lines (Err f) other any
+fails_at_line known old mid new other lines here left any l f e h taken =
+    λ last more. subst (λ (q : Result Answer BookFault). BookFails f q) (sym (through known old mid lines here left l e h last more)) (taken last (left ++ more))
+
+pub fails_in_line : (known : Known) (old mid other : Option Coming) (lines here any : Rest) (f : LineFault) → here ≡ Err f ∷ [] → Alike known old lines mid here → ReadsOn known old lines (Err (line_fault f)) other any
+fails_in_line known old mid other lines here any f e h =
+    λ last more. book_fails (line_fault f) (item_from known last old (lines ++ more)) (h last more ∙ ap (λ (ls : Rest). item_from known last mid (ls ++ more)) e)
+
+pub all_taken : (known : Known) (old new : Option Coming) (lines here left : Rest) → here ≡ [] → left ≡ [] → Alike known old lines new here → (HaveNoFault here → HaveNoFault lines) → ReadsOn known old lines (Ok None) new left
+all_taken known old new lines here left e none h good =
+    (none, good (subst HaveNoFault (sym e) tt), λ last more. h last more ∙ ap (λ (ls : Rest). item_from known last new (ls ++ more)) e)
+
+-- ---- what is read so was read from its first line on
+
+pub begun_first : (known : Known) → IsBegun known None
+begun_first known = record { front = []; reads = λ last more. refl }
+
+pub begun_after : (known : Known) (old new : Option Coming) (lines left : Rest) (r : Result (Option Item) BookFault) → IsBegun known old → ReadsOn known old lines r new left → OnOk r (IsBegun known new)
+begun_after known old new lines left (Ok None) b h = record {
+  front = b.front ++ lines;
+  reads = λ last more. ap (λ (ls : Rest). item_from known last None ls) (append_assoc b.front lines more) ∙ b.reads last (lines ++ more) ∙ h.2 last more;
+}
+begun_after known old new lines left (Ok (Some t)) b h = subst (λ (d : Option Coming). IsBegun known d) (sym h.0) (begun_first known)
+begun_after known old new lines left (Err f) b h = tt
+
+pub good_after : (known : Known) (old new : Option Coming) (lines left : Rest) (r : Result (Option Item) BookFault) → are_notions known.notions ≡ true → IsBegun known old → ReadsOn known old lines r new left
+    → IfOk r (λ o. IfSome o (HasWellFormedView known))
+good_after known old new lines left (Ok None) all b h = tt
+good_after known old new lines left (Ok (Some i)) all b h = read_is_well_formed known 0 (view_of i) (b.front ++ (lines ++ [])) (left ++ []) all (b.reads 0 (lines ++ []) ∙ h.2 0 [])
+good_after known old new lines left (Err f) all b h = tt
+
+-- ---- where no lines come after these
+
+-- before the first line
+pub from_none : (known : Known) (old new : Option Coming) (lines left : Rest) (o p : Option Item) → old ≡ None → o ≡ p → ReadsOn known old lines (Ok o) new left → ReadsOn known None lines (Ok p) new left
+from_none known old new lines left o p e is h =
+    subst (λ (q : Option Item). ReadsOn known None lines (Ok q) new left) is (subst (λ (d : Option Coming). ReadsOn known d lines (Ok o) new left) e h)
+
+pub whole_item : (known : Known) (last : ℕ) (lines left : Rest) (new : Option Coming) (t : Item) → ReadsOn known None lines (Ok (Some t)) new left → item_from known last None lines ≡ answered (pair (view_of t) left)
+whole_item known last lines left new t h =
+    ap (λ (ls : Rest). item_from known last None ls) (sym (append-nil lines)) ∙ h.2 last [] ∙ ap (λ (ls : Rest). answered (pair (view_of t) ls)) (append-nil left)
+
+pub whole_fault : (known : Known) (last : ℕ) (lines left : Rest) (new : Option Coming) (f : BookFault) → ReadsOn known None lines (Err f) new left → BookFails f (item_from known last None lines)
+whole_fault known last lines left new f h = subst (λ (ls : Rest). BookFails f (item_from known last None ls)) (append-nil lines) (h last [])
+
+-- then what has come decides
+pub ended_at : (known : Known) (last : ℕ) (old new : Option Coming) (lines left : Rest) → ReadsOn known old lines (Ok None) new left → item_from known last old lines ≡ at_end last new
+ended_at known last old new lines left h = ap (λ (ls : Rest). item_from known last old ls) (sym (append-nil lines)) ∙ h.2 last []
+
+pub end_none : (line last : ℕ) (d : Option Coming) (u : Unit {0}) → end_of line d ≡ Ok u → at_end last d ≡ Ok None
+end_none line last None u e = refl
+end_none line last (Some d) u e = absurd cc
+
+pub end_inside : (line last : ℕ) (d : Option Coming) (f : BookFault) → line ≡ last → end_of line d ≡ Err f → at_end last d ≡ Err f
+end_inside line last None f is e = absurd cc
+end_inside line last (Some d) f is e =
+    ap (λ (n : ℕ). unended n) (sym is) ∙ same (faults.Unended line) f e
+  where
+    unended : ℕ → Result Answer BookFault
+    unended n = Err (faults.Unended n)
+
+    same : (a b : BookFault) → let x : Result (Unit {0}) BookFault = Err a in x ≡ Err b → let y : Result Answer BookFault = Err a in y ≡ Err b
+    same a b h = cc

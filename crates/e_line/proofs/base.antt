@@ -1,0 +1,5 @@
+-- Results that go on, and loops: what the other lemmas stand on.
+pub mod Bound
+pub mod Choices
+pub mod ItemLoops
+pub mod Loops

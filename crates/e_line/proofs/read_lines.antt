@@ -1,0 +1,7 @@
+-- What is known of the lines that are read.
+pub mod FormsByWord
+pub mod LinesByWord
+pub mod LitsByWord
+pub mod ItemsOfWords
+pub mod SumsOfLiterals
+pub mod TitlesOfWords

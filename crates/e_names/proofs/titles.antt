@@ -1,0 +1,4 @@
+-- Titles of theorems and of notions.
+pub mod FreshTitles
+pub mod NotionsBeside
+pub mod SideBySide
