@@ -128,7 +128,7 @@ fn with_objects(
 }
 
 /// The literals of the goal of the whole proof with these objects for its made ones.
-#[tactic(auto, using(crate::proofs::Rooms::made_fits, e_literal::proofs::Growing::sorts_next))]
+#[tactic(auto, using(crate::proofs::Rooms::made_fits, e_literal::proofs::GrownScopes::sorts_next))]
 fn whole_goal_with(
     alloc: Global,
     parser: &TheoremParser,
