@@ -10,6 +10,7 @@ use e_construct::Construction;
 use e_literal::{Items, Lit, Obj, copy};
 use e_text::Name;
 use std::alloc::{AllocError, Global};
+use std::mem;
 
 /// The script of a block: the same steps without their certificates.
 #[cycle(erase)]
@@ -22,8 +23,13 @@ pub fn erase(alloc: Global, block: &Block) -> Result<Block, AllocError>
         let bare = erase_step(alloc, step)?;
         steps.push(bare)?;
     }
-    let close = erase_close(alloc, &block.close)?;
-    Ok(Block { steps, close })
+    match erase_close(alloc, &block.close) {
+        Ok(close) => Ok(Block { steps, close }),
+        Err(error) => {
+            mem::drop(steps);
+            Err(error)
+        }
+    }
 }
 
 #[cycle(erase)]
@@ -46,8 +52,8 @@ fn erase_step(alloc: Global, step: &Step) -> Result<Step, AllocError>
             ..
         } => bare_apply(alloc, *theorem, args.items(), names.items()),
         Step::Claim { shown, inner } => {
-            let inner = Box::new(alloc, erase(alloc, inner)?)?;
             let shown = copy_lits(alloc, shown.items())?;
+            let inner = Box::new(alloc, erase(alloc, inner)?)?;
             Ok(Step::Claim { shown, inner })
         }
         Step::Superposed {
@@ -57,9 +63,9 @@ fn erase_step(alloc: Global, step: &Step) -> Result<Step, AllocError>
             inner,
             ..
         } => {
-            let inner = Box::new(alloc, erase(alloc, inner)?)?;
-            let shown = copy_lits(alloc, shown.items())?;
             let names = copy_names(alloc, names.items())?;
+            let shown = copy_lits(alloc, shown.items())?;
+            let inner = Box::new(alloc, erase(alloc, inner)?)?;
             Ok(Step::Superposed {
                 form: *form,
                 names,
@@ -86,10 +92,23 @@ fn erase_close(alloc: Global, close: &Close) -> Result<Close, AllocError>
         }
         Close::Contradiction { .. } => Ok(Close::Contradiction { against: None }),
         Close::Cases { lit, first, second } => {
-            let first = Box::new(alloc, erase(alloc, first)?)?;
-            let second = Box::new(alloc, erase(alloc, second)?)?;
             let lit = copy(alloc, lit)?;
-            Ok(Close::Cases { lit, first, second })
+            let first = erase(alloc, first)?;
+            let second = match erase(alloc, second) {
+                Ok(second) => second,
+                Err(error) => {
+                    mem::drop(first);
+                    mem::drop(lit);
+                    return Err(error);
+                }
+            };
+            match boxed(alloc, first, second) {
+                Ok((first, second)) => Ok(Close::Cases { lit, first, second }),
+                Err(error) => {
+                    mem::drop(lit);
+                    Err(error)
+                }
+            }
         }
     }
 }
