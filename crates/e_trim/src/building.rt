@@ -18,7 +18,7 @@ use crate::numbering::{
 };
 use crate::steps::makes;
 use e_clause::{Against, Cert};
-use e_deriv::{Block, Close, Step, copy_names};
+use e_deriv::{Block, Close, Step, boxed, copy_names};
 use e_literal::{Obj, Scope, Sort, grown, next_objects};
 use e_theorem::Statement;
 use std::alloc::{AllocError, Global};
@@ -151,9 +151,9 @@ fn build_step(
             certs: new_certs(alloc, kept, certs.items())?,
         }),
         Step::Claim { shown, inner } => {
+            let shown = new_lits(alloc, kept, shown.items())?;
             let inner = build_block(alloc, before, inner, scope, kept, flags)?;
             let inner = Box::new(alloc, inner)?;
-            let shown = new_lits(alloc, kept, shown.items())?;
             Ok(Step::Claim { shown, inner })
         }
         Step::Superposed {
@@ -165,11 +165,11 @@ fn build_step(
         } => {
             let copies = form.made();
             let inside = with_next(alloc, kept, scope, copies)?;
-            let inner = build_block(alloc, before, inner, grown(scope, copies), &inside, flags)?;
-            let inner = Box::new(alloc, inner)?;
+            let names = copy_names(alloc, names.items())?;
             let shown = new_lits(alloc, kept, shown.items())?;
             let certs = new_certs(alloc, kept, certs.items())?;
-            let names = copy_names(alloc, names.items())?;
+            let inner = build_block(alloc, before, inner, grown(scope, copies), &inside, flags)?;
+            let inner = Box::new(alloc, inner)?;
             Ok(Step::Superposed {
                 form: new_superpose(kept, form),
                 names,
@@ -206,12 +206,23 @@ fn build_close(
             against: new_against_of(alloc, kept, against)?,
         }),
         Close::Cases { lit, first, second } => {
-            let first = build_block(alloc, before, first, scope, kept, flags)?;
-            let first = Box::new(alloc, first)?;
-            let second = build_block(alloc, before, second, scope, kept, flags)?;
-            let second = Box::new(alloc, second)?;
             let lit = new_lit(alloc, kept, lit)?;
-            Ok(Close::Cases { lit, first, second })
+            let first = build_block(alloc, before, first, scope, kept, flags)?;
+            let second = match build_block(alloc, before, second, scope, kept, flags) {
+                Ok(second) => second,
+                Err(error) => {
+                    mem::drop(first);
+                    mem::drop(lit);
+                    return Err(error);
+                }
+            };
+            match boxed(alloc, first, second) {
+                Ok((first, second)) => Ok(Close::Cases { lit, first, second }),
+                Err(error) => {
+                    mem::drop(lit);
+                    Err(error)
+                }
+            }
         }
     }
 }

@@ -202,11 +202,13 @@ fn look_at_close(
     match close {
         Close::Qed { .. } | Close::Contradiction { .. } => Ok(wanted),
         Close::Cases { lit, first, second } => {
-            let holds = vec![in alloc; copy(alloc, lit)?]?;
             let fails = vec![in alloc; negate(copy(alloc, lit)?)]?;
             let other = look_inside(alloc, before, second, goal, state, flags, &[], &fails)?;
-            let one = look_inside(alloc, before, first, goal, state, flags, &[], &holds)?;
+            mem::drop(fails);
             wanted.append(other)?;
+            let holds = vec![in alloc; copy(alloc, lit)?]?;
+            let one = look_inside(alloc, before, first, goal, state, flags, &[], &holds)?;
+            mem::drop(holds);
             wanted.append(one)?;
             Ok(wanted)
         }

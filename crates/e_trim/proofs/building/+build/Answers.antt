@@ -118,14 +118,14 @@ pub build_close-returns-in_ok-new_against_of-in-Contradiction : goal.build_close
 build_close-returns-in_ok-new_against_of-in-Contradiction t c =
     contradiction_built (all_stated c.args.before.now) c.args.kept.now c.args.close.now c.in-Contradiction.against c.in_ok-new_against_of-in-Contradiction.field-0 c.args.scope c.args.flags.now.items c.in-Contradiction.is c.in_ok-new_against_of-in-Contradiction.ensures
 
-pub build_close-returns-in_ok-lit-in-Cases : goal.build_close-returns-in_ok-lit-in-Cases
-build_close-returns-in_ok-lit-in-Cases t c =
+pub build_close-returns-in-Ok-boxed : goal.build_close-returns-in-Ok-boxed
+build_close-returns-in-Ok-boxed t c =
     let pile = c.args.flags.now.items in
     let over = c.build_block.new.flags.items in
     let left = c.build_block-in-Cases.new.flags.items in
-    let one = boxed (all_stated c.args.before.now) c.args.kept.now c.deref.result.now c.in-Cases.first c.in_ok-first-in-Cases-2.first c.in_ok-first-in-Cases.first c.args.scope c.args.scope pile over c.deref.ensures c.in_ok-first-in-Cases-2.ensures.ok refl c.in_ok-first-in-Cases.ensures in
-    let other = boxed (all_stated c.args.before.now) c.args.kept.now c.deref-in-Cases.result.now c.in-Cases.second c.in_ok-second-in-Cases-2.second c.in_ok-second-in-Cases.second c.args.scope c.args.scope over left c.deref-in-Cases.ensures c.in_ok-second-in-Cases-2.ensures.ok refl c.in_ok-second-in-Cases.ensures in
-    cases_built (all_stated c.args.before.now) c.args.kept.now c.args.close.now c.in-Cases.lit c.in_ok-lit-in-Cases.lit c.in-Cases.first c.in-Cases.second c.in_ok-first-in-Cases-2.first c.in_ok-second-in-Cases-2.second c.args.scope pile over left c.in-Cases.is c.in_ok-lit-in-Cases.ensures one other
+    let one = boxed (all_stated c.args.before.now) c.args.kept.now c.deref.result.now c.in-Cases.first c.in-Ok-boxed.first c.in_ok-first-in-Cases.first c.args.scope c.args.scope pile over c.deref.ensures c.in-Ok-boxed.ensures.first refl c.in_ok-first-in-Cases.ensures in
+    let other = boxed (all_stated c.args.before.now) c.args.kept.now c.deref-in-Cases.result.now c.in-Cases.second c.in-Ok-boxed.second c.in-Ok.second c.args.scope c.args.scope over left c.deref-in-Cases.ensures c.in-Ok-boxed.ensures.second refl c.in-Ok.ensures in
+    cases_built (all_stated c.args.before.now) c.args.kept.now c.args.close.now c.in-Cases.lit c.in_ok-lit-in-Cases.lit c.in-Cases.first c.in-Cases.second c.in-Ok-boxed.first c.in-Ok-boxed.second c.args.scope pile over left c.in-Cases.is c.in_ok-lit-in-Cases.ensures one other
 
 -- ---- a step
 
@@ -188,8 +188,8 @@ build_step-build_block-requires t c = (
   ),
 )
 
-pub build_step-returns-in_ok-shown-in-Claim : goal.build_step-returns-in_ok-shown-in-Claim
-build_step-returns-in_ok-shown-in-Claim t c =
+pub build_step-returns-in_ok-inner-in-Claim-2 : goal.build_step-returns-in_ok-inner-in-Claim-2
+build_step-returns-in_ok-inner-in-Claim-2 t c =
     claim_built (all_stated c.args.before.now) c.args.kept.now c.args.step.now c.in-Claim.shown c.in_ok-shown-in-Claim.shown c.in-Claim.inner c.in_ok-inner-in-Claim-2.inner c.args.scope c.args.flags.now.items c.build_block.new.flags.items c.in-Claim.is (c.in_ok-shown-in-Claim.ensures ∙ ap (map (lit_among_kept c.args.kept.now)) c.items-in-Claim.ensures)
     (boxed (all_stated c.args.before.now) c.args.kept.now c.deref.result.now c.in-Claim.inner c.in_ok-inner-in-Claim-2.inner c.in_ok-inner-in-Claim.inner c.args.scope c.args.scope c.args.flags.now.items c.build_block.new.flags.items c.deref.ensures c.in_ok-inner-in-Claim-2.ensures.ok refl c.in_ok-inner-in-Claim.ensures)
 
@@ -216,12 +216,12 @@ build_step-build_block-requires-in-Superposed t c = (
   ),
 )
 
-pub build_step-returns-in_ok-names-in-Superposed : goal.build_step-returns-in_ok-names-in-Superposed
-build_step-returns-in_ok-names-in-Superposed t c =
+pub build_step-returns-in_ok-inner-in-Superposed-2 : goal.build_step-returns-in_ok-inner-in-Superposed-2
+build_step-returns-in_ok-inner-in-Superposed-2 t c =
     let pile = c.args.flags.now.items in
     let left = c.build_block-in-Superposed.new.flags.items in
     let wide = c.deref-in-Superposed-2.result.now in
     superposed_built (all_stated c.args.before.now) c.args.kept.now wide c.args.step.now c.in-Superposed.form c.new_superpose.result c.in-Superposed.names c.in_ok-names-in-Superposed.names c.in-Superposed.shown c.in_ok-shown-in-Superposed.shown c.in-Superposed.certs c.in_ok-certs-in-Superposed.certs c.in-Superposed.inner c.in_ok-inner-in-Superposed-2.inner c.args.scope pile left c.in-Superposed.is
-    (c.deref-in-Superposed-2.ensures.value ∙ c.in_ok-inside-in-Superposed.ensures ∙ ap (λ xs. c.args.kept.now ++ next_objects c.args.scope xs) c.made-copies.ensures) c.new_superpose.ensures (c.in_ok-names-in-Superposed.ensures ∙ c.items-in-Superposed-3.ensures)
-    (c.in_ok-shown-in-Superposed.ensures ∙ ap (map (lit_among_kept c.args.kept.now)) c.items-in-Superposed.ensures) (c.in_ok-certs-in-Superposed.ensures ∙ ap (map (cert_at c.args.kept.now)) c.items-in-Superposed-2.ensures)
+    (c.deref-in-Superposed-2.ensures.value ∙ c.in_ok-inside-in-Superposed.ensures ∙ ap (λ xs. c.args.kept.now ++ next_objects c.args.scope xs) c.made-copies.ensures) c.new_superpose.ensures (c.in_ok-names-in-Superposed.ensures ∙ c.items-in-Superposed.ensures)
+    (c.in_ok-shown-in-Superposed.ensures ∙ ap (map (lit_among_kept c.args.kept.now)) c.items-in-Superposed-2.ensures) (c.in_ok-certs-in-Superposed.ensures ∙ ap (map (cert_at c.args.kept.now)) c.items-in-Superposed-3.ensures)
     (boxed (all_stated c.args.before.now) wide c.deref-in-Superposed.result.now c.in-Superposed.inner c.in_ok-inner-in-Superposed-2.inner c.in_ok-inner-in-Superposed.inner (grown c.args.scope superposing.sorts_copied) c.grown.result pile left c.deref-in-Superposed.ensures c.in_ok-inner-in-Superposed-2.ensures.ok (c.grown.ensures ∙ ap (grown c.args.scope) c.made-copies.ensures) c.in_ok-inner-in-Superposed.ensures)

@@ -201,7 +201,7 @@ look_at_close-look_inside-requires t c = (
     (
       omega arith,
       (
-        subst (λ ls. IsReady (all_stated c.args.before.now) (script_of c.deref.result.now) c.args.state.now.scope (joined_all c.args.state.now.facts ls) (goal_said c.args.goal.now)) (sym (c.deref-in-Cases.ensures.value ∙ c.in_ok-fails-in-Cases.ensures.items ∙ ap (λ l. l ∷ []) (c.negate.ensures ∙ ap negation c.in_ok-copy-in-Cases-2.ensures))) (subst (λ b. IsReady (all_stated c.args.before.now) (script_of b) c.args.state.now.scope (joined c.args.state.now.facts (negation c.in-Cases.lit)) (goal_said c.args.goal.now)) (sym c.deref.ensures) (cases_ready (all_stated c.args.before.now) c.in-Cases.lit c.in-Cases.first c.in-Cases.second c.args.state.now.scope c.args.state.now.facts (goal_said c.args.goal.now) (subst (λ cl. IsReady (all_stated c.args.before.now) (close_script cl) c.args.state.now.scope c.args.state.now.facts (goal_said c.args.goal.now)) c.in-Cases.is c.requires.ready)).2),
+        subst (λ ls. IsReady (all_stated c.args.before.now) (script_of c.deref.result.now) c.args.state.now.scope (joined_all c.args.state.now.facts ls) (goal_said c.args.goal.now)) (sym (c.deref-in-Cases.ensures.value ∙ c.in_ok-fails-in-Cases.ensures.items ∙ ap (λ l. l ∷ []) (c.negate.ensures ∙ ap negation c.in_ok-copy-in-Cases.ensures))) (subst (λ b. IsReady (all_stated c.args.before.now) (script_of b) c.args.state.now.scope (joined c.args.state.now.facts (negation c.in-Cases.lit)) (goal_said c.args.goal.now)) (sym c.deref.ensures) (cases_ready (all_stated c.args.before.now) c.in-Cases.lit c.in-Cases.first c.in-Cases.second c.args.state.now.scope c.args.state.now.facts (goal_said c.args.goal.now) (subst (λ cl. IsReady (all_stated c.args.before.now) (close_script cl) c.args.state.now.scope c.args.state.now.facts (goal_said c.args.goal.now)) c.in-Cases.is c.requires.ready)).2),
         c.requires.statements,
       ),
     ),
@@ -216,7 +216,7 @@ look_at_close-look_inside-requires-in-Cases t c = (
     (
       omega arith,
       (
-        subst (λ ls. IsReady (all_stated c.args.before.now) (script_of c.deref-in-Cases-2.result.now) c.args.state.now.scope (joined_all c.args.state.now.facts ls) (goal_said c.args.goal.now)) (sym (c.deref-in-Cases-3.ensures.value ∙ c.in_ok-holds-in-Cases.ensures.items ∙ ap (λ l. l ∷ []) c.in_ok-copy-in-Cases.ensures)) (subst (λ b. IsReady (all_stated c.args.before.now) (script_of b) c.args.state.now.scope (joined c.args.state.now.facts c.in-Cases.lit) (goal_said c.args.goal.now)) (sym c.deref-in-Cases-2.ensures) (cases_ready (all_stated c.args.before.now) c.in-Cases.lit c.in-Cases.first c.in-Cases.second c.args.state.now.scope c.args.state.now.facts (goal_said c.args.goal.now) (subst (λ cl. IsReady (all_stated c.args.before.now) (close_script cl) c.args.state.now.scope c.args.state.now.facts (goal_said c.args.goal.now)) c.in-Cases.is c.requires.ready)).1),
+        subst (λ ls. IsReady (all_stated c.args.before.now) (script_of c.deref-in-Cases-2.result.now) c.args.state.now.scope (joined_all c.args.state.now.facts ls) (goal_said c.args.goal.now)) (sym (c.deref-in-Cases-3.ensures.value ∙ c.in_ok-holds-in-Cases.ensures.items ∙ ap (λ l. l ∷ []) c.in_ok-copy-in-Cases-2.ensures)) (subst (λ b. IsReady (all_stated c.args.before.now) (script_of b) c.args.state.now.scope (joined c.args.state.now.facts c.in-Cases.lit) (goal_said c.args.goal.now)) (sym c.deref-in-Cases-2.ensures) (cases_ready (all_stated c.args.before.now) c.in-Cases.lit c.in-Cases.first c.in-Cases.second c.args.state.now.scope c.args.state.now.facts (goal_said c.args.goal.now) (subst (λ cl. IsReady (all_stated c.args.before.now) (close_script cl) c.args.state.now.scope c.args.state.now.facts (goal_said c.args.goal.now)) c.in-Cases.is c.requires.ready)).1),
         c.requires.statements,
       ),
     ),
@@ -227,19 +227,19 @@ pub look_at_close-returns-in_ok-append-in-Cases-2-clause-wanted : goal.look_at_c
 look_at_close-returns-in_ok-append-in-Cases-2-clause-wanted t c =
     cases_wanted (all_stated c.args.before.now) c.args.close.now c.in-Cases.lit c.in-Cases.first c.in-Cases.second c.args.state.now.scope c.args.state.now.facts (goal_said c.args.goal.now) c.new-wanted.result c.look_close.new.out c.in_ok-other-in-Cases.other c.in_ok-one-in-Cases.one c.append-in-Cases.new.self c.append.new.self c.in-Cases.is c.new-wanted.ensures (c.in_ok-look_close.ensures (all_stated c.args.before.now))
     (c.in_ok-other-in-Cases.ensures.wanted ∙ ap (λ b. wants_outside c.args.state.now.scope c.args.state.now.facts (wants (all_stated c.args.before.now) (script_of b) c.args.state.now.scope (joined_all c.args.state.now.facts c.deref-in-Cases.result.now) (goal_said c.args.goal.now))) c.deref.ensures
-    ∙ ap (λ ls. wants_outside c.args.state.now.scope c.args.state.now.facts (wants (all_stated c.args.before.now) (script_of c.in-Cases.second.value) c.args.state.now.scope (joined_all c.args.state.now.facts ls) (goal_said c.args.goal.now))) (c.deref-in-Cases.ensures.value ∙ c.in_ok-fails-in-Cases.ensures.items ∙ ap (λ l. l ∷ []) (c.negate.ensures ∙ ap negation c.in_ok-copy-in-Cases-2.ensures)))
+    ∙ ap (λ ls. wants_outside c.args.state.now.scope c.args.state.now.facts (wants (all_stated c.args.before.now) (script_of c.in-Cases.second.value) c.args.state.now.scope (joined_all c.args.state.now.facts ls) (goal_said c.args.goal.now))) (c.deref-in-Cases.ensures.value ∙ c.in_ok-fails-in-Cases.ensures.items ∙ ap (λ l. l ∷ []) (c.negate.ensures ∙ ap negation c.in_ok-copy-in-Cases.ensures)))
     (c.in_ok-one-in-Cases.ensures.wanted ∙ ap (λ (y : StepState). wants_outside y.scope y.facts (wants (all_stated c.args.before.now) (script_of c.deref-in-Cases-2.result.now) y.scope (joined_all y.facts c.deref-in-Cases-3.result.now) (goal_said c.args.goal.now))) c.in_ok-other-in-Cases.ensures.same
     ∙ ap (λ b. wants_outside c.args.state.now.scope c.args.state.now.facts (wants (all_stated c.args.before.now) (script_of b) c.args.state.now.scope (joined_all c.args.state.now.facts c.deref-in-Cases-3.result.now) (goal_said c.args.goal.now))) c.deref-in-Cases-2.ensures
-    ∙ ap (λ ls. wants_outside c.args.state.now.scope c.args.state.now.facts (wants (all_stated c.args.before.now) (script_of c.in-Cases.first.value) c.args.state.now.scope (joined_all c.args.state.now.facts ls) (goal_said c.args.goal.now))) (c.deref-in-Cases-3.ensures.value ∙ c.in_ok-holds-in-Cases.ensures.items ∙ ap (λ l. l ∷ []) c.in_ok-copy-in-Cases.ensures)) c.in_ok-append-in-Cases.ensures c.in_ok-append-in-Cases-2.ensures
+    ∙ ap (λ ls. wants_outside c.args.state.now.scope c.args.state.now.facts (wants (all_stated c.args.before.now) (script_of c.in-Cases.first.value) c.args.state.now.scope (joined_all c.args.state.now.facts ls) (goal_said c.args.goal.now))) (c.deref-in-Cases-3.ensures.value ∙ c.in_ok-holds-in-Cases.ensures.items ∙ ap (λ l. l ∷ []) c.in_ok-copy-in-Cases-2.ensures)) c.in_ok-append-in-Cases.ensures c.in_ok-append-in-Cases-2.ensures
 
 pub look_at_close-returns-in_ok-append-in-Cases-2-clause-flags : goal.look_at_close-returns-in_ok-append-in-Cases-2-clause-flags
 look_at_close-returns-in_ok-append-in-Cases-2-clause-flags t c =
     cases_flags (all_stated c.args.before.now) c.args.close.now c.in-Cases.lit c.in-Cases.first c.in-Cases.second c.args.state.now.scope c.args.state.now.facts (goal_said c.args.goal.now) c.args.flags.now.items c.look_inside.new.flags.items c.look_inside-in-Cases.new.flags.items c.in-Cases.is
     (c.in_ok-other-in-Cases.ensures.flags ∙ ap (λ b. c.args.flags.now.items ++ flags_of (all_stated c.args.before.now) (script_of b) c.args.state.now.scope (joined_all c.args.state.now.facts c.deref-in-Cases.result.now) (goal_said c.args.goal.now)) c.deref.ensures
-    ∙ ap (λ ls. c.args.flags.now.items ++ flags_of (all_stated c.args.before.now) (script_of c.in-Cases.second.value) c.args.state.now.scope (joined_all c.args.state.now.facts ls) (goal_said c.args.goal.now)) (c.deref-in-Cases.ensures.value ∙ c.in_ok-fails-in-Cases.ensures.items ∙ ap (λ l. l ∷ []) (c.negate.ensures ∙ ap negation c.in_ok-copy-in-Cases-2.ensures)))
+    ∙ ap (λ ls. c.args.flags.now.items ++ flags_of (all_stated c.args.before.now) (script_of c.in-Cases.second.value) c.args.state.now.scope (joined_all c.args.state.now.facts ls) (goal_said c.args.goal.now)) (c.deref-in-Cases.ensures.value ∙ c.in_ok-fails-in-Cases.ensures.items ∙ ap (λ l. l ∷ []) (c.negate.ensures ∙ ap negation c.in_ok-copy-in-Cases.ensures)))
     (c.in_ok-one-in-Cases.ensures.flags ∙ ap (λ (y : StepState). c.look_inside.new.flags.items ++ flags_of (all_stated c.args.before.now) (script_of c.deref-in-Cases-2.result.now) y.scope (joined_all y.facts c.deref-in-Cases-3.result.now) (goal_said c.args.goal.now)) c.in_ok-other-in-Cases.ensures.same
     ∙ ap (λ b. c.look_inside.new.flags.items ++ flags_of (all_stated c.args.before.now) (script_of b) c.args.state.now.scope (joined_all c.args.state.now.facts c.deref-in-Cases-3.result.now) (goal_said c.args.goal.now)) c.deref-in-Cases-2.ensures
-    ∙ ap (λ ls. c.look_inside.new.flags.items ++ flags_of (all_stated c.args.before.now) (script_of c.in-Cases.first.value) c.args.state.now.scope (joined_all c.args.state.now.facts ls) (goal_said c.args.goal.now)) (c.deref-in-Cases-3.ensures.value ∙ c.in_ok-holds-in-Cases.ensures.items ∙ ap (λ l. l ∷ []) c.in_ok-copy-in-Cases.ensures))
+    ∙ ap (λ ls. c.look_inside.new.flags.items ++ flags_of (all_stated c.args.before.now) (script_of c.in-Cases.first.value) c.args.state.now.scope (joined_all c.args.state.now.facts ls) (goal_said c.args.goal.now)) (c.deref-in-Cases-3.ensures.value ∙ c.in_ok-holds-in-Cases.ensures.items ∙ ap (λ l. l ∷ []) c.in_ok-copy-in-Cases-2.ensures))
 
 pub look_at_close-returns-in-Qed-clause-wanted : goal.look_at_close-returns-in-Qed-clause-wanted
 look_at_close-returns-in-Qed-clause-wanted t c = close_wanted (all_stated c.args.before.now) c.args.close.now c.args.state.now.scope c.args.state.now.facts (goal_said c.args.goal.now) c.new-wanted.result c.look_close.new.out (no_blocks (all_stated c.args.before.now) c.args.close.now c.args.state.now.scope c.args.state.now.facts (goal_said c.args.goal.now) c.in-Qed.is) c.new-wanted.ensures (c.in_ok-look_close.ensures (all_stated c.args.before.now))
