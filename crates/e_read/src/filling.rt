@@ -8,7 +8,7 @@ ghost use Rattle.e_read.specs.Filled.{Fills, FillsStep, FillsClose};
 use crate::kept::CertQueue;
 use e_cert::{Certs, StepCerts};
 use e_clause::{Against, Cert};
-use e_deriv::{Block, Close, Step, copy_by, copy_construction, copy_lits};
+use e_deriv::{Block, Close, Step, boxed, copy_by, copy_construction, copy_lits};
 use e_literal::{Items, copy};
 use std::alloc::{AllocError, Global};
 use std::mem;
@@ -62,8 +62,13 @@ pub(crate) fn fill(alloc: Global, block: &Block, queue: &mut CertQueue) -> Resul
         let step = fill_step(alloc, step, queue)?;
         steps.push(step)?;
     }
-    let close = fill_close(alloc, &block.close, queue)?;
-    Ok(Block { steps, close })
+    match fill_close(alloc, &block.close, queue) {
+        Ok(close) => Ok(Block { steps, close }),
+        Err(error) => {
+            mem::drop(steps);
+            Err(error)
+        }
+    }
 }
 
 #[cycle(fill)]
@@ -152,12 +157,23 @@ fn fill_close(alloc: Global, close: &Close, queue: &mut CertQueue) -> Result<Clo
             Ok(Close::Contradiction { against })
         }
         Close::Cases { lit, first, second } => {
-            let first = fill(alloc, first, queue)?;
-            let first = Box::new(alloc, first)?;
-            let second = fill(alloc, second, queue)?;
-            let second = Box::new(alloc, second)?;
             let lit = copy(alloc, lit)?;
-            Ok(Close::Cases { lit, first, second })
+            let first = fill(alloc, first, queue)?;
+            let second = match fill(alloc, second, queue) {
+                Ok(second) => second,
+                Err(error) => {
+                    mem::drop(first);
+                    mem::drop(lit);
+                    return Err(error);
+                }
+            };
+            match boxed(alloc, first, second) {
+                Ok((first, second)) => Ok(Close::Cases { lit, first, second }),
+                Err(error) => {
+                    mem::drop(lit);
+                    Err(error)
+                }
+            }
         }
     }
 }

@@ -201,8 +201,8 @@ pub(crate) fn due_of(
 {
     match form {
         RawLine::Hence(raw) => {
-            let mut wanted = Items::empty(alloc);
             let lit = lit_in(alloc, &parser.in_scope, raw)?;
+            let mut wanted = Items::empty(alloc);
             wanted.push(lit)?;
             Ok(one_each(alloc, wanted))
         }
