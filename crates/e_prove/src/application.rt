@@ -71,9 +71,9 @@ pub fn apply(
         state.old h) }
     ensures kept { IfErr result (UnlessNoMemory (state.new ≡ state.old)) }
 {
+    let names = Vec::from_slice(alloc, application.names)?;
     let used = used(alloc, statement, application.args, &mut state.context)?;
     let args = without_blanks(alloc, used.args.items())?;
-    let names = Vec::from_slice(alloc, application.names)?;
     state.grow(statement.made.items(), application.names)?;
     state.join_equal(alloc, used.gives.items())?;
     Ok(Step::Apply {

@@ -84,7 +84,10 @@ pub fn prove_block(
             },
             next: proved.next,
         }),
-        Err(stop) => Err(stop),
+        Err(stop) => {
+            mem::drop(steps);
+            Err(stop)
+        }
     }
 }
 
@@ -224,6 +227,7 @@ fn prove_superposed(
             superposed(alloc, head, shown, proved, outer, state)
         }
         Err(stop) => {
+            mem::drop(certs);
             mem::drop(outer);
             Err(stop)
         }

@@ -42,10 +42,11 @@ pub fn qed(
         → IsStopOfClose before (Qed objects.now certs) context.old (goal_view goal.now) h) }
     ensures kept { context.new ≡ context.old }
 {
+    let copied = Vec::from_slice(alloc, objects)?;
     let wanted = goal_with(alloc, goal, objects)?;
     let certs = licences(alloc, context, &wanted)?;
     Ok(Close::Qed {
-        objects: Items::new(Vec::from_slice(alloc, objects)?),
+        objects: Items::new(copied),
         certs: Items::new(certs),
     })
 }

@@ -106,13 +106,14 @@ pub fn make(
         → IsStopOfStep before (Make form.now names.now certs) state.old h) }
     ensures kept { IfErr result (UnlessNoMemory (state.new ≡ state.old)) }
 {
+    let copied = Vec::from_slice(alloc, names)?;
+    let derived = copy_construction(alloc, form)?;
     let needs = form.needs(alloc)?;
     let certs = licences(alloc, &mut state.context, &needs)?;
+    mem::drop(needs);
     let given = form.gives(alloc, state.context.scope())?;
     state.grow(form.made(), names)?;
     state.join(given)?;
-    let copied = Vec::from_slice(alloc, names)?;
-    let derived = copy_construction(alloc, form)?;
     Ok(Step::Make {
         form: derived,
         names: Items::new(copied),
@@ -143,6 +144,7 @@ pub fn superpose(
 {
     let needs = form.needs(alloc)?;
     let certs = licences(alloc, &mut state.context, &needs)?;
+    mem::drop(needs);
     let given = form.gives(alloc, state.context.scope())?;
     state.grow(form.made(), names)?;
     state.join(given)?;

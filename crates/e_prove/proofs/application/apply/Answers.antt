@@ -10,12 +10,12 @@ use Rattle.e_prove.proofs.application.apply.Goals as goal
 
 pub returns-in_err-used-clause-err : goal.returns-in_err-used-clause-err
 returns-in_err-used-clause-err c =
-    let p = err_from_is_err_and c.from_residual.result c.from_residual.ensures.1 in
+    let p = err_from_is_err_and c.from_residual-in_err-used.result c.from_residual-in_err-used.ensures.1 in
     let y = c.args.application.now in
     rw (p.1, p.2) (λ before certs e. apply_stops before y.theorem y.args.now y.names.now certs (stated c.args.statement.now) c.args.state.now c.in_err-used.field-0.0 e c.in_err-used.ensures.err)
 
 pub returns-in_err-used-clause-kept : goal.returns-in_err-used-clause-kept
-returns-in_err-used-clause-kept c = unless _ c.from_residual.result (ap (λ (b : Basis). record c.args.state.now { context = b }) c.in_err-used.ensures.kept)
+returns-in_err-used-clause-kept c = unless _ c.from_residual-in_err-used.result (ap (λ (b : Basis). record c.args.state.now { context = b }) c.in_err-used.ensures.kept)
 
 pub grow-requires-clause-points : goal.grow-requires-clause-points
 grow-requires-clause-points c =
