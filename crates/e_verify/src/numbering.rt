@@ -101,7 +101,10 @@ fn number_block(
     }
     match number_close(alloc, before, &block.close, goal, state) {
         Ok(close) => Ok(Block { steps, close }),
-        Err(_) => Err(AllocError),
+        Err(_) => {
+            mem::drop(steps);
+            Err(AllocError)
+        }
     }
 }
 
@@ -222,7 +225,10 @@ fn number_superposed(
             let head = Head { form, names, certs };
             superposed(alloc, head, shown, numbered, outer, state)
         }
-        Err(_) => Err(AllocError),
+        Err(_) => {
+            mem::drop(certs);
+            Err(AllocError)
+        }
     }
 }
 
@@ -331,14 +337,19 @@ fn make(
     if !has_room(scope) || !form.fits(scope) {
         return Err(AllocError);
     }
+    let names = Items::new(Vec::from_slice(alloc, names)?);
+    let copied = copy_construction(alloc, form)?;
     let needs = form.needs(alloc)?;
     let certs = placed_certs(alloc, &state.facts, &needs, certs)?;
+    mem::drop(needs);
     let given = form.gives(alloc, scope)?;
     state.scope = grown(scope, form.made());
     state.facts.join(given)?;
-    let names = Items::new(Vec::from_slice(alloc, names)?);
-    let form = copy_construction(alloc, form)?;
-    Ok(Step::Make { form, names, certs })
+    Ok(Step::Make {
+        form: copied,
+        names,
+        certs,
+    })
 }
 
 /// An application, as it is written.
@@ -372,6 +383,8 @@ fn apply(
     if !has_room(scope) {
         return Err(AllocError);
     }
+    let args = Items::new(Vec::from_slice(alloc, line.args)?);
+    let names = Items::new(Vec::from_slice(alloc, line.names)?);
     let applied = match use_of(alloc, statement, &objects, scope) {
         Ok(applied) => applied,
         Err(UseFault::BadArgs | UseFault::NoMemory) => return Err(AllocError),
@@ -379,8 +392,6 @@ fn apply(
     let certs = placed_certs(alloc, &state.facts, applied.needs.items(), line.certs)?;
     state.scope = grown(scope, statement.made.items());
     state.assume_all(alloc, applied.gives.items())?;
-    let args = Items::new(Vec::from_slice(alloc, line.args)?);
-    let names = Items::new(Vec::from_slice(alloc, line.names)?);
     Ok(Step::Apply {
         theorem: line.theorem,
         args,
@@ -407,6 +418,7 @@ fn superpose(
     }
     let needs = form.needs(alloc)?;
     let certs = placed_certs(alloc, &state.facts, &needs, certs)?;
+    mem::drop(needs);
     let given = form.gives(alloc, scope)?;
     state.scope = grown(scope, form.made());
     state.facts.join(given)?;
@@ -427,10 +439,13 @@ fn qed(
     if !have_sorts_of(state.scope, goal.made, objects) {
         return Err(AllocError);
     }
+    let copied = Items::new(Vec::from_slice(alloc, objects)?);
     let wanted = goal_with(alloc, goal, objects)?;
     let certs = placed_certs(alloc, &state.facts, &wanted, certs)?;
-    let objects = Items::new(Vec::from_slice(alloc, objects)?);
-    Ok(Close::Qed { objects, certs })
+    Ok(Close::Qed {
+        objects: copied,
+        certs,
+    })
 }
 
 fn contradiction(

@@ -29,6 +29,7 @@ use e_construct::{Construction, Superpose};
 use e_literal::{Lit, Obj, Scope, grown, in_scope};
 use e_theorem::{Statement, UseFault, use_of};
 use std::alloc::{AllocError, Global};
+use std::mem;
 
 /// Whether a citation is certified; then its literal is a fact.
 pub fn cite(alloc: Global, by: &By, state: &mut StepState) -> Result<bool, AllocError>
@@ -107,6 +108,7 @@ pub fn make(
     if !certify_all(alloc, scope, &state.facts, &needs, certs)? {
         return Ok(false);
     }
+    mem::drop(needs);
     let given = form.gives(alloc, scope)?;
     state.scope = grown(scope, form.made());
     state.facts.join(given)?;
@@ -176,6 +178,7 @@ pub fn superpose(
     if !certify_all(alloc, scope, &state.facts, &needs, certs)? {
         return Ok(false);
     }
+    mem::drop(needs);
     let given = form.gives(alloc, scope)?;
     state.scope = grown(scope, form.made());
     state.facts.join(given)?;

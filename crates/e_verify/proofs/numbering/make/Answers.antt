@@ -37,7 +37,7 @@ returns c before =
     let wanted = c.deref.ensures.value ∙ c.in_ok-needs.ensures in
     let placed = c.in_ok-certs.certs in
     make_numbered before form names c.args.certs.now x (as_state c.grown-state.result c.join.new.self) _
-    (ap (λ f. MakeStep f c.new-names.result placed) c.in_ok-form.ensures
+    (ap (λ f. MakeStep f c.new-names.result placed) c.in_ok-copied.ensures
     ∙ ap (λ ns. MakeStep form ns placed) (c.new-names.ensures ∙ c.in_ok-from_slice.ensures.items)
     ∙ ap (MakeStep form names) (c.in_ok-certs.ensures ∙ ap (λ ls. certs_with_places x.facts ls c.args.certs.now) wanted))
     (ap (λ (s : Scope). as_state s c.join.new.self) scope ∙ ap (as_state (grown x.scope (sorts_made form))) facts)
