@@ -153,8 +153,8 @@ fn decided_with(
     requires table { IsTableFor rows.now terms.now solved.now }
     ensures { IfOk result (IsVerdict (all_seen (rows.now ++ more.now))) }
 {
-    let all = rows_with(alloc, rows, more)?;
     let terms = terms_with(alloc, terms, more)?;
+    let all = rows_with(alloc, rows, more)?;
     if solved.width() <= terms.len() {
         return decide(alloc, &all);
     }
@@ -180,8 +180,8 @@ fn prepared_with(
     requires table { IsTableFor rows.now terms.now solved.now }
     ensures { IfOk result (IsPreparedRows (rows.now ++ more.now)) }
 {
-    let together = rows_with(alloc, rows, more)?;
     let terms = terms_with(alloc, terms, more)?;
+    let together = rows_with(alloc, rows, more)?;
     if solved.width() <= terms.len() {
         return prepare(alloc, together);
     }
