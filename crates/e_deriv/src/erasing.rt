@@ -20,7 +20,13 @@ pub fn erase(alloc: Global, block: &Block) -> Result<Block, AllocError>
 {
     let mut steps = Vec::new(alloc);
     for step in &block.steps {
-        let bare = erase_step(alloc, step)?;
+        let bare = match erase_step(alloc, step) {
+            Ok(bare) => bare,
+            Err(error) => {
+                mem::drop(steps);
+                return Err(error);
+            }
+        };
         steps.push(bare)?;
     }
     match erase_close(alloc, &block.close) {
