@@ -59,8 +59,14 @@ pub(crate) fn fill(alloc: Global, block: &Block, queue: &mut CertQueue) -> Resul
 {
     let mut steps = Vec::new(alloc);
     for step in &block.steps {
-        let step = fill_step(alloc, step, queue)?;
-        steps.push(step)?;
+        let filled = match fill_step(alloc, step, queue) {
+            Ok(filled) => filled,
+            Err(error) => {
+                mem::drop(steps);
+                return Err(error);
+            }
+        };
+        steps.push(filled)?;
     }
     match fill_close(alloc, &block.close, queue) {
         Ok(close) => Ok(Block { steps, close }),
