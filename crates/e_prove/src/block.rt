@@ -73,7 +73,10 @@ pub fn prove_block(
                 steps.push(proved.step)?;
                 number = proved.next;
             }
-            Err(stop) => return Err(stop),
+            Err(stop) => {
+                mem::drop(steps);
+                return Err(stop);
+            }
         }
     }
     match prove_close(alloc, before, &block.close, goal, state, number) {
