@@ -96,7 +96,10 @@ fn number_block(
     for step in &block.steps {
         match number_step(alloc, before, step, state) {
             Ok(numbered) => steps.push(numbered)?,
-            Err(_) => return Err(AllocError),
+            Err(_) => {
+                mem::drop(steps);
+                return Err(AllocError);
+            }
         }
     }
     match number_close(alloc, before, &block.close, goal, state) {
