@@ -167,9 +167,9 @@ impl TheoremParser {
         ensures value { Moves result self.new (superposed self.old raw.now) }
         ensures fits { OnOk result (FitsScope self.new) }
     {
+        let names = Items::new(Vec::from_slice(alloc, raw.new.items())?);
         let Placement { form, shown } = superpose_in(alloc, &self.in_scope, raw)?;
         let given = form.gives(alloc, scope_of_names(&self.in_scope))?;
-        let names = Items::new(Vec::from_slice(alloc, raw.new.items())?);
         let after = names_with(alloc, &self.in_scope, form.made(), raw.new.items())?;
         let kind = BlockKind::Superpose { form, names, shown };
         self.begin_copies(alloc, kind, after, &given, raw.shown.items())
