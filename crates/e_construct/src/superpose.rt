@@ -8,6 +8,7 @@ ghost use Rattle.e_construct.specs.Superposing;
 
 use e_literal::{Atom, Form, Lit, Mono, Scope, Sort, Term};
 use std::alloc::{AllocError, Global};
+use std::mem;
 
 /// A superposition: the points `a b c d g h`, and the lines `K L`. The triangle `a b c`, whose side
 /// `a b` is on `K`, is put onto `d`, along `L` towards `g`, and on the side of `L` on which `h` is.
@@ -61,6 +62,23 @@ impl Superpose {
         ensures { IfOk result
             (λ lits. lits.items ≡ Superposing.gives_of_superposition self.now scope) }
     {
+        let mut lits = Vec::new(alloc);
+        match self.put_gives(alloc, scope, &mut lits) {
+            Ok(()) => Ok(lits),
+            Err(error) => {
+                mem::drop(lits);
+                Err(error)
+            }
+        }
+    }
+
+    /// Puts what holds in its block, in order, where nothing is there.
+    fn put_gives(&self, alloc: Global, scope: Scope, lits: &mut Vec<Lit>) -> Result<(), AllocError>
+        requires room { scope.points + 2 < 2 ^ 16 }
+        requires none { lits.old.items ≡ [] }
+        ensures { OnOk result
+            (lits.new.items ≡ Superposing.gives_of_superposition self.now scope) }
+    {
         let [a, b, c, d, g, h] = self.points;
         let [_, l] = self.lines;
         let p = scope.points;
@@ -73,12 +91,11 @@ impl Superpose {
             (Term::Ang(b, c, a), Term::Ang(p, q, d)),
             (Term::Ang(c, a, b), Term::Ang(q, d, p)),
         ];
-        let mut lits = Vec::new(alloc);
-        extend(alloc, &mut lits, &equals)?;
+        extend(alloc, lits, &equals)?;
         lits.push(is(Atom::On(p, l)))?;
         lits.push(isnt(Atom::Between(p, d, g)))?;
         lits.push(is(Atom::Same(q, h, l)))?;
-        Ok(lits)
+        Ok(())
     }
 }
 

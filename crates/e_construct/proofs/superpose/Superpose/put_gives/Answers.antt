@@ -1,6 +1,6 @@
 use Rattle.std.proofs.Common.{rules, ◌≡◌, ◌∙◌, ◌+◌, length, arith}
 use Rattle.e_construct.proofs.Superposing.{gives_at, gives_of}
-use Rattle.e_construct.proofs.superpose.Superpose.gives.Goals as goal
+use Rattle.e_construct.proofs.superpose.Superpose.put_gives.Goals as goal
 
 pub returns : goal.returns
 returns c =
