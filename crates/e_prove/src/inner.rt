@@ -95,6 +95,7 @@ pub fn superposed(
         Ok(shown) => shown,
         Err(_) => {
             mem::drop(block);
+            mem::drop(certs);
             return Err(Stop::NoMemory);
         }
     };
@@ -102,6 +103,8 @@ pub fn superposed(
         Ok(names) => names,
         Err(_) => {
             mem::drop(block);
+            mem::drop(certs);
+            mem::drop(shown);
             return Err(Stop::NoMemory);
         }
     };
