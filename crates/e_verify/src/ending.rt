@@ -85,6 +85,7 @@ pub fn superposed(
         Ok(shown) => shown,
         Err(_) => {
             mem::drop(block);
+            mem::drop(certs);
             return Err(AllocError);
         }
     };
@@ -92,6 +93,8 @@ pub fn superposed(
         Ok(names) => names,
         Err(_) => {
             mem::drop(block);
+            mem::drop(certs);
+            mem::drop(shown);
             return Err(AllocError);
         }
     };

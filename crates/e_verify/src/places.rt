@@ -240,6 +240,7 @@ fn placed_transfer(
 ) -> Result<TransferCert, AllocError>
     ensures { IfOk result (λ c. c ≡ Numbered.transfer_with_places facts.now lit.now cert.now) }
 {
+    let args = Vec::from_slice(alloc, cert.args.items())?;
     let mut parts = Vec::new(alloc);
     match instance_of(alloc, cert.rule, cert.args.items())? {
         Some(lits) => {
@@ -248,7 +249,6 @@ fn placed_transfer(
         }
         None => {}
     }
-    let args = Vec::from_slice(alloc, cert.args.items())?;
     Ok(TransferCert {
         rule: cert.rule,
         args: Items::new(args),
