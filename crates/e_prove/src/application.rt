@@ -73,9 +73,27 @@ pub fn apply(
 {
     let names = Vec::from_slice(alloc, application.names)?;
     let used = used(alloc, statement, application.args, &mut state.context)?;
-    let args = without_blanks(alloc, used.args.items())?;
-    state.grow(statement.made.items(), application.names)?;
-    state.join_equal(alloc, used.gives.items())?;
+    let args = match without_blanks(alloc, used.args.items()) {
+        Ok(args) => args,
+        Err(_) => {
+            mem::drop(used);
+            return Err(StepStop::NoMemory);
+        }
+    };
+    match state.grow(statement.made.items(), application.names) {
+        Ok(()) => {}
+        Err(_) => {
+            mem::drop(used);
+            return Err(StepStop::NoMemory);
+        }
+    }
+    match state.join_equal(alloc, used.gives.items()) {
+        Ok(()) => {}
+        Err(_) => {
+            mem::drop(used);
+            return Err(StepStop::NoMemory);
+        }
+    }
     Ok(Step::Apply {
         theorem: application.theorem,
         args,

@@ -48,7 +48,7 @@ join_equal-requires c =
     let args = c.in_ok-used.used.args in
     let lits = c.requires.lits args c.in_ok-used.ensures.ok.least.good.is_choice in
     good_applied t args x c.grow.new.self.context c.items-2.result.now c.items-3.result.now c.items-2.ensures (c.items-3.ensures ∙ c.in_ok-used.ensures.ok.gives)
-    (c.in_ok-grow.ensures.scope ∙ ap (λ (b : Basis). record b { scope = grown b.scope c.items-2.result.now }) c.in_ok-used.ensures.kept) lits.after
+    (c.in-Ok-grow.ensures.scope ∙ ap (λ (b : Basis). record b { scope = grown b.scope c.items-2.result.now }) c.in_ok-used.ensures.kept) lits.after
 
 pub returns-clause-ok : goal.returns-clause-ok
 returns-clause-ok c before old e =
@@ -57,7 +57,7 @@ returns-clause-ok c before old e =
     let t = stated c.args.statement.now in
     let u = c.in_ok-used.used in
     let h = c.in_ok-used.ensures.ok in
-    licensed_apply before y.theorem y.args.now c.in_ok-args.args y.names.now c.new.result old c.new-2.result t x c.join_equal.new.self u e h
-    (c.in_ok-args.ensures ∙ ap (map Some) c.items.ensures) (c.new.ensures ∙ c.in_ok-names.ensures.items) c.new-2.ensures
+    licensed_apply before y.theorem y.args.now c.in-Ok.args y.names.now c.new.result old c.new-2.result t x c.join_equal.new.self u e h
+    (c.in-Ok.ensures ∙ ap (map Some) c.items.ensures) (c.new.ensures ∙ c.in_ok-names.ensures.items) c.new-2.ensures
     (applied_after t u.args y.names.now x c.grow.new.self c.join_equal.new.self c.items-2.result.now c.items-3.result.now c.items-2.ensures (c.items-3.ensures ∙ h.gives)
-    (c.in_ok-grow.ensures.scope ∙ ap (λ (b : Basis). record b { scope = grown b.scope c.items-2.result.now }) c.in_ok-used.ensures.kept) c.in_ok-grow.ensures.names c.in_ok-join_equal.ensures)
+    (c.in-Ok-grow.ensures.scope ∙ ap (λ (b : Basis). record b { scope = grown b.scope c.items-2.result.now }) c.in_ok-used.ensures.kept) c.in-Ok-grow.ensures.names c.in-Ok-join_equal.ensures)
