@@ -148,9 +148,18 @@ impl TheoremParser {
         ensures fits { OnOk result (FitsScope self.new) }
     {
         let mut shown = Items::empty(alloc);
-        put_lits(alloc, &self.in_scope, raw, &mut shown)?;
-        self.room_inside(0)?;
-        few_monos(raw)?;
+        if let Err(trouble) = put_lits(alloc, &self.in_scope, raw, &mut shown) {
+            mem::drop(shown);
+            return Err(trouble);
+        }
+        if let Err(trouble) = self.room_inside(0) {
+            mem::drop(shown);
+            return Err(trouble);
+        }
+        if let Err(trouble) = few_monos(raw) {
+            mem::drop(shown);
+            return Err(trouble);
+        }
         let inside = self.in_scope.copy(alloc)?;
         self.interrupt(alloc, BlockKind::Claim { shown }, inside, 0)?;
         Ok(())
