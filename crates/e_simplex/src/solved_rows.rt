@@ -19,6 +19,7 @@ use e_fraction::{Row, Signed};
 use e_literal::{Term, Values};
 use std::alloc::{AllocError, Global};
 use std::marker::Model;
+use std::mem;
 
 /// How many columns a table has that no term of its rows has, for terms of further rows: a question
 /// with more new terms has all rows solved again.
@@ -158,11 +159,24 @@ fn decided_with(
     if solved.width() <= terms.len() {
         return decide(alloc, &all);
     }
-    let constraints = plain_constraints(alloc, &terms, more)?;
+    let constraints = match plain_constraints(alloc, &terms, more) {
+        Ok(constraints) => constraints,
+        Err(error) => {
+            mem::drop(all);
+            return Err(error);
+        }
+    };
     if constraints.is_empty() {
         return verdict_of_solved(alloc, &all, &terms, solved);
     }
-    let outcome = solved.with_all(alloc, &constraints)?;
+    let outcome = match solved.with_all(alloc, &constraints) {
+        Ok(outcome) => outcome,
+        Err(error) => {
+            mem::drop(all);
+            mem::drop(constraints);
+            return Err(error);
+        }
+    };
     verdict_of(alloc, &all, &terms, &outcome)
 }
 

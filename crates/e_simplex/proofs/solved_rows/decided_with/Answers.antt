@@ -16,10 +16,10 @@ with_all-requires-clause-fit c =
     let s = c.args.solved.now in
     let room : length ts < columns_of s = omega (arith, c.if-width-len.false, c.width.ensures, c.len.ensures ∙ c.in_ok-terms.terms.ok.0) in
     let n : length s.columns.items < 2 ^ 63 = search rules in
-    let e : c.deref-3.result.now ≡ c.in_ok-constraints.constraints.items = c.deref-3.ensures.value in
+    let e : c.deref-3.result.now ≡ c.in-Ok.constraints.items = c.deref-3.ensures.value in
     fit_both c.args.rows.now c.args.more.now c.args.terms.now ts s c.requires.table c.in_ok-terms.ensures.continues c.in_ok-terms.ensures.all
-    c.deref-3.result.now (e ∙ c.in_ok-constraints.ensures.value ∙ ap (λ v. named_constraints false v (all_seen c.args.more.now)) c.deref-2.ensures.value)
-    room (omega (arith, n)) c.requires.few (subst AllSmallConstraints (sym e) c.in_ok-constraints.ensures.small)
+    c.deref-3.result.now (e ∙ c.in-Ok.ensures.value ∙ ap (λ v. named_constraints false v (all_seen c.args.more.now)) c.deref-2.ensures.value)
+    room (omega (arith, n)) c.requires.few (subst AllSmallConstraints (sym e) c.in-Ok.ensures.small)
 
 pub verdict_of-requires-clause-named : goal.verdict_of-requires-clause-named
 verdict_of-requires-clause-named c =
@@ -37,11 +37,11 @@ verdict_of-requires-clause-outcome c =
       columns_of s,
       omega (arith, room, ap length c.deref-5.ensures.value),
       omega (arith, n),
-      subst (λ v. IsTableOutcome (columns_of s) (named_constraints false v (all_seen c.deref-4.result.now)) c.in_ok-outcome.outcome) (sym c.deref-5.ensures.value)
-          (subst (λ v. IsTableOutcome (columns_of s) (named_constraints false ts (all_seen v)) c.in_ok-outcome.outcome) (sym (c.deref-4.ensures.value ∙ c.in_ok-all.ensures))
+      subst (λ v. IsTableOutcome (columns_of s) (named_constraints false v (all_seen c.deref-4.result.now)) c.in-Ok-with_all.outcome) (sym c.deref-5.ensures.value)
+          (subst (λ v. IsTableOutcome (columns_of s) (named_constraints false ts (all_seen v)) c.in-Ok-with_all.outcome) (sym (c.deref-4.ensures.value ∙ c.in_ok-all.ensures))
           (outcome_both c.args.rows.now c.args.more.now c.args.terms.now ts s c.requires.table c.in_ok-terms.ensures.continues c.in_ok-terms.ensures.all
-          c.deref-3.result.now (c.deref-3.ensures.value ∙ c.in_ok-constraints.ensures.value ∙ ap (λ v. named_constraints false v (all_seen c.args.more.now)) c.deref-2.ensures.value)
-          c.in_ok-outcome.outcome c.in_ok-outcome.ensures)),
+          c.deref-3.result.now (c.deref-3.ensures.value ∙ c.in-Ok.ensures.value ∙ ap (λ v. named_constraints false v (all_seen c.args.more.now)) c.deref-2.ensures.value)
+          c.in-Ok-with_all.outcome c.in-Ok-with_all.ensures)),
     )
 
 pub verdict_of_solved-requires-clause-named : goal.verdict_of_solved-requires-clause-named
@@ -64,9 +64,9 @@ pub verdict_of_solved-requires-clause-solved : goal.verdict_of_solved-requires-c
 verdict_of_solved-requires-clause-solved c =
     let ts = c.in_ok-terms.terms.items in
     let s = c.args.solved.now in
-    let none : length c.in_ok-constraints.constraints.items ≡ 0 = search rules in
+    let none : length c.in-Ok.constraints.items ≡ 0 = search rules in
     subst (λ v. IsSolved (columns_of s) (named_constraints false v (all_seen c.deref-then-is_empty.result.now)) s) (sym c.deref-then-is_empty-2.ensures.value)
     (subst (λ v. IsSolved (columns_of s) (named_constraints false ts (all_seen v)) s) (sym (c.deref-then-is_empty.ensures.value ∙ c.in_ok-all.ensures))
     (solved_both c.args.rows.now c.args.more.now c.args.terms.now ts s c.requires.table c.in_ok-terms.ensures.continues c.in_ok-terms.ensures.all
-    c.in_ok-constraints.constraints.items (c.in_ok-constraints.ensures.value ∙ ap (λ v. named_constraints false v (all_seen c.args.more.now)) c.deref-2.ensures.value)
-    (nil_from_length c.in_ok-constraints.constraints.items none)))
+    c.in-Ok.constraints.items (c.in-Ok.ensures.value ∙ ap (λ v. named_constraints false v (all_seen c.args.more.now)) c.deref-2.ensures.value)
+    (nil_from_length c.in-Ok.constraints.items none)))
