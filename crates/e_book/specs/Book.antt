@@ -30,7 +30,7 @@ is_last places.Done = true
 is_last p = false
 
 abbrev pub is_done : TheoremParser → Bool
-is_done d = is_last d.place
+is_done d = is_last d.section
 
 -- the lines end: before a theorem, or inside one
 abbrev pub at_end : ℕ → Option TheoremParser

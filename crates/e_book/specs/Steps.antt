@@ -238,7 +238,7 @@ closed_inside d o os inner close (kind.First lit) =
       facts = o.facts + 1;
       terms = o.terms + monomials lit.atom;
       blocks = record o { kind = kind.Second lit inner } ∷ os;
-      place = Splitting;
+      section = Splitting;
     })
 closed_inside d o os inner close (kind.Second lit first) = close (closes.Cases lit first inner)
 
@@ -246,7 +246,7 @@ closed_inside d o os inner close (kind.Second lit first) = close (closes.Cases l
 unfoldable pub closed : TheoremParser → List OpenBlock → List PlainStep → CloseLine
     → Result TheoremParser FaultKind
 closed d [] steps close =
-    Ok (record d { steps = steps; blocks = []; close = close; place = Closed })
+    Ok (record d { steps = steps; blocks = []; close = close; section = Closed })
 closed d (o ∷ os) steps close =
     closed_inside d o os (all_before steps (script_of_close close))
     (λ c. closed d os o.steps c) o.kind
@@ -277,7 +277,7 @@ second_begun d around lit first =
       facts = around.facts + 1;
       terms = around.terms + monomials lit.atom;
       blocks = outer_with around (kind.Second lit first) ∷ d.blocks;
-      place = Splitting;
+      section = Splitting;
     }
 
 -- what closing the open block inside another one leaves: the parser, or the close of that other
@@ -314,7 +314,7 @@ abbrev pub supposes : TheoremParser → List RawLit → Result TheoremParser Fau
 supposes d raws =
     with_front d.given (lits_in d.names raws)
     >>= λ ls. within (d.facts + length raws) most_facts limits.Facts
-    >>= λ few. with_terms (record d { given = ls; facts = d.facts + length raws; place = Giving })
+    >>= λ few. with_terms (record d { given = ls; facts = d.facts + length raws; section = Giving })
     raws
 
 -- made objects
@@ -323,21 +323,21 @@ makes d sort ns =
     declared d.names sort ns >>= λ names. Ok (record d {
       names = names;
       made = d.made ++ replicate (length ns) sort;
-      place = Making;
+      section = Making;
     })
 
 -- shown literals
 abbrev pub shows : TheoremParser → List RawLit → Result TheoremParser FaultKind
 shows d raws =
     with_front d.shown (lits_in d.names raws) >>= λ ls. few_monos raws
-    >>= λ few. Ok (record d { shown = ls; place = Showing })
+    >>= λ few. Ok (record d { shown = ls; section = Showing })
 
 -- the proof begins with the declared objects, and the names of the made ones are free again
 abbrev pub proof_begun : TheoremParser → Result TheoremParser FaultKind
 proof_begun d =
     Ok (record d {
       in_scope = declared_names (stated (statement_of_parser d)) d.names;
-      place = Proving;
+      section = Proving;
     })
 
 -- a citation: its rule, its names and its literal, then the limits
@@ -371,13 +371,13 @@ stepped known d rawlines.Contradiction = shut d closes.Contradiction
 stepped known d (rawlines.Claim raws) = claimed d raws
 stepped known d (rawlines.Superpose raw) = superposed d raw
 stepped known d (rawlines.Cases raw) = split d raw
-stepped known d rawlines.Else = Ok (record d { place = Proving })
-stepped known d rawlines.End = Ok (record d { place = Done })
+stepped known d rawlines.Else = Ok (record d { section = Proving })
+stepped known d rawlines.End = Ok (record d { section = Done })
 
 -- a line at its place: its form there, then its names from left to right, then the limits
 unfoldable pub step : List TitledStatement → TheoremParser → RawLine
     → Result TheoremParser FaultKind
-step known d form = if allowed d.place form then stepped known d form else Err Malformed
+step known d form = if allowed d.section form then stepped known d form else Err Malformed
 
 -- how many names there are
 abbrev pub count_names : Names → ℕ
@@ -439,7 +439,7 @@ begun title =
       terms = 0;
       blocks = [];
       close = closes.Qed [];
-      place = Declaring;
+      section = Declaring;
     }
 
 -- a theorem begins with its title, which no earlier one has

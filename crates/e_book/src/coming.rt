@@ -183,16 +183,16 @@ impl Coming {
     {
         match form {
             RawLine::Declare(sort, names) => {
-                right_place(allowed(self.parser.place, form))?;
+                right_place(allowed(self.parser.section, form))?;
                 self.parser.on_declare(alloc, *sort, names.items())
             }
             RawLine::Show(raw) => {
-                right_place(allowed(self.parser.place, form))?;
+                right_place(allowed(self.parser.section, form))?;
                 self.parser.on_show(alloc, raw.items())
             }
             RawLine::End => {
-                right_place(matches!(self.parser.place, Section::Showing))?;
-                self.parser.place = Section::Done;
+                right_place(matches!(self.parser.section, Section::Showing))?;
+                self.parser.section = Section::Done;
                 Ok(())
             }
             _ => Err(LineError::Fault(FaultKind::Malformed)),
@@ -282,17 +282,17 @@ fn into_definition(parser: TheoremParser) -> Item
 }
 
 /// Whether a line that takes literals may come at a place.
-fn may_come(place: Section, line: &Listing) -> bool
-    ensures { result ≡ allowed place (listing_form line.now []) }
+fn may_come(section: Section, line: &Listing) -> bool
+    ensures { result ≡ allowed section (listing_form line.now []) }
 {
     match line {
-        Listing::Given => matches!(place, Section::Declaring | Section::Giving),
+        Listing::Given => matches!(section, Section::Declaring | Section::Giving),
         Listing::Show => matches!(
-            place,
+            section,
             Section::Declaring | Section::Giving | Section::Making | Section::Showing
         ),
-        Listing::Claim => matches!(place, Section::Proving),
-        Listing::Superpose { .. } => matches!(place, Section::Proving),
+        Listing::Claim => matches!(section, Section::Proving),
+        Listing::Superpose { .. } => matches!(section, Section::Proving),
     }
 }
 
@@ -310,7 +310,7 @@ impl TheoremParser {
         requires { FitsScope self.now }
         ensures { Gives (λ u. u) result (is_ready self.now line.now) }
     {
-        right_place(may_come(self.place, line))?;
+        right_place(may_come(self.section, line))?;
         match line {
             Listing::Superpose { args, new } => {
                 placed_in(&self.in_scope, args.items())?;

@@ -276,7 +276,7 @@ impl TheoremParser {
     {
         let Some(outer) = self.blocks.pop() else {
             mem::drop(mem::replace(&mut self.close, close));
-            self.place = Section::Closed;
+            self.section = Section::Closed;
             return Ok(());
         };
         match self.close_inside(alloc, outer, close)? {
@@ -492,7 +492,7 @@ impl TheoremParser {
             terms,
             kind,
         })?;
-        self.place = Section::Splitting;
+        self.section = Section::Splitting;
         Ok(())
     }
 }

@@ -67,36 +67,36 @@ pub struct TheoremParser {
     pub blocks: BlockStack,
     /// How the proof's block is closed; before that a `qed` without objects.
     pub close: CloseLine,
-    pub place: Section,
+    pub section: Section,
 }
 
-pub(crate) fn allowed(place: Section, form: &RawLine) -> bool
-    ensures { result ≡ allowed place form.now }
+pub(crate) fn allowed(section: Section, form: &RawLine) -> bool
+    ensures { result ≡ allowed section form.now }
 {
     match form {
         RawLine::Theorem(_) => false,
-        RawLine::Declare(_, _) => matches!(place, Section::Declaring),
-        RawLine::Given(_) => matches!(place, Section::Declaring | Section::Giving),
+        RawLine::Declare(_, _) => matches!(section, Section::Declaring),
+        RawLine::Given(_) => matches!(section, Section::Declaring | Section::Giving),
         RawLine::Made(_, _) => matches!(
-            place,
+            section,
             Section::Declaring | Section::Giving | Section::Making
         ),
         RawLine::Show(_) => matches!(
-            place,
+            section,
             Section::Declaring | Section::Giving | Section::Making | Section::Showing
         ),
-        RawLine::Proof => matches!(place, Section::Showing),
-        RawLine::By(..) => matches!(place, Section::Proving),
-        RawLine::Hence(_) => matches!(place, Section::Proving),
-        RawLine::Let(_) => matches!(place, Section::Proving),
-        RawLine::Apply(_) => matches!(place, Section::Proving),
-        RawLine::Qed(_) => matches!(place, Section::Proving),
-        RawLine::Contradiction => matches!(place, Section::Proving),
-        RawLine::Claim(_) => matches!(place, Section::Proving),
-        RawLine::Superpose(_) => matches!(place, Section::Proving),
-        RawLine::Cases(_) => matches!(place, Section::Proving),
-        RawLine::Else => matches!(place, Section::Splitting),
-        RawLine::End => matches!(place, Section::Closed),
+        RawLine::Proof => matches!(section, Section::Showing),
+        RawLine::By(..) => matches!(section, Section::Proving),
+        RawLine::Hence(_) => matches!(section, Section::Proving),
+        RawLine::Let(_) => matches!(section, Section::Proving),
+        RawLine::Apply(_) => matches!(section, Section::Proving),
+        RawLine::Qed(_) => matches!(section, Section::Proving),
+        RawLine::Contradiction => matches!(section, Section::Proving),
+        RawLine::Claim(_) => matches!(section, Section::Proving),
+        RawLine::Superpose(_) => matches!(section, Section::Proving),
+        RawLine::Cases(_) => matches!(section, Section::Proving),
+        RawLine::Else => matches!(section, Section::Splitting),
+        RawLine::End => matches!(section, Section::Closed),
     }
 }
 
@@ -213,7 +213,7 @@ impl TheoremParser {
             terms: 0,
             blocks: BlockStack::new(alloc),
             close: CloseLine::Qed(Items::empty(alloc)),
-            place: Section::Declaring,
+            section: Section::Declaring,
         }
     }
 
@@ -221,7 +221,7 @@ impl TheoremParser {
     pub(crate) fn names_there(&self) -> &Names
         ensures { result.now ≡ names_there self.now }
     {
-        match self.place {
+        match self.section {
             Section::Proving => &self.in_scope,
             _ => &self.names,
         }
@@ -261,7 +261,7 @@ impl TheoremParser {
         ensures value { Moves result self.new (step known.now self.old form.now) }
         ensures fits { OnOk result (FitsScope self.new) }
     {
-        if !allowed(self.place, form) {
+        if !allowed(self.section, form) {
             return Err(LineError::Fault(FaultKind::Malformed));
         }
         self.stepped(alloc, known, form)
@@ -291,11 +291,11 @@ impl TheoremParser {
             RawLine::Superpose(raw) => self.on_superpose(alloc, raw),
             RawLine::Cases(raw) => self.on_cases(alloc, raw),
             RawLine::Else => {
-                self.place = Section::Proving;
+                self.section = Section::Proving;
                 Ok(())
             }
             RawLine::End => {
-                self.place = Section::Done;
+                self.section = Section::Done;
                 Ok(())
             }
         }
@@ -327,7 +327,7 @@ impl TheoremParser {
         declare(&mut self.names, sort, names)?;
         let sorts = repeated(alloc, sort, names.len())?;
         self.made.append(sorts.items())?;
-        self.place = Section::Making;
+        self.section = Section::Making;
         Ok(())
     }
 
@@ -339,7 +339,7 @@ impl TheoremParser {
     {
         put_lits(alloc, &self.names, raw, &mut self.shown)?;
         few_monos(raw)?;
-        self.place = Section::Showing;
+        self.section = Section::Showing;
         Ok(())
     }
 
@@ -352,7 +352,7 @@ impl TheoremParser {
         let scope = grown(NOTHING, self.declared.items());
         let first = self.names.first(alloc, scope)?;
         mem::drop(mem::replace(&mut self.in_scope, first));
-        self.place = Section::Proving;
+        self.section = Section::Proving;
         Ok(())
     }
 
@@ -367,7 +367,7 @@ impl TheoremParser {
             return Err(LineError::Fault(FaultKind::Limit(What::Facts)));
         }
         self.facts += raw.len();
-        self.place = Section::Giving;
+        self.section = Section::Giving;
         self.add_terms(raw)
     }
 

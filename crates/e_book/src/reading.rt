@@ -41,7 +41,7 @@ pub fn is_skipped(words: &[&[u8]]) -> bool
 fn is_done(coming: &Coming) -> bool
     ensures { result ≡ is_done coming.now }
 {
-    matches!(coming.parser.place, Section::Done)
+    matches!(coming.parser.section, Section::Done)
 }
 
 /// A line begins a theorem or a definition, or goes on with it.

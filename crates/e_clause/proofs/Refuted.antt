@@ -14,7 +14,7 @@ use Rattle.e_literal.specs.Literal.{negation}
 use Rattle.e_literal.specs.Same.{same_lit}
 use Rattle.e_literal.specs.Truth.{metric_atom_holds, holds, all_hold}
 use Rattle.e_literal.specs.Facts.{has, is_metric, are_apart}
-use Rattle.e_literal.specs.Rows.{Row, Says, Zero, AtLeast, More, Not, times, row, row_of_lit}
+use Rattle.e_literal.specs.Rows.{Row, Sense, Zero, AtLeast, More, Not, times, row, row_of_lit}
 use Rattle.e_literal.specs.Absurd.{Weighed, is_absurd}
 use Rattle.e_literal.specs.Solution.{form_value, IsSo, Satisfy, carried}
 use Rattle.e_literal.proofs.Arith.{sums, one_mul, minus_one}
@@ -209,7 +209,7 @@ module _ (p : Place) (w : Term → ℕ) (model : IsModel p.facts p.wanted w) (hi
       let k = found is_absurd (weighed_rows p xs) (and_right (is_limited_sum xs) (option_map_or is_absurd (weighed_rows p xs) false) h) in
       no_values k.0 w k.2 (weighed_so xs k.0 k.1)
 
-says_not : (s : Says) → says_differ s ≡ true → s ≡ Not
+says_not : (s : Sense) → says_differ s ≡ true → s ≡ Not
 says_not Zero h = absurd (true≢false (sym h))
 says_not AtLeast h = absurd (true≢false (sym h))
 says_not More h = absurd (true≢false (sym h))

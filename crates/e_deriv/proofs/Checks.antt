@@ -75,7 +75,7 @@ one_less_stops : IsFirstUnlicensed [] one_less (erased derivation) 1 (Literal (b
 unfolding placed_steps joined Inst table incidence erased
 one_less_stops =
     record {
-      line = placed_step (erased derivation) (erased derivation) (record { points = 4; lines = 0; circles = 0 }) (between 0 1 2 ∷ []) (goal_of_statement one_less);
+      step = placed_step (erased derivation) (erased derivation) (record { points = 4; lines = 0; circles = 0 }) (between 0 1 2 ∷ []) (goal_of_statement one_less);
       context = record { filled = erased derivation; place = 0; number = refl; at = refl; earlier = tt };
       lacks = (refl, refl);
     }
@@ -140,7 +140,7 @@ nothing_refuses : IsRefused [] nothing (Contradiction None) 1 AContradiction (So
 unfolding placed_steps
 nothing_refuses =
     record {
-      line = placed_step (Contradiction None) (Contradiction None) no_scope [] (goal_of_statement nothing);
+      step = placed_step (Contradiction None) (Contradiction None) no_scope [] (goal_of_statement nothing);
       context = record { filled = Contradiction None; place = 0; number = refl; at = refl; earlier = tt };
       lacks = agree;
       shown = record { in_order = refl; of_step = λ t. refl; counterexample = record { is_admissible = refl; facts_hold = refl; wanted_fails = refl } };

@@ -288,27 +288,27 @@ same_context before (Cases lit first second) f f' s facts goal (suc p) x y h k =
 
 -- an earlier line is licensed
 pub record Earlier (before : List StatementView) (xs : List PlacedStep) (p : ℕ) : Type 0 where
-  pub line : PlacedStep
-  pub stands : Stands before xs p line
-  pub licensed : Licensed before line
+  pub step : PlacedStep
+  pub stands : Stands before xs p step
+  pub licensed : Licensed before step
 
 pub earlier_line : (before : List StatementView) (xs : List PlacedStep) (p q : ℕ) (y : PlacedStep) → p < q → Stands before xs q y → Earlier before xs p
 earlier_line before [] p q y lt h = absurd (none-some y h.at)
 earlier_line before (a ∷ xs) p zero y lt h = absurd (omega (arith, lt))
-earlier_line before (a ∷ xs) zero (suc q) y lt h = record { line = a; stands = record { at = refl; earlier = tt }; licensed = h.earlier.0 }
+earlier_line before (a ∷ xs) zero (suc q) y lt h = record { step = a; stands = record { at = refl; earlier = tt }; licensed = h.earlier.0 }
 earlier_line before (a ∷ xs) (suc p) (suc q) y lt h =
     let e = earlier_line before xs p q y (omega (arith, lt)) (stands_after before a xs q y h) in
-    record { line = e.line; stands = record { at = e.stands.at; earlier = (h.earlier.0, e.stands.earlier) }; licensed = e.licensed }
+    record { step = e.step; stands = record { at = e.stands.at; earlier = (h.earlier.0, e.stands.earlier) }; licensed = e.licensed }
 
 -- in a list of licensed lines each is
 pub licensed_line : (before : List StatementView) (xs ys : List PlacedStep) (p : ℕ) (y : PlacedStep) → length xs ≡ length ys → AllLicensed before xs → slice_get ys p ≡ Some y → Earlier before xs p
 licensed_line before [] [] p y n h e = absurd (none-some y e)
 licensed_line before [] (b ∷ ys) p y n h e = absurd (omega (arith, n))
 licensed_line before (a ∷ xs) [] p y n h e = absurd (omega (arith, n))
-licensed_line before (a ∷ xs) (b ∷ ys) zero y n h e = record { line = a; stands = record { at = refl; earlier = tt }; licensed = h.0 }
+licensed_line before (a ∷ xs) (b ∷ ys) zero y n h e = record { step = a; stands = record { at = refl; earlier = tt }; licensed = h.0 }
 licensed_line before (a ∷ xs) (b ∷ ys) (suc p) y n h e =
     let r = licensed_line before xs ys p y (omega (arith, n)) h.1 e in
-    record { line = r.line; stands = record { at = r.stands.at; earlier = (h.0, r.stands.earlier) }; licensed = r.licensed }
+    record { step = r.step; stands = record { at = r.stands.at; earlier = (h.0, r.stands.earlier) }; licensed = r.licensed }
 
 -- ---- the laws
 
@@ -330,14 +330,14 @@ no_stop_of_licensed before t script f n w h stop =
     let s = scope_of t in
     let facts = facts_of_statement t in
     let goal = goal_of_statement t in
-    let e = licensed_line before (proof_steps before t script f) (proof_steps before t script c.filled) c.place stop.line (same_length before script f c.filled s facts goal) h c.at in
-    lacks_not before stop.line e.line w (same_context before script c.filled f s facts goal c.place stop.line e.line (of_context before t script n stop.line c) e.stands) stop.lacks e.licensed
+    let e = licensed_line before (proof_steps before t script f) (proof_steps before t script c.filled) c.place stop.step (same_length before script f c.filled s facts goal) h c.at in
+    lacks_not before stop.step e.step w (same_context before script c.filled f s facts goal c.place stop.step e.step (of_context before t script n stop.step c) e.stands) stop.lacks e.licensed
 
 -- no line before the first that is not licensed lacks anything
 no_earlier : (before : List StatementView) (t : StatementView) (script : Script) (n m : ℕ) (v w : Wanted) (a : IsFirstUnlicensed before t script n v) (b : IsFirstUnlicensed before t script m w) → a.context.place < b.context.place → ⊥
 no_earlier before t script n m v w a b lt =
-    let e = earlier_line before (proof_steps before t script b.context.filled) a.context.place b.context.place b.line lt (of_context before t script m b.line b.context) in
-    lacks_not before a.line e.line v (same_context before script a.context.filled b.context.filled (scope_of t) (facts_of_statement t) (goal_of_statement t) a.context.place a.line e.line (of_context before t script n a.line a.context) e.stands) a.lacks e.licensed
+    let e = earlier_line before (proof_steps before t script b.context.filled) a.context.place b.context.place b.step lt (of_context before t script m b.step b.context) in
+    lacks_not before a.step e.step v (same_context before script a.context.filled b.context.filled (scope_of t) (facts_of_statement t) (goal_of_statement t) a.context.place a.step e.step (of_context before t script n a.step a.context) e.stands) a.lacks e.licensed
 
 pub order : (p q : ℕ) → (p < q) ⊎ ((q < p) ⊎ (p ≡ q))
 order zero zero = inr (inr refl)
@@ -364,4 +364,4 @@ pub one_stop : (before : List StatementView) (t : StatementView) (script : Scrip
     IsFirstUnlicensed before t script n v → IsFirstUnlicensed before t script m w → (n ≡ m) × (v ≡ w)
 one_stop before t script n m v w a b =
     let e = a.context.number ∙ ap suc (same_place before t script n m v w a b) ∙ sym b.context.number in
-    (e, lacks_one before a.line b.line v w (one_context before t script m a.line b.line (subst (λ k. IsContext before t script k a.line) e a.context) b.context) a.lacks b.lacks)
+    (e, lacks_one before a.step b.step v w (one_context before t script m a.step b.step (subst (λ k. IsContext before t script k a.step) e a.context) b.context) a.lacks b.lacks)

@@ -78,6 +78,6 @@ pub record IsContext (before : List StatementView) (t : StatementView) (script :
 -- step n is the first that is not licensed, and it lacks this
 pub record IsFirstUnlicensed (before : List StatementView) (t : StatementView) (script : Script)
     (n : ℕ) (wanted : Wanted) : Type 0 where
-  pub line : PlacedStep
-  pub context : IsContext before t script n line
-  pub lacks : Lacks before line line.here wanted
+  pub step : PlacedStep
+  pub context : IsContext before t script n step
+  pub lacks : Lacks before step step.here wanted

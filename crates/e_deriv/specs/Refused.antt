@@ -43,10 +43,10 @@ IsShown here facts AContradiction values = AgreementIsShown facts values
 -- step n is the first that is not licensed, it lacks this, and these values show it
 pub record IsRefused (before : List StatementView) (t : StatementView) (script : Script) (n : ℕ)
     (wanted : Wanted) (values : Option (List (Term × ℕ))) : Type 0 where
-  pub line : PlacedStep
-  pub context : IsContext before t script n line
-  pub lacks : Lacks before line line.here wanted
-  pub shown : IsShown line.here line.facts wanted values
+  pub step : PlacedStep
+  pub context : IsContext before t script n step
+  pub lacks : Lacks before step step.here wanted
+  pub shown : IsShown step.here step.facts wanted values
 
 -- ---- wide steps
 
@@ -86,6 +86,6 @@ IsTooWide before x _ _ w = ⊥
 -- each step before step n is licensed, and step n is too wide at what is wanted there
 pub record IsTooWideAt (before : List StatementView) (t : StatementView) (script : Script) (n : ℕ)
     (wanted : Wanted) (w : ℕ) : Type 0 where
-  pub line : PlacedStep
-  pub context : IsContext before t script n line
-  pub too_wide : IsTooWide before line line.here wanted w
+  pub step : PlacedStep
+  pub context : IsContext before t script n step
+  pub too_wide : IsTooWide before step step.here wanted w

@@ -10,7 +10,7 @@ use lib.IntN.{ℤ}
 use Rattle.e_literal.specs.declared.object.Term.{Term}
 use Rattle.e_literal.specs.declared.object.Term.TheVariants.{Right}
 use Rattle.e_literal.specs.Same.{term_eq}
-use Rattle.e_literal.specs.Rows.{Row, Says, Zero, AtLeast, More, Not, coefficient, terms_of_rows}
+use Rattle.e_literal.specs.Rows.{Row, Sense, Zero, AtLeast, More, Not, coefficient, terms_of_rows}
 use Rattle.e_literal.specs.Minor.{determinant, constant, Column, Constants, Of, SignedRow, entry, IsWide as IsWideRows}
 use Rattle.e_literal.specs.Width.{has_constant, is_among, new_terms, weight, product, constants, full_width, width}
 use Rattle.e_fraction.specs.Det.{IsPart, EachBelow, HasWideMinor}
@@ -36,7 +36,7 @@ part_sum f ps (r ∷ rows) (inr (qs, e, h)) =
 abbrev has_one : Row → ℕ
 has_one r = cond (has_constant r.says) 1 0
 
-constant_size : (s : Says) (down : Bool) → unsigned_abs (constant s down) ≡ cond (has_constant s) 1 0
+constant_size : (s : Sense) (down : Bool) → unsigned_abs (constant s down) ≡ cond (has_constant s) 1 0
 constant_size Zero down = refl
 constant_size AtLeast down = refl
 constant_size More down = refl

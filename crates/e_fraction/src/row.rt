@@ -8,9 +8,9 @@ ghost use Rattle.e_fraction.specs.Limits.{has_small_coefficients, all_small};
 use crate::signed::Signed;
 use e_literal::Term;
 
-/// What a row says of its form: that it is 0, at least 0, more than 0, or not 0.
+/// The sense of a row, what it says of its form: that it is 0, at least 0, more than 0, or not 0.
 #[derive(Clone, Copy, PartialEq, Eq)]
-pub enum RowKind {
+pub enum RowSense {
     Zero,
     AtLeast,
     More,
@@ -20,7 +20,7 @@ pub enum RowKind {
 /// A row: a form, and what is said of it.
 #[derive(Drop)]
 pub struct Row {
-    pub kind: RowKind,
+    pub kind: RowSense,
     pub form: Signed,
 }
 

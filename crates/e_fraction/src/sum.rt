@@ -7,10 +7,10 @@ ghost use Rattle.std.specs.Ordering.{int_eq};
 ghost use Rattle.e_literal.specs.Rows.{Summands, coefficient};
 ghost use Rattle.e_literal.specs.Absurd.{total, allows_multiplier, is_strict, is_absurd};
 ghost use Rattle.e_fraction.specs.Limits.{has_small_coefficients, all_small, small_multipliers};
-ghost use Rattle.e_fraction.specs.Views.{says_of, weighed, all_seen};
+ghost use Rattle.e_fraction.specs.Views.{sense_of, weighed, all_seen};
 ghost use Rattle.e_literal.specs.Solution.{HasSolution};
 
-use crate::row::{Row, RowKind};
+use crate::row::{Row, RowSense};
 use e_literal::Term;
 
 /// Whether the sum of the rows, each times its multiplier, is absurd: the coefficients of each term
@@ -98,8 +98,8 @@ fn weighed(row: &Row, multiplier: i128, term: Term) -> i128
 /// Whether no row that says `at least` or `more` is taken away, and one that says `more` is added.
 fn have_absurd_signs(rows: &[Row], multipliers: &[i128]) -> bool
     ensures { result
-        ≡ (list_all (λ x. allows_multiplier (says_of x.0.kind) x.1) (zip rows.now multipliers.now)
-        && list_any (λ x. is_strict (says_of x.0.kind) x.1) (zip rows.now multipliers.now)) }
+        ≡ (list_all (λ x. allows_multiplier (sense_of x.0.kind) x.1) (zip rows.now multipliers.now)
+        && list_any (λ x. is_strict (sense_of x.0.kind) x.1) (zip rows.now multipliers.now)) }
 {
     may_take_all(rows, multipliers) && has_strict(rows, multipliers)
 }
@@ -107,35 +107,35 @@ fn have_absurd_signs(rows: &[Row], multipliers: &[i128]) -> bool
 /// Whether no row that says `at least` or `more` is taken away, and none says `not 0`.
 fn may_take_all(rows: &[Row], multipliers: &[i128]) -> bool
     ensures { result
-        ≡ list_all (λ x. allows_multiplier (says_of x.0.kind) x.1) (zip rows.now multipliers.now) }
+        ≡ list_all (λ x. allows_multiplier (sense_of x.0.kind) x.1) (zip rows.now multipliers.now) }
 {
     rows.iter()
         .zip(multipliers)
         .all(|(row, multiplier)| may_take(row.kind, *multiplier))
 }
 
-fn may_take(kind: RowKind, multiplier: i128) -> bool
-    ensures { result ≡ allows_multiplier (says_of kind) multiplier }
+fn may_take(kind: RowSense, multiplier: i128) -> bool
+    ensures { result ≡ allows_multiplier (sense_of kind) multiplier }
 {
     match kind {
-        RowKind::Zero => true,
-        RowKind::AtLeast | RowKind::More => 0 <= multiplier,
-        RowKind::Not => false,
+        RowSense::Zero => true,
+        RowSense::AtLeast | RowSense::More => 0 <= multiplier,
+        RowSense::Not => false,
     }
 }
 
 /// Whether a row that says `more` is added.
 fn has_strict(rows: &[Row], multipliers: &[i128]) -> bool
     ensures { result
-        ≡ list_any (λ x. is_strict (says_of x.0.kind) x.1) (zip rows.now multipliers.now) }
+        ≡ list_any (λ x. is_strict (sense_of x.0.kind) x.1) (zip rows.now multipliers.now) }
 {
     rows.iter()
         .zip(multipliers)
         .any(|(row, multiplier)| is_strict(row.kind, *multiplier))
 }
 
-fn is_strict(kind: RowKind, multiplier: i128) -> bool
-    ensures { result ≡ Rattle.e_literal.specs.Absurd.is_strict (says_of kind) multiplier }
+fn is_strict(kind: RowSense, multiplier: i128) -> bool
+    ensures { result ≡ Rattle.e_literal.specs.Absurd.is_strict (sense_of kind) multiplier }
 {
-    kind == RowKind::More && 1 <= multiplier
+    kind == RowSense::More && 1 <= multiplier
 }

@@ -7,9 +7,9 @@ ghost use Rattle.e_literal.specs.Same.{term_eq};
 ghost use Rattle.e_literal.specs.Rows.{coefficient, terms_of_rows};
 ghost use Rattle.e_literal.specs.Width.{has_constant, constants, width_over, is_among};
 ghost use Rattle.e_literal.specs.Minor.{IsWide};
-ghost use Rattle.e_fraction.specs.Views.{says_of, all_seen};
+ghost use Rattle.e_fraction.specs.Views.{sense_of, all_seen};
 
-use crate::row::{Row, RowKind};
+use crate::row::{Row, RowSense};
 use crate::signed::stands_in;
 use e_literal::Term;
 
@@ -36,12 +36,12 @@ fn constants(rows: &[Row]) -> u128
     (count as u128).max(1)
 }
 
-fn has_constant(kind: RowKind) -> bool
-    ensures { result ≡ Rattle.e_literal.specs.Width.has_constant (says_of kind) }
+fn has_constant(kind: RowSense) -> bool
+    ensures { result ≡ Rattle.e_literal.specs.Width.has_constant (sense_of kind) }
 {
     match kind {
-        RowKind::More | RowKind::Not => true,
-        RowKind::Zero | RowKind::AtLeast => false,
+        RowSense::More | RowSense::Not => true,
+        RowSense::Zero | RowSense::AtLeast => false,
     }
 }
 

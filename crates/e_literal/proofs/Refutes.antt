@@ -8,7 +8,7 @@ use lib.IntN.{ℤ, pos, negsuc, ◌+ℤ◌, ◌*ℤ◌, *ℤ-zero, zero-*ℤ}
 use lib.Signed.{◌<ℤ◌, ◌≤ℤ◌}
 use Rattle.e_literal.specs.declared.object.Term.{Term}
 use Rattle.e_literal.specs.Same.{term_eq}
-use Rattle.e_literal.specs.Rows.{Says, Zero, AtLeast, More, Not, Summands, coefficient, terms_of_rows}
+use Rattle.e_literal.specs.Rows.{Sense, Zero, AtLeast, More, Not, Summands, coefficient, terms_of_rows}
 use Rattle.e_literal.specs.Width.{is_among, new_terms}
 use Rattle.e_literal.specs.Absurd.{Weighed, total, allows_multiplier, is_strict, is_absurd}
 use Rattle.e_literal.specs.Solution.{form_value, IsSo, Satisfy}
@@ -157,13 +157,13 @@ is_more (pos zero) h = absurd (true≢false (sym h))
 is_more (pos (suc n)) h = omega (arith, sums)
 is_more (negsuc n) h = absurd (true≢false (sym h))
 
-one_row : (s : Says) (m z : ℤ) → allows_multiplier s m ≡ true → IsSo s z → pos 0 ≤ℤ (m *ℤ z)
+one_row : (s : Sense) (m z : ℤ) → allows_multiplier s m ≡ true → IsSo s z → pos 0 ≤ℤ (m *ℤ z)
 one_row Zero m z a b = omega (arith, sums, ap (λ k. m *ℤ k) b, *ℤ-zero m)
 one_row AtLeast m z a b = mul-not_negative m z (not_less m a) b
 one_row More m z a b = mul-not_negative m z (not_less m a) (omega (arith, sums, b))
 one_row Not m z a b = absurd (true≢false (sym a))
 
-one_strict : (s : Says) (m z : ℤ) → is_strict s m ≡ true → IsSo s z → pos 0 <ℤ (m *ℤ z)
+one_strict : (s : Sense) (m z : ℤ) → is_strict s m ≡ true → IsSo s z → pos 0 <ℤ (m *ℤ z)
 one_strict Zero m z a b = absurd (true≢false (sym a))
 one_strict AtLeast m z a b = absurd (true≢false (sym a))
 one_strict More m z a b = mul-positive m z (is_more m a) b

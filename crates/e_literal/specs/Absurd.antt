@@ -4,7 +4,7 @@ use Rattle.std.specs.Prelude.{int_le}
 use Rattle.std.specs.List.{list_any, list_all}
 use Rattle.std.specs.Ordering.{int_eq}
 use Rattle.e_literal.specs.declared.object.Term.{Term}
-use Rattle.e_literal.specs.Rows.{Row, Says, Zero, AtLeast, More, Not, coefficient, terms_of_rows}
+use Rattle.e_literal.specs.Rows.{Row, Sense, Zero, AtLeast, More, Not, coefficient, terms_of_rows}
 
 -- a row with its multiplier
 pub record Weighed : Type 0 where
@@ -17,13 +17,13 @@ total [] t = pos 0
 total (w ∷ ws) t = w.multiplier *ℤ coefficient w.row.form t +ℤ total ws t
 
 -- only a row that says 0 may be taken away, and one that says that its form is not 0 takes no part
-abbrev pub allows_multiplier : Says → ℤ → Bool
+abbrev pub allows_multiplier : Sense → ℤ → Bool
 allows_multiplier Zero n = true
 allows_multiplier AtLeast n = int_le (pos 0) n
 allows_multiplier More n = int_le (pos 0) n
 allows_multiplier Not n = false
 
-abbrev pub is_strict : Says → ℤ → Bool
+abbrev pub is_strict : Sense → ℤ → Bool
 is_strict More n = int_le (pos 1) n
 is_strict _ n = false
 

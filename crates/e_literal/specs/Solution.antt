@@ -2,7 +2,7 @@
 use Rattle.std.specs.Prelude.{◌≡◌, ◌≢◌, ℕ, List, [], ◌∷◌, ℤ, pos, ◌+ℤ◌, ◌*ℤ◌, ◌≤ℤ◌, ◌<ℤ◌}
 use Rattle.std.specs.Prelude.{if◌then◌else◌}
 use Rattle.e_literal.specs.declared.object.Term.{Term}
-use Rattle.e_literal.specs.Rows.{Row, Says, Zero, AtLeast, More, Not, Summands, is_degenerate}
+use Rattle.e_literal.specs.Rows.{Row, Sense, Zero, AtLeast, More, Not, Summands, is_degenerate}
 use Rattle.e_literal.specs.Same.{canonical}
 
 -- the value of a form where each term has a whole number
@@ -11,7 +11,7 @@ form_value [] values = pos 0
 form_value (p ∷ ps) values = p.0 *ℤ pos (values p.1) +ℤ form_value ps values
 
 -- what a row says is so of the value of its form
-abbrev pub IsSo : Says → ℤ → Type 0
+abbrev pub IsSo : Sense → ℤ → Type 0
 IsSo Zero z = z ≡ pos 0
 IsSo AtLeast z = pos 0 ≤ℤ z
 IsSo More z = pos 0 <ℤ z

@@ -8,7 +8,7 @@ use Rattle.e_literal.specs.Rows.{Row, Summands, coefficient}
 use Rattle.e_clause.specs.declared.cert.RowName.{RowName}
 use Rattle.e_clause.specs.System.{NamedRow}
 use Rattle.e_fraction.specs.declared.row.Row.{Row as GivenRow}
-use Rattle.e_fraction.specs.Views.{says_of}
+use Rattle.e_fraction.specs.Views.{sense_of}
 use Rattle.e_fraction.specs.Limits.{has_small_coefficients}
 
 -- no coefficient is 0
@@ -18,7 +18,7 @@ has_no_zero form = list_all (λ p. not (int_eq p.0 (pos 0))) form
 -- the row says the same of a form with the same coefficients, in which each term occurs once and
 -- none with 0
 pub record IsRow (given : GivenRow) (r : Row) : Type 0 where
-  pub says : says_of given.kind ≡ r.says
+  pub says : sense_of given.kind ≡ r.says
   pub coefficients : (t : Term) → coefficient given.form t ≡ coefficient r.form t
   pub no_zero : IsTrue (has_no_zero given.form)
 

@@ -3,13 +3,13 @@
 ghost use Rattle.std.specs.Prelude.{◌≡◌, true, IfSome, IfOk};
 ghost use Rattle.e_literal.specs.Solution;
 ghost use Rattle.e_literal.specs.Solution.{IsSo, Satisfy};
-ghost use Rattle.e_fraction.specs.Views.{says_of, all_seen};
+ghost use Rattle.e_fraction.specs.Views.{sense_of, all_seen};
 ghost use Rattle.e_simplex.specs.Answer;
 ghost use Rattle.e_metric.specs.inner.FurtherRows;
 
 use crate::assigning::assigned;
 use e_facts::Facts;
-use e_fraction::{Row, RowKind};
+use e_fraction::{Row, RowSense};
 use e_literal::{Term, Values, canonical};
 use std::alloc::{AllocError, Global};
 
@@ -30,16 +30,16 @@ fn form_value(values: &[(Term, u128)], form: &[(i64, Term)]) -> Option<i128>
 
 // Whether a row is seen to be so.
 fn is_so(values: &[(Term, u128)], row: &Row) -> bool
-    ensures { result ≡ true → IsSo (says_of row.now.kind)
+    ensures { result ≡ true → IsSo (sense_of row.now.kind)
         (Solution.form_value row.now.form (Answer.assigned values.now)) }
 {
     match form_value(values, row.form.summands()) {
         None => false,
         Some(value) => match row.kind {
-            RowKind::Zero => value == 0,
-            RowKind::AtLeast => value >= 0,
-            RowKind::More => value > 0,
-            RowKind::Not => value != 0,
+            RowSense::Zero => value == 0,
+            RowSense::AtLeast => value >= 0,
+            RowSense::More => value > 0,
+            RowSense::Not => value != 0,
         },
     }
 }

@@ -9,7 +9,7 @@ ghost use Rattle.e_fraction.specs.Limits.{has_small_coefficients};
 ghost use Rattle.e_metric.specs.AgreeingRows.{has_no_zero, IsRowOrNone, IsLimitedOrNone};
 
 use crate::joining::joined;
-use e_fraction::{Row, RowKind, Signed};
+use e_fraction::{Row, RowSense, Signed};
 use e_literal::{Atom, Mono};
 use std::alloc::{AllocError, Global};
 
@@ -36,18 +36,18 @@ pub fn row_of(alloc: Global, atom: &Atom, neg: bool) -> Result<Option<Row>, Allo
 {
     match atom {
         Atom::MagEq(x, y) => {
-            let kind = if neg { RowKind::Not } else { RowKind::Zero };
+            let kind = if neg { RowSense::Not } else { RowSense::Zero };
             let form = difference(alloc, x.items(), y.items())?;
             Ok(Some(Row { kind, form }))
         }
         Atom::MagLt(x, y) => {
             if neg {
                 let form = difference(alloc, x.items(), y.items())?;
-                let kind = RowKind::AtLeast;
+                let kind = RowSense::AtLeast;
                 Ok(Some(Row { kind, form }))
             } else {
                 let form = difference(alloc, y.items(), x.items())?;
-                let kind = RowKind::More;
+                let kind = RowSense::More;
                 Ok(Some(Row { kind, form }))
             }
         }

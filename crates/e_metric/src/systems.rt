@@ -17,7 +17,7 @@ use crate::listing::{is_of_kind, terms_of_kind};
 use crate::literals::row_of;
 use e_clause::RowName;
 use e_facts::Facts;
-use e_fraction::{Row, RowKind, Signed};
+use e_fraction::{Row, RowSense, Signed};
 use e_literal::{Kind, Lit, Term, canonical, copy, is_degenerate};
 use std::alloc::{AllocError, Global};
 
@@ -31,7 +31,7 @@ fn positive(alloc: Global, term: Term) -> Result<Row, AllocError>
         summands.push((1, canonical(term)))?;
     }
     Ok(Row {
-        kind: RowKind::More,
+        kind: RowSense::More,
         form: Signed::new(summands),
     })
 }
@@ -45,7 +45,7 @@ fn at_most_two_right(alloc: Global, a: u16, b: u16, c: u16) -> Result<Row, Alloc
     summands.push((2, Term::Right))?;
     summands.push((-1, canonical(Term::Ang(a, b, c))))?;
     Ok(Row {
-        kind: RowKind::AtLeast,
+        kind: RowSense::AtLeast,
         form: Signed::new(summands),
     })
 }

@@ -29,7 +29,7 @@ use Rattle.e_prove.specs.Laws.{NoneWide, IsNoRefusal, IsRefusalAt}
 -- ---- what is refused is not licensed
 
 pub unlicensed_of_refused : (before : List StatementView) (t : StatementView) (script : Script) (n : ℕ) (w : Wanted) (values : _) → IsRefused before t script n w values → IsFirstUnlicensed before t script n w
-unlicensed_of_refused before t script n w values h = record { line = h.line; context = h.context; lacks = h.lacks }
+unlicensed_of_refused before t script n w values h = record { step = h.step; context = h.context; lacks = h.lacks }
 
 -- ---- what is too wide is wide
 
@@ -109,10 +109,10 @@ too_wide_among before t script f n w width all none is =
     let c = is.context in
     let xs = proof_steps before t script f in
     let e : Earlier before xs c.place =
-    licensed_line before xs (proof_steps before t script c.filled) c.place is.line (same_length before script f c.filled (scope_of t) (facts_of_statement t) (goal_of_statement t)) all c.at
+    licensed_line before xs (proof_steps before t script c.filled) c.place is.step (same_length before script f c.filled (scope_of t) (facts_of_statement t) (goal_of_statement t)) all c.at
     in
-    let other : IsContext before t script n e.line = record { filled = f; place = c.place; number = c.number; at = e.stands.at; earlier = e.stands.earlier } in
-    not_wide_at before xs c.place e.line none e.stands.at (wide_moved before is.line e.line (one_context before t script n is.line e.line c other) (wide_line before is.line w width is.too_wide))
+    let other : IsContext before t script n e.step = record { filled = f; place = c.place; number = c.number; at = e.stands.at; earlier = e.stands.earlier } in
+    not_wide_at before xs c.place e.step none e.stands.at (wide_moved before is.step e.step (one_context before t script n is.step e.step c other) (wide_line before is.step w width is.too_wide))
 
 pub memory_of_licensed : (before : List StatementView) (t : StatementView) (script f : Script) (stop : Stop) → AllLicensed before (proof_steps before t script f) → NoneWide before (proof_steps before t script f) →
     StopIs before t script stop → stop ≡ NoMemory
@@ -139,9 +139,9 @@ too_wide_after : (before : List StatementView) (t : StatementView) (script : Scr
 too_wide_after before t script n m wanted w width first is lt =
     let c = first.context in
     let d = is.context in
-    let e = earlier_line before (proof_steps before t script d.filled) c.place d.place is.line lt (record { at = d.at; earlier = d.earlier }) in
-    let other : IsContext before t script n e.line = record { filled = d.filled; place = c.place; number = c.number; at = e.stands.at; earlier = e.stands.earlier } in
-    lacks_not before first.line e.line wanted (one_context before t script n first.line e.line c other) first.lacks e.licensed
+    let e = earlier_line before (proof_steps before t script d.filled) c.place d.place is.step lt (record { at = d.at; earlier = d.earlier }) in
+    let other : IsContext before t script n e.step = record { filled = d.filled; place = c.place; number = c.number; at = e.stands.at; earlier = e.stands.earlier } in
+    lacks_not before first.step e.step wanted (one_context before t script n first.step e.step c other) first.lacks e.licensed
 
 -- where none up to the first is wide it comes no earlier
 too_wide_before : (before : List StatementView) (t : StatementView) (script : Script) (n m : ℕ) (wanted w : Wanted) (width : ℕ) (first : IsFirstUnlicensed before t script n wanted) (is : IsTooWideAt before t script m w width) →
@@ -150,9 +150,9 @@ too_wide_before before t script n m wanted w width first is none lt =
     let c = first.context in
     let d = is.context in
     let xs = proof_steps before t script c.filled in
-    let e = earlier_line before xs d.place c.place first.line lt (record { at = c.at; earlier = c.earlier }) in
-    let other : IsContext before t script m e.line = record { filled = c.filled; place = d.place; number = d.number; at = e.stands.at; earlier = e.stands.earlier } in
-    none_in_front before xs c.place d.place e.line (omega (arith, lt)) e.stands.at none (wide_moved before is.line e.line (one_context before t script m is.line e.line d other) (wide_line before is.line w width is.too_wide))
+    let e = earlier_line before xs d.place c.place first.step lt (record { at = c.at; earlier = c.earlier }) in
+    let other : IsContext before t script m e.step = record { filled = c.filled; place = d.place; number = d.number; at = e.stands.at; earlier = e.stands.earlier } in
+    none_in_front before xs c.place d.place e.step (omega (arith, lt)) e.stands.at none (wide_moved before is.step e.step (one_context before t script m is.step e.step d other) (wide_line before is.step w width is.too_wide))
 
 too_wide_there : (before : List StatementView) (t : StatementView) (script : Script) (n m : ℕ) (wanted w : Wanted) (width : ℕ) (first : IsFirstUnlicensed before t script n wanted) (is : IsTooWideAt before t script m w width) →
     NoneWide before (take (suc first.context.place) (proof_steps before t script first.context.filled)) → is.context.place ≡ first.context.place → ⊥
@@ -160,9 +160,9 @@ too_wide_there before t script n m wanted w width first is none same =
     let c = first.context in
     let d = is.context in
     let number : n ≡ suc d.place = c.number ∙ ap suc (sym same) in
-    let other : IsContext before t script n is.line = record { filled = d.filled; place = d.place; number = number; at = d.at; earlier = d.earlier } in
-    none_in_front before (proof_steps before t script c.filled) c.place c.place first.line (omega arith) c.at none
-    (wide_moved before is.line first.line (one_context before t script n is.line first.line other c) (wide_line before is.line w width is.too_wide))
+    let other : IsContext before t script n is.step = record { filled = d.filled; place = d.place; number = number; at = d.at; earlier = d.earlier } in
+    none_in_front before (proof_steps before t script c.filled) c.place c.place first.step (omega arith) c.at none
+    (wide_moved before is.step first.step (one_context before t script n is.step first.step other c) (wide_line before is.step w width is.too_wide))
 
 not_too_wide : (before : List StatementView) (t : StatementView) (script : Script) (n m : ℕ) (wanted w : Wanted) (width : ℕ) (first : IsFirstUnlicensed before t script n wanted) (is : IsTooWideAt before t script m w width) →
     NoneWide before (take (suc first.context.place) (proof_steps before t script first.context.filled)) → ⊥

@@ -59,13 +59,13 @@ take_right (a ∷ xs) ys p (suc q) e = ap (λ zs. a ∷ zs) (take_right xs ys p 
 
 -- at the first step
 pub reached_first : (before : List StatementView) (x : PlacedStep) (xs : List PlacedStep) (m : Names) (ns : List Names) (first : ℕ) (a : Arrival) → ArrivesAt before x a → IsReachedIn before (x ∷ xs) (m ∷ ns) first a first m
-reached_first before x xs m ns first a k = record { place = 0; number = omega arith; line = x; at = refl; earlier = tt; arrives = k; named = refl }
+reached_first before x xs m ns first a k = record { place = 0; number = omega arith; step = x; at = refl; earlier = tt; arrives = k; named = refl }
 
 -- after a step that is licensed
 pub reached_after : (before : List StatementView) (x : PlacedStep) (xs : List PlacedStep) (m : Names) (ns : List Names) (first : ℕ) (a : Arrival) (n : ℕ) (names : Names) →
     Licensed before x → IsReachedIn before xs ns (first + 1) a n names → IsReachedIn before (x ∷ xs) (m ∷ ns) first a n names
 reached_after before x xs m ns first a n names l k =
-    record { place = suc k.place; number = omega (arith, k.number); line = k.line; at = k.at; earlier = (l, k.earlier); arrives = k.arrives; named = k.named }
+    record { place = suc k.place; number = omega (arith, k.number); step = k.step; at = k.at; earlier = (l, k.earlier); arrives = k.arrives; named = k.named }
 
 -- in the first of two lists
 pub reached_left : (before : List StatementView) (xs ys : List PlacedStep) (ns ms : List Names) (first : ℕ) (a : Arrival) (n : ℕ) (names : Names) →
@@ -74,9 +74,9 @@ reached_left before xs ys ns ms first a n names k =
     record {
       place = k.place;
       number = k.number;
-      line = k.line;
-      at = at_left xs ys k.place k.line k.at;
-      earlier = subst (AllLicensed before) (sym (take_left xs ys k.place k.line k.at)) k.earlier;
+      step = k.step;
+      at = at_left xs ys k.place k.step k.at;
+      earlier = subst (AllLicensed before) (sym (take_left xs ys k.place k.step k.at)) k.earlier;
       arrives = k.arrives;
       named = at_left ns ms k.place names k.named;
     }
@@ -88,7 +88,7 @@ reached_right before xs ys ns ms k first a n names e d l r =
     record {
       place = k + r.place;
       number = omega (arith, r.number);
-      line = r.line;
+      step = r.step;
       at = at_right xs ys r.place (k + r.place) (omega (arith, e)) ∙ r.at;
       earlier = subst (AllLicensed before) (sym (take_right xs ys r.place (k + r.place) (omega (arith, e)))) (both_licensed before xs (take r.place ys) l r.earlier);
       arrives = r.arrives;
@@ -128,10 +128,10 @@ at_less (a ∷ xs) (suc p) x e = let k = at_less xs p x e in omega (arith, k)
 pub stop_within : (before : List StatementView) (d : Script) (x : StepState) (goal : Goal) (n : ℕ) (s : Stop) → StopsWithin before d x goal n s → IsStopBefore (n + size d) s
 stop_within before d x goal n (stop.Unlicensed k wanted values names) h =
     let many = lines_length before d h.filled x.context.scope x.context.facts goal in
-    omega (arith, many, h.stops.number, at_less _ h.stops.place h.stops.line h.stops.at)
+    omega (arith, many, h.stops.number, at_less _ h.stops.place h.stops.step h.stops.at)
 stop_within before d x goal n (stop.TooWide k wanted width names) h =
     let many = lines_length before d h.filled x.context.scope x.context.facts goal in
-    omega (arith, many, h.stops.number, at_less _ h.stops.place h.stops.line h.stops.at)
+    omega (arith, many, h.stops.number, at_less _ h.stops.place h.stops.step h.stops.at)
 stop_within before d x goal n stop.NoMemory h = tt
 
 pub before_more : (n m : ℕ) (s : Stop) → n ≤ m → IsStopBefore n s → IsStopBefore m s

@@ -79,14 +79,14 @@ names_are before t names script x goal s is same k =
 stop_at : (before : List StatementView) (t : StatementView) (names : Names) (script : Script) (s : Stop) → StopsWithin before script (start_with_names t names) (goal_of_statement t) 1 s → StopIs before t script s
 stop_at before t names script (stop.Unlicensed n wanted values seen) k =
     record {
-      line = k.stops.line;
+      step = k.stops.step;
       context = record { filled = k.filled; place = k.stops.place; number = omega (arith, k.stops.number); at = k.stops.at; earlier = k.stops.earlier };
       lacks = k.stops.arrives.0;
       shown = k.stops.arrives.1;
     }
 stop_at before t names script (stop.TooWide n wanted width seen) k =
     record {
-      line = k.stops.line;
+      step = k.stops.step;
       context = record { filled = k.filled; place = k.stops.place; number = omega (arith, k.stops.number); at = k.stops.at; earlier = k.stops.earlier };
       too_wide = k.stops.arrives;
     }
@@ -103,7 +103,7 @@ place_at : (before : List StatementView) (t : StatementView) (names : Names) (sc
 place_at before t names script n y k =
     let r = k.reached in
     record {
-      line = r.line;
+      step = r.step;
       context = record { filled = k.filled; place = r.place; number = omega (arith, r.number); at = r.at; earlier = r.earlier };
       scope = sym r.arrives.0;
       facts = sym r.arrives.1;

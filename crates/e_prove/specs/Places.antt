@@ -13,9 +13,9 @@ use Rattle.e_prove.specs.declared.place.Place.{Place}
 -- objects, where those are the names of the statement's declared and made objects.
 pub record IsStepPlace (before : List StatementView) (t : StatementView) (names : Names)
     (script : Script) (n : ℕ) (p : Place) : Type 0 where
-  pub line : PlacedStep
-  pub context : IsContext before t script n line
-  pub scope : p.context.scope ≡ line.scope
-  pub facts : p.context.facts ≡ line.facts
+  pub step : PlacedStep
+  pub context : IsContext before t script n step
+  pub scope : p.context.scope ≡ step.scope
+  pub facts : p.context.facts ≡ step.facts
   pub named : Some p.names
       ≡ slice_get (names_of_steps before (declared_names t names) script) (n - 1)

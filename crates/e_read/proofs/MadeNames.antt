@@ -104,7 +104,7 @@ by_use d t theorem args new =
 
 by_given : (d : TheoremParser) (raws : List RawLit) → Same d.names d.made (supposes d raws)
 by_given d raws =
-    from d (with_front d.given (lits_in d.names raws)) _ (λ ls. from d (within (d.facts + length raws) most_facts limits.Facts) _ (λ few. by_terms (record d { given = ls; facts = d.facts + length raws; place = Giving }) raws))
+    from d (with_front d.given (lits_in d.names raws)) _ (λ ls. from d (within (d.facts + length raws) most_facts limits.Facts) _ (λ few. by_terms (record d { given = ls; facts = d.facts + length raws; section = Giving }) raws))
 
 by_shown : (d : TheoremParser) (raws : List RawLit) → Same d.names d.made (shows d raws)
 by_shown d raws = from d (with_front d.shown (lits_in d.names raws)) _ (λ ls. from d (few_monos raws) _ (λ few. (refl, refl)))
@@ -175,7 +175,7 @@ few_declared d e sort ns f h =
 
 few_made : (d e : TheoremParser) (sort : Sort) (ns : List (List ℕ)) → Few d → makes d sort ns ≡ Ok e → Few e
 few_made d e sort ns f h =
-    let next : Names → TheoremParser = λ names. record d { names = names; made = d.made ++ replicate (length ns) sort; place = Making } in
+    let next : Names → TheoremParser = λ names. record d { names = names; made = d.made ++ replicate (length ns) sort; section = Making } in
     let n = bind_ok (declared d.names sort ns) (λ names. read_ok (next names)) e h in
     subst (λ (y : TheoremParser). Few y) (ok_is (next n.0) e n.2)
     (omega (arith, f, names_grown d.names n.0 sort ns n.1, length-append d.made (replicate (length ns) sort), length-replicate (length ns) sort))
@@ -197,13 +197,13 @@ few_stepped known d e rawlines.Contradiction few h = same_few d e (shut d closes
 few_stepped known d e (rawlines.Claim raws) few h = same_few d e (claimed d raws) (by_claim d raws) few h
 few_stepped known d e (rawlines.Superpose raw) few h = same_few d e (superposed d raw) (by_superpose d raw) few h
 few_stepped known d e (rawlines.Cases raw) few h = same_few d e (split d raw) (by_split d raw) few h
-few_stepped known d e rawlines.Else few h = same_few d e (read_ok (record d { place = Proving })) (refl, refl) few h
-few_stepped known d e rawlines.End few h = same_few d e (read_ok (record d { place = Done })) (refl, refl) few h
+few_stepped known d e rawlines.Else few h = same_few d e (read_ok (record d { section = Proving })) (refl, refl) few h
+few_stepped known d e rawlines.End few h = same_few d e (read_ok (record d { section = Done })) (refl, refl) few h
 
 -- after a line
 pub few_after : (known : List TitledStatement) (d e : TheoremParser) (f : RawLine) → step known d f ≡ Ok e → length d.made ≤ count_names d.names → length e.made ≤ count_names e.names
 unfolding step
-few_after known d e f h few = few_stepped known d e f few (passes (allowed d.place f) (stepped known d f) e h).1
+few_after known d e f h few = few_stepped known d e f few (passes (allowed d.section f) (stepped known d f) e h).1
 
 -- after the first line
 pub few_begun : (known : List TitledStatement) (e : TheoremParser) (f : RawLine) → begin known f ≡ Ok e → length e.made ≤ count_names e.names

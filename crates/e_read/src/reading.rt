@@ -338,7 +338,7 @@ impl BlockParser {
     {
         match &self.parser {
             None => false,
-            Some(parser) => matches!(parser.place, Section::Done),
+            Some(parser) => matches!(parser.section, Section::Done),
         }
     }
 

@@ -141,9 +141,9 @@ pub record TooWideAt (known : List TitledStatement) (t : TheoremView) (title : L
 -- with this known, a step of the theorem is wide, and each step before it is licensed
 pub record HasWideStep (known : List TitledStatement) (t : TheoremView) : Type 0 where
   pub step : ℕ
-  pub line : PlacedStep
-  pub context : IsContext (stated_by known) (stated t.statement) t.script step line
-  pub is_wide : IsWideStep (stated_by known) line
+  pub placed : PlacedStep
+  pub context : IsContext (stated_by known) (stated t.statement) t.script step placed
+  pub is_wide : IsWideStep (stated_by known) placed
 
 -- in a theorem of these lines whose earlier ones are licensed, a step is wide, and each step before
 -- it is licensed

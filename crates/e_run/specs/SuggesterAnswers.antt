@@ -133,25 +133,25 @@ Lists names scope facts (h ∷ hs) left lines more =
 -- at the step these lines are suggested, at most a thousand, and this is written
 pub record Suggests (title : List ℕ) (step n : ℕ) (more : Bool) (out : List ℕ)
     (known : List TitledStatement) (t : TheoremView) : Type 0 where
-  pub line : PlacedStep
-  pub asked : IsAsked title step known t line
+  pub placed : PlacedStep
+  pub asked : IsAsked title step known t placed
   pub names : Names
   pub named : HasNamesAt known t step names
   pub lines : List (List ℕ)
-  pub listed : Lists names line.scope line.facts known 1000 lines more
+  pub listed : Lists names placed.scope placed.facts known 1000 lines more
   pub count : n ≡ length lines
   pub bytes : out ≡ text_of lines ++ suggested_line n more
 
 -- at the step some choice of arguments for a theorem that is asked is too wide
 pub record WidensAtStep (title : List ℕ) (step width : ℕ) (names : Names)
     (known : List TitledStatement) (t : TheoremView) : Type 0 where
-  pub line : PlacedStep
-  pub asked : IsAsked title step known t line
+  pub placed : PlacedStep
+  pub asked : IsAsked title step known t placed
   pub named : HasNamesAt known t step names
   pub theorem : TitledStatement
   pub is_one : Contains known theorem
   pub is_asked_for : length theorem.statement.declared ≤ 6
-  pub too_wide : SomeArgsAreTooWide (stated theorem.statement) line.scope line.facts width
+  pub too_wide : SomeArgsAreTooWide (stated theorem.statement) placed.scope placed.facts width
 
 -- an earlier step is too wide; or it is the step itself, where a match is wanted, and a choice
 -- there is too wide
@@ -196,10 +196,10 @@ SuggestsBook title step left old new answer =
 pub record HasWideEarlier (title : List ℕ) (step : ℕ) (known : List TitledStatement)
     (t : TheoremView) : Type 0 where
   pub number : ℕ
-  pub line : PlacedStep
+  pub placed : PlacedStep
   pub earlier : IsEarlier title step t number
-  pub context : IsContext (stated_by known) (stated t.statement) t.script number line
-  pub is_wide : IsWideStep (stated_by known) line
+  pub context : IsContext (stated_by known) (stated t.statement) t.script number placed
+  pub is_wide : IsWideStep (stated_by known) placed
 
 abbrev pub HasWideOnWay : List ℕ → ℕ → List TitledStatement → TheoremView → Type 0
 HasWideOnWay title step known t =

@@ -3,7 +3,7 @@ use Rattle.std.specs.Prelude.{◌≡◌, ◌⊎◌, ℕ, zero, suc, ◌^◌, ◌
 use Rattle.std.specs.Prelude.{◌∷◌, map, length, get_or, unsigned_abs}
 use Rattle.e_literal.specs.declared.object.Term.{Term}
 use Rattle.e_literal.specs.Same.{term_eq}
-use Rattle.e_literal.specs.Rows.{Row, Says, Zero, AtLeast, More, Not, negative}
+use Rattle.e_literal.specs.Rows.{Row, Sense, Zero, AtLeast, More, Not, negative}
 use Rattle.e_literal.specs.Absurd.{Weighed, total}
 use Rattle.e_literal.specs.Minor.{IsWide}
 use Rattle.e_literal.specs.Solution.{Satisfy, HasSolution}
@@ -23,7 +23,7 @@ each_weighed (r ∷ rs) [] = []
 each_weighed (r ∷ rs) (m ∷ ms) = record { multiplier = m; row = r } ∷ each_weighed rs ms
 
 -- only a row that says `0` may be taken away, and one that says `not 0` takes no part
-abbrev pub MayTake : Says → ℤ → Type 0
+abbrev pub MayTake : Sense → ℤ → Type 0
 MayTake Zero m = Unit {0}
 MayTake AtLeast m = pos 0 ≤ℤ m
 MayTake More m = pos 0 ≤ℤ m

@@ -4,13 +4,11 @@ use Rattle.std.specs.Prelude.{◌≡◌, ℕ, suc, ◌<◌, ◌≤◌, cond, not
 use Rattle.e_literal.specs.declared.object.Term.{Term}
 use Rattle.e_literal.specs.declared.object.Term.TheVariants.{Right}
 use Rattle.e_literal.specs.Same.{term_eq}
-use Rattle.e_literal.specs.Rows.{Row, Says, Zero, AtLeast, More, Not, Summands}
+use Rattle.e_literal.specs.Rows.{Row, Sense, Zero, AtLeast, More, Not, Summands}
 use Rattle.e_simplex.specs.declared.constraints.Monomial.{Monomial}
 use Rattle.e_simplex.specs.declared.constraints.Constraint.{Constraint}
-use Rattle.e_simplex.specs.declared.constraints.Sense.{Sense}
-use Rattle.e_simplex.specs.declared.constraints.Sense.TheVariants.{Zero as SenseZero}
-use Rattle.e_simplex.specs.declared.constraints.Sense.TheVariants.{AtLeast as SenseAtLeast}
-use Rattle.e_simplex.specs.declared.constraints.Sense.TheVariants.{More as SenseMore}
+use Rattle.e_simplex.specs.declared.constraints.ConstraintSense.{ConstraintSense}
+use Rattle.e_simplex.specs.declared.constraints.ConstraintSense.TheVariants as senses
 
 -- where the term comes first, or the length of the list
 abbrev pub place_of : List Term → Term → ℕ
@@ -44,17 +42,17 @@ named_form ts (p ∷ ps) =
     record { coefficient = p.0; column = suc (place_of ts p.1) } ∷ named_form ts ps
 
 -- a row that says `not 0` becomes a constraint that says `more`
-abbrev pub sense_of : Says → Sense
-sense_of Zero = SenseZero
-sense_of AtLeast = SenseAtLeast
-sense_of More = SenseMore
-sense_of Not = SenseMore
+abbrev pub constraint_sense : Sense → ConstraintSense
+constraint_sense Zero = senses.Zero
+constraint_sense AtLeast = senses.AtLeast
+constraint_sense More = senses.More
+constraint_sense Not = senses.More
 
 abbrev pub named_constraint : List Term → Row → Constraint
-named_constraint ts r = record { sense = sense_of r.says; form = named_form ts r.form }
+named_constraint ts r = record { sense = constraint_sense r.says; form = named_form ts r.form }
 
 -- whether a row is wanted: those that say `not 0`, or the others
-abbrev pub keeps : Bool → Says → Bool
+abbrev pub keeps : Bool → Sense → Bool
 keeps b Not = b
 keeps b _ = not b
 

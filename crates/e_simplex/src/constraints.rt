@@ -18,9 +18,9 @@ pub struct Monomial {
     pub column: usize,
 }
 
-/// What a constraint says of its form.
+/// The sense of a constraint: what it says of its form.
 #[derive(Clone, Copy)]
-pub enum Sense {
+pub enum ConstraintSense {
     Zero,
     AtLeast,
     More,
@@ -29,7 +29,7 @@ pub enum Sense {
 /// A form that is 0, at least 0, or more than 0.
 #[derive(Drop)]
 pub struct Constraint {
-    pub sense: Sense,
+    pub sense: ConstraintSense,
     pub form: Items<Monomial>,
 }
 
@@ -61,22 +61,22 @@ fn coefficient(form: &[Monomial], column: usize) -> i128
     sum
 }
 
-fn constant(sense: Sense) -> i128
+fn constant(sense: ConstraintSense) -> i128
     ensures { result ≡ constant_of sense }
 {
     match sense {
-        Sense::Zero | Sense::AtLeast => 0,
-        Sense::More => 1,
+        ConstraintSense::Zero | ConstraintSense::AtLeast => 0,
+        ConstraintSense::More => 1,
     }
 }
 
 /// Whether a constraint of this sense says that its form is 0.
-pub fn is_zero(sense: Sense) -> bool
+pub fn is_zero(sense: ConstraintSense) -> bool
     ensures { result ≡ is_zero_sense sense }
 {
     match sense {
-        Sense::Zero => true,
-        Sense::AtLeast | Sense::More => false,
+        ConstraintSense::Zero => true,
+        ConstraintSense::AtLeast | ConstraintSense::More => false,
     }
 }
 

@@ -2,14 +2,14 @@
 
 ghost use Rattle.std.specs.Prelude.{◌≡◌, ◌+◌, ◌<◌, ◌^◌, IfOk, IsTrue, length, take, true, false};
 ghost use Rattle.e_literal.specs.declared.object.Term.{Term};
-ghost use Rattle.e_fraction.specs.Views.{says_of, all_seen};
+ghost use Rattle.e_fraction.specs.Views.{sense_of, all_seen};
 ghost use Rattle.e_fraction.specs.Limits.{has_small_coefficients, all_small};
 ghost use Rattle.e_simplex.specs.Constraints.{IsSmallConstraint, AllSmallConstraints};
 ghost use Rattle.e_simplex.specs.Naming.{place_of, IsIn, AreOnce, Continues, FormNamed, AllNamed};
-ghost use Rattle.e_simplex.specs.Naming.{named_form, named_constraints, sense_of, keeps};
+ghost use Rattle.e_simplex.specs.Naming.{named_form, named_constraints, constraint_sense, keeps};
 
-use crate::constraints::{Constraint, Monomial, Sense};
-use e_fraction::{Row, RowKind};
+use crate::constraints::{Constraint, ConstraintSense, Monomial};
+use e_fraction::{Row, RowSense};
 use e_literal::{Items, Term};
 use std::alloc::{AllocError, Global};
 
@@ -68,13 +68,13 @@ pub fn terms_of(alloc: Global, rows: &[Row]) -> Result<Vec<Term>, AllocError>
     terms_with(alloc, &[], rows)
 }
 
-fn sense(kind: RowKind) -> Sense
-    ensures { result ≡ sense_of (says_of kind) }
+fn sense(kind: RowSense) -> ConstraintSense
+    ensures { result ≡ constraint_sense (sense_of kind) }
 {
     match kind {
-        RowKind::Zero => Sense::Zero,
-        RowKind::AtLeast => Sense::AtLeast,
-        RowKind::More | RowKind::Not => Sense::More,
+        RowSense::Zero => ConstraintSense::Zero,
+        RowSense::AtLeast => ConstraintSense::AtLeast,
+        RowSense::More | RowSense::Not => ConstraintSense::More,
     }
 }
 
@@ -84,7 +84,7 @@ fn named_constraint(alloc: Global, row: &Row, terms: &[Term]) -> Result<Constrai
     requires named { FormNamed terms.now row.now.form }
     requires coefficients { IsTrue (has_small_coefficients row.now.form) }
     ensures small { IfOk result IsSmallConstraint }
-    ensures sense { IfOk result (λ l. l.sense ≡ sense_of (says_of row.now.kind)) }
+    ensures sense { IfOk result (λ l. l.sense ≡ constraint_sense (sense_of row.now.kind)) }
     ensures form { IfOk result (λ l. l.form ≡ named_form terms.now row.now.form) }
 {
     let summands = row.form.summands();
@@ -105,12 +105,12 @@ fn named_constraint(alloc: Global, row: &Row, terms: &[Term]) -> Result<Constrai
 }
 
 /// Whether the row is wanted: one that says `not 0`, or another.
-pub fn is_kept(not: bool, kind: RowKind) -> bool
-    ensures { result ≡ keeps not (says_of kind) }
+pub fn is_kept(not: bool, kind: RowSense) -> bool
+    ensures { result ≡ keeps not (sense_of kind) }
 {
     match kind {
-        RowKind::Not => not,
-        RowKind::Zero | RowKind::AtLeast | RowKind::More => !not,
+        RowSense::Not => not,
+        RowSense::Zero | RowSense::AtLeast | RowSense::More => !not,
     }
 }
 

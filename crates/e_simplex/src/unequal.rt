@@ -2,7 +2,7 @@
 
 ghost use Rattle.std.specs.Prelude.{◌≡◌, ◌^◌, ◌≤◌, ◌++◌, ◌∷◌, [], neg_ℤ, length, unsigned_abs};
 ghost use Rattle.std.specs.Prelude.{true, false, ◌<◌, IfOk, MatchOption};
-ghost use Rattle.e_simplex.specs.declared.constraints.Sense.TheVariants.{More};
+ghost use Rattle.e_simplex.specs.declared.constraints.ConstraintSense.TheVariants.{More};
 ghost use Rattle.e_simplex.specs.Entries.{AllSmall};
 ghost use Rattle.e_simplex.specs.Constraints.{IsSmallConstraint, AllSmallConstraints};
 ghost use Rattle.e_simplex.specs.Constraints.{AllFormsWithin};
@@ -10,7 +10,7 @@ ghost use Rattle.e_simplex.specs.Solved.{IsSolved, IsFit, columns_of, constraint
 ghost use Rattle.e_simplex.specs.inner.Tried.{negated, IsTried, AreValues, AreBelowBut};
 ghost use Rattle.e_simplex.specs.inner.Tried.{IsLargeAt};
 
-use crate::constraints::{Constraint, Monomial, Sense, value_of};
+use crate::constraints::{Constraint, ConstraintSense, Monomial, value_of};
 use crate::solved::Outcome;
 use crate::table::Table;
 use e_literal::Items;
@@ -47,7 +47,7 @@ fn negative(alloc: Global, constraint: &Constraint) -> Result<Constraint, AllocE
         form.push(negated_monomial(x))?;
     }
     Ok(Constraint {
-        sense: Sense::More,
+        sense: ConstraintSense::More,
         form: Items::new(form),
     })
 }

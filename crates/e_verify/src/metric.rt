@@ -12,7 +12,7 @@ ghost use Rattle.e_verify.specs.inner.Views.{row_view, comparison_view};
 ghost use Rattle.e_clause.specs.Written.{is_writable_name, is_writable_sum, are_writable_sums};
 
 use crate::facts::Facts;
-use crate::rows::{Comparison, Row, RowScope, Says, fact_row, goal_row, row_at};
+use crate::rows::{Comparison, Row, RowScope, RowSense, fact_row, goal_row, row_at};
 use crate::sums::refutes;
 use e_clause::{RowName, Sums};
 use e_literal::Lit;
@@ -117,7 +117,7 @@ fn if_not<'a>(row: Option<Comparison<'a>>) -> Option<Comparison<'a>>
     ensures small { IfSome result (λ c. IsTrue (is_short c)) }
 {
     match row {
-        Some(row) if row.says == Says::Not => Some(row),
+        Some(row) if row.says == RowSense::Not => Some(row),
         _ => None,
     }
 }
@@ -129,7 +129,7 @@ fn above_row<'a>(row: Comparison<'a>) -> Row<'a>
     ensures small { IsTrue (is_small_row result) }
 {
     Row::Sums {
-        says: Says::More,
+        says: RowSense::More,
         plus: row.plus,
         minus: row.minus,
         turned: false,
@@ -143,7 +143,7 @@ fn below_row<'a>(row: Comparison<'a>) -> Row<'a>
     ensures small { IsTrue (is_small_row result) }
 {
     Row::Sums {
-        says: Says::More,
+        says: RowSense::More,
         plus: row.plus,
         minus: row.minus,
         turned: true,

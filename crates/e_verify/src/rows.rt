@@ -9,7 +9,7 @@ ghost use Rattle.e_literal.specs.WellFormed.{is_well_formed_atom, is_well_formed
 ghost use Rattle.e_clause.specs.Sum;
 ghost use Rattle.e_clause.specs.declared.cert.RowName.TheVariants.{Least};
 ghost use Rattle.e_verify.specs.inner.Small.{is_small_row, is_short};
-ghost use Rattle.e_verify.specs.inner.Views.{row_view, comparison_view, says_view, row_scope_view};
+ghost use Rattle.e_verify.specs.inner.Views.{row_view, comparison_view, sense_view, row_scope_view};
 ghost use Rattle.e_clause.specs.Written.{is_writable_name};
 ghost use Rattle.e_verify.specs.inner.RowScopes.{is_well_formed_row_scope};
 
@@ -17,9 +17,9 @@ use crate::facts::{Facts, stands_in};
 use e_clause::RowName;
 use e_literal::{Atom, Lit, Mono, Term};
 
-/// What a row says of its form: that it is 0, at least 0, more than 0, or not 0.
+/// The sense of a row, what it says of its form: that it is 0, at least 0, more than 0, or not 0.
 #[derive(Clone, Copy, PartialEq, Eq)]
-pub enum Says {
+pub enum RowSense {
     Zero,
     AtLeast,
     More,
@@ -31,7 +31,7 @@ pub enum Says {
 pub enum Row<'a> {
     /// The form is the one sum less the other, or minus that.
     Sums {
-        says: Says,
+        says: RowSense,
         plus: &'a [Mono],
         minus: &'a [Mono],
         turned: bool,
@@ -49,7 +49,7 @@ pub enum Row<'a> {
 /// The row of a literal: what it says of the one sum less the other.
 #[derive(Clone, Copy)]
 pub struct Comparison<'a> {
-    pub says: Says,
+    pub says: RowSense,
     pub plus: &'a [Mono],
     pub minus: &'a [Mono],
 }
@@ -66,13 +66,13 @@ pub struct RowScope<'a> {
 
 impl<'a> Row<'a> {
     /// What it says of its form.
-    pub fn says(&self) -> Says
-        ensures { says_view result ≡ (row_view self.now).says }
+    pub fn says(&self) -> RowSense
+        ensures { sense_view result ≡ (row_view self.now).says }
     {
         match self {
             Row::Sums { says, .. } => *says,
-            Row::Pos(_) | Row::Right => Says::More,
-            Row::Top(_) | Row::Least(_) => Says::AtLeast,
+            Row::Pos(_) | Row::Right => RowSense::More,
+            Row::Top(_) | Row::Least(_) => RowSense::AtLeast,
         }
     }
 }
@@ -144,19 +144,19 @@ fn row_of<'a>(atom: &'a Atom, neg: bool) -> Option<Comparison<'a>>
 {
     match atom {
         Atom::MagEq(x, y) => Some(Comparison {
-            says: if neg { Says::Not } else { Says::Zero },
+            says: if neg { RowSense::Not } else { RowSense::Zero },
             plus: x.items(),
             minus: y.items(),
         }),
         Atom::MagLt(x, y) => Some(if neg {
             Comparison {
-                says: Says::AtLeast,
+                says: RowSense::AtLeast,
                 plus: x.items(),
                 minus: y.items(),
             }
         } else {
             Comparison {
-                says: Says::More,
+                says: RowSense::More,
                 plus: y.items(),
                 minus: x.items(),
             }
@@ -174,7 +174,7 @@ fn unless_not<'a>(row: Option<Comparison<'a>>) -> Option<Row<'a>>
 {
     match row {
         Some(Comparison { says, plus, minus }) => {
-            if says == Says::Not {
+            if says == RowSense::Not {
                 return None;
             }
             Some(Row::Sums {

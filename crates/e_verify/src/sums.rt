@@ -4,12 +4,12 @@ ghost use Rattle.std.specs.Prelude.{◌≡◌, IfOk, IsTrue};
 ghost use Rattle.std.specs.List.{list_all};
 ghost use Rattle.e_literal.specs.Absurd;
 ghost use Rattle.e_clause.specs.Sum;
-ghost use Rattle.e_verify.specs.inner.Views.{says_view, row_scope_view};
+ghost use Rattle.e_verify.specs.inner.Views.{sense_view, row_scope_view};
 ghost use Rattle.e_clause.specs.Written.{is_writable_sum};
 ghost use Rattle.e_verify.specs.inner.RowScopes.{is_well_formed_row_scope};
 
 use crate::adding::add_row;
-use crate::rows::{RowScope, Says, row_named};
+use crate::rows::{RowScope, RowSense, row_named};
 use crate::totals::Totals;
 use e_clause::RowName;
 use std::alloc::{AllocError, Global};
@@ -64,18 +64,18 @@ fn is_bounded_multiplier(n: i128) -> bool
     n != 0 && n.unsigned_abs() <= 0x1_0000_0000_0000_0000_0000
 }
 
-fn allows_sign(says: Says, multiplier: i128) -> bool
-    ensures { result ≡ Absurd.allows_multiplier (says_view says) multiplier }
+fn allows_sign(says: RowSense, multiplier: i128) -> bool
+    ensures { result ≡ Absurd.allows_multiplier (sense_view says) multiplier }
 {
     match says {
-        Says::Zero => true,
-        Says::AtLeast | Says::More => 0 <= multiplier,
-        Says::Not => false,
+        RowSense::Zero => true,
+        RowSense::AtLeast | RowSense::More => 0 <= multiplier,
+        RowSense::Not => false,
     }
 }
 
-fn is_strict(says: Says, multiplier: i128) -> bool
-    ensures { result ≡ Absurd.is_strict (says_view says) multiplier }
+fn is_strict(says: RowSense, multiplier: i128) -> bool
+    ensures { result ≡ Absurd.is_strict (sense_view says) multiplier }
 {
-    says == Says::More && 1 <= multiplier
+    says == RowSense::More && 1 <= multiplier
 }

@@ -5,7 +5,7 @@ ghost use Rattle.e_metric.specs.Fronts.{AreFronts};
 use crate::literals::{facts_of, lit, term};
 use e_clause::RowName;
 use e_facts::Facts;
-use e_fraction::{Row, RowKind};
+use e_fraction::{Row, RowSense};
 use e_literal::{Kind, copy};
 use e_metric::{Metric, MetricFacts, absurd, are_few_facts, follows, is_metric_goal, system};
 use std::alloc::{AllocError, Global};
@@ -163,7 +163,7 @@ fn what_follows(rt: HostRuntime) -> Result<(), Fail> {
 }
 
 // Whether the row says this of a form with these coefficients of `ab`, `cd` and `ef`.
-fn says(row: &Row, kind: RowKind, ab: i64, cd: i64, ef: i64) -> bool {
+fn says(row: &Row, kind: RowSense, ab: i64, cd: i64, ef: i64) -> bool {
     row.kind == kind
         && row.form.coefficient(term("ab")) == ab
         && row.form.coefficient(term("cd")) == cd
@@ -173,10 +173,10 @@ fn says(row: &Row, kind: RowKind, ab: i64, cd: i64, ef: i64) -> bool {
 // The lesser sum's equal parts cancel; then the negated goal, and a segment whose ends differ.
 fn are_of_segments(rows: &[(RowName, Row)]) -> bool {
     rows.len() == 4
-        && says(&rows[0].1, RowKind::More, -1, 0, 1)
-        && says(&rows[1].1, RowKind::More, 0, -1, 1)
-        && says(&rows[2].1, RowKind::AtLeast, -1, 0, 1)
-        && says(&rows[3].1, RowKind::More, 1, 0, 0)
+        && says(&rows[0].1, RowSense::More, -1, 0, 1)
+        && says(&rows[1].1, RowSense::More, 0, -1, 1)
+        && says(&rows[2].1, RowSense::AtLeast, -1, 0, 1)
+        && says(&rows[3].1, RowSense::More, 1, 0, 0)
 }
 
 fn rows_of(rt: &impl Abort, alloc: Global, which: Kind) -> Result<Vec<(RowName, Row)>, AllocError> {

@@ -1,6 +1,6 @@
 //! Rows of linear systems, written as short words.
 
-use e_fraction::{Row, RowKind, Signed, are_distinct};
+use e_fraction::{Row, RowSense, Signed, are_distinct};
 use e_literal::Term;
 use std::alloc::{AllocError, Global};
 use std::process::Abort;
@@ -26,12 +26,12 @@ fn coefficient(form: &str, letter: u8) -> i64 {
     sum
 }
 
-fn kind(text: &str) -> RowKind {
+fn kind(text: &str) -> RowSense {
     match text.bytes().next() {
-        Some(b'=') => RowKind::Zero,
-        Some(b'+') => RowKind::AtLeast,
-        Some(b'>') => RowKind::More,
-        _ => RowKind::Not,
+        Some(b'=') => RowSense::Zero,
+        Some(b'+') => RowSense::AtLeast,
+        Some(b'>') => RowSense::More,
+        _ => RowSense::Not,
     }
 }
 

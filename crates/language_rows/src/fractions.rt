@@ -3,7 +3,7 @@
 use crate::answer::Answer;
 use crate::rows::two;
 use e_fraction::{
-    Row, RowKind, Signed, are_distinct, are_small_multipliers, check_sum, cross,
+    Row, RowSense, Signed, are_distinct, are_small_multipliers, check_sum, cross,
     have_small_coefficients, width,
 };
 use e_literal::Term;
@@ -32,17 +32,17 @@ fn put_quotients(out: &mut Answer) {
     out.show(&cross(0x4000_0000_0000_0000_0000_0000_0000_0000, 4, 0, 0, 1));
 }
 
-fn kind(word: &str) -> RowKind {
+fn kind(word: &str) -> RowSense {
     match word {
-        "zero" => RowKind::Zero,
-        "at-least" => RowKind::AtLeast,
-        "more" => RowKind::More,
-        _ => RowKind::Not,
+        "zero" => RowSense::Zero,
+        "at-least" => RowSense::AtLeast,
+        "more" => RowSense::More,
+        _ => RowSense::Not,
     }
 }
 
 // The row of these summands; the form is 0 where a term comes twice.
-fn row(alloc: Global, kind: RowKind, summands: &[(i64, Term)]) -> Result<Row, AllocError> {
+fn row(alloc: Global, kind: RowSense, summands: &[(i64, Term)]) -> Result<Row, AllocError> {
     let mut form = Signed::empty(alloc);
     if are_distinct(summands) {
         form = Signed::new(Vec::from_slice(alloc, summands)?);
@@ -51,7 +51,7 @@ fn row(alloc: Global, kind: RowKind, summands: &[(i64, Term)]) -> Result<Row, Al
 }
 
 // The rows of this kind with the forms x - y and y - x.
-fn opposite_rows(alloc: Global, kind: RowKind) -> Result<Vec<Row>, AllocError> {
+fn opposite_rows(alloc: Global, kind: RowSense) -> Result<Vec<Row>, AllocError> {
     let mut rows = Vec::new(alloc);
     rows.push(row(alloc, kind, &[(1, X), (-1, Y)])?)?;
     rows.push(row(alloc, kind, &[(1, Y), (-1, X)])?)?;
@@ -91,7 +91,7 @@ fn put_width(alloc: Global, out: &mut Answer, on: &str) -> Result<(), AllocError
 fn put_coefficients(alloc: Global, out: &mut Answer) -> Result<(), AllocError> {
     let row = row(
         alloc,
-        RowKind::Not,
+        RowSense::Not,
         &[(5, Term::Right), (-7, Term::Seg(1, 2))],
     )?;
     out.show(&row.form.coefficient(Term::Seg(1, 2)));

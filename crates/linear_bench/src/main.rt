@@ -7,7 +7,7 @@
 
 ghost use Rattle.std.specs.Prelude.{◌<◌};
 
-use e_fraction::{Row, RowKind, Signed, are_distinct, have_small_coefficients};
+use e_fraction::{Row, RowSense, Signed, are_distinct, have_small_coefficients};
 use e_literal::Term;
 use e_simplex::{Absurdity, Verdict, decide};
 use std::alloc::{AllocError, Global};
@@ -43,7 +43,7 @@ fn hidden(term: u16) -> u64 {
 /// The difference of two terms, as a row of this kind.
 fn difference(
     alloc: Global,
-    kind: RowKind,
+    kind: RowSense,
     first: u16,
     second: u16,
 ) -> Result<Option<Row>, AllocError> {
@@ -61,16 +61,16 @@ fn difference(
 fn true_row(alloc: Global, a: u16, b: u16, strict: bool) -> Result<Option<Row>, AllocError> {
     let (x, y) = (hidden(a), hidden(b));
     if x == y {
-        difference(alloc, RowKind::Zero, a, b)
+        difference(alloc, RowSense::Zero, a, b)
     } else if x > y {
         let kind = if strict {
-            RowKind::More
+            RowSense::More
         } else {
-            RowKind::AtLeast
+            RowSense::AtLeast
         };
         difference(alloc, kind, a, b)
     } else {
-        difference(alloc, RowKind::Not, a, b)
+        difference(alloc, RowSense::Not, a, b)
     }
 }
 
@@ -91,10 +91,10 @@ fn system(alloc: Global, size: Size) -> Result<Vec<Row>, AllocError> {
         }
     }
     if size.shut {
-        if let Some(row) = difference(alloc, RowKind::More, 0, 1)? {
+        if let Some(row) = difference(alloc, RowSense::More, 0, 1)? {
             rows.push(row)?;
         }
-        if let Some(row) = difference(alloc, RowKind::Zero, 0, 1)? {
+        if let Some(row) = difference(alloc, RowSense::Zero, 0, 1)? {
             rows.push(row)?;
         }
     }

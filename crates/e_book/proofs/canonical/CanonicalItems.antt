@@ -141,7 +141,7 @@ abbrev found : BookItem → Rest → Answer
 found i rest = Ok (Some (i, rest))
 
 next_read : (known : Known) (last : ℕ) (d e : TheoremParser) (l : LineView) (after : Rest) (f : RawLine) → l.bytes ≡ written_line f → GoodForm f → step known.theorems d (as_read f) ≡ Ok e
-    → item_from known last (Some (theorem d)) (Ok l ∷ after) ≡ cond (is_last e.place) (found (OfTheorem (entry_of_parser e)) after) (item_from known last (Some (theorem e)) after)
+    → item_from known last (Some (theorem d)) (Ok l ∷ after) ≡ cond (is_last e.section) (found (OfTheorem (entry_of_parser e)) after) (item_from known last (Some (theorem e)) after)
 next_read known last d e l after f b good h =
     let words : tokens_of l.bytes ≡ raw_line_words f = ap tokens_of b ∙ words_again f good in
     let next : line_step known (Some (theorem d)) (raw_line_words f) ≡ Ok (theorem e) = next_taken known d e f good h in
@@ -161,7 +161,7 @@ reads_runs known last d u (f ∷ fs) gs (Err x ∷ all) rest r sh = absurd sh
 reads_runs known last d u (f ∷ fs) gs (Ok l ∷ all) rest r sh =
     let more = reads_runs known last r.0 u fs gs all rest r.4 sh.1 in
     let here = next_read known last d r.0 l all f sh.0 r.1 r.2 in
-    let goes : cond (is_last r.0.place) (found (OfTheorem (entry_of_parser r.0)) all) (item_from known last (Some (theorem r.0)) all) ≡ item_from known last (Some (theorem r.0)) all = rw r.3 refl in
+    let goes : cond (is_last r.0.section) (found (OfTheorem (entry_of_parser r.0)) all) (item_from known last (Some (theorem r.0)) all) ≡ item_from known last (Some (theorem r.0)) all = rw r.3 refl in
     record { ahead = more.ahead; shown = more.shown; same = here ∙ goes ∙ more.same }
 
 end_read : (known : Known) (number : ℕ) (t : TheoremView) (last : Inside) (all rest : Rest) → entry_of_parser (shut_parser t last) ≡ t → Shows all (written_line rawlines.End ∷ []) rest
@@ -170,7 +170,7 @@ end_read known number t last [] rest same sh = absurd sh
 end_read known number t last (Err x ∷ all) rest same sh = absurd sh
 end_read known number t last (Ok l ∷ all) rest same sh =
     let d = shut_parser t last in
-    next_read known number d (record d { place = Done }) l all rawlines.End sh.0 tt (step_end known.theorems t last)
+    next_read known number d (record d { section = Done }) l all rawlines.End sh.0 tt (step_end known.theorems t last)
     ∙ ap (λ (x : TheoremView). found (OfTheorem x) all) same ∙ ap (λ (ls : Rest). found (OfTheorem t) ls) sh.1
 
 -- the first line
@@ -188,7 +188,7 @@ begun_taken : (known : Known) (t : List ℕ) (e : TheoremParser) → GoodForm (r
 unfolding line_step begins_theorem
 begun_taken known t e good free h = rw (plain_again (rawlines.Theorem t) good) (begins_is known t ∙ rw (free, h) refl)
 
-first_read : (known : Known) (last : ℕ) (t : List ℕ) (e : TheoremParser) (l : LineView) (after : Rest) → l.bytes ≡ written_line (rawlines.Theorem t) → GoodForm (rawlines.Theorem t) → defines known.notions t ≡ false → begin known.theorems (rawlines.Theorem t) ≡ Ok e → is_last e.place ≡ false
+first_read : (known : Known) (last : ℕ) (t : List ℕ) (e : TheoremParser) (l : LineView) (after : Rest) → l.bytes ≡ written_line (rawlines.Theorem t) → GoodForm (rawlines.Theorem t) → defines known.notions t ≡ false → begin known.theorems (rawlines.Theorem t) ≡ Ok e → is_last e.section ≡ false
     → item_from known last None (Ok l ∷ after) ≡ item_from known last (Some (theorem e)) after
 first_read known last t e l after b good free h go =
     let words : tokens_of l.bytes ≡ raw_line_words (rawlines.Theorem t) = ap tokens_of b ∙ words_again (rawlines.Theorem t) good in

@@ -173,13 +173,13 @@ answered t rest = Ok (Some (t, rest))
 
 -- the parser after the last close line
 abbrev pub shut_parser : TheoremView → Inside → TheoremParser
-shut_parser t last = record (proving (started t) last) { steps = steps_of t.script; blocks = []; close = close_of t.script; place = Closed }
+shut_parser t last = record (proving (started t) last) { steps = steps_of t.script; blocks = []; close = close_of t.script; section = Closed }
 
 pub closed_last : (t : TheoremView) (last : Inside) → closed (proving (started t) last) [] (steps_of t.script) (close_of t.script) ≡ Ok (shut_parser t last)
 unfolding closed
 closed_last t last = refl
 
-pub step_end : (known : List TitledStatement) (t : TheoremView) (last : Inside) → step known (shut_parser t last) rawlines.End ≡ Ok (record (shut_parser t last) { place = Done })
+pub step_end : (known : List TitledStatement) (t : TheoremView) (last : Inside) → step known (shut_parser t last) rawlines.End ≡ Ok (record (shut_parser t last) { section = Done })
 unfolding step stepped
 step_end known t last = refl
 
@@ -189,7 +189,7 @@ end_read known number t last [] rest same sh = absurd sh
 end_read known number t last (Err x ∷ all) rest same sh = absurd sh
 end_read known number t last (Ok l ∷ all) rest same sh =
     let d = shut_parser t last in
-    one_read known number (Some d) l all rawlines.End (record d { place = Done }) sh.0 tt (step_end known t last)
+    one_read known number (Some d) l all rawlines.End (record d { section = Done }) sh.0 tt (step_end known t last)
     ∙ ap (λ (s : Script). answered (record t { script = s }) all) same ∙ ap (λ (ls : List (Result LineView LineFault)). answered t ls) sh.1
 
 pub canonical_lines_read : (known : List TitledStatement) (last : ℕ) (t : TheoremView) (all rest : List (Result LineView LineFault)) → HasSpelling known t → Shows all (map line_of (forms_of known t)) rest

@@ -32,7 +32,7 @@ use Rattle.e_book.proofs.canonical.Declared.{Runs, LinesOfNames, declared_one, d
 -- a parser before the word proof
 abbrev pub stating : List ℕ → Names → List Sort → List Lit → List Sort → List Lit → ℕ → ℕ → Section → TheoremParser
 stating t ns sorts given made shown facts terms place =
-    record { title = t; names = ns; in_scope = no_names; declared = sorts; given = given; made = made; shown = shown; steps = []; lines = 0; facts = facts; terms = terms; blocks = []; close = closes.Qed []; place = place }
+    record { title = t; names = ns; in_scope = no_names; declared = sorts; given = given; made = made; shown = shown; steps = []; lines = 0; facts = facts; terms = terms; blocks = []; close = closes.Qed []; section = place }
 
 -- ---- the title
 
@@ -149,7 +149,7 @@ some_made : (given : List Lit) (made : List Sort) (sort : Sort) → after_made g
 some_made given [] sort = refl
 some_made given (s ∷ made) sort = refl
 
-made_going : (given : List Lit) (made : List Sort) (d : TheoremParser) → is_done (record d { place = after_made given made }) ≡ false
+made_going : (given : List Lit) (made : List Sort) (d : TheoremParser) → is_done (record d { section = after_made given made }) ≡ false
 made_going [] [] d = refl
 made_going (l ∷ given) [] d = refl
 made_going given (s ∷ made) d = refl

@@ -59,11 +59,11 @@ pub record Inside : Type 0 where
 
 -- a parser in its proof, there
 abbrev pub proving : TheoremParser → Inside → TheoremParser
-proving d i = record d { in_scope = i.in_scope; steps = i.steps; lines = i.lines; facts = i.facts; terms = i.terms; blocks = i.blocks; place = Proving }
+proving d i = record d { in_scope = i.in_scope; steps = i.steps; lines = i.lines; facts = i.facts; terms = i.terms; blocks = i.blocks; section = Proving }
 
 -- and after the first block of a split
 abbrev pub splitting : TheoremParser → Inside → TheoremParser
-splitting d i = record (proving d i) { place = Splitting }
+splitting d i = record (proving d i) { section = Splitting }
 
 -- after one more step, with this many more facts
 abbrev pub after_step : Inside → PlainStep → ℕ → Inside

@@ -37,7 +37,7 @@ few_at places.Closed ns scope f g = enough ns f
 few_at places.Done ns scope f g = enough ns f
 
 pub few_there : (d : TheoremParser) (ns : Names) → FitsScope d → ns ≡ names_there d → FewNames ns
-few_there d ns f is = subst FewNames (sym is) (few_at d.place d.names d.in_scope f.names f.in_scope)
+few_there d ns f is = subst FewNames (sym is) (few_at d.section d.names d.in_scope f.names f.in_scope)
 
 abbrev then_out : Names → Listing → List Lit × ℕ → Result (RawLine × ℕ) FaultKind
 then_out ns line p = Ok (listing_form line (map (raw_of ns) p.0), p.1)

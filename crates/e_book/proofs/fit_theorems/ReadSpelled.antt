@@ -187,7 +187,7 @@ pub record Spelled (known : List TitledStatement) (d : TheoremParser) : Type 0 w
   few : length known < most_theorems
   title : is_title d.title ≡ true
   naming : Naming d.names
-  some : SomeShown d.place d.shown
+  some : SomeShown d.section d.shown
   blocks : PlainBlocks known d.steps d.blocks d.close
 
 declared_is : (ns : Names) (sort : Sort) (new : List (List ℕ)) (names : Names) → declared ns sort new ≡ Ok names → with_names ns sort (names_of_sort ns sort ++ new) ≡ names
@@ -217,7 +217,7 @@ spelled_terms known d e raws g h = let t = terms_added d e raws h in subst (λ (
 spelled_given : (known : List TitledStatement) (d e : TheoremParser) (raws : List RawLit) → Spelled known d → stepped known d (rawlines.Given raws) ≡ Ok e → Spelled known e
 unfolding stepped
 spelled_given known d e raws g h =
-    let then : List Lit → TheoremParser = λ ls. record d { given = ls; facts = d.facts + length raws; place = Giving } in
+    let then : List Lit → TheoremParser = λ ls. record d { given = ls; facts = d.facts + length raws; section = Giving } in
     let all = bind_ok (with_front d.given (lits_in d.names raws)) (λ ls. within (d.facts + length raws) most_facts limits.Facts >>= λ few. with_terms (then ls) raws) e h in
     let w = bind_ok (within (d.facts + length raws) most_facts limits.Facts) (λ few. with_terms (then all.0) raws) e all.2 in
     spelled_terms known (then all.0) e raws (record { few = g.few; title = g.title; naming = g.naming; some = tt; blocks = g.blocks }) w.2
@@ -225,7 +225,7 @@ spelled_given known d e raws g h =
 spelled_made : (known : List TitledStatement) (d e : TheoremParser) (sort : Sort) (ns : List (List ℕ)) → Spelled known d → AreNames ns → stepped known d (rawlines.Made sort ns) ≡ Ok e → Spelled known e
 unfolding stepped
 spelled_made known d e sort ns g said h =
-    let then : Names → TheoremParser = λ names. record d { names = names; made = d.made ++ replicate (length ns) sort; place = Making } in
+    let then : Names → TheoremParser = λ names. record d { names = names; made = d.made ++ replicate (length ns) sort; section = Making } in
     let n = bind_ok (declared d.names sort ns) (λ names. read_ok (then names)) e h in
     let now = declared_is d.names sort ns n.0 n.1 in
     subst (λ (y : TheoremParser). Spelled known y) (ap then now ∙ ok_is (then n.0) e n.2)
@@ -234,7 +234,7 @@ spelled_made known d e sort ns g said h =
 spelled_shown : (known : List TitledStatement) (d e : TheoremParser) (raws : List RawLit) → Spelled known d → 0 < length raws → stepped known d (rawlines.Show raws) ≡ Ok e → Spelled known e
 unfolding stepped
 spelled_shown known d e raws g said h =
-    let then : List Lit → TheoremParser = λ ls. record d { shown = ls; place = Showing } in
+    let then : List Lit → TheoremParser = λ ls. record d { shown = ls; section = Showing } in
     let all = bind_ok (with_front d.shown (lits_in d.names raws)) (λ ls. few_monos raws >>= λ few. read_ok (then ls)) e h in
     let ls = bind_ok (lits_in d.names raws) (λ xs. read_ok (d.shown ++ xs)) all.0 all.1 in
     let f = bind_ok (few_monos raws) (λ few. read_ok (then all.0)) e all.2 in
@@ -244,7 +244,7 @@ spelled_shown known d e raws g said h =
 
 -- with other names in scope, and with other counts, at a place after the show lines
 moved : (known : List TitledStatement) (d : TheoremParser) (p : Section) (in_scope : Names) (lines facts terms : ℕ) → Spelled known d → SomeShown p d.shown
-    → Spelled known (record d { in_scope = in_scope; lines = lines; facts = facts; terms = terms; place = p })
+    → Spelled known (record d { in_scope = in_scope; lines = lines; facts = facts; terms = terms; section = p })
 moved known d p in_scope lines facts terms g some = record { few = g.few; title = g.title; naming = g.naming; some = some; blocks = g.blocks }
 
 spelled_step : (known : List TitledStatement) (d e : TheoremParser) (s : PlainStep) (n : ℕ) → Spelled known d → is_plain_step known s ≡ true → with_step d s n ≡ Ok e → Spelled known e
@@ -280,7 +280,7 @@ spelled_built known d e l g said h =
     let then : Construction → Result TheoremParser FaultKind = λ form. with_step (record d { in_scope = after form }) (Made form l.new []) (length (gives_of_construction form (scope_of_names d.in_scope))) in
     let f = bind_ok (let_in d.in_scope l) (λ form. few_objects (after form) >>= λ few. then form) e h in
     let w = bind_ok (few_objects (after f.0)) (λ few. then f.0) e f.2 in
-    spelled_step known (record d { in_scope = after f.0 }) e (Made f.0 l.new []) (length (gives_of_construction f.0 (scope_of_names d.in_scope))) (moved known d d.place (after f.0) d.lines d.facts d.terms g g.some) (names_listed l.new said) w.2
+    spelled_step known (record d { in_scope = after f.0 }) e (Made f.0 l.new []) (length (gives_of_construction f.0 (scope_of_names d.in_scope))) (moved known d d.section (after f.0) d.lines d.facts d.terms g g.some) (names_listed l.new said) w.2
 
 spelled_let : (known : List TitledStatement) (d e : TheoremParser) (l : RawLet) → Spelled known d → AreNames l.new → stepped known d (rawlines.Let l) ≡ Ok e → Spelled known e
 unfolding stepped
@@ -309,7 +309,7 @@ spelled_used known d e raw theorem args g names title h =
     let v = bind_ok (with_step x s (length t.shown)) (λ v. terms_after v.terms t.shown >>= λ n. last v n) e b.2 in
     let n = bind_ok (terms_after v.0.terms t.shown) (λ n. last v.0 n) e v.2 in
     let w = bind_ok (within (count_blanks args) most_blanks limits.Blanks) (λ written. read_ok (then v.0 n.0)) e n.2 in
-    let y = spelled_step known x v.0 s (length t.shown) (moved known d d.place after d.lines d.facts d.terms g g.some) (and_from _ _ (names_listed raw.new names) title) v.1 in
+    let y = spelled_step known x v.0 s (length t.shown) (moved known d d.section after d.lines d.facts d.terms g g.some) (and_from _ _ (names_listed raw.new names) title) v.1 in
     subst (λ (y : TheoremParser). Spelled known y) (ok_is (then v.0 n.0) e w.2) (counted known v.0 n.0 y)
 
 spelled_applied : (known : List TitledStatement) (d e : TheoremParser) (raw : RawApply) → Spelled known d → (is_title raw.title ≡ true) × AreNames raw.new → applied known d raw ≡ Ok e → Spelled known e
@@ -342,11 +342,11 @@ at_close : (p : Section) (shown : List Lit) → allowed p rawlines.End ≡ true 
 at_close Closed shown a s = s
 at_close p shown a s = absurd cc
 
-spelled_proof : (known : List TitledStatement) (d e : TheoremParser) → Spelled known d → allowed d.place rawlines.Proof ≡ true → stepped known d rawlines.Proof ≡ Ok e → Spelled known e
+spelled_proof : (known : List TitledStatement) (d e : TheoremParser) → Spelled known d → allowed d.section rawlines.Proof ≡ true → stepped known d rawlines.Proof ≡ Ok e → Spelled known e
 unfolding stepped
 spelled_proof known d e g a h =
     let names = declared_names (stated (statement_of_parser d)) d.names in
-    subst (λ (y : TheoremParser). Spelled known y) (ok_is (record d { in_scope = names; place = Proving }) e h) (moved known d Proving names d.lines d.facts d.terms g (at_proof d.place d.shown a g.some))
+    subst (λ (y : TheoremParser). Spelled known y) (ok_is (record d { in_scope = names; section = Proving }) e h) (moved known d Proving names d.lines d.facts d.terms g (at_proof d.section d.shown a g.some))
 
 -- ---- blocks inside blocks
 
@@ -397,7 +397,7 @@ spelled_superpose known d e raw g names said h =
     let n = bind_ok (terms_after x.0.terms given) (λ n. read_ok (then x.0 n)) e f.2 in
     let some : ltb 0 (length p.0.1) ≡ true = lt-ltb _ _ (omega (arith, shown_length d.in_scope raw p.0 p.1, said)) in
     let deep = spelled_deeper known d x.0 o (length given) g (rw (names_listed raw.new names, some) refl) x.1 in
-    subst (λ (y : TheoremParser). Spelled known y) (ok_is (then x.0 n.0) e n.2) (moved known x.0 x.0.place after x.0.lines x.0.facts n.0 deep deep.some)
+    subst (λ (y : TheoremParser). Spelled known y) (ok_is (then x.0 n.0) e n.2) (moved known x.0 x.0.section after x.0.lines x.0.facts n.0 deep deep.some)
 
 spelled_split : (known : List TitledStatement) (d e : TheoremParser) (raw : RawLit) → Spelled known d → stepped known d (rawlines.Cases raw) ≡ Ok e → Spelled known e
 unfolding stepped split
@@ -406,10 +406,10 @@ spelled_split known d e raw g h =
     let x = bind_ok (deeper d (kind.First l.0) 1) (λ x. with_terms x (raw ∷ [])) e l.2 in
     spelled_terms known x.0 e (raw ∷ []) (spelled_deeper known d x.0 (kind.First l.0) 1 g refl x.1) x.2
 
-spelled_else : (known : List TitledStatement) (d e : TheoremParser) → Spelled known d → allowed d.place rawlines.Else ≡ true → stepped known d rawlines.Else ≡ Ok e → Spelled known e
+spelled_else : (known : List TitledStatement) (d e : TheoremParser) → Spelled known d → allowed d.section rawlines.Else ≡ true → stepped known d rawlines.Else ≡ Ok e → Spelled known e
 unfolding stepped
 spelled_else known d e g a h =
-    subst (λ (y : TheoremParser). Spelled known y) (ok_is (record d { place = Proving }) e h) (moved known d Proving d.in_scope d.lines d.facts d.terms g (at_else d.place d.shown a g.some))
+    subst (λ (y : TheoremParser). Spelled known y) (ok_is (record d { section = Proving }) e h) (moved known d Proving d.in_scope d.lines d.facts d.terms g (at_else d.section d.shown a g.some))
 
 -- ---- closes
 
@@ -419,7 +419,7 @@ record HeadSpelled (known : List TitledStatement) (d : TheoremParser) : Type 0 w
   title : is_title d.title ≡ true
   naming : Naming d.names
   some : 0 < length d.shown
-  here : SomeShown d.place d.shown
+  here : SomeShown d.section d.shown
   shut : is_plain_close known d.close ≡ true
 
 spelled_resumed : (known : List TitledStatement) (d e : TheoremParser) (o : OpenBlock) (os : List OpenBlock) (shown : List Lit) (s : PlainStep) → HeadSpelled known d → list_all (is_plain_step known) o.steps ≡ true → list_all (is_plain_outer known) os ≡ true → is_plain_step known s ≡ true
@@ -436,12 +436,12 @@ spelled_resumed known d e o os shown s g inside around p h =
     (record { few = g.few; title = g.title; naming = g.naming; some = g.here; blocks = record { inside = one_more known o.steps s inside p; around = around; shut = g.shut } })
 
 abbrev shut_last : TheoremParser → List PlainStep → CloseLine → TheoremParser
-shut_last d steps close = record d { steps = steps; blocks = []; close = close; place = Closed }
+shut_last d steps close = record d { steps = steps; blocks = []; close = close; section = Closed }
 
 -- after the first block of a split
 abbrev at_second : TheoremParser → OpenBlock → List OpenBlock → Lit → Script → TheoremParser
 at_second d o os lit inner =
-    record d { steps = []; in_scope = o.in_scope; facts = o.facts + 1; terms = o.terms + monomials lit.atom; blocks = record o { kind = kind.Second lit inner } ∷ os; place = Splitting }
+    record d { steps = []; in_scope = o.in_scope; facts = o.facts + 1; terms = o.terms + monomials lit.atom; blocks = record o { kind = kind.Second lit inner } ∷ os; section = Splitting }
 
 -- a block is closed inside one that was interrupted; the second block of a split closes that one again
 spelled_inside : (known : List TitledStatement) (d e : TheoremParser) (o : OpenBlock) (os : List OpenBlock) (inner : Script) (by : BlockKind) → HeadSpelled known d → list_all (is_plain_step known) o.steps ≡ true → is_plain_kind known by ≡ true → list_all (is_plain_outer known) os ≡ true
@@ -474,21 +474,21 @@ spelled_shut known d e close g some k h =
     let w = bind_ok (within (d.lines + 1) most_steps limits.Steps) (λ few. closed x d.blocks d.steps close) e h in
     spelled_closed known x e d.blocks d.steps close (record { few = g.few; title = g.title; naming = g.naming; some = some; here = g.some; shut = g.blocks.shut }) g.blocks.around g.blocks.inside k w.2
 
-spelled_qed : (known : List TitledStatement) (d e : TheoremParser) (ns : List (List ℕ)) → Spelled known d → allowed d.place (rawlines.Qed ns) ≡ true → stepped known d (rawlines.Qed ns) ≡ Ok e → Spelled known e
+spelled_qed : (known : List TitledStatement) (d e : TheoremParser) (ns : List (List ℕ)) → Spelled known d → allowed d.section (rawlines.Qed ns) ≡ true → stepped known d (rawlines.Qed ns) ≡ Ok e → Spelled known e
 unfolding stepped
 spelled_qed known d e ns g a h =
     let os = bind_ok (qed_in d.in_scope (made_in d.blocks d.made) ns) (λ os. shut d (closes.Qed os)) e h in
-    spelled_shut known d e (closes.Qed os.0) g (at_qed d.place d.shown ns a g.some) refl os.2
+    spelled_shut known d e (closes.Qed os.0) g (at_qed d.section d.shown ns a g.some) refl os.2
 
-spelled_contradiction : (known : List TitledStatement) (d e : TheoremParser) → Spelled known d → allowed d.place rawlines.Contradiction ≡ true → stepped known d rawlines.Contradiction ≡ Ok e → Spelled known e
+spelled_contradiction : (known : List TitledStatement) (d e : TheoremParser) → Spelled known d → allowed d.section rawlines.Contradiction ≡ true → stepped known d rawlines.Contradiction ≡ Ok e → Spelled known e
 unfolding stepped
-spelled_contradiction known d e g a h = spelled_shut known d e closes.Contradiction g (at_contradiction d.place d.shown a g.some) refl h
+spelled_contradiction known d e g a h = spelled_shut known d e closes.Contradiction g (at_contradiction d.section d.shown a g.some) refl h
 
-spelled_end : (known : List TitledStatement) (d e : TheoremParser) → Spelled known d → allowed d.place rawlines.End ≡ true → stepped known d rawlines.End ≡ Ok e → Spelled known e
+spelled_end : (known : List TitledStatement) (d e : TheoremParser) → Spelled known d → allowed d.section rawlines.End ≡ true → stepped known d rawlines.End ≡ Ok e → Spelled known e
 unfolding stepped
-spelled_end known d e g a h = subst (λ (y : TheoremParser). Spelled known y) (ok_is (record d { place = Done }) e h) (moved known d Done d.in_scope d.lines d.facts d.terms g (at_close d.place d.shown a g.some))
+spelled_end known d e g a h = subst (λ (y : TheoremParser). Spelled known y) (ok_is (record d { section = Done }) e h) (moved known d Done d.in_scope d.lines d.facts d.terms g (at_close d.section d.shown a g.some))
 
-spelled_stepped : (known : List TitledStatement) (d e : TheoremParser) (f : RawLine) → Spelled known d → Said f → allowed d.place f ≡ true → stepped known d f ≡ Ok e → Spelled known e
+spelled_stepped : (known : List TitledStatement) (d e : TheoremParser) (f : RawLine) → Spelled known d → Said f → allowed d.section f ≡ true → stepped known d f ≡ Ok e → Spelled known e
 spelled_stepped known d e (rawlines.Theorem t) g s a h = absurd (no_title known d e t h)
 spelled_stepped known d e (rawlines.Declare sort ns) g s a h = spelled_declare known d e sort ns g s h
 spelled_stepped known d e (rawlines.Given raws) g s a h = spelled_given known d e raws g h
@@ -509,7 +509,7 @@ spelled_stepped known d e rawlines.End g s a h = spelled_end known d e g a h
 
 pub spelled_next : (known : List TitledStatement) (d e : TheoremParser) (f : RawLine) → Spelled known d → Said f → step known d f ≡ Ok e → Spelled known e
 unfolding step
-spelled_next known d e f g s h = let p = passes (allowed d.place f) (stepped known d f) e h in spelled_stepped known d e f g s p.0 p.1
+spelled_next known d e f g s h = let p = passes (allowed d.section f) (stepped known d f) e h in spelled_stepped known d e f g s p.0 p.1
 
 -- ---- the first line
 
@@ -549,7 +549,7 @@ at_last Done shown a s = s
 at_last p shown a s = absurd cc
 
 pub all_named : (known : List TitledStatement) (d : TheoremParser) → Spelled known d → is_done d ≡ true → Named known (entry_of_parser d)
-all_named known d g a = record { few = g.few; title = g.title; naming = g.naming; some = at_last d.place d.shown a g.some; said = plain_script known d.steps d.close g.blocks.inside g.blocks.shut }
+all_named known d g a = record { few = g.few; title = g.title; naming = g.naming; some = at_last d.section d.shown a g.some; said = plain_script known d.steps d.close g.blocks.inside g.blocks.shut }
 
 reading_names : (known : List TitledStatement) (last : ℕ) (parser : Option TheoremParser) (lines rest : List (Result LineView LineFault)) (t : TheoremView) → SpelledSoFar known parser → read_from known last parser lines ≡ answered (pair t rest) → Named known t
 reading_names known last None [] rest t g e = absurd cc

@@ -49,7 +49,7 @@ silent_tests known r n f ns s d k m silent a =
 
 -- ---- a block inside another is closed
 
-resumed_alike : (known : List TitledStatement) (d : TheoremParser) (k : ℕ) (o : OpenBlock) (os : List OpenBlock) (shown : List Lit) (s : PlainStep) (f : RawLine) → Silent f → d.place ≡ places.Proving → FewNamed d.names
+resumed_alike : (known : List TitledStatement) (d : TheoremParser) (k : ℕ) (o : OpenBlock) (os : List OpenBlock) (shown : List Lit) (s : PlainStep) (f : RawLine) → Silent f → d.section ≡ places.Proving → FewNamed d.names
     → Counted o.in_scope o.facts o.terms (context_in known (head_of d) os o.steps) → FewNamed o.in_scope → BlocksTied known (head_of d) os → length os + 1 ≤ most_depth
     → k ≡ count_lines (o.steps ++ s ∷ []) + lines_around (around_of os) → names_after_plain_step known o.in_scope s ≡ o.in_scope → given_by known (scope_of_names o.in_scope) s ≡ shown
     → Alike known (within k most_steps limits.Steps >>= λ few. resumed (record d { lines = k }) o os shown s) (then_limits known f (Proving (head_of d) (around_of os) (o.steps ++ s ∷ [])))
@@ -102,7 +102,7 @@ first_alike known d k o os lit inner f silent names counted few room sums blocks
     let at_block = context_in known h os o.steps in
     let facts = o.facts + 1 in
     let terms = o.terms + monomials lit.atom in
-    let e : TheoremParser = record d { lines = k; steps = []; in_scope = o.in_scope; facts = facts; terms = terms; blocks = o2 ∷ os; place = places.Splitting } in
+    let e : TheoremParser = record d { lines = k; steps = []; in_scope = o.in_scope; facts = facts; terms = terms; blocks = o2 ∷ os; section = places.Splitting } in
     let one : count_monomials (negation lit ∷ []) ≡ monomials lit.atom + 0 = count_first (negation lit) [] in
     let c : Counted o.in_scope facts terms (context_in known h (o2 ∷ os) []) =
     counted_with at_block o.in_scope o.in_scope at_block.names (negation lit ∷ []) o.facts facts o.terms terms counted counted.names refl (omega (arith, one)) in
@@ -128,7 +128,7 @@ first_alike known d k o os lit inner f silent names counted few room sums blocks
     tied_there known e n places.Splitting refl names (refl, block) refl)))))))
 
 -- a block inside another, where closing the block around it is alike
-inside_alike : (known : List TitledStatement) (d : TheoremParser) (k : ℕ) (o : OpenBlock) (os : List OpenBlock) (inner : Script) (again : CloseLine → Result TheoremParser FaultKind) (after : Script → Open) (f : RawLine) (op : BlockKind) → Silent f → d.place ≡ places.Proving → FewNamed d.names
+inside_alike : (known : List TitledStatement) (d : TheoremParser) (k : ℕ) (o : OpenBlock) (os : List OpenBlock) (inner : Script) (again : CloseLine → Result TheoremParser FaultKind) (after : Script → Open) (f : RawLine) (op : BlockKind) → Silent f → d.section ≡ places.Proving → FewNamed d.names
     → Counted o.in_scope o.facts o.terms (context_in known (head_of d) os o.steps) → FewNamed o.in_scope → o.facts + begun_with op ≤ most_facts → o.terms + begun_terms op ≤ most_terms
     → BlocksTied known (head_of d) os → length os + 2 ≤ most_depth → k ≡ size inner + (count_lines o.steps + (1 + lines_first (opener_of op)) + lines_around (around_of os))
     → ((c : CloseLine) → k ≡ size (all_before o.steps (script_of_close c)) + lines_around (around_of os) → Alike known (within k most_steps limits.Steps >>= λ few. again c) (then_limits known f (after (script_of_close c))))
@@ -146,14 +146,14 @@ inside_alike known d k o os inner again after f (kind.Second lit first) silent a
 
 -- ---- the open block is closed
 
-closed_alike : (known : List TitledStatement) (d : TheoremParser) (k : ℕ) (os : List OpenBlock) (ss : List PlainStep) (close : CloseLine) (f : RawLine) → Silent f → d.place ≡ places.Proving → FewNamed d.names → BlocksTied known (head_of d) os
+closed_alike : (known : List TitledStatement) (d : TheoremParser) (k : ℕ) (os : List OpenBlock) (ss : List PlainStep) (close : CloseLine) (f : RawLine) → Silent f → d.section ≡ places.Proving → FewNamed d.names → BlocksTied known (head_of d) os
     → k ≡ size (all_before ss (script_of_close close)) + lines_around (around_of os) → length os + 1 ≤ most_depth
     → Alike known (within k most_steps limits.Steps >>= λ few. closed (record d { lines = k }) os ss close) (then_limits known f (after_close (head_of d) (around_of os) ss (script_of_close close)))
 unfolding closed after_close
 closed_alike known d k [] ss close f silent at names blocks lines deep =
     let script = all_before ss (script_of_close close) in
     let n = Proved (head_of d) script in
-    let e : TheoremParser = record d { lines = k; steps = ss; blocks = []; close = close; place = places.Closed } in
+    let e : TheoremParser = record d { lines = k; steps = ss; blocks = []; close = close; section = places.Closed } in
     let count : k ≡ size script = omega (arith, lines) in
     by_counts known (within k most_steps limits.Steps >>= λ few. read_ok e) n f (record { names = d.names; facts = [] }) d.names k 0 (size script) 0 0 0 (record { names = refl; facts = refl; terms = refl }) count refl
     (silent_tests known (within k most_steps limits.Steps >>= λ few. read_ok e) n f d.names k 0 0 0 silent
@@ -168,7 +168,7 @@ closed_alike known d k (o ∷ os) ss close f silent at names blocks lines deep =
     blocks.0.counted blocks.0.few.in_scope blocks.0.few.facts blocks.0.few.terms blocks.1 (omega (arith, deep)) (omega (arith, lines))
     (λ c count. closed_alike known d k os o.steps c f silent at names blocks.1 count (omega (arith, deep)))
 
-shut_alike : (known : List TitledStatement) (d : TheoremParser) (close : CloseLine) (f : RawLine) → Silent f → BlockOf known d → d.place ≡ places.Proving → FewNamed d.names → size (script_of_close close) ≡ 1
+shut_alike : (known : List TitledStatement) (d : TheoremParser) (close : CloseLine) (f : RawLine) → Silent f → BlockOf known d → d.section ≡ places.Proving → FewNamed d.names → size (script_of_close close) ≡ 1
     → Alike known (shut d close) (then_limits known f (after_close (head_of d) (around_of d.blocks) d.steps (script_of_close close)))
 unfolding shut
 shut_alike known d close f silent t at names one =
@@ -177,7 +177,7 @@ shut_alike known d close f silent t at names one =
 abbrev read_open : Open → Result Open FaultKind
 read_open n = Ok n
 
-pub qed_alike : (known : List TitledStatement) (d : TheoremParser) (names : List (List ℕ)) → BlockOf known d → d.place ≡ places.Proving → FewNamed d.names
+pub qed_alike : (known : List TitledStatement) (d : TheoremParser) (names : List (List ℕ)) → BlockOf known d → d.section ≡ places.Proving → FewNamed d.names
     → Alike known (concluded d names) (goes_on known d.in_scope (head_of d) (around_of d.blocks) d.steps (rawlines.Qed names) >>= then_limits known (rawlines.Qed names))
 qed_alike known d names t at few =
     let f = rawlines.Qed names in
@@ -186,7 +186,7 @@ qed_alike known d names t at few =
     (both known (qed_in d.in_scope (made_in d.blocks d.made) names) (λ objects. shut d (closes.Qed objects)) then (then_limits known f)
     (λ objects e. shut_alike known d (closes.Qed objects) f (record { literals = refl; blanks = refl }) t at few (one_line objects)))
 
-pub contradiction_alike : (known : List TitledStatement) (d : TheoremParser) → BlockOf known d → d.place ≡ places.Proving → FewNamed d.names
+pub contradiction_alike : (known : List TitledStatement) (d : TheoremParser) → BlockOf known d → d.section ≡ places.Proving → FewNamed d.names
     → Alike known (shut d closes.Contradiction) (goes_on known d.in_scope (head_of d) (around_of d.blocks) d.steps rawlines.Contradiction >>= then_limits known rawlines.Contradiction)
 unfolding size
 contradiction_alike known d t at few = shut_alike known d closes.Contradiction rawlines.Contradiction (record { literals = refl; blanks = refl }) t at few refl
@@ -194,19 +194,19 @@ contradiction_alike known d t at few = shut_alike known d closes.Contradiction r
 -- ---- after a first block, and after the proof
 
 pub else_alike : (known : List TitledStatement) (d : TheoremParser) → d.steps ≡ [] → BlockOf known d → FewNamed d.names
-    → Alike known (read_ok (record d { place = places.Proving })) (then_limits known rawlines.Else (Proving (head_of d) (around_of d.blocks) []))
+    → Alike known (read_ok (record d { section = places.Proving })) (then_limits known rawlines.Else (Proving (head_of d) (around_of d.blocks) []))
 else_alike known d none t names =
     let n = Proving (head_of d) (around_of d.blocks) [] in
-    let e : TheoremParser = record d { place = places.Proving } in
+    let e : TheoremParser = record d { section = places.Proving } in
     let b : BlockTied known (head_of d) d.blocks [] d.in_scope d.lines d.facts d.terms = subst (λ (ss : List PlainStep). BlockTied known (head_of d) d.blocks ss d.in_scope d.lines d.facts d.terms) none t in
     block_limits known (read_ok e) (head_of d) d.blocks [] rawlines.Else d.in_scope d.lines (length d.blocks + 1) d.facts d.terms b.counted b.lines refl
     (pass_all known (read_ok e) n d.in_scope d.lines (length d.blocks + 1) d.facts d.terms t.few t.short t.shallow t.few_facts t.few_terms
     (tied_there known e n places.Proving refl names t (ap (λ (ss : List PlainStep). Proving (head_of d) (around_of d.blocks) ss) none)))
 
 pub end_alike : (known : List TitledStatement) (d : TheoremParser) → FewNamed d.names → size (all_before d.steps (script_of_close d.close)) ≤ most_steps
-    → Alike known (read_ok (record d { place = places.Done })) (then_limits known rawlines.End (Ended (entry_of_parser d)))
+    → Alike known (read_ok (record d { section = places.Done })) (then_limits known rawlines.End (Ended (entry_of_parser d)))
 end_alike known d names short =
-    let e : TheoremParser = record d { place = places.Done } in
+    let e : TheoremParser = record d { section = places.Done } in
     let script = all_before d.steps (script_of_close d.close) in
     pass_all known (read_ok e) (Ended (entry_of_parser d)) d.names (size script) 0 0 0 names short (omega arith) (omega arith) (omega arith)
     (tied_there known e (Ended (entry_of_parser d)) places.Done refl names short refl)

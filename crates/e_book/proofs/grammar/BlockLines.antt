@@ -91,7 +91,7 @@ terms_alike known y raws n h =
     (λ w. pass_le known (then sum) n 0 most_blanks limits.Blanks [] (omega arith) (h w)))
 
 -- the parser with one more step is what the lines have said
-step_ends : (known : List TitledStatement) (d : TheoremParser) (s : PlainStep) (ns : Names) (facts terms : ℕ) → BlockOf known d → d.place ≡ places.Proving → FewNamed d.names → lines_of_step s ≡ 1
+step_ends : (known : List TitledStatement) (d : TheoremParser) (s : PlainStep) (ns : Names) (facts terms : ℕ) → BlockOf known d → d.section ≡ places.Proving → FewNamed d.names → lines_of_step s ≡ 1
     → Counted ns facts terms (context_in known (head_of d) d.blocks (d.steps ++ s ∷ [])) → FewNamed ns → d.lines + 1 ≤ most_steps → facts ≤ most_facts → terms ≤ most_terms
     → Alike known (read_ok (record d { in_scope = ns; lines = d.lines + 1; steps = d.steps ++ s ∷ []; facts = facts; terms = terms })) (read_ok (Proving (head_of d) (around_of d.blocks) (d.steps ++ s ∷ [])))
 step_ends known d s ns facts terms t at names one c few short k m =
@@ -114,7 +114,7 @@ short_diagram neg (rawatoms.SumsLess x y) h = absurd cc
 short_diagram neg (rawatoms.SumsAtMost x y) h = absurd cc
 short_diagram neg a h = (refl, refl)
 
-pub by_alike : (known : List TitledStatement) (d : TheoremParser) (rule : List ℕ) (names : List (List ℕ)) (l : RawLit) → BlockOf known d → d.place ≡ places.Proving → FewNamed d.names → is_diagram_raw l.atom ≡ true
+pub by_alike : (known : List TitledStatement) (d : TheoremParser) (rule : List ℕ) (names : List (List ℕ)) (l : RawLit) → BlockOf known d → d.section ≡ places.Proving → FewNamed d.names → is_diagram_raw l.atom ≡ true
     → Alike known (cited d rule names l) (goes_on known d.in_scope (head_of d) (around_of d.blocks) d.steps (rawlines.By rule names l) >>= then_limits known (rawlines.By rule names l))
 by_alike known d rule names l t at few plain =
     let f = rawlines.By rule names l in
@@ -134,7 +134,7 @@ by_alike known d rule names l t at few plain =
 
 -- ---- literals that are to be allowed
 
-pub hence_alike : (known : List TitledStatement) (d : TheoremParser) (r : RawLit) → BlockOf known d → d.place ≡ places.Proving → FewNamed d.names
+pub hence_alike : (known : List TitledStatement) (d : TheoremParser) (r : RawLit) → BlockOf known d → d.section ≡ places.Proving → FewNamed d.names
     → Alike known (inferred d r) (goes_on known d.in_scope (head_of d) (around_of d.blocks) d.steps (rawlines.Hence r) >>= then_limits known (rawlines.Hence r))
 hence_alike known d r t at few =
     let f = rawlines.Hence r in
@@ -153,7 +153,7 @@ hence_alike known d r t at few =
 
 -- ---- constructions
 
-made_alike : (known : List TitledStatement) (d : TheoremParser) (raw : RawLet) (form : Construction) → BlockOf known d → d.place ≡ places.Proving → FewNamed d.names → let_in d.in_scope raw ≡ Ok form
+made_alike : (known : List TitledStatement) (d : TheoremParser) (raw : RawLet) (form : Construction) → BlockOf known d → d.section ≡ places.Proving → FewNamed d.names → let_in d.in_scope raw ≡ Ok form
     → Alike known (few_objects (named d.in_scope (sorts_made form) raw.new) >>= λ few. with_step (record d { in_scope = named d.in_scope (sorts_made form) raw.new }) (Made form raw.new []) (length (gives_of_construction form (scope_of_names d.in_scope))))
     (then_limits known (rawlines.Let raw) (Proving (head_of d) (around_of d.blocks) (d.steps ++ Made form raw.new [] ∷ [])))
 made_alike known d raw form t at few e =
@@ -172,7 +172,7 @@ made_alike known d raw form t at few e =
     (λ a k. pass_rest known (read_ok (with_put x s (length given))) n [] d.terms 0 refl refl t.few_terms (omega arith)
     (step_ends known d s after (d.facts + length given) d.terms t at few refl c objects a k t.few_terms))))
 
-pub let_alike : (known : List TitledStatement) (d : TheoremParser) (raw : RawLet) → BlockOf known d → d.place ≡ places.Proving → FewNamed d.names
+pub let_alike : (known : List TitledStatement) (d : TheoremParser) (raw : RawLet) → BlockOf known d → d.section ≡ places.Proving → FewNamed d.names
     → Alike known (built d raw) (goes_on known d.in_scope (head_of d) (around_of d.blocks) d.steps (rawlines.Let raw) >>= then_limits known (rawlines.Let raw))
 unfolding built
 let_alike known d raw t at few =
@@ -230,7 +230,7 @@ blanks_applied known ns raw a e =
     let is : args.0 ≡ a.1 = ap (λ (p : ℕ × List (Option Obj)). p.1) (ok_is (made_of k.0 args.0) a free.2) in
     subst (λ (os : List (Option Obj)). count_blanks os ≡ blanks_on (rawlines.Apply raw)) is (blanks_read ns t.declared raw.args args.0 count args.1)
 
-use_alike : (known : List TitledStatement) (d : TheoremParser) (raw : RawApply) (theorem : ℕ) (args : List (Option Obj)) → BlockOf known d → d.place ≡ places.Proving → FewNamed d.names → count_blanks args ≡ blanks_on (rawlines.Apply raw)
+use_alike : (known : List TitledStatement) (d : TheoremParser) (raw : RawApply) (theorem : ℕ) (args : List (Option Obj)) → BlockOf known d → d.section ≡ places.Proving → FewNamed d.names → count_blanks args ≡ blanks_on (rawlines.Apply raw)
     → Alike known (used_by d (theorem_of known theorem) theorem args raw.new) (then_limits known (rawlines.Apply raw) (Proving (head_of d) (around_of d.blocks) (d.steps ++ Applied theorem args raw.new [] ∷ [])))
 unfolding used_by
 use_alike known d raw theorem args t at few blanks =
@@ -255,7 +255,7 @@ use_alike known d raw theorem args t at few blanks =
     (λ z. test known (read_ok (record y { terms = m })) n (count_blanks args) most_blanks limits.Blanks []
     (λ u. step_ends known d s after k m t at few refl c objects a w z)))))))
 
-pub apply_alike : (known : List TitledStatement) (d : TheoremParser) (raw : RawApply) → BlockOf known d → d.place ≡ places.Proving → FewNamed d.names
+pub apply_alike : (known : List TitledStatement) (d : TheoremParser) (raw : RawApply) → BlockOf known d → d.section ≡ places.Proving → FewNamed d.names
     → Alike known (applied known d raw) (goes_on known d.in_scope (head_of d) (around_of d.blocks) d.steps (rawlines.Apply raw) >>= then_limits known (rawlines.Apply raw))
 unfolding applied
 apply_alike known d raw t at few =
@@ -285,7 +285,7 @@ inner_limits known d r op f ns facts terms t none c a =
     block_limits known r (head_of d) (outer_of d op ∷ d.blocks) [] f ns (d.lines + 1) (length d.blocks + 2) facts terms c (omega (arith, t.lines, none)) (omega arith) a
 
 -- the parser with an inner block is what the lines have said
-inner_ends : (known : List TitledStatement) (d : TheoremParser) (op : BlockKind) (ns : Names) (facts terms : ℕ) → BlockOf known d → d.place ≡ places.Proving → FewNamed d.names → lines_first (opener_of op) ≡ 0
+inner_ends : (known : List TitledStatement) (d : TheoremParser) (op : BlockKind) (ns : Names) (facts terms : ℕ) → BlockOf known d → d.section ≡ places.Proving → FewNamed d.names → lines_first (opener_of op) ≡ 0
     → d.facts + begun_with op ≤ most_facts → d.terms + begun_terms op ≤ most_terms
     → Counted ns facts terms (context_in known (head_of d) (outer_of d op ∷ d.blocks) []) → FewNamed ns → d.lines + 1 ≤ most_steps → length d.blocks + 2 ≤ most_depth → facts ≤ most_facts → terms ≤ most_terms
     → Alike known (read_ok (record d { lines = d.lines + 1; blocks = outer_of d op ∷ d.blocks; steps = []; in_scope = ns; facts = facts; terms = terms })) (read_ok (Proving (head_of d) (around_of (outer_of d op ∷ d.blocks)) []))
@@ -304,7 +304,7 @@ inner_ends known d op ns facts terms t at names none room sums c few short deep 
     } in
     tied_there known e (Proving (head_of d) (around_of (outer_of d op ∷ d.blocks)) []) places.Proving at names block refl
 
-pub claim_alike : (known : List TitledStatement) (d : TheoremParser) (raws : List RawLit) → BlockOf known d → d.place ≡ places.Proving → FewNamed d.names
+pub claim_alike : (known : List TitledStatement) (d : TheoremParser) (raws : List RawLit) → BlockOf known d → d.section ≡ places.Proving → FewNamed d.names
     → Alike known (claimed d raws) (goes_on known d.in_scope (head_of d) (around_of d.blocks) d.steps (rawlines.Claim raws) >>= then_limits known (rawlines.Claim raws))
 unfolding claimed
 claim_alike known d raws t at few =
@@ -323,7 +323,7 @@ claim_alike known d raws t at few =
     (pass_terms known (read_ok (interrupted d op 0)) n d.terms 0 t.few_terms (omega arith)
     (inner_ends known d op d.in_scope (d.facts + 0) d.terms t at few refl (omega (arith, t.few_facts)) (omega (arith, t.few_terms)) c t.few a k w t.few_terms))))))
 
-copies_alike : (known : List TitledStatement) (d : TheoremParser) (raw : RawSuperpose) (form : Superpose) (shown : List Lit) → BlockOf known d → d.place ≡ places.Proving → FewNamed d.names
+copies_alike : (known : List TitledStatement) (d : TheoremParser) (raw : RawSuperpose) (form : Superpose) (shown : List Lit) → BlockOf known d → d.section ≡ places.Proving → FewNamed d.names
     → Alike known
     (few_objects (named d.in_scope superposing.sorts_copied raw.new) >>= λ objects. deeper d (kind.Superpose form raw.new shown) (length (superposing.gives_of_superposition form (scope_of_names d.in_scope))) >>= λ e. few_monos raw.shown >>= λ few.
     terms_after e.terms (superposing.gives_of_superposition form (scope_of_names d.in_scope)) >>= λ n. read_ok (record e { in_scope = named d.in_scope superposing.sorts_copied raw.new; terms = n }))
@@ -352,7 +352,7 @@ copies_alike known d raw form shown t at few =
     (λ z. pass_le known (last y m) n 0 most_blanks limits.Blanks [] (omega arith)
     (inner_ends known d op after k m t at few refl (omega (arith, t.few_facts)) (omega (arith, t.few_terms)) c objects a deep w z))))))
 
-pub superpose_alike : (known : List TitledStatement) (d : TheoremParser) (raw : RawSuperpose) → BlockOf known d → d.place ≡ places.Proving → FewNamed d.names
+pub superpose_alike : (known : List TitledStatement) (d : TheoremParser) (raw : RawSuperpose) → BlockOf known d → d.section ≡ places.Proving → FewNamed d.names
     → Alike known (superposed d raw) (goes_on known d.in_scope (head_of d) (around_of d.blocks) d.steps (rawlines.Superpose raw) >>= then_limits known (rawlines.Superpose raw))
 unfolding superposed
 superpose_alike known d raw t at few =
@@ -362,7 +362,7 @@ superpose_alike known d raw t at few =
     (λ p. inner_block (head_of d) (around_of d.blocks) d.steps (BySuperposition p.0 raw.new p.1)) (then_limits known (rawlines.Superpose raw))
     (λ p e. copies_alike known d raw p.0 p.1 t at few)
 
-pub cases_alike : (known : List TitledStatement) (d : TheoremParser) (r : RawLit) → BlockOf known d → d.place ≡ places.Proving → FewNamed d.names
+pub cases_alike : (known : List TitledStatement) (d : TheoremParser) (r : RawLit) → BlockOf known d → d.section ≡ places.Proving → FewNamed d.names
     → Alike known (split d r) (goes_on known d.in_scope (head_of d) (around_of d.blocks) d.steps (rawlines.Cases r) >>= then_limits known (rawlines.Cases r))
 unfolding split
 cases_alike known d r t at few =

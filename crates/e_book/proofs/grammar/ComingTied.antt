@@ -58,7 +58,7 @@ definition_there d n places.Done = Defined (notion_of_parser d)
 definition_there d n p = InDefinition (head_of d) n
 
 abbrev pub said_by : Bool → TheoremParser → ℕ → Coming
-said_by true d n = definition_there d n d.place
+said_by true d n = definition_there d n d.section
 said_by false d n = InTheorem (open_of d) n
 
 abbrev pub said_of : Held → Coming
@@ -70,7 +70,7 @@ DefinitionTied places.Done d = Unit {0}
 DefinitionTied p d = IsStating p × Stands p d × UnprovedOf d
 
 abbrev pub TiedBy : List TitledStatement → Bool → TheoremParser → Type 0
-TiedBy known true d = FewNamed d.names × DefinitionTied d.place d
+TiedBy known true d = FewNamed d.names × DefinitionTied d.section d
 TiedBy known false d = Tied known d
 
 abbrev pub TiedComing : Known → Held → Type 0
@@ -172,11 +172,11 @@ in_definition known c h f n r t e m a = by r (line_after known.theorems (Some (S
       → AlikeComing known (r >>= λ d. Ok (with_parser c d)) (q >>= λ o. still_defined n o)
   by (Ok d) (Ok o) s a =
       let g = s o refl in
-      let st = stating_parser d d.place g.0 (a.0 ∙ g.1) in
-      let still : still_defined n o ≡ Ok (InDefinition (head_of d) n) = ap (still_defined n) (sym a.0 ∙ head_there d d.place st) in
+      let st = stating_parser d d.section g.0 (a.0 ∙ g.1) in
+      let still : still_defined n o ≡ Ok (InDefinition (head_of d) n) = ap (still_defined n) (sym a.0 ∙ head_there d d.section st) in
       subst (λ (x : Result Coming FaultKind). AlikeComing known (Ok (with_parser c d)) x) (sym still) (
-        ap (λ (b : Bool). said_by b d c.expanded) t ∙ definition_at d c.expanded d.place st ∙ ap (λ (k : ℕ). InDefinition (head_of d) k) e,
-        subst (λ (b : Bool). TiedBy known.theorems b d) (sym t) (a.1.names, tied_body known.theorems d d.place st a.1.body),
+        ap (λ (b : Bool). said_by b d c.expanded) t ∙ definition_at d c.expanded d.section st ∙ ap (λ (k : ℕ). InDefinition (head_of d) k) e,
+        subst (λ (b : Bool). TiedBy known.theorems b d) (sym t) (a.1.names, tied_body known.theorems d d.section st a.1.body),
       )
   by (Err j) (Err k) s a = a
   by (Ok d) (Err k) s a = absurd a
@@ -188,13 +188,13 @@ by_place true r = refl
 by_place false r = refl
 
 -- the last line of a definition
-ends_alike : (known : Known) (c : Held) (d : TheoremParser) (p : Section) → d.place ≡ p → c.defines ≡ true → FewNamed d.names → DefinitionTied p d → IsStating p
-    → AlikeComing known ((right_count (is_showing p) >>= λ right. Ok (record d { place = places.Done })) >>= λ x. Ok (with_parser c x)) (ends_definition (head_of d) rawlines.End)
+ends_alike : (known : Known) (c : Held) (d : TheoremParser) (p : Section) → d.section ≡ p → c.defines ≡ true → FewNamed d.names → DefinitionTied p d → IsStating p
+    → AlikeComing known ((right_count (is_showing p) >>= λ right. Ok (record d { section = places.Done })) >>= λ x. Ok (with_parser c x)) (ends_definition (head_of d) rawlines.End)
 ends_alike known c d places.Declaring at t few body s = let none : is_empty d.shown ≡ true = body.1.2 in rw none refl
 ends_alike known c d places.Giving at t few body s = let none : is_empty d.shown ≡ true = body.1.2 in rw none refl
 ends_alike known c d places.Making at t few body s = let none : is_empty d.shown ≡ true = body.1.1 in rw none refl
 ends_alike known c d places.Showing at t few body s =
-    let e : TheoremParser = record d { place = places.Done } in
+    let e : TheoremParser = record d { section = places.Done } in
     let some : is_empty d.shown ≡ false = body.1 in
     rw some (ap (λ (b : Bool). said_by b e c.expanded) t, subst (λ (b : Bool). TiedBy known.theorems b e) (sym t) (few, tt))
 ends_alike known c d p at t few body s = absurd s
@@ -203,45 +203,45 @@ ends_alike known c d p at t few body s = absurd s
 
 pub stating_declares : (known : List TitledStatement) (d : TheoremParser) (sort : Sort) (new : List (List ℕ)) → defines_on d (rawlines.Declare sort new) ≡ step known d (rawlines.Declare sort new)
 unfolding defines_on step stepped
-stating_declares known d sort new = by_place (allowed d.place (rawlines.Declare sort new)) (declares d sort new)
+stating_declares known d sort new = by_place (allowed d.section (rawlines.Declare sort new)) (declares d sort new)
 
 pub stating_shows : (known : List TitledStatement) (d : TheoremParser) (raws : List RawLit) → defines_on d (rawlines.Show raws) ≡ step known d (rawlines.Show raws)
 unfolding defines_on step stepped
-stating_shows known d raws = by_place (allowed d.place (rawlines.Show raws)) (shows d raws)
+stating_shows known d raws = by_place (allowed d.section (rawlines.Show raws)) (shows d raws)
 
 -- more is said in a definition
-more_said : (known : Known) (c : Held) (f : RawLine) → IsStating c.parser.place → c.defines ≡ true → says_more f ≡ true → FewNamed c.parser.names → DefinitionTied c.parser.place c.parser → HasItems f → defines_on c.parser f ≡ step known.theorems c.parser f
+more_said : (known : Known) (c : Held) (f : RawLine) → IsStating c.parser.section → c.defines ≡ true → says_more f ≡ true → FewNamed c.parser.names → DefinitionTied c.parser.section c.parser → HasItems f → defines_on c.parser f ≡ step known.theorems c.parser f
     → AlikeComing known (defines_on c.parser f >>= λ x. Ok (with_parser c x)) (line_after known.theorems (Some (Stating (head_of c.parser))) f >>= λ o. still_defined c.expanded o)
 more_said known c f st t m few body some is =
     let d = c.parser in
-    let tied : Tied known.theorems d = record { names = few; body = body_tied known.theorems d d.place st body } in
-    let alike = subst (λ (o : Open). Alike known.theorems (step known.theorems d f) (line_after known.theorems (Some o) f)) (head_there d d.place st) (step_alike known.theorems d f tied some) in
+    let tied : Tied known.theorems d = record { names = few; body = body_tied known.theorems d d.section st body } in
+    let alike = subst (λ (o : Open). Alike known.theorems (step known.theorems d f) (line_after known.theorems (Some o) f)) (head_there d d.section st) (step_alike known.theorems d f tied some) in
     subst (λ (r : Result TheoremParser FaultKind). AlikeComing known (r >>= λ x. Ok (with_parser c x)) (line_after known.theorems (Some (Stating (head_of d))) f >>= λ o. still_defined c.expanded o)) (sym is)
     (in_definition known c (head_of d) f c.expanded (step known.theorems d f) t refl m alike)
 
-plain_stating : (known : Known) (c : Held) (f : RawLine) → IsStating c.parser.place → c.defines ≡ true → FewNamed c.parser.names → DefinitionTied c.parser.place c.parser → HasItems f
+plain_stating : (known : Known) (c : Held) (f : RawLine) → IsStating c.parser.section → c.defines ≡ true → FewNamed c.parser.names → DefinitionTied c.parser.section c.parser → HasItems f
     → AlikeComing known (defines_on c.parser f >>= λ x. Ok (with_parser c x)) (plain_line known (InDefinition (head_of c.parser) c.expanded) f)
 unfolding defines_on
 plain_stating known c (rawlines.Declare sort new) st t few body some = more_said known c (rawlines.Declare sort new) st t refl few body some (stating_declares known.theorems c.parser sort new)
 plain_stating known c (rawlines.Show raws) st t few body some = more_said known c (rawlines.Show raws) st t refl few body some (stating_shows known.theorems c.parser raws)
-plain_stating known c rawlines.End st t few body some = ends_alike known c c.parser c.parser.place refl t few body st
+plain_stating known c rawlines.End st t few body some = ends_alike known c c.parser c.parser.section refl t few body st
 plain_stating known c f st t few body some = refl
 
 -- after its last line nothing may come
-plain_done : (known : Known) (c : Held) (d : TheoremParser) (f : RawLine) → d.place ≡ places.Done → AlikeComing known (defines_on d f >>= λ x. Ok (with_parser c x)) (plain_line known (Defined (notion_of_parser d)) f)
+plain_done : (known : Known) (c : Held) (d : TheoremParser) (f : RawLine) → d.section ≡ places.Done → AlikeComing known (defines_on d f >>= λ x. Ok (with_parser c x)) (plain_line known (Defined (notion_of_parser d)) f)
 unfolding defines_on
 plain_done known c d (rawlines.Declare sort new) at = rw at refl
 plain_done known c d (rawlines.Show raws) at = rw at refl
 plain_done known c d rawlines.End at = rw at refl
 plain_done known c d f at = refl
 
-at_stating : (known : Known) (c : Held) (p : Section) (f : RawLine) → c.parser.place ≡ p → IsStating p → c.defines ≡ true → FewNamed c.parser.names → DefinitionTied p c.parser → HasItems f
+at_stating : (known : Known) (c : Held) (p : Section) (f : RawLine) → c.parser.section ≡ p → IsStating p → c.defines ≡ true → FewNamed c.parser.names → DefinitionTied p c.parser → HasItems f
     → AlikeComing known (defines_on c.parser f >>= λ x. Ok (with_parser c x)) (plain_line known (definition_there c.parser c.expanded p) f)
 at_stating known c p f at st t few body some =
     subst (λ (x : Coming). AlikeComing known (defines_on c.parser f >>= λ x. Ok (with_parser c x)) (plain_line known x f)) (sym (definition_at c.parser c.expanded p st))
     (plain_stating known c f (subst IsStating (sym at) st) t few (subst (λ (q : Section). DefinitionTied q c.parser) (sym at) body) some)
 
-plain_at : (known : Known) (c : Held) (p : Section) (f : RawLine) → c.parser.place ≡ p → c.defines ≡ true → FewNamed c.parser.names → DefinitionTied p c.parser → HasItems f
+plain_at : (known : Known) (c : Held) (p : Section) (f : RawLine) → c.parser.section ≡ p → c.defines ≡ true → FewNamed c.parser.names → DefinitionTied p c.parser → HasItems f
     → AlikeComing known (defines_on c.parser f >>= λ x. Ok (with_parser c x)) (plain_line known (definition_there c.parser c.expanded p) f)
 plain_at known c places.Done f at t few body some = plain_done known c c.parser f at
 plain_at known c places.Declaring f at t few body some = at_stating known c places.Declaring f at tt t few body some
@@ -254,7 +254,7 @@ plain_at known c places.Closed f at t few body some = absurd body.0
 
 plain_by : (b : Bool) (known : Known) (c : Held) (f : RawLine) → c.defines ≡ b → TiedBy known.theorems b c.parser → HasItems f
     → AlikeComing known (cond b (defines_on c.parser f >>= λ d. Ok (with_parser c d)) (step known.theorems c.parser f >>= λ d. Ok (with_parser c d))) (plain_line known (said_by b c.parser c.expanded) f)
-plain_by true known c f t tied some = plain_at known c c.parser.place f refl t tied.0 tied.1 some
+plain_by true known c f t tied some = plain_at known c c.parser.section f refl t tied.0 tied.1 some
 plain_by false known c f t tied some = in_theorem known c c.expanded (step known.theorems c.parser f) (line_after known.theorems (Some (open_of c.parser)) f) t refl (step_alike known.theorems c.parser f tied some)
 
 plain_alike : (known : Known) (c : Held) (f : RawLine) → TiedComing known c → HasItems f → AlikeComing known (goes_on known c f) (plain_line known (said_of c) f)
@@ -383,14 +383,14 @@ after_place true r q x y s e = same_then r q x y s (e refl)
 after_place false r (Ok a) x y s e = absurd s
 after_place false r (Err k) x y s e = ap (λ (z : FaultKind). fault z) s
 
-written_at : (known : Known) (p : Section) (d : TheoremParser) (line : Listing) (is : List RawItem) → d.place ≡ p → Body known.theorems p d → line_written_out known.notions d line is ≡ written_out known (open_there d p) line is
+written_at : (known : Known) (p : Section) (d : TheoremParser) (line : Listing) (is : List RawItem) → d.section ≡ p → Body known.theorems p d → line_written_out known.notions d line is ≡ written_out known (open_there d p) line is
 written_at known p d line is at b =
     subst (λ (q : Section). ((right_count (allowed q (listing_form line [])) >>= λ right. head_names d.in_scope line) >>= λ ready. put_out known line is (names_at_place q d.names d.in_scope)) ≡ written_out known (open_there d p) line is) (sym at)
     (after_place (allowed p (listing_form line [])) (head_names d.in_scope line) (next known.theorems (open_there d p) (listing_form line [])) (put_out known line is (names_at_place p d.names d.in_scope))
     (put_out known line is (context_at known.theorems (open_there d p)).names) (ready_at known.theorems p d line b) (λ may. ap (put_out known line is) (names_at known.theorems p d line b may)))
 
 written_alike : (known : Known) (d : TheoremParser) (line : Listing) (is : List RawItem) → Tied known.theorems d → line_written_out known.notions d line is ≡ written_out known (open_of d) line is
-written_alike known d line is t = written_at known d.place d line is refl t.body
+written_alike known d line is t = written_at known d.section d line is refl t.body
 
 -- ---- what is written out
 
@@ -439,7 +439,7 @@ out_shows known o line is w s e =
 
 -- it is a theorem, or its last line has not come
 abbrev GoesOn : Held → Type 0
-GoesOn c = (c.defines ≡ false) ⊎ IsStating c.parser.place
+GoesOn c = (c.defines ≡ false) ⊎ IsStating c.parser.section
 
 abbrev add_count : ℕ → Held → Result Held FaultKind
 add_count k e = within (e.expanded + k) most_expanded limits.Expanded >>= λ few. Ok (record e { expanded = e.expanded + k })
@@ -454,10 +454,10 @@ counted_by known e k false t on tied =
     (ap (λ (b : Bool). said_by b e.parser (e.expanded + k)) t, subst (λ (b : Bool). TiedBy known.theorems b e.parser) (sym t) tied)
 counted_by known e k true t (inl h) tied = absurd (let no : true ≡ false = sym t ∙ h in cc)
 counted_by known e k true t (inr st) tied =
-    let is : said_by true e.parser e.expanded ≡ InDefinition (head_of e.parser) e.expanded = definition_at e.parser e.expanded e.parser.place st in
+    let is : said_by true e.parser e.expanded ≡ InDefinition (head_of e.parser) e.expanded = definition_at e.parser e.expanded e.parser.section st in
     subst (λ (n : Coming). AlikeComing known (add_count k e) (counted k n)) (sym is)
     (limit_by known (record e { expanded = e.expanded + k }) (InDefinition (head_of e.parser) (e.expanded + k)) (e.expanded + k)
-    (ap (λ (b : Bool). said_by b e.parser (e.expanded + k)) t ∙ definition_at e.parser (e.expanded + k) e.parser.place st, subst (λ (b : Bool). TiedBy known.theorems b e.parser) (sym t) tied))
+    (ap (λ (b : Bool). said_by b e.parser (e.expanded + k)) t ∙ definition_at e.parser (e.expanded + k) e.parser.section st, subst (λ (b : Bool). TiedBy known.theorems b e.parser) (sym t) tied))
 
 then_counted : (known : Known) (k : ℕ) (r : Result Held FaultKind) (q : Result Coming FaultKind) → ((e : Held) → r ≡ Ok e → GoesOn e) → AlikeComing known r q → AlikeComing known (r >>= λ e. add_count k e) (q >>= λ n. counted k n)
 then_counted known k (Ok e) (Ok n) on a = subst (λ (x : Coming). AlikeComing known (add_count k e) (counted k x)) a.0 (counted_by known e k e.defines refl (on e refl) a.1)
@@ -466,14 +466,14 @@ then_counted known k (Ok e) (Err j) on a = absurd a
 then_counted known k (Err i) (Ok n) on a = absurd a
 
 -- a shown line leaves a definition at its shown lines
-pub shown_there : (d e : TheoremParser) (raws : List RawLit) → defines_on d (rawlines.Show raws) ≡ Ok e → e.place ≡ places.Showing
+pub shown_there : (d e : TheoremParser) (raws : List RawLit) → defines_on d (rawlines.Show raws) ≡ Ok e → e.section ≡ places.Showing
 unfolding defines_on
 shown_there d e raws h =
-    let then : List Lit → TheoremParser = λ ls. record d { shown = ls; place = places.Showing } in
-    let r = bind_ok (right_count (allowed d.place (rawlines.Show raws))) (λ right. shows d raws) e h in
+    let then : List Lit → TheoremParser = λ ls. record d { shown = ls; section = places.Showing } in
+    let r = bind_ok (right_count (allowed d.section (rawlines.Show raws))) (λ right. shows d raws) e h in
     let ls = bind_ok (with_front d.shown (lits_in d.names raws)) (λ ls. few_monos raws >>= λ few. read_ok (then ls)) e r.2 in
     let f = bind_ok (few_monos raws) (λ few. read_ok (then ls.0)) e ls.2 in
-    ap (λ (x : TheoremParser). x.place) (sym (ok_is (then ls.0) e f.2))
+    ap (λ (x : TheoremParser). x.section) (sym (ok_is (then ls.0) e f.2))
 
 stays : (known : Known) (c e : Held) (b : Bool) (f : RawLine) → c.defines ≡ b → (b ≡ true → (raws : List RawLit) × (f ≡ rawlines.Show raws))
     → cond b (defines_on c.parser f >>= λ d. Ok (with_parser c d)) (step known.theorems c.parser f >>= λ d. Ok (with_parser c d)) ≡ Ok e → GoesOn e
@@ -483,8 +483,8 @@ stays known c e false f t show h =
 stays known c e true f t show h =
     let d = bind_ok (defines_on c.parser f) (λ d. read_ok (with_parser c d)) e h in
     let s = show refl in
-    let at : d.0.place ≡ places.Showing = shown_there c.parser d.0 s.0 (subst (λ (g : RawLine). defines_on c.parser g ≡ Ok d.0) s.1 d.1) in
-    inr (subst IsStating (sym (ap (λ (x : Held). x.parser.place) (sym (ok_is (with_parser c d.0) e d.2)) ∙ at)) tt)
+    let at : d.0.section ≡ places.Showing = shown_there c.parser d.0 s.0 (subst (λ (g : RawLine). defines_on c.parser g ≡ Ok d.0) s.1 d.1) in
+    inr (subst IsStating (sym (ap (λ (x : Held). x.parser.section) (sym (ok_is (with_parser c d.0) e d.2)) ∙ at)) tt)
 
 goes_on_stays : (known : Known) (c e : Held) (f : RawLine) → (c.defines ≡ true → (raws : List RawLit) × (f ≡ rawlines.Show raws)) → goes_on known c f ≡ Ok e → GoesOn e
 unfolding goes_on
@@ -506,34 +506,34 @@ listed_on known c o line is n all some tied said show same =
     (λ w q. then_counted known w.1 (goes_on known c w.0) (plain_line known n w.0) (λ e h. goes_on_stays known c e w.0 (λ t. out_shows known o line is w (show t) q) h)
     (subst (λ (x : Coming). AlikeComing known (goes_on known c w.0) (plain_line known x w.0)) said (plain_alike known c w.0 tied (out_has known o line is w all some q)))))
 
-listed_stating : (known : Known) (c : Held) (line : Listing) (is : List RawItem) (s : Bool) → is_show line ≡ s → are_notions known.notions ≡ true → 0 < length is → IsStating c.parser.place → c.defines ≡ true → FewNamed c.parser.names → DefinitionTied c.parser.place c.parser
+listed_stating : (known : Known) (c : Held) (line : Listing) (is : List RawItem) (s : Bool) → is_show line ≡ s → are_notions known.notions ≡ true → 0 < length is → IsStating c.parser.section → c.defines ≡ true → FewNamed c.parser.names → DefinitionTied c.parser.section c.parser
     → AlikeComing known (right_count s >>= λ right. take_out known c line is) (cond s (take_said known (Stating (head_of c.parser)) (InDefinition (head_of c.parser) c.expanded) line is) (Err Malformed))
 listed_stating known c line is true show all some st t few body =
     let d = c.parser in
-    let tied : Tied known.theorems d = record { names = few; body = body_tied known.theorems d d.place st body } in
-    let said : said_of c ≡ InDefinition (head_of d) c.expanded = ap (λ (b : Bool). said_by b d c.expanded) t ∙ definition_at d c.expanded d.place st in
+    let tied : Tied known.theorems d = record { names = few; body = body_tied known.theorems d d.section st body } in
+    let said : said_of c ≡ InDefinition (head_of d) c.expanded = ap (λ (b : Bool). said_by b d c.expanded) t ∙ definition_at d c.expanded d.section st in
     listed_on known c (Stating (head_of d)) line is (InDefinition (head_of d) c.expanded) all some (subst (λ (b : Bool). TiedBy known.theorems b d) (sym t) (few, body)) said (λ x. show)
-    (written_alike known d line is tied ∙ ap (λ (o : Open). written_out known o line is) (head_there d d.place st))
+    (written_alike known d line is tied ∙ ap (λ (o : Open). written_out known o line is) (head_there d d.section st))
 listed_stating known c line is false show all some st t few body = refl
 
 -- after the last line of a definition
-not_ready : (known : Known) (c : Held) (line : Listing) (is : List RawItem) → c.parser.place ≡ places.Done → take_out known c line is ≡ Err Malformed
+not_ready : (known : Known) (c : Held) (line : Listing) (is : List RawItem) → c.parser.section ≡ places.Done → take_out known c line is ≡ Err Malformed
 not_ready known c listings.Given is at = rw at refl
 not_ready known c listings.Show is at = rw at refl
 not_ready known c listings.Claim is at = rw at refl
 not_ready known c (listings.Superpose args new) is at = rw at refl
 
-listed_done : (known : Known) (c : Held) (line : Listing) (is : List RawItem) (s : Bool) → c.parser.place ≡ places.Done → AlikeComing known (right_count s >>= λ right. take_out known c line is) (Err Malformed)
+listed_done : (known : Known) (c : Held) (line : Listing) (is : List RawItem) (s : Bool) → c.parser.section ≡ places.Done → AlikeComing known (right_count s >>= λ right. take_out known c line is) (Err Malformed)
 listed_done known c line is false at = refl
 listed_done known c line is true at = subst (λ (r : Result Held FaultKind). AlikeComing known r (Err Malformed)) (sym (not_ready known c line is at)) refl
 
-listed_there : (known : Known) (c : Held) (p : Section) (line : Listing) (is : List RawItem) → c.parser.place ≡ p → IsStating p → are_notions known.notions ≡ true → 0 < length is → c.defines ≡ true → FewNamed c.parser.names → DefinitionTied p c.parser
+listed_there : (known : Known) (c : Held) (p : Section) (line : Listing) (is : List RawItem) → c.parser.section ≡ p → IsStating p → are_notions known.notions ≡ true → 0 < length is → c.defines ≡ true → FewNamed c.parser.names → DefinitionTied p c.parser
     → AlikeComing known (right_count (is_show line) >>= λ right. take_out known c line is) (after_listed_line known (definition_there c.parser c.expanded p) line is)
 listed_there known c p line is at st all some t few body =
     subst (λ (x : Coming). AlikeComing known (right_count (is_show line) >>= λ right. take_out known c line is) (after_listed_line known x line is)) (sym (definition_at c.parser c.expanded p st))
     (listed_stating known c line is (is_show line) refl all some (subst IsStating (sym at) st) t few (subst (λ (q : Section). DefinitionTied q c.parser) (sym at) body))
 
-listed_at : (known : Known) (c : Held) (p : Section) (line : Listing) (is : List RawItem) → c.parser.place ≡ p → are_notions known.notions ≡ true → 0 < length is → c.defines ≡ true → FewNamed c.parser.names → DefinitionTied p c.parser
+listed_at : (known : Known) (c : Held) (p : Section) (line : Listing) (is : List RawItem) → c.parser.section ≡ p → are_notions known.notions ≡ true → 0 < length is → c.defines ≡ true → FewNamed c.parser.names → DefinitionTied p c.parser
     → AlikeComing known (right_count (is_show line) >>= λ right. take_out known c line is) (after_listed_line known (definition_there c.parser c.expanded p) line is)
 listed_at known c places.Done line is at all some t few body = listed_done known c line is (is_show line) at
 listed_at known c places.Declaring line is at all some t few body = listed_there known c places.Declaring line is at tt all some t few body
@@ -546,7 +546,7 @@ listed_at known c places.Closed line is at all some t few body = absurd body.0
 
 listed_by : (b : Bool) (known : Known) (c : Held) (line : Listing) (is : List RawItem) → c.defines ≡ b → are_notions known.notions ≡ true → 0 < length is → TiedBy known.theorems b c.parser
     → AlikeComing known (right_count (not b || is_show line) >>= λ right. take_out known c line is) (after_listed_line known (said_by b c.parser c.expanded) line is)
-listed_by true known c line is t all some tied = listed_at known c c.parser.place line is refl all some t tied.0 tied.1
+listed_by true known c line is t all some tied = listed_at known c c.parser.section line is refl all some t tied.0 tied.1
 listed_by false known c line is t all some tied =
     listed_on known c (open_of c.parser) line is (InTheorem (open_of c.parser) c.expanded) all some (subst (λ (b : Bool). TiedBy known.theorems b c.parser) (sym t) tied) (ap (λ (b : Bool). said_by b c.parser c.expanded) t)
     (λ h. absurd (let no : true ≡ false = sym h ∙ t in cc)) (written_alike known c.parser line is tied)
@@ -635,9 +635,9 @@ definition_ends d n places.Done lines x y e = refl
 definition_ends d n p lines x y e = e
 
 coming_ends : (b : Bool) (d : TheoremParser) (n : ℕ) (lines : Rest) (x y : Answer) → x ≡ y
-    → cond (is_last d.place) (found (cond b (OfNotion (notion_of_parser d)) (OfTheorem (entry_of_parser d))) lines) x ≡ whole_or (whole (said_by b d n)) lines y
-coming_ends true d n lines x y e = definition_ends d n d.place lines x y e
-coming_ends false d n lines x y e = theorem_ends d n d.place lines x y e
+    → cond (is_last d.section) (found (cond b (OfNotion (notion_of_parser d)) (OfTheorem (entry_of_parser d))) lines) x ≡ whole_or (whole (said_by b d n)) lines y
+coming_ends true d n lines x y e = definition_ends d n d.section lines x y e
+coming_ends false d n lines x y e = theorem_ends d n d.section lines x y e
 
 after_alike : (known : Known) (last number : ℕ) (lines : Rest) (r : Result Held FaultKind) (q : Result Coming FaultKind) → AlikeComing known r q
     → ((e : Held) → TiedComing known e → machine.item_from known last (Some e) lines ≡ item_from known last (Some (said_of e)) lines)

@@ -91,7 +91,7 @@ items_read = form_by_word HasItems has_items
 abbrev Line : List TitledStatement → Section → TheoremParser → RawLine → Type 0
 Line known p d f = Alike known (cond (allowed p f) (stepped known d f) (Err Malformed)) (next known (open_there d p) f >>= then_limits known f)
 
-at_declaring : (known : List TitledStatement) (d : TheoremParser) (f : RawLine) → d.place ≡ places.Declaring → Stands places.Declaring d → UnprovedOf d → FewNamed d.names → HasItems f → Line known places.Declaring d f
+at_declaring : (known : List TitledStatement) (d : TheoremParser) (f : RawLine) → d.section ≡ places.Declaring → Stands places.Declaring d → UnprovedOf d → FewNamed d.names → HasItems f → Line known places.Declaring d f
 unfolding stepped
 at_declaring known d (rawlines.Declare sort new) at s u few some = declare_alike known places.Declaring d sort new tt at s u few
 at_declaring known d (rawlines.Given raws) at s u few some = give_alike known places.Declaring d raws tt s u few some
@@ -100,7 +100,7 @@ at_declaring known d (rawlines.Show raws) at s u few some = show_alike known pla
 at_declaring known d rawlines.Proof at s u few some = proof_alike known places.Declaring d tt s u few
 at_declaring known d f at s u few some = refl
 
-at_giving : (known : List TitledStatement) (d : TheoremParser) (f : RawLine) → d.place ≡ places.Giving → Stands places.Giving d → UnprovedOf d → FewNamed d.names → HasItems f → Line known places.Giving d f
+at_giving : (known : List TitledStatement) (d : TheoremParser) (f : RawLine) → d.section ≡ places.Giving → Stands places.Giving d → UnprovedOf d → FewNamed d.names → HasItems f → Line known places.Giving d f
 unfolding stepped
 at_giving known d (rawlines.Declare sort new) at s u few some = declare_alike known places.Giving d sort new tt at s u few
 at_giving known d (rawlines.Given raws) at s u few some = give_alike known places.Giving d raws tt s u few some
@@ -109,7 +109,7 @@ at_giving known d (rawlines.Show raws) at s u few some = show_alike known places
 at_giving known d rawlines.Proof at s u few some = proof_alike known places.Giving d tt s u few
 at_giving known d f at s u few some = refl
 
-at_making : (known : List TitledStatement) (d : TheoremParser) (f : RawLine) → d.place ≡ places.Making → Stands places.Making d → UnprovedOf d → FewNamed d.names → HasItems f → Line known places.Making d f
+at_making : (known : List TitledStatement) (d : TheoremParser) (f : RawLine) → d.section ≡ places.Making → Stands places.Making d → UnprovedOf d → FewNamed d.names → HasItems f → Line known places.Making d f
 unfolding stepped
 at_making known d (rawlines.Declare sort new) at s u few some = declare_alike known places.Making d sort new tt at s u few
 at_making known d (rawlines.Given raws) at s u few some = give_alike known places.Making d raws tt s u few some
@@ -118,7 +118,7 @@ at_making known d (rawlines.Show raws) at s u few some = show_alike known places
 at_making known d rawlines.Proof at s u few some = proof_alike known places.Making d tt s u few
 at_making known d f at s u few some = refl
 
-at_showing : (known : List TitledStatement) (d : TheoremParser) (f : RawLine) → d.place ≡ places.Showing → Stands places.Showing d → UnprovedOf d → FewNamed d.names → HasItems f → Line known places.Showing d f
+at_showing : (known : List TitledStatement) (d : TheoremParser) (f : RawLine) → d.section ≡ places.Showing → Stands places.Showing d → UnprovedOf d → FewNamed d.names → HasItems f → Line known places.Showing d f
 unfolding stepped
 at_showing known d (rawlines.Declare sort new) at s u few some = declare_alike known places.Showing d sort new tt at s u few
 at_showing known d (rawlines.Given raws) at s u few some = give_alike known places.Showing d raws tt s u few some
@@ -133,7 +133,7 @@ in_block : (known : List TitledStatement) (d : TheoremParser) (f : RawLine) (r :
 in_block known d f r t a =
     subst (λ (ns : Names). Alike known r (goes_on known ns (head_of d) (around_of d.blocks) d.steps f >>= then_limits known f)) t.counted.names a
 
-at_proving : (known : List TitledStatement) (d : TheoremParser) (f : RawLine) → d.place ≡ places.Proving → BlockOf known d → FewNamed d.names → HasItems f → Line known places.Proving d f
+at_proving : (known : List TitledStatement) (d : TheoremParser) (f : RawLine) → d.section ≡ places.Proving → BlockOf known d → FewNamed d.names → HasItems f → Line known places.Proving d f
 unfolding stepped
 at_proving known d (rawlines.By rule names l) at t few plain = in_block known d (rawlines.By rule names l) (cited d rule names l) t (by_alike known d rule names l t at few plain)
 at_proving known d (rawlines.Hence l) at t few some = in_block known d (rawlines.Hence l) (inferred d l) t (hence_alike known d l t at few)
@@ -160,7 +160,7 @@ at_done : (known : List TitledStatement) (d : TheoremParser) (f : RawLine) → L
 at_done known d rawlines.End = refl
 at_done known d f = refl
 
-by_place : (known : List TitledStatement) (p : Section) (d : TheoremParser) (f : RawLine) → d.place ≡ p → Body known p d → FewNamed d.names → HasItems f → Line known p d f
+by_place : (known : List TitledStatement) (p : Section) (d : TheoremParser) (f : RawLine) → d.section ≡ p → Body known p d → FewNamed d.names → HasItems f → Line known p d f
 by_place known places.Declaring d f at b few some = at_declaring known d f at b.0 b.1 few some
 by_place known places.Giving d f at b few some = at_giving known d f at b.0 b.1 few some
 by_place known places.Making d f at b few some = at_making known d f at b.0 b.1 few some
@@ -172,7 +172,7 @@ by_place known places.Done d f at b few some = at_done known d f
 
 pub step_alike : (known : List TitledStatement) (d : TheoremParser) (f : RawLine) → Tied known d → HasItems f → Alike known (step known d f) (line_after known (Some (open_of d)) f)
 unfolding step
-step_alike known d f t some = by_place known d.place d f refl t.body t.names some
+step_alike known d f t some = by_place known d.section d f refl t.body t.names some
 
 -- ---- the first line
 
@@ -238,7 +238,7 @@ after_alike : (known : List TitledStatement) (last number : ℕ) (lines : Rest) 
     → (put_at number r >>= λ d. cond (is_done d) (whole (entry_of_parser d) lines) (book.read_from known last (Some d) lines))
     ≡ (put_at number q >>= λ n. or_more (theorem_ended n) lines (grammar.read_from known last (Some n) lines))
 after_alike known last number lines (Ok e) (Ok n) a more =
-    ends_alike e e.place lines (book.read_from known last (Some e) lines) (grammar.read_from known last (Some (open_of e)) lines) (more e a.1)
+    ends_alike e e.section lines (book.read_from known last (Some e) lines) (grammar.read_from known last (Some (open_of e)) lines) (more e a.1)
     ∙ ap (λ (o : Open). or_more (theorem_ended o) lines (grammar.read_from known last (Some o) lines)) a.0
 after_alike known last number lines (Err j) (Err k) a more = ap (λ (x : FaultKind). wrong_at number x) a
 after_alike known last number lines (Ok e) (Err k) a more = absurd a

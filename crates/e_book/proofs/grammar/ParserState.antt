@@ -44,7 +44,7 @@ open_there d places.Done = Ended (entry_of_parser d)
 open_there d place = Stating (head_of d)
 
 abbrev pub open_of : TheoremParser → Open
-open_of d = open_there d d.place
+open_of d = open_there d d.section
 
 -- ---- the counts
 
@@ -110,7 +110,7 @@ Body known place d = Stands place d × UnprovedOf d
 
 pub record Tied (known : List TitledStatement) (d : TheoremParser) : Type 0 where
   pub names : FewNamed d.names
-  pub body : Body known d.place d
+  pub body : Body known d.section d
 
 -- the parser's answer to a line, and the grammar's: one fault, or what the parser holds is what the lines have said
 abbrev pub Alike : List TitledStatement → Result TheoremParser FaultKind → Result Open FaultKind → Type 0
@@ -120,6 +120,6 @@ Alike known (Err j) (Ok n) = ⊥
 Alike known (Err j) (Err k) = j ≡ k
 
 -- a parser at this place
-pub tied_there : (known : List TitledStatement) (e : TheoremParser) (n : Open) (p : Section) → e.place ≡ p → FewNamed e.names → Body known p e → open_there e p ≡ n → Alike known (read_ok e) (read_ok n)
+pub tied_there : (known : List TitledStatement) (e : TheoremParser) (n : Open) (p : Section) → e.section ≡ p → FewNamed e.names → Body known p e → open_there e p ≡ n → Alike known (read_ok e) (read_ok n)
 tied_there known e n p at few body is =
     (ap (λ (q : Section). open_there e q) at ∙ is, record { names = few; body = subst (λ (q : Section). Body known q e) (sym at) body })

@@ -154,7 +154,7 @@ record FewGiven (d : TheoremParser) : Type 0 where
 few_given : (d : TheoremParser) → UnprovedOf d → FewGiven d
 few_given d u = record { facts = omega (arith, u.facts, u.few_facts); terms = omega (arith, u.terms, u.few_terms) }
 
-pub declare_alike : (known : List TitledStatement) (p : Section) (d : TheoremParser) (sort : Sort) (new : List (List ℕ)) → IsStating p → d.place ≡ p → Stands p d → UnprovedOf d → FewNamed d.names
+pub declare_alike : (known : List TitledStatement) (p : Section) (d : TheoremParser) (sort : Sort) (new : List (List ℕ)) → IsStating p → d.section ≡ p → Stands p d → UnprovedOf d → FewNamed d.names
     → Alike known (cond (allowed p (rawlines.Declare sort new)) (declares d sort new) (Err Malformed)) (states (head_of d) (rawlines.Declare sort new) >>= then_limits known (rawlines.Declare sort new))
 unfolding declared
 declare_alike known p d sort new st at s u few =
@@ -178,9 +178,9 @@ unfolding declared
 make_alike known p d sort new st s u few some_new =
     let f = rawlines.Made sort new in
     let now = with_new d.names sort new in
-    let e : TheoremParser = record d { names = now; made = d.made ++ replicate (length new) sort; place = places.Making } in
+    let e : TheoremParser = record d { names = now; made = d.made ++ replicate (length new) sort; section = places.Making } in
     let n = Stating (head_of e) in
-    let r : Names → Result TheoremParser FaultKind = λ names. read_ok (record d { names = names; made = d.made ++ replicate (length new) sort; place = places.Making }) in
+    let r : Names → Result TheoremParser FaultKind = λ names. read_ok (record d { names = names; made = d.made ++ replicate (length new) sort; section = places.Making }) in
     let fits : Result Names FaultKind = within (length (names_of_sort d.names sort) + length new) (most_of sort) (what_of sort) >>= λ few. read_ok now in
     let g = few_given d u in
     in_place known (allowed p f) (is_empty d.shown) (makes d sort new) (fresh d.names [] new >>= λ free. read_open n) (then_limits known f) (may_make p d sort new st s)
@@ -193,13 +193,13 @@ make_alike known p d sort new st s u few some_new =
 -- ---- given literals
 
 given_alike : (known : List TitledStatement) (d : TheoremParser) (raws : List RawLit) (ls : List Lit) → UnprovedOf d → FewNamed d.names → 0 < length raws → none_made (statement_of_parser d) ≡ true → lits_in d.names raws ≡ Ok ls
-    → Alike known (within (d.facts + length raws) most_facts limits.Facts >>= λ few. with_terms (record d { given = d.given ++ ls; facts = d.facts + length raws; place = places.Giving }) raws)
+    → Alike known (within (d.facts + length raws) most_facts limits.Facts >>= λ few. with_terms (record d { given = d.given ++ ls; facts = d.facts + length raws; section = places.Giving }) raws)
     (then_limits known (rawlines.Given raws) (Stating (head_of (record d { given = d.given ++ ls }))))
 given_alike known d raws ls u few some none e =
     let f = rawlines.Given raws in
     let facts = d.facts + length raws in
     let terms = d.terms + count_monos raws in
-    let y : TheoremParser = record d { given = d.given ++ ls; facts = facts; place = places.Giving } in
+    let y : TheoremParser = record d { given = d.given ++ ls; facts = facts; section = places.Giving } in
     let n = Stating (head_of y) in
     let x : TheoremParser = record y { terms = terms } in
     let next : Result TheoremParser FaultKind = with_terms y raws in
@@ -227,7 +227,7 @@ pub give_alike : (known : List TitledStatement) (p : Section) (d : TheoremParser
 give_alike known p d raws st s u few some =
     let f = rawlines.Given raws in
     let said : List Lit → Result Open FaultKind = λ ls. read_open (Stating (head_of (record d { given = d.given ++ ls }))) in
-    let next : List Lit → Result TheoremParser FaultKind = λ ls. within (d.facts + length raws) most_facts limits.Facts >>= λ few. with_terms (record d { given = ls; facts = d.facts + length raws; place = places.Giving }) raws in
+    let next : List Lit → Result TheoremParser FaultKind = λ ls. within (d.facts + length raws) most_facts limits.Facts >>= λ few. with_terms (record d { given = ls; facts = d.facts + length raws; section = places.Giving }) raws in
     in_place known (allowed p f) (none_made (statement_of_parser d)) (supposes d raws) (lits_in d.names raws >>= said) (then_limits known f) (may_give p d raws st s)
     (λ may. both_in known (lits_in d.names raws) (λ ls. read_ok (d.given ++ ls)) next said (then_limits known f)
     (λ ls e. given_alike known d raws ls u few some (sym (may_give p d raws st s) ∙ may) e))
@@ -239,14 +239,14 @@ pub show_alike : (known : List TitledStatement) (p : Section) (d : TheoremParser
 show_alike known p d raws st u few some =
     let f = rawlines.Show raws in
     let said : List Lit → Result Open FaultKind = λ ls. read_open (Stating (head_of (record d { shown = d.shown ++ ls }))) in
-    let next : List Lit → Result TheoremParser FaultKind = λ ls. few_monos raws >>= λ few. read_ok (record d { shown = ls; place = places.Showing }) in
+    let next : List Lit → Result TheoremParser FaultKind = λ ls. few_monos raws >>= λ few. read_ok (record d { shown = ls; section = places.Showing }) in
     let g = few_given d u in
     let k = length d.given in
     let m = count_monomials d.given in
     may_come known (allowed p f) (shows d raws) (states (head_of d) f >>= then_limits known f) (may_show p raws st)
     (both_in known (lits_in d.names raws) (λ ls. read_ok (d.shown ++ ls)) next said (then_limits known f)
     (λ ls e.
-    let x : TheoremParser = record d { shown = d.shown ++ ls; place = places.Showing } in
+    let x : TheoremParser = record d { shown = d.shown ++ ls; section = places.Showing } in
     let n = Stating (head_of x) in
     let r : Result TheoremParser FaultKind = few_monos raws >>= λ few. read_ok x in
     let count : length ls ≡ length raws = each_length (lit_in d.names) raws ls e in
@@ -291,7 +291,7 @@ proof_alike known p d st s u few =
     let f = rawlines.Proof in
     let ns = declared_names (stated (statement_of_parser d)) d.names in
     let n = Proving (head_of d) [] [] in
-    let e : TheoremParser = record d { in_scope = ns; place = places.Proving } in
+    let e : TheoremParser = record d { in_scope = ns; section = places.Proving } in
     let some = few_declared d few in
     let c : Counted ns d.facts d.terms (context_in known (head_of d) [] []) = record { names = refl; facts = u.facts; terms = u.terms } in
     let is : Proving (head_of d) (around_of d.blocks) d.steps ≡ n =

@@ -84,8 +84,8 @@ record GoodDefinition (known : Known) (d : TheoremParser) : Type 0 where
   title : is_taken known d.title ≡ false
   head : HeadOf known.theorems d
   made : d.made ≡ []
-  states : StatesOf known.theorems d.place d
-  means : MeansThere d.place d.shown
+  states : StatesOf known.theorems d.section d
+  means : MeansThere d.section d.shown
 
 abbrev GoodBy : Known → Bool → TheoremParser → Type 0
 GoodBy known true d = GoodDefinition known d
@@ -105,7 +105,7 @@ theorem_on known d e f g s h = record {
 
 -- ---- a line of a definition
 
-good_there : (known : List TitledStatement) (d : TheoremParser) (p : Section) → d.place ≡ p → IsStating p → HeadOf known d → StatesOf known p d → Good known d
+good_there : (known : List TitledStatement) (d : TheoremParser) (p : Section) → d.section ≡ p → IsStating p → HeadOf known d → StatesOf known p d → Good known d
 good_there known d places.Declaring at st h s = record { head = h; body = subst (λ (q : Section). Body known q d) (sym at) s.1 }
 good_there known d places.Giving at st h s = record { head = h; body = subst (λ (q : Section). Body known q d) (sym at) s.1 }
 good_there known d places.Making at st h s = record { head = h; body = subst (λ (q : Section). Body known q d) (sym at) s.1 }
@@ -130,14 +130,14 @@ shows_at places.Making raws a = tt
 shows_at places.Showing raws a = tt
 shows_at p raws a = absurd cc
 
-definition_more : (known : Known) (d e : TheoremParser) (f : RawLine) → GoodDefinition known d → IsStating d.place → IsStating e.place → e.made ≡ d.made → MeansThere e.place e.shown → Said f → step known.theorems d f ≡ Ok e → GoodDefinition known e
+definition_more : (known : Known) (d e : TheoremParser) (f : RawLine) → GoodDefinition known d → IsStating d.section → IsStating e.section → e.made ≡ d.made → MeansThere e.section e.shown → Said f → step known.theorems d f ≡ Ok e → GoodDefinition known e
 definition_more known d e f g at to made means s h =
-    let good = keeps known.theorems d e f (good_there known.theorems d d.place refl at g.head g.states) s h in
+    let good = keeps known.theorems d e f (good_there known.theorems d d.section refl at g.head g.states) s h in
     record {
       title = ap (λ (t : List ℕ). is_taken known t) (same_title known.theorems d e f h) ∙ g.title;
       head = good.head;
       made = made ∙ g.made;
-      states = states_there known.theorems e e.place to good.body;
+      states = states_there known.theorems e e.section to good.body;
       means = means;
     }
 
@@ -145,26 +145,26 @@ definition_declares : (known : Known) (d e : TheoremParser) (sort : Sort) (new :
 unfolding defines_on
 definition_declares known d e sort new g s h =
     let next : Names → TheoremParser = λ names. record d { names = names; declared = d.declared ++ replicate (length new) sort } in
-    let r = bind_ok (right_count (allowed d.place (rawlines.Declare sort new))) (λ right. declares d sort new) e h in
+    let r = bind_ok (right_count (allowed d.section (rawlines.Declare sort new))) (λ right. declares d sort new) e h in
     let n = bind_ok (declared d.names sort new) (λ names. read_ok (next names)) e r.2 in
     let is : next n.0 ≡ e = ok_is (next n.0) e n.2 in
-    let at : d.place ≡ places.Declaring = declares_at d.place sort new (counted _ r.0 r.1) in
-    let to : e.place ≡ places.Declaring = ap (λ (x : TheoremParser). x.place) (sym is) ∙ at in
+    let at : d.section ≡ places.Declaring = declares_at d.section sort new (counted _ r.0 r.1) in
+    let to : e.section ≡ places.Declaring = ap (λ (x : TheoremParser). x.section) (sym is) ∙ at in
     definition_more known d e (rawlines.Declare sort new) g (subst IsStating (sym at) tt) (subst IsStating (sym to) tt) (ap (λ (x : TheoremParser). x.made) (sym is))
     (subst (λ (p : Section). MeansThere p e.shown) (sym to) tt) s (sym (stating_declares known.theorems d sort new) ∙ h)
 
 definition_shows : (known : Known) (d e : TheoremParser) (raws : List RawLit) → GoodDefinition known d → Said (rawlines.Show raws) → defines_on d (rawlines.Show raws) ≡ Ok e → GoodDefinition known e
 unfolding defines_on
 definition_shows known d e raws g s h =
-    let then : List Lit → TheoremParser = λ ls. record d { shown = ls; place = places.Showing } in
-    let r = bind_ok (right_count (allowed d.place (rawlines.Show raws))) (λ right. shows d raws) e h in
+    let then : List Lit → TheoremParser = λ ls. record d { shown = ls; section = places.Showing } in
+    let r = bind_ok (right_count (allowed d.section (rawlines.Show raws))) (λ right. shows d raws) e h in
     let all = bind_ok (with_front d.shown (lits_in d.names raws)) (λ ls. few_monos raws >>= λ few. read_ok (then ls)) e r.2 in
     let ls = bind_ok (lits_in d.names raws) (λ xs. read_ok (d.shown ++ xs)) all.0 all.1 in
     let f = bind_ok (few_monos raws) (λ few. read_ok (then all.0)) e all.2 in
     let is : then all.0 ≡ e = ok_is (then all.0) e f.2 in
-    let to : e.place ≡ places.Showing = ap (λ (x : TheoremParser). x.place) (sym is) in
+    let to : e.section ≡ places.Showing = ap (λ (x : TheoremParser). x.section) (sym is) in
     let count : 0 < length all.0 = omega (arith, s.0, each_length (lit_in d.names) raws ls.0 ls.1, length-append d.shown ls.0, ap (λ (x : List Lit). length x) (ok_is (d.shown ++ ls.0) all.0 ls.2)) in
-    definition_more known d e (rawlines.Show raws) g (shows_at d.place raws (counted _ r.0 r.1)) (subst IsStating (sym to) tt) (ap (λ (x : TheoremParser). x.made) (sym is))
+    definition_more known d e (rawlines.Show raws) g (shows_at d.section raws (counted _ r.0 r.1)) (subst IsStating (sym to) tt) (ap (λ (x : TheoremParser). x.made) (sym is))
     (subst (λ (p : Section). MeansThere p e.shown) (sym to) (subst (λ (x : TheoremParser). 0 < length x.shown) is count)) s (sym (stating_shows known.theorems d raws) ∙ h)
 
 showing_at : (p : Section) → is_showing p ≡ true → p ≡ places.Showing
@@ -174,9 +174,9 @@ showing_at p a = absurd cc
 definition_ends : (known : Known) (d e : TheoremParser) → GoodDefinition known d → defines_on d rawlines.End ≡ Ok e → GoodDefinition known e
 unfolding defines_on
 definition_ends known d e g h =
-    let last : TheoremParser = record d { place = places.Done } in
-    let r = bind_ok (right_count (is_showing d.place)) (λ right. read_ok last) e h in
-    let at : d.place ≡ places.Showing = showing_at d.place (counted _ r.0 r.1) in
+    let last : TheoremParser = record d { section = places.Done } in
+    let r = bind_ok (right_count (is_showing d.section)) (λ right. read_ok last) e h in
+    let at : d.section ≡ places.Showing = showing_at d.section (counted _ r.0 r.1) in
     let some : 0 < length d.shown = subst (λ (p : Section). MeansThere p d.shown) at g.means in
     subst (λ (x : TheoremParser). GoodDefinition known x) (ok_is last e r.2) (record { title = g.title; head = g.head; made = g.made; states = tt; means = some })
 
@@ -288,10 +288,10 @@ each_shown p q (l ∷ ls) h k =
     let b = and_parts (q l) (list_all q ls) k in
     rw (a.0, b.0, each_shown p q ls a.1 b.1) refl
 
-definition_good : (known : Known) (d : TheoremParser) → GoodDefinition known d → is_last d.place ≡ true → IsWellFormedItem known (OfNotion (notion_of_parser d))
+definition_good : (known : Known) (d : TheoremParser) → GoodDefinition known d → is_last d.section ≡ true → IsWellFormedItem known (OfNotion (notion_of_parser d))
 definition_good known d g a =
     let n = (notion_of_parser d).notion in
-    let some : 0 < length d.shown = subst (λ (p : Section). MeansThere p d.shown) (last_is d.place a) g.means in
+    let some : 0 < length d.shown = subst (λ (p : Section). MeansThere p d.shown) (last_is d.section a) g.means in
     let scope : grown nothing d.declared ≡ scope_of_names d.names = sym (ap (grown (grown nothing d.declared)) g.made) ∙ g.head.scope in
     let shown : list_all (all_in_scope (grown nothing d.declared)) d.shown ≡ true = subst (λ (s : Scope). list_all (all_in_scope s) d.shown ≡ true) (sym scope) g.head.shown in
     let states : is_statement (as_stated n) ≡ true = each_shown is_well_formed (all_in_scope (grown nothing d.declared)) d.shown g.head.good_shown shown in
@@ -303,7 +303,7 @@ definition_good known d g a =
     let statement : is_small_statement (as_stated n) ≡ true = and_from (is_statement (as_stated n)) (is_small (all_objects (as_stated n))) states small in
     (g.title, and_from (means_something n) (is_small_statement (as_stated n)) (lt-ltb 0 (length d.shown) some) statement)
 
-whole_by : (b : Bool) (known : Known) (d : TheoremParser) → GoodBy known b d → is_last d.place ≡ true → IsWellFormedItem known (cond b (OfNotion (notion_of_parser d)) (OfTheorem (entry_of_parser d)))
+whole_by : (b : Bool) (known : Known) (d : TheoremParser) → GoodBy known b d → is_last d.section ≡ true → IsWellFormedItem known (cond b (OfNotion (notion_of_parser d)) (OfTheorem (entry_of_parser d)))
 whole_by true known d g a = definition_good known d g a
 whole_by false known d g a = (done_spelled known.theorems d g.good g.spelled a, g.title)
 

@@ -58,10 +58,10 @@ use Rattle.e_book.proofs.parsers.ParserFits.{HeadOf, start, OpenOf, Body, Good}
 
 -- ---- the place
 
-open_at : (known : List TitledStatement) (d : TheoremParser) → d.place ≡ Proving → Body known d.place d → OpenOf known d
+open_at : (known : List TitledStatement) (d : TheoremParser) → d.section ≡ Proving → Body known d.section d → OpenOf known d
 open_at known d at b = subst (λ (p : Section). Body known p d) at b
 
-still_open : (known : List TitledStatement) (x : TheoremParser) → x.place ≡ Proving → OpenOf known x → Body known x.place x
+still_open : (known : List TitledStatement) (x : TheoremParser) → x.section ≡ Proving → OpenOf known x → Body known x.section x
 still_open known x at o = subst (λ (p : Section). Body known p x) (sym at) o
 
 abbrev here : List TitledStatement → TheoremParser → Spot
@@ -94,7 +94,7 @@ step_taken x e s n h =
     let b = bind_ok (within (x.facts + n) most_facts limits.Facts) (λ none. read_ok y) e a.2 in
     record { few = within_ok _ _ _ a.0 a.1; facts = within_ok _ _ _ b.0 b.1; is = ok_is y e b.2 }
 
-pub keeps_by : (known : List TitledStatement) (d e : TheoremParser) (r : List ℕ) (ns : List (List ℕ)) (l : RawLit) → Good known d → d.place ≡ Proving → Said (rawlines.By r ns l) → stepped known d (rawlines.By r ns l) ≡ Ok e → Good known e
+pub keeps_by : (known : List TitledStatement) (d e : TheoremParser) (r : List ℕ) (ns : List (List ℕ)) (l : RawLit) → Good known d → d.section ≡ Proving → Said (rawlines.By r ns l) → stepped known d (rawlines.By r ns l) ≡ Ok e → Good known e
 unfolding stepped
 keeps_by known d e r ns l g at said h =
     let b = bind_ok (by_in d.in_scope r ns l) (λ b. with_step d (Cited b) 1) e h in
@@ -104,7 +104,7 @@ keeps_by known d e r ns l g at said h =
     (λ rest fit. fits_cited (here known d) (made_in d.blocks d.made) (level d.blocks) b.0 rest (by_fits d.in_scope r ns l b.0 b.1) (by_plain d.in_scope r ns l b.0 said b.1) s.facts fit) in
     subst (λ (y : TheoremParser). Good known y) s.is (record { head = g.head; body = still_open known x at o })
 
-pub keeps_hence : (known : List TitledStatement) (d e : TheoremParser) (r : RawLit) → Good known d → d.place ≡ Proving → Said (rawlines.Hence r) → stepped known d (rawlines.Hence r) ≡ Ok e → Good known e
+pub keeps_hence : (known : List TitledStatement) (d e : TheoremParser) (r : RawLit) → Good known d → d.section ≡ Proving → Said (rawlines.Hence r) → stepped known d (rawlines.Hence r) ≡ Ok e → Good known e
 unfolding stepped
 keeps_hence known d e r g at said h =
     let l = bind_ok (lit_in d.in_scope r) (λ l. with_step d (Inferred l None) 1 >>= λ x. with_terms x (r ∷ [])) e h in
@@ -120,7 +120,7 @@ keeps_hence known d e r g at said h =
     (subst (λ (at : Spot). ScriptFits at (made_in d.blocks d.made) (level d.blocks) rest) same fit)) in
     subst (λ (y : TheoremParser). Good known y) t.is (record { head = g.head; body = still_open known z at o })
 
-keeps_built : (known : List TitledStatement) (d e : TheoremParser) (l : RawLet) → Good known d → d.place ≡ Proving → built d l ≡ Ok e → Good known e
+keeps_built : (known : List TitledStatement) (d e : TheoremParser) (l : RawLet) → Good known d → d.section ≡ Proving → built d l ≡ Ok e → Good known e
 unfolding built
 keeps_built known d e l g at h =
     let s = scope_of_names d.in_scope in
@@ -134,11 +134,11 @@ keeps_built known d e l g at h =
     (λ rest fit. fits_made (here known d) (made_in d.blocks d.made) (level d.blocks) f.0 l.new [] rest (let_fits d.in_scope l f.0 f.1) w.1 t.facts fit) in
     subst (λ (y : TheoremParser). Good known y) t.is (record { head = g.head; body = still_open known x at o })
 
-pub keeps_let : (known : List TitledStatement) (d e : TheoremParser) (l : RawLet) → Good known d → d.place ≡ Proving → stepped known d (rawlines.Let l) ≡ Ok e → Good known e
+pub keeps_let : (known : List TitledStatement) (d e : TheoremParser) (l : RawLet) → Good known d → d.section ≡ Proving → stepped known d (rawlines.Let l) ≡ Ok e → Good known e
 unfolding stepped
 keeps_let known d e l g at h = keeps_built known d e l g at h
 
-keeps_used : (known : List TitledStatement) (d e : TheoremParser) (raw : RawApply) (theorem : ℕ) (args : List (Option Obj)) → Good known d → d.place ≡ Proving → GoodUse known d.in_scope raw theorem args
+keeps_used : (known : List TitledStatement) (d e : TheoremParser) (raw : RawApply) (theorem : ℕ) (args : List (Option Obj)) → Good known d → d.section ≡ Proving → GoodUse known d.in_scope raw theorem args
     → used_by d (theorem_of known theorem) theorem args raw.new ≡ Ok e → Good known e
 unfolding used_by
 keeps_used known d e raw theorem args g at u h =
@@ -171,13 +171,13 @@ keeps_used known d e raw theorem args g at u h =
     (λ rest f. fits_applied (here known d) (made_in d.blocks d.made) (level d.blocks) theorem args raw.new [] rest fit f) in
     subst (λ (y : TheoremParser). Good known y) z-is (record { head = g.head; body = still_open known z at o })
 
-keeps_applied : (known : List TitledStatement) (d e : TheoremParser) (raw : RawApply) → Good known d → d.place ≡ Proving → applied known d raw ≡ Ok e → Good known e
+keeps_applied : (known : List TitledStatement) (d e : TheoremParser) (raw : RawApply) → Good known d → d.section ≡ Proving → applied known d raw ≡ Ok e → Good known e
 unfolding applied
 keeps_applied known d e raw g at h =
     let a = bind_ok (apply_in known d.in_scope raw) (λ a. used_by d (theorem_of known a.0) a.0 a.1 raw.new) e h in
     keeps_used known d e raw a.0.0 a.0.1 g at (use_fits known d.in_scope raw a.0 a.1) a.2
 
-pub keeps_apply : (known : List TitledStatement) (d e : TheoremParser) (raw : RawApply) → Good known d → d.place ≡ Proving → stepped known d (rawlines.Apply raw) ≡ Ok e → Good known e
+pub keeps_apply : (known : List TitledStatement) (d e : TheoremParser) (raw : RawApply) → Good known d → d.section ≡ Proving → stepped known d (rawlines.Apply raw) ≡ Ok e → Good known e
 unfolding stepped
 keeps_apply known d e raw g at h = keeps_applied known d e raw g at h
 
@@ -205,7 +205,7 @@ opens known d op to o fit none deep is =
     subst (λ (at : Spot). Open (start known d) d.made (outer_of d op ∷ d.blocks) [] at (d.lines + 1)) is
     (open_inner (start known d) d.made d.blocks (outer_of d op) d.lines o fit none deep)
 
-keeps_claimed : (known : List TitledStatement) (d e : TheoremParser) (raws : List RawLit) → Good known d → d.place ≡ Proving → LitsSaid raws → claimed d raws ≡ Ok e → Good known e
+keeps_claimed : (known : List TitledStatement) (d e : TheoremParser) (raws : List RawLit) → Good known d → d.section ≡ Proving → LitsSaid raws → claimed d raws ≡ Ok e → Good known e
 unfolding claimed
 keeps_claimed known d e raws g at said h =
     let ls = bind_ok (lits_in d.in_scope raws) (λ ls. deeper d (kind.Claim ls) 0 >>= λ x. few_monos raws >>= λ few. read_ok x) e h in
@@ -218,11 +218,11 @@ keeps_claimed known d e raws g at said h =
     let o = opens known d op (here known y) (open_at known d at g.body) (shown_fit known d raws ls.0 ls.1 said (few_ok raws f.0 f.1)) refl w.deep same in
     subst (λ (z : TheoremParser). Good known z) (w.is ∙ ok_is x.0 e f.2) (record { head = g.head; body = still_open known y at o })
 
-pub keeps_claim : (known : List TitledStatement) (d e : TheoremParser) (raws : List RawLit) → Good known d → d.place ≡ Proving → Said (rawlines.Claim raws) → stepped known d (rawlines.Claim raws) ≡ Ok e → Good known e
+pub keeps_claim : (known : List TitledStatement) (d e : TheoremParser) (raws : List RawLit) → Good known d → d.section ≡ Proving → Said (rawlines.Claim raws) → stepped known d (rawlines.Claim raws) ≡ Ok e → Good known e
 unfolding stepped
 keeps_claim known d e raws g at said h = keeps_claimed known d e raws g at said.1 h
 
-keeps_superposed : (known : List TitledStatement) (d e : TheoremParser) (raw : RawSuperpose) → Good known d → d.place ≡ Proving → Said (rawlines.Superpose raw) → superposed d raw ≡ Ok e → Good known e
+keeps_superposed : (known : List TitledStatement) (d e : TheoremParser) (raw : RawSuperpose) → Good known d → d.section ≡ Proving → Said (rawlines.Superpose raw) → superposed d raw ≡ Ok e → Good known e
 unfolding superposed
 keeps_superposed known d e raw g at said h =
     let given : Superpose → List Lit = λ form. superposing.gives_of_superposition form (scope_of_names d.in_scope) in
@@ -245,11 +245,11 @@ keeps_superposed known d e raw g at said h =
     let o = opens known d op (here known z) (open_at known d at g.body) (copy, shown_fit known d raw.shown p.0.1 c.lits said.3 (few_ok raw.shown f.0 f.1)) refl w.deep refl in
     subst (λ (v : TheoremParser). Good known v) z-is (record { head = g.head; body = still_open known z at o })
 
-pub keeps_superpose : (known : List TitledStatement) (d e : TheoremParser) (raw : RawSuperpose) → Good known d → d.place ≡ Proving → Said (rawlines.Superpose raw) → stepped known d (rawlines.Superpose raw) ≡ Ok e → Good known e
+pub keeps_superpose : (known : List TitledStatement) (d e : TheoremParser) (raw : RawSuperpose) → Good known d → d.section ≡ Proving → Said (rawlines.Superpose raw) → stepped known d (rawlines.Superpose raw) ≡ Ok e → Good known e
 unfolding stepped
 keeps_superpose known d e raw g at said h = keeps_superposed known d e raw g at said h
 
-keeps_split : (known : List TitledStatement) (d e : TheoremParser) (r : RawLit) → Good known d → d.place ≡ Proving → Said (rawlines.Cases r) → split d r ≡ Ok e → Good known e
+keeps_split : (known : List TitledStatement) (d e : TheoremParser) (r : RawLit) → Good known d → d.section ≡ Proving → Said (rawlines.Cases r) → split d r ≡ Ok e → Good known e
 unfolding split
 keeps_split known d e r g at said h =
     let l = bind_ok (lit_in d.in_scope r) (λ l. deeper d (kind.First l) 1 >>= λ x. with_terms x (r ∷ [])) e h in
@@ -265,14 +265,14 @@ keeps_split known d e r g at said h =
     let o = opens known d op (here known z) (open_at known d at g.body) fit refl w.deep same in
     subst (λ (y : TheoremParser). Good known y) t.is (record { head = g.head; body = still_open known z at o })
 
-pub keeps_cases : (known : List TitledStatement) (d e : TheoremParser) (r : RawLit) → Good known d → d.place ≡ Proving → Said (rawlines.Cases r) → stepped known d (rawlines.Cases r) ≡ Ok e → Good known e
+pub keeps_cases : (known : List TitledStatement) (d e : TheoremParser) (r : RawLit) → Good known d → d.section ≡ Proving → Said (rawlines.Cases r) → stepped known d (rawlines.Cases r) ≡ Ok e → Good known e
 unfolding stepped
 keeps_cases known d e r g at said h = keeps_split known d e r g at said h
 
-pub keeps_else : (known : List TitledStatement) (d e : TheoremParser) → Good known d → d.place ≡ Splitting → stepped known d rawlines.Else ≡ Ok e → Good known e
+pub keeps_else : (known : List TitledStatement) (d e : TheoremParser) → Good known d → d.section ≡ Splitting → stepped known d rawlines.Else ≡ Ok e → Good known e
 unfolding stepped
 keeps_else known d e g at h =
-    subst (λ (y : TheoremParser). Good known y) (ok_is (record d { place = Proving }) e h) (record { head = g.head; body = subst (λ (p : Section). Body known p d) at g.body })
+    subst (λ (y : TheoremParser). Good known y) (ok_is (record d { section = Proving }) e h) (record { head = g.head; body = subst (λ (p : Section). Body known p d) at g.body })
 
 -- ---- a block is closed
 
@@ -302,7 +302,7 @@ unfolding size
 size_split lit first second = refl
 
 -- an inner block is closed; what closing the block around it leaves is good
-closes_inside : (known : List TitledStatement) (d e : TheoremParser) (o : OpenBlock) (os : List OpenBlock) (inner : Script) (again : CloseLine → Result TheoremParser FaultKind) (op : BlockKind) → HeadOf known d → d.place ≡ Proving
+closes_inside : (known : List TitledStatement) (d e : TheoremParser) (o : OpenBlock) (os : List OpenBlock) (inner : Script) (again : CloseLine → Result TheoremParser FaultKind) (op : BlockKind) → HeadOf known d → d.section ≡ Proving
     → StepsFit (first_spot (start known d) os) (made_in os d.made) (level os) o.steps (spot_of (stated_by known) o) → KindFits (spot_of (stated_by known) o) (made_in os d.made) (level os) op → BlocksFit (start known d) d.made os
     → ScriptFits (begun_by (spot_of (stated_by known) o) op) (made_inside op os d.made) (level os + 1) inner → d.lines ≡ size inner + (1 + lines_first op + count_lines o.steps + lines_around os) → level os + 1 + 1 ≤ most_depth
     → ((c : CloseLine) → ScriptFits (first_spot (start known d) os) (made_in os d.made) (level os) (all_before o.steps (script_of_close c)) → d.lines ≡ size (all_before o.steps (script_of_close c)) + lines_around os
@@ -324,7 +324,7 @@ closes_inside known d e o os inner again (kind.Superpose form names shown) head 
     subst (λ (y : TheoremParser). Good known y) r.is (record { head = head; body = still_open known x at b })
 closes_inside known d e o os inner again (kind.First lit) head at steps splits around fit n deep next h =
     let o2 : OpenBlock = record o { kind = kind.Second lit inner } in
-    let x : TheoremParser = record d { steps = []; in_scope = o.in_scope; facts = o.facts + 1; terms = o.terms + monomials lit.atom; blocks = o2 ∷ os; place = Splitting } in
+    let x : TheoremParser = record d { steps = []; in_scope = o.in_scope; facts = o.facts + 1; terms = o.terms + monomials lit.atom; blocks = o2 ∷ os; section = Splitting } in
     let f : OuterFits (start known d) d.made os o2 = record { steps = steps; kind = (splits, fit) } in
     let b : OpenOf known x = record { steps = λ rest r. r; blocks = (f, around); lines = omega (arith, n); shallow = deep } in
     subst (λ (y : TheoremParser). Good known y) (ok_is x e h) (record { head = head; body = b })
@@ -334,18 +334,18 @@ closes_inside known d e o os inner again (kind.Second lit first) head at steps s
     next close whole (omega (arith, n, size_is o.steps (Cases lit first inner), size_split lit first inner)) h
 
 -- a block is closed, and with it those blocks around it that end with a split
-closes_block : (known : List TitledStatement) (d e : TheoremParser) (os : List OpenBlock) (ss : List PlainStep) (close : CloseLine) → HeadOf known d → d.place ≡ Proving → BlocksFit (start known d) d.made os
+closes_block : (known : List TitledStatement) (d e : TheoremParser) (os : List OpenBlock) (ss : List PlainStep) (close : CloseLine) → HeadOf known d → d.section ≡ Proving → BlocksFit (start known d) d.made os
     → ScriptFits (first_spot (start known d) os) (made_in os d.made) (level os) (all_before ss (script_of_close close)) → d.lines ≡ size (all_before ss (script_of_close close)) + lines_around os → d.lines ≤ most_steps
     → level os + 1 ≤ most_depth → closed d os ss close ≡ Ok e → Good known e
 unfolding closed
 closes_block known d e [] ss close head at around fit n few deep h =
-    let x : TheoremParser = record d { steps = ss; blocks = []; close = close; place = Closed } in
+    let x : TheoremParser = record d { steps = ss; blocks = []; close = close; section = Closed } in
     subst (λ (y : TheoremParser). Good known y) (ok_is x e h) (record { head = head; body = record { fits = fit; short = omega (arith, n, few) } })
 closes_block known d e (o ∷ os) ss close head at around fit n few deep h =
     closes_inside known d e o os (all_before ss (script_of_close close)) (λ c. closed d os o.steps c) o.kind head at around.0.steps around.0.kind around.1 fit n deep
     (λ c f k again. closes_block known d e os o.steps c head at around.1 f k few (omega (arith, deep)) again) h
 
-keeps_shut : (known : List TitledStatement) (d e : TheoremParser) (close : CloseLine) → Good known d → d.place ≡ Proving → ScriptFits (here known d) (made_in d.blocks d.made) (level d.blocks) (script_of_close close) → size (script_of_close close) ≡ 1
+keeps_shut : (known : List TitledStatement) (d e : TheoremParser) (close : CloseLine) → Good known d → d.section ≡ Proving → ScriptFits (here known d) (made_in d.blocks d.made) (level d.blocks) (script_of_close close) → size (script_of_close close) ≡ 1
     → shut d close ≡ Ok e → Good known e
 unfolding shut
 keeps_shut known d e close g at fit one h =
@@ -358,7 +358,7 @@ pub one_line : (os : List Obj) → size (script_of_close (closes.Qed os)) ≡ 1
 unfolding size
 one_line os = refl
 
-pub keeps_qed : (known : List TitledStatement) (d e : TheoremParser) (ns : List (List ℕ)) → Good known d → d.place ≡ Proving → stepped known d (rawlines.Qed ns) ≡ Ok e → Good known e
+pub keeps_qed : (known : List TitledStatement) (d e : TheoremParser) (ns : List (List ℕ)) → Good known d → d.section ≡ Proving → stepped known d (rawlines.Qed ns) ≡ Ok e → Good known e
 unfolding stepped
 keeps_qed known d e ns g at h =
     let sorts = made_in d.blocks d.made in
@@ -366,7 +366,7 @@ keeps_qed known d e ns g at h =
     let o = open_at known d at g.body in
     keeps_shut known d e (closes.Qed os.0) g at (fits_qed (here known d) sorts (level d.blocks) os.0 (qed_fits d.in_scope sorts ns os.0 os.1) o.shallow) (one_line os.0) os.2
 
-pub keeps_contradiction : (known : List TitledStatement) (d e : TheoremParser) → Good known d → d.place ≡ Proving → stepped known d rawlines.Contradiction ≡ Ok e → Good known e
+pub keeps_contradiction : (known : List TitledStatement) (d e : TheoremParser) → Good known d → d.section ≡ Proving → stepped known d rawlines.Contradiction ≡ Ok e → Good known e
 unfolding stepped size
 keeps_contradiction known d e g at h =
     let o = open_at known d at g.body in

@@ -80,4 +80,4 @@ Body known Done d = ShutOf known d
 
 pub record Good (known : List TitledStatement) (d : TheoremParser) : Type 0 where
   pub head : HeadOf known d
-  pub body : Body known d.place d
+  pub body : Body known d.section d

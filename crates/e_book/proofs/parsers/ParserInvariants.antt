@@ -132,7 +132,7 @@ grows ns sort new now few differ h =
     let w = bind_ok (within (length (names_of_sort ns sort) + length new) (most_of sort) (what_of sort)) (λ few. read_ok next) now f.2 in
     record { is = ok_is next now w.2; few = few_named ns sort new few (within_ok _ _ _ w.0 w.1); differ = still_differ ns sort new f.0 differ f.1 }
 
-keeps_declare : (known : List TitledStatement) (d e : TheoremParser) (sort : Sort) (ns : List (List ℕ)) → Good known d → allowed d.place (rawlines.Declare sort ns) ≡ true → stepped known d (rawlines.Declare sort ns) ≡ Ok e → Good known e
+keeps_declare : (known : List TitledStatement) (d e : TheoremParser) (sort : Sort) (ns : List (List ℕ)) → Good known d → allowed d.section (rawlines.Declare sort ns) ≡ true → stepped known d (rawlines.Declare sort ns) ≡ Ok e → Good known e
 unfolding stepped
 keeps_declare known d e sort ns good a h =
     let g = good.head in
@@ -141,7 +141,7 @@ keeps_declare known d e sort ns good a h =
     let x : TheoremParser = record d { names = now; declared = d.declared ++ more_sorts } in
     let n = bind_ok (declared d.names sort ns) (λ names. read_ok (record d { names = names; declared = d.declared ++ more_sorts })) e h in
     let w = grows d.names sort ns n.0 g.few g.differ n.1 in
-    let at = declaring known d.place d sort ns a good.body in
+    let at = declaring known d.section d sort ns a good.body in
     let none : (s : Scope) → grown s d.made ≡ s = λ s. ap (grown s) at.2 in
     let was : grown nothing d.declared ≡ scope_of_names d.names = sym (none (grown nothing d.declared)) ∙ g.scope in
     let x-is : x ≡ e = ap (λ (m : Names). record d { names = m; declared = d.declared ++ more_sorts }) w.is ∙ ok_is (record d { names = n.0; declared = d.declared ++ more_sorts }) e n.2 in
@@ -159,19 +159,19 @@ keeps_declare known d e sort ns good a h =
     } in
     subst (λ (y : TheoremParser). Good known y) x-is (record { head = head; body = subst (λ (p : Section). Body known p x) (sym at.0) (at.1, at.2, at.3, at.4) })
 
-keeps_given : (known : List TitledStatement) (d e : TheoremParser) (raws : List RawLit) → Good known d → allowed d.place (rawlines.Given raws) ≡ true → Said (rawlines.Given raws) → stepped known d (rawlines.Given raws) ≡ Ok e → Good known e
+keeps_given : (known : List TitledStatement) (d e : TheoremParser) (raws : List RawLit) → Good known d → allowed d.section (rawlines.Given raws) ≡ true → Said (rawlines.Given raws) → stepped known d (rawlines.Given raws) ≡ Ok e → Good known e
 unfolding stepped
 keeps_given known d e raws good a said h =
     let g = good.head in
     let count = d.facts + length raws in
-    let then : List Lit → TheoremParser = λ ls. record d { given = ls; facts = count; place = Giving } in
+    let then : List Lit → TheoremParser = λ ls. record d { given = ls; facts = count; section = Giving } in
     let all = bind_ok (with_front d.given (lits_in d.names raws)) (λ ls. within count most_facts limits.Facts >>= λ few. with_terms (then ls) raws) e h in
     let ls = bind_ok (lits_in d.names raws) (λ xs. read_ok (d.given ++ xs)) all.0 all.1 in
     let w = bind_ok (within count most_facts limits.Facts) (λ few. with_terms (then all.0) raws) e all.2 in
     let le = within_ok _ _ _ w.0 w.1 in
     let n = each_length (lit_in d.names) raws ls.0 ls.1 in
     let m = lits_count d.names raws ls.0 ls.1 in
-    let at = giving known d.place d raws a good.body in
+    let at = giving known d.section d raws a good.body in
     let was : scope_of_names d.names ≡ grown nothing d.declared = sym g.scope ∙ ap (grown (grown nothing d.declared)) at.0 in
     let gs = d.given ++ ls.0 in
     let t = terms_added (then gs) e raws (ap (λ (l : List Lit). with_terms (then l) raws) (ok_is gs all.0 ls.2) ∙ w.2) in
@@ -194,17 +194,17 @@ keeps_given known d e raws good a said h =
     let none_now : NoProofOf x = record { steps = none.steps; blocks = none.blocks; lines = none.lines; facts = facts; terms = terms } in
     subst (λ (y : TheoremParser). Good known y) t.is (record { head = head; body = (at.0, at.1, none_now) })
 
-keeps_made : (known : List TitledStatement) (d e : TheoremParser) (sort : Sort) (ns : List (List ℕ)) → Good known d → allowed d.place (rawlines.Made sort ns) ≡ true → stepped known d (rawlines.Made sort ns) ≡ Ok e → Good known e
+keeps_made : (known : List TitledStatement) (d e : TheoremParser) (sort : Sort) (ns : List (List ℕ)) → Good known d → allowed d.section (rawlines.Made sort ns) ≡ true → stepped known d (rawlines.Made sort ns) ≡ Ok e → Good known e
 unfolding stepped
 keeps_made known d e sort ns good a h =
     let g = good.head in
     let now : Names = with_names d.names sort (names_of_sort d.names sort ++ ns) in
     let more_sorts = replicate (length ns) sort in
-    let x : TheoremParser = record d { names = now; made = d.made ++ more_sorts; place = Making } in
-    let n = bind_ok (declared d.names sort ns) (λ names. read_ok (record d { names = names; made = d.made ++ more_sorts; place = Making })) e h in
+    let x : TheoremParser = record d { names = now; made = d.made ++ more_sorts; section = Making } in
+    let n = bind_ok (declared d.names sort ns) (λ names. read_ok (record d { names = names; made = d.made ++ more_sorts; section = Making })) e h in
     let w = grows d.names sort ns n.0 g.few g.differ n.1 in
-    let at = making known d.place d sort ns a good.body in
-    let x-is : x ≡ e = ap (λ (m : Names). record d { names = m; made = d.made ++ more_sorts; place = Making }) w.is ∙ ok_is (record d { names = n.0; made = d.made ++ more_sorts; place = Making }) e n.2 in
+    let at = making known d.section d sort ns a good.body in
+    let x-is : x ≡ e = ap (λ (m : Names). record d { names = m; made = d.made ++ more_sorts; section = Making }) w.is ∙ ok_is (record d { names = n.0; made = d.made ++ more_sorts; section = Making }) e n.2 in
     let head : HeadOf known x = record {
       new = g.new;
       scope = grown-append (grown nothing d.declared) d.made more_sorts ∙ ap (λ (s : Scope). grown s more_sorts) g.scope ∙ grown-replicate (scope_of_names d.names) sort (length ns) ∙ more_names d.names sort ns;
@@ -219,11 +219,11 @@ keeps_made known d e sort ns good a h =
     } in
     subst (λ (y : TheoremParser). Good known y) x-is (record { head = head; body = at })
 
-keeps_shown : (known : List TitledStatement) (d e : TheoremParser) (raws : List RawLit) → Good known d → allowed d.place (rawlines.Show raws) ≡ true → Said (rawlines.Show raws) → stepped known d (rawlines.Show raws) ≡ Ok e → Good known e
+keeps_shown : (known : List TitledStatement) (d e : TheoremParser) (raws : List RawLit) → Good known d → allowed d.section (rawlines.Show raws) ≡ true → Said (rawlines.Show raws) → stepped known d (rawlines.Show raws) ≡ Ok e → Good known e
 unfolding stepped
 keeps_shown known d e raws good a said h =
     let g = good.head in
-    let then : List Lit → TheoremParser = λ ls. record d { shown = ls; place = Showing } in
+    let then : List Lit → TheoremParser = λ ls. record d { shown = ls; section = Showing } in
     let all = bind_ok (with_front d.shown (lits_in d.names raws)) (λ ls. few_monos raws >>= λ few. read_ok (then ls)) e h in
     let ls = bind_ok (lits_in d.names raws) (λ xs. read_ok (d.shown ++ xs)) all.0 all.1 in
     let f = bind_ok (few_monos raws) (λ few. read_ok (then all.0)) e all.2 in
@@ -242,7 +242,7 @@ keeps_shown known d e raws good a said h =
       few_given = g.few_given;
       few_terms = g.few_terms;
     } in
-    subst (λ (y : TheoremParser). Good known y) x-is (record { head = head; body = showing known d.place d raws a good.body })
+    subst (λ (y : TheoremParser). Good known y) x-is (record { head = head; body = showing known d.section d raws a good.body })
 
 -- no line of the proof has come, and its first may
 first_line : (at : Spot) (made : List Sort) (gs : List Lit) (os : List OpenBlock) (ss : List PlainStep) (n facts terms : ℕ) → at.facts ≡ length gs → at.terms ≡ count_monomials gs → NoProof gs ss os n facts terms
@@ -254,11 +254,11 @@ first_line at made gs os ss n facts terms f t none =
     (subst (λ (k : ℕ). Open at made [] [] (spot at.before at.names k terms) 0) (f ∙ sym none.facts)
     (subst (λ (k : ℕ). Open at made [] [] (spot at.before at.names at.facts k) 0) (t ∙ sym none.terms) (open_first at made)))))
 
-keeps_proof : (known : List TitledStatement) (d e : TheoremParser) → Good known d → allowed d.place rawlines.Proof ≡ true → stepped known d rawlines.Proof ≡ Ok e → Good known e
+keeps_proof : (known : List TitledStatement) (d e : TheoremParser) → Good known d → allowed d.section rawlines.Proof ≡ true → stepped known d rawlines.Proof ≡ Ok e → Good known e
 unfolding stepped
 keeps_proof known d e g a h =
-    let x : TheoremParser = record d { in_scope = (start known d).names; place = Proving } in
-    let open_now : OpenOf known x = first_line (start known d) d.made d.given d.blocks d.steps d.lines d.facts d.terms refl refl (beginning known d.place d a g.body) in
+    let x : TheoremParser = record d { in_scope = (start known d).names; section = Proving } in
+    let open_now : OpenOf known x = first_line (start known d) d.made d.given d.blocks d.steps d.lines d.facts d.terms refl refl (beginning known d.section d a g.body) in
     subst (λ (y : TheoremParser). Good known y) (ok_is x e h) (record { head = g.head; body = open_now })
 
 -- ---- the proof
@@ -308,9 +308,9 @@ closed : (known : List TitledStatement) (p : Section) (d : TheoremParser) → al
 closed known Closed d a b = b
 closed known p d a b = absurd cc
 
-keeps_end : (known : List TitledStatement) (d e : TheoremParser) → Good known d → allowed d.place rawlines.End ≡ true → stepped known d rawlines.End ≡ Ok e → Good known e
+keeps_end : (known : List TitledStatement) (d e : TheoremParser) → Good known d → allowed d.section rawlines.End ≡ true → stepped known d rawlines.End ≡ Ok e → Good known e
 unfolding stepped
-keeps_end known d e g a h = subst (λ (y : TheoremParser). Good known y) (ok_is (record d { place = Done }) e h) (record { head = g.head; body = closed known d.place d a g.body })
+keeps_end known d e g a h = subst (λ (y : TheoremParser). Good known y) (ok_is (record d { section = Done }) e h) (record { head = g.head; body = closed known d.section d a g.body })
 
 -- ---- all lines
 
@@ -318,28 +318,28 @@ pub no_title : (known : List TitledStatement) (d e : TheoremParser) (t : List �
 unfolding stepped
 no_title known d e t h = absurd cc
 
-keeps_stepped : (known : List TitledStatement) (d e : TheoremParser) (f : RawLine) → Good known d → allowed d.place f ≡ true → Said f → stepped known d f ≡ Ok e → Good known e
+keeps_stepped : (known : List TitledStatement) (d e : TheoremParser) (f : RawLine) → Good known d → allowed d.section f ≡ true → Said f → stepped known d f ≡ Ok e → Good known e
 keeps_stepped known d e (rawlines.Theorem t) g a s h = absurd (no_title known d e t h)
 keeps_stepped known d e (rawlines.Declare sort ns) g a s h = keeps_declare known d e sort ns g a h
 keeps_stepped known d e (rawlines.Given raws) g a s h = keeps_given known d e raws g a s h
 keeps_stepped known d e (rawlines.Made sort ns) g a s h = keeps_made known d e sort ns g a h
 keeps_stepped known d e (rawlines.Show raws) g a s h = keeps_shown known d e raws g a s h
 keeps_stepped known d e rawlines.Proof g a s h = keeps_proof known d e g a h
-keeps_stepped known d e (rawlines.By r ns l) g a s h = keeps_by known d e r ns l g (proving_by d.place r ns l a) s h
-keeps_stepped known d e (rawlines.Hence l) g a s h = keeps_hence known d e l g (proving_hence d.place l a) s h
-keeps_stepped known d e (rawlines.Let l) g a s h = keeps_let known d e l g (proving_let d.place l a) h
-keeps_stepped known d e (rawlines.Apply x) g a s h = keeps_apply known d e x g (proving_apply d.place x a) h
-keeps_stepped known d e (rawlines.Qed ns) g a s h = keeps_qed known d e ns g (proving_qed d.place ns a) h
-keeps_stepped known d e rawlines.Contradiction g a s h = keeps_contradiction known d e g (proving_contradiction d.place a) h
-keeps_stepped known d e (rawlines.Claim ls) g a s h = keeps_claim known d e ls g (proving_claim d.place ls a) s h
-keeps_stepped known d e (rawlines.Superpose x) g a s h = keeps_superpose known d e x g (proving_superpose d.place x a) s h
-keeps_stepped known d e (rawlines.Cases l) g a s h = keeps_cases known d e l g (proving_cases d.place l a) s h
-keeps_stepped known d e rawlines.Else g a s h = keeps_else known d e g (splitting d.place a) h
+keeps_stepped known d e (rawlines.By r ns l) g a s h = keeps_by known d e r ns l g (proving_by d.section r ns l a) s h
+keeps_stepped known d e (rawlines.Hence l) g a s h = keeps_hence known d e l g (proving_hence d.section l a) s h
+keeps_stepped known d e (rawlines.Let l) g a s h = keeps_let known d e l g (proving_let d.section l a) h
+keeps_stepped known d e (rawlines.Apply x) g a s h = keeps_apply known d e x g (proving_apply d.section x a) h
+keeps_stepped known d e (rawlines.Qed ns) g a s h = keeps_qed known d e ns g (proving_qed d.section ns a) h
+keeps_stepped known d e rawlines.Contradiction g a s h = keeps_contradiction known d e g (proving_contradiction d.section a) h
+keeps_stepped known d e (rawlines.Claim ls) g a s h = keeps_claim known d e ls g (proving_claim d.section ls a) s h
+keeps_stepped known d e (rawlines.Superpose x) g a s h = keeps_superpose known d e x g (proving_superpose d.section x a) s h
+keeps_stepped known d e (rawlines.Cases l) g a s h = keeps_cases known d e l g (proving_cases d.section l a) s h
+keeps_stepped known d e rawlines.Else g a s h = keeps_else known d e g (splitting d.section a) h
 keeps_stepped known d e rawlines.End g a s h = keeps_end known d e g a h
 
 pub keeps : (known : List TitledStatement) (d e : TheoremParser) (f : RawLine) → Good known d → Said f → step known d f ≡ Ok e → Good known e
 unfolding step
-keeps known d e f g said h = let p = passes (allowed d.place f) (stepped known d f) e h in keeps_stepped known d e f g p.0 said p.1
+keeps known d e f g said h = let p = passes (allowed d.section f) (stepped known d f) e h in keeps_stepped known d e f g p.0 said p.1
 
 pub good_begun : (known : List TitledStatement) (t : List ℕ) → is_known known t ≡ false → Good known (begun t)
 good_begun known t n =
@@ -386,7 +386,7 @@ fits_read known d good a =
     let t = stated (statement_of_parser d) in
     let script = all_before d.steps (script_of_close d.close) in
     let before = stated_by known in
-    let s = last_shut known d.place d a good.body in
+    let s = last_shut known d.section d a good.body in
     let here : scope_of_names (start known d).names ≡ scope_of t = declared_scope t d.names g.scope in
     record {
       new = g.new;

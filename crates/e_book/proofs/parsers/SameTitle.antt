@@ -99,7 +99,7 @@ by_use d t theorem args new =
 
 by_given : (d : TheoremParser) (raws : List RawLit) → Same d.title (supposes d raws)
 by_given d raws =
-    from d (with_front d.given (lits_in d.names raws)) _ (λ ls. from d (within (d.facts + length raws) most_facts limits.Facts) _ (λ few. by_terms (record d { given = ls; facts = d.facts + length raws; place = Giving }) raws))
+    from d (with_front d.given (lits_in d.names raws)) _ (λ ls. from d (within (d.facts + length raws) most_facts limits.Facts) _ (λ few. by_terms (record d { given = ls; facts = d.facts + length raws; section = Giving }) raws))
 
 by_shown : (d : TheoremParser) (raws : List RawLit) → Same d.title (shows d raws)
 by_shown d raws = from d (with_front d.shown (lits_in d.names raws)) _ (λ ls. from d (few_monos raws) _ (λ few. refl))
@@ -170,7 +170,7 @@ by_form known d rawlines.End = refl
 pub same_title : (known : List TitledStatement) (d e : TheoremParser) (f : RawLine) → step known d f ≡ Ok e → e.title ≡ d.title
 unfolding step
 same_title known d e f h =
-    let p = passes (allowed d.place f) (stepped known d f) e h in
+    let p = passes (allowed d.section f) (stepped known d f) e h in
     subst (λ (r : Result TheoremParser FaultKind). Same d.title r) p.1 (by_form known d f)
 
 -- ---- the title of what begins

@@ -48,7 +48,7 @@ names_at_place p names in_scope = names
 
 -- the names of the objects that the next line may name
 abbrev pub names_there : TheoremParser → Names
-names_there d = names_at_place d.place d.names d.in_scope
+names_there d = names_at_place d.section d.names d.in_scope
 
 -- the names before the literals, from left to right
 abbrev pub head_names : Names → Listing → Result (Unit {0}) FaultKind
@@ -58,7 +58,7 @@ head_names ns line = Ok tt
 -- a line that takes literals may come here
 abbrev pub is_ready : TheoremParser → Listing → Result (Unit {0}) FaultKind
 is_ready d line =
-    right_count (allowed d.place (listing_form line [])) >>= λ right. head_names d.in_scope line
+    right_count (allowed d.section (listing_form line [])) >>= λ right. head_names d.in_scope line
 
 -- the line with its items written out, and how many literals are of notions
 abbrev pub line_written_out : List Titled → TheoremParser → Listing → List RawItem
@@ -96,11 +96,11 @@ is_showing p = false
 
 unfoldable pub defines_on : TheoremParser → RawLine → Result TheoremParser FaultKind
 defines_on d (rawlines.Declare sort new) =
-    right_count (allowed d.place (rawlines.Declare sort new)) >>= λ right. declares d sort new
+    right_count (allowed d.section (rawlines.Declare sort new)) >>= λ right. declares d sort new
 defines_on d (rawlines.Show raws) =
-    right_count (allowed d.place (rawlines.Show raws)) >>= λ right. shows d raws
+    right_count (allowed d.section (rawlines.Show raws)) >>= λ right. shows d raws
 defines_on d rawlines.End =
-    right_count (is_showing d.place) >>= λ right. Ok (record d { place = Done })
+    right_count (is_showing d.section) >>= λ right. Ok (record d { section = Done })
 defines_on d f = Err Malformed
 
 abbrev pub with_parser : Coming → TheoremParser → Coming
@@ -137,7 +137,7 @@ line_step known None words = book_line_of words >>= λ l. begins known l
 line_step known (Some c) words = book_line_of words >>= λ l. step known c l
 
 abbrev pub is_done : Coming → Bool
-is_done c = is_last c.parser.place
+is_done c = is_last c.parser.section
 
 abbrev pub notion_of_parser : TheoremParser → Titled
 notion_of_parser d = titled d.title (record { declared = d.declared; means = d.shown })

@@ -13,7 +13,7 @@ use lib.Signed.{◌≤ℤ◌, ◌<ℤ◌}
 use Rattle.e_literal.specs.declared.object.Term.{Term}
 use Rattle.e_literal.specs.declared.object.Mono.{Mono}
 use Rattle.e_literal.specs.Same.{canonical, term_eq, one_term}
-use Rattle.e_literal.specs.Rows.{Row, Says, Zero, AtLeast, More, Not, coefficient, terms_of_rows, is_degenerate, has_term}
+use Rattle.e_literal.specs.Rows.{Row, Sense, Zero, AtLeast, More, Not, coefficient, terms_of_rows, is_degenerate, has_term}
 use Rattle.e_literal.specs.Absurd.{Weighed, total, allows_multiplier, is_strict, is_absurd}
 use Rattle.e_literal.proofs.Arith.{sums, mul_one, zero_is, is_zero, not_zero}
 use Rattle.e_literal.proofs.Terms.{term_eq_is, term_eq_turned}
@@ -199,7 +199,7 @@ kept_total (r ∷ rs) (m ∷ ms) u = by (int_eq m (pos 0)) refl (kept_total rs m
     by true e ih = omega (arith, sums, ih, ap (λ x. x *ℤ coefficient r.form u) (zero_is m e), zero-*ℤ (coefficient r.form u))
     by false e ih = ap (λ z. m *ℤ coefficient r.form u +ℤ z) ih
 
-one_sign : (s : Says) (m : ℤ) → m ≢ pos 0 → MayTake s m → allows_multiplier s m ≡ true
+one_sign : (s : Sense) (m : ℤ) → m ≢ pos 0 → MayTake s m → allows_multiplier s m ≡ true
 one_sign Zero m n h = refl
 one_sign AtLeast m n h = at_least_is m h
 one_sign More m n h = at_least_is m h

@@ -13,7 +13,7 @@ use Rattle.e_literal.specs.declared.object.Term.TheVariants.{Right}
 use Rattle.e_literal.specs.declared.literal.Lit.{Lit}
 use Rattle.e_literal.specs.Same.{one_term, term_eq}
 use Rattle.e_literal.specs.Width.{is_among}
-use Rattle.e_literal.specs.Rows.{Row, Says, Zero, AtLeast, More, Not, coefficient, has_term, first_terms}
+use Rattle.e_literal.specs.Rows.{Row, Sense, Zero, AtLeast, More, Not, coefficient, has_term, first_terms}
 use Rattle.e_literal.specs.Absurd.{total}
 use Rattle.e_literal.proofs.Arith.{sums, neg_mul, mul_neg}
 use Rattle.e_literal.proofs.Terms.{among_either, among_first, among_rest}
@@ -171,7 +171,7 @@ length_set (y ∷ ys) (suc k) x = ap suc (length_set ys k x)
 unless : (r : Row) (m : ℤ) → MayTake r.says m → (m ≢ pos 0) → unless_not (Some r) ≡ Some r
 unless r m h n = by r.says refl h
   where
-    by : (s : Says) → r.says ≡ s → MayTake s m → cond (says_differ r.says) None (Some r) ≡ Some r
+    by : (s : Sense) → r.says ≡ s → MayTake s m → cond (says_differ r.says) None (Some r) ≡ Some r
     by Zero e k = ap (λ x. cond (says_differ x) None (Some r)) e
     by AtLeast e k = ap (λ x. cond (says_differ x) None (Some r)) e
     by More e k = ap (λ x. cond (says_differ x) None (Some r)) e

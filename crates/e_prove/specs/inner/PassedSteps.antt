@@ -86,10 +86,10 @@ pub record IsReachedIn (before : List StatementView) (xs : List PlacedStep) (ns 
     (first : ℕ) (a : Arrival) (n : ℕ) (names : Names) : Type 0 where
   pub place : ℕ
   pub number : n ≡ first + place
-  pub line : PlacedStep
-  pub at : slice_get xs place ≡ Some line
+  pub step : PlacedStep
+  pub at : slice_get xs place ≡ Some step
   pub earlier : AllLicensed before (take place xs)
-  pub arrives : ArrivesAt before line a
+  pub arrives : ArrivesAt before step a
   pub named : slice_get ns place ≡ Some names
 
 abbrev pub StopIn : List StatementView → List PlacedStep → List Names → ℕ → Stop → Type 0

@@ -107,7 +107,7 @@ owing_against known d e f ks ls g (Some (kept.Against x)) a =
     (sym (append_assoc ls (line_of f ∷ []) (contradiction_lines d.in_scope (Some x)))) (g x a)
 
 -- the proof goes on at its place
-goes_on : (known : List TitledStatement) (d x : TheoremParser) (ks : List StepCerts) (ls : List (List ℕ)) → head_of x ≡ head_of d → x.place ≡ Proving → BlocksSaid known (start_of x) x.blocks x.steps ks x.in_scope ls → Goes known d x ks ls
+goes_on : (known : List TitledStatement) (d x : TheoremParser) (ks : List StepCerts) (ls : List (List ℕ)) → head_of x ≡ head_of d → x.section ≡ Proving → BlocksSaid known (start_of x) x.blocks x.steps ks x.in_scope ls → Goes known d x ks ls
 goes_on known d x ks ls h p b = record { head = h; body = subst (λ (q : Section). BodySaid known q x ks ls) (sym p) b; unfinished = ap is_last p }
 
 -- ---- counts say nothing
@@ -115,7 +115,7 @@ goes_on known d x ks ls h p b = record { head = h; body = subst (λ (q : Section
 abbrev with_one_step : TheoremParser → PlainStep → ℕ → TheoremParser
 with_one_step x s given = record x { lines = x.lines + 1; steps = x.steps ++ s ∷ []; facts = x.facts + given }
 
-step_goes : (known : List TitledStatement) (d x e : TheoremParser) (s : PlainStep) (n : ℕ) (ks : List StepCerts) (ls : List (List ℕ)) → head_of x ≡ head_of d → x.place ≡ Proving → BlocksSaid known (start_of x) x.blocks (x.steps ++ s ∷ []) ks x.in_scope ls
+step_goes : (known : List TitledStatement) (d x e : TheoremParser) (s : PlainStep) (n : ℕ) (ks : List StepCerts) (ls : List (List ℕ)) → head_of x ≡ head_of d → x.section ≡ Proving → BlocksSaid known (start_of x) x.blocks (x.steps ++ s ∷ []) ks x.in_scope ls
     → with_step x s n ≡ Ok e → Goes known d e ks ls
 unfolding with_step
 step_goes known d x e s n ks ls h p b w =
@@ -138,7 +138,7 @@ terms_go known d x e raws ks ls g w =
 
 -- ---- steps
 
-pub takes_by : (known : List TitledStatement) (d e : TheoremParser) (r : List ℕ) (ns : List (List ℕ)) (l : RawLit) (owes : Obligation) (ks : List StepCerts) (ls : List (List ℕ)) → d.place ≡ Proving → BodySaid known Proving d ks ls → Read (rawlines.By r ns l)
+pub takes_by : (known : List TitledStatement) (d e : TheoremParser) (r : List ℕ) (ns : List (List ℕ)) (l : RawLit) (owes : Obligation) (ks : List StepCerts) (ls : List (List ℕ)) → d.section ≡ Proving → BodySaid known Proving d ks ls → Read (rawlines.By r ns l)
     → due_of known d (rawlines.By r ns l) ≡ Ok owes → stepped known d (rawlines.By r ns l) ≡ Ok e → Takes known d e (rawlines.By r ns l) owes ks ls
 unfolding stepped due_of
 takes_by known d e r ns l owes ks ls p b s o h =
@@ -150,7 +150,7 @@ takes_by known d e r ns l owes ks ls p b s o h =
     subst (λ (x : Obligation). Takes known d e (rawlines.By r ns l) x ks ls) (ok_is due.Nothing owes o)
     (owing_nothing known d e (rawlines.By r ns l) ks ls (goes_as known d e (ks ++ []) ks (ls ++ line_of (rawlines.By r ns l) ∷ []) (ls ++ line_of (rawlines.By r ns l) ∷ []) (append-nil ks) refl goes))
 
-pub takes_hence : (known : List TitledStatement) (d e : TheoremParser) (r : RawLit) (owes : Obligation) (ks : List StepCerts) (ls : List (List ℕ)) → d.place ≡ Proving → BodySaid known Proving d ks ls → is_direct r ≡ true → Signed r
+pub takes_hence : (known : List TitledStatement) (d e : TheoremParser) (r : RawLit) (owes : Obligation) (ks : List StepCerts) (ls : List (List ℕ)) → d.section ≡ Proving → BodySaid known Proving d ks ls → is_direct r ≡ true → Signed r
     → due_of known d (rawlines.Hence r) ≡ Ok owes → stepped known d (rawlines.Hence r) ≡ Ok e → Takes known d e (rawlines.Hence r) owes ks ls
 unfolding stepped due_of
 takes_hence known d e r owes ks ls p b dir s o h =
@@ -171,7 +171,7 @@ takes_hence known d e r owes ks ls p b dir s o h =
 abbrev at_names : TheoremParser → Names → TheoremParser
 at_names d ns = record d { in_scope = ns }
 
-built_goes : (known : List TitledStatement) (d e : TheoremParser) (l : RawLet) (read : Construction) (cs : List Cert) (ks : List StepCerts) (ls : List (List ℕ)) → let_in d.in_scope l ≡ Ok read → certs_formed (scope_of_names d.in_scope) (needs_of_construction read) cs ≡ true → d.place ≡ Proving → BodySaid known Proving d ks ls → OneLine l → built d l ≡ Ok e
+built_goes : (known : List TitledStatement) (d e : TheoremParser) (l : RawLet) (read : Construction) (cs : List Cert) (ks : List StepCerts) (ls : List (List ℕ)) → let_in d.in_scope l ≡ Ok read → certs_formed (scope_of_names d.in_scope) (needs_of_construction read) cs ≡ true → d.section ≡ Proving → BodySaid known Proving d ks ls → OneLine l → built d l ≡ Ok e
     → Goes known d e (ks ++ kept.Certs cs ∷ []) (ls ++ line_of (rawlines.Let l) ∷ certs_lines d.in_scope cs)
 unfolding built
 built_goes known d e l read cs ks ls r c p b s h =
@@ -189,7 +189,7 @@ built_goes known d e l read cs ks ls r c p b s h =
     let blocks = blocks_more known (start_of d) d.blocks d.steps (Made form.0 l.new [] ∷ []) ks (kept.Certs cs ∷ []) ns (after form.0) ls lines b said in
     step_goes known d (at_names d (after form.0)) e (Made form.0 l.new []) (length (gives_of_construction form.0 (scope_of_names ns))) (ks ++ kept.Certs cs ∷ []) (ls ++ lines) refl p blocks few.2
 
-pub takes_let : (known : List TitledStatement) (d e : TheoremParser) (l : RawLet) (owes : Obligation) (ks : List StepCerts) (ls : List (List ℕ)) → d.place ≡ Proving → BodySaid known Proving d ks ls → OneLine l
+pub takes_let : (known : List TitledStatement) (d e : TheoremParser) (l : RawLet) (owes : Obligation) (ks : List StepCerts) (ls : List (List ℕ)) → d.section ≡ Proving → BodySaid known Proving d ks ls → OneLine l
     → due_of known d (rawlines.Let l) ≡ Ok owes → stepped known d (rawlines.Let l) ≡ Ok e → Takes known d e (rawlines.Let l) owes ks ls
 unfolding stepped due_of
 takes_let known d e l owes ks ls p b s o h =
@@ -197,7 +197,7 @@ takes_let known d e l owes ks ls p b s o h =
     subst (λ (y : Obligation). Takes known d e (rawlines.Let l) y ks ls) (ok_is (one_each (needs_of_construction w.0)) owes w.2)
     (owing_certs known d e (rawlines.Let l) (needs_of_construction w.0) ks ls (λ cs c. built_goes known d e l w.0 cs ks ls w.1 c p b s h))
 
-used_goes : (known : List TitledStatement) (d e : TheoremParser) (t : StatementView) (theorem : ℕ) (args : List (Option Obj)) (new : List (List ℕ)) (js : List StepCerts) (ls : List (List ℕ)) → d.place ≡ Proving
+used_goes : (known : List TitledStatement) (d e : TheoremParser) (t : StatementView) (theorem : ℕ) (args : List (Option Obj)) (new : List (List ℕ)) (js : List StepCerts) (ls : List (List ℕ)) → d.section ≡ Proving
     → BlocksSaid known (start_of d) d.blocks (d.steps ++ Applied theorem args new [] ∷ []) js (named d.in_scope t.made new) ls → used_by d t theorem args new ≡ Ok e → Goes known d e js ls
 unfolding used_by
 used_goes known d e t theorem args new js ls p b h =
@@ -210,7 +210,7 @@ used_goes known d e t theorem args new js ls p b h =
     let w = bind_ok (within (count_blanks args) most_blanks limits.Blanks) (λ written. read_ok (with_count y.0 n.0)) e n.2 in
     counts_go known d y.0 e n.0 js ls (step_goes known d x y.0 (Applied theorem args new []) (length t.shown) js ls refl p b y.1) (ok_is (with_count y.0 n.0) e w.2)
 
-applied_goes : (known : List TitledStatement) (d e : TheoremParser) (raw : RawApply) (wanted : List Lit) (cs : List Cert) (ks : List StepCerts) (ls : List (List ℕ)) → needs_of_raw_apply known d raw ≡ Ok wanted → certs_formed (scope_of_names d.in_scope) wanted cs ≡ true → d.place ≡ Proving → BodySaid known Proving d ks ls → applied known d raw ≡ Ok e
+applied_goes : (known : List TitledStatement) (d e : TheoremParser) (raw : RawApply) (wanted : List Lit) (cs : List Cert) (ks : List StepCerts) (ls : List (List ℕ)) → needs_of_raw_apply known d raw ≡ Ok wanted → certs_formed (scope_of_names d.in_scope) wanted cs ≡ true → d.section ≡ Proving → BodySaid known Proving d ks ls → applied known d raw ≡ Ok e
     → Goes known d e (ks ++ kept.Certs cs ∷ []) (ls ++ line_of (rawlines.Apply raw) ∷ certs_lines d.in_scope cs)
 unfolding applied needs_of_raw_apply
 applied_goes known d e raw wanted cs ks ls u c p b h =
@@ -236,7 +236,7 @@ applied_goes known d e raw wanted cs ks ls u c p b h =
     used_goes known d e (theorem_of known a.0.0) a.0.0 a.0.1 raw.new (ks ++ kept.Certs cs ∷ []) (ls ++ lines) p
     (blocks_more known (start_of d) d.blocks d.steps (Applied a.0.0 a.0.1 raw.new [] ∷ []) ks (kept.Certs cs ∷ []) ns after ls lines b said) a.2
 
-pub takes_apply : (known : List TitledStatement) (d e : TheoremParser) (raw : RawApply) (owes : Obligation) (ks : List StepCerts) (ls : List (List ℕ)) → d.place ≡ Proving → BodySaid known Proving d ks ls
+pub takes_apply : (known : List TitledStatement) (d e : TheoremParser) (raw : RawApply) (owes : Obligation) (ks : List StepCerts) (ls : List (List ℕ)) → d.section ≡ Proving → BodySaid known Proving d ks ls
     → due_of known d (rawlines.Apply raw) ≡ Ok owes → stepped known d (rawlines.Apply raw) ≡ Ok e → Takes known d e (rawlines.Apply raw) owes ks ls
 unfolding stepped due_of
 takes_apply known d e raw owes ks ls p b o h =
@@ -258,12 +258,12 @@ deeper_is d e op n h =
 abbrev inner_at : TheoremParser → BlockKind → ℕ → Names → ℕ → TheoremParser
 inner_at d op n ns terms = record (interrupted d op n) { in_scope = ns; terms = terms }
 
-inner_goes : (known : List TitledStatement) (d : TheoremParser) (op : BlockKind) (n : ℕ) (start : Names) (terms : ℕ) (ks js : List StepCerts) (ls ms : List (List ℕ)) → d.place ≡ Proving → BodySaid known Proving d ks ls → Opening known (goal_inside (start_of d) d.blocks) d.in_scope op js start ms
+inner_goes : (known : List TitledStatement) (d : TheoremParser) (op : BlockKind) (n : ℕ) (start : Names) (terms : ℕ) (ks js : List StepCerts) (ls ms : List (List ℕ)) → d.section ≡ Proving → BodySaid known Proving d ks ls → Opening known (goal_inside (start_of d) d.blocks) d.in_scope op js start ms
     → Goes known d (inner_at d op n start terms) (ks ++ js) (ls ++ ms)
 inner_goes known d op n start terms ks js ls ms p b o =
     goes_on known d (inner_at d op n start terms) (ks ++ js) (ls ++ ms) refl p (blocks_open known (start_of d) d.blocks (outer_of d op) ks js start ls ms b o)
 
-claimed_goes : (known : List TitledStatement) (d e : TheoremParser) (raws : List RawLit) (ks : List StepCerts) (ls : List (List ℕ)) → d.place ≡ Proving → BodySaid known Proving d ks ls → are_direct raws ≡ true → AllSigned raws → claimed d raws ≡ Ok e
+claimed_goes : (known : List TitledStatement) (d e : TheoremParser) (raws : List RawLit) (ks : List StepCerts) (ls : List (List ℕ)) → d.section ≡ Proving → BodySaid known Proving d ks ls → are_direct raws ≡ true → AllSigned raws → claimed d raws ≡ Ok e
     → Goes known d e ks (ls ++ line_of (rawlines.Claim raws) ∷ [])
 unfolding claimed
 claimed_goes known d e raws ks ls p b dir s h =
@@ -275,14 +275,14 @@ claimed_goes known d e raws ks ls p b dir s h =
     subst (λ (y : TheoremParser). Goes known d y ks (ls ++ line_of (rawlines.Claim raws) ∷ [])) (deeper_is d x.0 (kind.Claim shown.0) 0 x.1 ∙ ok_is x.0 e few.2)
     (goes_as known d (interrupted d (kind.Claim shown.0) 0) (ks ++ []) ks (ls ++ line_of (claim_form d.in_scope shown.0) ∷ []) (ls ++ line_of (rawlines.Claim raws) ∷ []) (append-nil ks) (ap (λ (l : List (List ℕ)). ls ++ l) line) goes)
 
-pub takes_claim : (known : List TitledStatement) (d e : TheoremParser) (raws : List RawLit) (owes : Obligation) (ks : List StepCerts) (ls : List (List ℕ)) → d.place ≡ Proving → BodySaid known Proving d ks ls → are_direct raws ≡ true → AllSigned raws
+pub takes_claim : (known : List TitledStatement) (d e : TheoremParser) (raws : List RawLit) (owes : Obligation) (ks : List StepCerts) (ls : List (List ℕ)) → d.section ≡ Proving → BodySaid known Proving d ks ls → are_direct raws ≡ true → AllSigned raws
     → due_of known d (rawlines.Claim raws) ≡ Ok owes → stepped known d (rawlines.Claim raws) ≡ Ok e → Takes known d e (rawlines.Claim raws) owes ks ls
 unfolding stepped due_of
 takes_claim known d e raws owes ks ls p b dir s o h =
     subst (λ (y : Obligation). Takes known d e (rawlines.Claim raws) y ks ls) (ok_is due.Nothing owes o) (owing_nothing known d e (rawlines.Claim raws) ks ls (claimed_goes known d e raws ks ls p b dir s h))
 
 superposed_goes : (known : List TitledStatement) (d e : TheoremParser) (raw : RawSuperpose) (read : Superpose × List Lit) (cs : List Cert) (ks : List StepCerts) (ls : List (List ℕ)) → superpose_in d.in_scope raw ≡ Ok read
-    → certs_formed (scope_of_names d.in_scope) (superposing.needs_of_superposition read.0) cs ≡ true → length raw.new ≡ 2 → d.place ≡ Proving → BodySaid known Proving d ks ls → are_direct raw.shown ≡ true → AllSigned raw.shown
+    → certs_formed (scope_of_names d.in_scope) (superposing.needs_of_superposition read.0) cs ≡ true → length raw.new ≡ 2 → d.section ≡ Proving → BodySaid known Proving d ks ls → are_direct raw.shown ≡ true → AllSigned raw.shown
     → superposed d raw ≡ Ok e → Goes known d e (ks ++ kept.Certs cs ∷ []) (ls ++ line_of (rawlines.Superpose raw) ∷ certs_lines d.in_scope cs)
 unfolding superposed
 superposed_goes known d e raw read cs ks ls r c two p b dir s h =
@@ -311,7 +311,7 @@ superposed_goes known d e raw read cs ks ls r c two p b dir s h =
     (ap (λ (y : TheoremParser). at_end y n.0) (deeper_is d x.0 op (length (given q.0.0)) x.1) ∙ ok_is (at_end x.0 n.0) e n.2)
     (goes_as known d (inner_at d op (length (given q.0.0)) after n.0) (ks ++ kept.Certs cs ∷ []) (ks ++ kept.Certs cs ∷ []) (ls ++ lines) (ls ++ line_of (rawlines.Superpose raw) ∷ certs_lines ns cs) refl (ap (λ (l : List (List ℕ)). ls ++ l) line) goes)
 
-pub takes_superpose : (known : List TitledStatement) (d e : TheoremParser) (raw : RawSuperpose) (owes : Obligation) (ks : List StepCerts) (ls : List (List ℕ)) → length raw.new ≡ 2 → d.place ≡ Proving → BodySaid known Proving d ks ls → are_direct raw.shown ≡ true → AllSigned raw.shown
+pub takes_superpose : (known : List TitledStatement) (d e : TheoremParser) (raw : RawSuperpose) (owes : Obligation) (ks : List StepCerts) (ls : List (List ℕ)) → length raw.new ≡ 2 → d.section ≡ Proving → BodySaid known Proving d ks ls → are_direct raw.shown ≡ true → AllSigned raw.shown
     → due_of known d (rawlines.Superpose raw) ≡ Ok owes → stepped known d (rawlines.Superpose raw) ≡ Ok e → Takes known d e (rawlines.Superpose raw) owes ks ls
 unfolding stepped due_of
 takes_superpose known d e raw owes ks ls two p b dir s o h =
@@ -319,7 +319,7 @@ takes_superpose known d e raw owes ks ls two p b dir s o h =
     subst (λ (y : Obligation). Takes known d e (rawlines.Superpose raw) y ks ls) (ok_is (one_each (superposing.needs_of_superposition w.0.0)) owes w.2)
     (owing_certs known d e (rawlines.Superpose raw) (superposing.needs_of_superposition w.0.0) ks ls (λ cs c. superposed_goes known d e raw w.0 cs ks ls w.1 c two p b dir s h))
 
-split_goes : (known : List TitledStatement) (d e : TheoremParser) (r : RawLit) (ks : List StepCerts) (ls : List (List ℕ)) → d.place ≡ Proving → BodySaid known Proving d ks ls → is_direct r ≡ true → Signed r → split d r ≡ Ok e
+split_goes : (known : List TitledStatement) (d e : TheoremParser) (r : RawLit) (ks : List StepCerts) (ls : List (List ℕ)) → d.section ≡ Proving → BodySaid known Proving d ks ls → is_direct r ≡ true → Signed r → split d r ≡ Ok e
     → Goes known d e ks (ls ++ line_of (rawlines.Cases r) ∷ [])
 unfolding split
 split_goes known d e r ks ls p b dir s h =
@@ -331,14 +331,14 @@ split_goes known d e r ks ls p b dir s h =
     (subst (λ (y : TheoremParser). Goes known d y ks (ls ++ line_of (rawlines.Cases r) ∷ [])) (deeper_is d x.0 (kind.First l.0) 1 x.1)
     (goes_as known d (interrupted d (kind.First l.0) 1) (ks ++ []) ks (ls ++ line_of (cases_form d.in_scope l.0) ∷ []) (ls ++ line_of (rawlines.Cases r) ∷ []) (append-nil ks) (ap (λ (l : List (List ℕ)). ls ++ l) line) goes)) x.2
 
-pub takes_cases : (known : List TitledStatement) (d e : TheoremParser) (r : RawLit) (owes : Obligation) (ks : List StepCerts) (ls : List (List ℕ)) → d.place ≡ Proving → BodySaid known Proving d ks ls → is_direct r ≡ true → Signed r
+pub takes_cases : (known : List TitledStatement) (d e : TheoremParser) (r : RawLit) (owes : Obligation) (ks : List StepCerts) (ls : List (List ℕ)) → d.section ≡ Proving → BodySaid known Proving d ks ls → is_direct r ≡ true → Signed r
     → due_of known d (rawlines.Cases r) ≡ Ok owes → stepped known d (rawlines.Cases r) ≡ Ok e → Takes known d e (rawlines.Cases r) owes ks ls
 unfolding stepped due_of
 takes_cases known d e r owes ks ls p b dir s o h =
     subst (λ (y : Obligation). Takes known d e (rawlines.Cases r) y ks ls) (ok_is due.Nothing owes o) (owing_nothing known d e (rawlines.Cases r) ks ls (split_goes known d e r ks ls p b dir s h))
 
 abbrev at_place : TheoremParser → Section → TheoremParser
-at_place d p = record d { place = p }
+at_place d p = record d { section = p }
 
 -- the second block of a split begins
 pub takes_else : (known : List TitledStatement) (d e : TheoremParser) (owes : Obligation) (ks : List StepCerts) (ls : List (List ℕ)) → BodySaid known Splitting d ks ls → due_of known d rawlines.Else ≡ Ok owes → stepped known d rawlines.Else ≡ Ok e → Takes known d e rawlines.Else owes ks ls
@@ -363,7 +363,7 @@ goal_sorts : (first : Start) (os : List OpenBlock) (made : List Sort) → sorts_
 goal_sorts first [] made e = e
 goal_sorts first (o ∷ os) made e = sorts_by o.kind (shown_around os) first.goal made (has_claim os) (goal_sorts first os made e)
 
-pub takes_qed : (known : List TitledStatement) (d e : TheoremParser) (ns : List (List ℕ)) (owes : Obligation) (ks : List StepCerts) (ls : List (List ℕ)) → d.place ≡ Proving → BodySaid known Proving d ks ls
+pub takes_qed : (known : List TitledStatement) (d e : TheoremParser) (ns : List (List ℕ)) (owes : Obligation) (ks : List StepCerts) (ls : List (List ℕ)) → d.section ≡ Proving → BodySaid known Proving d ks ls
     → due_of known d (rawlines.Qed ns) ≡ Ok owes → stepped known d (rawlines.Qed ns) ≡ Ok e → Takes known d e (rawlines.Qed ns) owes ks ls
 unfolding stepped due_of needs_at_qed
 takes_qed known d e ns owes ks ls p b o h =
@@ -383,7 +383,7 @@ takes_qed known d e ns owes ks ls p b o h =
     (ap (λ (f : RawLine). line_of f ∷ certs_lines d.in_scope cs) line) (qed_said known d.in_scope goal os.0 cs fit formed) in
     shut_goes known d e (closes.Qed os.0) ks (kept.Certs cs ∷ []) ls (line_of (rawlines.Qed ns) ∷ certs_lines d.in_scope cs) p b said os.2))
 
-pub takes_contradiction : (known : List TitledStatement) (d e : TheoremParser) (owes : Obligation) (ks : List StepCerts) (ls : List (List ℕ)) → d.place ≡ Proving → BodySaid known Proving d ks ls
+pub takes_contradiction : (known : List TitledStatement) (d e : TheoremParser) (owes : Obligation) (ks : List StepCerts) (ls : List (List ℕ)) → d.section ≡ Proving → BodySaid known Proving d ks ls
     → due_of known d rawlines.Contradiction ≡ Ok owes → stepped known d rawlines.Contradiction ≡ Ok e → Takes known d e rawlines.Contradiction owes ks ls
 unfolding stepped due_of
 takes_contradiction known d e owes ks ls p b o h =

@@ -53,16 +53,16 @@ use Rattle.e_roundtrip.proofs.Heads.HeadTaken.{InProof, ParserSaid, Puts, puts_d
 
 -- whatever is kept for it that has the form of what it owes, it and that are said; and the last line owes nothing
 pub record Leaves (known : List TitledStatement) (d e : TheoremParser) (f : RawLine) (owes : Obligation) (ks : List StepCerts) (ls : List (List ℕ)) : Type 0 where
-  pub said : (k : Option StepCerts) → KeptIsFormed (scope_of_names d.in_scope) (due_at_first owes) k → ParserSaid known e.place e (ks ++ option_to_list k) ((ls ++ line_of f ∷ []) ++ kept_text d.in_scope k)
-  pub last : is_last e.place ≡ true → owes ≡ due.Nothing
+  pub said : (k : Option StepCerts) → KeptIsFormed (scope_of_names d.in_scope) (due_at_first owes) k → ParserSaid known e.section e (ks ++ option_to_list k) ((ls ++ line_of f ∷ []) ++ kept_text d.in_scope k)
+  pub last : is_last e.section ≡ true → owes ≡ due.Nothing
 
 -- a line that owes nothing
 pub nothing_left : (known : List TitledStatement) (d e : TheoremParser) (f : RawLine) (ks : List StepCerts) (ls : List (List ℕ)) → Puts known e f ks ls → Leaves known d e f due.Nothing ks ls
 nothing_left known d e f ks ls h = record { said = λ k a. by_kept k a; last = λ l. refl } where
-  by_kept : (k : Option StepCerts) → KeptIsFormed (scope_of_names d.in_scope) due.Nothing k → ParserSaid known e.place e (ks ++ option_to_list k) ((ls ++ line_of f ∷ []) ++ kept_text d.in_scope k)
+  by_kept : (k : Option StepCerts) → KeptIsFormed (scope_of_names d.in_scope) due.Nothing k → ParserSaid known e.section e (ks ++ option_to_list k) ((ls ++ line_of f ∷ []) ++ kept_text d.in_scope k)
   by_kept None a =
-      subst (λ (l : List (List ℕ)). ParserSaid known e.place e (ks ++ []) l) (sym (append-nil (ls ++ line_of f ∷ [])))
-      (subst (λ (k : List StepCerts). ParserSaid known e.place e k (ls ++ line_of f ∷ [])) (sym (append-nil ks)) h)
+      subst (λ (l : List (List ℕ)). ParserSaid known e.section e (ks ++ []) l) (sym (append-nil (ls ++ line_of f ∷ [])))
+      (subst (λ (k : List StepCerts). ParserSaid known e.section e k (ls ++ line_of f ∷ [])) (sym (append-nil ks)) h)
   by_kept (Some k) a = absurd a
 
 -- the line of a head owes nothing
@@ -104,7 +104,7 @@ proof_left known d e f owes p ks ls i t =
           let g = t k a in
           let head = map line_of (head_forms (head_of d)) in
           let text = kept_text d.in_scope k in
-          in_proof known e.place e (ks ++ option_to_list k) ((ls ++ line_of f ∷ []) ++ text) ((i.said ++ line_of f ∷ []) ++ text)
+          in_proof known e.section e (ks ++ option_to_list k) ((ls ++ line_of f ∷ []) ++ text) ((i.said ++ line_of f ∷ []) ++ text)
           (ap (λ (l : List (List ℕ)). (l ++ line_of f ∷ []) ++ text) i.lines ∙ after_head head i.said (line_of f ∷ []) text
           ∙ ap (λ (x : TheoremView). map line_of (head_forms x) ++ ((i.said ++ line_of f ∷ []) ++ text)) (sym g.head)) g.body;
       last = λ l. absurd (no_last (sym (t one.0 one.1).unfinished ∙ l));
@@ -165,7 +165,7 @@ at_end known p d ks ls a h = absurd cc
 -- ---- every line
 
 abbrev at_place : TheoremParser → Section → TheoremParser
-at_place d p = record d { place = p }
+at_place d p = record d { section = p }
 
 -- the last line of a theorem
 puts_end : (known : List TitledStatement) (d e : TheoremParser) (ks : List StepCerts) (ls : List (List ℕ)) → InProof known Closed d ks ls → stepped known d rawlines.End ≡ Ok e → Puts known e rawlines.End ks ls
@@ -178,8 +178,8 @@ puts_end known d e ks ls i h =
       body = (i.said, i.body, refl);
     })
 
-pub line_left : (known : List TitledStatement) (d e : TheoremParser) (f : RawLine) (owes : Obligation) (ks : List StepCerts) (ls : List (List ℕ)) → ParserSaid known d.place d ks ls → Read f → is_strict_line f ≡ true → is_apart d f ≡ true
-    → due_of known d f ≡ Ok owes → allowed d.place f ≡ true → stepped known d f ≡ Ok e → Leaves known d e f owes ks ls
+pub line_left : (known : List TitledStatement) (d e : TheoremParser) (f : RawLine) (owes : Obligation) (ks : List StepCerts) (ls : List (List ℕ)) → ParserSaid known d.section d ks ls → Read f → is_strict_line f ≡ true → is_apart d f ≡ true
+    → due_of known d f ≡ Ok owes → allowed d.section f ≡ true → stepped known d f ≡ Ok e → Leaves known d e f owes ks ls
 unfolding due_of
 line_left known d e (rawlines.Theorem t) owes ks ls g r s n o a h = absurd (no_title known d e t h)
 line_left known d e (rawlines.Declare sort ns) owes ks ls g r s n o a h = head_left known d e (rawlines.Declare sort ns) owes ks ls o (puts_declared known d e sort ns ks ls a g r n h)
@@ -192,42 +192,42 @@ line_left known d e (rawlines.Show raws) owes ks ls g r s n o a h =
     head_left known d e (rawlines.Show raws) owes ks ls o (puts_shown known d e raws ks ls a g b.0 b.1 r h)
 line_left known d e rawlines.Proof owes ks ls g r s n o a h = head_left known d e rawlines.Proof owes ks ls o (puts_proof known d e ks ls a g h)
 line_left known d e (rawlines.By rule ns l) owes ks ls g r s n o a h =
-    let i = at_by known d.place d ks ls rule ns l a g in
+    let i = at_by known d.section d ks ls rule ns l a g in
     proof_left known d e (rawlines.By rule ns l) owes Proving ks ls i.1 (takes_by known d e rule ns l owes ks i.1.said i.0 i.1.body r o h)
 line_left known d e (rawlines.Hence l) owes ks ls g r s n o a h =
-    let i = at_hence known d.place d ks ls l a g in
+    let i = at_hence known d.section d ks ls l a g in
     proof_left known d e (rawlines.Hence l) owes Proving ks ls i.1 (takes_hence known d e l owes ks i.1.said i.0 i.1.body s r o h)
 line_left known d e (rawlines.Let l) owes ks ls g r s n o a h =
-    let i = at_let known d.place d ks ls l a g in
+    let i = at_let known d.section d ks ls l a g in
     proof_left known d e (rawlines.Let l) owes Proving ks ls i.1 (takes_let known d e l owes ks i.1.said i.0 i.1.body r o h)
 line_left known d e (rawlines.Apply raw) owes ks ls g r s n o a h =
-    let i = at_apply known d.place d ks ls raw a g in
+    let i = at_apply known d.section d ks ls raw a g in
     proof_left known d e (rawlines.Apply raw) owes Proving ks ls i.1 (takes_apply known d e raw owes ks i.1.said i.0 i.1.body o h)
 line_left known d e (rawlines.Qed ns) owes ks ls g r s n o a h =
-    let i = at_qed known d.place d ks ls ns a g in
+    let i = at_qed known d.section d ks ls ns a g in
     proof_left known d e (rawlines.Qed ns) owes Proving ks ls i.1 (takes_qed known d e ns owes ks i.1.said i.0 i.1.body o h)
 line_left known d e rawlines.Contradiction owes ks ls g r s n o a h =
-    let i = at_contradiction known d.place d ks ls a g in
+    let i = at_contradiction known d.section d ks ls a g in
     proof_left known d e rawlines.Contradiction owes Proving ks ls i.1 (takes_contradiction known d e owes ks i.1.said i.0 i.1.body o h)
 line_left known d e (rawlines.Claim raws) owes ks ls g r s n o a h =
-    let i = at_claim known d.place d ks ls raws a g in
+    let i = at_claim known d.section d ks ls raws a g in
     proof_left known d e (rawlines.Claim raws) owes Proving ks ls i.1 (takes_claim known d e raws owes ks i.1.said i.0 i.1.body s r o h)
 line_left known d e (rawlines.Superpose raw) owes ks ls g r s n o a h =
-    let i = at_superpose known d.place d ks ls raw a g in
+    let i = at_superpose known d.section d ks ls raw a g in
     proof_left known d e (rawlines.Superpose raw) owes Proving ks ls i.1 (takes_superpose known d e raw owes ks i.1.said r.1 i.0 i.1.body s r.0 o h)
 line_left known d e (rawlines.Cases l) owes ks ls g r s n o a h =
-    let i = at_cases known d.place d ks ls l a g in
+    let i = at_cases known d.section d ks ls l a g in
     proof_left known d e (rawlines.Cases l) owes Proving ks ls i.1 (takes_cases known d e l owes ks i.1.said i.0 i.1.body s r o h)
 line_left known d e rawlines.Else owes ks ls g r s n o a h =
-    let i = at_else known d.place d ks ls a g in
+    let i = at_else known d.section d ks ls a g in
     proof_left known d e rawlines.Else owes Splitting ks ls i (takes_else known d e owes ks i.said i.body o h)
-line_left known d e rawlines.End owes ks ls g r s n o a h = head_left known d e rawlines.End owes ks ls o (puts_end known d e ks ls (at_end known d.place d ks ls a g) h)
+line_left known d e rawlines.End owes ks ls g r s n o a h = head_left known d e rawlines.End owes ks ls o (puts_end known d e ks ls (at_end known d.section d ks ls a g) h)
 
 -- a line at its place
-pub step_left : (known : List TitledStatement) (d e : TheoremParser) (f : RawLine) (owes : Obligation) (ks : List StepCerts) (ls : List (List ℕ)) → ParserSaid known d.place d ks ls → Read f → is_strict_line f ≡ true → is_apart d f ≡ true
+pub step_left : (known : List TitledStatement) (d e : TheoremParser) (f : RawLine) (owes : Obligation) (ks : List StepCerts) (ls : List (List ℕ)) → ParserSaid known d.section d ks ls → Read f → is_strict_line f ≡ true → is_apart d f ≡ true
     → due_of known d f ≡ Ok owes → step known d f ≡ Ok e → Leaves known d e f owes ks ls
 unfolding step
-step_left known d e f owes ks ls g r s n o h = let p = passes (allowed d.place f) (stepped known d f) e h in line_left known d e f owes ks ls g r s n o p.0 p.1
+step_left known d e f owes ks ls g r s n o h = let p = passes (allowed d.section f) (stepped known d f) e h in line_left known d e f owes ks ls g r s n o p.0 p.1
 
 -- ---- what a line owes at first
 

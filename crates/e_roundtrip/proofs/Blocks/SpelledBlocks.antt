@@ -153,8 +153,8 @@ head_of d = record { title = d.title; names = d.names; statement = statement_of_
 -- what a line of the proof leaves: the head as it was, and a body; it is not the last line
 pub record Goes (known : List TitledStatement) (d e : TheoremParser) (ks : List StepCerts) (ls : List (List ℕ)) : Type 0 where
   pub head : head_of e ≡ head_of d
-  pub body : BodySaid known e.place e ks ls
-  pub unfinished : is_last e.place ≡ false
+  pub body : BodySaid known e.section e ks ls
+  pub unfinished : is_last e.section ≡ false
 
 -- ---- blocks are closed
 
@@ -195,7 +195,7 @@ abbrev resumed_at : TheoremParser → OpenBlock → List OpenBlock → PlainStep
 resumed_at d o os s = record d { steps = o.steps ++ s ∷ []; in_scope = o.in_scope; blocks = os }
 
 -- the block around goes on with a step
-resumes : (known : List TitledStatement) (d e : TheoremParser) (o : OpenBlock) (os : List OpenBlock) (shown : List Lit) (s : PlainStep) (ks : List StepCerts) (ls : List (List ℕ)) → d.place ≡ Proving
+resumes : (known : List TitledStatement) (d e : TheoremParser) (o : OpenBlock) (os : List OpenBlock) (shown : List Lit) (s : PlainStep) (ks : List StepCerts) (ls : List (List ℕ)) → d.section ≡ Proving
     → BlocksSaid known (start_of d) os (o.steps ++ s ∷ []) ks o.in_scope ls → resumed d o os shown s ≡ Ok e → Goes known d e ks ls
 unfolding resumed counted_from
 resumes known d e o os shown s ks ls p b h =
@@ -209,10 +209,10 @@ resumes known d e o os shown s ks ls p b h =
 -- after the first block of a split
 abbrev at_second : TheoremParser → OpenBlock → List OpenBlock → Lit → Script → TheoremParser
 at_second d o os lit inner =
-    record d { steps = []; in_scope = o.in_scope; facts = o.facts + 1; terms = o.terms + monomials lit.atom; blocks = record o { kind = kind.Second lit inner } ∷ os; place = Splitting }
+    record d { steps = []; in_scope = o.in_scope; facts = o.facts + 1; terms = o.terms + monomials lit.atom; blocks = record o { kind = kind.Second lit inner } ∷ os; section = Splitting }
 
 -- one block is closed, and what the close of the block around it would leave
-inside_ends : (known : List TitledStatement) (d e : TheoremParser) (o : OpenBlock) (os : List OpenBlock) (inner : Script) (by : BlockKind) (again : CloseLine → Result TheoremParser FaultKind) (ka ko ki : List StepCerts) (start : Names) (la lo li : List (List ℕ)) → d.place ≡ Proving
+inside_ends : (known : List TitledStatement) (d e : TheoremParser) (o : OpenBlock) (os : List OpenBlock) (inner : Script) (by : BlockKind) (again : CloseLine → Result TheoremParser FaultKind) (ka ko ki : List StepCerts) (start : Names) (la lo li : List (List ℕ)) → d.section ≡ Proving
     → BlocksSaid known (start_of d) os o.steps ka o.in_scope la → Opening known (goal_inside (start_of d) os) o.in_scope by ko start lo → ScriptSaid known start (goal_or (shown_inside by (shown_around os)) (start_of d).goal) inner ki li
     → ((close : CloseLine) → ScriptSaid known o.in_scope (goal_inside (start_of d) os) (script_of_close close) (ko ++ ki) (lo ++ li) → again close ≡ Ok e → Goes known d e (ka ++ (ko ++ ki)) (la ++ (lo ++ li)))
     → closed_inside d o os inner again by ≡ Ok e → Goes known d e (ka ++ (ko ++ ki)) (la ++ (lo ++ li))
@@ -232,10 +232,10 @@ inside_ends known d e o os inner (kind.Second lit first) again ka ko ki start la
     more (closes.Cases lit first inner) (second_ends known (goal_inside (start_of d) os) o.in_scope start lit first inner ko ki lo li b s) h
 
 abbrev shut_last : TheoremParser → List PlainStep → CloseLine → TheoremParser
-shut_last d ss close = record d { steps = ss; blocks = []; close = close; place = Closed }
+shut_last d ss close = record d { steps = ss; blocks = []; close = close; section = Closed }
 
 -- the block with these steps inside these blocks is closed
-closed_goes : (known : List TitledStatement) (d e : TheoremParser) (os : List OpenBlock) (ss : List PlainStep) (close : CloseLine) (ks kc : List StepCerts) (ns : Names) (ls lc : List (List ℕ)) → d.place ≡ Proving
+closed_goes : (known : List TitledStatement) (d e : TheoremParser) (os : List OpenBlock) (ss : List PlainStep) (close : CloseLine) (ks kc : List StepCerts) (ns : Names) (ls lc : List (List ℕ)) → d.section ≡ Proving
     → BlocksSaid known (start_of d) os ss ks ns ls → ScriptSaid known ns (goal_inside (start_of d) os) (script_of_close close) kc lc → closed d os ss close ≡ Ok e → Goes known d e (ks ++ kc) (ls ++ lc)
 unfolding closed
 closed_goes known d e [] ss close ks kc ns ls lc p a s h =
@@ -250,7 +250,7 @@ closed_goes known d e (o ∷ os) ss close ks kc ns ls lc p a s h =
     subst (λ (l : List (List ℕ)). Goes known d e (ks ++ kc) l) lines (subst (λ (k : List StepCerts). Goes known d e k (a.lines_around ++ (a.lines_opening ++ (a.lines_inside ++ lc)))) kept goes)
 
 -- a close line
-pub shut_goes : (known : List TitledStatement) (d e : TheoremParser) (close : CloseLine) (ks kc : List StepCerts) (ls lc : List (List ℕ)) → d.place ≡ Proving → BodySaid known Proving d ks ls → ScriptSaid known d.in_scope (goal_inside (start_of d) d.blocks) (script_of_close close) kc lc
+pub shut_goes : (known : List TitledStatement) (d e : TheoremParser) (close : CloseLine) (ks kc : List StepCerts) (ls lc : List (List ℕ)) → d.section ≡ Proving → BodySaid known Proving d ks ls → ScriptSaid known d.in_scope (goal_inside (start_of d) d.blocks) (script_of_close close) kc lc
     → shut d close ≡ Ok e → Goes known d e (ks ++ kc) (ls ++ lc)
 unfolding shut
 shut_goes known d e close ks kc ls lc p a s h =

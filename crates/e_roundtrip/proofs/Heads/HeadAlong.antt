@@ -65,7 +65,7 @@ same_sorts x y ds ms e a b =
 declare_sorts : (known : List TitledStatement) (d e : TheoremParser) (sort : Sort) (ns : List (List ℕ)) → step known d (rawlines.Declare sort ns) ≡ Ok e → Sorts e (d.declared ++ replicate (length ns) sort) d.made
 unfolding step stepped
 declare_sorts known d e sort ns h =
-    let p = passed (allowed d.place (rawlines.Declare sort ns)) (declares d sort ns) e h in
+    let p = passed (allowed d.section (rawlines.Declare sort ns)) (declares d sort ns) e h in
     let with_new : Names → TheoremParser = λ names. record d { names = names; declared = d.declared ++ replicate (length ns) sort } in
     let n = bind_ok (declared d.names sort ns) (λ names. Ok (with_new names)) e p.1 in
     same_sorts (with_new n.0) e (d.declared ++ replicate (length ns) sort) d.made n.2 refl refl
@@ -73,8 +73,8 @@ declare_sorts known d e sort ns h =
 made_sorts : (known : List TitledStatement) (d e : TheoremParser) (sort : Sort) (ns : List (List ℕ)) → step known d (rawlines.Made sort ns) ≡ Ok e → Sorts e d.declared (d.made ++ replicate (length ns) sort)
 unfolding step stepped
 made_sorts known d e sort ns h =
-    let p = passed (allowed d.place (rawlines.Made sort ns)) (makes d sort ns) e h in
-    let with_new : Names → TheoremParser = λ names. record d { names = names; made = d.made ++ replicate (length ns) sort; place = Making } in
+    let p = passed (allowed d.section (rawlines.Made sort ns)) (makes d sort ns) e h in
+    let with_new : Names → TheoremParser = λ names. record d { names = names; made = d.made ++ replicate (length ns) sort; section = Making } in
     let n = bind_ok (declared d.names sort ns) (λ names. Ok (with_new names)) e p.1 in
     same_sorts (with_new n.0) e d.declared (d.made ++ replicate (length ns) sort) n.2 refl refl
 
@@ -89,8 +89,8 @@ terms_sorts d e raws h =
 given_sorts : (known : List TitledStatement) (d e : TheoremParser) (raws : List RawLit) → step known d (rawlines.Given raws) ≡ Ok e → Sorts e d.declared d.made
 unfolding step stepped
 given_sorts known d e raws h =
-    let p = passed (allowed d.place (rawlines.Given raws)) (supposes d raws) e h in
-    let with_given : List Lit → TheoremParser = λ ls. record d { given = ls; facts = d.facts + length raws; place = Giving } in
+    let p = passed (allowed d.section (rawlines.Given raws)) (supposes d raws) e h in
+    let with_given : List Lit → TheoremParser = λ ls. record d { given = ls; facts = d.facts + length raws; section = Giving } in
     let a = bind_ok (with_front d.given (lits_in d.names raws)) (λ ls. within (d.facts + length raws) most_facts limits.Facts >>= λ few. with_terms (with_given ls) raws) e p.1 in
     let b = bind_ok (within (d.facts + length raws) most_facts limits.Facts) (λ few. with_terms (with_given a.0) raws) e a.2 in
     terms_sorts (with_given a.0) e raws b.2
@@ -98,8 +98,8 @@ given_sorts known d e raws h =
 show_sorts : (known : List TitledStatement) (d e : TheoremParser) (raws : List RawLit) → step known d (rawlines.Show raws) ≡ Ok e → Sorts e d.declared d.made
 unfolding step stepped
 show_sorts known d e raws h =
-    let p = passed (allowed d.place (rawlines.Show raws)) (shows d raws) e h in
-    let with_shown : List Lit → TheoremParser = λ ls. record d { shown = ls; place = Showing } in
+    let p = passed (allowed d.section (rawlines.Show raws)) (shows d raws) e h in
+    let with_shown : List Lit → TheoremParser = λ ls. record d { shown = ls; section = Showing } in
     let a = bind_ok (with_front d.shown (lits_in d.names raws)) (λ ls. few_monos raws >>= λ few. Ok (with_shown ls)) e p.1 in
     let b = bind_ok (few_monos raws) (λ few. Ok (with_shown a.0)) e a.2 in
     same_sorts (with_shown a.0) e d.declared d.made b.2 refl refl
@@ -107,7 +107,7 @@ show_sorts known d e raws h =
 proof_sorts : (known : List TitledStatement) (d e : TheoremParser) → step known d rawlines.Proof ≡ Ok e → Sorts e d.declared d.made
 unfolding step stepped
 proof_sorts known d e h =
-    let p = passed (allowed d.place rawlines.Proof) (proof_begun d) e h in
+    let p = passed (allowed d.section rawlines.Proof) (proof_begun d) e h in
     same_sorts _ e d.declared d.made p.1 refl refl
 
 -- ---- the lines are taken

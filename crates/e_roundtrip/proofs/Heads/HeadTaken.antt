@@ -77,7 +77,7 @@ ParserSaid known Done d ks ls = InProof known Done d ks ls
 
 -- a line that owes nothing is said
 abbrev pub Puts : List TitledStatement → TheoremParser → RawLine → List StepCerts → List (List ℕ) → Type 0
-Puts known e f ks ls = ParserSaid known e.place e ks (ls ++ line_of f ∷ [])
+Puts known e f ks ls = ParserSaid known e.section e ks (ls ++ line_of f ∷ [])
 
 one_line : (said : List RawLine) (f : RawLine) (ls : List (List ℕ)) → ls ≡ map line_of said → ls ++ line_of f ∷ [] ≡ map line_of (said ++ f ∷ [])
 one_line said f ls e = ap (λ (l : List (List ℕ)). l ++ line_of f ∷ []) e ∙ sym (map-append line_of said (f ∷ []))
@@ -122,11 +122,11 @@ names_are ns sort new now e =
 abbrev declaring : TheoremParser → Names → Sort → List (List ℕ) → TheoremParser
 declaring d ns sort new = record d { names = ns; declared = d.declared ++ replicate (length new) sort }
 
-pub puts_declared : (known : List TitledStatement) (d e : TheoremParser) (sort : Sort) (new : List (List ℕ)) (ks : List StepCerts) (ls : List (List ℕ)) → allowed d.place (rawlines.Declare sort new) ≡ true → ParserSaid known d.place d ks ls → 0 < length new
+pub puts_declared : (known : List TitledStatement) (d e : TheoremParser) (sort : Sort) (new : List (List ℕ)) (ks : List StepCerts) (ls : List (List ℕ)) → allowed d.section (rawlines.Declare sort new) ≡ true → ParserSaid known d.section d ks ls → 0 < length new
     → not (ends_with d.declared sort) ≡ true → stepped known d (rawlines.Declare sort new) ≡ Ok e → Puts known e (rawlines.Declare sort new) ks ls
 unfolding stepped
 puts_declared known d e sort new ks ls a g lt apart h =
-    let at = at_declared known d.place d ks ls sort new a g in
+    let at = at_declared known d.section d ks ls sort new a g in
     let i = at.1 in
     let n = bind_ok (declared d.names sort new) (λ ns. read_ok (declaring d ns sort new)) e h in
     let x : TheoremParser = declaring d (with_more d.names sort new) sort new in
@@ -143,13 +143,13 @@ puts_declared known d e sort new ks ls a g lt apart h =
     subst (λ (y : TheoremParser). Puts known y (rawlines.Declare sort new) ks ls) is (subst (λ (p : Section). ParserSaid known p x ks (ls ++ line_of (rawlines.Declare sort new) ∷ [])) (sym at.0) head)
 
 abbrev making : TheoremParser → Names → Sort → List (List ℕ) → TheoremParser
-making d ns sort new = record d { names = ns; made = d.made ++ replicate (length new) sort; place = Making }
+making d ns sort new = record d { names = ns; made = d.made ++ replicate (length new) sort; section = Making }
 
-pub puts_made : (known : List TitledStatement) (d e : TheoremParser) (sort : Sort) (new : List (List ℕ)) (ks : List StepCerts) (ls : List (List ℕ)) → allowed d.place (rawlines.Made sort new) ≡ true → ParserSaid known d.place d ks ls → 0 < length new
+pub puts_made : (known : List TitledStatement) (d e : TheoremParser) (sort : Sort) (new : List (List ℕ)) (ks : List StepCerts) (ls : List (List ℕ)) → allowed d.section (rawlines.Made sort new) ≡ true → ParserSaid known d.section d ks ls → 0 < length new
     → not (ends_with d.made sort) ≡ true → stepped known d (rawlines.Made sort new) ≡ Ok e → Puts known e (rawlines.Made sort new) ks ls
 unfolding stepped
 puts_made known d e sort new ks ls a g lt apart h =
-    let i = at_made known d.place d ks ls sort new a g in
+    let i = at_made known d.section d ks ls sort new a g in
     let n = bind_ok (declared d.names sort new) (λ ns. read_ok (making d ns sort new)) e h in
     let x : TheoremParser = making d (with_more d.names sort new) sort new in
     let is : x ≡ e = ap (λ (ns : Names). making d ns sort new) (names_are d.names sort new n.0 n.1) ∙ ok_is (making d n.0 sort new) e n.2 in
@@ -192,7 +192,7 @@ one_lit ns front (r ∷ []) all n d s e =
     }
 
 abbrev giving : TheoremParser → List Lit → ℕ → TheoremParser
-giving d ls n = record d { given = ls; facts = d.facts + n; place = Giving }
+giving d ls n = record d { given = ls; facts = d.facts + n; section = Giving }
 
 abbrev with_count : TheoremParser → ℕ → TheoremParser
 with_count x n = record x { terms = n }
@@ -204,11 +204,11 @@ terms_are x e raws w =
     let n = bind_ok (terms_after_raw x.terms raws) (λ n. read_ok (with_count x n)) e few.2 in
     (n.0, ok_is (with_count x n.0) e n.2)
 
-pub puts_given : (known : List TitledStatement) (d e : TheoremParser) (raws : List RawLit) (ks : List StepCerts) (ls : List (List ℕ)) → allowed d.place (rawlines.Given raws) ≡ true → ParserSaid known d.place d ks ls → (eqb (length raws) 1) ≡ true
+pub puts_given : (known : List TitledStatement) (d e : TheoremParser) (raws : List RawLit) (ks : List StepCerts) (ls : List (List ℕ)) → allowed d.section (rawlines.Given raws) ≡ true → ParserSaid known d.section d ks ls → (eqb (length raws) 1) ≡ true
     → are_direct raws ≡ true → AllSigned raws → stepped known d (rawlines.Given raws) ≡ Ok e → Puts known e (rawlines.Given raws) ks ls
 unfolding stepped
 puts_given known d e raws ks ls a g one dir s h =
-    let i = at_given known d.place d ks ls raws a g in
+    let i = at_given known d.section d ks ls raws a g in
     let all = bind_ok (with_front d.given (lits_in d.names raws)) (λ ls. within (d.facts + length raws) most_facts limits.Facts >>= λ few. with_terms (giving d ls (length raws)) raws) e h in
     let few = bind_ok (within (d.facts + length raws) most_facts limits.Facts) (λ few. with_terms (giving d all.0 (length raws)) raws) e all.2 in
     let t = terms_are (giving d all.0 (length raws)) e raws few.2 in
@@ -227,13 +227,13 @@ puts_given known d e raws ks ls a g one dir s h =
     subst (λ (y : TheoremParser). Puts known y (rawlines.Given raws) ks ls) is head
 
 abbrev showing : TheoremParser → List Lit → TheoremParser
-showing d ls = record d { shown = ls; place = Showing }
+showing d ls = record d { shown = ls; section = Showing }
 
-pub puts_shown : (known : List TitledStatement) (d e : TheoremParser) (raws : List RawLit) (ks : List StepCerts) (ls : List (List ℕ)) → allowed d.place (rawlines.Show raws) ≡ true → ParserSaid known d.place d ks ls → (eqb (length raws) 1) ≡ true
+pub puts_shown : (known : List TitledStatement) (d e : TheoremParser) (raws : List RawLit) (ks : List StepCerts) (ls : List (List ℕ)) → allowed d.section (rawlines.Show raws) ≡ true → ParserSaid known d.section d ks ls → (eqb (length raws) 1) ≡ true
     → are_direct raws ≡ true → AllSigned raws → stepped known d (rawlines.Show raws) ≡ Ok e → Puts known e (rawlines.Show raws) ks ls
 unfolding stepped
 puts_shown known d e raws ks ls a g one dir s h =
-    let i = at_shown known d.place d ks ls raws a g in
+    let i = at_shown known d.section d ks ls raws a g in
     let all = bind_ok (with_front d.shown (lits_in d.names raws)) (λ ls. few_monos raws >>= λ few. read_ok (showing d ls)) e h in
     let few = bind_ok (few_monos raws) (λ few. read_ok (showing d all.0)) e all.2 in
     let o = one_lit d.names d.shown raws all.0 one dir s all.1 in
@@ -258,12 +258,12 @@ none_said known first os ss ks o s k =
     (subst (λ (x : List PlainStep). BlocksSaid known first [] x ks first.names []) (sym s) (subst (λ (x : List StepCerts). BlocksSaid known first [] [] x first.names []) (sym k) (no_steps known first.names)))
 
 abbrev proving : TheoremParser → TheoremParser
-proving d = record d { in_scope = (start_of d).names; place = Proving }
+proving d = record d { in_scope = (start_of d).names; section = Proving }
 
-pub puts_proof : (known : List TitledStatement) (d e : TheoremParser) (ks : List StepCerts) (ls : List (List ℕ)) → allowed d.place rawlines.Proof ≡ true → ParserSaid known d.place d ks ls → stepped known d rawlines.Proof ≡ Ok e → Puts known e rawlines.Proof ks ls
+pub puts_proof : (known : List TitledStatement) (d e : TheoremParser) (ks : List StepCerts) (ls : List (List ℕ)) → allowed d.section rawlines.Proof ≡ true → ParserSaid known d.section d ks ls → stepped known d rawlines.Proof ≡ Ok e → Puts known e rawlines.Proof ks ls
 unfolding stepped
 puts_proof known d e ks ls a g h =
-    let i = at_proof known d.place d ks ls a g in
+    let i = at_proof known d.section d ks ls a g in
     let title = rawlines.Theorem d.title in
     let given = given_forms d.names (statement_of_parser d) in
     let shown = shown_forms d.names (statement_of_parser d) in

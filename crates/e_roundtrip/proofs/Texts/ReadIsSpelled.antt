@@ -66,7 +66,7 @@ use Rattle.e_roundtrip.proofs.Blocks.LinesWithCertificates.{Leaves, step_left, d
 
 abbrev StateSaid : List TitledStatement → Option TheoremParser → List StepCerts → List (List ℕ) → Type 0
 StateSaid known None ks ls = (ks ≡ []) × (ls ≡ [])
-StateSaid known (Some d) ks ls = ParserSaid known d.place d ks ls
+StateSaid known (Some d) ks ls = ParserSaid known d.section d ks ls
 
 -- These lines were taken: those after which something was owed, and those of what is owed so far. Whatever is kept for that and has
 -- its form, all together is said.
@@ -149,7 +149,7 @@ first_said known e f ks done k n b =
       last = λ h. refl;
     }))
   where
-    by_kept : (j : Option StepCerts) → KeptIsFormed (scope_of_names owes_nothing.names) due.Nothing j → ParserSaid known e.place e ([] ++ option_to_list j) ((line_of f ∷ []) ++ kept_text owes_nothing.names j)
+    by_kept : (j : Option StepCerts) → KeptIsFormed (scope_of_names owes_nothing.names) due.Nothing j → ParserSaid known e.section e ([] ++ option_to_list j) ((line_of f ∷ []) ++ kept_text owes_nothing.names j)
     by_kept None a = puts_begun known e f b
     by_kept (Some j) a = absurd a
 
@@ -197,7 +197,7 @@ at_done known p d ks ls l h = absurd cc
 all_said : (known : List TitledStatement) (d : TheoremParser) (o : Pending) (ks : List StepCerts) (done : List (List ℕ)) → StepSaid known d o ks done → is_done d ≡ true → done ≡ spelled_lines known (derived d ks) (derived d ks).script
 all_said known d o ks done s l =
     let so = subst (λ (x : Pending). SaidSoFar known (Some d) x ks done) (s.last l) s.so_far in
-    let i = at_done known d.place d (ks ++ []) (so.before ++ []) l (so.said None tt) in
+    let i = at_done known d.section d (ks ++ []) (so.before ++ []) l (so.said None tt) in
     let t = derived d ks in
     let head = map line_of (head_forms t) in
     let end = line_of end_form ∷ [] in
@@ -212,7 +212,7 @@ EntryFormed known t = FormedHere known (names_of_proof t) (goal_of_statement (st
 all_formed : (known : List TitledStatement) (d : TheoremParser) (o : Pending) (ks : List StepCerts) (done : List (List ℕ)) → StepSaid known d o ks done → is_done d ≡ true → EntryFormed known (derived d ks)
 all_formed known d o ks done s l =
     let so = subst (λ (x : Pending). SaidSoFar known (Some d) x ks done) (s.last l) s.so_far in
-    let i = at_done known d.place d (ks ++ []) (so.before ++ []) l (so.said None tt) in
+    let i = at_done known d.section d (ks ++ []) (so.before ++ []) l (so.said None tt) in
     let t = derived d ks in
     subst (λ (x : List StepCerts). FormedHere known (names_of_proof t) (goal_of_statement (stated t.statement)) (script_with_certs (entry_of_parser d).script x).0) (append-nil (ks ++ []) ∙ append-nil ks) (i.body.1.formed [])
 

@@ -101,7 +101,7 @@ stood v known t d c o =
 
 -- the parser after the last close line
 abbrev shut_parser : TheoremView → Script → Inside → TheoremParser
-shut_parser t d last = record (proving (started t) last) { steps = steps_of (erased d); blocks = []; close = close_of (erased d); place = Closed }
+shut_parser t d last = record (proving (started t) last) { steps = steps_of (erased d); blocks = []; close = close_of (erased d); section = Closed }
 
 closed_last : (t : TheoremView) (d : Script) (last : Inside) → closed (proving (started t) last) [] (steps_of (erased d)) (close_of (erased d)) ≡ Ok (shut_parser t d last)
 unfolding closed
@@ -215,23 +215,23 @@ not_last known l title b = by_end l.end
 
 -- ---- the last line
 
-step_end : (known : List TitledStatement) (t : TheoremView) (d : Script) (last : Inside) → step known (shut_parser t d last) rawlines.End ≡ Ok (record (shut_parser t d last) { place = Done })
+step_end : (known : List TitledStatement) (t : TheoremView) (d : Script) (last : Inside) → step known (shut_parser t d last) rawlines.End ≡ Ok (record (shut_parser t d last) { section = Done })
 unfolding step stepped
 step_end known t d last = refl
 
 -- the certificates at their lines
-script_whole : (t : TheoremView) (d : Script) (known : List TitledStatement) → HasSpelling known (plain_entry t d) → (last : Inside) → derived (record (shut_parser t d last) { place = Done }) (kepts d) ≡ record t { script = d }
+script_whole : (t : TheoremView) (d : Script) (known : List TitledStatement) → HasSpelling known (plain_entry t d) → (last : Inside) → derived (record (shut_parser t d last) { section = Done }) (kepts d) ≡ record t { script = d }
 script_whole t d known h last =
     let same = same_script (erased d) h.script in
     let back : script_with_certs (erased d) (kepts d) ≡ (d, []) = ap (script_with_certs (erased d)) (sym (append-nil (kepts d))) ∙ filled_back d [] in
     ap (λ (x : Script). record t { script = (script_with_certs x (kepts d)).0 }) same ∙ ap (λ (x : Script × List StepCerts). record t { script = x.0 }) back
 
 end_leads : (known : List TitledStatement) (t : TheoremView) (d : Script) (last : Inside) (r : BlockParser) → Stands r (shut_parser t d last) (kepts d)
-    → (next : BlockParser) × (worded known r (line_of rawlines.End) (tokens_of (line_of rawlines.End)) ≡ Ok next) × (next.parser ≡ Some (record (shut_parser t d last) { place = Done })) × (next.kept ≡ kepts d)
+    → (next : BlockParser) × (worded known r (line_of rawlines.End) (tokens_of (line_of rawlines.End)) ≡ Ok next) × (next.parser ≡ Some (record (shut_parser t d last) { section = Done })) × (next.kept ≡ kepts d)
 unfolding due_of
 end_leads known t d last r s =
     let e = shut_parser t d last in
-    let leads = form_leads known r e (record e { place = Done }) (kepts d) rawlines.End due.Nothing s tt refl refl refl (step_end known t d last) in
+    let leads = form_leads known r e (record e { section = Done }) (kepts d) rawlines.End due.Nothing s tt refl refl refl (step_end known t d last) in
     (_, leads, refl, refl)
 
 end_read : (known : List TitledStatement) (number : ℕ) (t : TheoremView) (d : Script) (last : Inside) (r : BlockParser) (all rest : List (Result LineView LineFault)) → HasSpelling known (plain_entry t d) → Stands r (shut_parser t d last) (kepts d)
@@ -243,7 +243,7 @@ end_read known number t d last r (Ok l ∷ all) rest h s sh =
     let e = end_leads known t d last r s in
     let here : is_end known r.parser l ≡ false = ap (λ (x : Option TheoremParser). is_end known x l) s.parser in
     let done : finished e.0.parser e.0.kept ≡ Some (record t { script = d }) =
-    ap (λ (x : Option TheoremParser). finished x e.0.kept) e.2 ∙ ap (λ (ks : List StepCerts). finished (Some (record (shut_parser t d last) { place = Done })) ks) e.3 ∙ ap (λ (x : TheoremView). Some x) (script_whole t d known h last) in
+    ap (λ (x : Option TheoremParser). finished x e.0.kept) e.2 ∙ ap (λ (ks : List StepCerts). finished (Some (record (shut_parser t d last) { section = Done })) ks) e.3 ∙ ap (λ (x : TheoremView). Some x) (script_whole t d known h last) in
     rw (here, taken_is known r e.0 l (line_of rawlines.End) sh.0 sh.1 e.1, done) (ap (λ (ls : List (Result LineView LineFault)). Ok (Derived (record t { script = d }), ls)) sh.2)
 
 -- ---- the law

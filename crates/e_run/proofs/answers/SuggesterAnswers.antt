@@ -235,12 +235,12 @@ answers_at lines title step known t p (status.Suggested n more) out next titled 
     record {
       due = next_up_to lines title known t (Suggests title step n more out) next
           (record {
-            line = place.line;
+            placed = place.step;
             asked = record { titled = titled; context = place.context };
             names = p.names;
             named = place.named;
             lines = ls;
-            listed = subst (λ (s : Scope). Lists p.names s place.line.facts known 1000 ls more) place.scope (subst (λ (fs : List Lit). Lists p.names p.context.scope fs known 1000 ls more) place.facts listed);
+            listed = subst (λ (s : Scope). Lists p.names s place.step.facts known 1000 ls more) place.scope (subst (λ (fs : List Lit). Lists p.names p.context.scope fs known 1000 ls more) place.facts listed);
             count = count;
             bytes = bytes;
           });
@@ -256,13 +256,13 @@ answers_at lines title step known t p (status.TooWide q n wanted width) out next
               is,
               wanted_is,
               record {
-                line = place.line;
+                placed = place.step;
                 asked = record { titled = titled; context = place.context };
                 named = place.named;
                 theorem = some.theorem;
                 is_one = some.is_one;
                 is_asked_for = some.is_asked_for;
-                too_wide = subst (λ (s : Scope). SomeArgsAreTooWide (stated some.theorem.statement) s place.line.facts width) place.scope
+                too_wide = subst (λ (s : Scope). SomeArgsAreTooWide (stated some.theorem.statement) s place.step.facts width) place.scope
                     (subst (λ (fs : List Lit). SomeArgsAreTooWide (stated some.theorem.statement) p.context.scope fs width) place.facts some.too_wide);
               },
             )),
@@ -283,8 +283,8 @@ not_before : (before : List StatementView) (t : StatementView) (script : Script)
 not_before before t script n m w x stop d less =
     let c = stop.context in
     let e = earlier_line before (proof_steps before t script d.filled) c.place d.place x (omega (arith, c.number, d.number, less)) (record { at = d.at; earlier = d.earlier }) in
-    lacks_not before stop.line e.line w
-    (one_context before t script n stop.line e.line c (record { filled = d.filled; place = c.place; number = c.number; at = e.stands.at; earlier = e.stands.earlier })) stop.lacks e.licensed
+    lacks_not before stop.step e.step w
+    (one_context before t script n stop.step e.step c (record { filled = d.filled; place = c.place; number = c.number; at = e.stands.at; earlier = e.stands.earlier })) stop.lacks e.licensed
 
 -- the way ends here, with this known
 abbrev WayAt : ℕ → Known → Rest → List ℕ → ℕ → WayOutcome → Type 0
@@ -444,7 +444,7 @@ wide_answer lines title step (Faulty f) p n wanted width h = h
 is_wide : (title : List ℕ) (step : ℕ) (p : List ℕ) (n : ℕ) (wanted : Wanted) (width : ℕ) (names : Names) (known : List TitledStatement) (t : TheoremView) → Widens title step p n wanted width names known t → HasWideOnWay title step known t
 is_wide title step p n wanted width names known t (inl (w, earlier)) =
     let at = w.too_wide in
-    inl (record { number = n; line = at.line; earlier = earlier; context = at.context; is_wide = wide_line (stated_by known) at.line at.line.here wanted width at.too_wide })
+    inl (record { number = n; placed = at.step; earlier = earlier; context = at.context; is_wide = wide_line (stated_by known) at.step at.step.here wanted width at.too_wide })
 is_wide title step p n wanted width names known t (inr (same, is, wanted_is, w)) = inr (width, names, w)
 
 widens_way : (lines : Rest) (title : List ℕ) (step : ℕ) (p : List ℕ) (n : ℕ) (wanted : Wanted) (width : ℕ) (names : Names) → NextUpTo lines title (Widens title step p n wanted width names) → NextUpTo lines title (HasWideOnWay title step)
@@ -467,7 +467,7 @@ failed lines title step (Faulty f) = (tt, tt, tt)
 due_answers : (lines : Rest) (title : List ℕ) (step : ℕ) (way : WayOutcome) (answer : Status) (out : List ℕ) → IsWayOf lines title step way → SuggestAnswer lines title step answer out → IsWayAnswer lines title step way answer
 due_answers lines title step way (status.Suggested n more) out h u =
     so_answered lines title step way AtStep (status.Suggested n more) h
-    (record { theorems = u.theorems; known = u.known; rest = u.rest; begins = u.begins; untitled = u.untitled; holds = (u.holds.0, u.holds.1, u.holds.2, (u.holds.3.line, u.holds.3.asked)) }) tt
+    (record { theorems = u.theorems; known = u.known; rest = u.rest; begins = u.begins; untitled = u.untitled; holds = (u.holds.0, u.holds.1, u.holds.2, (u.holds.3.placed, u.holds.3.asked)) }) tt
 due_answers lines title step way status.NoStep out h d = so_answered lines title step way NoStep status.NoStep h d.0 tt
 due_answers lines title step way (status.Fault f) out h d = so_answered lines title step way (Faulty f) (status.Fault f) h d.0 refl
 due_answers lines title step way (status.Unlicensed p n wanted values) out h d =

@@ -42,7 +42,7 @@ answered_so text end answer theorems known rest other h b e k =
 pub stop_of_refusal : (known : List TitledStatement) (t : TheoremView) (title : List ℕ) (step : ℕ) (wanted : Wanted) (values : Option (List (Term × ℕ))) (names : Names)
     → RefusedAt known t title step wanted values names → StopsAt known t title step wanted names
 stop_of_refusal known t title step wanted values names r =
-    record { titled = r.titled; first = record { line = r.refused.line; context = r.refused.context; lacks = r.refused.lacks }; named = r.named }
+    record { titled = r.titled; first = record { step = r.refused.step; context = r.refused.context; lacks = r.refused.lacks }; named = r.named }
 
 -- where the next theorem is refused the book stops there
 pub stops_so : (lines : Rest) (known : Known) (rest : Rest) (title : List ℕ) (step : ℕ) (wanted : Wanted) (values : Option (List (Term × ℕ))) (names : Names)
@@ -90,7 +90,7 @@ widens_so lines theorems known rest title step wanted width names b w =
       known = known;
       rest = rest;
       begins = b;
-      wide = (w.0, w.1, w.2, record { step = step; line = at.line; context = at.context; is_wide = wide_line (stated_by known.theorems) at.line at.line.here wanted width at.too_wide });
+      wide = (w.0, w.1, w.2, record { step = step; placed = at.step; context = at.context; is_wide = wide_line (stated_by known.theorems) at.step at.step.here wanted width at.too_wide });
     }
 
 pub is_answer_wide : (lines : Rest) (end : BookOutcome) (title : List ℕ) (step : ℕ) (wanted : Wanted) (width : ℕ) → HasWide lines → IsAnswer lines end (status.TooWide title step wanted width)

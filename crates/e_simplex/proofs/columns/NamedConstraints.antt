@@ -6,7 +6,7 @@ use lib.IntN.{ℤ, pos, ◌+ℤ◌, ◌*ℤ◌, *ℤ-zero, *ℤ_comm}
 use Rattle.e_literal.specs.declared.object.Term.{Term}
 use Rattle.e_literal.specs.declared.object.Term.TheVariants.{Right}
 use Rattle.e_literal.specs.Same.{term_eq}
-use Rattle.e_literal.specs.Rows.{Row, Says, Zero, AtLeast, More, Not, Summands, coefficient}
+use Rattle.e_literal.specs.Rows.{Row, Sense, Zero, AtLeast, More, Not, Summands, coefficient}
 use Rattle.e_literal.specs.Minor.{entry, constant}
 use Rattle.e_fraction.specs.Tableau.{unit}
 use Rattle.e_fraction.specs.Limits.{has_small_coefficients}
@@ -17,11 +17,11 @@ use Rattle.e_simplex.specs.Constraints.{form_at, constraint_row, constant_of, Is
 use Rattle.e_simplex.specs.Solved.{IsFit}
 use Rattle.e_simplex.specs.inner.Disequalities.{AreFurther}
 use Rattle.e_simplex.specs.inner.Tried.{negative_constraint}
-use Rattle.e_simplex.specs.declared.constraints.Sense.TheVariants.{More as SenseMore}
+use Rattle.e_simplex.specs.declared.constraints.ConstraintSense.TheVariants.{More as SenseMore}
 use Rattle.e_simplex.proofs.columns.Negatives.{small_push, negated_at}
 use Rattle.e_simplex.proofs.outcomes.Deciding.{forms_push}
 use Rattle.std.proofs.lemmas.List.{length_push}
-use Rattle.e_simplex.specs.Naming.{place_of, IsIn, AreOnce, FormNamed, AllNamed, named_form, named_constraint, named_constraints, sense_of, keeps}
+use Rattle.e_simplex.specs.Naming.{place_of, IsIn, AreOnce, FormNamed, AllNamed, named_form, named_constraint, named_constraints, constraint_sense, keeps}
 use Rattle.e_literal.proofs.Arith.{sums, one_mul}
 use Rattle.e_fraction.proofs.Minors.{unit-same, unit-other}
 use Rattle.e_literal.proofs.Terms.{term_eq_is, equal_terms}
@@ -105,7 +105,7 @@ small_constraint ts r o h s d n = record {
 
 -- ---- entries
 
-constant_same : (s : Says) → constant_of (sense_of s) ≡ constant s false
+constant_same : (s : Sense) → constant_of (constraint_sense s) ≡ constant s false
 constant_same Zero = refl
 constant_same AtLeast = refl
 constant_same More = refl
@@ -115,9 +115,9 @@ constant_same Not = refl
 pub constraint_entry : (ts : List Term) (r : Row) (c : ℕ) → AreOnce ts → FormNamed ts r.form → c < length ts + 1
     → constraint_row (named_constraint ts r) c ≡ entry (record { row = r; down = false }) (column ts c)
 constraint_entry ts r zero o h l =
-    omega (arith, sums, form_constant ts r.form h, constant_same r.says, *ℤ_comm (constant_of (sense_of r.says)) (pos 1), one_mul (constant_of (sense_of r.says)), ap (λ v. constant_of (sense_of r.says) *ℤ v) (unit-same 0))
+    omega (arith, sums, form_constant ts r.form h, constant_same r.says, *ℤ_comm (constant_of (constraint_sense r.says)) (pos 1), one_mul (constant_of (constraint_sense r.says)), ap (λ v. constant_of (constraint_sense r.says) *ℤ v) (unit-same 0))
 constraint_entry ts r (suc c) o h l =
-    omega (arith, sums, form_column ts r.form c o h (omega (arith, l)), ap (λ v. constant_of (sense_of r.says) *ℤ v) (unit-other 0 (suc c) (λ q. omega (arith, q))), *ℤ-zero (constant_of (sense_of r.says)))
+    omega (arith, sums, form_column ts r.form c o h (omega (arith, l)), ap (λ v. constant_of (constraint_sense r.says) *ℤ v) (unit-other 0 (suc c) (λ q. omega (arith, q))), *ℤ-zero (constant_of (constraint_sense r.says)))
 
 -- the same for the constraint that says that the form is less than 0, turned round, whose constant is -1
 pub negative_entry : (ts : List Term) (r : Row) (c : ℕ) → r.says ≡ Not → AreOnce ts → FormNamed ts r.form → c < length ts + 1
@@ -152,7 +152,7 @@ more_cond true l ls h g zero d n = h refl
 more_cond true l ls h g (suc i) d n = g i d (omega (arith, n))
 more_cond false l ls h g i d n = g i d n
 
-pub kept_not : (s : Says) → keeps true s ≡ true → s ≡ Not
+pub kept_not : (s : Sense) → keeps true s ≡ true → s ≡ Not
 kept_not Zero h = absurd (true≢false (sym h))
 kept_not AtLeast h = absurd (true≢false (sym h))
 kept_not More h = absurd (true≢false (sym h))
@@ -160,7 +160,7 @@ kept_not Not h = refl
 
 pub more_constraints : (ts : List Term) (rows : List Row) (i : ℕ) (d : Constraint) → i < length (named_constraints true ts rows) → (get_or (named_constraints true ts rows) i d).sense ≡ SenseMore
 more_constraints ts [] i d n = absurd (omega (arith, n))
-more_constraints ts (r ∷ rs) i d n = more_cond (keeps true r.says) (named_constraint ts r) (named_constraints true ts rs) (λ e. ap sense_of (kept_not r.says e)) (more_constraints ts rs) i d n
+more_constraints ts (r ∷ rs) i d n = more_cond (keeps true r.says) (named_constraint ts r) (named_constraints true ts rs) (λ e. ap constraint_sense (kept_not r.says e)) (more_constraints ts rs) i d n
 
 -- a form over some columns is one over more
 forms_wider : (n w : ℕ) (constraints : List Constraint) → n ≤ w → AllFormsWithin n constraints → AllFormsWithin w constraints

@@ -5,8 +5,8 @@ use Rattle.std.proofs.lemmas.List.{take_more, get_or_append_left, get_or_push, l
 use lib.IntN.{ℤ, pos, neg_ℤ}
 use Rattle.e_simplex.specs.declared.constraints.Monomial.{Monomial}
 use Rattle.e_simplex.specs.declared.constraints.Constraint.{Constraint}
-use Rattle.e_simplex.specs.declared.constraints.Sense.{Sense}
-use Rattle.e_simplex.specs.declared.constraints.Sense.TheVariants.{More}
+use Rattle.e_simplex.specs.declared.constraints.ConstraintSense.{ConstraintSense}
+use Rattle.e_simplex.specs.declared.constraints.ConstraintSense.TheVariants.{More}
 use Rattle.e_simplex.specs.declared.table.Table.{Table}
 use Rattle.e_fraction.specs.Tableau.{unit}
 use Rattle.e_simplex.specs.Entries.{AllSmall}
@@ -136,4 +136,4 @@ module _ (w : ℕ) (constraints : List Constraint) (l : Constraint) (s : Table) 
       turned = ap (λ v. value_of_monomials v.form values) e ∙ negated_value k.form values
 
 pub one_constraint : (l k : Constraint) → l.sense ≡ More → l.form ≡ negated k.form → l ≡ negative_constraint k
-one_constraint l k e f = ap₂ {A = Sense} {B = List Monomial} (λ a b. let m : Constraint = record { sense = a; form = b } in m) e f
+one_constraint l k e f = ap₂ {A = ConstraintSense} {B = List Monomial} (λ a b. let m : Constraint = record { sense = a; form = b } in m) e f

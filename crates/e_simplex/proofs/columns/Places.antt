@@ -14,8 +14,8 @@ use Rattle.e_fraction.specs.declared.row.Row.{Row as GivenRow}
 use Rattle.e_fraction.specs.Views.{seen, all_seen}
 use Rattle.e_simplex.specs.declared.constraints.Monomial.{Monomial}
 use Rattle.e_simplex.specs.declared.constraints.Constraint.{Constraint}
-use Rattle.e_simplex.specs.declared.constraints.Sense.{Sense}
-use Rattle.e_simplex.specs.Naming.{place_of, IsIn, AreOnce, Continues, FormNamed, AllNamed, named_form, named_constraint, named_constraints, sense_of, keeps}
+use Rattle.e_simplex.specs.declared.constraints.ConstraintSense.{ConstraintSense}
+use Rattle.e_simplex.specs.Naming.{place_of, IsIn, AreOnce, Continues, FormNamed, AllNamed, named_form, named_constraint, named_constraints, constraint_sense, keeps}
 use Rattle.e_literal.proofs.Terms.{term_eq_is, term_eq_same}
 
 -- ---- places
@@ -163,10 +163,10 @@ constraints_push b ts (q ∷ qs) r = by (keeps b (seen q).says) (constraints_pus
     by false e = e
 
 pub constraints_more : (b : Bool) (ts : List Term) (rows : List GivenRow) (i : ℕ) (d : GivenRow) (old new : List Constraint) (l : Constraint) → i < length rows → old ≡ named_constraints b ts (all_seen (take i rows))
-    → new ≡ old ++ l ∷ [] → keeps b (seen (get_or rows i d)).says ≡ true → l.sense ≡ sense_of (seen (get_or rows i d)).says → l.form ≡ named_form ts (get_or rows i d).form
+    → new ≡ old ++ l ∷ [] → keeps b (seen (get_or rows i d)).says ≡ true → l.sense ≡ constraint_sense (seen (get_or rows i d)).says → l.form ≡ named_form ts (get_or rows i d).form
     → new ≡ named_constraints b ts (all_seen (take (i + 1) rows))
 constraints_more b ts rows i d old new l here e f k g h =
-    f ∙ ap₂ {A = List Constraint} {B = Constraint} (λ u v. u ++ v ∷ []) e (ap₂ {A = Sense} {B = List Monomial} (λ u v. let m : Constraint = record { sense = u; form = v } in m) g h)
+    f ∙ ap₂ {A = List Constraint} {B = Constraint} (λ u v. u ++ v ∷ []) e (ap₂ {A = ConstraintSense} {B = List Monomial} (λ u v. let m : Constraint = record { sense = u; form = v } in m) g h)
     ∙ ap (λ v. named_constraints b ts (all_seen (take i rows)) ++ cond v (named_constraint ts (seen (get_or rows i d)) ∷ []) []) (sym k)
     ∙ sym (constraints_push b ts (take i rows) (get_or rows i d)) ∙ ap (λ v. named_constraints b ts (all_seen v)) (sym (take_more rows i d here))
 
@@ -219,7 +219,7 @@ pub constraints_continued : (b : Bool) (ts us : List Term) (rows : List Row) →
 constraints_continued b ts us [] c h = refl
 constraints_continued b ts us (r ∷ rs) c h =
     ap₂ {A = Constraint} {B = List Constraint} (λ l ls. cond (keeps b r.says) (l ∷ ls) ls)
-    (ap (λ v. let m : Constraint = record { sense = sense_of r.says; form = v } in m) (form_continued ts us r.form c h.0)) (constraints_continued b ts us rs c h.1)
+    (ap (λ v. let m : Constraint = record { sense = constraint_sense r.says; form = v } in m) (form_continued ts us r.form c h.0)) (constraints_continued b ts us rs c h.1)
 
 pub all_continued : (ts us : List Term) (rows : List Row) → Continues ts us → AllNamed ts rows → AllNamed us rows
 all_continued ts us rows c h = all_grown ts us rows (continues_in ts us c) h

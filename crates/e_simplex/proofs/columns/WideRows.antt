@@ -4,7 +4,7 @@ use Rattle.std.specs.Prelude.{map, unsigned_abs}
 use lib.IntN.{ℤ, neg_ℤ}
 use borrow.Author.Differences.{abs_is}
 use Rattle.e_literal.specs.declared.object.Term.{Term}
-use Rattle.e_literal.specs.Rows.{Row, Says, Zero, AtLeast, More, Not}
+use Rattle.e_literal.specs.Rows.{Row, Sense, Zero, AtLeast, More, Not}
 use Rattle.e_literal.specs.Minor.{SignedRow, entry, IsWide as IsWideRows}
 use Rattle.e_fraction.specs.Det.{det, IsPart, HasWideMinor}
 use Rattle.e_simplex.specs.declared.constraints.Constraint.{Constraint}
@@ -61,7 +61,7 @@ rows_main : (ts : List Term) (rows : List Row) → rows_of (named_constraints fa
 rows_main ts [] = refl
 rows_main ts (r ∷ rs) = by r.says r (rows_main ts rs)
   where
-    by : (s : Says) (q : Row) → rows_of (named_constraints false ts rs) ≡ own_rows ts (mains rs)
+    by : (s : Sense) (q : Row) → rows_of (named_constraints false ts rs) ≡ own_rows ts (mains rs)
         → rows_of (cond (keeps false s) (named_constraint ts q ∷ named_constraints false ts rs) (named_constraints false ts rs)) ≡ own_rows ts (cond (keeps true s) (mains rs) (signed q false ∷ mains rs))
     by Zero q e = ap (λ v. constraint_row (named_constraint ts q) ∷ v) e
     by AtLeast q e = ap (λ v. constraint_row (named_constraint ts q) ∷ v) e

@@ -6,8 +6,8 @@ use lib.IntN.{ℤ, pos, ◌+ℤ◌, ◌*ℤ◌, *ℤ-zero}
 use lib.Signed.{◌≤ℤ◌}
 use Rattle.e_simplex.specs.declared.constraints.Monomial.{Monomial}
 use Rattle.e_simplex.specs.declared.constraints.Constraint.{Constraint}
-use Rattle.e_simplex.specs.declared.constraints.Sense.{Sense}
-use Rattle.e_simplex.specs.declared.constraints.Sense.TheVariants.{Zero, AtLeast, More}
+use Rattle.e_simplex.specs.declared.constraints.ConstraintSense.{ConstraintSense}
+use Rattle.e_simplex.specs.declared.constraints.ConstraintSense.TheVariants.{Zero, AtLeast, More}
 use Rattle.e_simplex.specs.Constraints.{value_of_monomials, ConstraintHolds, IsSolution, AllFormsWithin}
 use Rattle.e_simplex.specs.inner.Multiple.{AddedTo}
 use Rattle.e_simplex.specs.inner.Tried.{AreValues}
@@ -27,7 +27,7 @@ combined_form (x ∷ xs) w a b c t h s =
       combined_form xs w a b c t (λ k d l. h (suc k) d (omega (arith, l))) s,
     )
 
-pub combined_constraint : (k : Sense) (x y : ℤ) (t : ℕ) → ConstraintHolds k x → ConstraintHolds k y → ConstraintHolds k (x +ℤ pos t *ℤ y)
+pub combined_constraint : (k : ConstraintSense) (x y : ℤ) (t : ℕ) → ConstraintHolds k x → ConstraintHolds k y → ConstraintHolds k (x +ℤ pos t *ℤ y)
 combined_constraint Zero x y t h g = omega (arith, sums, h, ap (λ v. pos t *ℤ v) g, *ℤ-zero (pos t))
 combined_constraint AtLeast x y t h g = omega (arith, sums, h, mul-not_negative (pos t) y (omega (arith, sums)) g)
 combined_constraint More x y t h g = omega (arith, sums, h, mul-not_negative (pos t) y (omega (arith, sums)) (omega (arith, sums, g)))

@@ -5,7 +5,7 @@ use Rattle.std.specs.Prelude.{unsigned_abs}
 use Rattle.std.proofs.lemmas.Bool.{cases_eq}
 use lib.IntN.{ℤ, pos}
 use Rattle.e_simplex.specs.declared.constraints.Constraint.{Constraint}
-use Rattle.e_simplex.specs.declared.constraints.Sense.TheVariants.{More}
+use Rattle.e_simplex.specs.declared.constraints.ConstraintSense.TheVariants.{More}
 use Rattle.e_simplex.specs.declared.disequalities.Point.{Point}
 use Rattle.e_fraction.specs.Det.{HasWideMinor}
 use Rattle.e_simplex.specs.Constraints.{rows_of, value_of_monomials, AllFormsWithin}

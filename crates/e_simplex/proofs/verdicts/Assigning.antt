@@ -9,12 +9,12 @@ use borrow.Author.Differences.{abs_is}
 use Rattle.e_literal.specs.declared.object.Term.{Term}
 use Rattle.e_literal.specs.declared.object.Term.TheVariants.{Right}
 use Rattle.e_literal.specs.Same.{term_eq}
-use Rattle.e_literal.specs.Rows.{Row, Says, Zero, AtLeast, More, Not, Summands}
+use Rattle.e_literal.specs.Rows.{Row, Sense, Zero, AtLeast, More, Not, Summands}
 use Rattle.e_literal.specs.Solution.{IsSo, Satisfy, HasSolution}
 use Rattle.e_simplex.specs.declared.constraints.Constraint.{Constraint}
-use Rattle.e_simplex.specs.declared.constraints.Sense.TheVariants.{More as SenseMore}
+use Rattle.e_simplex.specs.declared.constraints.ConstraintSense.TheVariants.{More as SenseMore}
 use Rattle.e_simplex.specs.Constraints.{value_of_monomials, ConstraintHolds, IsSolution, IsAbsurd}
-use Rattle.e_simplex.specs.Naming.{place_of, IsIn, AreOnce, FormNamed, AllNamed, named_form, named_constraint, named_constraints, sense_of, keeps}
+use Rattle.e_simplex.specs.Naming.{place_of, IsIn, AreOnce, FormNamed, AllNamed, named_form, named_constraint, named_constraints, constraint_sense, keeps}
 use Rattle.e_simplex.specs.Answer.{assigned, AreValuesOf}
 use Rattle.e_simplex.specs.inner.Paired.{PairedTo}
 use Rattle.e_simplex.specs.inner.Disequalities.{AreUnequal, AreBothRefuted}
@@ -31,7 +31,7 @@ use Rattle.e_simplex.proofs.columns.Places.{term_at}
 pub main_cons : (ts : List Term) (r : Row) (rs : List Row) → named_constraints false ts (r ∷ rs) ≡ cond (keeps true r.says) (named_constraints false ts rs) (named_constraint ts r ∷ named_constraints false ts rs)
 main_cons ts r rs = by r.says
   where
-    by : (s : Says) → cond (keeps false s) (named_constraint ts r ∷ named_constraints false ts rs) (named_constraints false ts rs) ≡ cond (keeps true s) (named_constraints false ts rs) (named_constraint ts r ∷ named_constraints false ts rs)
+    by : (s : Sense) → cond (keeps false s) (named_constraint ts r ∷ named_constraints false ts rs) (named_constraints false ts rs) ≡ cond (keeps true s) (named_constraints false ts rs) (named_constraint ts r ∷ named_constraints false ts rs)
     by Zero = refl
     by AtLeast = refl
     by More = refl
@@ -71,7 +71,7 @@ form_same ts (p ∷ ps) values v h f =
 
 -- ---- from constraints to rows
 
-so_of : (s : Says) (z : ℤ) → keeps true s ≡ false → ConstraintHolds (sense_of s) z → IsSo s z
+so_of : (s : Sense) (z : ℤ) → keeps true s ≡ false → ConstraintHolds (constraint_sense s) z → IsSo s z
 so_of Zero z e h = h
 so_of AtLeast z e h = h
 so_of More z e h = h
@@ -99,13 +99,13 @@ module _ (ts : List Term) (values : List ℤ) (v : Term → ℕ) (same : Values 
       )
       by false e p q ih = (
         so_of r.says (Rattle.e_literal.specs.Solution.form_value r.form v) e
-            (subst (ConstraintHolds (sense_of r.says)) (sym (form_same ts r.form values v same a.0)) (p 0 (named_constraint ts r) (omega arith))),
+            (subst (ConstraintHolds (constraint_sense r.says)) (sym (form_same ts r.form values v same a.0)) (p 0 (named_constraint ts r) (omega arith))),
         ih (λ i d l. p (suc i) d (omega (arith, l))) q,
       )
 
   -- ---- from rows to constraints
 
-  holds_of : (s : Says) (z : ℤ) → keeps true s ≡ false → IsSo s z → ConstraintHolds (sense_of s) z
+  holds_of : (s : Sense) (z : ℤ) → keeps true s ≡ false → IsSo s z → ConstraintHolds (constraint_sense s) z
   holds_of Zero z e h = h
   holds_of AtLeast z e h = h
   holds_of More z e h = h
@@ -123,7 +123,7 @@ module _ (ts : List Term) (values : List ℤ) (v : Term → ℕ) (same : Values 
           → (i : ℕ) (d : Constraint) → i < length (cond b (named_constraints false ts rs) (named_constraint ts r ∷ named_constraints false ts rs))
           → ConstraintHolds (get_or (cond b (named_constraints false ts rs) (named_constraint ts r ∷ named_constraints false ts rs)) i d).sense (value_of_monomials (get_or (cond b (named_constraints false ts rs) (named_constraint ts r ∷ named_constraints false ts rs)) i d).form values)
       by true e h i d l = h i d l
-      by false e h zero d l = subst (ConstraintHolds (sense_of r.says)) (form_same ts r.form values v same a.0) (holds_of r.says (Rattle.e_literal.specs.Solution.form_value r.form v) e s.0)
+      by false e h zero d l = subst (ConstraintHolds (constraint_sense r.says)) (form_same ts r.form values v same a.0) (holds_of r.says (Rattle.e_literal.specs.Solution.form_value r.form v) e s.0)
       by false e h (suc i) d l = h i d (omega (arith, l))
 
   forms_differ : (rows : List Row) → AllNamed ts rows → Satisfy v rows → (j : ℕ) (d : Constraint) → j < length (named_constraints true ts rows) → value_of_monomials (get_or (named_constraints true ts rows) j d).form values ≢ pos 0

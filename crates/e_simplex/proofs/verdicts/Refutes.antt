@@ -5,8 +5,8 @@ use lib.IntN.{ℤ, pos, negsuc, ◌+ℤ◌, ◌*ℤ◌, *ℤ-zero, zero-*ℤ}
 use lib.Signed.{◌<ℤ◌, ◌≤ℤ◌}
 use Rattle.e_simplex.specs.declared.constraints.Monomial.{Monomial}
 use Rattle.e_simplex.specs.declared.constraints.Constraint.{Constraint}
-use Rattle.e_simplex.specs.declared.constraints.Sense.{Sense}
-use Rattle.e_simplex.specs.declared.constraints.Sense.TheVariants.{Zero, AtLeast, More}
+use Rattle.e_simplex.specs.declared.constraints.ConstraintSense.{ConstraintSense}
+use Rattle.e_simplex.specs.declared.constraints.ConstraintSense.TheVariants.{Zero, AtLeast, More}
 use Rattle.e_fraction.specs.Tableau.{unit}
 use Rattle.e_simplex.specs.Constraints.{form_at, value_of_monomials, ConstraintHolds, weighed_at, MayWeigh, IsSolution, IsAbsurd, FormWithin, AllFormsWithin}
 use Rattle.e_literal.proofs.Arith.{sums, one_mul, mul_add, add_mul, mul_assoc, mul-not_negative, mul-positive}
@@ -119,7 +119,7 @@ over-not_positive (suc n) f v h g =
       over-not_positive n f v (λ c l. h c (omega (arith, l))) (λ c l. g c (omega (arith, l))),
     )
 
-one_constraint : (k : Sense) (m z : ℤ) → MayWeigh k m → ConstraintHolds k z → pos 0 ≤ℤ (m *ℤ z)
+one_constraint : (k : ConstraintSense) (m z : ℤ) → MayWeigh k m → ConstraintHolds k z → pos 0 ≤ℤ (m *ℤ z)
 one_constraint Zero m z a b = omega (arith, sums, ap (λ v. m *ℤ v) b, *ℤ-zero m)
 one_constraint AtLeast m z a b = mul-not_negative m z a b
 one_constraint More m z a b = mul-not_negative m z a (omega (arith, sums, b))
@@ -136,7 +136,7 @@ total-not_negative (l ∷ ls) (m ∷ ms) v a b =
       total-not_negative ls ms v (λ i d n. a (suc i) d (omega (arith, n))) (λ i d n. b (suc i) d (omega (arith, n))),
     )
 
-more_holds : (k : Sense) (z : ℤ) → k ≡ More → ConstraintHolds k z → pos 0 <ℤ z
+more_holds : (k : ConstraintSense) (z : ℤ) → k ≡ More → ConstraintHolds k z → pos 0 <ℤ z
 more_holds k z e h = subst (λ x. ConstraintHolds x z) e h
 
 total-positive : (constraints : List Constraint) (ms v : List ℤ) → length ms ≡ length constraints

@@ -6,17 +6,17 @@ use Rattle.std.proofs.lemmas.List.{length_push}
 use lib.IntN.{ℤ, pos, ◌+ℤ◌, ◌*ℤ◌, *ℤ-zero, zero-*ℤ}
 use lib.Signed.{◌≤ℤ◌, ◌<ℤ◌}
 use Rattle.e_literal.specs.declared.object.Term.{Term}
-use Rattle.e_literal.specs.Rows.{Row, Says, Zero, AtLeast, More, Not, Summands, coefficient, negative}
+use Rattle.e_literal.specs.Rows.{Row, Sense, Zero, AtLeast, More, Not, Summands, coefficient, negative}
 use Rattle.e_literal.specs.Absurd.{total}
 use Rattle.e_fraction.specs.declared.row.Row.{Row as GivenRow}
 use Rattle.e_fraction.specs.Views.{seen, all_seen}
 use Rattle.e_simplex.specs.declared.constraints.Constraint.{Constraint}
 use Rattle.e_simplex.specs.declared.constraints.Monomial.{Monomial}
-use Rattle.e_simplex.specs.declared.constraints.Sense.{Sense}
-use Rattle.e_simplex.specs.declared.constraints.Sense.TheVariants.{Zero as SenseZero, AtLeast as SenseAtLeast, More as SenseMore}
+use Rattle.e_simplex.specs.declared.constraints.ConstraintSense.{ConstraintSense}
+use Rattle.e_simplex.specs.declared.constraints.ConstraintSense.TheVariants.{Zero as SenseZero, AtLeast as SenseAtLeast, More as SenseMore}
 use Rattle.e_simplex.specs.Entries.{AllSmall}
 use Rattle.e_simplex.specs.Constraints.{form_at, weighed_at, MayWeigh, IsAbsurd, AllFormsWithin, FormWithin}
-use Rattle.e_simplex.specs.Naming.{place_of, AreOnce, FormNamed, AllNamed, named_form, named_constraint, named_constraints, sense_of, keeps}
+use Rattle.e_simplex.specs.Naming.{place_of, AreOnce, FormNamed, AllNamed, named_form, named_constraint, named_constraints, constraint_sense, keeps}
 use Rattle.e_simplex.specs.inner.RowMultipliers.{row_multipliers, count_nots}
 use Rattle.e_simplex.specs.Answer.{each_weighed, MayTake, AreMultipliers, TakesMore, Refutes, RefutesBoth, IsNotAt, as_more, as_less}
 use Rattle.e_simplex.specs.inner.Disequalities.{AreBothRefuted, AreFurther, WideWithSome, AreUnequal}
@@ -202,18 +202,18 @@ more_append [] l ws n m e (inr h) = absurd h
 more_append (k ∷ ks) l ws n m e (inl h) = inl (inl h)
 more_append (k ∷ ks) l ws n m e (inr h) = elim (more_append ks l ws (suc n) m (omega (arith, e)) h) [ inl p ↦ inl (inr p) | inr q ↦ inr q ]
 
-take_of : (s : Says) (m : ℤ) → keeps true s ≡ false → MayWeigh (sense_of s) m → MayTake s m
+take_of : (s : Sense) (m : ℤ) → keeps true s ≡ false → MayWeigh (constraint_sense s) m → MayTake s m
 take_of Zero m e h = tt
 take_of AtLeast m e h = h
 take_of More m e h = h
 take_of Not m e h = absurd (true≢false e)
 
-abbrev SaysMore : Sense → Type 0
+abbrev SaysMore : ConstraintSense → Type 0
 SaysMore SenseZero = ⊥
 SaysMore SenseAtLeast = ⊥
 SaysMore SenseMore = Unit {0}
 
-more_of : (s : Says) → keeps true s ≡ false → sense_of s ≡ SenseMore → s ≡ More
+more_of : (s : Sense) → keeps true s ≡ false → constraint_sense s ≡ SenseMore → s ≡ More
 more_of Zero e h = absurd (subst SaysMore (sym h) tt)
 more_of AtLeast e h = absurd (subst SaysMore (sym h) tt)
 more_of More e h = refl

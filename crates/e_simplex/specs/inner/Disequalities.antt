@@ -9,7 +9,7 @@ use Rattle.e_simplex.specs.Solved.{IsFit}
 use Rattle.e_simplex.specs.inner.Tried.{negative_constraint, AreValues, AreBelowBut}
 use Rattle.e_simplex.specs.inner.Points.{IsPoint}
 use Rattle.e_simplex.specs.declared.constraints.Constraint.{Constraint}
-use Rattle.e_simplex.specs.declared.constraints.Sense.TheVariants.{More}
+use Rattle.e_simplex.specs.declared.constraints.ConstraintSense.TheVariants.{More}
 use Rattle.e_simplex.specs.declared.disequalities.Point.{Point}
 use Rattle.e_simplex.specs.declared.disequalities.NextPoint.{NextPoint}
 use Rattle.e_simplex.specs.declared.disequalities.NextPoint.TheVariants.{Moved, BothRefuted as NextBothRefuted, TooWide as NextTooWide}

@@ -7,7 +7,7 @@ use Rattle.e_simplex.specs.Constraints.{rows_of, value_of_monomials, IsSolution,
 use Rattle.e_simplex.specs.Solved.{WideFurther}
 use Rattle.e_simplex.specs.declared.constraints.Monomial.{Monomial}
 use Rattle.e_simplex.specs.declared.constraints.Constraint.{Constraint}
-use Rattle.e_simplex.specs.declared.constraints.Sense.TheVariants.{More}
+use Rattle.e_simplex.specs.declared.constraints.ConstraintSense.TheVariants.{More}
 use Rattle.e_simplex.specs.declared.unequal.Tried.{Tried}
 use Rattle.e_simplex.specs.declared.unequal.Tried.TheVariants.{Found, BothRefuted, TooWide}
 

@@ -13,7 +13,7 @@ use Rattle.e_literal.specs.declared.literal.Lit.{Lit}
 use Rattle.e_literal.specs.Literal.{negation, objects_of_term}
 use Rattle.e_literal.specs.Rename.{term_at}
 use Rattle.e_literal.specs.Facts.{has, are_apart}
-use Rattle.e_literal.specs.Rows.{Row, Says, Zero, AtLeast, More, Not, times, negative, row_of_lit}
+use Rattle.e_literal.specs.Rows.{Row, Sense, Zero, AtLeast, More, Not, times, negative, row_of_lit}
 use Rattle.e_literal.specs.Absurd.{Weighed, is_absurd}
 use Rattle.e_clause.specs.declared.cert.RowName.{RowName}
 use Rattle.e_clause.specs.declared.cert.RowName.TheVariants.{Fact, Goal, Pos, Top, Right as RightRow, Least, Above, Below, FactAt}
@@ -88,7 +88,7 @@ goal_moves kept None h x e = none_some x e
 goal_moves kept (Some l) h x e = lit_moves kept (negation l) (h l refl) x e
 
 -- the row of one term
-term_row : (kept : List Obj) (says : Says) (t : Term) (n : ℤ) → AllKept kept (objects_of_term t) → Rattle.e_literal.specs.Rows.row says (times n (term_at (kept_before kept Point) t) ∷ []) ≡ moved kept (Rattle.e_literal.specs.Rows.row says (times n t ∷ []))
+term_row : (kept : List Obj) (says : Sense) (t : Term) (n : ℤ) → AllKept kept (objects_of_term t) → Rattle.e_literal.specs.Rows.row says (times n (term_at (kept_before kept Point) t) ∷ []) ≡ moved kept (Rattle.e_literal.specs.Rows.row says (times n t ∷ []))
 term_row kept says t n o = row_moves kept says (times n t ∷ []) (over_term kept t o, tt)
 
 over_term_row : (kept : List Obj) (t : Term) (n : ℤ) → AllKept kept (objects_of_term t) → OverForm (OfSort kept Point) (Rattle.e_literal.specs.Rows.normal_summands (times n t ∷ []))

@@ -12,7 +12,7 @@ use Rattle.e_literal.specs.Literal.{objects_of_sum, objects_of_atom}
 use Rattle.e_literal.specs.Rename.{term_at, mono_at, atom_at}
 use Rattle.e_literal.specs.Same.{canonical}
 use Rattle.e_literal.specs.Facts.{is_metric}
-use Rattle.e_literal.specs.Rows.{Row, Says, Zero, AtLeast, More, Not, Summands, times, is_degenerate, normal_summands, row, plus, minus, negative, row_of_atom, row_of_lit}
+use Rattle.e_literal.specs.Rows.{Row, Sense, Zero, AtLeast, More, Not, Summands, times, is_degenerate, normal_summands, row, plus, minus, negative, row_of_atom, row_of_lit}
 use Rattle.e_trim.specs.Trimmed.{kept_before, lit_among_kept}
 use Rattle.e_trim.proofs.renumbering.Members.{in_left, in_right}
 use Rattle.e_trim.proofs.renumbering.Counting.{OfSort, keeps}
@@ -59,7 +59,7 @@ pub over_normal : (K : ℕ → Type 0) (form : Summands) → OverForm K form →
 over_normal K [] h = tt
 over_normal K (q ∷ form) h = over_step K (not (is_degenerate q.1)) q form h.0 (over_normal K form h.1)
 
-pub row_moves : (kept : List Obj) (says : Says) (form : Summands) → OverForm (OfSort kept Point) form → row says (form_at (kept_before kept Point) form) ≡ moved kept (row says form)
+pub row_moves : (kept : List Obj) (says : Sense) (form : Summands) → OverForm (OfSort kept Point) form → row says (form_at (kept_before kept Point) form) ≡ moved kept (row says form)
 row_moves kept says form h = ap (λ f. record { says = says; form = f }) (normal_stays (kept_before kept Point) (OfSort kept Point) (keeps kept) form h)
 
 difference_at : (p : ℕ → ℕ) (x y : List Mono) → plus (map (mono_at p) x) ++ minus (map (mono_at p) y) ≡ form_at p (plus x ++ minus y)
@@ -70,7 +70,7 @@ over_difference : (kept : List Obj) (x y : List Mono) → AllKept kept (objects_
 over_difference kept x y h k =
     over_both (OfSort kept Point) (plus x) (minus y) (over_plus (OfSort kept Point) x (over_sum kept x h)) (over_minus (OfSort kept Point) y (over_sum kept y k))
 
-difference_moves : (kept : List Obj) (says : Says) (x y : List Mono) → AllKept kept (objects_of_sum x) → AllKept kept (objects_of_sum y)
+difference_moves : (kept : List Obj) (says : Sense) (x y : List Mono) → AllKept kept (objects_of_sum x) → AllKept kept (objects_of_sum y)
     → row says (plus (map (mono_at (kept_before kept Point)) x) ++ minus (map (mono_at (kept_before kept Point)) y)) ≡ moved kept (row says (plus x ++ minus y))
 difference_moves kept says x y h k = ap (row says) (difference_at (kept_before kept Point) x y) ∙ row_moves kept says (plus x ++ minus y) (over_difference kept x y h k)
 
@@ -79,7 +79,7 @@ difference_moves kept says x y h k = ap (row says) (difference_at (kept_before k
 some_is : {X : Type 0} (x y : X) → Some x ≡ Some y → x ≡ y
 some_is x y e = cc
 
-one_row : (kept : List Obj) (says : Says) (x y : List Mono) (r : Row) → AllKept kept (objects_of_sum x) → AllKept kept (objects_of_sum y) → Some (row says (plus x ++ minus y)) ≡ Some r
+one_row : (kept : List Obj) (says : Sense) (x y : List Mono) (r : Row) → AllKept kept (objects_of_sum x) → AllKept kept (objects_of_sum y) → Some (row says (plus x ++ minus y)) ≡ Some r
     → (Some (row says (plus (map (mono_at (kept_before kept Point)) x) ++ minus (map (mono_at (kept_before kept Point)) y))) ≡ Some (moved kept r)) × OverRow kept r
 one_row kept says x y r h k e =
     let is = some_is (row says (plus x ++ minus y)) r e in (

@@ -17,7 +17,7 @@ use Rattle.e_verify.specs.inner.Small.{are_small_monomials, is_small_row}
 use Rattle.e_verify.specs.inner.Views.{row_view}
 use Rattle.e_verify.specs.declared.rows.Row.{Row}
 use Rattle.e_verify.specs.declared.rows.Row.TheVariants.{Sums, Pos, Top, Right as RightRow, Least}
-use Rattle.e_verify.specs.declared.rows.Says.{Says}
+use Rattle.e_verify.specs.declared.rows.RowSense.{RowSense}
 
 -- the coefficient that one summand brings
 abbrev pub single : ℤ → Term → Term → ℤ
@@ -175,7 +175,7 @@ added_top row u t a m x y is e f =
           mul_add m (single (pos 2) Right t) (single (neg_ℤ (pos 1)) u t),
         )
 
-pub added_sums : (row : Row) (says : Says) (x y : Bor (List Mono)) (turned : Bool) (t : Term) (a m n z : ℤ) → row ≡ Sums says x y turned → n ≡ (if turned then neg_ℤ m else m)
+pub added_sums : (row : Row) (says : RowSense) (x y : Bor (List Mono)) (turned : Bool) (t : Term) (a m n z : ℤ) → row ≡ Sums says x y turned → n ≡ (if turned then neg_ℤ m else m)
     → z ≡ a +ℤ n *ℤ coefficient (normal_summands (plus x.now ++ minus y.now)) t → z ≡ a +ℤ m *ℤ coefficient (row_view row).form t
 added_sums row says x y turned t a m n z is e f = by turned e ∙ ap (λ r. a +ℤ m *ℤ coefficient (row_view r).form t) (sym is)
   where

@@ -1,22 +1,22 @@
 -- The rows that the code names, and where it reads their names.
 use Rattle.std.specs.Prelude.{◌++◌, Bool, true, false}
 use Rattle.std.specs.Option.{option_map, option_copied}
-use Rattle.e_literal.specs.Rows.{Row, Says, Summands, plus, minus, negative, normal_summands}
+use Rattle.e_literal.specs.Rows.{Row, Sense, Summands, plus, minus, negative, normal_summands}
 use Rattle.e_literal.specs.Rows as says
 use Rattle.e_clause.specs.Sum.{Place}
 use Rattle.e_clause.specs.System.{pos_row, top_row, right_row, least_row}
-use Rattle.e_verify.specs.declared.rows.Says.{Says as CodeSays}
-use Rattle.e_verify.specs.declared.rows.Says.TheVariants.{Zero, AtLeast, More, Not}
+use Rattle.e_verify.specs.declared.rows.RowSense.{RowSense}
+use Rattle.e_verify.specs.declared.rows.RowSense.TheVariants.{Zero, AtLeast, More, Not}
 use Rattle.e_verify.specs.declared.rows.Comparison.{Comparison}
 use Rattle.e_verify.specs.declared.rows.Row.{Row as CodeRow}
 use Rattle.e_verify.specs.declared.rows.Row.TheVariants.{Sums, Pos, Top, Right, Least}
 use Rattle.e_verify.specs.declared.rows.RowScope.{RowScope}
 
-abbrev pub says_view : CodeSays → Says
-says_view Zero = says.Zero
-says_view AtLeast = says.AtLeast
-says_view More = says.More
-says_view Not = says.Not
+abbrev pub sense_view : RowSense → Sense
+sense_view Zero = says.Zero
+sense_view AtLeast = says.AtLeast
+sense_view More = says.More
+sense_view Not = says.Not
 
 -- the form, or minus the form
 abbrev pub form_turned : Bool → Summands → Summands
@@ -26,7 +26,7 @@ form_turned false form = form
 abbrev pub row_view : CodeRow → Row
 row_view (Sums said x y turned) =
     record {
-      says = says_view said;
+      says = sense_view said;
       form = form_turned turned (normal_summands (plus x.now ++ minus y.now));
     }
 row_view (Pos t) = pos_row t
@@ -37,7 +37,7 @@ row_view (Least t) = least_row t
 abbrev pub comparison_view : Comparison → Row
 comparison_view c =
     record {
-      says = says_view c.says;
+      says = sense_view c.says;
       form = normal_summands (plus c.plus.now ++ minus c.minus.now);
     }
 

@@ -3,7 +3,7 @@ use mir.Syntax.{w128}
 use Rattle.e_fraction.specs.Views.{all_seen}
 use Rattle.e_simplex.proofs.verdicts.RowMultipliers.{nots_most}
 use Rattle.e_simplex.specs.declared.constraints.Constraint.{Constraint}
-use Rattle.e_simplex.specs.declared.constraints.Sense.TheVariants.{More}
+use Rattle.e_simplex.specs.declared.constraints.ConstraintSense.TheVariants.{More}
 use Rattle.e_simplex.proofs.verdicts.Assigning.{none_two}
 use Rattle.e_simplex.proofs.verdicts.Refuting.{small_anywhere, is_below, above_long, below_long, both_refute}
 use Rattle.e_simplex.proofs.decision.refuted_both.Goals as goal

@@ -1,6 +1,6 @@
 use Rattle.std.proofs.Common.{◌≡◌, ◌-◌, SFits, to_z-of_z, arith, ap, ◌∙◌, get_or, true, cond, suc}
 use mir.Syntax.{w128}
-use Rattle.e_fraction.specs.Views.{says_of, seen, all_seen}
+use Rattle.e_fraction.specs.Views.{sense_of, seen, all_seen}
 use Rattle.e_simplex.specs.Naming.{keeps}
 use Rattle.e_simplex.specs.inner.RowMultipliers.{row_multipliers, multiplier_of_row}
 use Rattle.e_simplex.proofs.columns.Forms.{fits_type}
@@ -18,7 +18,7 @@ loop-i-preserved c =
     let h = c.weight_at-weight.ensures in
     let row = c.index-rows-i.result in
     let is_not : c.is_kept-is_not.result ≡ keeps true (seen (get_or c.args.rows.now c.loop-i.i row)).says
-    = c.is_kept-is_not.ensures ∙ ap (λ r. keeps true (says_of r.kind)) c.index-rows-i.is in
+    = c.is_kept-is_not.ensures ∙ ap (λ r. keeps true (sense_of r.kind)) c.index-rows-i.is in
     simp to_z-of_z (record {
       value = row_multipliers_more c.args.rows.now c.loop-i.i row c.args.weights.now c.args.tried (c.loop-i.i - c.loop-i.seen) c.loop-i.seen c.args.last c.multiplier.result
           c.loop-i.all.items c.push.new.self.items c.loop-i-test.true (omega (arith, c.loop-i.invariant.most)) c.loop-i.invariant.count

@@ -1,6 +1,6 @@
 use Rattle.std.proofs.Common.{◌≡◌, ap, sym, ◌∙◌, subst}
-use Rattle.e_fraction.specs.Views.{says_of}
-use Rattle.e_simplex.specs.Naming.{FormNamed, named_form, keeps, sense_of}
+use Rattle.e_fraction.specs.Views.{sense_of}
+use Rattle.e_simplex.specs.Naming.{FormNamed, named_form, keeps, constraint_sense}
 use Rattle.std.proofs.Common.{true}
 use Rattle.e_fraction.specs.Limits.{has_small_coefficients}
 use Rattle.e_fraction.proofs.Sums.{small_row}
@@ -25,14 +25,14 @@ loop-row-preserved c = elim c.if-is_kept.branch [
   | then-is_kept+in_ok-named_constraint+in_ok-push w ↦ (let new = ap (λ v. v.items) w.constraints-is ∙ w.in_ok-push.ensures.items in
       record {
         value = constraints_more c.args.not c.args.terms.now c.args.rows.now c.loop-row.row-index c.row-item.result c.loop-row.constraints.items c.if-is_kept.constraints.items w.in_ok-named_constraint.field-0 c.loop-row-test.true c.loop-row.invariant.value
-            new (sym (ap (λ r. keeps c.args.not (says_of r.kind)) c.row-item.is) ∙ sym c.is_kept.ensures ∙ w.if-is_kept.true)
-            (w.in_ok-named_constraint.ensures.sense ∙ ap (λ r. sense_of (says_of r.kind)) c.row-item.is)
+            new (sym (ap (λ r. keeps c.args.not (sense_of r.kind)) c.row-item.is) ∙ sym c.is_kept.ensures ∙ w.if-is_kept.true)
+            (w.in_ok-named_constraint.ensures.sense ∙ ap (λ r. constraint_sense (sense_of r.kind)) c.row-item.is)
             (w.in_ok-named_constraint.ensures.form ∙ ap (λ r. named_form c.args.terms.now r.form) c.row-item.is);
         small = subst AllSmallConstraints (sym new) (small_push c.loop-row.constraints.items w.in_ok-named_constraint.field-0 c.loop-row.invariant.small w.in_ok-named_constraint.ensures.small);
       })
   | else-is_kept w ↦ record {
     value = ap (λ v. v.items) w.constraints-is
-        ∙ constraints_same c.args.not c.args.terms.now c.args.rows.now c.loop-row.row-index c.row-item.result c.loop-row.constraints.items c.loop-row-test.true c.loop-row.invariant.value (sym (ap (λ r. keeps c.args.not (says_of r.kind)) c.row-item.is) ∙ sym c.is_kept.ensures ∙ w.if-is_kept.false);
+        ∙ constraints_same c.args.not c.args.terms.now c.args.rows.now c.loop-row.row-index c.row-item.result c.loop-row.constraints.items c.loop-row-test.true c.loop-row.invariant.value (sym (ap (λ r. keeps c.args.not (sense_of r.kind)) c.row-item.is) ∙ sym c.is_kept.ensures ∙ w.if-is_kept.false);
     small = subst AllSmallConstraints (sym (ap (λ v. v.items) w.constraints-is)) c.loop-row.invariant.small;
   }
 ]
