@@ -138,9 +138,9 @@ impl Coming {
     {
         match self.step(alloc, known, line) {
             Ok(()) => Ok(self),
-            Err(trouble) => {
+            Err(error) => {
                 mem::drop(self);
-                Err(trouble)
+                Err(error)
             }
         }
     }

@@ -62,9 +62,9 @@ fn names_with(
         mem::drop(after);
         return Err(error.into());
     }
-    if let Err(trouble) = few_objects(&after) {
+    if let Err(error) = few_objects(&after) {
         mem::drop(after);
-        return Err(trouble);
+        return Err(error);
     }
     Ok(after)
 }
@@ -148,17 +148,17 @@ impl TheoremParser {
         ensures fits { OnOk result (FitsScope self.new) }
     {
         let mut shown = Items::empty(alloc);
-        if let Err(trouble) = put_lits(alloc, &self.in_scope, raw, &mut shown) {
+        if let Err(error) = put_lits(alloc, &self.in_scope, raw, &mut shown) {
             mem::drop(shown);
-            return Err(trouble);
+            return Err(error);
         }
-        if let Err(trouble) = self.room_inside(0) {
+        if let Err(error) = self.room_inside(0) {
             mem::drop(shown);
-            return Err(trouble);
+            return Err(error);
         }
-        if let Err(trouble) = few_monos(raw) {
+        if let Err(error) = few_monos(raw) {
             mem::drop(shown);
-            return Err(trouble);
+            return Err(error);
         }
         let inside = self.in_scope.copy(alloc)?;
         self.interrupt(alloc, BlockKind::Claim { shown }, inside, 0)?;
@@ -205,10 +205,10 @@ impl TheoremParser {
     {
         let terms = match self.terms_inside(given, shown) {
             Ok(terms) => terms,
-            Err(trouble) => {
+            Err(error) => {
                 mem::drop(kind);
                 mem::drop(after);
-                return Err(trouble);
+                return Err(error);
             }
         };
         self.interrupt(alloc, kind, after, given.len())?;
@@ -258,9 +258,9 @@ impl TheoremParser {
         ensures value { Moves result self.new (shut self.old close) }
         ensures fits { OnOk result (FitsScope self.new) }
     {
-        if let Err(trouble) = within(self.lines + 1, MAX_STEPS, What::Steps) {
+        if let Err(error) = within(self.lines + 1, MAX_STEPS, What::Steps) {
             mem::drop(close);
-            return Err(trouble);
+            return Err(error);
         }
         self.lines += 1;
         self.close_block(alloc, close)
@@ -375,11 +375,11 @@ impl TheoremParser {
             (Claimed shown inner)) }
         ensures fits { OnOk result (FitsScope self.new) }
     {
-        if let Err(trouble) = around.add_facts(shown.items()) {
+        if let Err(error) = around.add_facts(shown.items()) {
             mem::drop(around);
             mem::drop(shown);
             mem::drop(inner);
-            return Err(trouble);
+            return Err(error);
         }
         let inner = inner.into_box();
         self.resume(around, Step::Claim { shown, inner })?;
@@ -405,12 +405,12 @@ impl TheoremParser {
             self.old.blocks shown (Copied form names shown [] inner)) }
         ensures fits { OnOk result (FitsScope self.new) }
     {
-        if let Err(trouble) = around.add_facts(shown.items()) {
+        if let Err(error) = around.add_facts(shown.items()) {
             mem::drop(around);
             mem::drop(names);
             mem::drop(shown);
             mem::drop(inner);
-            return Err(trouble);
+            return Err(error);
         }
         let inner = inner.into_box();
         let step = Step::Superposed {

@@ -241,9 +241,9 @@ impl TheoremParser {
     {
         match self.step(alloc, known, form) {
             Ok(()) => Ok(self),
-            Err(trouble) => {
+            Err(error) => {
                 mem::drop(self);
-                Err(trouble)
+                Err(error)
             }
         }
     }
@@ -488,9 +488,9 @@ impl TheoremParser {
         ensures value { Moves result self.new (with_step self.old (plain_step step) given) }
         ensures fits { OnOk result (FitsScope self.new) }
     {
-        if let Err(trouble) = within(self.lines + 1, MAX_STEPS, What::Steps) {
+        if let Err(error) = within(self.lines + 1, MAX_STEPS, What::Steps) {
             mem::drop(step);
-            return Err(trouble);
+            return Err(error);
         }
         if given > MAX_FACTS - self.facts {
             mem::drop(step);

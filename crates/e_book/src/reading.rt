@@ -59,9 +59,9 @@ fn line_step(
 {
     let line = match line_of(alloc, words) {
         Ok(line) => line,
-        Err(trouble) => {
+        Err(error) => {
             mem::drop(coming);
-            return Err(trouble);
+            return Err(error);
         }
     };
     let next = match coming {
@@ -148,7 +148,7 @@ impl Reading {
         let coming = self.coming.take();
         let next = match line_step(alloc, known, coming, words) {
             Ok(next) => next,
-            Err(trouble) => return Err(trouble.at(number)),
+            Err(error) => return Err(error.at(number)),
         };
         if is_done(&next) {
             return Ok(Some(next.into_item(alloc)));

@@ -122,9 +122,9 @@ fn bare_row(words: Words, row: RawRow) -> Result<RawRow, LineError>
 {
     match words.end() {
         Ok(()) => Ok(row),
-        Err(trouble) => {
+        Err(error) => {
             mem::drop(row);
-            Err(trouble)
+            Err(error)
         }
     }
 }
@@ -184,9 +184,9 @@ fn bare(words: Words, cert_line: CertLine) -> Result<CertLine, LineError>
 {
     match words.end() {
         Ok(()) => Ok(cert_line),
-        Err(trouble) => {
+        Err(error) => {
             mem::drop(cert_line);
-            Err(trouble)
+            Err(error)
         }
     }
 }

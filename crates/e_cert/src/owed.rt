@@ -92,9 +92,9 @@ fn fact_in(alloc: Global, names: &Names, raw: &RawLit) -> Result<Lit, LineError>
     let lit = lit_in(alloc, names, raw)?;
     match few_monos(slice::from_ref(raw)) {
         Ok(()) => Ok(lit),
-        Err(trouble) => {
+        Err(error) => {
             mem::drop(lit);
-            Err(trouble)
+            Err(error)
         }
     }
 }

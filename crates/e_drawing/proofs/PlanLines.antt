@@ -6,10 +6,10 @@ use Rattle.e_text.specs.declared.line.LineFault.{LineFault}
 use Rattle.e_line.specs.declared.fault.FaultKind.{FaultKind}
 use Rattle.e_line.specs.declared.fault.FaultKind.TheVariants as kinds
 use Rattle.e_line.specs.declared.fault.LineError.{LineError}
-use Rattle.e_line.specs.declared.fault.LineError.TheVariants as troubles
+use Rattle.e_line.specs.declared.fault.LineError.TheVariants as line_errors
 use Rattle.e_line.specs.declared.fault.BookFault.{BookFault}
 use Rattle.e_line.specs.declared.fault.BookFault.TheVariants as faults
-use Rattle.e_line.specs.Faults.{trouble_at, line_fault}
+use Rattle.e_line.specs.Faults.{error_at, line_fault}
 use Rattle.e_line.specs.Reading.{◌>>=◌, Fails}
 use Rattle.e_book.specs.Grammar.{is_skipped, put_at, BookFails}
 use Rattle.e_line.proofs.base.Bound.{bind_ok}
@@ -31,15 +31,15 @@ book_fails (faults.WrongSort line) q h = h
 book_fails (faults.Limit line what) q h = h
 book_fails (faults.Unended line) q h = h
 
--- a trouble, at its line
-fails_at : {A : Type 0} (n : ℕ) (trouble : LineError) (r : Result A FaultKind) → Fails trouble r → BookFails (trouble_at n trouble) (put_at n r)
-fails_at n troubles.NoMemory r h = tt
-fails_at {A} n (troubles.Fault kinds.Malformed) r h = ap (λ (x : Result A FaultKind). put_at n x) h
-fails_at {A} n (troubles.Fault kinds.UnknownName) r h = ap (λ (x : Result A FaultKind). put_at n x) h
-fails_at {A} n (troubles.Fault kinds.NameTaken) r h = ap (λ (x : Result A FaultKind). put_at n x) h
-fails_at {A} n (troubles.Fault kinds.WrongSort) r h = ap (λ (x : Result A FaultKind). put_at n x) h
-fails_at {A} n (troubles.Fault (kinds.Limit what)) r h = ap (λ (x : Result A FaultKind). put_at n x) h
-fails_at {A} n (troubles.Fault kinds.Unended) r h = ap (λ (x : Result A FaultKind). put_at n x) h
+-- an error, at its line
+fails_at : {A : Type 0} (n : ℕ) (error : LineError) (r : Result A FaultKind) → Fails error r → BookFails (error_at n error) (put_at n r)
+fails_at n line_errors.NoMemory r h = tt
+fails_at {A} n (line_errors.Fault kinds.Malformed) r h = ap (λ (x : Result A FaultKind). put_at n x) h
+fails_at {A} n (line_errors.Fault kinds.UnknownName) r h = ap (λ (x : Result A FaultKind). put_at n x) h
+fails_at {A} n (line_errors.Fault kinds.NameTaken) r h = ap (λ (x : Result A FaultKind). put_at n x) h
+fails_at {A} n (line_errors.Fault kinds.WrongSort) r h = ap (λ (x : Result A FaultKind). put_at n x) h
+fails_at {A} n (line_errors.Fault (kinds.Limit what)) r h = ap (λ (x : Result A FaultKind). put_at n x) h
+fails_at {A} n (line_errors.Fault kinds.Unended) r h = ap (λ (x : Result A FaultKind). put_at n x) h
 
 -- what fails is not gone on with
 pub fails_on : {A B : Type 0} (f : BookFault) (q : Result A BookFault) (then : A → Result B BookFault) → BookFails f q → BookFails f (q >>= then)
@@ -63,11 +63,11 @@ worded old l last more h = ap (λ b. cond b (plan_from last old more) (put_at l.
 pub takes_words : (old new : Plan) (l : LineView) → is_skipped (tokens_of l.bytes) ≡ false → words_step old (tokens_of l.bytes) ≡ Ok new → TakesPlanLine old l (Ok tt) new
 takes_words old new l h e = λ last more. worded old l last more h ∙ ap (λ (r : Result Plan FaultKind). put_at l.number r >>= (λ q. plan_from last q more)) e
 
-pub takes_trouble : (old new : Plan) (l : LineView) (t : LineError) → is_skipped (tokens_of l.bytes) ≡ false → Fails t (words_step old (tokens_of l.bytes))
-    → TakesPlanLine old l (Err (trouble_at l.number t)) new
-takes_trouble old new l t h e = λ last more.
-    subst (BookFails (trouble_at l.number t)) (sym (worded old l last more h))
-    (fails_on (trouble_at l.number t) (put_at l.number (words_step old (tokens_of l.bytes))) (λ q. plan_from last q more) (fails_at l.number t (words_step old (tokens_of l.bytes)) e))
+pub takes_error : (old new : Plan) (l : LineView) (t : LineError) → is_skipped (tokens_of l.bytes) ≡ false → Fails t (words_step old (tokens_of l.bytes))
+    → TakesPlanLine old l (Err (error_at l.number t)) new
+takes_error old new l t h e = λ last more.
+    subst (BookFails (error_at l.number t)) (sym (worded old l last more h))
+    (fails_on (error_at l.number t) (put_at l.number (words_step old (tokens_of l.bytes))) (λ q. plan_from last q more) (fails_at l.number t (words_step old (tokens_of l.bytes)) e))
 
 pub takes_nothing : (old new : Plan) (l : LineView) (r : Result (Unit {0}) BookFault) → r ≡ Err faults.NoMemory → TakesPlanLine old l r new
 takes_nothing old new l r e = subst (λ (x : Result (Unit {0}) BookFault). TakesPlanLine old l x new) (sym e) (λ last more. tt)

@@ -87,9 +87,9 @@ fn alone(words: &[&[u8]], line: RawLine) -> Result<RawLine, LineError>
 {
     match Words::new(words).end() {
         Ok(()) => Ok(line),
-        Err(trouble) => {
+        Err(error) => {
             mem::drop(line);
-            Err(trouble)
+            Err(error)
         }
     }
 }

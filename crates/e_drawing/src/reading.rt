@@ -46,7 +46,7 @@ fn take_tokens(
     }
     match take_words(alloc, plan, words) {
         Ok(()) => Ok(()),
-        Err(trouble) => Err(trouble.at(line.number as u32)),
+        Err(error) => Err(error.at(line.number as u32)),
     }
 }
 

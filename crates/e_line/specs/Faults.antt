@@ -6,7 +6,7 @@ use Rattle.e_line.specs.declared.fault.FaultKind.{FaultKind}
 use Rattle.e_line.specs.declared.fault.FaultKind.TheVariants as kinds
 use Rattle.e_line.specs.declared.fault.What.TheVariants as limits
 use Rattle.e_line.specs.declared.fault.LineError.{LineError}
-use Rattle.e_line.specs.declared.fault.LineError.TheVariants as troubles
+use Rattle.e_line.specs.declared.fault.LineError.TheVariants as line_errors
 use Rattle.e_line.specs.declared.fault.BookFault.{BookFault}
 use Rattle.e_line.specs.declared.fault.BookFault.TheVariants as faults
 
@@ -18,9 +18,9 @@ at_line line kinds.WrongSort = faults.WrongSort line
 at_line line (kinds.Limit what) = faults.Limit line what
 at_line line kinds.Unended = faults.Unended line
 
-abbrev pub trouble_at : ℕ → LineError → BookFault
-trouble_at line troubles.NoMemory = faults.NoMemory
-trouble_at line (troubles.Fault kind) = at_line line kind
+abbrev pub error_at : ℕ → LineError → BookFault
+error_at line line_errors.NoMemory = faults.NoMemory
+error_at line (line_errors.Fault kind) = at_line line kind
 
 -- what is wrong with the bytes of a line
 abbrev pub line_fault : LineFault → BookFault

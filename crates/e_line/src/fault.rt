@@ -134,11 +134,11 @@ impl FaultKind {
 }
 
 impl LineError {
-    ghost use Rattle.e_line.specs.Faults.{trouble_at};
+    ghost use Rattle.e_line.specs.Faults.{error_at};
 
     /// The fault, at a line; or out of memory.
     pub fn at(self, line: u32) -> BookFault
-        ensures { result ≡ trouble_at line self }
+        ensures { result ≡ error_at line self }
     {
         match self {
             LineError::NoMemory => BookFault::NoMemory,

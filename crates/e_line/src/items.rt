@@ -160,9 +160,9 @@ fn listed(alloc: Global, line: Listing, words: &[&[u8]]) -> Result<BookLine, Lin
 {
     let items = match items_of(alloc, words) {
         Ok(items) => items,
-        Err(trouble) => {
+        Err(error) => {
             mem::drop(line);
-            return Err(trouble);
+            return Err(error);
         }
     };
     Ok(BookLine::Listed(line, items))

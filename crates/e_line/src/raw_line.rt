@@ -125,9 +125,9 @@ fn bare(words: Words, form: RawLine) -> Result<RawLine, LineError>
 {
     match words.end() {
         Ok(()) => Ok(form),
-        Err(trouble) => {
+        Err(error) => {
             mem::drop(form);
-            Err(trouble)
+            Err(error)
         }
     }
 }

@@ -112,9 +112,9 @@ fn owed_by(
             due,
             sums: None,
         }),
-        Err(trouble) => {
+        Err(error) => {
             mem::drop(names);
-            Err(trouble)
+            Err(error)
         }
     }
 }
@@ -141,16 +141,16 @@ fn next_line(
     }
     let owed = match owed_by(alloc, known, &parser, form) {
         Ok(owed) => owed,
-        Err(trouble) => {
+        Err(error) => {
             mem::drop(parser);
-            return Err(trouble);
+            return Err(error);
         }
     };
     match parser.taking(alloc, known, form) {
         Ok(parser) => Ok(Begun { parser, owed }),
-        Err(trouble) => {
+        Err(error) => {
             mem::drop(owed);
-            Err(trouble)
+            Err(error)
         }
     }
 }

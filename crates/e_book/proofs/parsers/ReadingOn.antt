@@ -8,12 +8,12 @@ use Rattle.e_text.specs.declared.line.LineFault.{LineFault}
 use Rattle.e_line.specs.declared.fault.FaultKind.{FaultKind}
 use Rattle.e_line.specs.declared.fault.FaultKind.TheVariants as kinds
 use Rattle.e_line.specs.declared.fault.LineError.{LineError}
-use Rattle.e_line.specs.declared.fault.LineError.TheVariants as troubles
+use Rattle.e_line.specs.declared.fault.LineError.TheVariants as line_errors
 use Rattle.e_line.specs.declared.fault.BookFault.{BookFault}
 use Rattle.e_line.specs.declared.fault.BookFault.TheVariants as faults
 use Rattle.e_book.specs.declared.coming.Coming.{Coming}
 use Rattle.e_book.specs.declared.item.Item.{Item}
-use Rattle.e_line.specs.Faults.{trouble_at, line_fault}
+use Rattle.e_line.specs.Faults.{error_at, line_fault}
 use Rattle.e_line.specs.Reading.{Fails, ◌>>=◌}
 use Rattle.e_names.specs.declared.known.Known.{Known}
 use Rattle.e_names.specs.Titled.{are_notions}
@@ -77,15 +77,15 @@ book_fails (faults.WrongSort line) q h = h
 book_fails (faults.Limit line what) q h = h
 book_fails (faults.Unended line) q h = h
 
--- a trouble, at its line
-pub fails_at : (n : ℕ) (trouble : LineError) (r : Result Coming FaultKind) → Fails trouble r → BookFails (trouble_at n trouble) (put_at n r)
-fails_at n troubles.NoMemory r h = tt
-fails_at n (troubles.Fault kinds.Malformed) r h = ap (λ (x : Result Coming FaultKind). put_at n x) h
-fails_at n (troubles.Fault kinds.UnknownName) r h = ap (λ (x : Result Coming FaultKind). put_at n x) h
-fails_at n (troubles.Fault kinds.NameTaken) r h = ap (λ (x : Result Coming FaultKind). put_at n x) h
-fails_at n (troubles.Fault kinds.WrongSort) r h = ap (λ (x : Result Coming FaultKind). put_at n x) h
-fails_at n (troubles.Fault (kinds.Limit what)) r h = ap (λ (x : Result Coming FaultKind). put_at n x) h
-fails_at n (troubles.Fault kinds.Unended) r h = ap (λ (x : Result Coming FaultKind). put_at n x) h
+-- an error, at its line
+pub fails_at : (n : ℕ) (error : LineError) (r : Result Coming FaultKind) → Fails error r → BookFails (error_at n error) (put_at n r)
+fails_at n line_errors.NoMemory r h = tt
+fails_at n (line_errors.Fault kinds.Malformed) r h = ap (λ (x : Result Coming FaultKind). put_at n x) h
+fails_at n (line_errors.Fault kinds.UnknownName) r h = ap (λ (x : Result Coming FaultKind). put_at n x) h
+fails_at n (line_errors.Fault kinds.NameTaken) r h = ap (λ (x : Result Coming FaultKind). put_at n x) h
+fails_at n (line_errors.Fault kinds.WrongSort) r h = ap (λ (x : Result Coming FaultKind). put_at n x) h
+fails_at n (line_errors.Fault (kinds.Limit what)) r h = ap (λ (x : Result Coming FaultKind). put_at n x) h
+fails_at n (line_errors.Fault kinds.Unended) r h = ap (λ (x : Result Coming FaultKind). put_at n x) h
 
 -- what fails is not gone on with
 fails_on : (f : BookFault) (q : Result Coming BookFault) (then : Coming → Result Answer BookFault) → BookFails f q → BookFails f (q >>= then)

@@ -10,7 +10,7 @@ use Rattle.std.proofs.lemmas.List.Sums.{prefix_len_passes}
 use Rattle.std.proofs.Math.Seq.{drop-cons}
 use Rattle.e_line.specs.declared.fault.FaultKind.{FaultKind}
 use Rattle.e_line.specs.declared.fault.LineError.{LineError}
-use Rattle.e_line.specs.declared.fault.LineError.TheVariants as troubles
+use Rattle.e_line.specs.declared.fault.LineError.TheVariants as line_errors
 use Rattle.e_line.specs.Reading.{◌>>=◌, Fails, each, with_front}
 
 regroup : {Y : Type 0} (front : List Y) (y : Y) (read : Result (List Y) FaultKind) → with_front front (read >>= λ ys. Ok (y ∷ ys)) ≡ with_front (front ++ y ∷ []) read
@@ -32,8 +32,8 @@ goes_on {X} {Y} f front x xs all y total is ok so_far =
 -- one fails
 pub fails : {X Y : Type 0} (f : X → Result Y FaultKind) (front : List Y) (x : X) (xs all : List X) (e : LineError) (total : Result (List Y) FaultKind)
     → all ≡ x ∷ xs → Fails e (f x) → with_front front (each f all) ≡ total → Fails e total
-fails f front x xs all troubles.NoMemory total is err so_far = tt
-fails {X} f front x xs all (troubles.Fault k) total is err so_far =
+fails f front x xs all line_errors.NoMemory total is err so_far = tt
+fails {X} f front x xs all (line_errors.Fault k) total is err so_far =
     let one : with_front front (each f (x ∷ xs)) ≡ Err k = rw err refl in
     sym so_far ∙ ap (λ (l : List X). with_front front (each f l)) is ∙ one
 

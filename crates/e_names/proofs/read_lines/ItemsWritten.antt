@@ -23,7 +23,7 @@ use Rattle.e_deriv.specs.Fitting.{is_small, is_small_statement, all_objects}
 use Rattle.e_deriv.proofs.Smallness.{few_objects}
 use Rattle.e_line.specs.declared.fault.FaultKind.{FaultKind}
 use Rattle.e_line.specs.declared.fault.LineError.{LineError}
-use Rattle.e_line.specs.declared.fault.LineError.TheVariants as troubles
+use Rattle.e_line.specs.declared.fault.LineError.TheVariants as line_errors
 use Rattle.e_line.specs.declared.literal.RawLit.{RawLit}
 use Rattle.e_line.specs.declared.items.RawAs.{RawAs}
 use Rattle.e_line.specs.declared.items.RawItem.{RawItem}
@@ -193,5 +193,5 @@ items_some notions ns (item ∷ is) p all some e =
 
 -- what fails is not gone on with
 pub fails_on : {A B : Type 0} (e : LineError) (r : Result A FaultKind) (f : A → Result B FaultKind) → Fails e r → Fails e (r >>= f)
-fails_on troubles.NoMemory r f h = tt
-fails_on {A} (troubles.Fault k) r f h = ap (λ (x : Result A FaultKind). x >>= f) h
+fails_on line_errors.NoMemory r f h = tt
+fails_on {A} (line_errors.Fault k) r f h = ap (λ (x : Result A FaultKind). x >>= f) h

@@ -3,7 +3,7 @@ use Rattle.e_text.specs.Lines.{view_of_line}
 use Rattle.e_line.specs.Reading.{Fails}
 use Rattle.e_book.specs.Grammar.{is_skipped}
 use Rattle.e_drawing.specs.Texts.{words_step}
-use Rattle.e_drawing.proofs.PlanLines.{takes_skipped, takes_words, takes_trouble}
+use Rattle.e_drawing.proofs.PlanLines.{takes_skipped, takes_words, takes_error}
 use Rattle.e_drawing.proofs.reading.take_tokens.Goals as goal
 
 pub returns-then-is_skipped-clause-takes : goal.returns-then-is_skipped-clause-takes
@@ -18,5 +18,5 @@ returns-in-Ok-clause-takes c =
 pub returns-in-Err-clause-takes : goal.returns-in-Err-clause-takes
 returns-in-Err-clause-takes c =
     rw c.at.ensures
-    (takes_trouble c.args.plan.now c.take_words.new.plan (view_of_line c.args.line.now) c.in-Err.trouble (ap is_skipped (sym c.requires.words) ∙ sym c.is_skipped.ensures ∙ c.if-is_skipped.false)
-    (subst (λ (ws : List (List ℕ)). Fails c.in-Err.trouble (words_step c.args.plan.now ws)) c.requires.words c.in-Err.ensures.value))
+    (takes_error c.args.plan.now c.take_words.new.plan (view_of_line c.args.line.now) c.in-Err.error (ap is_skipped (sym c.requires.words) ∙ sym c.is_skipped.ensures ∙ c.if-is_skipped.false)
+    (subst (λ (ws : List (List ℕ)). Fails c.in-Err.error (words_step c.args.plan.now ws)) c.requires.words c.in-Err.ensures.value))

@@ -7,7 +7,7 @@ use Rattle.e_book.proofs.reading.Reading.take_words.Goals as goal
 pub returns-in-Err-clause-takes : goal.returns-in-Err-clause-takes
 returns-in-Err-clause-takes c =
     let value = rw c.take-coming.ensures.value at c.in-Err.ensures.value in
-    rw c.at.ensures (fails_at c.args.number c.in-Err.trouble (line_step c.args.known.now c.args.self.now.coming (texts c.args.words.now)) value)
+    rw c.at.ensures (fails_at c.args.number c.in-Err.error (line_step c.args.known.now c.args.self.now.coming (texts c.args.words.now)) value)
 
 pub returns-then-is_done-clause-takes : goal.returns-then-is_done-clause-takes
 returns-then-is_done-clause-takes c =
