@@ -35,10 +35,10 @@ pub struct Coming {
 }
 
 /// Whether it begins a theorem with the title of a definition.
-fn has_notion_title(known: &Known, form: &RawLine) -> bool
-    ensures { result ≡ has_notion_title known.now.notions form.now }
+fn has_notion_title(known: &Known, raw_line: &RawLine) -> bool
+    ensures { result ≡ has_notion_title known.now.notions raw_line.now }
 {
-    match form {
+    match raw_line {
         RawLine::Theorem(title) => known.notions.is_known(*title),
         _ => false,
     }
@@ -72,7 +72,7 @@ fn superpose_form(
 /// A line with its items written out, and how many literals they stand for.
 #[derive(Drop)]
 struct Written {
-    form: RawLine,
+    raw_line: RawLine,
     count: usize,
 }
 
@@ -84,21 +84,21 @@ impl Coming {
         ensures fits { IfOk result (FitsComing known.now) }
     {
         match line {
-            BookLine::Plain(form) => Coming::begin_theorem(alloc, known, form),
+            BookLine::Plain(raw_line) => Coming::begin_theorem(alloc, known, raw_line),
             BookLine::Define(title) => Coming::begin_definition(alloc, known, *title),
             BookLine::Listed(_, _) => Err(LineError::Fault(FaultKind::Malformed)),
         }
     }
 
     #[tactic(auto, unfolding(crate::specs::inner::Machine::begins_theorem))]
-    fn begin_theorem(alloc: Global, known: &Known, form: &RawLine) -> Result<Coming, LineError>
-        ensures value { Gives (λ c. c) result (begins_theorem known.now form.now) }
+    fn begin_theorem(alloc: Global, known: &Known, raw_line: &RawLine) -> Result<Coming, LineError>
+        ensures value { Gives (λ c. c) result (begins_theorem known.now raw_line.now) }
         ensures fits { IfOk result (FitsComing known.now) }
     {
-        if has_notion_title(known, form) {
+        if has_notion_title(known, raw_line) {
             return Err(LineError::Fault(FaultKind::NameTaken));
         }
-        let parser = TheoremParser::begin(alloc, &known.theorems, form)?;
+        let parser = TheoremParser::begin(alloc, &known.theorems, raw_line)?;
         Ok(Coming {
             defines: false,
             parser,
@@ -153,7 +153,7 @@ impl Coming {
         ensures fits { OnOk result (FitsComing known.now self.new) }
     {
         match line {
-            BookLine::Plain(form) => self.go_on(alloc, known, form),
+            BookLine::Plain(raw_line) => self.go_on(alloc, known, raw_line),
             BookLine::Define(_) => Err(LineError::Fault(FaultKind::Malformed)),
             BookLine::Listed(line, items) => self.list(alloc, known, line, items.items()),
         }
@@ -161,33 +161,33 @@ impl Coming {
 
     /// A line without items.
     #[tactic(auto, unfolding(crate::specs::inner::Machine::goes_on))]
-    fn go_on(&mut self, alloc: Global, known: &Known, form: &RawLine) -> Result<(), LineError>
+    fn go_on(&mut self, alloc: Global, known: &Known, raw_line: &RawLine) -> Result<(), LineError>
         requires coming { FitsComing known.now self.old }
-        ensures value { Moves result self.new (goes_on known.now self.old form.now) }
+        ensures value { Moves result self.new (goes_on known.now self.old raw_line.now) }
         ensures fits { OnOk result (FitsComing known.now self.new) }
     {
         if self.defines {
-            return self.define(alloc, form);
+            return self.define(alloc, raw_line);
         }
-        self.parser.step(alloc, &known.theorems, form)
+        self.parser.step(alloc, &known.theorems, raw_line)
     }
 
     /// A line of a definition.
     #[tactic(auto, unfolding(crate::specs::inner::Machine::defines_on))]
-    fn define(&mut self, alloc: Global, form: &RawLine) -> Result<(), LineError>
+    fn define(&mut self, alloc: Global, raw_line: &RawLine) -> Result<(), LineError>
         requires { FitsScope self.old.parser }
-        ensures value { Moves result self.new.parser (defines_on self.old.parser form.now) }
+        ensures value { Moves result self.new.parser (defines_on self.old.parser raw_line.now) }
         ensures fits { OnOk result (FitsScope self.new.parser) }
         ensures kept { (self.new.defines ≡ self.old.defines)
             × (self.new.expanded ≡ self.old.expanded) }
     {
-        match form {
+        match raw_line {
             RawLine::Declare(sort, names) => {
-                right_place(allowed(self.parser.section, form))?;
+                right_place(allowed(self.parser.section, raw_line))?;
                 self.parser.on_declare(alloc, *sort, names.items())
             }
             RawLine::Show(raw) => {
-                right_place(allowed(self.parser.section, form))?;
+                right_place(allowed(self.parser.section, raw_line))?;
                 self.parser.on_show(alloc, raw.items())
             }
             RawLine::End => {
@@ -215,9 +215,9 @@ impl Coming {
         ensures fits { OnOk result (FitsComing known.now self.new) }
     {
         right_place(!self.defines || is_show(line))?;
-        let Written { form, count } = self.write(alloc, known, line, items)?;
-        let taken = self.go_on(alloc, known, &form);
-        mem::drop(form);
+        let Written { raw_line, count } = self.write(alloc, known, line, items)?;
+        let taken = self.go_on(alloc, known, &raw_line);
+        mem::drop(raw_line);
         taken?;
         within(self.expanded + count, MAX_EXPANDED, What::Expanded)?;
         self.expanded += count;
@@ -234,7 +234,7 @@ impl Coming {
     ) -> Result<Written, LineError>
         requires coming { FitsComing known.now self.now }
         requires notions { IsTrue (are_notions known.now.notions) }
-        ensures value { Gives (λ w. (w.form, w.count)) result
+        ensures value { Gives (λ w. (w.raw_line, w.count)) result
             (line_written_out known.now.notions self.now.parser line.now items.now) }
         ensures count { IfOk result (λ w. w.count ≤ most_expanded + 1) }
     {
@@ -242,8 +242,8 @@ impl Coming {
         let names = self.parser.names_there();
         let mut raws = Items::empty(alloc);
         let count = put_items(alloc, &known.notions, names, items, 0, &mut raws)?;
-        let form = listing_form(alloc, line, raws)?;
-        Ok(Written { form, count })
+        let raw_line = listing_form(alloc, line, raws)?;
+        Ok(Written { raw_line, count })
     }
 
     /// What the lines make, where the last has come.

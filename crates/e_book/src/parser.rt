@@ -70,10 +70,10 @@ pub struct TheoremParser {
     pub section: Section,
 }
 
-pub(crate) fn allowed(section: Section, form: &RawLine) -> bool
-    ensures { result ≡ allowed section form.now }
+pub(crate) fn allowed(section: Section, raw_line: &RawLine) -> bool
+    ensures { result ≡ allowed section raw_line.now }
 {
-    match form {
+    match raw_line {
         RawLine::Theorem(_) => false,
         RawLine::Declare(_, _) => matches!(section, Section::Declaring),
         RawLine::Given(_) => matches!(section, Section::Declaring | Section::Giving),
@@ -176,13 +176,13 @@ impl TheoremParser {
     pub fn begin(
         alloc: Global,
         known: &Theorems,
-        form: &RawLine,
+        raw_line: &RawLine,
     ) -> Result<TheoremParser, LineError>
-        ensures value { Gives (λ d. d) result (begin known.now form.now) }
+        ensures value { Gives (λ d. d) result (begin known.now raw_line.now) }
         ensures fits { IfOk result FitsScope }
         ensures few { OnOk result (length known.now ≤ most_theorems) }
     {
-        let RawLine::Theorem(title) = form else {
+        let RawLine::Theorem(title) = raw_line else {
             return Err(LineError::Fault(FaultKind::Malformed));
         };
         if known.is_known(*title) {
@@ -232,14 +232,14 @@ impl TheoremParser {
         mut self,
         alloc: Global,
         known: &Theorems,
-        form: &RawLine,
+        raw_line: &RawLine,
     ) -> Result<TheoremParser, LineError>
         requires parser { FitsScope self }
         requires known { length known.now ≤ most_theorems }
-        ensures value { Gives (λ d. d) result (step known.now self form.now) }
+        ensures value { Gives (λ d. d) result (step known.now self raw_line.now) }
         ensures fits { IfOk result FitsScope }
     {
-        match self.step(alloc, known, form) {
+        match self.step(alloc, known, raw_line) {
             Ok(()) => Ok(self),
             Err(error) => {
                 mem::drop(self);
@@ -254,27 +254,32 @@ impl TheoremParser {
         &mut self,
         alloc: Global,
         known: &Theorems,
-        form: &RawLine,
+        raw_line: &RawLine,
     ) -> Result<(), LineError>
         requires parser { FitsScope self.old }
         requires known { length known.now ≤ most_theorems }
-        ensures value { Moves result self.new (step known.now self.old form.now) }
+        ensures value { Moves result self.new (step known.now self.old raw_line.now) }
         ensures fits { OnOk result (FitsScope self.new) }
     {
-        if !allowed(self.section, form) {
+        if !allowed(self.section, raw_line) {
             return Err(LineError::Fault(FaultKind::Malformed));
         }
-        self.stepped(alloc, known, form)
+        self.stepped(alloc, known, raw_line)
     }
 
     #[tactic(auto, unfolding(crate::specs::Steps::stepped))]
-    fn stepped(&mut self, alloc: Global, known: &Theorems, form: &RawLine) -> Result<(), LineError>
+    fn stepped(
+        &mut self,
+        alloc: Global,
+        known: &Theorems,
+        raw_line: &RawLine,
+    ) -> Result<(), LineError>
         requires parser { FitsScope self.old }
         requires known { length known.now ≤ most_theorems }
-        ensures value { Moves result self.new (stepped known.now self.old form.now) }
+        ensures value { Moves result self.new (stepped known.now self.old raw_line.now) }
         ensures fits { OnOk result (FitsScope self.new) }
     {
-        match form {
+        match raw_line {
             RawLine::Theorem(_) => Err(LineError::Fault(FaultKind::Malformed)),
             RawLine::Declare(sort, names) => self.on_declare(alloc, *sort, names.items()),
             RawLine::Given(raw) => self.on_given(alloc, raw.items()),

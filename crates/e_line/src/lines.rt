@@ -259,10 +259,10 @@ pub fn put_said(out: &mut Vec<u8>, word: &[u8], lit: &RawLit) -> Result<(), Allo
 }
 
 /// Writes the line of a form.
-pub fn put_raw_line(out: &mut Vec<u8>, form: &RawLine) -> Result<(), AllocError>
-    ensures { OnOk result (out.new.items ≡ out.old.items ++ line_of form.now) }
+pub fn put_raw_line(out: &mut Vec<u8>, raw_line: &RawLine) -> Result<(), AllocError>
+    ensures { OnOk result (out.new.items ≡ out.old.items ++ line_of raw_line.now) }
 {
-    match form {
+    match raw_line {
         RawLine::Theorem(title) => {
             out.extend_from_slice(b"theorem")?;
             put(out, title.bytes())

@@ -120,13 +120,13 @@ fn theorem_of(mut words: Words) -> Result<RawLine, LineError>
 }
 
 #[tactic(auto, unfolding(crate::specs::RawLines::bare))]
-fn bare(words: Words, form: RawLine) -> Result<RawLine, LineError>
-    ensures { Gives (λ f. f) result (bare words.entry form) }
+fn bare(words: Words, raw_line: RawLine) -> Result<RawLine, LineError>
+    ensures { Gives (λ f. f) result (bare words.entry raw_line) }
 {
     match words.end() {
-        Ok(()) => Ok(form),
+        Ok(()) => Ok(raw_line),
         Err(error) => {
-            mem::drop(form);
+            mem::drop(raw_line);
             Err(error)
         }
     }

@@ -41,10 +41,10 @@ fn have_no_blank(args: &[Option<Name>]) -> bool
 }
 
 /// Whether the literals are direct, one on a given or show line, and no argument is a blank.
-fn is_strict(form: &RawLine) -> bool
-    ensures { result ≡ is_strict_line form.now }
+fn is_strict(raw_line: &RawLine) -> bool
+    ensures { result ≡ is_strict_line raw_line.now }
 {
-    match form {
+    match raw_line {
         RawLine::Given(lits) => lits.len() == 1 && are_direct(lits.items()),
         RawLine::Show(lits) => lits.len() == 1 && are_direct(lits.items()),
         RawLine::Hence(lit) => is_direct(lit),
@@ -57,11 +57,11 @@ fn is_strict(form: &RawLine) -> bool
 }
 
 /// The line of a form, made in room for this many bytes.
-fn line_of(alloc: Global, form: &RawLine, room: usize) -> Result<Vec<u8>, AllocError>
-    ensures { IfOk result (λ line. line.items ≡ line_of form.now) }
+fn line_of(alloc: Global, raw_line: &RawLine, room: usize) -> Result<Vec<u8>, AllocError>
+    ensures { IfOk result (λ line. line.items ≡ line_of raw_line.now) }
 {
     let mut line = Vec::with_capacity(alloc, room)?;
-    put_raw_line(&mut line, form)?;
+    put_raw_line(&mut line, raw_line)?;
     Ok(line)
 }
 
@@ -70,18 +70,18 @@ fn line_of(alloc: Global, form: &RawLine, room: usize) -> Result<Vec<u8>, AllocE
 pub fn exact_line_of(alloc: Global, line: &[u8], words: &[&[u8]]) -> Result<RawLine, LineError>
     ensures { Gives (λ f. f) result (exact_line_of line.now (texts words.now)) }
 {
-    let form = raw_line_of(alloc, words)?;
-    let again = match line_of(alloc, &form, line.len()) {
+    let raw_line = raw_line_of(alloc, words)?;
+    let again = match line_of(alloc, &raw_line, line.len()) {
         Ok(again) => again,
         Err(error) => {
-            mem::drop(form);
+            mem::drop(raw_line);
             return Err(error.into());
         }
     };
-    if is_strict(&form) && line == again.as_slice() {
-        Ok(form)
+    if is_strict(&raw_line) && line == again.as_slice() {
+        Ok(raw_line)
     } else {
-        mem::drop(form);
+        mem::drop(raw_line);
         Err(LineError::Fault(FaultKind::Malformed))
     }
 }

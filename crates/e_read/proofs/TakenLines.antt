@@ -29,7 +29,7 @@ use Rattle.e_cert.specs.Strict.{exact_cert_line}
 use Rattle.e_read.specs.Strict.{is_apart}
 use Rattle.e_cert.specs.Owed.{after_cert_line, finish_certs}
 use Rattle.e_read.specs.Laws.{begins_with_bar}
-use Rattle.e_read.specs.Text.{owes_nothing, with_cert_line, certified, owed_by, gone_on, finish_line, with_form, parser_after_exact_line, is_bar, worded, is_lf_end, parser_after_bytes, parser_after_line}
+use Rattle.e_read.specs.Text.{owes_nothing, with_cert_line, certified, owed_by, gone_on, finish_line, with_raw_line, parser_after_exact_line, is_bar, worded, is_lf_end, parser_after_bytes, parser_after_line}
 
 pub either : {A : Type 0} (b : Bool) (x y z : A) → cond b x y ≡ z → ((b ≡ true) × (x ≡ z)) ⊎ ((b ≡ false) × (y ≡ z))
 either true x y z e = inl (refl, e)
@@ -79,7 +79,7 @@ certified_line r next line words e =
     }
 
 stepped_line : (known : List TitledStatement) (r next : BlockParser) (line : List ℕ) → parser_after_exact_line known r line ≡ Ok next → Stepped known r next line
-unfolding with_form parser_after_exact_line
+unfolding with_raw_line parser_after_exact_line
 stepped_line known r next line e =
     let with_kept : Option StepCerts → BlockParser = λ k. record { version = r.version; parser = r.parser; owed = owes_nothing; kept = r.kept ++ option_to_list k } in
     let end : BlockParser → TheoremParser × Pending → BlockParser = λ s x. record { version = s.version; parser = Some x.0; owed = x.1; kept = s.kept } in

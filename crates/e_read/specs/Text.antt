@@ -87,15 +87,15 @@ finish_line r =
     })
 
 -- any other line comes where nothing is owed any more
-unfoldable pub with_form : List TitledStatement → BlockParser → RawLine
+unfoldable pub with_raw_line : List TitledStatement → BlockParser → RawLine
     → Result BlockParser FaultKind
-with_form known r f =
+with_raw_line known r f =
     finish_line r >>= λ s. gone_on known s.parser f
     >>= λ e. Ok (record { version = s.version; parser = Some e.0; owed = e.1; kept = s.kept })
 
 unfoldable pub parser_after_exact_line : List TitledStatement → BlockParser → List ℕ
     → Result BlockParser FaultKind
-parser_after_exact_line known r line = exact_line line >>= λ f. with_form known r f
+parser_after_exact_line known r line = exact_line line >>= λ f. with_raw_line known r f
 
 abbrev pub is_bar : List ℕ → Bool
 is_bar word = bytes_eq word (codes "|")

@@ -192,14 +192,14 @@ pub(crate) fn due_of(
     alloc: Global,
     known: &Theorems,
     parser: &TheoremParser,
-    form: &RawLine,
+    raw_line: &RawLine,
 ) -> Result<Obligation, LineError>
     requires parser { FitsParser parser.now }
     requires few { length known.now ≤ most_theorems }
     requires known { IsTrue (list_all is_small_statement (stated_by known.now)) }
-    ensures { Gives (λ d. d) result (due_of known.now parser.now form.now) }
+    ensures { Gives (λ d. d) result (due_of known.now parser.now raw_line.now) }
 {
-    match form {
+    match raw_line {
         RawLine::Hence(raw) => {
             let lit = lit_in(alloc, &parser.in_scope, raw)?;
             let mut wanted = Items::empty(alloc);

@@ -11,7 +11,7 @@ ghost use Rattle.e_line.specs.Reading.{texts, Gives, Moves};
 ghost use Rattle.e_names.specs.Scope.{FewNames};
 ghost use Rattle.e_book.specs.Steps.{no_names};
 ghost use Rattle.e_read.specs.Text.{owes_nothing, at_start, with_cert_line, certified, owed_by};
-ghost use Rattle.e_read.specs.Text.{gone_on, finish_line, with_form, parser_after_exact_line};
+ghost use Rattle.e_read.specs.Text.{gone_on, finish_line, with_raw_line, parser_after_exact_line};
 ghost use Rattle.e_read.specs.Text.{is_bar, worded, is_lf_end, parser_after_bytes};
 ghost use Rattle.e_read.specs.Text.{parser_after_line, derived, is_finished, finished, is_end};
 ghost use Rattle.e_read.specs.Text.{is_last_line, last_line_of, FitsParser, FitsReading, FitsBegun};
@@ -70,24 +70,24 @@ fn gone_on(
     alloc: Global,
     known: &Theorems,
     parser: Option<TheoremParser>,
-    form: &RawLine,
+    raw_line: &RawLine,
 ) -> Result<Begun, LineError>
     requires parser { IfSome parser FitsParser }
     requires few { OnSome parser (length known.now ≤ most_theorems) }
     requires known { IsTrue (list_all is_small_statement (stated_by known.now)) }
-    ensures value { Gives (λ b. (b.parser, b.owed)) result (gone_on known.now parser form.now) }
+    ensures value { Gives (λ b. (b.parser, b.owed)) result (gone_on known.now parser raw_line.now) }
     ensures fits { IfOk result (λ b. FitsBegun b.parser b.owed) }
     ensures few { OnOk result (length known.now ≤ most_theorems) }
 {
     match parser {
         None => {
-            let parser = TheoremParser::begin(alloc, known, form)?;
+            let parser = TheoremParser::begin(alloc, known, raw_line)?;
             Ok(Begun {
                 parser,
                 owed: owes_nothing(alloc),
             })
         }
-        Some(parser) => next_line(alloc, known, parser, form),
+        Some(parser) => next_line(alloc, known, parser, raw_line),
     }
 }
 
@@ -97,16 +97,16 @@ fn owed_by(
     alloc: Global,
     known: &Theorems,
     parser: &TheoremParser,
-    form: &RawLine,
+    raw_line: &RawLine,
 ) -> Result<Pending, LineError>
     requires parser { FitsParser parser.now }
     requires few { length known.now ≤ most_theorems }
     requires known { IsTrue (list_all is_small_statement (stated_by known.now)) }
-    ensures value { Gives (λ o. o) result (owed_by known.now parser.now form.now) }
+    ensures value { Gives (λ o. o) result (owed_by known.now parser.now raw_line.now) }
     ensures fits { IfOk result (λ o. FewNames o.names) }
 {
     let names = parser.in_scope.copy(alloc)?;
-    match due_of(alloc, known, parser, form) {
+    match due_of(alloc, known, parser, raw_line) {
         Ok(due) => Ok(Pending {
             names,
             due,
@@ -125,28 +125,28 @@ fn next_line(
     alloc: Global,
     known: &Theorems,
     parser: TheoremParser,
-    form: &RawLine,
+    raw_line: &RawLine,
 ) -> Result<Begun, LineError>
     requires parser { FitsParser parser }
     requires few { length known.now ≤ most_theorems }
     requires known { IsTrue (list_all is_small_statement (stated_by known.now)) }
     ensures value { Gives (λ b. (b.parser, b.owed)) result
-        (gone_on known.now (Some parser) form.now) }
+        (gone_on known.now (Some parser) raw_line.now) }
     ensures fits { IfOk result (λ b. FitsBegun b.parser b.owed) }
     ensures few { OnOk result (length known.now ≤ most_theorems) }
 {
-    if !is_apart(&parser, form) {
+    if !is_apart(&parser, raw_line) {
         mem::drop(parser);
         return Err(LineError::Fault(FaultKind::Malformed));
     }
-    let owed = match owed_by(alloc, known, &parser, form) {
+    let owed = match owed_by(alloc, known, &parser, raw_line) {
         Ok(owed) => owed,
         Err(error) => {
             mem::drop(parser);
             return Err(error);
         }
     };
-    match parser.taking(alloc, known, form) {
+    match parser.taking(alloc, known, raw_line) {
         Ok(parser) => Ok(Begun { parser, owed }),
         Err(error) => {
             mem::drop(owed);
@@ -210,30 +210,30 @@ impl BlockParser {
         ensures fits { OnOk result (FitsReading self.new) }
         ensures few { OnOk result (OnSome self.new.parser (length known.now ≤ most_theorems)) }
     {
-        let form = exact_line_of(alloc, line, words)?;
-        let taken = self.take_form(alloc, known, &form);
-        mem::drop(form);
+        let raw_line = exact_line_of(alloc, line, words)?;
+        let taken = self.take_raw_line(alloc, known, &raw_line);
+        mem::drop(raw_line);
         taken
     }
 
     /// Nothing is owed any more, and the theorem goes on with this form.
-    #[tactic(auto, unfolding(crate::specs::Text::with_form))]
-    fn take_form(
+    #[tactic(auto, unfolding(crate::specs::Text::with_raw_line))]
+    fn take_raw_line(
         &mut self,
         alloc: Global,
         known: &Theorems,
-        form: &RawLine,
+        raw_line: &RawLine,
     ) -> Result<(), LineError>
         requires reading { FitsReading self.old }
         requires few { OnSome self.old.parser (length known.now ≤ most_theorems) }
         requires known { IsTrue (list_all is_small_statement (stated_by known.now)) }
-        ensures value { Moves result self.new (with_form known.now self.old form.now) }
+        ensures value { Moves result self.new (with_raw_line known.now self.old raw_line.now) }
         ensures fits { OnOk result (FitsReading self.new) }
         ensures few { OnOk result (OnSome self.new.parser (length known.now ≤ most_theorems)) }
     {
         self.finish_line(alloc)?;
         let parser = self.parser.take();
-        let Begun { parser, owed } = gone_on(alloc, known, parser, form)?;
+        let Begun { parser, owed } = gone_on(alloc, known, parser, raw_line)?;
         mem::drop(mem::replace(&mut self.parser, Some(parser)));
         mem::drop(mem::replace(&mut self.owed, owed));
         Ok(())

@@ -19,10 +19,10 @@ fn ends_with(sorts: &[Sort], sort: Sort) -> bool
 }
 
 /// Whether the line is no neighbour of one that has objects of its sort too.
-pub(crate) fn is_apart(parser: &TheoremParser, form: &RawLine) -> bool
-    ensures { result ≡ is_apart parser.now form.now }
+pub(crate) fn is_apart(parser: &TheoremParser, raw_line: &RawLine) -> bool
+    ensures { result ≡ is_apart parser.now raw_line.now }
 {
-    match form {
+    match raw_line {
         RawLine::Declare(sort, _) => !ends_with(parser.declared.items(), *sort),
         RawLine::Made(sort, _) => !ends_with(parser.made.items(), *sort),
         _ => true,

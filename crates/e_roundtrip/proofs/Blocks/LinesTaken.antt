@@ -35,7 +35,7 @@ use Rattle.e_line.specs.Strict.{is_strict_line, exact_line_of, exact_line}
 use Rattle.e_read.specs.Strict.{is_apart}
 use Rattle.e_cert.specs.Owed.{after_cert_line, finish_certs}
 use Rattle.e_read.specs.Needs.{due_of}
-use Rattle.e_read.specs.Text.{certified, with_cert_line, owed_by, with_form, parser_after_exact_line, worded}
+use Rattle.e_read.specs.Text.{certified, with_cert_line, owed_by, with_raw_line, parser_after_exact_line, worded}
 use Rattle.e_roundtrip.proofs.Certificates.CertLinesAgain.{CertLineNamed, cert_line_tokens_again, strict_cert_line_again}
 use Rattle.e_roundtrip.proofs.Certificates.Feeding.{OneCertLine, Fed, owing}
 use Rattle.e_roundtrip.proofs.Certificates.CertsPut.{Keeps}
@@ -182,7 +182,7 @@ cert_lines_taken known r d (words ∷ lines) last here going of fed = (
 
 pub form_leads : (known : List TitledStatement) (r : BlockParser) (d e : TheoremParser) (ks : List StepCerts) (f : RawLine) (owed : Obligation) → Stands r d ks → GoodForm f → is_strict_line (as_read f) ≡ true → is_apart d (as_read f) ≡ true → due_of known d (as_read f) ≡ Ok owed
     → step known d (as_read f) ≡ Ok e → worded known r (line_of f) (tokens_of (line_of f)) ≡ Ok (record { version = r.version; parser = Some e; owed = owing d.in_scope owed None; kept = ks })
-unfolding with_form owed_by parser_after_exact_line
+unfolding with_raw_line owed_by parser_after_exact_line
 form_leads known r d e ks f owed s good strict apart due steps =
     ap (worded known r (line_of f)) (words_again f good) ∙ no_bar known r (line_of f) f
     ∙ rw (strict_form_again f good strict, s.settles, s.parser, apart, due, steps) (ap (λ (x : List StepCerts). Ok (record { version = r.version; parser = Some e; owed = owing d.in_scope owed None; kept = x })) s.kept)

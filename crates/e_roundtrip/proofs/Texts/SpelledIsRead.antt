@@ -45,7 +45,7 @@ use Rattle.e_read.specs.declared.reading.BlockParser.{BlockParser}
 use Rattle.e_read.specs.Filled.{script_with_certs}
 use Rattle.e_cert.specs.Owed.{finish_certs}
 use Rattle.e_read.specs.Needs.{due_of}
-use Rattle.e_read.specs.Text.{parser_after_exact_line as line_stepped, parser_after_bytes, with_form, Derived, owes_nothing, at_start, worded, parser_after_line, derived, finished, is_end, piece_from}
+use Rattle.e_read.specs.Text.{parser_after_exact_line as line_stepped, parser_after_bytes, with_raw_line, Derived, owes_nothing, at_start, worded, parser_after_line, derived, finished, is_end, piece_from}
 use Rattle.e_spell.specs.Spelling.{script_lines}
 use Rattle.e_roundtrip.specs.Formed.{is_formed}
 use Rattle.e_roundtrip.specs.Spelled.{ShowsEnded, CanBeSpelled}
@@ -198,7 +198,7 @@ unfolding finish_certs
 title_stands v t = record { parser = refl; read = None; settles = refl; kept = refl }
 
 title_leads : (v : Version) (known : List TitledStatement) (t : TheoremView) (d : Script) → HasSpelling known (plain_entry t d) → worded known (at_start v) (line_of (rawlines.Theorem t.title)) (tokens_of (line_of (rawlines.Theorem t.title))) ≡ Ok (titled v t)
-unfolding finish_certs with_form line_stepped
+unfolding finish_certs with_raw_line line_stepped
 title_leads v known t d h =
     let f = rawlines.Theorem t.title in
     let r = run_title known t.title h.title h.fits.new h.few_theorems in

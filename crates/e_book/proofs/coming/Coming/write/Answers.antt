@@ -12,5 +12,5 @@ returns-in_err-count-clause-value c =
 
 pub returns-clause-value : goal.returns-clause-value
 returns-clause-value c =
-    out_is c.args.known.now.notions c.args.self.now.parser c.args.line.now c.args.items.now c.names_there-names.result.now c.empty-raws.result c.put_items.new.raws c.in_ok-count.count c.in_ok-form.form c.in_ok-ready.ensures c.names_there-names.ensures
-    c.empty-raws.ensures c.in_ok-count.ensures.value c.in_ok-form.ensures
+    out_is c.args.known.now.notions c.args.self.now.parser c.args.line.now c.args.items.now c.names_there-names.result.now c.empty-raws.result c.put_items.new.raws c.in_ok-count.count c.in_ok-raw_line.raw_line c.in_ok-ready.ensures c.names_there-names.ensures
+    c.empty-raws.ensures c.in_ok-count.ensures.value c.in_ok-raw_line.ensures
