@@ -31,7 +31,7 @@ pub record IsSolvedSystem (which : Kind) (facts : List Lit) (g : SolvedSystem) :
   pub rows : List NamedRow
   pub order : AreReordered rows (system which facts None)
   pub named : AreNamed rows g.names.items g.rows.items
-  pub settled : g.settled ≡ g.rows.items
+  pub solved_rows : g.solved_rows ≡ g.rows.items
   pub terms : g.terms.items ≡ distinct_terms which facts None
   pub raised : g.raised ≡ length (flat_map (rows_of_term facts) g.terms.items)
 
@@ -41,7 +41,7 @@ pub record AreTogether (which : Kind) (facts : List Lit) (wanted : Option Lit) (
   pub all : List NamedRow
   pub order : AreReordered all (system which facts wanted)
   pub named : AreNamed all (g.names.items ++ names) (g.rows.items ++ rows)
-  pub settled : g.settled ≡ g.rows.items
+  pub solved_rows : g.solved_rows ≡ g.rows.items
 
 -- the system of the facts of one kind: their rows have a solution; or they contradict each other;
 -- or their system is wide

@@ -48,14 +48,14 @@ pub fn solve_kind(alloc: Global, which: Kind, facts: &Facts) -> Result<KindSyste
     let terms = terms_of_kind(alloc, which, facts, None)?;
     match prepare(alloc, rows)? {
         Prepared::TooWide => Ok(KindSystem::TooWide(width(&kept))),
-        Prepared::SolvedRows(settled) => {
+        Prepared::SolvedRows(solved_rows) => {
             let raised = count_term_rows(facts, &terms);
             Ok(KindSystem::Solved(SolvedSystem {
                 names,
                 rows: kept,
                 terms,
                 raised,
-                settled,
+                solved_rows,
             }))
         }
         Prepared::Absurd(absurdity) => {
@@ -256,12 +256,12 @@ fn joined_parts(
 }
 
 // The solved system of these, whose rows are solved.
-fn solved_with(facts: &Facts, joined: JoinedParts, settled: SolvedRows) -> SolvedSystem
+fn solved_with(facts: &Facts, joined: JoinedParts, solved_rows: SolvedRows) -> SolvedSystem
     ensures names { result.names.items ≡ joined.names.items }
     ensures rows { result.rows.items ≡ joined.rows.items }
     ensures terms { result.terms.items ≡ joined.terms.items }
     ensures raised { result.raised ≡ length (flat_map (rows_of_term facts.now) joined.terms.items) }
-    ensures settled { result.settled ≡ settled }
+    ensures solved_rows { result.solved_rows ≡ solved_rows }
 {
     let raised = count_term_rows(facts, &joined.terms);
     let JoinedParts { names, rows, terms } = joined;
@@ -270,7 +270,7 @@ fn solved_with(facts: &Facts, joined: JoinedParts, settled: SolvedRows) -> Solve
         rows,
         terms,
         raised,
-        settled,
+        solved_rows,
     }
 }
 
@@ -291,7 +291,7 @@ fn joined_system(
         ≡ ListedTerms.distinct_terms which facts.now None }
     ensures { IfOk result (IsKindSystem which facts.now) }
 {
-    match solved_system.settled.with(alloc, rows)? {
+    match solved_system.solved_rows.with(alloc, rows)? {
         Prepared::TooWide => {
             let width = system_width(alloc, which, facts, None)?;
             Ok(KindSystem::TooWide(width))
@@ -301,16 +301,16 @@ fn joined_system(
             mem::drop(absurdity);
             Ok(KindSystem::Absurd(cert?))
         }
-        Prepared::SolvedRows(settled) => match joined_parts(
+        Prepared::SolvedRows(solved_rows) => match joined_parts(
             alloc,
             solved_system,
             fresh,
             names,
             rows,
         ) {
-            Ok(joined) => Ok(KindSystem::Solved(solved_with(facts, joined, settled))),
+            Ok(joined) => Ok(KindSystem::Solved(solved_with(facts, joined, solved_rows))),
             Err(error) => {
-                mem::drop(settled);
+                mem::drop(solved_rows);
                 Err(error)
             }
         },

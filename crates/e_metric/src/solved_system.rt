@@ -37,7 +37,7 @@ pub struct SolvedSystem {
     pub terms: Vec<Term>,
     /// How many of the rows the terms bring.
     pub raised: usize,
-    pub settled: SolvedRows,
+    pub solved_rows: SolvedRows,
 }
 
 /// An equal row.
@@ -113,18 +113,18 @@ impl SolvedSystem {
         ensures rows { IfOk result (λ g. g.rows.items ≡ self.now.rows.items) }
         ensures terms { IfOk result (λ g. g.terms.items ≡ self.now.terms.items) }
         ensures raised { IfOk result (λ g. g.raised ≡ self.now.raised) }
-        ensures settled { IfOk result (λ g. g.settled ≡ self.now.settled) }
+        ensures solved_rows { IfOk result (λ g. g.solved_rows ≡ self.now.solved_rows) }
     {
         let terms = Vec::from_slice(alloc, &self.terms)?;
         let rows = copied_rows(alloc, &self.rows)?;
         let names = copied_names(alloc, &self.names)?;
-        let settled = self.settled.copied(alloc)?;
+        let solved_rows = self.solved_rows.copied(alloc)?;
         Ok(SolvedSystem {
             names,
             rows,
             terms,
             raised: self.raised,
-            settled,
+            solved_rows,
         })
     }
 
@@ -166,7 +166,7 @@ impl SolvedSystem {
         requires wanted { IsTrue (is_well_formed_metric (option_copied wanted)) }
         requires together { AreTogether which facts.now (option_copied wanted) self.now names.now
             rows.now }
-        requires refuted { IsRefuted (all_seen (self.now.settled ++ rows.now)) absurdity.now }
+        requires refuted { IsRefuted (all_seen (self.now.solved_rows ++ rows.now)) absurdity.now }
         ensures { IfOk result (IsMetricCertificate facts.now (option_copied wanted.entry)) }
     {
         let names = self.names_with(alloc, names)?;
@@ -192,7 +192,7 @@ impl SolvedSystem {
             rows.now }
         ensures { IfOk result (IsKindAnswer which facts.now (Some goal.now)) }
     {
-        match self.settled.decide_with(alloc, rows)? {
+        match self.solved_rows.decide_with(alloc, rows)? {
             Verdict::Holds(values) => Ok(Metric::No(values)),
             Verdict::TooWide => {
                 let width = system_width(alloc, which, facts, Some(goal))?;
@@ -225,7 +225,7 @@ impl SolvedSystem {
         let fresh = fresh_terms(alloc, which, &self.terms, goal)?;
         let named = rows_of_goal(alloc, which, facts, &fresh, goal)?;
         let (names, rows) = split(alloc, named)?;
-        let values = extended(alloc, facts, self.settled.values().items(), &fresh)?;
+        let values = extended(alloc, facts, self.solved_rows.values().items(), &fresh)?;
         if are_so(values.items(), &rows) {
             return Ok(Metric::No(values));
         }
@@ -234,9 +234,9 @@ impl SolvedSystem {
 
     /// The values that the facts have.
     pub fn values(&self, alloc: Global) -> Result<Values, AllocError>
-        ensures { IfOk result (AreValuesOf (all_seen self.now.settled)) }
+        ensures { IfOk result (AreValuesOf (all_seen self.now.solved_rows)) }
     {
-        let pairs = Vec::from_slice(alloc, self.settled.values().items())?;
+        let pairs = Vec::from_slice(alloc, self.solved_rows.values().items())?;
         Ok(Values::new(pairs))
     }
 }

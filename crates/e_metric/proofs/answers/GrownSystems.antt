@@ -53,7 +53,7 @@ module _ (which : Kind) (facts : List Lit) (from : ℕ) (g : SolvedSystem) (solv
     rows = solved_system.rows;
     order = subst (λ v. AreReordered v (system which facts None)) (ap (λ v. solved_system.rows ++ v) j ∙ none_more solved_system.rows) order;
     named = solved_system.named;
-    settled = solved_system.settled;
+    solved_rows = solved_system.solved_rows;
     terms = sym (ap (λ v. g.terms.items ++ v) n ∙ none_more g.terms.items) ∙ joined_terms fresh e;
     raised = raised;
   }
@@ -63,30 +63,30 @@ module _ (which : Kind) (facts : List Lit) (from : ℕ) (g : SolvedSystem) (solv
     all = all;
     order = order;
     named = named_append solved_system.rows (joining which facts from) g.names.items names g.rows.items rows solved_system.named more;
-    settled = solved_system.settled;
+    solved_rows = solved_system.solved_rows;
   }
 
 -- the solved system of rows and terms that are put together
 pub joined_solved : (which : Kind) (facts : List Lit) (g : SolvedSystem) (names : List RowName) (rows : List GivenRow) (fresh : List Term) (n : SolvedSystem) → AreTogether which facts None g names rows
     → g.terms.items ++ fresh ≡ distinct_terms which facts None → n.names.items ≡ g.names.items ++ names → n.rows.items ≡ g.rows.items ++ rows → n.terms.items ≡ g.terms.items ++ fresh
-    → n.settled ≡ g.settled ++ rows → n.raised ≡ length (flat_map (rows_of_term facts) n.terms.items) → IsSolvedSystem which facts n
-joined_solved which facts g names rows fresh n t e names_are rows_are terms_are settled raised = record {
+    → n.solved_rows ≡ g.solved_rows ++ rows → n.raised ≡ length (flat_map (rows_of_term facts) n.terms.items) → IsSolvedSystem which facts n
+joined_solved which facts g names rows fresh n t e names_are rows_are terms_are solved_rows raised = record {
   rows = t.all;
   order = t.order;
   named = subst (λ v. AreNamed t.all v n.rows.items) (sym names_are) (subst (AreNamed t.all (g.names.items ++ names)) (sym rows_are) t.named);
-  settled = settled ∙ ap (λ v. v ++ rows) t.settled ∙ sym rows_are;
+  solved_rows = solved_rows ∙ ap (λ v. v ++ rows) t.solved_rows ∙ sym rows_are;
   terms = terms_are ∙ e;
   raised = raised;
 }
 
 -- equal parts
 pub same_solved : (which : Kind) (facts : List Lit) (g n : SolvedSystem) → n.names.items ≡ g.names.items → n.rows.items ≡ g.rows.items → n.terms.items ≡ g.terms.items → n.raised ≡ g.raised
-    → n.settled ≡ g.settled → IsSolvedSystem which facts g → IsSolvedSystem which facts n
-same_solved which facts g n names rows terms raised settled h = record {
+    → n.solved_rows ≡ g.solved_rows → IsSolvedSystem which facts g → IsSolvedSystem which facts n
+same_solved which facts g n names rows terms raised solved_rows h = record {
   rows = h.rows;
   order = h.order;
   named = subst (λ v. AreNamed h.rows v n.rows.items) (sym names) (subst (AreNamed h.rows g.names.items) (sym rows) h.named);
-  settled = settled ∙ h.settled ∙ sym rows;
+  solved_rows = solved_rows ∙ h.solved_rows ∙ sym rows;
   terms = terms ∙ h.terms;
   raised = raised ∙ h.raised ∙ ap (λ ts. length (flat_map (rows_of_term facts) ts)) (sym terms);
 }

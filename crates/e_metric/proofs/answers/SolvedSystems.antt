@@ -130,10 +130,10 @@ one_so v rows i r l e h s = subst (λ rs. Satisfy v (all_seen rs)) (sym (at rows
 module _ (which : Kind) (facts : List Lit) (wanted : Option Lit) (g : SolvedSystem) (names : List RowName) (rows : List GivenRow) (t : AreTogether which facts wanted g names rows)
     (good : list_all is_well_formed facts ≡ true) (few : length (terms_of_lits facts) ≤ 1100) (good_wanted : is_well_formed_metric wanted ≡ true) where
   abbrev both : List GivenRow
-  both = g.settled ++ rows
+  both = g.solved_rows ++ rows
 
   same_both : both ≡ g.rows.items ++ rows
-  same_both = ap (λ v. v ++ rows) t.settled
+  same_both = ap (λ v. v ++ rows) t.solved_rows
 
   named_both : AreNamed t.all (g.names.items ++ names) both
   named_both = subst (AreNamed t.all (g.names.items ++ names)) (sym same_both) t.named
@@ -171,12 +171,12 @@ module _ (which : Kind) (facts : List Lit) (wanted : Option Lit) (g : SolvedSyst
       (e ∙ ap₂ {A = List RowName} {B = List GivenRow} (λ x y. certificate_sums x y terms a) n (same_rows rs r))
 
   -- the values of the kept rows, and those of more terms, solve the system where they solve the rows after them
-  pub false_already : (values fresh : List (Term × ℕ)) (vs : List (Term × ℕ)) → vs ≡ values ++ fresh → AreValuesOf (all_seen g.settled) values → Satisfy (assigned vs) (all_seen rows)
+  pub false_already : (values fresh : List (Term × ℕ)) (vs : List (Term × ℕ)) → vs ≡ values ++ fresh → AreValuesOf (all_seen g.solved_rows) values → Satisfy (assigned vs) (all_seen rows)
       → Satisfy (assigned vs) (rows_of_system which facts wanted)
   false_already values fresh vs e h s =
       solved_together (assigned vs)
-      (subst (Satisfy (assigned vs)) (sym (map-append seen g.settled rows))
-      (satisfy_append (assigned vs) (all_seen g.settled) (all_seen rows) (subst (λ v. Satisfy (assigned v) (all_seen g.settled)) (sym e) (satisfy_more values fresh (all_seen g.settled) h.all h.satisfy)) s))
+      (subst (Satisfy (assigned vs)) (sym (map-append seen g.solved_rows rows))
+      (satisfy_append (assigned vs) (all_seen g.solved_rows) (all_seen rows) (subst (λ v. Satisfy (assigned v) (all_seen g.solved_rows)) (sym e) (satisfy_more values fresh (all_seen g.solved_rows) h.all h.satisfy)) s))
 
 -- ---- the rows of a goal
 
@@ -190,5 +190,5 @@ goal_together which facts l g names rows solved_system more = record {
   order = one_order (solved_system.rows ++ further which facts l) (system which facts None ++ further which facts l) (system which facts (Some l))
       (reordered_more solved_system.rows (system which facts None) (further which facts l) solved_system.order) (with_further which facts l);
   named = named_append solved_system.rows (further which facts l) g.names.items names g.rows.items rows solved_system.named more;
-  settled = solved_system.settled;
+  solved_rows = solved_system.solved_rows;
 }

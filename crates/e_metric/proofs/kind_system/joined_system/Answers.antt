@@ -17,16 +17,16 @@ with-requires-clause-coefficients c = small_together c.args.which c.args.facts.n
 
 pub returns-in_ok-width-in-TooWide : goal.returns-in_ok-width-in-TooWide
 returns-in_ok-width-in-TooWide c =
-    let h : IsWide (all_seen (c.args.solved_system.now.settled ++ c.args.rows.now)) × (2 ^ 63 ≤ width (all_seen (c.args.solved_system.now.settled ++ c.args.rows.now))) = subst (IsPreparedRows (c.args.solved_system.now.settled ++ c.args.rows.now)) c.in-TooWide.is c.in_ok-with.ensures in
+    let h : IsWide (all_seen (c.args.solved_system.now.solved_rows ++ c.args.rows.now)) × (2 ^ 63 ≤ width (all_seen (c.args.solved_system.now.solved_rows ++ c.args.rows.now))) = subst (IsPreparedRows (c.args.solved_system.now.solved_rows ++ c.args.rows.now)) c.in-TooWide.is c.in_ok-with.ensures in
     width_together c.args.which c.args.facts.now None c.args.solved_system.now c.args.names.now c.args.rows.now c.requires.together c.requires.facts c.requires.few refl c.in_ok-width-in-TooWide.width c.in_ok-width-in-TooWide.ensures h.0
 
 pub certified-cert-requires-clause-refuted : goal.certified-cert-requires-clause-refuted
-certified-cert-requires-clause-refuted c = subst (IsPreparedRows (c.args.solved_system.now.settled ++ c.args.rows.now)) c.in-Absurd.is c.in_ok-with.ensures
+certified-cert-requires-clause-refuted c = subst (IsPreparedRows (c.args.solved_system.now.solved_rows ++ c.args.rows.now)) c.in-Absurd.is c.in_ok-with.ensures
 
 pub returns-in-Ok : goal.returns-in-Ok
 returns-in-Ok c =
-    let h : c.in-SolvedRows.settled ≡ (c.args.solved_system.now.settled ++ c.args.rows.now) = subst (IsPreparedRows (c.args.solved_system.now.settled ++ c.args.rows.now)) c.in-SolvedRows.is c.in_ok-with.ensures in
+    let h : c.in-SolvedRows.solved_rows ≡ (c.args.solved_system.now.solved_rows ++ c.args.rows.now) = subst (IsPreparedRows (c.args.solved_system.now.solved_rows ++ c.args.rows.now)) c.in-SolvedRows.is c.in_ok-with.ensures in
     joined_solved c.args.which c.args.facts.now c.args.solved_system.now c.args.names.now c.args.rows.now c.args.fresh.now c.solved_with.result c.requires.together c.requires.terms
     (c.solved_with.ensures.names ∙ c.in-Ok.ensures.names) (c.solved_with.ensures.rows ∙ c.in-Ok.ensures.rows) (c.solved_with.ensures.terms ∙ c.in-Ok.ensures.terms)
-    (c.solved_with.ensures.settled ∙ h)
+    (c.solved_with.ensures.solved_rows ∙ h)
     (c.solved_with.ensures.raised ∙ ap (λ ts. length (flat_map (rows_of_term c.args.facts.now) ts)) (sym c.solved_with.ensures.terms))

@@ -32,13 +32,13 @@ certificate_of-certified-requires-clause-coefficients c =
 
 pub returns-in-SolvedRows : goal.returns-in-SolvedRows
 returns-in-SolvedRows c =
-    let h : c.in-SolvedRows.settled ≡ c.in_ok-names.rows.items = subst (IsPreparedRows c.in_ok-names.rows.items) c.in-SolvedRows.is c.in_ok-prepare.ensures in
+    let h : c.in-SolvedRows.solved_rows ≡ c.in_ok-names.rows.items = subst (IsPreparedRows c.in_ok-names.rows.items) c.in-SolvedRows.is c.in_ok-prepare.ensures in
     let copies : c.in_ok-kept.kept.items ≡ c.in_ok-names.rows.items = c.in_ok-kept.ensures ∙ c.deref.ensures.value in
     record {
       rows = (system c.args.which c.args.facts.now None);
       order = same_order (system c.args.which c.args.facts.now None);
       named = subst (AreNamed (system c.args.which c.args.facts.now None) c.in_ok-names.names.items) (sym copies) (named_of (system c.args.which c.args.facts.now None) c.in_ok-named.named.items c.in_ok-names.names.items c.in_ok-names.rows.items c.in_ok-named.ensures.rows c.in_ok-named.ensures.limited c.in_ok-names.ensures.names c.in_ok-names.ensures.rows);
-      settled = h ∙ sym copies;
+      solved_rows = h ∙ sym copies;
       terms = c.in_ok-terms.ensures;
       raised = c.count_term_rows-raised.ensures ∙ ap (λ ts. length (flat_map (rows_of_term c.args.facts.now) ts)) c.deref-in-SolvedRows.ensures.value;
     }

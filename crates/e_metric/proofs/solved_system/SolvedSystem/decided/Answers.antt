@@ -14,13 +14,13 @@ decide_with-requires-clause-coefficients c = small_together c.args.which c.args.
 
 pub returns-in-Holds : goal.returns-in-Holds
 returns-in-Holds c =
-    let v : IsVerdict (all_seen (c.args.self.now.settled ++ c.args.rows.now)) c.in_ok-values.field-0 = c.in_ok-values.ensures.verdict in
-    let h : AreValuesOf (all_seen (c.args.self.now.settled ++ c.args.rows.now)) c.in-Holds.values = subst (IsVerdict (all_seen (c.args.self.now.settled ++ c.args.rows.now))) c.in-Holds.is v in
+    let v : IsVerdict (all_seen (c.args.self.now.solved_rows ++ c.args.rows.now)) c.in_ok-values.field-0 = c.in_ok-values.ensures.verdict in
+    let h : AreValuesOf (all_seen (c.args.self.now.solved_rows ++ c.args.rows.now)) c.in-Holds.values = subst (IsVerdict (all_seen (c.args.self.now.solved_rows ++ c.args.rows.now))) c.in-Holds.is v in
     solved_together c.args.which c.args.facts.now (Some c.args.goal.now) c.args.self.now c.args.names.now c.args.rows.now c.requires.together c.requires.facts c.requires.few c.requires.goal (assigned c.in-Holds.values) h.satisfy
 
 pub returns-in_ok-width-in-TooWide : goal.returns-in_ok-width-in-TooWide
 returns-in_ok-width-in-TooWide c =
-    let v : IsVerdict (all_seen (c.args.self.now.settled ++ c.args.rows.now)) c.in_ok-values.field-0 = c.in_ok-values.ensures.verdict in
-    let h : IsWide (all_seen (c.args.self.now.settled ++ c.args.rows.now)) × (2 ^ 63 ≤ width (all_seen (c.args.self.now.settled ++ c.args.rows.now))) =
-    subst (IsVerdict (all_seen (c.args.self.now.settled ++ c.args.rows.now))) c.in-TooWide.is v in
+    let v : IsVerdict (all_seen (c.args.self.now.solved_rows ++ c.args.rows.now)) c.in_ok-values.field-0 = c.in_ok-values.ensures.verdict in
+    let h : IsWide (all_seen (c.args.self.now.solved_rows ++ c.args.rows.now)) × (2 ^ 63 ≤ width (all_seen (c.args.self.now.solved_rows ++ c.args.rows.now))) =
+    subst (IsVerdict (all_seen (c.args.self.now.solved_rows ++ c.args.rows.now))) c.in-TooWide.is v in
     width_together c.args.which c.args.facts.now (Some c.args.goal.now) c.args.self.now c.args.names.now c.args.rows.now c.requires.together c.requires.facts c.requires.few c.requires.goal c.in_ok-width-in-TooWide.width c.in_ok-width-in-TooWide.ensures h.0
