@@ -35,7 +35,7 @@ use Rattle.e_line.specs.Items.{book_line_of, listing_form, is_show}
 use Rattle.e_names.specs.Meanings.{items_in}
 use Rattle.e_book.specs.Open.{Head, Open, Stating}
 use Rattle.e_book.specs.Counts.{context_at, all_kept}
-use Rattle.e_book.specs.Grammar.{Rest, nothing_said, begins, is_empty, next, line_after}
+use Rattle.e_book.specs.Grammar.{Rest, empty_head, begins, is_empty, next, line_after}
 use Rattle.e_book.specs.Grammar.{theorem_ended, is_skipped, put_at, BookFails}
 
 -- what a book consists of
@@ -63,7 +63,7 @@ after_first_line known (Plain f) =
 after_first_line known (Define t) =
     if is_taken known t then Err NameTaken else
     (all_kept ((nat_le (length known.notions + 1) most_notions, limits.Notions) ∷ [])
-    >>= λ kept. Ok (InDefinition (nothing_said t) 0))
+    >>= λ kept. Ok (InDefinition (empty_head t) 0))
 after_first_line known (Listed line items) = Err Malformed
 
 -- ---- a line without items
@@ -133,9 +133,9 @@ next_line known c (Plain f) = plain_line known c f
 next_line known c (Define t) = Err Malformed
 next_line known c (Listed line is) = after_listed_line known c line is
 
-abbrev pub line_said : Known → Option Coming → List (List ℕ) → Result Coming FaultKind
-line_said known None words = book_line_of words >>= λ l. after_first_line known l
-line_said known (Some c) words = book_line_of words >>= λ l. next_line known c l
+abbrev pub coming_after_words : Known → Option Coming → List (List ℕ) → Result Coming FaultKind
+coming_after_words known None words = book_line_of words >>= λ l. after_first_line known l
+coming_after_words known (Some c) words = book_line_of words >>= λ l. next_line known c l
 
 abbrev pub put_there : ℕ → Result Coming FaultKind → Result Coming BookFault
 put_there line read = put_at line read
@@ -164,7 +164,7 @@ item_from known last c [] = at_end last c
 item_from known last c (Err f ∷ lines) = Err (line_fault f)
 item_from known last c (Ok line ∷ lines) =
     if is_skipped (tokens_of line.bytes) then item_from known last c lines else
-    (put_at line.number (line_said known c (tokens_of line.bytes))
+    (put_at line.number (coming_after_words known c (tokens_of line.bytes))
     >>= λ n. whole_or (whole n) lines (item_from known last (Some n) lines))
 
 -- ---- what is answered

@@ -9,7 +9,7 @@ use Rattle.e_line.specs.declared.fault.BookFault.TheVariants as faults
 use Rattle.e_line.specs.Faults.{line_fault}
 use Rattle.e_names.specs.declared.known.Known.{Known}
 use Rattle.e_book.specs.Grammar.{is_skipped, Rest}
-use Rattle.e_book.specs.Definitions.{Coming, whole, put_there, line_said}
+use Rattle.e_book.specs.Definitions.{Coming, whole, put_there, coming_after_words}
 
 -- these lines are taken one after another, from this on, and leave that
 abbrev pub Leaves : Known → Option Coming → Rest → Option Coming → Type 0
@@ -18,7 +18,7 @@ Leaves known o (Err f ∷ lines) left = ⊥
 Leaves known o (Ok line ∷ lines) left =
     (is_skipped (tokens_of line.bytes) ≡ true → Leaves known o lines left)
     × (is_skipped (tokens_of line.bytes) ≡ false
-    → (n : Coming) × (line_said known o (tokens_of line.bytes) ≡ Ok n) × (whole n ≡ None)
+    → (n : Coming) × (coming_after_words known o (tokens_of line.bytes) ≡ Ok n) × (whole n ≡ None)
     × Leaves known (Some n) lines left)
 
 -- a line has this fault here: its bytes, or its form, its names or a limit
@@ -26,7 +26,7 @@ abbrev pub IsFaulty : Known → Option Coming → Result LineView LineFault → 
 IsFaulty known o (Err f) fault = line_fault f ≡ fault
 IsFaulty known o (Ok line) fault =
     (is_skipped (tokens_of line.bytes) ≡ false)
-    × (put_there line.number (line_said known o (tokens_of line.bytes)) ≡ Err fault)
+    × (put_there line.number (coming_after_words known o (tokens_of line.bytes)) ≡ Err fault)
 
 -- the lines begin with a front that is taken, and the line after it has this fault
 pub record BreaksAt (known : Known) (o : Option Coming) (lines : Rest)

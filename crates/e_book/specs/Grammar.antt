@@ -34,8 +34,8 @@ use Rattle.e_book.specs.Counts.{context_at, limits_kept, all_kept}
 
 -- ---- a line at its place, with its names: what comes after it
 
-abbrev pub nothing_said : List ℕ → Head
-nothing_said title =
+abbrev pub empty_head : List ℕ → Head
+empty_head title =
     record {
       title = title;
       names = record { points = []; lines = []; circles = [] };
@@ -47,7 +47,7 @@ abbrev pub begins : List TitledStatement → RawLine → Result Open FaultKind
 begins known (rawlines.Theorem t) =
     if is_known known t then Err NameTaken else
     (all_kept ((nat_le (length known + 1) most_theorems, limits.Theorems) ∷ [])
-    >>= λ kept. Ok (Stating (nothing_said t)))
+    >>= λ kept. Ok (Stating (empty_head t)))
 begins known f = Err Malformed
 
 abbrev pub is_empty : {A : Type 0} → List A → Bool

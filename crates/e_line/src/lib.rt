@@ -23,7 +23,8 @@ pub use items::{BookLine, Listing, RawAs, RawItem, line_of};
 pub use lets::RawLet;
 pub use limits::{count_of, few_monos, within};
 pub use lines::{
-    put_apply, put_by, put_let, put_named, put_raw_line, put_said, put_stated, put_superpose,
+    put_apply, put_by, put_let, put_named, put_raw_line, put_stated, put_superpose,
+    put_word_and_lit,
 };
 pub use literal::{RawAtom, RawLit, diagram_lit_of, diagram_lits_of, lit_of};
 pub use literals::{put_literal, put_term};

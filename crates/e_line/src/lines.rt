@@ -250,7 +250,7 @@ pub fn put_stated(out: &mut Vec<u8>, word: &[u8], lits: &[RawLit]) -> Result<(),
 }
 
 /// Writes a line of a word and a literal.
-pub fn put_said(out: &mut Vec<u8>, word: &[u8], lit: &RawLit) -> Result<(), AllocError>
+pub fn put_word_and_lit(out: &mut Vec<u8>, word: &[u8], lit: &RawLit) -> Result<(), AllocError>
     ensures { OnOk result
         (out.new.items ≡ out.old.items ++ (word.now ++ spaced (lit_words lit.now))) }
 {
@@ -277,7 +277,7 @@ pub fn put_raw_line(out: &mut Vec<u8>, raw_line: &RawLine) -> Result<(), AllocEr
         RawLine::Show(lits) => put_stated(out, b"show", lits.items()),
         RawLine::Proof => out.extend_from_slice(b"proof"),
         RawLine::By(rule, names, lit) => put_by(out, rule.bytes(), names.items(), lit),
-        RawLine::Hence(lit) => put_said(out, b"hence", lit),
+        RawLine::Hence(lit) => put_word_and_lit(out, b"hence", lit),
         RawLine::Let(raw) => put_let(
             out,
             raw.shapes.items(),
@@ -292,7 +292,7 @@ pub fn put_raw_line(out: &mut Vec<u8>, raw_line: &RawLine) -> Result<(), AllocEr
         RawLine::Superpose(raw) => {
             put_superpose(out, raw.args.items(), raw.new.items(), raw.shown.items())
         }
-        RawLine::Cases(lit) => put_said(out, b"cases", lit),
+        RawLine::Cases(lit) => put_word_and_lit(out, b"cases", lit),
         RawLine::Else => out.extend_from_slice(b"else"),
         RawLine::End => out.extend_from_slice(b"end"),
     }

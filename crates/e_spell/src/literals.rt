@@ -12,7 +12,7 @@ ghost use Rattle.e_spell.specs.inner.Parts.{lit_text, lits_text};
 
 use e_construct::Superpose;
 use e_deriv::Names;
-use e_line::put_said;
+use e_line::put_word_and_lit;
 use e_literal::{Items, Lit, Obj, Sort, Term};
 use e_names::{name_at, name_of_object, raw_of, raw_term};
 use e_text::{Name, end_line, put};
@@ -157,7 +157,7 @@ pub(crate) fn put_literal_line(
     ensures { OnOk result (out.new.items ≡ out.old.items ++ lit_text word.now names.now lit.now) }
 {
     let raw = raw_of(alloc, names, lit)?;
-    let put = put_said(out, word, &raw);
+    let put = put_word_and_lit(out, word, &raw);
     mem::drop(raw);
     put?;
     end_line(out)

@@ -10,7 +10,7 @@ ghost use Rattle.e_deriv.specs.Script.{script_of, steps_script, close_script};
 ghost use Rattle.e_trim.specs.Trimmed.{wants_outside, wants};
 ghost use Rattle.e_trim.specs.inner.Flags.{flags_of};
 ghost use Rattle.e_trim.specs.inner.StepState.{IsReady, IsReadyToTrim, StepAdds, FlagsAdded};
-ghost use Rattle.e_trim.specs.inner.StepState.{StepWants, StepFlags, KeepsFacts, goal_said};
+ghost use Rattle.e_trim.specs.inner.StepState.{StepWants, StepFlags, KeepsFacts, goal_view};
 
 use crate::step_state::{Goal, StepState};
 use crate::steps::{is_kept, look_close, look_step, pass};
@@ -36,14 +36,14 @@ pub fn look(
 ) -> Result<Wanted, AllocError>
     requires ready { IsReady (all_stated before.now)
         (steps_script steps.now (close_script close.now)) state.old.scope state.old.facts
-        (goal_said goal.now) }
+        (goal_view goal.now) }
     requires statements { IsTrue (list_all is_small_statement (all_stated before.now)) }
     ensures wanted { IfOk result
         (λ w. w ≡ wants (all_stated before.now) (steps_script steps.now (close_script close.now))
-        state.old.scope state.old.facts (goal_said goal.now)) }
+        state.old.scope state.old.facts (goal_view goal.now)) }
     ensures flags { OnOk result (flags.new.items ≡ flags.old.items
         ++ flags_of (all_stated before.now) (steps_script steps.now (close_script close.now))
-        state.old.scope state.old.facts (goal_said goal.now)) }
+        state.old.scope state.old.facts (goal_view goal.now)) }
     ensures kept { OnOk result (KeepsFacts state.old state.new) }
 {
     match steps {
@@ -151,14 +151,14 @@ fn look_inside(
     requires few { length sorts.now < 2 ^ 15 }
     requires ready { IsReady (all_stated before.now) (script_of block.now)
         (grown state.old.scope sorts.now) (joined_all state.old.facts lits.now)
-        (goal_said goal.now) }
+        (goal_view goal.now) }
     requires statements { IsTrue (list_all is_small_statement (all_stated before.now)) }
     ensures wanted { IfOk result (λ w. w ≡ wants_outside state.old.scope state.old.facts
         (wants (all_stated before.now) (script_of block.now) (grown state.old.scope sorts.now)
-        (joined_all state.old.facts lits.now) (goal_said goal.now))) }
+        (joined_all state.old.facts lits.now) (goal_view goal.now))) }
     ensures flags { OnOk result (flags.new.items ≡ flags.old.items
         ++ flags_of (all_stated before.now) (script_of block.now) (grown state.old.scope sorts.now)
-        (joined_all state.old.facts lits.now) (goal_said goal.now)) }
+        (joined_all state.old.facts lits.now) (goal_view goal.now)) }
     ensures same { OnOk result (state.new ≡ state.old) }
 {
     let outer = state.checkpoint();
@@ -188,13 +188,13 @@ fn look_at_close(
     flags: &mut Vec<bool>,
 ) -> Result<Wanted, AllocError>
     requires ready { IsReady (all_stated before.now)
-        (close_script close.now) state.old.scope state.old.facts (goal_said goal.now) }
+        (close_script close.now) state.old.scope state.old.facts (goal_view goal.now) }
     requires statements { IsTrue (list_all is_small_statement (all_stated before.now)) }
     ensures wanted { IfOk result (λ w. w ≡ wants (all_stated before.now)
-        (close_script close.now) state.old.scope state.old.facts (goal_said goal.now)) }
+        (close_script close.now) state.old.scope state.old.facts (goal_view goal.now)) }
     ensures flags { OnOk result
         (flags.new.items ≡ flags.old.items ++ flags_of (all_stated before.now)
-        (close_script close.now) state.old.scope state.old.facts (goal_said goal.now)) }
+        (close_script close.now) state.old.scope state.old.facts (goal_view goal.now)) }
     ensures kept { OnOk result (KeepsFacts state.old state.new) }
 {
     let mut wanted = Wanted::new(alloc);

@@ -16,7 +16,7 @@ ghost use Rattle.e_trim.specs.Looked.{both, needed, of_step};
 ghost use Rattle.e_trim.specs.Trimmed;
 ghost use Rattle.e_trim.specs.Trimmed.{joins_at, makes_at, as_step};
 ghost use Rattle.e_trim.specs.declared.step_state.StepState as states;
-ghost use Rattle.e_trim.specs.inner.StepState.{StepFits, IsApplied, CloseFits, goal_said, passed};
+ghost use Rattle.e_trim.specs.inner.StepState.{StepFits, IsApplied, CloseFits, goal_view, passed};
 
 use crate::instances::negated_others;
 use crate::looked::{look_against, look_cert, look_certs};
@@ -333,7 +333,7 @@ pub fn look_step(
 /// The literals of the goal with these objects for its made ones.
 fn goal_with(alloc: Global, goal: &Goal, objects: &[Obj]) -> Result<Vec<Lit>, AllocError>
     requires one_sort { map (λ o. o.sort) goal.now.made.now ≡ map (λ o. o.sort) objects.now }
-    ensures { IfOk result (λ lits. lits.items ≡ goals.goal_with (goal_said goal.now) objects.now) }
+    ensures { IfOk result (λ lits. lits.items ≡ goals.goal_with (goal_view goal.now) objects.now) }
 {
     let images = Map::paired(alloc, goal.made, objects)?;
     all_renamed(alloc, goal.shown, &images)
@@ -350,7 +350,7 @@ fn look_qed(
     requires one_sort { map (λ o. o.sort) goal.now.made.now ≡ map (λ o. o.sort) objects.now }
     ensures { OnOk result ((before : List StatementView)
         → out.new ≡ both out.old (of_step before (as_step (scripts.Qed objects.now certs.now)
-        state.now.scope state.now.facts (goal_said goal.now)))) }
+        state.now.scope state.now.facts (goal_view goal.now)))) }
 {
     out.need(objects)?;
     let lits = goal_with(alloc, goal, objects)?;
@@ -365,9 +365,9 @@ pub fn look_close(
     state: &StepState,
     out: &mut Wanted,
 ) -> Result<(), AllocError>
-    requires fits { CloseFits close.now state.now.scope (goal_said goal.now) }
+    requires fits { CloseFits close.now state.now.scope (goal_view goal.now) }
     ensures { OnOk result ((before : List StatementView) → out.new ≡ both out.old (of_step before
-        (as_step (close_script close.now) state.now.scope state.now.facts (goal_said goal.now)))) }
+        (as_step (close_script close.now) state.now.scope state.now.facts (goal_view goal.now)))) }
 {
     match close {
         Close::Qed { objects, certs } => {

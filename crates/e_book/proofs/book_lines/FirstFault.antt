@@ -10,7 +10,7 @@ use Rattle.e_line.specs.declared.fault.BookFault.TheVariants as faults
 use Rattle.e_line.specs.Reading.{◌>>=◌}
 use Rattle.e_names.specs.declared.known.Known.{Known}
 use Rattle.e_book.specs.Grammar.{is_skipped, Rest}
-use Rattle.e_book.specs.Definitions.{BookItem, Coming, Answer, whole, whole_or, at_end, put_there, line_said, item_from}
+use Rattle.e_book.specs.Definitions.{BookItem, Coming, Answer, whole, whole_or, at_end, put_there, coming_after_words, item_from}
 use Rattle.e_book.specs.FirstFault.{Leaves, IsFaulty, BreaksAt, IsFirst}
 
 abbrev wrong : BookFault → Answer
@@ -38,7 +38,7 @@ front_fault known o left [] (Ok l) fault e q last other =
 front_fault known o left (Err f ∷ ls) line fault h q last other = absurd h
 front_fault known o left (Ok l ∷ ls) line fault h q last other =
     in_case (is_skipped (tokens_of l.bytes)) (item_from known last o (ls ++ line ∷ other))
-    (put_there l.number (line_said known o (tokens_of l.bytes)) >>= λ n. after known last (ls ++ line ∷ other) n) (wrong fault)
+    (put_there l.number (coming_after_words known o (tokens_of l.bytes)) >>= λ n. after known last (ls ++ line ∷ other) n) (wrong fault)
     (λ t. front_fault known o left ls line fault (h.0 t) q last other)
     (λ f. let s = h.1 f in rw (s.1, s.2) (front_fault known (Some s.0) left ls line fault s.3 q last other))
 
@@ -72,9 +72,9 @@ first_fault known last o [] fault e = let u = unended last o fault e in inr (u.0
 first_fault known last o (Err f ∷ ls) fault e = inl (record { front = []; line = Err f; rest = ls; all = refl; left = o; taken = refl; faulty = cc })
 first_fault known last o (Ok l ∷ ls) fault e =
     by_case (is_skipped (tokens_of l.bytes)) (item_from known last o ls)
-    (put_there l.number (line_said known o (tokens_of l.bytes)) >>= λ n. after known last ls n) (wrong fault) (IsFirst known last o (Ok l ∷ ls) fault) e
+    (put_there l.number (coming_after_words known o (tokens_of l.bytes)) >>= λ n. after known last ls n) (wrong fault) (IsFirst known last o (Ok l ∷ ls) fault) e
     (λ t h. longer known last o o l ls fault (λ front left k. ((λ u. k), (λ f. absurd cc))) (first_fault known last o ls fault h))
-    (λ f h. elim (went known last l ls (line_said known o (tokens_of l.bytes)) fault h) [
+    (λ f h. elim (went known last l ls (coming_after_words known o (tokens_of l.bytes)) fault h) [
       | inl x ↦ inl (record { front = []; line = Ok l; rest = ls; all = refl; left = o; taken = refl; faulty = (f, x) })
       | inr x ↦ longer known last o (Some x.0) l ls fault (λ front left k. ((λ t. absurd cc), (λ g. (x.0, x.1, x.2, k)))) (first_fault known last (Some x.0) ls fault x.3)
     ])

@@ -36,8 +36,8 @@ use Rattle.e_line.specs.Items.{book_line_of, listing_form, is_show}
 use Rattle.e_names.specs.Meanings.{items_in}
 use Rattle.e_book.specs.Open.{Head, Open, Stating, Proving, BySuperposition}
 use Rattle.e_book.specs.Counts.{context_at, limits_kept, all_kept}
-use Rattle.e_book.specs.Grammar.{nothing_said, begins, with_new, none_given, none_made, at_its_place, states, goes_on as goes_on_there, next, line_after, is_empty, Rest, is_skipped, put_at}
-use Rattle.e_book.specs.Definitions.{BookItem, Coming, InTheorem, InDefinition, Defined, has_notion_title, after_first_line, says_more, still_defined, ends_definition, plain_line, written_out, counted, after_listed_line, next_line, line_said, Answer, OfTheorem, OfNotion, whole, whole_or, item_from}
+use Rattle.e_book.specs.Grammar.{empty_head, begins, with_new, none_given, none_made, at_its_place, states, goes_on as goes_on_there, next, line_after, is_empty, Rest, is_skipped, put_at}
+use Rattle.e_book.specs.Definitions.{BookItem, Coming, InTheorem, InDefinition, Defined, has_notion_title, after_first_line, says_more, still_defined, ends_definition, plain_line, written_out, counted, after_listed_line, next_line, coming_after_words, Answer, OfTheorem, OfNotion, whole, whole_or, item_from}
 use Rattle.e_line.specs.Faults.{at_line}
 use Rattle.e_book.specs.Book.{is_last}
 use Rattle.e_book.specs.ParserViews.{statement_of_parser, entry_of_parser}
@@ -587,7 +587,7 @@ first_definition : (known : Known) (t : List ℕ) → AlikeComing known (begins_
 unfolding begins_definition
 first_definition known t =
     let f : Held = coming true (begun t) in
-    let n = InDefinition (nothing_said t) 0 in
+    let n = InDefinition (empty_head t) 0 in
     taken_or known (is_taken known t) (within (length known.notions + 1) most_notions limits.Notions >>= λ few. Ok f) (all_kept ((leb (length known.notions + 1) most_notions, limits.Notions) ∷ []) >>= λ kept. Ok n)
     (by_test (λ (over under : Bool). AlikeComing known (cond over (Err (Limit limits.Notions)) (read_ok tt) >>= λ few. Ok f) (all_kept ((under, limits.Notions) ∷ []) >>= λ kept. Ok n)) (length known.notions + 1) most_notions refl
     (λ le. (refl, nothing_tied t)))
@@ -608,7 +608,7 @@ abbrev pub TiedSoFar : Known → Option Held → Type 0
 TiedSoFar known None = Unit {0}
 TiedSoFar known (Some c) = TiedComing known c
 
-words_alike : (known : Known) (o : Option Held) (words : List (List ℕ)) → are_notions known.notions ≡ true → TiedSoFar known o → AlikeComing known (line_step known o words) (line_said known (said o) words)
+words_alike : (known : Known) (o : Option Held) (words : List (List ℕ)) → are_notions known.notions ≡ true → TiedSoFar known o → AlikeComing known (line_step known o words) (coming_after_words known (said o) words)
 unfolding line_step
 words_alike known None words all t = both known (book_line_of words) (λ l. machine.begins known l) (λ l. after_first_line known l) (λ l e. first_alike known l)
 words_alike known (Some c) words all t = both known (book_line_of words) (λ l. machine.step known c l) (λ l. next_line known (said_of c) l) (λ l e. next_alike known c words l all t (line_read_as words l e))
@@ -659,17 +659,17 @@ read_alike known last None (Ok line ∷ lines) all t =
     let words = tokens_of line.bytes in
     in_case (is_skipped words) (machine.item_from known last None lines)
     (put_at line.number (line_step known None words) >>= λ c. cond (machine.is_done c) (found (item_of_coming c) lines) (machine.item_from known last (Some c) lines))
-    (item_from known last None lines) (put_at line.number (line_said known None words) >>= λ n. whole_or (whole n) lines (item_from known last (Some n) lines))
+    (item_from known last None lines) (put_at line.number (coming_after_words known None words) >>= λ n. whole_or (whole n) lines (item_from known last (Some n) lines))
     (read_alike known last None lines all t)
-    (after_alike known last line.number lines (line_step known None words) (line_said known None words) (words_alike known None words all t) (λ e u. read_alike known last (Some e) lines all u))
+    (after_alike known last line.number lines (line_step known None words) (coming_after_words known None words) (words_alike known None words all t) (λ e u. read_alike known last (Some e) lines all u))
 read_alike known last (Some c) (Ok line ∷ lines) all t =
     let words = tokens_of line.bytes in
     let n : Coming = said_of c in
     in_case (is_skipped words) (machine.item_from known last (Some c) lines)
     (put_at line.number (line_step known (Some c) words) >>= λ x. cond (machine.is_done x) (found (item_of_coming x) lines) (machine.item_from known last (Some x) lines))
-    (item_from known last (Some n) lines) (put_at line.number (line_said known (Some n) words) >>= λ x. whole_or (whole x) lines (item_from known last (Some x) lines))
+    (item_from known last (Some n) lines) (put_at line.number (coming_after_words known (Some n) words) >>= λ x. whole_or (whole x) lines (item_from known last (Some x) lines))
     (read_alike known last (Some c) lines all t)
-    (after_alike known last line.number lines (line_step known (Some c) words) (line_said known (Some n) words) (words_alike known (Some c) words all t) (λ e u. read_alike known last (Some e) lines all u))
+    (after_alike known last line.number lines (line_step known (Some c) words) (coming_after_words known (Some n) words) (words_alike known (Some c) words all t) (λ e u. read_alike known last (Some e) lines all u))
 
 pub items_read_alike : (known : Known) (last : ℕ) (lines : Rest) → are_notions known.notions ≡ true → machine.item_from known last None lines ≡ item_from known last None lines
 items_read_alike known last lines all = read_alike known last None lines all tt

@@ -23,7 +23,7 @@ use Rattle.e_book.specs.TheoremViews.{TheoremView}
 use Rattle.e_book.specs.LineLimits.{FewNamed}
 use Rattle.e_book.specs.Steps.{allowed, built, applied, claimed, superposed, split, cited, inferred, concluded, shut, stepped, step, begin, begun}
 use Rattle.e_book.specs.Open.{Open, Stating, Proving}
-use Rattle.e_book.specs.Grammar.{Rest, nothing_said, begins, goes_on, next, line_after, line_read, theorem_ended, or_more, is_skipped, put_at}
+use Rattle.e_book.specs.Grammar.{Rest, empty_head, begins, goes_on, next, line_after, line_read, theorem_ended, or_more, is_skipped, put_at}
 use Rattle.e_book.specs.Grammar as grammar
 use Rattle.e_line.specs.Canonical.{line_of}
 use Rattle.e_book.specs.Canonical.{forms_of}
@@ -180,19 +180,19 @@ free_title : (known : List TitledStatement) (b : Bool) (x : Result TheoremParser
 free_title known true x y h = refl
 free_title known false x y h = h
 
-begun_tied : (known : List TitledStatement) (t : List ℕ) → Alike known (read_ok (begun t)) (read_ok (Stating (nothing_said t)))
+begun_tied : (known : List TitledStatement) (t : List ℕ) → Alike known (read_ok (begun t)) (read_ok (Stating (empty_head t)))
 begun_tied known t =
     let few : FewNamed (begun t).names = record { points = omega arith; lines = omega arith; circles = omega arith } in
     let none : UnprovedOf (begun t) = record { steps = refl; blocks = refl; lines = refl; facts = refl; terms = refl; few_facts = omega arith; few_terms = omega arith } in
-    tied_there known (begun t) (Stating (nothing_said t)) places.Declaring refl few ((refl, refl, refl), none) refl
+    tied_there known (begun t) (Stating (empty_head t)) places.Declaring refl few ((refl, refl, refl), none) refl
 
 abbrev begins_titled : List TitledStatement → List ℕ → Result Open FaultKind
-begins_titled known t = kept ((leb (length known + 1) most_theorems, limits.Theorems) ∷ []) (Stating (nothing_said t))
+begins_titled known t = kept ((leb (length known + 1) most_theorems, limits.Theorems) ∷ []) (Stating (empty_head t))
 
 pub begin_alike : (known : List TitledStatement) (f : RawLine) → Alike known (begin known f) (begins known f)
 unfolding begin
 begin_alike known (rawlines.Theorem t) =
-    let n = Stating (nothing_said t) in
+    let n = Stating (empty_head t) in
     free_title known (is_known known t) (within (length known + 1) most_theorems limits.Theorems >>= λ few. read_ok (begun t)) (begins_titled known t)
     (test known (read_ok (begun t)) n (length known + 1) most_theorems limits.Theorems [] (λ w. begun_tied known t))
 begin_alike known f = refl

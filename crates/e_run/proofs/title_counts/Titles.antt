@@ -34,8 +34,8 @@ use Rattle.e_line.specs.Limits.{most_notions, most_expanded}
 use Rattle.e_line.specs.Items.{has_item, items_of, define_of, placing_of, listed, line_named, book_line_of, is_show}
 use Rattle.e_book.specs.Open.{Open, Head, Stating, Proving, Splitting, Proved, Ended}
 use Rattle.e_book.specs.Counts.{all_kept, limits_kept}
-use Rattle.e_book.specs.Grammar.{begins, nothing_said, is_empty, next, line_after, theorem_ended, is_skipped, put_at, Rest}
-use Rattle.e_book.specs.Definitions.{BookItem, OfTheorem, OfNotion, Coming, InTheorem, InDefinition, Defined, has_notion_title, after_first_line, says_more, still_defined, meant, ends_definition, plain_line, written_out, counted, after_listed_line, next_line, line_said, whole, whole_or, item_from}
+use Rattle.e_book.specs.Grammar.{begins, empty_head, is_empty, next, line_after, theorem_ended, is_skipped, put_at, Rest}
+use Rattle.e_book.specs.Definitions.{BookItem, OfTheorem, OfNotion, Coming, InTheorem, InDefinition, Defined, has_notion_title, after_first_line, says_more, still_defined, meant, ends_definition, plain_line, written_out, counted, after_listed_line, next_line, coming_after_words, whole, whole_or, item_from}
 use Rattle.e_line.proofs.base.Bound.{bind_ok, ok_is, read_ok}
 use Rattle.e_line.proofs.base.Choices.{either, passed, of_reading}
 use Rattle.e_names.proofs.titles.FreshTitles.{was_free}
@@ -238,9 +238,9 @@ theorem_begun : (known : Known) (b : Bool) (f : RawLine) (c : Coming) → cond b
 theorem_begun known true f c e = absurd cc
 theorem_begun known false f c e = of_reading (λ d. says_theorem d ≡ true) (begins known.theorems f) (λ o. InTheorem o 0) c (λ o k. refl) e
 
-definition_begun : (known : Known) (b : Bool) (t : List ℕ) (r : Result (Unit {0}) FaultKind) (c : Coming) → cond b (refusal_of NameTaken) (r >>= λ kept. coming_ok (InDefinition (nothing_said t) 0)) ≡ Ok c → says_theorem c ≡ false
+definition_begun : (known : Known) (b : Bool) (t : List ℕ) (r : Result (Unit {0}) FaultKind) (c : Coming) → cond b (refusal_of NameTaken) (r >>= λ kept. coming_ok (InDefinition (empty_head t) 0)) ≡ Ok c → says_theorem c ≡ false
 definition_begun known true t r c e = absurd cc
-definition_begun known false t r c e = of_reading (λ d. says_theorem d ≡ false) r (λ kept. InDefinition (nothing_said t) 0) c (λ kept k. refl) e
+definition_begun known false t r c e = of_reading (λ d. says_theorem d ≡ false) r (λ kept. InDefinition (empty_head t) 0) c (λ kept k. refl) e
 
 no_theorem_begun : (known : List TitledStatement) (f : RawLine) (o : Open) → is_title_line (Plain f) ≡ false → begins known f ≡ Ok o → ⊥
 no_theorem_begun known (rawlines.Theorem t) o h e = absurd cc
@@ -350,7 +350,7 @@ IsOf None i = Unit {0}
 IsOf (Some c) i = says_theorem c ≡ is_theorem i
 
 -- what a line says of what comes next: it has a title where a theorem begins, and is of what has come
-line_begun : (known : Known) (s : Option Coming) (words : List (List ℕ)) (c : Coming) (i : BookItem) → line_said known s words ≡ Ok c → says_theorem c ≡ is_theorem i → (one_if (has_title words) ≡ begun s i) × IsOf s i
+line_begun : (known : Known) (s : Option Coming) (words : List (List ℕ)) (c : Coming) (i : BookItem) → coming_after_words known s words ≡ Ok c → says_theorem c ≡ is_theorem i → (one_if (has_title words) ≡ begun s i) × IsOf s i
 line_begun known None words c i e k =
     let l = bind_ok (book_line_of words) (λ l. after_first_line known l) c e in
     (ap one_if (line_title words l.0 l.1 ∙ first_kind known l.0 c l.2 ∙ k), tt)
@@ -383,14 +383,14 @@ count_found known last s (Err f ∷ lines) i rest h = absurd cc
 count_found known last s (Ok l ∷ lines) i rest h =
     let words = tokens_of l.bytes in
     let all : titles (Ok l ∷ lines) ≡ one_if (has_title words) + titles lines = refl in
-    by_skip (Counts s (Ok l ∷ lines) i rest) (is_skipped words) (item_from known last s lines) (put_at l.number (line_said known s words) >>= λ c. whole_or (whole c) lines (item_from known last (Some c) lines)) (found i rest) h
+    by_skip (Counts s (Ok l ∷ lines) i rest) (is_skipped words) (item_from known last s lines) (put_at l.number (coming_after_words known s words) >>= λ c. whole_or (whole c) lines (item_from known last (Some c) lines)) (found i rest) h
     (λ skip e.
     let none : one_if (has_title words) ≡ 0 = ap one_if (skipped_title words skip) in
     let more = count_found known last s lines i rest e in
     record { count = omega (arith, all, none, more.count); same = more.same })
     (λ q.
-    let a = bind_ok (put_at l.number (line_said known s words)) (λ c. whole_or (whole c) lines (item_from known last (Some c) lines)) (Some (i, rest)) q in
-    let said = put_is l.number (line_said known s words) a.0 a.1 in
+    let a = bind_ok (put_at l.number (coming_after_words known s words)) (λ c. whole_or (whole c) lines (item_from known last (Some c) lines)) (Some (i, rest)) q in
+    let said = put_is l.number (coming_after_words known s words) a.0 a.1 in
     by_found (Counts s (Ok l ∷ lines) i rest) (whole a.0) i lines rest (item_from known last (Some a.0) lines) a.2
     (λ ends e.
     let b = line_begun known s words a.0 i said (whole_kind a.0 i ends) in
@@ -407,10 +407,10 @@ never_none known last c [] h = absurd cc
 never_none known last c (Err f ∷ lines) h = absurd cc
 never_none known last c (Ok l ∷ lines) h =
     let words = tokens_of l.bytes in
-    by_skip ⊥ (is_skipped words) (item_from known last (Some c) lines) (put_at l.number (line_said known (Some c) words) >>= λ d. whole_or (whole d) lines (item_from known last (Some d) lines)) none_left h
+    by_skip ⊥ (is_skipped words) (item_from known last (Some c) lines) (put_at l.number (coming_after_words known (Some c) words) >>= λ d. whole_or (whole d) lines (item_from known last (Some d) lines)) none_left h
     (λ skip e. never_none known last c lines e)
     (λ q.
-    let a = bind_ok (put_at l.number (line_said known (Some c) words)) (λ d. whole_or (whole d) lines (item_from known last (Some d) lines)) None q in
+    let a = bind_ok (put_at l.number (coming_after_words known (Some c) words)) (λ d. whole_or (whole d) lines (item_from known last (Some d) lines)) None q in
     by_none ⊥ (whole a.0) lines (item_from known last (Some a.0) lines) a.2 (λ e. never_none known last a.0 lines e))
 
 -- and where none is read any more, no line has a title
@@ -420,12 +420,12 @@ count_end known last (Err f ∷ lines) h = absurd cc
 count_end known last (Ok l ∷ lines) h =
     let words = tokens_of l.bytes in
     let all : titles (Ok l ∷ lines) ≡ one_if (has_title words) + titles lines = refl in
-    by_skip (titles (Ok l ∷ lines) ≡ 0) (is_skipped words) (item_from known last None lines) (put_at l.number (line_said known None words) >>= λ c. whole_or (whole c) lines (item_from known last (Some c) lines)) none_left h
+    by_skip (titles (Ok l ∷ lines) ≡ 0) (is_skipped words) (item_from known last None lines) (put_at l.number (coming_after_words known None words) >>= λ c. whole_or (whole c) lines (item_from known last (Some c) lines)) none_left h
     (λ skip e.
     let none : one_if (has_title words) ≡ 0 = ap one_if (skipped_title words skip) in
     omega (arith, all, none, count_end known last lines e))
     (λ q.
-    let a = bind_ok (put_at l.number (line_said known None words)) (λ c. whole_or (whole c) lines (item_from known last (Some c) lines)) None q in
+    let a = bind_ok (put_at l.number (coming_after_words known None words)) (λ c. whole_or (whole c) lines (item_from known last (Some c) lines)) None q in
     absurd (by_none ⊥ (whole a.0) lines (item_from known last (Some a.0) lines) a.2 (λ e. never_none known last a.0 lines e)))
 
 -- ---- the whole

@@ -39,8 +39,8 @@ abbrev pub opened : List Sort → List Lit → StepState → StepState
 opened sorts lits x = record { scope = grown x.scope sorts; facts = joined_all x.facts lits }
 
 -- the goal that the code writes
-abbrev pub goal_said : CodeGoal → Goal
-goal_said g = record { made = g.made.now; shown = g.shown.now }
+abbrev pub goal_view : CodeGoal → Goal
+goal_view g = record { made = g.made.now; shown = g.shown.now }
 
 -- the form of each step fits, and at most 1,000 objects of each sort are in scope before it
 pub record IsReady (before : List StatementView) (d : Script) (s : Scope) (facts : List Lit)

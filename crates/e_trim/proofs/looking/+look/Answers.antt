@@ -14,7 +14,7 @@ use Rattle.e_theorem.specs.Statements.{all_stated}
 use Rattle.e_deriv.specs.Script.{close_script, script_of, steps_script, size}
 use Rattle.e_trim.specs.Looked.{Wants}
 use Rattle.e_trim.specs.Trimmed.{wants_outside, wants}
-use Rattle.e_trim.specs.inner.StepState.{goal_said, IsReady, IsReadyToTrim}
+use Rattle.e_trim.specs.inner.StepState.{goal_view, IsReady, IsReadyToTrim}
 use Rattle.e_trim.specs.inner.Flags.{flags_of}
 use Rattle.e_trim.proofs.walks.FirstSteps.{ok_map, on_ok, later_steps, whole_is}
 use Rattle.e_trim.proofs.kept_scripts.StepSizes.{rest_falls, step_falls, claim_falls, superposed_falls, first_falls, second_falls}
@@ -25,15 +25,15 @@ use Rattle.e_trim.proofs.looking.+look.Goals as goal
 -- ---- several steps
 
 pub look-pass-requires-clause-small : goal.look-pass-requires-clause-small
-look-pass-requires-clause-small t c = look_small (all_stated c.args.before.now) c.args.steps.now c.step-item.result c.args.state.now (goal_said c.args.goal.now) (close_script c.args.close.now) (record { some = c.in-len1-up.len_at_least; first = c.step-item.is; ready = c.requires.ready })
+look-pass-requires-clause-small t c = look_small (all_stated c.args.before.now) c.args.steps.now c.step-item.result c.args.state.now (goal_view c.args.goal.now) (close_script c.args.close.now) (record { some = c.in-len1-up.len_at_least; first = c.step-item.is; ready = c.requires.ready })
 
 pub look-pass-requires-clause-fits : goal.look-pass-requires-clause-fits
-look-pass-requires-clause-fits t c = look_fits (all_stated c.args.before.now) c.args.steps.now c.step-item.result c.args.state.now (goal_said c.args.goal.now) (close_script c.args.close.now) (record { some = c.in-len1-up.len_at_least; first = c.step-item.is; ready = c.requires.ready })
+look-pass-requires-clause-fits t c = look_fits (all_stated c.args.before.now) c.args.steps.now c.step-item.result c.args.state.now (goal_view c.args.goal.now) (close_script c.args.close.now) (record { some = c.in-len1-up.len_at_least; first = c.step-item.is; ready = c.requires.ready })
 
 pub look-look-requires : goal.look-look-requires
 look-look-requires t c = (
   omega (arith, c.decreases, rest_falls c.step-item.result (steps_script (later_steps c.args.steps.now) (close_script c.args.close.now)) (steps_script c.args.steps.now (close_script c.args.close.now)) (whole_is c.args.steps.now c.step-item.result (close_script c.args.close.now) c.in-len1-up.len_at_least c.step-item.is)),
-  (look_rest (all_stated c.args.before.now) c.args.steps.now c.step-item.result c.args.state.now c.pass.new.state (goal_said c.args.goal.now) (close_script c.args.close.now) (record { some = c.in-len1-up.len_at_least; first = c.step-item.is; ready = c.requires.ready }) c.in_ok-pass-in-len1-up.ensures, c.requires.statements),
+  (look_rest (all_stated c.args.before.now) c.args.steps.now c.step-item.result c.args.state.now c.pass.new.state (goal_view c.args.goal.now) (close_script c.args.close.now) (record { some = c.in-len1-up.len_at_least; first = c.step-item.is; ready = c.requires.ready }) c.in_ok-pass-in-len1-up.ensures, c.requires.statements),
 )
 
 pub look-restore-requires : goal.look-restore-requires
@@ -42,16 +42,16 @@ look-restore-requires t c = look_enough (all_stated c.args.before.now) c.step-it
 pub look-look_back-requires : goal.look-look_back-requires
 look-look_back-requires t c = (
   omega (arith, c.decreases, step_falls c.step-item.result (steps_script (later_steps c.args.steps.now) (close_script c.args.close.now)) (steps_script c.args.steps.now (close_script c.args.close.now)) (whole_is c.args.steps.now c.step-item.result (close_script c.args.close.now) c.in-len1-up.len_at_least c.step-item.is)),
-  (subst (IsReadyToTrim (all_stated c.args.before.now) c.step-item.result) (sym (look_back_is (all_stated c.args.before.now) c.step-item.result c.args.state.now c.pass.new.state c.look.new.state c.restore.new.self c.checkpoint-outer.result c.in_ok-pass-in-len1-up.ensures c.in_ok-wanted-in-len1-up.ensures.kept c.checkpoint-outer.ensures c.restore.ensures)) (look_step_ready (all_stated c.args.before.now) c.args.steps.now c.step-item.result c.args.state.now (goal_said c.args.goal.now) (close_script c.args.close.now) (record { some = c.in-len1-up.len_at_least; first = c.step-item.is; ready = c.requires.ready })), c.requires.statements),
+  (subst (IsReadyToTrim (all_stated c.args.before.now) c.step-item.result) (sym (look_back_is (all_stated c.args.before.now) c.step-item.result c.args.state.now c.pass.new.state c.look.new.state c.restore.new.self c.checkpoint-outer.result c.in_ok-pass-in-len1-up.ensures c.in_ok-wanted-in-len1-up.ensures.kept c.checkpoint-outer.ensures c.restore.ensures)) (look_step_ready (all_stated c.args.before.now) c.args.steps.now c.step-item.result c.args.state.now (goal_view c.args.goal.now) (close_script c.args.close.now) (record { some = c.in-len1-up.len_at_least; first = c.step-item.is; ready = c.requires.ready })), c.requires.statements),
 )
 
 pub look-returns-in_ok-look_back-in-len1-up-clause-wanted : goal.look-returns-in_ok-look_back-in-len1-up-clause-wanted
 look-returns-in_ok-look_back-in-len1-up-clause-wanted t c =
-    wanted_whole (all_stated c.args.before.now) c.args.steps.now c.step-item.result c.args.state.now c.pass.new.state c.restore.new.self (goal_said c.args.goal.now) (close_script c.args.close.now) c.in_ok-wanted-in-len1-up.wanted c.look_back.new.out (record { some = c.in-len1-up.len_at_least; first = c.step-item.is; ready = c.requires.ready }) c.in_ok-pass-in-len1-up.ensures (look_back_is (all_stated c.args.before.now) c.step-item.result c.args.state.now c.pass.new.state c.look.new.state c.restore.new.self c.checkpoint-outer.result c.in_ok-pass-in-len1-up.ensures c.in_ok-wanted-in-len1-up.ensures.kept c.checkpoint-outer.ensures c.restore.ensures) c.in_ok-wanted-in-len1-up.ensures.wanted c.in_ok-look_back-in-len1-up.ensures.wanted
+    wanted_whole (all_stated c.args.before.now) c.args.steps.now c.step-item.result c.args.state.now c.pass.new.state c.restore.new.self (goal_view c.args.goal.now) (close_script c.args.close.now) c.in_ok-wanted-in-len1-up.wanted c.look_back.new.out (record { some = c.in-len1-up.len_at_least; first = c.step-item.is; ready = c.requires.ready }) c.in_ok-pass-in-len1-up.ensures (look_back_is (all_stated c.args.before.now) c.step-item.result c.args.state.now c.pass.new.state c.look.new.state c.restore.new.self c.checkpoint-outer.result c.in_ok-pass-in-len1-up.ensures c.in_ok-wanted-in-len1-up.ensures.kept c.checkpoint-outer.ensures c.restore.ensures) c.in_ok-wanted-in-len1-up.ensures.wanted c.in_ok-look_back-in-len1-up.ensures.wanted
 
 pub look-returns-in_ok-look_back-in-len1-up-clause-flags : goal.look-returns-in_ok-look_back-in-len1-up-clause-flags
 look-returns-in_ok-look_back-in-len1-up-clause-flags t c =
-    flags_whole (all_stated c.args.before.now) c.args.steps.now c.step-item.result c.args.state.now c.pass.new.state c.restore.new.self (goal_said c.args.goal.now) (close_script c.args.close.now) c.in_ok-wanted-in-len1-up.wanted c.args.flags.now.items c.look.new.flags.items c.look_back.new.flags.items (record { some = c.in-len1-up.len_at_least; first = c.step-item.is; ready = c.requires.ready }) c.in_ok-pass-in-len1-up.ensures (look_back_is (all_stated c.args.before.now) c.step-item.result c.args.state.now c.pass.new.state c.look.new.state c.restore.new.self c.checkpoint-outer.result c.in_ok-pass-in-len1-up.ensures c.in_ok-wanted-in-len1-up.ensures.kept c.checkpoint-outer.ensures c.restore.ensures) c.in_ok-wanted-in-len1-up.ensures.wanted c.in_ok-wanted-in-len1-up.ensures.flags
+    flags_whole (all_stated c.args.before.now) c.args.steps.now c.step-item.result c.args.state.now c.pass.new.state c.restore.new.self (goal_view c.args.goal.now) (close_script c.args.close.now) c.in_ok-wanted-in-len1-up.wanted c.args.flags.now.items c.look.new.flags.items c.look_back.new.flags.items (record { some = c.in-len1-up.len_at_least; first = c.step-item.is; ready = c.requires.ready }) c.in_ok-pass-in-len1-up.ensures (look_back_is (all_stated c.args.before.now) c.step-item.result c.args.state.now c.pass.new.state c.look.new.state c.restore.new.self c.checkpoint-outer.result c.in_ok-pass-in-len1-up.ensures c.in_ok-wanted-in-len1-up.ensures.kept c.checkpoint-outer.ensures c.restore.ensures) c.in_ok-wanted-in-len1-up.ensures.wanted c.in_ok-wanted-in-len1-up.ensures.flags
     c.in_ok-look_back-in-len1-up.ensures.flags
 
 pub look-returns-in_ok-look_back-in-len1-up-clause-kept : goal.look-returns-in_ok-look_back-in-len1-up-clause-kept
@@ -62,7 +62,7 @@ look-returns-in_ok-look_back-in-len1-up-clause-kept t c = later_keeps c.args.sta
 pub look_inside-look-requires : goal.look_inside-look-requires
 look_inside-look-requires t c = (
   (let same = ap size (ap (λ xs. steps_script xs (close_script c.args.block.now.close)) c.deref.ensures.value) in omega (arith, c.decreases, same)),
-  (subst (λ d. IsReady (all_stated c.args.before.now) d c.open.new.self.scope c.open.new.self.facts (goal_said c.args.goal.now)) (sym (ap (λ xs. steps_script xs (close_script c.args.block.now.close)) c.deref.ensures.value)) (block_ready (all_stated c.args.before.now) (script_of c.args.block.now) (goal_said c.args.goal.now) c.args.sorts.now c.args.lits.now c.args.state.now c.open.new.self c.in_ok-open.ensures c.requires.ready), c.requires.statements),
+  (subst (λ d. IsReady (all_stated c.args.before.now) d c.open.new.self.scope c.open.new.self.facts (goal_view c.args.goal.now)) (sym (ap (λ xs. steps_script xs (close_script c.args.block.now.close)) c.deref.ensures.value)) (block_ready (all_stated c.args.before.now) (script_of c.args.block.now) (goal_view c.args.goal.now) c.args.sorts.now c.args.lits.now c.args.state.now c.open.new.self c.in_ok-open.ensures c.requires.ready), c.requires.statements),
 )
 
 pub look_inside-restore-requires : goal.look_inside-restore-requires
@@ -70,8 +70,8 @@ look_inside-restore-requires t c = block_enough c.args.sorts.now c.args.lits.now
 
 pub look_inside-returns-clause-wanted : goal.look_inside-returns-clause-wanted
 look_inside-returns-clause-wanted t c =
-    ok_map (λ (w : Wants). w ≡ wants_outside c.restore.new.self.scope c.restore.new.self.facts c.in_ok-inside.inside) (λ (w : Wants). w ≡ wants_outside c.args.state.now.scope c.args.state.now.facts (wants (all_stated c.args.before.now) (script_of c.args.block.now) (grown c.args.state.now.scope c.args.sorts.now) (joined_all c.args.state.now.facts c.args.lits.now) (goal_said c.args.goal.now))) c.outside.result
-    (λ w h. block_wants (all_stated c.args.before.now) (script_of c.args.block.now) (goal_said c.args.goal.now) c.args.sorts.now c.args.lits.now c.args.state.now c.open.new.self c.restore.new.self c.in_ok-inside.inside w c.in_ok-open.ensures (block_back c.args.sorts.now c.args.lits.now c.args.state.now c.open.new.self c.look.new.state c.restore.new.self c.checkpoint-outer.result c.in_ok-open.ensures c.in_ok-inside.ensures.kept c.checkpoint-outer.ensures c.restore.ensures) (c.in_ok-inside.ensures.wanted ∙ ap (λ d. wants (all_stated c.args.before.now) d c.open.new.self.scope c.open.new.self.facts (goal_said c.args.goal.now)) (ap (λ xs. steps_script xs (close_script c.args.block.now.close)) c.deref.ensures.value)) h) c.outside.ensures
+    ok_map (λ (w : Wants). w ≡ wants_outside c.restore.new.self.scope c.restore.new.self.facts c.in_ok-inside.inside) (λ (w : Wants). w ≡ wants_outside c.args.state.now.scope c.args.state.now.facts (wants (all_stated c.args.before.now) (script_of c.args.block.now) (grown c.args.state.now.scope c.args.sorts.now) (joined_all c.args.state.now.facts c.args.lits.now) (goal_view c.args.goal.now))) c.outside.result
+    (λ w h. block_wants (all_stated c.args.before.now) (script_of c.args.block.now) (goal_view c.args.goal.now) c.args.sorts.now c.args.lits.now c.args.state.now c.open.new.self c.restore.new.self c.in_ok-inside.inside w c.in_ok-open.ensures (block_back c.args.sorts.now c.args.lits.now c.args.state.now c.open.new.self c.look.new.state c.restore.new.self c.checkpoint-outer.result c.in_ok-open.ensures c.in_ok-inside.ensures.kept c.checkpoint-outer.ensures c.restore.ensures) (c.in_ok-inside.ensures.wanted ∙ ap (λ d. wants (all_stated c.args.before.now) d c.open.new.self.scope c.open.new.self.facts (goal_view c.args.goal.now)) (ap (λ xs. steps_script xs (close_script c.args.block.now.close)) c.deref.ensures.value)) h) c.outside.ensures
 
 pub look_inside-returns-clause-same : goal.look_inside-returns-clause-same
 look_inside-returns-clause-same t c = on_ok c.outside.result (block_back c.args.sorts.now c.args.lits.now c.args.state.now c.open.new.self c.look.new.state c.restore.new.self c.checkpoint-outer.result c.in_ok-open.ensures c.in_ok-inside.ensures.kept c.checkpoint-outer.ensures c.restore.ensures)
@@ -191,17 +191,17 @@ look_at_step-returns-in-Cite-4-clause-flags t c = plain_flags (all_stated c.args
 -- ---- a close
 
 pub look_at_close-look_close-requires : goal.look_at_close-look_close-requires
-look_at_close-look_close-requires t c = record { fits = close_fits (all_stated c.args.before.now) c.args.close.now c.args.state.now.scope c.args.state.now.facts (goal_said c.args.goal.now) c.requires.ready }
+look_at_close-look_close-requires t c = record { fits = close_fits (all_stated c.args.before.now) c.args.close.now c.args.state.now.scope c.args.state.now.facts (goal_view c.args.goal.now) c.requires.ready }
 
 pub look_at_close-look_inside-requires : goal.look_at_close-look_inside-requires
 look_at_close-look_inside-requires t c = (
   (let n = second_falls c.args.close.now c.in-Cases.lit c.in-Cases.first c.in-Cases.second c.deref.result.now c.in-Cases.is c.deref.ensures in omega (arith, c.decreases, n)),
   (
-    (cases_ready (all_stated c.args.before.now) c.in-Cases.lit c.in-Cases.first c.in-Cases.second c.args.state.now.scope c.args.state.now.facts (goal_said c.args.goal.now) (subst (λ cl. IsReady (all_stated c.args.before.now) (close_script cl) c.args.state.now.scope c.args.state.now.facts (goal_said c.args.goal.now)) c.in-Cases.is c.requires.ready)).0,
+    (cases_ready (all_stated c.args.before.now) c.in-Cases.lit c.in-Cases.first c.in-Cases.second c.args.state.now.scope c.args.state.now.facts (goal_view c.args.goal.now) (subst (λ cl. IsReady (all_stated c.args.before.now) (close_script cl) c.args.state.now.scope c.args.state.now.facts (goal_view c.args.goal.now)) c.in-Cases.is c.requires.ready)).0,
     (
       omega arith,
       (
-        subst (λ ls. IsReady (all_stated c.args.before.now) (script_of c.deref.result.now) c.args.state.now.scope (joined_all c.args.state.now.facts ls) (goal_said c.args.goal.now)) (sym (c.deref-in-Cases.ensures.value ∙ c.in_ok-fails-in-Cases.ensures.items ∙ ap (λ l. l ∷ []) (c.negate.ensures ∙ ap negation c.in_ok-copy-in-Cases.ensures))) (subst (λ b. IsReady (all_stated c.args.before.now) (script_of b) c.args.state.now.scope (joined c.args.state.now.facts (negation c.in-Cases.lit)) (goal_said c.args.goal.now)) (sym c.deref.ensures) (cases_ready (all_stated c.args.before.now) c.in-Cases.lit c.in-Cases.first c.in-Cases.second c.args.state.now.scope c.args.state.now.facts (goal_said c.args.goal.now) (subst (λ cl. IsReady (all_stated c.args.before.now) (close_script cl) c.args.state.now.scope c.args.state.now.facts (goal_said c.args.goal.now)) c.in-Cases.is c.requires.ready)).2),
+        subst (λ ls. IsReady (all_stated c.args.before.now) (script_of c.deref.result.now) c.args.state.now.scope (joined_all c.args.state.now.facts ls) (goal_view c.args.goal.now)) (sym (c.deref-in-Cases.ensures.value ∙ c.in_ok-fails-in-Cases.ensures.items ∙ ap (λ l. l ∷ []) (c.negate.ensures ∙ ap negation c.in_ok-copy-in-Cases.ensures))) (subst (λ b. IsReady (all_stated c.args.before.now) (script_of b) c.args.state.now.scope (joined c.args.state.now.facts (negation c.in-Cases.lit)) (goal_view c.args.goal.now)) (sym c.deref.ensures) (cases_ready (all_stated c.args.before.now) c.in-Cases.lit c.in-Cases.first c.in-Cases.second c.args.state.now.scope c.args.state.now.facts (goal_view c.args.goal.now) (subst (λ cl. IsReady (all_stated c.args.before.now) (close_script cl) c.args.state.now.scope c.args.state.now.facts (goal_view c.args.goal.now)) c.in-Cases.is c.requires.ready)).2),
         c.requires.statements,
       ),
     ),
@@ -211,12 +211,12 @@ look_at_close-look_inside-requires t c = (
 pub look_at_close-look_inside-requires-in-Cases : goal.look_at_close-look_inside-requires-in-Cases
 look_at_close-look_inside-requires-in-Cases t c = (
   (let n = first_falls c.args.close.now c.in-Cases.lit c.in-Cases.first c.in-Cases.second c.deref-in-Cases-2.result.now c.in-Cases.is c.deref-in-Cases-2.ensures in omega (arith, c.decreases, n)),
-  subst (λ (y : StepState). (is_small y.scope ≡ true) × ((length {A = Sort} [] < 2 ^ 15) × (IsReady (all_stated c.args.before.now) (script_of c.deref-in-Cases-2.result.now) y.scope (joined_all y.facts c.deref-in-Cases-3.result.now) (goal_said c.args.goal.now) × (list_all is_small_statement (all_stated c.args.before.now) ≡ true)))) (sym c.in_ok-other-in-Cases.ensures.same) (
-    (cases_ready (all_stated c.args.before.now) c.in-Cases.lit c.in-Cases.first c.in-Cases.second c.args.state.now.scope c.args.state.now.facts (goal_said c.args.goal.now) (subst (λ cl. IsReady (all_stated c.args.before.now) (close_script cl) c.args.state.now.scope c.args.state.now.facts (goal_said c.args.goal.now)) c.in-Cases.is c.requires.ready)).0,
+  subst (λ (y : StepState). (is_small y.scope ≡ true) × ((length {A = Sort} [] < 2 ^ 15) × (IsReady (all_stated c.args.before.now) (script_of c.deref-in-Cases-2.result.now) y.scope (joined_all y.facts c.deref-in-Cases-3.result.now) (goal_view c.args.goal.now) × (list_all is_small_statement (all_stated c.args.before.now) ≡ true)))) (sym c.in_ok-other-in-Cases.ensures.same) (
+    (cases_ready (all_stated c.args.before.now) c.in-Cases.lit c.in-Cases.first c.in-Cases.second c.args.state.now.scope c.args.state.now.facts (goal_view c.args.goal.now) (subst (λ cl. IsReady (all_stated c.args.before.now) (close_script cl) c.args.state.now.scope c.args.state.now.facts (goal_view c.args.goal.now)) c.in-Cases.is c.requires.ready)).0,
     (
       omega arith,
       (
-        subst (λ ls. IsReady (all_stated c.args.before.now) (script_of c.deref-in-Cases-2.result.now) c.args.state.now.scope (joined_all c.args.state.now.facts ls) (goal_said c.args.goal.now)) (sym (c.deref-in-Cases-3.ensures.value ∙ c.in_ok-holds-in-Cases.ensures.items ∙ ap (λ l. l ∷ []) c.in_ok-copy-in-Cases-2.ensures)) (subst (λ b. IsReady (all_stated c.args.before.now) (script_of b) c.args.state.now.scope (joined c.args.state.now.facts c.in-Cases.lit) (goal_said c.args.goal.now)) (sym c.deref-in-Cases-2.ensures) (cases_ready (all_stated c.args.before.now) c.in-Cases.lit c.in-Cases.first c.in-Cases.second c.args.state.now.scope c.args.state.now.facts (goal_said c.args.goal.now) (subst (λ cl. IsReady (all_stated c.args.before.now) (close_script cl) c.args.state.now.scope c.args.state.now.facts (goal_said c.args.goal.now)) c.in-Cases.is c.requires.ready)).1),
+        subst (λ ls. IsReady (all_stated c.args.before.now) (script_of c.deref-in-Cases-2.result.now) c.args.state.now.scope (joined_all c.args.state.now.facts ls) (goal_view c.args.goal.now)) (sym (c.deref-in-Cases-3.ensures.value ∙ c.in_ok-holds-in-Cases.ensures.items ∙ ap (λ l. l ∷ []) c.in_ok-copy-in-Cases-2.ensures)) (subst (λ b. IsReady (all_stated c.args.before.now) (script_of b) c.args.state.now.scope (joined c.args.state.now.facts c.in-Cases.lit) (goal_view c.args.goal.now)) (sym c.deref-in-Cases-2.ensures) (cases_ready (all_stated c.args.before.now) c.in-Cases.lit c.in-Cases.first c.in-Cases.second c.args.state.now.scope c.args.state.now.facts (goal_view c.args.goal.now) (subst (λ cl. IsReady (all_stated c.args.before.now) (close_script cl) c.args.state.now.scope c.args.state.now.facts (goal_view c.args.goal.now)) c.in-Cases.is c.requires.ready)).1),
         c.requires.statements,
       ),
     ),
@@ -225,24 +225,24 @@ look_at_close-look_inside-requires-in-Cases t c = (
 
 pub look_at_close-returns-in_ok-append-in-Cases-2-clause-wanted : goal.look_at_close-returns-in_ok-append-in-Cases-2-clause-wanted
 look_at_close-returns-in_ok-append-in-Cases-2-clause-wanted t c =
-    cases_wanted (all_stated c.args.before.now) c.args.close.now c.in-Cases.lit c.in-Cases.first c.in-Cases.second c.args.state.now.scope c.args.state.now.facts (goal_said c.args.goal.now) c.new-wanted.result c.look_close.new.out c.in_ok-other-in-Cases.other c.in_ok-one-in-Cases.one c.append-in-Cases.new.self c.append.new.self c.in-Cases.is c.new-wanted.ensures (c.in_ok-look_close.ensures (all_stated c.args.before.now))
-    (c.in_ok-other-in-Cases.ensures.wanted ∙ ap (λ b. wants_outside c.args.state.now.scope c.args.state.now.facts (wants (all_stated c.args.before.now) (script_of b) c.args.state.now.scope (joined_all c.args.state.now.facts c.deref-in-Cases.result.now) (goal_said c.args.goal.now))) c.deref.ensures
-    ∙ ap (λ ls. wants_outside c.args.state.now.scope c.args.state.now.facts (wants (all_stated c.args.before.now) (script_of c.in-Cases.second.value) c.args.state.now.scope (joined_all c.args.state.now.facts ls) (goal_said c.args.goal.now))) (c.deref-in-Cases.ensures.value ∙ c.in_ok-fails-in-Cases.ensures.items ∙ ap (λ l. l ∷ []) (c.negate.ensures ∙ ap negation c.in_ok-copy-in-Cases.ensures)))
-    (c.in_ok-one-in-Cases.ensures.wanted ∙ ap (λ (y : StepState). wants_outside y.scope y.facts (wants (all_stated c.args.before.now) (script_of c.deref-in-Cases-2.result.now) y.scope (joined_all y.facts c.deref-in-Cases-3.result.now) (goal_said c.args.goal.now))) c.in_ok-other-in-Cases.ensures.same
-    ∙ ap (λ b. wants_outside c.args.state.now.scope c.args.state.now.facts (wants (all_stated c.args.before.now) (script_of b) c.args.state.now.scope (joined_all c.args.state.now.facts c.deref-in-Cases-3.result.now) (goal_said c.args.goal.now))) c.deref-in-Cases-2.ensures
-    ∙ ap (λ ls. wants_outside c.args.state.now.scope c.args.state.now.facts (wants (all_stated c.args.before.now) (script_of c.in-Cases.first.value) c.args.state.now.scope (joined_all c.args.state.now.facts ls) (goal_said c.args.goal.now))) (c.deref-in-Cases-3.ensures.value ∙ c.in_ok-holds-in-Cases.ensures.items ∙ ap (λ l. l ∷ []) c.in_ok-copy-in-Cases-2.ensures)) c.in_ok-append-in-Cases.ensures c.in_ok-append-in-Cases-2.ensures
+    cases_wanted (all_stated c.args.before.now) c.args.close.now c.in-Cases.lit c.in-Cases.first c.in-Cases.second c.args.state.now.scope c.args.state.now.facts (goal_view c.args.goal.now) c.new-wanted.result c.look_close.new.out c.in_ok-other-in-Cases.other c.in_ok-one-in-Cases.one c.append-in-Cases.new.self c.append.new.self c.in-Cases.is c.new-wanted.ensures (c.in_ok-look_close.ensures (all_stated c.args.before.now))
+    (c.in_ok-other-in-Cases.ensures.wanted ∙ ap (λ b. wants_outside c.args.state.now.scope c.args.state.now.facts (wants (all_stated c.args.before.now) (script_of b) c.args.state.now.scope (joined_all c.args.state.now.facts c.deref-in-Cases.result.now) (goal_view c.args.goal.now))) c.deref.ensures
+    ∙ ap (λ ls. wants_outside c.args.state.now.scope c.args.state.now.facts (wants (all_stated c.args.before.now) (script_of c.in-Cases.second.value) c.args.state.now.scope (joined_all c.args.state.now.facts ls) (goal_view c.args.goal.now))) (c.deref-in-Cases.ensures.value ∙ c.in_ok-fails-in-Cases.ensures.items ∙ ap (λ l. l ∷ []) (c.negate.ensures ∙ ap negation c.in_ok-copy-in-Cases.ensures)))
+    (c.in_ok-one-in-Cases.ensures.wanted ∙ ap (λ (y : StepState). wants_outside y.scope y.facts (wants (all_stated c.args.before.now) (script_of c.deref-in-Cases-2.result.now) y.scope (joined_all y.facts c.deref-in-Cases-3.result.now) (goal_view c.args.goal.now))) c.in_ok-other-in-Cases.ensures.same
+    ∙ ap (λ b. wants_outside c.args.state.now.scope c.args.state.now.facts (wants (all_stated c.args.before.now) (script_of b) c.args.state.now.scope (joined_all c.args.state.now.facts c.deref-in-Cases-3.result.now) (goal_view c.args.goal.now))) c.deref-in-Cases-2.ensures
+    ∙ ap (λ ls. wants_outside c.args.state.now.scope c.args.state.now.facts (wants (all_stated c.args.before.now) (script_of c.in-Cases.first.value) c.args.state.now.scope (joined_all c.args.state.now.facts ls) (goal_view c.args.goal.now))) (c.deref-in-Cases-3.ensures.value ∙ c.in_ok-holds-in-Cases.ensures.items ∙ ap (λ l. l ∷ []) c.in_ok-copy-in-Cases-2.ensures)) c.in_ok-append-in-Cases.ensures c.in_ok-append-in-Cases-2.ensures
 
 pub look_at_close-returns-in_ok-append-in-Cases-2-clause-flags : goal.look_at_close-returns-in_ok-append-in-Cases-2-clause-flags
 look_at_close-returns-in_ok-append-in-Cases-2-clause-flags t c =
-    cases_flags (all_stated c.args.before.now) c.args.close.now c.in-Cases.lit c.in-Cases.first c.in-Cases.second c.args.state.now.scope c.args.state.now.facts (goal_said c.args.goal.now) c.args.flags.now.items c.look_inside.new.flags.items c.look_inside-in-Cases.new.flags.items c.in-Cases.is
-    (c.in_ok-other-in-Cases.ensures.flags ∙ ap (λ b. c.args.flags.now.items ++ flags_of (all_stated c.args.before.now) (script_of b) c.args.state.now.scope (joined_all c.args.state.now.facts c.deref-in-Cases.result.now) (goal_said c.args.goal.now)) c.deref.ensures
-    ∙ ap (λ ls. c.args.flags.now.items ++ flags_of (all_stated c.args.before.now) (script_of c.in-Cases.second.value) c.args.state.now.scope (joined_all c.args.state.now.facts ls) (goal_said c.args.goal.now)) (c.deref-in-Cases.ensures.value ∙ c.in_ok-fails-in-Cases.ensures.items ∙ ap (λ l. l ∷ []) (c.negate.ensures ∙ ap negation c.in_ok-copy-in-Cases.ensures)))
-    (c.in_ok-one-in-Cases.ensures.flags ∙ ap (λ (y : StepState). c.look_inside.new.flags.items ++ flags_of (all_stated c.args.before.now) (script_of c.deref-in-Cases-2.result.now) y.scope (joined_all y.facts c.deref-in-Cases-3.result.now) (goal_said c.args.goal.now)) c.in_ok-other-in-Cases.ensures.same
-    ∙ ap (λ b. c.look_inside.new.flags.items ++ flags_of (all_stated c.args.before.now) (script_of b) c.args.state.now.scope (joined_all c.args.state.now.facts c.deref-in-Cases-3.result.now) (goal_said c.args.goal.now)) c.deref-in-Cases-2.ensures
-    ∙ ap (λ ls. c.look_inside.new.flags.items ++ flags_of (all_stated c.args.before.now) (script_of c.in-Cases.first.value) c.args.state.now.scope (joined_all c.args.state.now.facts ls) (goal_said c.args.goal.now)) (c.deref-in-Cases-3.ensures.value ∙ c.in_ok-holds-in-Cases.ensures.items ∙ ap (λ l. l ∷ []) c.in_ok-copy-in-Cases-2.ensures))
+    cases_flags (all_stated c.args.before.now) c.args.close.now c.in-Cases.lit c.in-Cases.first c.in-Cases.second c.args.state.now.scope c.args.state.now.facts (goal_view c.args.goal.now) c.args.flags.now.items c.look_inside.new.flags.items c.look_inside-in-Cases.new.flags.items c.in-Cases.is
+    (c.in_ok-other-in-Cases.ensures.flags ∙ ap (λ b. c.args.flags.now.items ++ flags_of (all_stated c.args.before.now) (script_of b) c.args.state.now.scope (joined_all c.args.state.now.facts c.deref-in-Cases.result.now) (goal_view c.args.goal.now)) c.deref.ensures
+    ∙ ap (λ ls. c.args.flags.now.items ++ flags_of (all_stated c.args.before.now) (script_of c.in-Cases.second.value) c.args.state.now.scope (joined_all c.args.state.now.facts ls) (goal_view c.args.goal.now)) (c.deref-in-Cases.ensures.value ∙ c.in_ok-fails-in-Cases.ensures.items ∙ ap (λ l. l ∷ []) (c.negate.ensures ∙ ap negation c.in_ok-copy-in-Cases.ensures)))
+    (c.in_ok-one-in-Cases.ensures.flags ∙ ap (λ (y : StepState). c.look_inside.new.flags.items ++ flags_of (all_stated c.args.before.now) (script_of c.deref-in-Cases-2.result.now) y.scope (joined_all y.facts c.deref-in-Cases-3.result.now) (goal_view c.args.goal.now)) c.in_ok-other-in-Cases.ensures.same
+    ∙ ap (λ b. c.look_inside.new.flags.items ++ flags_of (all_stated c.args.before.now) (script_of b) c.args.state.now.scope (joined_all c.args.state.now.facts c.deref-in-Cases-3.result.now) (goal_view c.args.goal.now)) c.deref-in-Cases-2.ensures
+    ∙ ap (λ ls. c.look_inside.new.flags.items ++ flags_of (all_stated c.args.before.now) (script_of c.in-Cases.first.value) c.args.state.now.scope (joined_all c.args.state.now.facts ls) (goal_view c.args.goal.now)) (c.deref-in-Cases-3.ensures.value ∙ c.in_ok-holds-in-Cases.ensures.items ∙ ap (λ l. l ∷ []) c.in_ok-copy-in-Cases-2.ensures))
 
 pub look_at_close-returns-in-Qed-clause-wanted : goal.look_at_close-returns-in-Qed-clause-wanted
-look_at_close-returns-in-Qed-clause-wanted t c = close_wanted (all_stated c.args.before.now) c.args.close.now c.args.state.now.scope c.args.state.now.facts (goal_said c.args.goal.now) c.new-wanted.result c.look_close.new.out (no_blocks (all_stated c.args.before.now) c.args.close.now c.args.state.now.scope c.args.state.now.facts (goal_said c.args.goal.now) c.in-Qed.is) c.new-wanted.ensures (c.in_ok-look_close.ensures (all_stated c.args.before.now))
+look_at_close-returns-in-Qed-clause-wanted t c = close_wanted (all_stated c.args.before.now) c.args.close.now c.args.state.now.scope c.args.state.now.facts (goal_view c.args.goal.now) c.new-wanted.result c.look_close.new.out (no_blocks (all_stated c.args.before.now) c.args.close.now c.args.state.now.scope c.args.state.now.facts (goal_view c.args.goal.now) c.in-Qed.is) c.new-wanted.ensures (c.in_ok-look_close.ensures (all_stated c.args.before.now))
 
 pub look_at_close-returns-in-Qed-clause-flags : goal.look_at_close-returns-in-Qed-clause-flags
-look_at_close-returns-in-Qed-clause-flags t c = close_flags (all_stated c.args.before.now) c.args.close.now c.args.state.now.scope c.args.state.now.facts (goal_said c.args.goal.now) c.args.flags.now.items (no_blocks (all_stated c.args.before.now) c.args.close.now c.args.state.now.scope c.args.state.now.facts (goal_said c.args.goal.now) c.in-Qed.is)
+look_at_close-returns-in-Qed-clause-flags t c = close_flags (all_stated c.args.before.now) c.args.close.now c.args.state.now.scope c.args.state.now.facts (goal_view c.args.goal.now) c.args.flags.now.items (no_blocks (all_stated c.args.before.now) c.args.close.now c.args.state.now.scope c.args.state.now.facts (goal_view c.args.goal.now) c.in-Qed.is)
