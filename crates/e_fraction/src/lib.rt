@@ -10,6 +10,6 @@ mod widths;
 
 pub use entry::{Wide, cross};
 pub use row::{Row, RowSense, have_small_coefficients};
-pub use signed::{Signed, are_distinct, stands_in};
+pub use signed::{Signed, are_distinct, has_summand};
 pub use sum::{are_small_multipliers, check_sum, total};
 pub use widths::width;

@@ -82,12 +82,12 @@ pub fn are_distinct(summands: &[(i64, Term)]) -> bool
 {
     match summands {
         [] => true,
-        [first, rest @ ..] => !stands_in(rest, first.1) && are_distinct(rest),
+        [first, rest @ ..] => !has_summand(rest, first.1) && are_distinct(rest),
     }
 }
 
 /// Whether the term is in the form.
-pub fn stands_in(summands: &[(i64, Term)], term: Term) -> bool
+pub fn has_summand(summands: &[(i64, Term)], term: Term) -> bool
     ensures { result ≡ list_any (λ q. term_eq q.1 term) summands.now }
 {
     summands.iter().any(|p| p.1 == term)

@@ -10,7 +10,7 @@ ghost use Rattle.e_literal.specs.Minor.{IsWide};
 ghost use Rattle.e_fraction.specs.Views.{sense_of, all_seen};
 
 use crate::row::{Row, RowSense};
-use crate::signed::stands_in;
+use crate::signed::has_summand;
 use e_literal::Term;
 
 /// The product over the terms of the sum of the sizes of the term's coefficients (or 1, where that
@@ -69,14 +69,15 @@ fn is_new(rows: &[Row], form: &[(i64, Term)], term: Term) -> bool
     ensures { result
         ≡ not (is_among (terms_of_rows (all_seen rows.now) ++ map (λ p. p.1) form.now) term) }
 {
-    !stands_in(form, term) && !occurs(rows, term)
+    !has_summand(form, term) && !occurs(rows, term)
 }
 
 /// Whether the term is in one of the rows.
 fn occurs(rows: &[Row], term: Term) -> bool
     ensures { result ≡ list_any (λ r. list_any (λ q. term_eq q.1 term) r.form) rows.now }
 {
-    rows.iter().any(|row| stands_in(row.form.summands(), term))
+    rows.iter()
+        .any(|row| has_summand(row.form.summands(), term))
 }
 
 /// The sum of the sizes of the term's coefficients, or 1.

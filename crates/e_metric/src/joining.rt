@@ -5,7 +5,7 @@ ghost use Rattle.e_literal.specs.Same.{coeff_of};
 ghost use Rattle.e_metric.specs.inner.Differences.{coefficient_in_difference, difference_form};
 ghost use Rattle.e_metric.specs.inner.Differences.{with_summand, with_summands};
 
-use e_fraction::stands_in;
+use e_fraction::has_summand;
 use e_literal::{Mono, Term, canonical, coefficient_in, is_degenerate};
 use std::alloc::{AllocError, Global};
 
@@ -36,7 +36,7 @@ fn add_term(
     requires { length x.now + length y.now ≤ 32 }
     ensures { OnOk result (form.new.items ≡ with_summand x.now y.now form.old.items term) }
 {
-    if is_degenerate(term) || stands_in(form, term) {
+    if is_degenerate(term) || has_summand(form, term) {
         return Ok(());
     }
     let coefficient = difference(x, y, term);

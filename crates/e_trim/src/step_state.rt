@@ -37,7 +37,7 @@ impl StepState {
     {
         Checkpoint {
             scope: self.scope,
-            facts: self.facts.mark(),
+            facts: self.facts.checkpoint(),
         }
     }
 

@@ -50,7 +50,7 @@ impl Fact {
     fn has_term(&self, term: Term) -> bool
         ensures { result ≡ list_any (term_eq term) (terms_of_atom self.now.atom) }
     {
-        stands_in(&self.lit, term)
+        lit_has_term(&self.lit, term)
     }
 }
 
@@ -200,7 +200,7 @@ fn differ(a: u16, b: u16) -> Lit
 
 /// Whether the term occurs in the literal, as it is written.
 #[tactic(auto, using(crate::proofs::arithmetic::StepTerms::occurring))]
-pub fn stands_in(lit: &Lit, term: Term) -> bool
+pub fn lit_has_term(lit: &Lit, term: Term) -> bool
     ensures { result ≡ list_any (term_eq term) (terms_of_atom lit.now.atom) }
 {
     match &lit.atom {

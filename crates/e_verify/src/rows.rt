@@ -13,7 +13,7 @@ ghost use Rattle.e_verify.specs.inner.Views.{row_view, comparison_view, sense_vi
 ghost use Rattle.e_clause.specs.Written.{is_writable_name};
 ghost use Rattle.e_verify.specs.inner.RowScopes.{is_well_formed_row_scope};
 
-use crate::facts::{Facts, stands_in};
+use crate::facts::{Facts, lit_has_term};
 use e_clause::RowName;
 use e_literal::{Atom, Lit, Mono, Term};
 
@@ -234,7 +234,7 @@ fn is_step_term(row_scope: &RowScope, term: Term) -> bool
         return true;
     }
     match row_scope.wanted {
-        Some(lit) => stands_in(lit, term),
+        Some(lit) => lit_has_term(lit, term),
         None => false,
     }
 }

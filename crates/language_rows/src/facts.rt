@@ -25,7 +25,7 @@ fn put_steps(
         put_step(alloc, out, facts, step)?;
     }
     facts.apart();
-    out.show(&facts.mark());
+    out.show(&facts.checkpoint());
     Ok(())
 }
 
