@@ -4,7 +4,7 @@ ghost use Rattle.e_deriv.specs.declared.block.Step.TheVariants.{Make as MakeStep
 ghost use Rattle.e_deriv.specs.declared.block.Step.TheVariants.{Apply as ApplyStep};
 ghost use Rattle.e_deriv.specs.Script.{Script, script_of, step_script, close_script, erased};
 
-use crate::block::{Block, Close, Step};
+use crate::block::{Block, Close, Step, boxed};
 use e_clause::By;
 use e_construct::Construction;
 use e_literal::{Items, Lit, Obj, copy};
