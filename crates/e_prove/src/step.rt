@@ -111,14 +111,17 @@ pub fn make(
     let needs = form.needs(alloc)?;
     let certs = licences(alloc, &mut state.context, &needs)?;
     mem::drop(needs);
-    let given = form.gives(alloc, state.context.scope())?;
-    state.grow(form.made(), names)?;
-    state.join(given)?;
-    Ok(Step::Make {
-        form: derived,
-        names: Items::new(copied),
-        certs: Items::new(certs),
-    })
+    match state.make(alloc, form, names) {
+        Ok(()) => Ok(Step::Make {
+            form: derived,
+            names: Items::new(copied),
+            certs: Items::new(certs),
+        }),
+        Err(_) => {
+            mem::drop(certs);
+            Err(StepStop::NoMemory)
+        }
+    }
 }
 
 /// A superposition before its block: each literal that it needs is allowed. The copied points come
@@ -145,8 +148,11 @@ pub fn superpose(
     let needs = form.needs(alloc)?;
     let certs = licences(alloc, &mut state.context, &needs)?;
     mem::drop(needs);
-    let given = form.gives(alloc, state.context.scope())?;
-    state.grow(form.made(), names)?;
-    state.join(given)?;
-    Ok(certs)
+    match state.superpose(alloc, form, names) {
+        Ok(()) => Ok(certs),
+        Err(_) => {
+            mem::drop(certs);
+            Err(StepStop::NoMemory)
+        }
+    }
 }

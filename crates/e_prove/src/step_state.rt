@@ -9,8 +9,10 @@ ghost use Rattle.e_theorem.specs.Statements.{stated};
 ghost use Rattle.e_deriv.specs.Goal.{facts_of_statement};
 ghost use Rattle.e_deriv.specs.Naming.{named};
 ghost use Rattle.e_prove.specs.inner.StepStates.{start_with_names, held_at, IsLeft, IsLeftWith};
-ghost use Rattle.e_prove.specs.inner.StepStates.{CanJoinLast, after_literal};
+ghost use Rattle.e_prove.specs.inner.StepStates.{CanJoinLast, HasRoomForMore};
+ghost use Rattle.e_prove.specs.inner.StepStates.{after_literal, after_make, after_superposed};
 
+use e_construct::{Construction, Superpose};
 use e_deriv::Names;
 use e_facts::Facts;
 use e_licence::Context;
@@ -138,6 +140,44 @@ impl StepState {
         }) }
     {
         join_all(&mut self.context, lits)
+    }
+
+    /// What a construction makes comes into scope, with these names, and what it gives are facts.
+    /// It fails only out of memory; no clause says what holds then.
+    pub fn make(
+        &mut self,
+        alloc: Global,
+        form: &Construction,
+        names: &[Name],
+    ) -> Result<(), AllocError>
+        requires room { HasRoomForMore self.old.context.scope }
+        requires after { let after = after_make form.now names.now self.old
+            in IsTrue (are_limited_facts after.context.scope after.context.facts) }
+        ensures { OnOk result (self.new ≡ after_make form.now names.now self.old) }
+    {
+        let scope = self.context.scope();
+        self.grow(form.made(), names)?;
+        let given = form.gives(alloc, scope)?;
+        self.join(given)
+    }
+
+    /// The copied points of a superposition come into scope, with these names, and what it gives
+    /// are facts. It fails only out of memory; no clause says what holds then.
+    pub fn superpose(
+        &mut self,
+        alloc: Global,
+        form: &Superpose,
+        names: &[Name],
+    ) -> Result<(), AllocError>
+        requires room { HasRoomForMore self.old.context.scope }
+        requires after { let after = after_superposed form.now names.now self.old
+            in IsTrue (are_limited_facts after.context.scope after.context.facts) }
+        ensures { OnOk result (self.new ≡ after_superposed form.now names.now self.old) }
+    {
+        let scope = self.context.scope();
+        self.grow(form.made(), names)?;
+        let given = form.gives(alloc, scope)?;
+        self.join(given)
     }
 
     /// Equal literals join the facts, one after the other. It fails only out of memory; no clause

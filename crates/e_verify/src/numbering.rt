@@ -139,13 +139,13 @@ fn number_step(
             names,
             certs,
         } => {
-            let line = Application {
+            let application = Application {
                 theorem: *theorem,
                 args: args.items(),
                 names: names.items(),
                 certs: certs.items(),
             };
-            apply(alloc, before, &line, state)
+            apply(alloc, before, &application, state)
         }
         Step::Claim { shown, inner } => number_claim(alloc, before, shown.items(), inner, state),
         Step::Superposed {
@@ -336,8 +336,7 @@ fn make(
     ensures { IfOk result (λ s. (before : List StatementView) → IsNumberedStep before
         (Make form.now names.now certs.now) state.old (step_script s) state.new) }
 {
-    let scope = state.scope;
-    if !has_room(scope) || !form.fits(scope) {
+    if !has_room(state.scope) || !form.fits(state.scope) {
         return Err(AllocError);
     }
     let names = Items::new(Vec::from_slice(alloc, names)?);
@@ -345,14 +344,17 @@ fn make(
     let needs = form.needs(alloc)?;
     let certs = placed_certs(alloc, &state.facts, &needs, certs)?;
     mem::drop(needs);
-    let given = form.gives(alloc, scope)?;
-    state.scope = grown(scope, form.made());
-    state.facts.join(given)?;
-    Ok(Step::Make {
-        form: copied,
-        names,
-        certs,
-    })
+    match state.make(alloc, form) {
+        Ok(()) => Ok(Step::Make {
+            form: copied,
+            names,
+            certs,
+        }),
+        Err(error) => {
+            mem::drop(certs);
+            Err(error)
+        }
+    }
 }
 
 /// An application, as it is written.
@@ -368,39 +370,49 @@ struct Application<'a> {
 fn apply(
     alloc: Global,
     before: &[Statement],
-    line: &Application,
+    application: &Application,
     state: &mut StepState,
 ) -> Result<Step, AllocError>
     requires { IsTrue (list_all is_small_statement (all_stated before.now)) }
     ensures { IfOk result (λ s. IsNumberedStep (all_stated before.now)
-        (Apply line.now.theorem line.now.args.now line.now.names.now line.now.certs.now) state.old
+        (Apply application.now.theorem application.now.args.now application.now.names.now application.now.certs.now) state.old
         (step_script s) state.new) }
 {
     let scope = state.scope;
-    let Some(statement) = before.get(line.theorem as usize) else {
+    let Some(statement) = before.get(application.theorem as usize) else {
         return Err(AllocError);
     };
-    let Some(objects) = all_written(alloc, line.args)? else {
+    let Some(objects) = all_written(alloc, application.args)? else {
         return Err(AllocError);
     };
     if !has_room(scope) {
         return Err(AllocError);
     }
-    let args = Items::new(Vec::from_slice(alloc, line.args)?);
-    let names = Items::new(Vec::from_slice(alloc, line.names)?);
+    let args = Items::new(Vec::from_slice(alloc, application.args)?);
+    let names = Items::new(Vec::from_slice(alloc, application.names)?);
     let applied = match use_of(alloc, statement, &objects, scope) {
         Ok(applied) => applied,
         Err(UseFault::BadArgs | UseFault::NoMemory) => return Err(AllocError),
     };
-    let certs = placed_certs(alloc, &state.facts, applied.needs.items(), line.certs)?;
+    let certs = placed_certs(
+        alloc,
+        &state.facts,
+        applied.needs.items(),
+        application.certs,
+    )?;
     state.scope = grown(scope, statement.made.items());
-    state.assume_all(alloc, applied.gives.items())?;
-    Ok(Step::Apply {
-        theorem: line.theorem,
-        args,
-        names,
-        certs,
-    })
+    match state.assume_all(alloc, applied.gives.items()) {
+        Ok(()) => Ok(Step::Apply {
+            theorem: application.theorem,
+            args,
+            names,
+            certs,
+        }),
+        Err(error) => {
+            mem::drop(certs);
+            Err(error)
+        }
+    }
 }
 
 /// The certificates of a superposition; then the copied points are in scope, and what it gives are
@@ -415,17 +427,19 @@ fn superpose(
         (superposing.needs_of_superposition form.now) certs.now) }
     ensures after { OnOk result (state.new ≡ state_after_superposed form.now state.old) }
 {
-    let scope = state.scope;
-    if !has_room(scope) {
+    if !has_room(state.scope) {
         return Err(AllocError);
     }
     let needs = form.needs(alloc)?;
     let certs = placed_certs(alloc, &state.facts, &needs, certs)?;
     mem::drop(needs);
-    let given = form.gives(alloc, scope)?;
-    state.scope = grown(scope, form.made());
-    state.facts.join(given)?;
-    Ok(certs)
+    match state.superpose(alloc, form) {
+        Ok(()) => Ok(certs),
+        Err(error) => {
+            mem::drop(certs);
+            Err(error)
+        }
+    }
 }
 
 #[tactic(auto, using(crate::proofs::placing::NumberedSteps::placing))]

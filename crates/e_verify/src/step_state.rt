@@ -1,12 +1,15 @@
 //! What holds before a step, and after it.
 
-ghost use Rattle.std.specs.Prelude.{◌≡◌, OnOk};
+ghost use Rattle.std.specs.Prelude.{◌≡◌, OnOk, IsTrue};
 ghost use Rattle.e_literal.specs.Literal.{negation};
 ghost use Rattle.e_literal.specs.Facts.{joined, joined_all};
+ghost use Rattle.e_deriv.specs.Fitting.{is_small};
 ghost use Rattle.e_verify.specs.inner.StepStates.{checkpoint_of, restored, with_facts};
+ghost use Rattle.e_verify.specs.inner.StepStates.{state_after_make, state_after_superposed};
 
 use crate::facts::Facts;
-use e_literal::{Lit, Obj, Scope, copy, negate};
+use e_construct::{Construction, Superpose};
+use e_literal::{Lit, Obj, Scope, copy, grown, negate};
 use std::alloc::{AllocError, Global};
 
 /// The objects in scope and the facts before a step.
@@ -62,6 +65,28 @@ impl StepState {
             (self.new ≡ with_facts (joined self.old.facts (negation lit.now)) self.old) }
     {
         self.facts.add(negate(copy(alloc, lit)?))
+    }
+
+    /// What a construction makes comes into scope, and what it gives are facts.
+    pub fn make(&mut self, alloc: Global, form: &Construction) -> Result<(), AllocError>
+        requires { IsTrue (is_small self.old.scope) }
+        ensures { OnOk result (self.new ≡ state_after_make form.now self.old) }
+    {
+        let scope = self.scope;
+        let given = form.gives(alloc, scope)?;
+        self.scope = grown(scope, form.made());
+        self.facts.join(given)
+    }
+
+    /// The copied points of a superposition come into scope, and what it gives are facts.
+    pub fn superpose(&mut self, alloc: Global, form: &Superpose) -> Result<(), AllocError>
+        requires { IsTrue (is_small self.old.scope) }
+        ensures { OnOk result (self.new ≡ state_after_superposed form.now self.old) }
+    {
+        let scope = self.scope;
+        let given = form.gives(alloc, scope)?;
+        self.scope = grown(scope, form.made());
+        self.facts.join(given)
     }
 
     /// The literals are facts.

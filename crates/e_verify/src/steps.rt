@@ -109,9 +109,7 @@ pub fn make(
         return Ok(false);
     }
     mem::drop(needs);
-    let given = form.gives(alloc, scope)?;
-    state.scope = grown(scope, form.made());
-    state.facts.join(given)?;
+    state.make(alloc, form)?;
     Ok(true)
 }
 
@@ -179,9 +177,7 @@ pub fn superpose(
         return Ok(false);
     }
     mem::drop(needs);
-    let given = form.gives(alloc, scope)?;
-    state.scope = grown(scope, form.made());
-    state.facts.join(given)?;
+    state.superpose(alloc, form)?;
     Ok(true)
 }
 

@@ -38,7 +38,7 @@ use mathlib.Core.Bool.{and-false}
 use Rattle.e_theorem.specs.declared.statement.Statement.{Statement}
 use Rattle.e_theorem.specs.Statements.{stated, all_stated}
 use Rattle.e_verify.specs.declared.step_state.StepState.{StepState}
-use Rattle.e_verify.specs.inner.StepStates.{with_facts}
+use Rattle.e_verify.specs.inner.StepStates.{with_facts, state_after_make}
 use Rattle.e_verify.specs.Checking.{IsChecked}
 use Rattle.e_literal.specs.Use.{are_arguments, needs_of_use, gives_of_use, is_statement}
 use Rattle.e_literal.proofs.Sorts.{same_obj_self}
@@ -54,7 +54,7 @@ use Rattle.e_verify.specs.Checking.{step_in_state}
 use Rattle.e_deriv.proofs.Keeping.{stay_joined, stay_all}
 use Rattle.e_deriv.proofs.Smallness.{few_of_small, few_objects}
 use Rattle.e_verify.proofs.checking.FormedFacts.{all_formed, joined_formed, all_joined_formed, make_gives_formed, use_gives_formed}
-use Rattle.e_verify.proofs.checking.FirstLines.{checked, cite_lines, hence_lines, make_lines, after_make, apply_lines, after_apply}
+use Rattle.e_verify.proofs.checking.FirstLines.{checked, cite_lines, hence_lines, make_lines, apply_lines, after_apply}
 
 -- ---- a citation
 
@@ -107,9 +107,9 @@ pub make_formed : (form : Construction) (s : Scope) → fits_construction form s
 make_formed form s h = each (all_in_scope s) is_well_formed (λ l k. and_right (all_in_scope s l) (is_well_formed l) k) (needs_of_construction form) (needs_good form s h)
 
 pub checked_make : (before : List StatementView) (form : Construction) (names : List (List ℕ)) (certs : List Cert) (x after : StepState) → fits_construction form x.scope ≡ true → certify_all x.scope x.facts (needs_of_construction form) certs ≡ true
-    → after ≡ after_make form x → IsChecked before (Make form names certs) x after true
+    → after ≡ state_after_make form x → IsChecked before (Make form names certs) x after true
 checked_make before form names certs x after h k e =
-    checked before (Make form names certs) x (after_make form x) after true (λ rest goal. rw (h, k) refl) (make_lines before form names certs x) (stay_all x.facts (gives_of_construction form x.scope))
+    checked before (Make form names certs) x (state_after_make form x) after true (λ rest goal. rw (h, k) refl) (make_lines before form names certs x) (stay_all x.facts (gives_of_construction form x.scope))
     (λ g. all_joined_formed x.facts (gives_of_construction form x.scope) g (make_gives_formed form x.scope h)) e
 
 pub few_new : (s : Scope) (form : Construction) (n : ℕ) → is_small s ≡ true → n ≡ length (sorts_made form) → (s.points + n < 2 ^ 16) × (s.lines + n < 2 ^ 16) × (s.circles + n < 2 ^ 16)

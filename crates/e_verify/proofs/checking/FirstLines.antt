@@ -18,7 +18,7 @@ use Rattle.e_deriv.specs.PlacedSteps.{PlacedStep, placed_steps, theorem_at}
 use Rattle.e_deriv.specs.Parts.{written}
 use Rattle.e_deriv.specs.Certified.{is_certified}
 use Rattle.e_verify.specs.declared.step_state.StepState.{StepState}
-use Rattle.e_verify.specs.inner.StepStates.{with_facts, state_after_superposed}
+use Rattle.e_verify.specs.inner.StepStates.{with_facts, state_after_make, state_after_superposed}
 use Rattle.e_verify.specs.Checking.{step_in_state, steps_in_state, IsChecked, KeepsFirstFacts}
 use Rattle.e_verify.proofs.checking.FormedFacts.{all_formed}
 
@@ -33,11 +33,8 @@ unfolding placed_steps
 hence_lines before lit cert x rest goal = refl
 
 -- after a construction
-abbrev pub after_make : Construction → StepState → StepState
-after_make form x = record { scope = grown x.scope (sorts_made form); facts = joined_all x.facts (gives_of_construction form x.scope) }
-
 pub make_lines : (before : List StatementView) (form : Construction) (names : List (List ℕ)) (certs : List Cert) (x : StepState) (rest : Script) (goal : Goal)
-    → steps_in_state before (Make form names certs rest) x goal ≡ step_in_state (Make form names certs rest) x goal ∷ steps_in_state before rest (after_make form x) goal
+    → steps_in_state before (Make form names certs rest) x goal ≡ step_in_state (Make form names certs rest) x goal ∷ steps_in_state before rest (state_after_make form x) goal
 unfolding placed_steps
 make_lines before form names certs x rest goal = refl
 

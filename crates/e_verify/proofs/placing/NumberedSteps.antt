@@ -30,11 +30,11 @@ use Rattle.e_deriv.proofs.Scripts.{steps_at, steps_script-append, step_script-Ci
 use Rattle.e_deriv.proofs.Keeping.{stay_joined, stay_all}
 use Rattle.e_verify.specs.declared.step_state.StepState.{StepState}
 use Rattle.e_verify.specs.declared.step_state.Checkpoint.{Checkpoint}
-use Rattle.e_verify.specs.inner.StepStates.{with_facts, state_after_superposed, checkpoint_of, restored}
+use Rattle.e_verify.specs.inner.StepStates.{with_facts, state_after_make, state_after_superposed, checkpoint_of, restored}
 use Rattle.e_verify.specs.inner.Numbering.{has_few, HaveFew, IsNumberedStep, places_at}
 use Rattle.e_verify.specs.Checking.{step_in_state, steps_in_state, KeepsFirstFacts}
 use Rattle.e_verify.specs.Numbered.{cert_with_places, certs_with_places, against_with_places, with_places}
-use Rattle.e_verify.proofs.checking.FirstLines.{cite_lines, hence_lines, make_lines, apply_lines, qed_lines, contradiction_lines, cases_lines, claim_lines, superposed_lines, after_make, after_apply}
+use Rattle.e_verify.proofs.checking.FirstLines.{cite_lines, hence_lines, make_lines, apply_lines, qed_lines, contradiction_lines, cases_lines, claim_lines, superposed_lines, after_apply}
 use Rattle.e_verify.proofs.checking.InnerBlocks.{kept_on, restored_is}
 
 -- ---- what is put at one line
@@ -49,7 +49,7 @@ unfolding with_places
 hence_places before lit cert x rest goal = refl
 
 make_places : (before : List StatementView) (form : Construction) (names : List (List ℕ)) (certs : List Cert) (x : StepState) (rest : Script) (goal : Goal)
-    → places_at before (Make form names certs rest) x goal ≡ Make form names (certs_with_places x.facts (construct.needs_of_construction form) certs) (places_at before rest (after_make form x) goal)
+    → places_at before (Make form names certs rest) x goal ≡ Make form names (certs_with_places x.facts (construct.needs_of_construction form) certs) (places_at before rest (state_after_make form x) goal)
 unfolding with_places
 make_places before form names certs x rest goal = refl
 
@@ -116,14 +116,14 @@ hence_numbered before lit cert x after s is end =
       kept = stay_joined x.facts lit;
     })
 
-pub make_numbered : (before : List StatementView) (form : Construction) (names : List (List ℕ)) (certs : List Cert) (x after : StepState) (s : Step) → s ≡ MakeStep form names (certs_with_places x.facts (construct.needs_of_construction form) certs) → after ≡ after_make form x
+pub make_numbered : (before : List StatementView) (form : Construction) (names : List (List ℕ)) (certs : List Cert) (x after : StepState) (s : Step) → s ≡ MakeStep form names (certs_with_places x.facts (construct.needs_of_construction form) certs) → after ≡ state_after_make form x
     → IsNumberedStep before (Make form names certs) x (step_script s) after
 make_numbered before form names certs x after s is end =
     subst (λ (y : StepState). IsNumberedStep before (Make form names certs) x (step_script s) y) (sym end)
     (record {
       same = λ rest goal. make_places before form names certs x rest goal
-          ∙ sym (ap (λ t. step_script t (places_at before rest (after_make form x) goal)) is ∙ step_script-Make form names (certs_with_places x.facts (construct.needs_of_construction form) certs) _);
-      few = λ few rest goal h. few_line before (Make form names certs rest) x goal rest (after_make form x) few (make_lines before form names certs x rest goal) h;
+          ∙ sym (ap (λ t. step_script t (places_at before rest (state_after_make form x) goal)) is ∙ step_script-Make form names (certs_with_places x.facts (construct.needs_of_construction form) certs) _);
+      few = λ few rest goal h. few_line before (Make form names certs rest) x goal rest (state_after_make form x) few (make_lines before form names certs x rest goal) h;
       kept = stay_all x.facts (construct.gives_of_construction form x.scope);
     })
 

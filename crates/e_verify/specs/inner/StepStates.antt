@@ -4,6 +4,8 @@ use Rattle.e_literal.specs.declared.literal.Lit.{Lit}
 use Rattle.e_literal.specs.Facts.{joined_all}
 use Rattle.e_literal.specs.Scopes.{grown}
 use Rattle.e_literal.specs.Use.{StatementView, scope_of}
+use Rattle.e_construct.specs.declared.construction.Construction.{Construction}
+use Rattle.e_construct.specs.Construct.{sorts_made, gives_of_construction}
 use Rattle.e_construct.specs.declared.superpose.Superpose.{Superpose}
 use Rattle.e_construct.specs.Superposing as superposing
 use Rattle.e_deriv.specs.Goal.{Goal, facts_of_statement}
@@ -18,6 +20,14 @@ state_at_start t = record { scope = scope_of t; facts = facts_of_statement t }
 -- with these facts in the place of its own
 abbrev pub with_facts : List Lit → StepState → StepState
 with_facts facts x = record x { facts = facts }
+
+-- after a construction
+abbrev pub state_after_make : Construction → StepState → StepState
+state_after_make form x =
+    record {
+      scope = grown x.scope (sorts_made form);
+      facts = joined_all x.facts (gives_of_construction form x.scope);
+    }
 
 -- what the block of a superposition begins with
 abbrev pub state_after_superposed : Superpose → StepState → StepState

@@ -22,35 +22,35 @@ as_state s facts = record { scope = s; facts = facts }
 
 pub use_of-requires-clause-few : goal.use_of-requires-clause-few
 use_of-requires-clause-few c =
-    let y = c.args.line.now in
+    let y = c.args.application.now in
     let e = sym (ap (option_map (λ v. v.items)) c.in-Some-2.is) ∙ c.in_ok-objects.ensures in
     let f = fits_of c.args.before.now y.theorem y.args.now c.in-Some.statement.now c.in-Some-2.objects.items c.requires c.in-Some.ensures.lookup.3.0 c.in-Some.ensures.lookup.1 e in
     (few_new_of c.args.state.now.scope (stated c.in-Some.statement.now) (sym c.has_room.ensures ∙ c.if-not-has_room.false) f.small).0
 
 pub use_of-requires-clause-points : goal.use_of-requires-clause-points
 use_of-requires-clause-points c =
-    let y = c.args.line.now in
+    let y = c.args.application.now in
     let e = sym (ap (option_map (λ v. v.items)) c.in-Some-2.is) ∙ c.in_ok-objects.ensures in
     let f = fits_of c.args.before.now y.theorem y.args.now c.in-Some.statement.now c.in-Some-2.objects.items c.requires c.in-Some.ensures.lookup.3.0 c.in-Some.ensures.lookup.1 e in
     (few_new_of c.args.state.now.scope (stated c.in-Some.statement.now) (sym c.has_room.ensures ∙ c.if-not-has_room.false) f.small).1
 
 pub use_of-requires-clause-lines : goal.use_of-requires-clause-lines
 use_of-requires-clause-lines c =
-    let y = c.args.line.now in
+    let y = c.args.application.now in
     let e = sym (ap (option_map (λ v. v.items)) c.in-Some-2.is) ∙ c.in_ok-objects.ensures in
     let f = fits_of c.args.before.now y.theorem y.args.now c.in-Some.statement.now c.in-Some-2.objects.items c.requires c.in-Some.ensures.lookup.3.0 c.in-Some.ensures.lookup.1 e in
     (few_new_of c.args.state.now.scope (stated c.in-Some.statement.now) (sym c.has_room.ensures ∙ c.if-not-has_room.false) f.small).2
 
 pub use_of-requires-clause-circles : goal.use_of-requires-clause-circles
 use_of-requires-clause-circles c =
-    let y = c.args.line.now in
+    let y = c.args.application.now in
     let e = sym (ap (option_map (λ v. v.items)) c.in-Some-2.is) ∙ c.in_ok-objects.ensures in
     let f = fits_of c.args.before.now y.theorem y.args.now c.in-Some.statement.now c.in-Some-2.objects.items c.requires c.in-Some.ensures.lookup.3.0 c.in-Some.ensures.lookup.1 e in
     (few_new_of c.args.state.now.scope (stated c.in-Some.statement.now) (sym c.has_room.ensures ∙ c.if-not-has_room.false) f.small).3
 
 pub grown-state-requires-clause-points : goal.grown-state-requires-clause-points
 grown-state-requires-clause-points c =
-    let y = c.args.line.now in
+    let y = c.args.application.now in
     let s = c.args.state.now.scope in
     let e = sym (ap (option_map (λ v. v.items)) c.in-Some-2.is) ∙ c.in_ok-objects.ensures in
     let f = fits_of c.args.before.now y.theorem y.args.now c.in-Some.statement.now c.in-Some-2.objects.items c.requires c.in-Some.ensures.lookup.3.0 c.in-Some.ensures.lookup.1 e in
@@ -58,7 +58,7 @@ grown-state-requires-clause-points c =
 
 pub grown-state-requires-clause-lines : goal.grown-state-requires-clause-lines
 grown-state-requires-clause-lines c =
-    let y = c.args.line.now in
+    let y = c.args.application.now in
     let s = c.args.state.now.scope in
     let e = sym (ap (option_map (λ v. v.items)) c.in-Some-2.is) ∙ c.in_ok-objects.ensures in
     let f = fits_of c.args.before.now y.theorem y.args.now c.in-Some.statement.now c.in-Some-2.objects.items c.requires c.in-Some.ensures.lookup.3.0 c.in-Some.ensures.lookup.1 e in
@@ -66,15 +66,15 @@ grown-state-requires-clause-lines c =
 
 pub grown-state-requires-clause-circles : goal.grown-state-requires-clause-circles
 grown-state-requires-clause-circles c =
-    let y = c.args.line.now in
+    let y = c.args.application.now in
     let s = c.args.state.now.scope in
     let e = sym (ap (option_map (λ v. v.items)) c.in-Some-2.is) ∙ c.in_ok-objects.ensures in
     let f = fits_of c.args.before.now y.theorem y.args.now c.in-Some.statement.now c.in-Some-2.objects.items c.requires c.in-Some.ensures.lookup.3.0 c.in-Some.ensures.lookup.1 e in
     subst (λ n. s.circles + n < 2 ^ 16) (sym (ap length c.items-2.ensures)) (few_new_of s (stated c.in-Some.statement.now) (sym c.has_room.ensures ∙ c.if-not-has_room.false) f.small).3
 
-pub returns : goal.returns
-returns c =
-    let y = c.args.line.now in
+pub returns-in-Ok : goal.returns-in-Ok
+returns-in-Ok c =
+    let y = c.args.application.now in
     let before = all_stated c.args.before.now in
     let t = stated c.in-Some.statement.now in
     let x = c.args.state.now in
@@ -92,5 +92,5 @@ returns c =
     (ap (λ as1. ApplyStep y.theorem as1 c.new-names.result placed) (c.new-args.ensures ∙ c.in_ok-from_slice.ensures.items)
     ∙ ap (λ ns. ApplyStep y.theorem args ns placed) (c.new-names.ensures ∙ c.in_ok-from_slice-2.ensures.items)
     ∙ ap (ApplyStep y.theorem args names) (c.in_ok-certs.ensures ∙ ap (λ ls. certs_with_places x.facts ls y.certs.now) needs))
-    (c.in_ok-assume_all.ensures ∙ ap (λ (s : Scope). as_state s (joined_all x.facts c.items-3.result.now)) scope ∙ ap (λ ls. as_state (grown x.scope t.made) (joined_all x.facts ls)) gives
+    (c.in-Ok-assume_all.ensures ∙ ap (λ (s : Scope). as_state s (joined_all x.facts c.items-3.result.now)) scope ∙ ap (λ ls. as_state (grown x.scope t.made) (joined_all x.facts ls)) gives
     ∙ ap (λ u. after_apply u (written args) x) (sym there))
