@@ -73,7 +73,7 @@ pub fn match_blanks(
     if let Some(metric_facts) = context.solved() {
         return matched_with(alloc, context, metric_facts, statement, pattern);
     }
-    context.good();
+    context.has_limited_facts();
     let facts = context.facts();
     let metric_facts = MetricFacts::of(alloc, facts)?;
     let filled = matched_with(alloc, context, &metric_facts, statement, pattern);
@@ -95,7 +95,7 @@ fn matched_with(
     requires few { length statement.now.declared < 2 ^ 16 }
     ensures { IfOk result (FilledIs (stated statement.now) context.now pattern.now) }
 {
-    context.good();
+    context.has_limited_facts();
     let facts = context.facts();
     let prepared = prepare(alloc, facts, metric_facts)?;
     let filled = matched_by(alloc, context, metric_facts, &prepared, statement, pattern);

@@ -53,7 +53,7 @@ pub fn first_choices(
     if let Some(metric_facts) = context.solved() {
         return choices_with(alloc, context, metric_facts, statement, pattern, most);
     }
-    context.good();
+    context.has_limited_facts();
     let facts = context.facts();
     let metric_facts = MetricFacts::of(alloc, facts)?;
     let answer = choices_with(alloc, context, &metric_facts, statement, pattern, most);
@@ -76,7 +76,7 @@ fn choices_with(
     requires few { length statement.now.declared < 2 ^ 16 }
     ensures { IfOk result (FirstAre (stated statement.now) context.now pattern.now most) }
 {
-    context.good();
+    context.has_limited_facts();
     let facts = context.facts();
     let prepared = prepare(alloc, facts, metric_facts)?;
     let answer = choices_by(

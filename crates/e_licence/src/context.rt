@@ -90,7 +90,7 @@ impl Context {
 
     /// The facts are in scope and well formed, and their terms are few. It does nothing: callers
     /// that need this of the context have it from the contract.
-    pub fn good(&self)
+    pub fn has_limited_facts(&self)
         ensures { IsTrue (are_limited_facts self.now.scope self.now.facts) }
     {
         let _ = &self.facts;
@@ -211,7 +211,7 @@ impl Context {
         ensures refuted { IfOk result (IsAnswerAgainst self.old) }
         ensures same { self.new ≡ self.old }
     {
-        self.good();
+        self.has_limited_facts();
         if let Some(lit) = clash(alloc, &self.facts)? {
             return Ok(Refuted::Yes(Against::Clash { lit }));
         }

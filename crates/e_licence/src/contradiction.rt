@@ -36,7 +36,7 @@ pub enum Refuted {
 pub fn against(alloc: Global, context: &Context) -> Result<Refuted, AllocError>
     ensures { IfOk result (IsAnswerAgainst context.now) }
 {
-    context.good();
+    context.has_limited_facts();
     if let Some(lit) = clash(alloc, context.facts())? {
         return Ok(Refuted::Yes(Against::Clash { lit }));
     }
@@ -58,7 +58,7 @@ pub(crate) fn by_arithmetic(
     ensures refuted { IfOk result (IsAnswerAgainst context.now) }
     ensures metric_facts { AreFronts context.now.facts metric_facts.new }
 {
-    context.good();
+    context.has_limited_facts();
     let facts = context.facts();
     match metric_facts.absurd_in_turn(alloc, facts)? {
         Metric::Yes(cert) => Ok(Refuted::Yes(Against::Metric(cert))),

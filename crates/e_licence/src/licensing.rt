@@ -63,7 +63,7 @@ pub(crate) fn licence_in_turn(
     ensures licence { IfOk result (IsLicence context.now lit.now) }
     ensures metric_facts { AreFronts context.now.facts metric_facts.new }
 {
-    context.good();
+    context.has_limited_facts();
     let facts = context.facts();
     if kind(lit).is_none() {
         return given_in_turn(alloc, context, metric_facts, lit);
@@ -87,7 +87,7 @@ fn given_in_turn(
     ensures licence { IfOk result (IsLicence context.now lit.now) }
     ensures metric_facts { AreFronts context.now.facts metric_facts.new }
 {
-    context.good();
+    context.has_limited_facts();
     let scope = context.scope();
     let facts = context.facts();
     if let Some(cert) = find_by_facts(alloc, scope, facts, lit)? {
@@ -138,7 +138,7 @@ fn by_sums(
     if kind(lit).is_none() {
         return diagram(alloc, context, metric_facts, prepared, lit);
     }
-    context.good();
+    context.has_limited_facts();
     let facts = context.facts();
     let answer = metric_facts.follows(alloc, facts, lit)?;
     metric(alloc, context, metric_facts, prepared, lit, answer)
@@ -159,7 +159,7 @@ fn diagram(
     requires diagram { IsFalse (is_metric lit.now) }
     ensures { IfOk result (IsLicence context.now lit.now) }
 {
-    context.good();
+    context.has_limited_facts();
     let scope = context.scope();
     let facts = context.facts();
     match find_prepared(alloc, scope, facts, metric_facts, prepared, lit)? {
@@ -187,7 +187,7 @@ fn metric(
     requires metric { IsTrue (is_metric lit.now) }
     ensures { IfOk result (IsLicence context.now lit.now) }
 {
-    context.good();
+    context.has_limited_facts();
     let scope = context.scope();
     let facts = context.facts();
     match answer {

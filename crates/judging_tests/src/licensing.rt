@@ -201,7 +201,7 @@ fn a_context_grows(rt: HostRuntime) -> Result<(), Fail> {
             assert_eq!(rt; first, Added::Added);
             assert_eq!(rt; second, Added::Present);
             context.release();
-            context.good();
+            context.has_limited_facts();
             assert_eq!(rt; context.scope().points, 1);
             assert_eq!(rt; context.into_facts().len(), 0);
             Ok(())

@@ -7,4 +7,4 @@ use Rattle.e_licence.proofs.blanks.match_blanks.Goals as goal
 pub of-requires-clause-facts : goal.of-requires-clause-facts
 of-requires-clause-facts c =
     let b = c.args.context.now in
-    ap (list_all is_well_formed) c.facts-facts.ensures ∙ well_formed b.scope b.facts c.good.ensures
+    ap (list_all is_well_formed) c.facts-facts.ensures ∙ well_formed b.scope b.facts c.has_limited_facts.ensures

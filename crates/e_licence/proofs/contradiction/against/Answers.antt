@@ -7,7 +7,7 @@ use Rattle.e_licence.proofs.contradiction.against.Goals as goal
 pub returns-in-Some : goal.returns-in-Some
 returns-in-Some c =
     let found : IsClashOf c.facts.result.now c.in_ok-lit.field-0 = c.in_ok-lit.ensures in
-    by_clash c.args.context.now c.in-Some.lit c.good.ensures
+    by_clash c.args.context.now c.in-Some.lit c.has_limited_facts.ensures
     (subst (λ facts. IsClashing facts c.in-Some.lit) c.facts.ensures (subst (IsClashOf c.facts.result.now) c.in-Some.is found))
 
 pub by_arithmetic-refuted-requires-clause-no_clash : goal.by_arithmetic-refuted-requires-clause-no_clash

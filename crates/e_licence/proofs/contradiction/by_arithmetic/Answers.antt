@@ -14,18 +14,18 @@ absurd_in_turn-requires-clause-fronts c = subst (λ fs. AreFronts fs c.args.metr
 pub absurd_in_turn-requires-clause-facts : goal.absurd_in_turn-requires-clause-facts
 absurd_in_turn-requires-clause-facts c =
     let b = c.args.context.now in
-    ap (list_all is_well_formed) c.facts-facts.ensures ∙ well_formed b.scope b.facts c.good.ensures
+    ap (list_all is_well_formed) c.facts-facts.ensures ∙ well_formed b.scope b.facts c.has_limited_facts.ensures
 
 pub absurd_in_turn-requires-clause-few : goal.absurd_in_turn-requires-clause-few
 absurd_in_turn-requires-clause-few c =
     let b = c.args.context.now in
-    subst (λ fs. length (terms_of_lits fs) ≤ 1100) (sym c.facts-facts.ensures) (few_terms b.scope b.facts c.good.ensures)
+    subst (λ fs. length (terms_of_lits fs) ≤ 1100) (sym c.facts-facts.ensures) (few_terms b.scope b.facts c.has_limited_facts.ensures)
 
 pub returns-in-Yes-clause-refuted : goal.returns-in-Yes-clause-refuted
 returns-in-Yes-clause-refuted c =
     let b = c.args.context.now in
     let answer : IsMetricAnswer b.facts None c.in_ok-cert.field-0 = subst (λ fs. IsMetricAnswer fs None c.in_ok-cert.field-0) c.facts-facts.ensures c.in_ok-cert.ensures.answer in
-    by_sums b c.in-Yes.cert c.good.ensures (subst (IsMetricAnswer b.facts None) c.in-Yes.is answer)
+    by_sums b c.in-Yes.cert c.has_limited_facts.ensures (subst (IsMetricAnswer b.facts None) c.in-Yes.is answer)
 
 pub returns-in-TooWide-clause-refuted : goal.returns-in-TooWide-clause-refuted
 returns-in-TooWide-clause-refuted c =

@@ -7,4 +7,4 @@ use Rattle.e_licence.proofs.licensing.by_sums.Goals as goal
 pub follows-requires-clause-facts : goal.follows-requires-clause-facts
 follows-requires-clause-facts c =
     let b = c.args.context.now in
-    ap (list_all is_well_formed) c.facts-facts.ensures ∙ well_formed b.scope b.facts c.good.ensures
+    ap (list_all is_well_formed) c.facts-facts.ensures ∙ well_formed b.scope b.facts c.has_limited_facts.ensures

@@ -7,9 +7,9 @@ use Rattle.e_licence.proofs.licensing.given_in_turn.Goals as goal
 pub bring_all-requires-clause-facts : goal.bring_all-requires-clause-facts
 bring_all-requires-clause-facts c =
     let b = c.args.context.now in
-    ap (list_all is_well_formed) c.facts-facts.ensures ∙ well_formed b.scope b.facts c.good.ensures
+    ap (list_all is_well_formed) c.facts-facts.ensures ∙ well_formed b.scope b.facts c.has_limited_facts.ensures
 
 pub prepare-requires-clause-facts : goal.prepare-requires-clause-facts
 prepare-requires-clause-facts c =
     let b = c.args.context.now in
-    ap (list_all is_well_formed) c.facts-facts.ensures ∙ well_formed b.scope b.facts c.good.ensures
+    ap (list_all is_well_formed) c.facts-facts.ensures ∙ well_formed b.scope b.facts c.has_limited_facts.ensures

@@ -11,7 +11,7 @@ use Rattle.e_licence.proofs.licensing.licence_in_turn.Goals as goal
 pub certificate_by_kind-requires-clause-facts : goal.certificate_by_kind-requires-clause-facts
 certificate_by_kind-requires-clause-facts c =
     let b = c.args.context.now in
-    ap (list_all is_well_formed) c.facts-facts.ensures ∙ well_formed b.scope b.facts c.good.ensures
+    ap (list_all is_well_formed) c.facts-facts.ensures ∙ well_formed b.scope b.facts c.has_limited_facts.ensures
 
 pub returns-in-Some-clause-licence : goal.returns-in-Some-clause-licence
 returns-in-Some-clause-licence c =
@@ -20,4 +20,4 @@ returns-in-Some-clause-licence c =
     let facts = c.facts-facts.result.now in
     let metric : is_metric l ≡ true = search rules in
     let answer : IsMetricCertificate facts (Some l) c.in-Some.cert = subst (λ o. IfSome o (IsMetricCertificate facts (Some l))) c.in-Some.is c.in_ok-cert.ensures.cert in
-    by_sums b l c.in-Some.cert c.good.ensures c.requires.lit c.requires.not_fact metric (subst (λ fs. IsMetricCertificate fs (Some l) c.in-Some.cert) c.facts-facts.ensures answer)
+    by_sums b l c.in-Some.cert c.has_limited_facts.ensures c.requires.lit c.requires.not_fact metric (subst (λ fs. IsMetricCertificate fs (Some l) c.in-Some.cert) c.facts-facts.ensures answer)

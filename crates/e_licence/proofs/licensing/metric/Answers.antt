@@ -7,7 +7,7 @@ pub returns-in-Yes : goal.returns-in-Yes
 returns-in-Yes c =
     let b = c.args.context.now in
     let l = c.args.lit.now in
-    by_sums b l c.in-Yes.cert c.good.ensures c.requires.lit c.requires.not_fact c.requires.metric (subst (IsMetricAnswer b.facts (Some l)) c.in-Yes.is c.requires.answer)
+    by_sums b l c.in-Yes.cert c.has_limited_facts.ensures c.requires.lit c.requires.not_fact c.requires.metric (subst (IsMetricAnswer b.facts (Some l)) c.in-Yes.is c.requires.answer)
 
 pub returns-in-TooWide-2 : goal.returns-in-TooWide-2
 returns-in-TooWide-2 c =

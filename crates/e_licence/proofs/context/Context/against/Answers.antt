@@ -8,5 +8,5 @@ pub returns-in-Some-clause-refuted : goal.returns-in-Some-clause-refuted
 returns-in-Some-clause-refuted c =
     let facts = c.self.inside.facts in
     let found : IsClashOf facts c.in_ok-lit.field-0 = c.in_ok-lit.ensures in
-    by_clash c.args.self.now c.in-Some.lit c.good.ensures
+    by_clash c.args.self.now c.in-Some.lit c.has_limited_facts.ensures
     (subst (λ fs. IsClashing fs c.in-Some.lit) (ap (λ (b : Basis). b.facts) c.self.view_is) (subst (IsClashOf facts) c.in-Some.is found))
