@@ -1,5 +1,5 @@
 //! Licensing an application of an earlier theorem.
-ghost use Rattle.std.specs.Prelude.{◌≡◌, List, IfOk, IfErr, IsTrue};
+ghost use Rattle.std.specs.Prelude.{◌≡◌, List, IfOk, IfErr, OnOk, IsTrue};
 ghost use Rattle.std.specs.Prelude.{IsFalse, MatchOption, Some, map};
 ghost use Rattle.std.specs.List.{list_all};
 ghost use Rattle.e_literal.specs.Use.{StatementView, are_arguments, needs_of_use, gives_of_use};
@@ -15,6 +15,7 @@ ghost use Rattle.e_deriv.specs.Parts.{has_no_blank};
 ghost use Rattle.e_clause.specs.declared.cert.Version.TheVariants as version;
 ghost use Rattle.e_clause.specs.Versions.{is_cert_of};
 ghost use Rattle.e_prove.specs.inner.Applications.{CanApply, IsUse};
+ghost use Rattle.e_prove.specs.inner.StepStates.{after_apply};
 ghost use Rattle.e_prove.specs.inner.StopsOfSteps.{StepStopsAmong, StepStopsFilling};
 ghost use Rattle.e_prove.specs.inner.StopsOfSteps.{StepStopsApplying, UnlessNoMemory};
 ghost use Rattle.e_prove.specs.inner.StopsOfSteps;
@@ -73,33 +74,40 @@ pub fn apply(
 {
     let names = Vec::from_slice(alloc, application.names)?;
     let used = used(alloc, statement, application.args, &mut state.context)?;
-    let args = match without_blanks(alloc, used.args.items()) {
-        Ok(args) => args,
+    match take_use(alloc, application, statement, &used, state) {
+        Ok(args) => Ok(Step::Apply {
+            theorem: application.theorem,
+            args,
+            names: Items::new(names),
+            certs: Items::new(used.certs),
+        }),
         Err(_) => {
             mem::drop(used);
-            return Err(StepStop::NoMemory);
-        }
-    };
-    match state.grow(statement.made.items(), application.names) {
-        Ok(()) => {}
-        Err(_) => {
-            mem::drop(used);
-            return Err(StepStop::NoMemory);
+            Err(StepStop::NoMemory)
         }
     }
-    match state.join_equal(alloc, used.gives.items()) {
-        Ok(()) => {}
-        Err(_) => {
-            mem::drop(used);
-            return Err(StepStop::NoMemory);
-        }
-    }
-    Ok(Step::Apply {
-        theorem: application.theorem,
-        args,
-        names: Items::new(names),
-        certs: Items::new(used.certs),
-    })
+}
+
+/// The made objects come into scope, and the shown literals are facts; hands out the arguments as
+/// the step has them. It fails only out of memory; no clause says what holds then.
+fn take_use(
+    alloc: Global,
+    application: &Application,
+    statement: &Statement,
+    used: &Use,
+    state: &mut StepState,
+) -> Result<Items<Option<Obj>>, AllocError>
+    requires apply { CanApply (stated statement.now) application.now.args.now state.old.context }
+    requires used { IsUse (stated statement.now) application.now.args.now state.old.context
+        used.now }
+    ensures args { IfOk result (λ entries. entries ≡ map Some used.now.args) }
+    ensures after { OnOk result (state.new
+        ≡ after_apply (stated statement.now) used.now.args application.now.names.now state.old) }
+{
+    let args = without_blanks(alloc, used.args.items())?;
+    state.grow(statement.made.items(), application.names)?;
+    state.join_equal(alloc, used.gives.items())?;
+    Ok(args)
 }
 
 /// The application of a statement, where each of its given literals is allowed.
