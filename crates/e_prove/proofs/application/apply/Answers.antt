@@ -30,6 +30,6 @@ returns-in-Ok-clause-ok c before old e =
     let y = c.args.application.now in
     let t = stated c.args.statement.now in
     let u = c.in_ok-used.used in
-    licensed_apply before y.theorem y.args.now c.in-Ok.args y.names.now c.new.result old c.new-2.result t x _ u e c.in_ok-used.ensures.ok
-    c.in-Ok.ensures.args (c.new.ensures ∙ c.in_ok-names.ensures.items) c.new-2.ensures
+    licensed_apply before y.theorem y.args.now c.in-Ok.args y.names.now c.new.result old c.new-in-Ok.result t x _ u e c.in_ok-used.ensures.ok
+    c.in-Ok.ensures.args (c.new.ensures ∙ c.in_ok-names.ensures.items) c.new-in-Ok.ensures
     (c.in-Ok.ensures.after ∙ ap (λ (b : Basis). after_apply t u.args y.names.now (record x { context = b })) c.in_ok-used.ensures.kept)

@@ -29,7 +29,7 @@ returns-in-Ok-clause-ok c before written =
     let form = c.args.form.now in
     let names = c.args.names.now in
     let certs = c.in_ok-certs.certs.items in
-    licensed_make before form c.in_ok-derived.derived names c.new.result written certs c.new-2.result c.in_ok-needs.needs.items x _
-    c.in_ok-derived.ensures (c.new.ensures ∙ c.in_ok-copied.ensures.items) c.new-2.ensures c.in_ok-needs.ensures
+    licensed_make before form c.in_ok-derived.derived names c.new.result written certs c.new-in-Ok.result c.in_ok-needs.needs.items x _
+    c.in_ok-derived.ensures (c.new.ensures ∙ c.in_ok-copied.ensures.items) c.new-in-Ok.ensures c.in_ok-needs.ensures
     (subst (λ ls. IsTrue (certify_all x.context.scope x.context.facts ls certs)) c.deref.ensures.value c.in_ok-certs.ensures.ok) c.in_ok-certs.ensures.written
     (c.in-Ok.ensures ∙ ap (λ (b : Basis). after_make form names (record x { context = b })) c.in_ok-certs.ensures.kept)

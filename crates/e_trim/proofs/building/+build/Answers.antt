@@ -123,9 +123,9 @@ build_close-returns-in-Ok-boxed t c =
     let pile = c.args.flags.now.items in
     let over = c.build_block.new.flags.items in
     let left = c.build_block-in-Cases.new.flags.items in
-    let one = boxed (all_stated c.args.before.now) c.args.kept.now c.deref.result.now c.in-Cases.first c.in-Ok-boxed.field-0.0 c.in_ok-first-in-Cases.first c.args.scope c.args.scope pile over c.deref.ensures c.in-Ok-boxed.ensures.first refl c.in_ok-first-in-Cases.ensures in
-    let other = boxed (all_stated c.args.before.now) c.args.kept.now c.deref-in-Cases.result.now c.in-Cases.second c.in-Ok-boxed.field-0.1 c.in-Ok.second c.args.scope c.args.scope over left c.deref-in-Cases.ensures c.in-Ok-boxed.ensures.second refl c.in-Ok.ensures in
-    cases_built (all_stated c.args.before.now) c.args.kept.now c.args.close.now c.in-Cases.lit c.in_ok-lit-in-Cases.lit c.in-Cases.first c.in-Cases.second c.in-Ok-boxed.field-0.0 c.in-Ok-boxed.field-0.1 c.args.scope pile over left c.in-Cases.is c.in_ok-lit-in-Cases.ensures one other
+    let one = boxed (all_stated c.args.before.now) c.args.kept.now c.deref.result.now c.in-Cases.first c.in-Ok-boxed.first c.in_ok-first-in-Cases.first c.args.scope c.args.scope pile over c.deref.ensures c.in-Ok-boxed.ensures.first refl c.in_ok-first-in-Cases.ensures in
+    let other = boxed (all_stated c.args.before.now) c.args.kept.now c.deref-in-Cases.result.now c.in-Cases.second c.in-Ok-boxed.second c.in-Ok.second c.args.scope c.args.scope over left c.deref-in-Cases.ensures c.in-Ok-boxed.ensures.second refl c.in-Ok.ensures in
+    cases_built (all_stated c.args.before.now) c.args.kept.now c.args.close.now c.in-Cases.lit c.in_ok-lit-in-Cases.lit c.in-Cases.first c.in-Cases.second c.in-Ok-boxed.first c.in-Ok-boxed.second c.args.scope pile over left c.in-Cases.is c.in_ok-lit-in-Cases.ensures one other
 
 -- ---- a step
 

@@ -2,22 +2,23 @@ use Rattle.std.proofs.Common.{◌≤◌, length, sym, ap, ◌∙◌, subst, arit
 use Rattle.e_literal.specs.declared.object.Scope.{Scope}
 use Rattle.e_construct.specs.Construct.{gives_of_construction}
 use Rattle.e_construct.proofs.Sizes.{few_made}
+use Rattle.e_prove.proofs.ReachedSteps.{on_ok_map}
 use Rattle.e_prove.proofs.StepStates.{made_after, good_given}
 use Rattle.e_prove.proofs.step_state.StepState.make.Goals as goal
 
 pub gives-requires-clause-points : goal.gives-requires-clause-points
 gives-requires-clause-points c =
-    let same = ap (λ (s : Scope). s.points) c.scope.ensures in
+    let same = ap (λ (s : Scope). s.points) c.scope-scope.ensures in
     omega (arith, same, c.requires.room.points)
 
 pub gives-requires-clause-lines : goal.gives-requires-clause-lines
 gives-requires-clause-lines c =
-    let same = ap (λ (s : Scope). s.lines) c.scope.ensures in
+    let same = ap (λ (s : Scope). s.lines) c.scope-scope.ensures in
     omega (arith, same, c.requires.room.lines)
 
 pub gives-requires-clause-circles : goal.gives-requires-clause-circles
 gives-requires-clause-circles c =
-    let same = ap (λ (s : Scope). s.circles) c.scope.ensures in
+    let same = ap (λ (s : Scope). s.circles) c.scope-scope.ensures in
     omega (arith, same, c.requires.room.circles)
 
 pub grow-requires-clause-points : goal.grow-requires-clause-points
@@ -39,10 +40,11 @@ pub join-requires : goal.join-requires
 join-requires c =
     let form = c.args.form.now in
     good_given form c.args.self.now.context c.grow.new.self.context c.made.result.now c.in_ok-given.given.items c.made.ensures
-    (c.in_ok-given.ensures ∙ ap (gives_of_construction form) c.scope.ensures) c.in_ok-grow.ensures.scope c.requires.after
+    (c.in_ok-given.ensures ∙ ap (gives_of_construction form) c.scope-scope.ensures) c.in_ok-grow.ensures.scope c.requires.after
 
 pub returns : goal.returns
-returns c h =
+returns c =
     let form = c.args.form.now in
-    made_after form c.args.names.now c.args.self.now c.grow.new.self c.join.new.self c.made.result.now c.in_ok-given.given.items c.made.ensures
-    (c.in_ok-given.ensures ∙ ap (gives_of_construction form) c.scope.ensures) c.in_ok-grow.ensures.scope c.in_ok-grow.ensures.names (c.join.ensures h)
+    on_ok_map _ _ c.join.result
+    (made_after form c.args.names.now c.args.self.now c.grow.new.self c.join.new.self c.made.result.now c.in_ok-given.given.items c.made.ensures
+    (c.in_ok-given.ensures ∙ ap (gives_of_construction form) c.scope-scope.ensures) c.in_ok-grow.ensures.scope c.in_ok-grow.ensures.names) c.join.ensures

@@ -1,12 +1,13 @@
 use Rattle.std.proofs.Common.{◌≤◌, length, sym, ap, ◌∙◌, subst, arith}
 use Rattle.e_literal.specs.declared.object.Scope.{Scope}
 use Rattle.e_construct.specs.Superposing as superposing
+use Rattle.e_prove.proofs.ReachedSteps.{on_ok_map}
 use Rattle.e_prove.proofs.StepStates.{superposed_after, good_superposed}
 use Rattle.e_prove.proofs.step_state.StepState.superpose.Goals as goal
 
 pub gives-requires : goal.gives-requires
 gives-requires c =
-    let same = ap (λ (s : Scope). s.points) c.scope.ensures in
+    let same = ap (λ (s : Scope). s.points) c.scope-scope.ensures in
     omega (arith, same, c.requires.room.points)
 
 pub grow-requires-clause-points : goal.grow-requires-clause-points
@@ -28,10 +29,11 @@ pub join-requires : goal.join-requires
 join-requires c =
     let form = c.args.form.now in
     good_superposed form c.args.self.now.context c.grow.new.self.context c.made.result.now c.in_ok-given.given.items c.made.ensures
-    (c.in_ok-given.ensures ∙ ap (superposing.gives_of_superposition form) c.scope.ensures) c.in_ok-grow.ensures.scope c.requires.after
+    (c.in_ok-given.ensures ∙ ap (superposing.gives_of_superposition form) c.scope-scope.ensures) c.in_ok-grow.ensures.scope c.requires.after
 
 pub returns : goal.returns
-returns c h =
+returns c =
     let form = c.args.form.now in
-    superposed_after form c.args.names.now c.args.self.now c.grow.new.self c.join.new.self c.made.result.now c.in_ok-given.given.items c.made.ensures
-    (c.in_ok-given.ensures ∙ ap (superposing.gives_of_superposition form) c.scope.ensures) c.in_ok-grow.ensures.scope c.in_ok-grow.ensures.names (c.join.ensures h)
+    on_ok_map _ _ c.join.result
+    (superposed_after form c.args.names.now c.args.self.now c.grow.new.self c.join.new.self c.made.result.now c.in_ok-given.given.items c.made.ensures
+    (c.in_ok-given.ensures ∙ ap (superposing.gives_of_superposition form) c.scope-scope.ensures) c.in_ok-grow.ensures.scope c.in_ok-grow.ensures.names) c.join.ensures
