@@ -74,8 +74,9 @@ impl StepState {
     {
         let scope = self.scope;
         let given = form.gives(alloc, scope)?;
+        self.facts.join(given)?;
         self.scope = grown(scope, form.made());
-        self.facts.join(given)
+        Ok(())
     }
 
     /// The copied points of a superposition come into scope, and what it gives are facts.
@@ -85,8 +86,9 @@ impl StepState {
     {
         let scope = self.scope;
         let given = form.gives(alloc, scope)?;
+        self.facts.join(given)?;
         self.scope = grown(scope, form.made());
-        self.facts.join(given)
+        Ok(())
     }
 
     /// The literals are facts.

@@ -72,8 +72,8 @@ grown-state-requires-clause-circles c =
     let f = fits_of c.args.before.now y.theorem y.args.now c.in-Some.statement.now c.in-Some-2.objects.items c.requires c.in-Some.ensures.lookup.3.0 c.in-Some.ensures.lookup.1 e in
     subst (λ n. s.circles + n < 2 ^ 16) (sym (ap length c.items-2.ensures)) (few_new_of s (stated c.in-Some.statement.now) (sym c.has_room.ensures ∙ c.if-not-has_room.false) f.small).3
 
-pub returns-in-Ok : goal.returns-in-Ok
-returns-in-Ok c =
+pub returns-in-Ok-assume_all : goal.returns-in-Ok-assume_all
+returns-in-Ok-assume_all c =
     let y = c.args.application.now in
     let before = all_stated c.args.before.now in
     let t = stated c.in-Some.statement.now in

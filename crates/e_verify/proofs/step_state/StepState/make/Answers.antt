@@ -22,8 +22,8 @@ pub grown-self-requires-clause-circles : goal.grown-self-requires-clause-circles
 grown-self-requires-clause-circles c = (few_new c.args.self.now.scope c.args.form.now (length c.made.result.now) c.requires (ap length c.made.ensures)).2
 
 pub returns : goal.returns
-returns c h =
+returns c =
     let x = c.args.self.now in
-    let facts = c.join.ensures h ∙ ap (joined_all x.facts) c.in_ok-given.ensures in
+    let facts = c.in_ok-join.ensures ∙ ap (joined_all x.facts) c.in_ok-given.ensures in
     let scope = c.grown-self.ensures ∙ ap (grown x.scope) c.made.ensures in
     ap (λ (s : Scope). as_state s c.join.new.self) scope ∙ ap (as_state (grown x.scope (sorts_made c.args.form.now))) facts
