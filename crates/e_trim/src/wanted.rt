@@ -6,12 +6,11 @@ ghost use Rattle.e_literal.specs.declared.object.Sort.TheVariants.{Point as Poin
 ghost use Rattle.e_literal.specs.declared.object.Sort.TheVariants.{Line as LineSort};
 ghost use Rattle.e_literal.specs.declared.object.Sort.TheVariants.{Circle as CircleSort};
 ghost use Rattle.e_literal.specs.Literal.{obj, objects_of_atom, objects_of_sum, objects_of_term};
-ghost use Rattle.e_literal.specs.Rename.{same_obj};
 ghost use Rattle.e_trim.specs.Looked.{no_wants, both, looked_up, needed, of_lit, objects_of_lits};
 ghost use Rattle.e_trim.specs.Trimmed.{wants_outside, is_needed};
 
 use crate::step_state::StepState;
-use e_literal::{Atom, Lit, Mono, Obj, Sort, Term, copy, count, same};
+use e_literal::{Atom, Lit, Mono, Obj, Sort, Term, copy, count, is_same_object, same};
 use std::alloc::{AllocError, Global};
 use std::marker::Model;
 use std::mem;
@@ -221,12 +220,6 @@ impl Wanted {
     pub fn needs(&self, object: Obj) -> bool
         ensures { result ≡ is_needed self.now object }
     {
-        self.objects.iter().any(|o| is_same(object, *o))
+        self.objects.iter().any(|o| is_same_object(object, *o))
     }
-}
-
-fn is_same(a: Obj, b: Obj) -> bool
-    ensures { result ≡ same_obj a b }
-{
-    a.sort == b.sort && a.num == b.num
 }
