@@ -1,13 +1,11 @@
 -- The objects for variables.
-use Rattle.std.proofs.Common.{◌≡◌, List, [], ◌∷◌, ◌++◌, refl, ap, ◌∙◌, None, true, false, cond}
+use Rattle.std.proofs.Common.{◌≡◌, ◌⊎◌, List, [], ◌∷◌, ◌++◌, map, inl, inr, refl, ap, ◌∙◌, None, true, false, cond}
 use Rattle.e_literal.specs.declared.object.Obj.{Obj}
 use Rattle.e_literal.specs.Rename.{image_in, paired, renamed}
-use Rattle.std.proofs.Common.{◌≤◌, arith, length, map}
 use Rattle.e_literal.specs.Scopes.{same_sort}
 use Rattle.e_literal.specs.declared.literal.Lit.{Lit}
 use Rattle.e_construct.specs.Shapes.{ShapeRow}
-use Rattle.e_construct.specs.Construct.{of_sort, sorts_of, needs_of_avoided, argument, needs_of_row}
-use Rattle.e_literal.specs.declared.object.Scope.{Scope}
+use Rattle.e_construct.specs.Construct.{of_sort, needs_of_avoided, argument, needs_of_row}
 use Rattle.e_literal.specs.declared.object.Sort.{Sort}
 use Rattle.e_literal.proofs.WithImages.{image_in_first, image_in_second}
 use Rattle.std.proofs.lemmas.List.{append-nil}
@@ -26,13 +24,12 @@ pub ruleset namings = (common_steps, image_in_first, image_in_second)
 
 pub ruleset joining = (common_steps, append-nil)
 
--- without objects nothing has an image
-pub no_image : (ls os : List Obj) (o : Obj) → length os ≡ 0 → image_in (paired ls os) o ≡ None
-no_image [] os o k = refl
-no_image (l ∷ ls) [] o k = refl
-no_image (l ∷ ls) (x ∷ os) o k = absurd (omega (arith, k))
-
-pub ruleset empties = (common_steps, no_image)
+-- without variables or without objects nothing has an image
+pub no_image : (ls os : List Obj) (o : Obj) → (ls ≡ []) ⊎ (os ≡ []) → image_in (paired ls os) o ≡ None
+no_image [] os o e = refl
+no_image (l ∷ ls) [] o e = refl
+no_image (l ∷ ls) (x ∷ os) o (inl e) = absurd cc
+no_image (l ∷ ls) (x ∷ os) o (inr e) = absurd cc
 
 -- the needs of a row, where they are written one part after the other
 pub needs_of : (r : ShapeRow) (args avoid : List Obj) (start first last : List Lit) → start ≡ [] →

@@ -90,20 +90,15 @@ impl<'a> Naming<'a> {
     }
 }
 
-/// The object in the place that the variable has among the variables.
-#[tactic(auto, using(crate::proofs::Images::empties))]
+/// The object in the place that the variable has among the variables. Unlike a map it takes objects
+/// of any sorts and any number, as a construction that does not fit has them.
 pub fn image(letters: &[Obj], objects: &[Obj], letter: Obj) -> Option<Obj>
     ensures { result ≡ image_in (paired letters.now objects.now) letter }
 {
-    match (letters, objects) {
-        ([first, letters @ ..], [object, objects @ ..]) => {
-            if is_same_object(*first, letter) {
-                Some(*object)
-            } else {
-                image(letters, objects, letter)
-            }
+    for (name, object) in letters.iter().zip(objects) {
+        if is_same_object(*name, letter) {
+            return Some(*object);
         }
-        ([], _) => None,
-        ([_, ..], []) => None,
     }
+    None
 }
