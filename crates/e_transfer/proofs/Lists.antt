@@ -1,8 +1,9 @@
 -- Lists of numbers, place by place.
-use Rattle.std.proofs.Common.{◌≡◌, ℕ, ◌+◌, ◌<◌, List, [], ◌∷◌, ◌++◌, refl, sym, ap, ◌∙◌, subst, arith, get_or, length, length-append, inl, inr, Bool, true, false, ◌||◌, not, cond, true≢false, eqb-true, Some, None}
+use Rattle.std.proofs.Common.{◌≡◌, ℕ, ◌+◌, ◌<◌, List, [], ◌∷◌, ◌++◌, refl, sym, ap, ◌∙◌, subst, arith, get_or, length, length-append, inl, inr, Bool, true, false, ◌||◌, not, cond, true≢false, eqb-true, Some, None, MatchBool, HoldsAt, zero-add}
 use Rattle.std.specs.Prelude.{◌==◌, nat_lt}
-use Rattle.std.specs.List.{list_any, position, position_or_len}
+use Rattle.std.specs.List.{list_any, position, position_or_len, range_with_len, AllWithin}
 use Rattle.std.proofs.lemmas.List.{get_or_append_left}
+use Rattle.std.proofs.lemmas.List.FromFn.{length-range_with_len, get_or-range_with_len}
 use Rattle.std.proofs.lemmas.Bool.{cases_lt, lt-ltb}
 use Rattle.std.proofs.lemmas.List.Quantifiers.{position-Some}
 use Rattle.std.proofs.lemmas.Option.{none-some}
@@ -51,3 +52,14 @@ found_below v xs i e = (position-Some (is_it v) xs i 0 e).0
 
 pub found_at : (v : ℕ) (xs : List ℕ) (i : ℕ) → position (is_it v) xs ≡ Some i → get_or xs i 0 ≡ v
 found_at v xs i e = eqb-true (get_or xs i 0) v (position-Some (is_it v) xs i 0 e).1
+
+-- ---- the numbers below another
+
+-- where not all of them have passed a test, one has not
+pub one_failed : (Yes No : ℕ → Type 0) (n : ℕ) (r : Bool) → MatchBool r (AllWithin Yes (range_with_len 0 n) 0 (length (range_with_len 0 n))) ((k : ℕ) × (k < length (range_with_len 0 n)) × HoldsAt No (range_with_len 0 n) k)
+    → r ≡ false → (k : ℕ) × (k < n) × No k
+one_failed Yes No n true h e = absurd (true≢false e)
+one_failed Yes No n false h e =
+    let k = h.0 in
+    let less : k < n = subst (λ m. k < m) (length-range_with_len 0 n) h.1 in
+    (k, less, subst No (get_or-range_with_len 0 n k 0 less ∙ zero-add k) (h.2 0))

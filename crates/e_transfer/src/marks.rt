@@ -194,10 +194,5 @@ pub fn may_all_hold(query: &Query, row: &Row, place: usize) -> bool
         → NoneAt query.now.strength query.now.scope query.now.facts.now query.now.goal.now
         rule place }
 {
-    for at in 0..clause_len(row) {
-        if !may_be(query, row, place, at) {
-            return false;
-        }
-    }
-    true
+    (0..clause_len(row)).all(|at| may_be(query, row, place, at))
 }

@@ -1,12 +1,19 @@
-use Rattle.std.proofs.Common.{arith, ◌<◌, length}
+use Rattle.std.proofs.Common.{◌≢◌, ◌<◌, ℕ, length, refl, subst, arith, rules, tests}
+use Rattle.std.proofs.lemmas.Iterator.{cases_from_all, YieldsList-from_range}
 use Rattle.e_clause.specs.Instance.{clause_of}
 use Rattle.e_clause.specs.Views.{row_of}
+use Rattle.e_transfer.specs.Marks.{NoneHolds}
+use Rattle.e_transfer.proofs.Lists.{one_failed}
 use Rattle.e_transfer.proofs.MarkedFacts.{none_elsewhere}
 use Rattle.e_transfer.proofs.marks.may_all_hold.Goals as goal
 
-pub returns-then-not-may_be : goal.returns-then-not-may_be
-returns-then-not-may_be c = λ e rule is.
+pub returns : goal.returns
+returns c = λ e rule is.
     let s = c.args.query.now in
-    let none = c.may_be.ensures c.if-not-may_be.true in
-    let less : c.loop-at.at < length (clause_of (row_of c.args.row.now)) = omega (arith, c.loop-at-test.true, c.clause_len-at-end.ensures) in
-    none_elsewhere s.strength s.scope s.facts.now s.goal.now rule c.args.place c.loop-at.at (row_of c.args.row.now) is less none.0 none.1
+    let row = row_of c.args.row.now in
+    let n = c.clause_len.result in
+    let No : ℕ → Type 0 = λ at. (at ≢ c.args.place) × NoneHolds s.strength s.facts.now s.goal.now row at in
+    let bad = one_failed (λ at. Unit {0}) No n c.all.result
+    (cases_from_all _ _ c.all.result (λ at. Unit {0}) No c.all.ensures.ran (YieldsList-from_range 0 n n refl (omega arith)) (λ x q k. search (rules, tests)) (λ x q k. search (rules, tests))) e in
+    let less : bad.0 < length (clause_of row) = subst (λ m. bad.0 < m) c.clause_len.ensures bad.1 in
+    none_elsewhere s.strength s.scope s.facts.now s.goal.now rule c.args.place bad.0 row is less bad.2.0 bad.2.1
