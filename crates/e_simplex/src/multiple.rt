@@ -1,10 +1,20 @@
 //! A multiple of one list of numbers that, added to another, leaves no 0.
 
-ghost use Rattle.std.specs.Prelude.{◌≡◌, ◌≢◌, ℕ, ◌+◌, ◌^◌, ◌<◌, ◌≤◌, pos, length, get_or};
-ghost use Rattle.std.specs.Prelude.{unsigned_abs, MatchOption, IfOk};
+ghost use Rattle.std.specs.Prelude.{◌≡◌, ◌≢◌, ℕ, ◌+◌, ◌^◌, ◌<◌, ◌≤◌, ◌+ℤ◌, ◌*ℤ◌, pos, length};
+ghost use Rattle.std.specs.Prelude.{get_or, unsigned_abs, MatchOption, IfOk};
 ghost use Rattle.e_simplex.specs.inner.Multiple.{IsBad, NoneIsZero, added, AddedTo};
 
 use std::alloc::{AllocError, Global};
+
+/// A number, and `t` times another.
+fn with_multiple(x: i128, y: i128, t: usize) -> i128
+    requires few { t < 2 ^ 13 }
+    requires small_first { unsigned_abs x < 2 ^ 90 }
+    requires small_second { unsigned_abs y < 2 ^ 65 }
+    ensures { result ≡ x +ℤ pos t *ℤ y }
+{
+    x + t as i128 * y
+}
 
 /// The number at the place `j`, and `t` times that of the second list.
 fn added_at(first: &[i128], second: &[i128], t: usize, j: usize) -> i128
@@ -15,7 +25,7 @@ fn added_at(first: &[i128], second: &[i128], t: usize, j: usize) -> i128
     requires small_second { unsigned_abs (get_or second.now j (pos 0)) < 2 ^ 65 }
     ensures { result ≡ added first.now second.now t j }
 {
-    first[j] + t as i128 * second[j]
+    with_multiple(first[j], second[j], t)
 }
 
 /// A place, of the first `k`, where `t` times the second list leaves 0.
@@ -28,12 +38,7 @@ fn bad_place(first: &[i128], second: &[i128], k: usize, t: usize) -> Option<usiz
     ensures { MatchOption result
         (NoneIsZero first.now second.now k t) (IsBad first.now second.now k t) }
 {
-    for j in 0..k {
-        if added_at(first, second, t, j) == 0 {
-            return Some(j);
-        }
-    }
-    None
+    (0..k).find(|&j| added_at(first, second, t, j) == 0)
 }
 
 /// The least multiple from 1 on that leaves no 0 among the first `k`. Each place excludes at most
@@ -74,8 +79,8 @@ pub fn combined(
     ensures { IfOk result (λ v. AddedTo (length first.now) first.now second.now t v.items) }
 {
     let mut all = Vec::new(alloc);
-    for j in 0..first.len() {
-        all.push(added_at(first, second, t, j))?;
+    for (x, y) in first.iter().zip(second) {
+        all.push(with_multiple(*x, *y, t))?;
     }
     Ok(all)
 }

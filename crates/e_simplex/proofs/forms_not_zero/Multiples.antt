@@ -1,15 +1,15 @@
 -- The clauses of the least multiple that leaves no 0.
 use Rattle.std.proofs.Common.{◌≡◌, ◌≢◌, ℕ, ◌+◌, ◌^◌, ◌<◌, ◌≤◌, List, ap, arith, sym, subst, get_or, ◌⊎◌, inl, inr, SFits}
-use Rattle.std.specs.Prelude.{unsigned_abs}
+use Rattle.std.specs.Prelude.{unsigned_abs, MatchOption}
 use Rattle.std.specs.Int.{w128}
 use Rattle.std.proofs.lemmas.Int.{fits_signed_from_abs, unsigned_abs-mul}
 use Rattle.std.proofs.lemmas.Nat.{mul-le}
 use Rattle.std.proofs.lemmas.Bool.{cases_lt, cases_eq}
 use lib.IntN.{ℤ, pos, ◌+ℤ◌, ◌*ℤ◌, *ℤ-zero}
 use borrow.Author.Differences.{abs_is}
-use Rattle.std.proofs.Common.{[], ◌∷◌, ◌++◌, ◌∙◌}
+use Rattle.std.proofs.Common.{[], ◌∷◌, ◌++◌, ◌∙◌, Option, None, Some}
 use Rattle.std.proofs.lemmas.List.{length_push, get_or_push, get_or_append_left}
-use Rattle.e_simplex.specs.inner.Multiple.{IsBad, added, AddedTo}
+use Rattle.e_simplex.specs.inner.Multiple.{IsBad, NoneIsZero, added, AddedTo}
 use Rattle.e_literal.proofs.Arith.{sums}
 use Rattle.e_simplex.proofs.forms_not_zero.Disequal.{some_good, one_bad}
 
@@ -50,6 +50,13 @@ module _ (first second : List ℤ) (k : ℕ) (before : (j : ℕ) → j < k → g
   never_all_bad =
       some_good k (λ j t. IsBad first second k (t + 1) j) one_time (λ t. row_of t (cases_lt t (k + 1)))
       (λ t. row_below t (cases_lt t (k + 1))) (λ t l. row_bad t (cases_lt t (k + 1)) l)
+
+-- the first bad place below k, if there is one
+pub bad_found : (first second : List ℤ) (k t : ℕ) (r : Option ℕ)
+    → MatchOption r ((j : ℕ) → 0 ≤ j → j < k → added first second t j ≢ pos 0) (λ i. (0 ≤ i) × (i < k) × (added first second t i ≡ pos 0) × ((j : ℕ) → 0 ≤ j → j < i → added first second t j ≢ pos 0))
+    → MatchOption r (NoneIsZero first second k t) (IsBad first second k t)
+bad_found first second k t None h = λ j less. h j (omega arith) less
+bad_found first second k t (Some i) h = record { here = h.1; is_none = h.2 }
 
 pub bad_more : (first second : List ℤ) (k t j : ℕ) → ((s : ℕ) → 0 < s → s < t → (i : ℕ) × IsBad first second k s i) → IsBad first second k t j
     → (s : ℕ) → 0 < s → s < t + 1 → (i : ℕ) × IsBad first second k s i

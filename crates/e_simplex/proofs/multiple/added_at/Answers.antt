@@ -1,30 +1,15 @@
-use Rattle.std.proofs.Common.{◌≡◌, pos, ◌+ℤ◌, ◌*ℤ◌, get_or, to_z, SFits, to_z-of_z, arith}
-use Rattle.std.proofs.lemmas.Int.{to_z_pos}
+use Rattle.std.proofs.Common.{pos, get_or, SFits, to_z-of_z, arith}
 use mir.Syntax.{w128}
-use Rattle.e_simplex.proofs.forms_not_zero.Multiples.{multiple_size, added_size, fits_size}
+use Rattle.e_simplex.proofs.columns.Forms.{fits_type}
+use Rattle.e_simplex.proofs.forms_not_zero.Multiples.{fits_size}
 use Rattle.e_simplex.proofs.multiple.added_at.Goals as goal
-
-pub overflow_add-result : goal.overflow_add-result
-overflow_add-result c =
-    let a = get_or c.args.first.now c.args.j (pos 0) in
-    let b = get_or c.args.second.now c.args.j (pos 0) in
-    let et : to_z w128 c.args.t ≡ pos c.args.t = to_z_pos w128 c.args.t (omega (arith, c.requires.few)) in
-    let fa : SFits w128 (get_or c.args.first.now c.args.j (pos 0)) = fits_size a (omega (arith, c.requires.small_first)) in
-    let fb : SFits w128 (get_or c.args.second.now c.args.j (pos 0)) = fits_size b (omega (arith, c.requires.small_second)) in
-    let s = multiple_size b c.args.t c.requires.small_second c.requires.few in
-    let fx : SFits w128 (pos c.args.t *ℤ get_or c.args.second.now c.args.j (pos 0)) = fits_size (pos c.args.t *ℤ b) (omega (arith, s)) in
-    let r = added_size a (pos c.args.t *ℤ b) c.requires.small_first s in
-    simp (et, to_z-of_z) (fits_size (a +ℤ pos c.args.t *ℤ b) (omega (arith, r)))
 
 pub returns : goal.returns
 returns c =
     let a = get_or c.args.first.now c.args.j (pos 0) in
     let b = get_or c.args.second.now c.args.j (pos 0) in
-    let et : to_z w128 c.args.t ≡ pos c.args.t = to_z_pos w128 c.args.t (omega (arith, c.requires.few)) in
     let fa : SFits w128 (get_or c.args.first.now c.args.j (pos 0)) = fits_size a (omega (arith, c.requires.small_first)) in
     let fb : SFits w128 (get_or c.args.second.now c.args.j (pos 0)) = fits_size b (omega (arith, c.requires.small_second)) in
-    let s = multiple_size b c.args.t c.requires.small_second c.requires.few in
-    let fx : SFits w128 (pos c.args.t *ℤ get_or c.args.second.now c.args.j (pos 0)) = fits_size (pos c.args.t *ℤ b) (omega (arith, s)) in
-    let r = added_size a (pos c.args.t *ℤ b) c.requires.small_first s in
-    let fr : SFits w128 (get_or c.args.first.now c.args.j (pos 0) +ℤ pos c.args.t *ℤ get_or c.args.second.now c.args.j (pos 0)) = fits_size (a +ℤ pos c.args.t *ℤ b) (omega (arith, r)) in
-    simp (et, to_z-of_z)
+    let fr : SFits w128 c.with_multiple.result = fits_type c.with_multiple.result c.with_multiple.type_inv in
+    let e = simp to_z-of_z at c.with_multiple.ensures in
+    simp to_z-of_z e
