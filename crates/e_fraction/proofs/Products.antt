@@ -3,6 +3,7 @@ use Rattle.std.proofs.Common.{◌≡◌, ℕ, zero, suc, ◌+◌, ◌-◌, ◌*�
 use Rattle.std.proofs.Math.Nat.{mul-le-mul_left}
 use Rattle.std.specs.Prelude.{nat_le}
 use Rattle.std.specs.List.{list_any}
+use Rattle.std.proofs.lemmas.List.{take_all, take_more}
 use Rattle.std.proofs.lemmas.List.Folds.{list_any-append}
 use Rattle.std.proofs.lemmas.Bool.{or_left, cases_Bool, not-true, not-false}
 use mathlib.Core.Bool.{or-false}
@@ -117,14 +118,20 @@ summands_more form j d h = ap (λ n. map (λ p. p.1) (take n form)) (one_more j)
     go (p ∷ ps) zero h = refl
     go (p ∷ ps) (suc j) h = ap (λ xs. p.1 ∷ xs) (go ps j (omega (arith, h)))
 
-pub rows_more : (rows : List GivenRow) (i : ℕ) (d : GivenRow) → i < length rows
-    → terms_of_rows (all_seen (take (i + 1) rows)) ≡ terms_of_rows (all_seen (take i rows)) ++ map (λ p. p.1) (get_or rows i d).form
-rows_more rows i d h = ap (λ n. terms_of_rows (all_seen (take n rows))) (one_more i) ∙ go rows i h
-  where
-    go : (rows : List GivenRow) (i : ℕ) → i < length rows → terms_of_rows (all_seen (take (suc i) rows)) ≡ terms_of_rows (all_seen (take i rows)) ++ map (λ p. p.1) (get_or rows i d).form
-    go [] i h = absurd (omega (arith, h))
-    go (r ∷ rs) zero h = none_more (map (λ p. p.1) r.form)
-    go (r ∷ rs) (suc i) h = ap (λ xs. map (λ p. p.1) r.form ++ xs) (go rs i (omega (arith, h))) ∙ sym (append_assoc (map (λ p. p.1) r.form) (terms_of_rows (all_seen (take i rs))) (map (λ p. p.1) (get_or rs i d).form))
+pub one_row_more : (rows : List GivenRow) (i : ℕ) (r : GivenRow) → i < length rows → r ≡ get_or rows i r → take i rows ++ r ∷ [] ≡ take (i + 1) rows
+one_row_more rows i r h is = ap (λ q. take i rows ++ q ∷ []) is ∙ sym (take_more rows i r h)
+
+terms_after : (before : List GivenRow) (r : GivenRow) → terms_of_rows (all_seen (before ++ r ∷ [])) ≡ terms_of_rows (all_seen before) ++ map (λ p. p.1) r.form
+terms_after [] r = none_more (map (λ p. p.1) r.form)
+terms_after (q ∷ qs) r =
+    ap (λ xs. map (λ p. p.1) q.form ++ xs) (terms_after qs r) ∙ sym (append_assoc (map (λ p. p.1) q.form) (terms_of_rows (all_seen qs)) (map (λ p. p.1) r.form))
+
+-- all summands of a row are passed
+pub row_passed : (rows : List Row) (before : List GivenRow) (r : GivenRow) (form : Summands) (j n : ℕ) → form ≡ r.form → length form ≤ j → n ≡ width_over rows (terms_of_rows (all_seen before) ++ map (λ p. p.1) (take j form))
+    → n ≡ width_over rows (terms_of_rows (all_seen (before ++ r ∷ [])))
+row_passed rows before r form j n is done e =
+    e ∙ ap (λ (f : Summands). width_over rows (terms_of_rows (all_seen before) ++ map (λ p. p.1) f)) (take_all j form done ∙ is)
+    ∙ ap (width_over rows) (sym (terms_after before r))
 
 -- the summand at j, which stands nowhere before, or somewhere
 pub width_step_new : (rows : List Row) (before : List Term) (form : Summands) (j : ℕ) (d : ℤ × Term) (n : ℕ) → j < length form

@@ -1,7 +1,7 @@
 //! The width of a list of rows.
 
-ghost use Rattle.std.specs.Prelude.{◌≡◌, ◌≤◌, ◌<◌, ◌+◌, ◌-◌, ◌*◌, ◌^◌, ◌++◌, length, min, max};
-ghost use Rattle.std.specs.Prelude.{take, map, get_or, sum_by, count_by, unsigned_abs, not};
+ghost use Rattle.std.specs.Prelude.{◌≡◌, ◌≤◌, ◌+◌, ◌-◌, ◌*◌, ◌^◌, [], ◌∷◌, ◌++◌, min, max, map};
+ghost use Rattle.std.specs.Prelude.{get_or, sum_by, count_by, unsigned_abs, not};
 ghost use Rattle.std.specs.List.{list_any};
 ghost use Rattle.e_literal.specs.Same.{term_eq};
 ghost use Rattle.e_literal.specs.Rows.{coefficient, terms_of_rows};
@@ -22,8 +22,8 @@ pub fn width(rows: &[Row]) -> u128
     ensures wide { IsWide (all_seen rows.now) → 2 ^ 63 ≤ result }
 {
     let mut product = constants(rows);
-    for i in 0..rows.len() {
-        product = times_weights(product, rows, i);
+    for (i, row) in rows.iter().enumerate() {
+        product = times_weights(product, rows, &rows[..i], row);
     }
     product
 }
@@ -45,19 +45,17 @@ fn has_constant(kind: RowSense) -> bool
     }
 }
 
-/// The product, times the weights of the terms of the row `i` that are in no row before it.
-fn times_weights(product: u128, rows: &[Row], i: usize) -> u128
-    requires row { i < length rows.now }
-    requires product { product
-        ≡ width_over (all_seen rows.now) (terms_of_rows (all_seen (take i rows.now))) }
-    ensures { result
-        ≡ width_over (all_seen rows.now) (terms_of_rows (all_seen (take (i + 1) rows.now))) }
+/// The product, times the weights of the terms of a row that are in no row before it.
+fn times_weights(product: u128, rows: &[Row], before: &[Row], row: &Row) -> u128
+    requires { product ≡ width_over (all_seen rows.now) (terms_of_rows (all_seen before.now)) }
+    ensures { result ≡ width_over (all_seen rows.now)
+        (terms_of_rows (all_seen (before.now ++ row.now ∷ []))) }
 {
-    let form = rows[i].form.summands();
+    let form = row.form.summands();
     let mut product = product;
     for (j, summand) in form.iter().enumerate() {
         let term = summand.1;
-        if is_new(&rows[..i], &form[..j], term) {
+        if is_new(before, &form[..j], term) {
             product = product.saturating_mul(weight(rows, term));
         }
     }

@@ -6,4 +6,4 @@ use Rattle.e_fraction.specs.Views.{all_seen}
 use Rattle.e_fraction.proofs.widths.times_weights.Given as goal
 
 abbrev pub invariant-loop-j : goal.invariant-loop-j
-invariant-loop-j l = l.product ≡ width_over (all_seen l.rows) (terms_of_rows (all_seen (take l.i l.rows)) ++ map (λ p. p.1) (take l.j l.form))
+invariant-loop-j l = l.product ≡ width_over (all_seen l.rows) (terms_of_rows (all_seen l.before) ++ map (λ p. p.1) (take l.j l.form))
