@@ -1,6 +1,6 @@
 //! Terms and their columns.
 
-ghost use Rattle.std.specs.Prelude.{◌≡◌, ◌+◌, ◌<◌, ◌^◌, IfOk, IsTrue, length, take, true, false};
+ghost use Rattle.std.specs.Prelude.{◌≡◌, ◌<◌, ◌^◌, IfOk, IsTrue, length, true, false};
 ghost use Rattle.e_literal.specs.declared.object.Term.{Term};
 ghost use Rattle.e_fraction.specs.Views.{sense_of, all_seen};
 ghost use Rattle.e_fraction.specs.Limits.{has_small_coefficients, all_small};
@@ -27,16 +27,14 @@ pub fn place(terms: &[Term], term: Term) -> usize
         .unwrap_or(terms.len())
 }
 
-/// The terms of the first `i` rows, and those of the next that are not among them.
-fn with_terms(mut terms: Vec<Term>, rows: &[Row], i: usize) -> Result<Vec<Term>, AllocError>
-    requires here { i < length rows.now }
-    requires once { AreOnce terms.items }
-    requires before { AllNamed terms.items (all_seen (take i rows.now)) }
+/// The terms, and after them those of the row that are not among them.
+fn with_terms(mut terms: Vec<Term>, row: &Row) -> Result<Vec<Term>, AllocError>
+    requires { AreOnce terms.items }
     ensures once { IfOk result (λ v. AreOnce v.items) }
-    ensures all { IfOk result (λ v. AllNamed v.items (all_seen (take (i + 1) rows.now))) }
+    ensures row { IfOk result (λ v. FormNamed v.items row.now.form) }
     ensures continues { IfOk result (λ v. Continues terms.items v.items) }
 {
-    let form = rows[i].form.summands();
+    let form = row.form.summands();
     for (_, term) in form {
         if place(&terms, *term) == terms.len() {
             terms.push(*term)?;
@@ -54,8 +52,8 @@ pub fn terms_with(alloc: Global, terms: &[Term], rows: &[Row]) -> Result<Vec<Ter
     ensures continues { IfOk result (λ v. Continues terms.now v.items) }
 {
     let mut all = Vec::from_slice(alloc, terms)?;
-    for i in 0..rows.len() {
-        all = with_terms(all, rows, i)?;
+    for row in rows {
+        all = with_terms(all, row)?;
     }
     Ok(all)
 }

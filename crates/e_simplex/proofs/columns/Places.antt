@@ -188,25 +188,19 @@ form_all ts [] k l h = tt
 form_all ts (p ∷ ps) zero l h = absurd (omega (arith, l))
 form_all ts (p ∷ ps) (suc k) l h = (h.0, form_all ts ps k (omega (arith, l)) h.1)
 
-pub terms_new : (ts new : List Term) (rows : List Row) (form : Summands) (k : ℕ) (d : ℤ × Term) → k < length form → new ≡ ts ++ (get_or form k d).1 ∷ []
-    → place_of ts (get_or form k d).1 ≡ length ts → AreOnce ts → AllNamed ts rows → FormNamed ts (take k form)
-    → AreOnce new × (AllNamed new rows × FormNamed new (take (k + 1) form))
-terms_new ts new rows form k d l e n o a f =
-    subst (λ v. AreOnce v × (AllNamed v rows × FormNamed v (take (k + 1) form))) (sym e) (
+pub terms_new : (ts new : List Term) (form : Summands) (k : ℕ) (d : ℤ × Term) → k < length form → new ≡ ts ++ (get_or form k d).1 ∷ []
+    → place_of ts (get_or form k d).1 ≡ length ts → AreOnce ts → FormNamed ts (take k form) → AreOnce new × FormNamed new (take (k + 1) form)
+terms_new ts new form k d l e n o f =
+    subst (λ v. AreOnce v × FormNamed v (take (k + 1) form)) (sym e) (
       once_push ts (get_or form k d).1 o n,
-      (
-        all_grown ts (ts ++ (get_or form k d).1 ∷ []) rows (in_push ts (get_or form k d).1) a,
-        form_more (ts ++ (get_or form k d).1 ∷ []) form k d l (form_grown ts (ts ++ (get_or form k d).1 ∷ []) (take k form) (in_push ts (get_or form k d).1) f)
-            (in_last ts (get_or form k d).1 n),
-      ),
+      form_more (ts ++ (get_or form k d).1 ∷ []) form k d l (form_grown ts (ts ++ (get_or form k d).1 ∷ []) (take k form) (in_push ts (get_or form k d).1) f)
+          (in_last ts (get_or form k d).1 n),
     )
 
-pub terms_old : (ts new : List Term) (rows : List Row) (form : Summands) (k : ℕ) (d : ℤ × Term) → k < length form → new ≡ ts
-    → place_of ts (get_or form k d).1 ≢ length ts → AreOnce ts → AllNamed ts rows → FormNamed ts (take k form)
-    → AreOnce new × (AllNamed new rows × FormNamed new (take (k + 1) form))
-terms_old ts new rows form k d l e n o a f =
-    subst (λ v. AreOnce v × (AllNamed v rows × FormNamed v (take (k + 1) form))) (sym e)
-    (o, (a, form_more ts form k d l f (omega (arith, n, place_most ts (get_or form k d).1))))
+pub terms_old : (ts new : List Term) (form : Summands) (k : ℕ) (d : ℤ × Term) → k < length form → new ≡ ts
+    → place_of ts (get_or form k d).1 ≢ length ts → AreOnce ts → FormNamed ts (take k form) → AreOnce new × FormNamed new (take (k + 1) form)
+terms_old ts new form k d l e n o f =
+    subst (λ v. AreOnce v × FormNamed v (take (k + 1) form)) (sym e) (o, form_more ts form k d l f (omega (arith, n, place_most ts (get_or form k d).1)))
 
 -- ---- the same constraints by the first terms and by all
 
