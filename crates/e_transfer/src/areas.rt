@@ -94,11 +94,8 @@ pub fn equal_areas(pattern: &Pattern) -> Option<Term>
 
 /// The place of the clause that says of two areas alone that they are equal, if there is one.
 pub fn place_of_areas(row: &Row) -> Option<usize> {
-    for at in 0..clause_len(row) {
+    (0..clause_len(row)).find(|&at| {
         let (pattern, negated) = pattern_at(row, at);
-        if !negated && equal_areas(&pattern).is_some() {
-            return Some(at);
-        }
-    }
-    None
+        !negated && equal_areas(&pattern).is_some()
+    })
 }
