@@ -41,14 +41,10 @@ pub struct InstanceSearch<'a> {
     ghost transfer: { IsTrue (is_transfer rule) },
 }
 
-/// The number of a variable by the first numbers of a choice; 0 where it is not chosen yet.
-fn number(positions: &[usize], part: &[u16], variable: usize) -> u16
-    ensures { result ≡ slice_index part.now (slice_index positions.now variable) }
+/// The number at a place of a choice, by its first numbers; 0 where it is not chosen yet.
+fn number(part: &[u16], place: usize) -> u16
+    ensures { result ≡ slice_index part.now place }
 {
-    let place = match positions.get(variable) {
-        Some(place) => *place,
-        None => 0,
-    };
     match part.get(place) {
         Some(number) => *number,
         None => 0,
@@ -66,10 +62,10 @@ fn arguments(
         (λ a. a ≡ PartsOfChoices.chosen_arguments (row_of row.now) positions.now part.now) }
 {
     let mut args = Vec::with_capacity(alloc, positions.len())?;
-    for v in 0..positions.len() {
+    for (v, place) in positions.iter().enumerate() {
         args.push(Obj {
             sort: sort_of(row, v),
-            num: number(positions, part, v),
+            num: number(part, *place),
         })?;
     }
     Ok(Items::new(args))
