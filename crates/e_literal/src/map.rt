@@ -1,6 +1,8 @@
 //! Images of objects.
 
-ghost use Rattle.std.specs.Prelude.{◌≡◌, [], ◌∷◌, OnOk, OnErr, IfOk, is_some, map};
+ghost use Rattle.std.specs.Prelude.{◌≡◌, [], ◌∷◌, if◌then◌else◌, OnOk, OnErr, IfOk, Some};
+ghost use Rattle.std.specs.Prelude.{is_some, map};
+ghost use Rattle.e_literal.specs.declared.object.Obj.{Obj};
 ghost use Rattle.e_literal.specs.Literal.{obj};
 ghost use Rattle.e_literal.specs.Rename.{image_in, number_at, paired, same_obj};
 
@@ -67,6 +69,8 @@ impl Map {
     pub fn set(&mut self, from: Obj, to: Obj) -> Result<(), AllocError>
         requires one_sort { from.sort ≡ to.sort }
         ensures ok { OnOk result (self.new ≡ record { source = from; target = to } ∷ self.old) }
+        ensures images { OnOk result ((o : Obj) → image_in self.new o
+            ≡ (if same_obj from o then Some to else image_in self.old o)) }
         ensures err { OnErr result (self.new ≡ self.old) }
     {
         let entry = Entry {
