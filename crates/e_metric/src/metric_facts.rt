@@ -145,18 +145,11 @@ impl Slot {
         answer_of_kind(alloc, which, facts, wanted)
     }
 
-    // The certificate that all facts of the kind contradict each other, where it is there.
-    fn contradiction(
-        &self,
-        alloc: Global,
-        which: Kind,
-        facts: &Facts,
-    ) -> Result<Option<MetricCert>, AllocError>
-        requires { IsFrontSystem which facts.now self.now }
-        ensures { IfOk result (λ o. IfSome o (IsMetricCertificate facts.now None)) }
+    // The certificate that all facts of its kind contradict each other, where it is there.
+    fn contradiction(&self, alloc: Global, facts: &Facts) -> Result<Option<MetricCert>, AllocError>
+        ensures { IfOk result (λ o. (which : Kind) → IsFrontSystem which facts.now self.now
+            → IfSome o (IsMetricCertificate facts.now None)) }
     {
-        // The kind is for the contract alone: each slot has the facts of one.
-        let _ = which;
         if self.is_whole(facts) {
             if let Some(kind_system) = &self.kind_system {
                 return kind_system.contradiction(alloc);
@@ -546,7 +539,7 @@ impl MetricFacts {
         ensures fronts { AreFronts facts.now self.new }
     {
         self.bring(alloc, which, facts)?;
-        self.systems.get(which).contradiction(alloc, which, facts)
+        self.systems.get(which).contradiction(alloc, facts)
     }
 
     // The certificate that the facts of a kind contradict each other, of the first kind that has

@@ -63,11 +63,17 @@ pub alone_answered : {E : Type 0} (which : Kind) (facts : List Lit) (wanted : Op
 alone_answered which facts wanted kind_system (Ok m) h e k = k which facts wanted h e
 alone_answered which facts wanted kind_system (Err x) h e k = tt
 
--- a certificate that a system has, of the facts that have the system
-pub at_system : {E : Type 0} (which : Kind) (facts : List Lit) (kind_system : KindSystem) (r : Result (Option MetricCert) E) → IsKindSystem which facts kind_system
-    → IfOk r (IsContradictionOf kind_system) → IfOk r (λ o. IfSome o (IsMetricCertificate facts None))
-at_system which facts kind_system (Ok o) h k = k which facts h
-at_system which facts kind_system (Err x) h k = tt
+-- a certificate that the system of a slot has, of all facts of which this is a front
+pub whole_certificate : {E : Type 0} (facts : List Lit) (s : Slot) (kind_system : KindSystem) (r : Result (Option MetricCert) E) → s.upto ≡ length facts → s.kind_system ≡ Some kind_system
+    → IfOk r (IsContradictionOf kind_system) → IfOk r (λ o. (which : Kind) → IsFrontSystem which facts s → IfSome o (IsMetricCertificate facts None))
+whole_certificate facts s kind_system (Ok o) n e k = λ which h. k which facts (whole_system which facts s kind_system h n e)
+whole_certificate facts s kind_system (Err x) n e k = tt
+
+-- a certificate that a slot has, of the facts of which it is a front
+pub at_front : {E : Type 0} (which : Kind) (facts : List Lit) (s : Slot) (r : Result (Option MetricCert) E) → IsFrontSystem which facts s
+    → IfOk r (λ o. (k : Kind) → IsFrontSystem k facts s → IfSome o (IsMetricCertificate facts None)) → IfOk r (λ o. IfSome o (IsMetricCertificate facts None))
+at_front which facts s (Ok o) h k = k which h
+at_front which facts s (Err x) h k = tt
 
 -- ---- all kinds
 
