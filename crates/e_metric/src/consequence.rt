@@ -8,6 +8,7 @@ ghost use Rattle.e_literal.specs.WellFormed.{is_well_formed};
 ghost use Rattle.e_clause.specs.Assignment.{terms_of_lits};
 ghost use Rattle.e_clause.specs.Metric.{MetricConsequence, Unsatisfiable};
 ghost use Rattle.e_clause.specs.Laws.{is_well_formed_metric};
+ghost use Rattle.e_clause.specs.LimitedFacts.{most_terms_of_step};
 ghost use Rattle.e_fraction.specs.Limits.{all_small};
 ghost use Rattle.e_fraction.specs.Views.{all_seen};
 ghost use Rattle.e_simplex.specs.Answer.{IsAbsurdity};
@@ -106,7 +107,7 @@ pub fn answer_of_kind(
     wanted: Option<&Lit>,
 ) -> Result<Metric, AllocError>
     requires facts { IsTrue (list_all is_well_formed facts.now) }
-    requires few { length (terms_of_lits facts.now) ≤ 1100 }
+    requires few { length (terms_of_lits facts.now) ≤ most_terms_of_step }
     requires wanted { IsTrue (is_well_formed_metric (option_copied wanted)) }
     ensures { IfOk result (IsKindAnswer which facts.now (option_copied wanted.entry)) }
 {
@@ -132,7 +133,7 @@ fn answers_of_both(
     wanted: Option<&Lit>,
 ) -> Result<(Metric, Metric), AllocError>
     requires facts { IsTrue (list_all is_well_formed facts.now) }
-    requires few { length (terms_of_lits facts.now) ≤ 1100 }
+    requires few { length (terms_of_lits facts.now) ≤ most_terms_of_step }
     requires wanted { IsTrue (is_well_formed_metric (option_copied wanted)) }
     ensures one { IfOk result (λ p. IsKindAnswer one facts.now (option_copied wanted.entry) p.0) }
     ensures other { IfOk result
@@ -157,7 +158,7 @@ fn answers_by_kind(
     wanted: Option<&Lit>,
 ) -> Result<ByKind<Metric>, AllocError>
     requires facts { IsTrue (list_all is_well_formed facts.now) }
-    requires few { length (terms_of_lits facts.now) ≤ 1100 }
+    requires few { length (terms_of_lits facts.now) ≤ most_terms_of_step }
     requires wanted { IsTrue (is_well_formed_metric (option_copied wanted)) }
     requires own_answer { IsKindAnswer which facts.now (option_copied wanted) own_answer }
     ensures segments { IfOk result
@@ -237,7 +238,7 @@ fn answer(
     wanted: Option<&Lit>,
 ) -> Result<Metric, AllocError>
     requires facts { IsTrue (list_all is_well_formed facts.now) }
-    requires few { length (terms_of_lits facts.now) ≤ 1100 }
+    requires few { length (terms_of_lits facts.now) ≤ most_terms_of_step }
     requires wanted { IsTrue (is_well_formed_metric (option_copied wanted)) }
     ensures { IfOk result (IsMetricAnswer facts.now (option_copied wanted.entry)) }
 {
@@ -263,7 +264,7 @@ fn answer(
 /// [`is_metric_goal`]: crate::limits::is_metric_goal
 pub fn follows(alloc: Global, facts: &Facts, goal: &Lit) -> Result<Metric, AllocError>
     requires facts { IsTrue (list_all is_well_formed facts.now) }
-    requires few { length (terms_of_lits facts.now) ≤ 1100 }
+    requires few { length (terms_of_lits facts.now) ≤ most_terms_of_step }
     requires goal { IsTrue (is_well_formed_metric (Some goal.now)) }
     ensures answer { IfOk result (IsMetricAnswer facts.now (Some goal.now)) }
     ensures yes { IfOk result (λ m. IfYes m (MetricConsequence facts.now goal.now)) }
@@ -277,7 +278,7 @@ pub fn follows(alloc: Global, facts: &Facts, goal: &Lit) -> Result<Metric, Alloc
 /// true. The answers are those of [`follows`], with no goal.
 pub fn absurd(alloc: Global, facts: &Facts) -> Result<Metric, AllocError>
     requires facts { IsTrue (list_all is_well_formed facts.now) }
-    requires few { length (terms_of_lits facts.now) ≤ 1100 }
+    requires few { length (terms_of_lits facts.now) ≤ most_terms_of_step }
     ensures answer { IfOk result (IsMetricAnswer facts.now None) }
     ensures yes { IfOk result (λ m. IfYes m (Unsatisfiable facts.now)) }
     ensures no { IfOk result (λ m. IfNo m (¬ Unsatisfiable facts.now)) }

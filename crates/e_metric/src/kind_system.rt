@@ -6,6 +6,7 @@ ghost use Rattle.std.specs.List.{list_all};
 ghost use Rattle.e_literal.specs.WellFormed.{is_well_formed};
 ghost use Rattle.e_clause.specs.Assignment.{terms_of_lits};
 ghost use Rattle.e_clause.specs.Laws.{is_well_formed_metric};
+ghost use Rattle.e_clause.specs.LimitedFacts.{most_terms_of_step};
 ghost use Rattle.e_clause.specs.System.{rows_of_term};
 ghost use Rattle.e_metric.specs.SolvedSystems.{AreTogether, IsContradictionOf, IsSolvedSystem};
 ghost use Rattle.e_metric.specs.SolvedSystems.{IsKindSystem, IsAnswerAlone, AnswersAs};
@@ -39,7 +40,7 @@ pub enum KindSystem {
 /// The system of the facts of one kind, from nothing.
 pub fn solve_kind(alloc: Global, which: Kind, facts: &Facts) -> Result<KindSystem, AllocError>
     requires facts { IsTrue (list_all is_well_formed facts.now) }
-    requires few { length (terms_of_lits facts.now) ≤ 1100 }
+    requires few { length (terms_of_lits facts.now) ≤ most_terms_of_step }
     ensures { IfOk result (IsKindSystem which facts.now) }
 {
     let named = system(alloc, which, facts, None)?;
@@ -95,7 +96,7 @@ impl KindSystem {
     ) -> Result<Metric, AllocError>
         requires kind_system { IsKindSystem which facts.now self.now }
         requires facts { IsTrue (list_all is_well_formed facts.now) }
-        requires few { length (terms_of_lits facts.now) ≤ 1100 }
+        requires few { length (terms_of_lits facts.now) ≤ most_terms_of_step }
         requires goal { IsTrue (is_well_formed_metric (Some goal.now)) }
         ensures { IfOk result (IsKindAnswer which facts.now (Some goal.now)) }
     {
@@ -152,7 +153,7 @@ impl KindSystem {
         requires within { from ≤ length facts.now }
         requires kind_system { IsKindSystem which (take from facts.now) self.now }
         requires facts { IsTrue (list_all is_well_formed facts.now) }
-        requires few { length (terms_of_lits facts.now) ≤ 1100 }
+        requires few { length (terms_of_lits facts.now) ≤ most_terms_of_step }
         ensures { IfOk result (λ o. MatchOption o (IsKindSystem which facts.now self.now)
             (IsKindSystem which facts.now)) }
     {
@@ -180,7 +181,7 @@ fn grown(
     requires within { from ≤ length facts.now }
     requires solved_system { IsSolvedSystem which (take from facts.now) solved_system.now }
     requires facts { IsTrue (list_all is_well_formed facts.now) }
-    requires few { length (terms_of_lits facts.now) ≤ 1100 }
+    requires few { length (terms_of_lits facts.now) ≤ most_terms_of_step }
     ensures { IfOk result (λ o. MatchOption o (IsSolvedSystem which facts.now solved_system.now)
         (IsKindSystem which facts.now)) }
 {
@@ -214,7 +215,7 @@ fn with_rest(
     requires raised { solved_system.now.raised
         ≡ length (flat_map (rows_of_term facts.now) solved_system.now.terms.items) }
     requires facts { IsTrue (list_all is_well_formed facts.now) }
-    requires few { length (terms_of_lits facts.now) ≤ 1100 }
+    requires few { length (terms_of_lits facts.now) ≤ most_terms_of_step }
     ensures { IfOk result (λ o. MatchOption o (IsSolvedSystem which facts.now solved_system.now)
         (IsKindSystem which facts.now)) }
 {
@@ -285,7 +286,7 @@ fn joined_system(
     rows: &[Row],
 ) -> Result<KindSystem, AllocError>
     requires facts { IsTrue (list_all is_well_formed facts.now) }
-    requires few { length (terms_of_lits facts.now) ≤ 1100 }
+    requires few { length (terms_of_lits facts.now) ≤ most_terms_of_step }
     requires together { AreTogether which facts.now None solved_system.now names.now rows.now }
     requires terms { solved_system.now.terms.items ++ fresh.now
         ≡ ListedTerms.distinct_terms which facts.now None }

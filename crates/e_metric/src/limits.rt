@@ -1,15 +1,19 @@
 //! The limits of facts and goals, as tests.
 
-ghost use Rattle.std.specs.Prelude.{◌≡◌, ◌<◌, ◌≤◌, ◌^◌, ◌&&◌, length, min, nat_le, Some};
+ghost use Rattle.std.specs.Prelude.{◌≡◌, ◌+◌, ◌<◌, ◌≤◌, ◌^◌, ◌&&◌, length, min, Some};
 ghost use Rattle.std.specs.List.{list_all};
 ghost use Rattle.e_literal.specs.Literal.{kind_of_term, kind_of_sums};
 ghost use Rattle.e_literal.specs.WellFormed;
 ghost use Rattle.e_literal.specs.WellFormed.{same_kind, is_bounded_coefficient};
 ghost use Rattle.e_clause.specs.Assignment.{terms_of_atom, terms_of_lits};
 ghost use Rattle.e_clause.specs.Laws.{is_well_formed_metric};
+ghost use Rattle.e_clause.specs.LimitedFacts.{are_few, most_terms_of_step};
 
 use e_facts::Facts;
 use e_literal::{Atom, Kind, Lit, Mono, Term, kind};
+
+// How many monomials the facts of a step may have.
+const MOST_TERMS: usize = 1100;
 
 // Whether the term is of the kind.
 fn is_of(which: Kind, term: Term) -> bool
@@ -79,22 +83,21 @@ fn are_well_formed(facts: &Facts) -> bool
     facts.items().iter().all(|fact| is_well_formed(fact))
 }
 
-// How many monomials the metric facts have, or 1,101 where they have more.
+// How many monomials the metric facts have, or one more than they may have, where they have more.
 fn capped_monomials(facts: &Facts) -> usize
-    ensures { result ≡ min (length (terms_of_lits facts.now)) 1101 }
+    ensures { result ≡ min (length (terms_of_lits facts.now)) (most_terms_of_step + 1) }
 {
     // Capped at each fact, since nothing bounds how many facts there are.
     let mut count = 0;
     for fact in facts.items() {
-        count = (count + monomials(fact)).min(1101);
+        count = (count + monomials(fact)).min(MOST_TERMS + 1);
     }
     count
 }
 
 /// Whether each fact is well formed, and the metric facts have at most 1,100 monomials.
 pub fn are_few_facts(facts: &Facts) -> bool
-    ensures { result ≡ (list_all WellFormed.is_well_formed facts.now
-        && nat_le (length (terms_of_lits facts.now)) 1100) }
+    ensures { result ≡ (list_all WellFormed.is_well_formed facts.now && are_few facts.now) }
 {
-    are_well_formed(facts) && capped_monomials(facts) <= 1100
+    are_well_formed(facts) && capped_monomials(facts) <= MOST_TERMS
 }

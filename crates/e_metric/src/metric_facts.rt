@@ -9,6 +9,7 @@ ghost use Rattle.e_literal.specs.Literal.{kind_of_atom};
 ghost use Rattle.e_literal.specs.WellFormed.{is_well_formed};
 ghost use Rattle.e_clause.specs.Assignment.{terms_of_lits};
 ghost use Rattle.e_clause.specs.Laws.{is_well_formed_metric};
+ghost use Rattle.e_clause.specs.LimitedFacts.{most_terms_of_step};
 ghost use Rattle.e_clause.specs.Metric.{MetricConsequence, Unsatisfiable};
 ghost use Rattle.e_clause.specs.System.{of_kind, against_goal};
 ghost use Rattle.e_metric.specs.Fronts.{IsFrontSystem, IsFrontAs, AreFronts};
@@ -61,7 +62,7 @@ impl Slot {
     ) -> Result<Option<KindSystem>, AllocError>
         requires front { IsFrontSystem which facts.now self.now }
         requires facts { IsTrue (list_all is_well_formed facts.now) }
-        requires few { length (terms_of_lits facts.now) ≤ 1100 }
+        requires few { length (terms_of_lits facts.now) ≤ most_terms_of_step }
         ensures { IfOk
             result (λ o. MatchOption o (IfSome self.now.kind_system (IsKindSystem which facts.now))
             (IsKindSystem which facts.now)) }
@@ -80,7 +81,7 @@ impl Slot {
     fn bring(&mut self, alloc: Global, which: Kind, facts: &Facts) -> Result<(), AllocError>
         requires front { IsFrontSystem which facts.now self.old }
         requires facts { IsTrue (list_all is_well_formed facts.now) }
-        requires few { length (terms_of_lits facts.now) ≤ 1100 }
+        requires few { length (terms_of_lits facts.now) ≤ most_terms_of_step }
         ensures { IsFrontSystem which facts.now self.new }
     {
         if self.is_whole(facts) {
@@ -110,7 +111,7 @@ impl Slot {
     ) -> Result<Metric, AllocError>
         requires front { IsFrontSystem which facts.now self.now }
         requires facts { IsTrue (list_all is_well_formed facts.now) }
-        requires few { length (terms_of_lits facts.now) ≤ 1100 }
+        requires few { length (terms_of_lits facts.now) ≤ most_terms_of_step }
         requires goal { IsTrue (is_well_formed_metric (Some goal.now)) }
         ensures { IfOk result (IsKindAnswer which facts.now (Some goal.now)) }
     {
@@ -132,7 +133,7 @@ impl Slot {
     ) -> Result<Metric, AllocError>
         requires front { IsFrontSystem which facts.now self.now }
         requires facts { IsTrue (list_all is_well_formed facts.now) }
-        requires few { length (terms_of_lits facts.now) ≤ 1100 }
+        requires few { length (terms_of_lits facts.now) ≤ most_terms_of_step }
         requires wanted { IsTrue (is_well_formed_metric (option_copied wanted)) }
         requires other { of_kind which (against_goal (option_copied wanted)) ≡ [] }
         ensures { IfOk result (IsKindAnswer which facts.now (option_copied wanted.entry)) }
@@ -222,7 +223,7 @@ impl MetricFacts {
     /// What is solved of the facts of each kind.
     pub fn of(alloc: Global, facts: &Facts) -> Result<MetricFacts, AllocError>
         requires facts { IsTrue (list_all is_well_formed facts.now) }
-        requires few { length (terms_of_lits facts.now) ≤ 1100 }
+        requires few { length (terms_of_lits facts.now) ≤ most_terms_of_step }
         ensures { IfOk result (AreFronts facts.now) }
     {
         let mut metric_facts = MetricFacts::new();
@@ -239,7 +240,7 @@ impl MetricFacts {
     pub fn bring(&mut self, alloc: Global, which: Kind, facts: &Facts) -> Result<(), AllocError>
         requires fronts { AreFronts facts.now self.old }
         requires facts { IsTrue (list_all is_well_formed facts.now) }
-        requires few { length (terms_of_lits facts.now) ≤ 1100 }
+        requires few { length (terms_of_lits facts.now) ≤ most_terms_of_step }
         ensures { AreFronts facts.now self.new }
     {
         match which {
@@ -253,7 +254,7 @@ impl MetricFacts {
     pub fn bring_all(&mut self, alloc: Global, facts: &Facts) -> Result<(), AllocError>
         requires fronts { AreFronts facts.now self.old }
         requires facts { IsTrue (list_all is_well_formed facts.now) }
-        requires few { length (terms_of_lits facts.now) ≤ 1100 }
+        requires few { length (terms_of_lits facts.now) ≤ most_terms_of_step }
         ensures { AreFronts facts.now self.new }
     {
         self.bring(alloc, Kind::Segment, facts)?;
@@ -312,7 +313,7 @@ impl MetricFacts {
     ) -> Result<Metric, AllocError>
         requires fronts { AreFronts facts.now self.now }
         requires facts { IsTrue (list_all is_well_formed facts.now) }
-        requires few { length (terms_of_lits facts.now) ≤ 1100 }
+        requires few { length (terms_of_lits facts.now) ≤ most_terms_of_step }
         requires goal { IsTrue (is_well_formed_metric (Some goal.now)) }
         ensures { IfOk result (IsKindAnswer which facts.now (Some goal.now)) }
     {
@@ -329,7 +330,7 @@ impl MetricFacts {
     ) -> Result<Metric, AllocError>
         requires fronts { AreFronts facts.now self.now }
         requires facts { IsTrue (list_all is_well_formed facts.now) }
-        requires few { length (terms_of_lits facts.now) ≤ 1100 }
+        requires few { length (terms_of_lits facts.now) ≤ most_terms_of_step }
         requires wanted { IsTrue (is_well_formed_metric (option_copied wanted)) }
         requires other { of_kind which (against_goal (option_copied wanted)) ≡ [] }
         ensures { IfOk result (IsKindAnswer which facts.now (option_copied wanted.entry)) }
@@ -350,7 +351,7 @@ impl MetricFacts {
     ) -> Result<(Metric, Metric), AllocError>
         requires fronts { AreFronts facts.now self.now }
         requires facts { IsTrue (list_all is_well_formed facts.now) }
-        requires few { length (terms_of_lits facts.now) ≤ 1100 }
+        requires few { length (terms_of_lits facts.now) ≤ most_terms_of_step }
         requires wanted { IsTrue (is_well_formed_metric (option_copied wanted)) }
         requires one { of_kind one (against_goal (option_copied wanted)) ≡ [] }
         requires other { of_kind other (against_goal (option_copied wanted)) ≡ [] }
@@ -380,7 +381,7 @@ impl MetricFacts {
     ) -> Result<ByKind<Metric>, AllocError>
         requires fronts { AreFronts facts.now self.now }
         requires facts { IsTrue (list_all is_well_formed facts.now) }
-        requires few { length (terms_of_lits facts.now) ≤ 1100 }
+        requires few { length (terms_of_lits facts.now) ≤ most_terms_of_step }
         requires goal { IsTrue (is_well_formed_metric (Some goal.now)) }
         requires kind { kind_of_atom goal.now.atom ≡ Some which }
         requires own_answer { IsKindAnswer which facts.now (Some goal.now) own_answer }
@@ -413,7 +414,7 @@ impl MetricFacts {
     ) -> Result<Metric, AllocError>
         requires fronts { AreFronts facts.now self.now }
         requires facts { IsTrue (list_all is_well_formed facts.now) }
-        requires few { length (terms_of_lits facts.now) ≤ 1100 }
+        requires few { length (terms_of_lits facts.now) ≤ most_terms_of_step }
         requires goal { IsTrue (is_well_formed_metric (Some goal.now)) }
         requires kind { kind_of_atom goal.now.atom ≡ Some which }
         requires own_answer { IsKindAnswer which facts.now (Some goal.now) own_answer }
@@ -433,7 +434,7 @@ impl MetricFacts {
     ) -> Result<Metric, AllocError>
         requires fronts { AreFronts facts.now self.now }
         requires facts { IsTrue (list_all is_well_formed facts.now) }
-        requires few { length (terms_of_lits facts.now) ≤ 1100 }
+        requires few { length (terms_of_lits facts.now) ≤ most_terms_of_step }
         requires goal { IsTrue (is_well_formed_metric (Some goal.now)) }
         requires kind { kind_of_atom goal.now.atom ≡ Some which }
         ensures { IfOk result (IsMetricAnswer facts.now (Some goal.now)) }
@@ -453,7 +454,7 @@ impl MetricFacts {
     pub fn follows(&self, alloc: Global, facts: &Facts, goal: &Lit) -> Result<Metric, AllocError>
         requires fronts { AreFronts facts.now self.now }
         requires facts { IsTrue (list_all is_well_formed facts.now) }
-        requires few { length (terms_of_lits facts.now) ≤ 1100 }
+        requires few { length (terms_of_lits facts.now) ≤ most_terms_of_step }
         requires goal { IsTrue (is_well_formed_metric (Some goal.now)) }
         ensures answer { IfOk result (IsMetricAnswer facts.now (Some goal.now)) }
         ensures yes { IfOk result (λ m. IfYes m (MetricConsequence facts.now goal.now)) }
@@ -473,7 +474,7 @@ impl MetricFacts {
     ) -> Result<Option<MetricCert>, AllocError>
         requires fronts { AreFronts facts.now self.old }
         requires facts { IsTrue (list_all is_well_formed facts.now) }
-        requires few { length (terms_of_lits facts.now) ≤ 1100 }
+        requires few { length (terms_of_lits facts.now) ≤ most_terms_of_step }
         requires goal { IsTrue (is_well_formed_metric (Some goal.now)) }
         ensures cert { IfOk result (λ o. IfSome o (IsMetricCertificate facts.now (Some goal.now))) }
         ensures fronts { AreFronts facts.now self.new }
@@ -490,7 +491,7 @@ impl MetricFacts {
     fn answer_of_facts(&self, alloc: Global, facts: &Facts) -> Result<Metric, AllocError>
         requires fronts { AreFronts facts.now self.now }
         requires facts { IsTrue (list_all is_well_formed facts.now) }
-        requires few { length (terms_of_lits facts.now) ≤ 1100 }
+        requires few { length (terms_of_lits facts.now) ≤ most_terms_of_step }
         ensures { IfOk result (IsMetricAnswer facts.now None) }
     {
         let (segments, angles) = self.both_alone(alloc, Kind::Segment, Kind::Angle, facts, None)?;
@@ -516,7 +517,7 @@ impl MetricFacts {
     pub fn absurd(&self, alloc: Global, facts: &Facts) -> Result<Metric, AllocError>
         requires fronts { AreFronts facts.now self.now }
         requires facts { IsTrue (list_all is_well_formed facts.now) }
-        requires few { length (terms_of_lits facts.now) ≤ 1100 }
+        requires few { length (terms_of_lits facts.now) ≤ most_terms_of_step }
         ensures answer { IfOk result (IsMetricAnswer facts.now None) }
         ensures yes { IfOk result (λ m. IfYes m (Unsatisfiable facts.now)) }
         ensures no { IfOk result (λ m. IfNo m (¬ Unsatisfiable facts.now)) }
@@ -534,7 +535,7 @@ impl MetricFacts {
     ) -> Result<Option<MetricCert>, AllocError>
         requires fronts { AreFronts facts.now self.old }
         requires facts { IsTrue (list_all is_well_formed facts.now) }
-        requires few { length (terms_of_lits facts.now) ≤ 1100 }
+        requires few { length (terms_of_lits facts.now) ≤ most_terms_of_step }
         ensures cert { IfOk result (λ o. IfSome o (IsMetricCertificate facts.now None)) }
         ensures fronts { AreFronts facts.now self.new }
     {
@@ -551,7 +552,7 @@ impl MetricFacts {
     ) -> Result<Option<MetricCert>, AllocError>
         requires fronts { AreFronts facts.now self.old }
         requires facts { IsTrue (list_all is_well_formed facts.now) }
-        requires few { length (terms_of_lits facts.now) ≤ 1100 }
+        requires few { length (terms_of_lits facts.now) ≤ most_terms_of_step }
         ensures cert { IfOk result (λ o. IfSome o (IsMetricCertificate facts.now None)) }
         ensures fronts { AreFronts facts.now self.new }
     {
@@ -572,7 +573,7 @@ impl MetricFacts {
     ) -> Result<Metric, AllocError>
         requires fronts { AreFronts facts.now self.old }
         requires facts { IsTrue (list_all is_well_formed facts.now) }
-        requires few { length (terms_of_lits facts.now) ≤ 1100 }
+        requires few { length (terms_of_lits facts.now) ≤ most_terms_of_step }
         ensures answer { IfOk result (IsMetricAnswer facts.now None) }
         ensures fronts { AreFronts facts.now self.new }
     {
@@ -587,7 +588,7 @@ impl MetricFacts {
     pub fn absurd_in_turn(&mut self, alloc: Global, facts: &Facts) -> Result<Metric, AllocError>
         requires fronts { AreFronts facts.now self.old }
         requires facts { IsTrue (list_all is_well_formed facts.now) }
-        requires few { length (terms_of_lits facts.now) ≤ 1100 }
+        requires few { length (terms_of_lits facts.now) ≤ most_terms_of_step }
         ensures answer { IfOk result (IsMetricAnswer facts.now None) }
         ensures yes { IfOk result (λ m. IfYes m (Unsatisfiable facts.now)) }
         ensures no { IfOk result (λ m. IfNo m (¬ Unsatisfiable facts.now)) }

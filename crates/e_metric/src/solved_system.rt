@@ -7,6 +7,7 @@ ghost use Rattle.e_literal.specs.WellFormed.{is_well_formed};
 ghost use Rattle.e_literal.specs.Width;
 ghost use Rattle.e_clause.specs.Assignment.{terms_of_lits};
 ghost use Rattle.e_clause.specs.Laws.{is_well_formed_metric};
+ghost use Rattle.e_clause.specs.LimitedFacts.{most_terms_of_step};
 ghost use Rattle.e_clause.specs.System;
 ghost use Rattle.e_clause.specs.System.{system, rows_of_system};
 ghost use Rattle.e_fraction.specs.Views.{all_seen};
@@ -162,7 +163,7 @@ impl SolvedSystem {
         absurdity: &Absurdity,
     ) -> Result<MetricCert, AllocError>
         requires facts { IsTrue (list_all is_well_formed facts.now) }
-        requires few { length (terms_of_lits facts.now) ≤ 1100 }
+        requires few { length (terms_of_lits facts.now) ≤ most_terms_of_step }
         requires wanted { IsTrue (is_well_formed_metric (option_copied wanted)) }
         requires together { AreTogether which facts.now (option_copied wanted) self.now names.now
             rows.now }
@@ -186,7 +187,7 @@ impl SolvedSystem {
         rows: &[Row],
     ) -> Result<Metric, AllocError>
         requires facts { IsTrue (list_all is_well_formed facts.now) }
-        requires few { length (terms_of_lits facts.now) ≤ 1100 }
+        requires few { length (terms_of_lits facts.now) ≤ most_terms_of_step }
         requires goal { IsTrue (is_well_formed_metric (Some goal.now)) }
         requires together { AreTogether which facts.now (Some goal.now) self.now names.now
             rows.now }
@@ -218,7 +219,7 @@ impl SolvedSystem {
     ) -> Result<Metric, AllocError>
         requires solved_system { IsSolvedSystem which facts.now self.now }
         requires facts { IsTrue (list_all is_well_formed facts.now) }
-        requires few { length (terms_of_lits facts.now) ≤ 1100 }
+        requires few { length (terms_of_lits facts.now) ≤ most_terms_of_step }
         requires goal { IsTrue (is_well_formed_metric (Some goal.now)) }
         ensures { IfOk result (IsKindAnswer which facts.now (Some goal.now)) }
     {

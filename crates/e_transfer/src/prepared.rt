@@ -4,6 +4,7 @@ ghost use Rattle.std.specs.Prelude.{◌≡◌, ◌≤◌, length, IsTrue, IfOk};
 ghost use Rattle.std.specs.List.{list_all};
 ghost use Rattle.e_literal.specs.WellFormed.{is_well_formed};
 ghost use Rattle.e_clause.specs.Assignment.{terms_of_lits};
+ghost use Rattle.e_clause.specs.LimitedFacts.{most_terms_of_step};
 ghost use Rattle.e_metric.specs.Fronts.{AreFronts};
 ghost use Rattle.e_transfer.specs.Areas.{name_areas_of};
 ghost use Rattle.e_transfer.specs.Prepared.{IsPrepared};
@@ -59,7 +60,7 @@ pub fn prepare(
     metric_facts: &MetricFacts,
 ) -> Result<Prepared, AllocError>
     requires facts { IsTrue (list_all is_well_formed facts.now) }
-    requires few { length (terms_of_lits facts.now) ≤ 1100 }
+    requires few { length (terms_of_lits facts.now) ≤ most_terms_of_step }
     requires metric_facts { AreFronts facts.now metric_facts.now }
     ensures { IfOk result (IsPrepared facts.now) }
 {

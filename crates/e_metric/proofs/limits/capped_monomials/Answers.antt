@@ -1,5 +1,6 @@
-use Rattle.std.proofs.Common.{length, min, ap, ◌∙◌, arith}
+use Rattle.std.proofs.Common.{◌+◌, length, min, ap, ◌∙◌, arith}
 use Rattle.e_clause.specs.Assignment.{terms_of_lits}
+use Rattle.e_clause.specs.LimitedFacts.{most_terms_of_step}
 use Rattle.e_facts.proofs.Items.{fact_at, all_taken}
 use Rattle.e_metric.proofs.terms.WellFormedSums.{monomials_more}
 use Rattle.e_metric.proofs.limits.capped_monomials.Goals as goal
@@ -15,4 +16,4 @@ loop-fact-preserved c =
 pub returns : goal.returns
 returns c =
     c.loop-fact.invariant
-    ∙ ap (λ ls. min (length (terms_of_lits ls)) 1101) (all_taken c.items-fact-items.result.now c.args.facts.now c.loop-fact.fact-index c.items-fact-items.ensures c.loop-fact-test.false)
+    ∙ ap (λ ls. min (length (terms_of_lits ls)) (most_terms_of_step + 1)) (all_taken c.items-fact-items.result.now c.args.facts.now c.loop-fact.fact-index c.items-fact-items.ensures c.loop-fact-test.false)
