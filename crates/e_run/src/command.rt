@@ -1,5 +1,6 @@
 //! The words of a command.
 ghost use Rattle.std.specs.Prelude.{◌≡◌, ◌≤◌, IfSome, map, string_bytes};
+ghost use Rattle.e_line.specs.Limits.{most_theorems};
 ghost use Rattle.e_run.specs.Words.{theorem_count_of, step_of, plain_command, counted_command};
 ghost use Rattle.e_run.specs.Words.{placed_command, command_of, OfCount, OfStep};
 
@@ -42,7 +43,7 @@ pub enum Command {
 /// How many theorems: a numeral from 1 to 500.
 fn count_of(word: &[u8]) -> Option<u32>
     ensures value { result ≡ theorem_count_of word.now }
-    ensures few { IfSome result (λ n. n ≤ 500) }
+    ensures few { IfSome result (λ n. n ≤ most_theorems) }
 {
     match number(word) {
         Some(count) if 1 <= count && count <= MOST_THEOREMS => Some(count as u32),
@@ -53,7 +54,7 @@ fn count_of(word: &[u8]) -> Option<u32>
 /// The command of one word.
 fn plain_command(word: &[u8]) -> Command
     ensures value { result ≡ plain_command word.now }
-    ensures few { OfCount (λ n. n ≤ 500) result }
+    ensures few { OfCount (λ n. n ≤ most_theorems) result }
     ensures first { OfStep (λ n. 1 ≤ n) result }
 {
     if word == b"check".as_slice() {
@@ -75,9 +76,9 @@ fn plain_command(word: &[u8]) -> Command
 
 /// The command of a word and a number.
 fn counted_command(word: &[u8], count: Option<u32>) -> Command
-    requires { IfSome count (λ n. n ≤ 500) }
+    requires { IfSome count (λ n. n ≤ most_theorems) }
     ensures value { result ≡ counted_command word.now count }
-    ensures few { OfCount (λ n. n ≤ 500) result }
+    ensures few { OfCount (λ n. n ≤ most_theorems) result }
     ensures first { OfStep (λ n. 1 ≤ n) result }
 {
     let Some(count) = count else {
@@ -107,7 +108,7 @@ fn step_of(word: &[u8]) -> Option<u32>
 fn placed_command(word: &[u8], title: Option<Title>, step: Option<u32>) -> Command
     requires { IfSome step (λ n. 1 ≤ n) }
     ensures value { result ≡ placed_command word.now title step }
-    ensures few { OfCount (λ n. n ≤ 500) result }
+    ensures few { OfCount (λ n. n ≤ most_theorems) result }
     ensures first { OfStep (λ n. 1 ≤ n) result }
 {
     let (Some(title), Some(step)) = (title, step) else {
@@ -123,7 +124,7 @@ fn placed_command(word: &[u8], title: Option<Title>, step: Option<u32>) -> Comma
 /// What these words ask for.
 pub fn command_of(words: &[String]) -> Command
     ensures value { result ≡ command_of (map string_bytes words.now) }
-    ensures few { OfCount (λ n. n ≤ 500) result }
+    ensures few { OfCount (λ n. n ≤ most_theorems) result }
     ensures first { OfStep (λ n. 1 ≤ n) result }
 {
     match words {

@@ -1,6 +1,7 @@
 //! `make`: a book from a number.
 ghost use Rattle.std.specs.Prelude.{◌≡◌, ◌≤◌};
 ghost use Rattle.e_io.specs.Bytes.{Rose};
+ghost use Rattle.e_line.specs.Limits.{most_theorems};
 ghost use Rattle.e_run.specs.Answers.{IsReadFault, IsWriteFault};
 ghost use Rattle.e_run.specs.MadeBooks.{Makes};
 
@@ -12,7 +13,7 @@ use std::alloc::Global;
 
 /// Writes the generated book of this many theorems.
 pub fn make<K: Sink>(alloc: Global, theorems: u32, sink: &mut K) -> Status
-    requires { theorems ≤ 500 }
+    requires { theorems ≤ most_theorems }
     ensures makes { Makes theorems (K.written sink.old) (K.written sink.new) result }
     ensures rises { K.faults sink.old ≤ K.faults sink.new }
     ensures cause { IsWriteFault result → Rose (K.faults sink.old) (K.faults sink.new) }

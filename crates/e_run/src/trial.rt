@@ -2,6 +2,7 @@
 ghost use Rattle.std.specs.Prelude.{◌≡◌, ◌≤◌, ◌<◌, ◌^◌, length, IfOk, Some, []};
 ghost use Rattle.e_io.specs.Bytes.{Rose};
 ghost use Rattle.e_generate.specs.Generated.{generated_text};
+ghost use Rattle.e_line.specs.Limits.{most_theorems};
 ghost use Rattle.e_run.specs.Outcome.{lines_of_book};
 ghost use Rattle.e_run.specs.Answers.{IsReadFault, IsWriteFault};
 ghost use Rattle.e_run.specs.LastLines.{tried_line};
@@ -82,7 +83,7 @@ fn answer_to(alloc: Global, lines: &mut Lines) -> Result<Answer, AllocError>
 
 /// The answer to the generated book of this many theorems, with its line.
 fn answer_for(alloc: Global, theorems: u32) -> Result<Answer, AllocError>
-    requires { theorems ≤ 500 }
+    requires { theorems ≤ most_theorems }
     ensures { IfOk result
         (λ a. TrialAnswer (lines_of_book (generated_text theorems)) a.status a.line.items) }
 {
@@ -98,7 +99,7 @@ fn answer_for(alloc: Global, theorems: u32) -> Result<Answer, AllocError>
 /// Checks the generated book of this many theorems, verifies what `check` writes of it, and writes
 /// the line of the answer.
 pub fn trial<K: Sink>(alloc: Global, theorems: u32, sink: &mut K) -> Status
-    requires { theorems ≤ 500 }
+    requires { theorems ≤ most_theorems }
     ensures tries { Tries theorems (K.written sink.old) (K.written sink.new) result }
     ensures rises { K.faults sink.old ≤ K.faults sink.new }
     ensures cause { IsWriteFault result → Rose (K.faults sink.old) (K.faults sink.new) }
