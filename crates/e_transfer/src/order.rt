@@ -1,7 +1,8 @@
 //! The order in which the variables of a transfer clause are best chosen. It is a matter of speed
 //! alone.
 
-ghost use Rattle.std.specs.Prelude.{◌<◌};
+ghost use Rattle.std.specs.Prelude.{◌+◌, ◌<◌};
+ghost use Rattle.e_clause.specs.RuleKinds.{rule_count, diagram_rule_count};
 
 /// The variables of each transfer clause, in the order of the table: each early where the facts
 /// then bind it.
@@ -39,7 +40,7 @@ static ORDERS: [&'static [u8]; 29] = [
 
 /// The order for the transfer clause at this place of the table.
 pub fn order(at: u8) -> &'static [u8]
-    requires { at < 29 }
+    requires { diagram_rule_count + at < rule_count }
 {
     ORDERS[at as usize]
 }
