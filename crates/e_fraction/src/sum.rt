@@ -7,6 +7,7 @@ ghost use Rattle.std.specs.Ordering.{int_eq};
 ghost use Rattle.e_literal.specs.Rows.{Summands, coefficient};
 ghost use Rattle.e_literal.specs.Absurd.{total, allows_multiplier, is_strict, is_absurd};
 ghost use Rattle.e_fraction.specs.Limits.{has_small_coefficients, all_small, small_multipliers};
+ghost use Rattle.e_fraction.specs.Limits.{most_rows_of_system};
 ghost use Rattle.e_fraction.specs.Views.{sense_of, weighed, all_seen};
 ghost use Rattle.e_literal.specs.Solution.{HasSolution};
 
@@ -21,7 +22,7 @@ use e_literal::Term;
 /// [`have_small_coefficients`]: crate::row::have_small_coefficients
 pub fn check_sum(rows: &[Row], multipliers: &[i128]) -> bool
     requires lengths { length multipliers.now ≡ length rows.now }
-    requires few { length rows.now ≤ 4096 }
+    requires few { length rows.now ≤ most_rows_of_system }
     requires coefficients { IsTrue (all_small rows.now) }
     requires multipliers { IsTrue (small_multipliers multipliers.now) }
     ensures value { result ≡ is_absurd (weighed rows.now multipliers.now) }
@@ -42,7 +43,7 @@ pub fn are_small_multipliers(multipliers: &[i128]) -> bool
 /// Whether the coefficients of each term add up to 0.
 fn cancels(rows: &[Row], multipliers: &[i128]) -> bool
     requires lengths { length multipliers.now ≡ length rows.now }
-    requires few { length rows.now ≤ 4096 }
+    requires few { length rows.now ≤ most_rows_of_system }
     requires coefficients { IsTrue (all_small rows.now) }
     requires multipliers { IsTrue (small_multipliers multipliers.now) }
     ensures { result ≡ list_all (λ r. list_all (λ p.
@@ -54,7 +55,7 @@ fn cancels(rows: &[Row], multipliers: &[i128]) -> bool
 
 fn cancels_in(form: &[(i64, Term)], rows: &[Row], multipliers: &[i128]) -> bool
     requires lengths { length multipliers.now ≡ length rows.now }
-    requires few { length rows.now ≤ 4096 }
+    requires few { length rows.now ≤ most_rows_of_system }
     requires coefficients { IsTrue (all_small rows.now) }
     requires multipliers { IsTrue (small_multipliers multipliers.now) }
     ensures { result ≡ list_all (λ p.
@@ -69,7 +70,7 @@ fn cancels_in(form: &[(i64, Term)], rows: &[Row], multipliers: &[i128]) -> bool
 /// [`have_small_coefficients`]: crate::row::have_small_coefficients
 pub fn total(rows: &[Row], multipliers: &[i128], term: Term) -> i128
     requires lengths { length multipliers.now ≡ length rows.now }
-    requires few { length rows.now ≤ 4096 }
+    requires few { length rows.now ≤ most_rows_of_system }
     requires coefficients { IsTrue (all_small rows.now) }
     requires multipliers { IsTrue (small_multipliers multipliers.now) }
     ensures { result ≡ Rattle.e_literal.specs.Absurd.total (weighed rows.now multipliers.now) term }

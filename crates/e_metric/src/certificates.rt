@@ -3,7 +3,7 @@
 ghost use Rattle.std.specs.Prelude.{◌≡◌, ℕ, ◌+◌, ◌<◌, ◌≤◌, ◌^◌, ◌++◌, ◌∷◌, [], length};
 ghost use Rattle.std.specs.Prelude.{get_or, set, pos, unsigned_abs, IfOk, OnOk, IsTrue};
 ghost use Rattle.e_literal.specs.Absurd;
-ghost use Rattle.e_fraction.specs.Limits.{all_small};
+ghost use Rattle.e_fraction.specs.Limits.{most_rows_of_system, all_small};
 ghost use Rattle.e_fraction.specs.Views.{weighed, all_seen};
 ghost use Rattle.e_simplex.specs.Answer.{IsAbsurdity};
 ghost use Rattle.e_clause.specs.declared.cert.RowName.TheVariants as name;
@@ -281,7 +281,7 @@ pub fn sums_of(
     absurdity: &Absurdity,
 ) -> Result<Sums, AllocError>
     requires names { length names.items ≡ length rows.now }
-    requires few { length rows.now ≤ 4096 }
+    requires few { length rows.now ≤ most_rows_of_system }
     requires coefficients { IsTrue (all_small rows.now) }
     requires refuted { IsAbsurdity (all_seen rows.now) absurdity.now }
     ensures { IfOk result

@@ -3,7 +3,7 @@
 ghost use Rattle.std.specs.Prelude.{◌≡◌, ℕ, ◌+◌, ◌<◌, ◌≤◌, ◌^◌, length, IfOk, IsTrue, false};
 ghost use Rattle.e_literal.specs.Minor.{IsWide};
 ghost use Rattle.e_literal.specs.Solution.{HasSolution};
-ghost use Rattle.e_fraction.specs.Limits.{all_small};
+ghost use Rattle.e_fraction.specs.Limits.{most_rows_of_system, all_small};
 ghost use Rattle.e_fraction.specs.Views.{all_seen};
 ghost use Rattle.e_simplex.specs.Answer.{IsVerdict, IsRefuted, IsHolds, IsAbsurd};
 ghost use Rattle.e_simplex.specs.Naming.{AreOnce, AllNamed, named_constraints};
@@ -55,7 +55,7 @@ fn named_values(alloc: Global, terms: &[Term], values: &[i128]) -> Result<Values
 
 /// What comes of rows whose constraints are refuted.
 pub fn refuted_once(alloc: Global, rows: &[Row], weights: &[i128]) -> Result<Absurdity, AllocError>
-    requires few { length rows.now ≤ 4096 }
+    requires few { length rows.now ≤ most_rows_of_system }
     requires weights { AreWeightsFor (all_seen rows.now) weights.now }
     ensures { IfOk result (IsRefuted (all_seen rows.now)) }
 {
@@ -72,7 +72,7 @@ fn refuted_both(
     above: &[i128],
     below: &[i128],
 ) -> Result<Absurdity, AllocError>
-    requires few { length rows.now ≤ 4096 }
+    requires few { length rows.now ≤ most_rows_of_system }
     requires weights { AreWeightsForBoth (all_seen rows.now) k above.now below.now }
     ensures { IfOk result (IsRefuted (all_seen rows.now)) }
 {
@@ -92,7 +92,7 @@ pub fn verdict_of_solved(
     terms: &[Term],
     solved: &Table,
 ) -> Result<Verdict, AllocError>
-    requires few { length rows.now ≤ 4096 }
+    requires few { length rows.now ≤ most_rows_of_system }
     requires coefficients { IsTrue (all_small rows.now) }
     requires once { AreOnce terms.now }
     requires named { AllNamed terms.now (all_seen rows.now) }
@@ -123,7 +123,7 @@ pub fn verdict_of(
     terms: &[Term],
     outcome: &Outcome,
 ) -> Result<Verdict, AllocError>
-    requires few { length rows.now ≤ 4096 }
+    requires few { length rows.now ≤ most_rows_of_system }
     requires coefficients { IsTrue (all_small rows.now) }
     requires once { AreOnce terms.now }
     requires named { AllNamed terms.now (all_seen rows.now) }
@@ -149,7 +149,7 @@ pub fn verdict_of(
 ///
 /// [`have_small_coefficients`]: e_fraction::have_small_coefficients
 pub fn decide(alloc: Global, rows: &[Row]) -> Result<Verdict, AllocError>
-    requires few { length rows.now ≤ 4096 }
+    requires few { length rows.now ≤ most_rows_of_system }
     requires coefficients { IsTrue (all_small rows.now) }
     ensures verdict { IfOk result (IsVerdict (all_seen rows.now)) }
     ensures holds { IfOk result (λ v. ¬ IsWide (all_seen rows.now)

@@ -2,6 +2,7 @@
 
 ghost use Rattle.std.specs.Prelude.{◌≡◌, ◌≢◌, ℕ, ℤ, List, ◌^◌, ◌<◌, ◌≤◌, pos, length, get_or};
 ghost use Rattle.std.specs.Prelude.{unsigned_abs, IfOk, MatchOption};
+ghost use Rattle.e_fraction.specs.Limits.{most_rows_of_system};
 ghost use Rattle.e_simplex.specs.declared.constraints.Constraint.{Constraint};
 ghost use Rattle.e_simplex.specs.Entries.{AllSmall};
 ghost use Rattle.e_simplex.specs.Constraints.{AllSmallConstraints};
@@ -51,7 +52,7 @@ fn moved_point(
     found: &[i128],
 ) -> Result<Option<Point>, AllocError>
     requires here { k < length forms.now }
-    requires few { length forms.now ≤ 4096 }
+    requires few { length forms.now ≤ most_rows_of_system }
     requires small { AllSmallConstraints forms.now }
     requires within { AllFormsWithin (length found.now) forms.now }
     requires found { AllSmall found.now }

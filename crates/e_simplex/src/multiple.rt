@@ -2,6 +2,7 @@
 
 ghost use Rattle.std.specs.Prelude.{◌≡◌, ◌≢◌, ℕ, ◌+◌, ◌^◌, ◌<◌, ◌≤◌, ◌+ℤ◌, ◌*ℤ◌, pos, length};
 ghost use Rattle.std.specs.Prelude.{get_or, unsigned_abs, MatchOption, IfOk};
+ghost use Rattle.e_fraction.specs.Limits.{most_rows_of_system};
 ghost use Rattle.e_simplex.specs.inner.Multiple.{IsBad, NoneIsZero, added, AddedTo};
 
 use std::alloc::{AllocError, Global};
@@ -46,7 +47,7 @@ fn bad_place(first: &[i128], second: &[i128], k: usize, t: usize) -> Option<usiz
 pub fn least_multiple(first: &[i128], second: &[i128], k: usize) -> usize
     requires here { k ≤ length first.now }
     requires there { k ≤ length second.now }
-    requires few { k ≤ 4096 }
+    requires few { k ≤ most_rows_of_system }
     requires small_first { (j : ℕ) → j < k → unsigned_abs (get_or first.now j (pos 0)) < 2 ^ 90 }
     requires small_second { (j : ℕ) → j < k → unsigned_abs (get_or second.now j (pos 0)) < 2 ^ 65 }
     requires none_before { (j : ℕ) → j < k → get_or first.now j (pos 0) ≢ pos 0 }

@@ -2,6 +2,7 @@
 
 ghost use Rattle.std.specs.Prelude.{◌≡◌, ◌+◌, ◌<◌, ◌≤◌, ◌^◌, pos, suc, cond, IfOk, length};
 ghost use Rattle.std.specs.Prelude.{get_or, take};
+ghost use Rattle.e_fraction.specs.Limits.{most_rows_of_system};
 ghost use Rattle.e_fraction.specs.Views.{all_seen};
 ghost use Rattle.e_simplex.specs.Answer.{IsNotAt};
 ghost use Rattle.e_simplex.specs.inner.RowMultipliers.{row_multipliers};
@@ -50,7 +51,7 @@ pub fn multipliers_of_rows(
     tried: usize,
     last: i128,
 ) -> Result<Vec<i128>, AllocError>
-    requires { length rows.now ≤ 4096 }
+    requires { length rows.now ≤ most_rows_of_system }
     ensures { IfOk result (λ v.
         v.items ≡ row_multipliers (all_seen rows.now) weights.now 0 tried last) }
 {
@@ -67,7 +68,7 @@ pub fn multipliers_of_rows(
 
 /// The place of the row that has `k` rows that say `not 0` before it, and says that itself.
 pub fn place_of_not(rows: &[Row], k: usize) -> usize
-    requires few { length rows.now ≤ 4096 }
+    requires few { length rows.now ≤ most_rows_of_system }
     requires here { k < count_nots (all_seen rows.now) }
     ensures is_not { IsNotAt (all_seen rows.now) result }
     ensures before { count_nots (all_seen (take result rows.now)) ≡ k }

@@ -3,7 +3,7 @@
 ghost use Rattle.std.specs.Prelude.{◌≡◌, ℕ, ◌++◌, ◌+◌, ◌<◌, ◌≤◌, ◌^◌, length, IfOk, IsTrue, false};
 ghost use Rattle.e_literal.specs.Minor.{IsWide};
 ghost use Rattle.e_literal.specs.Solution.{HasSolution};
-ghost use Rattle.e_fraction.specs.Limits.{all_small};
+ghost use Rattle.e_fraction.specs.Limits.{most_rows_of_system, all_small};
 ghost use Rattle.e_fraction.specs.Views.{all_seen};
 ghost use Rattle.e_simplex.specs.Answer.{AreValuesOf, IsVerdict, IsHolds, IsAbsurd};
 ghost use Rattle.e_simplex.specs.Naming.{AreOnce, AllNamed, named_constraints};
@@ -97,7 +97,7 @@ fn with_values(
     terms: Vec<Term>,
     solved: Table,
 ) -> Result<Prepared, AllocError>
-    requires few { length rows.items ≤ 4096 }
+    requires few { length rows.items ≤ most_rows_of_system }
     requires coefficients { IsTrue (all_small rows.items) }
     requires once { AreOnce terms.items }
     requires named { AllNamed terms.items (all_seen rows.items) }
@@ -124,7 +124,7 @@ fn with_values(
 /// the rows, or `TooWide`, which comes only where some minor of the rows has size at least 2^63,
 /// and so their width is at least 2^63 too.
 pub fn prepare(alloc: Global, rows: Vec<Row>) -> Result<Prepared, AllocError>
-    requires few { length rows.items ≤ 4096 }
+    requires few { length rows.items ≤ most_rows_of_system }
     requires coefficients { IsTrue (all_small rows.items) }
     ensures { IfOk result (IsPreparedRows rows.items) }
 {
@@ -149,7 +149,7 @@ fn decided_with(
     solved: &Table,
     more: &[Row],
 ) -> Result<Verdict, AllocError>
-    requires few { length (rows.now ++ more.now) ≤ 4096 }
+    requires few { length (rows.now ++ more.now) ≤ most_rows_of_system }
     requires coefficients { IsTrue (all_small (rows.now ++ more.now)) }
     requires table { IsTableFor rows.now terms.now solved.now }
     ensures { IfOk result (IsVerdict (all_seen (rows.now ++ more.now))) }
@@ -189,7 +189,7 @@ fn prepared_with(
     solved: &Table,
     more: &[Row],
 ) -> Result<Prepared, AllocError>
-    requires few { length (rows.now ++ more.now) ≤ 4096 }
+    requires few { length (rows.now ++ more.now) ≤ most_rows_of_system }
     requires coefficients { IsTrue (all_small (rows.now ++ more.now)) }
     requires table { IsTableFor rows.now terms.now solved.now }
     ensures { IfOk result (IsPreparedRows (rows.now ++ more.now)) }
@@ -244,7 +244,7 @@ impl SolvedRows {
     /// [`decide`] of the rows and more after them, from the solved table; the rows stay as they
     /// are. Where `more` has over 8 terms that no row here has, all rows are decided from nothing.
     pub fn decide_with(&self, alloc: Global, more: &[Row]) -> Result<Verdict, AllocError>
-        requires few { length (self.now ++ more.now) ≤ 4096 }
+        requires few { length (self.now ++ more.now) ≤ most_rows_of_system }
         requires coefficients { IsTrue (all_small (self.now ++ more.now)) }
         ensures verdict { IfOk result (IsVerdict (all_seen (self.now ++ more.now))) }
         ensures holds { IfOk result (λ v. ¬ IsWide (all_seen (self.now ++ more.now))
@@ -258,7 +258,7 @@ impl SolvedRows {
     /// [`prepare`] of the rows and more after them, from the solved table; the rows stay as they
     /// are. Where `more` has over 8 terms that no row here has, all rows are solved from nothing.
     pub fn with(&self, alloc: Global, more: &[Row]) -> Result<Prepared, AllocError>
-        requires few { length (self.now ++ more.now) ≤ 4096 }
+        requires few { length (self.now ++ more.now) ≤ most_rows_of_system }
         requires coefficients { IsTrue (all_small (self.now ++ more.now)) }
         ensures { IfOk result (IsPreparedRows (self.now ++ more.now)) }
     {

@@ -10,7 +10,7 @@ use Rattle.e_clause.specs.declared.cert.RowName.TheVariants.{Goal, Least, Above,
 use Rattle.e_clause.specs.declared.cert.Sums.{Sums}
 use Rattle.e_clause.specs.declared.cert.Sums.TheVariants.{One as OneSum, Two as TwoSums}
 use Rattle.e_fraction.specs.declared.row.Row.{Row as GivenRow}
-use Rattle.e_fraction.specs.Limits.{all_small, small_multipliers}
+use Rattle.e_fraction.specs.Limits.{most_rows_of_system, all_small, small_multipliers}
 use Rattle.e_fraction.specs.Views.{weighed}
 use Rattle.e_simplex.specs.declared.decision.Absurdity.{Absurdity}
 use Rattle.e_simplex.specs.declared.decision.Absurdity.TheVariants.{One, Two}
@@ -18,7 +18,7 @@ use Rattle.e_simplex.specs.declared.decision.Absurdity.TheVariants.{One, Two}
 -- the rows may be summed with these weights, and little is left of each term
 pub record IsWeighable (rows : List GivenRow) (weights : List ℤ) : Type 0 where
   pub lengths : length weights ≡ length rows
-  pub few : length rows ≤ 4096
+  pub few : length rows ≤ most_rows_of_system
   pub coefficients : IsTrue (all_small rows)
   pub good : IsTrue (small_multipliers weights)
   pub left : (t : Term) → unsigned_abs (total (weighed rows weights) t) ≤ 2 ^ 80

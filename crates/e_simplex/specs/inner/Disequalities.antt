@@ -2,6 +2,7 @@
 use Rattle.std.specs.Prelude.{◌≡◌, ◌≢◌, ◌⊎◌, ℕ, ◌+◌, ◌^◌, ◌<◌, ◌≤◌, ◌++◌, ◌∷◌, [], ℤ, pos, List}
 use Rattle.std.specs.Prelude.{length, get_or, unsigned_abs}
 use Rattle.e_fraction.specs.Det.{HasWideMinor}
+use Rattle.e_fraction.specs.Limits.{most_rows_of_system}
 use Rattle.e_simplex.specs.Constraints.{rows_of, value_of_monomials, IsSolution, IsAbsurd}
 use Rattle.e_simplex.specs.Constraints.{AllSmallConstraints, AllFormsWithin}
 use Rattle.e_simplex.specs.inner.Multiple.{NoneIsZero, AddedTo}
@@ -24,7 +25,7 @@ pub record AreFurther (w : ℕ) (constraints forms : List Constraint) : Type 0 w
       → IsFit w (constraints ++ get_or forms k d ∷ [])
   pub small : AllSmallConstraints forms
   pub within : AllFormsWithin w forms
-  pub few : length forms ≤ 4096
+  pub few : length forms ≤ most_rows_of_system
 
 -- a form other than that at k has a value of size at least 2 ^ 64
 pub record LargeForm (forms : List Constraint) (k : ℕ) (values : List ℤ) : Type 0 where
