@@ -7,7 +7,7 @@ ghost use Rattle.e_fraction.specs.Limits.{most_rows_of_system, all_small};
 ghost use Rattle.e_fraction.specs.Views.{all_seen};
 ghost use Rattle.e_simplex.specs.Answer.{IsVerdict, IsRefuted, IsHolds, IsAbsurd};
 ghost use Rattle.e_simplex.specs.Naming.{AreOnce, AllNamed, named_constraints};
-ghost use Rattle.e_simplex.specs.Solved.{IsSolved, IsTableOutcome, columns_of};
+ghost use Rattle.e_simplex.specs.Solved.{IsSolved, IsTableOutcome, columns_of, spare_columns};
 ghost use Rattle.e_simplex.specs.inner.Paired.{PairedTo};
 ghost use Rattle.e_simplex.specs.inner.Weights.{AreWeightsFor, AreWeightsForBoth};
 
@@ -97,7 +97,7 @@ pub fn verdict_of_solved(
     requires once { AreOnce terms.now }
     requires named { AllNamed terms.now (all_seen rows.now) }
     requires room { length terms.now < columns_of solved.now }
-    requires counted { columns_of solved.now ≤ 2 ^ 63 + 8 }
+    requires counted { columns_of solved.now ≤ 2 ^ 63 + spare_columns }
     requires solved { IsSolved (columns_of solved.now)
         (named_constraints false terms.now (all_seen rows.now)) solved.now }
     ensures { IfOk result (IsVerdict (all_seen rows.now)) }
@@ -127,7 +127,7 @@ pub fn verdict_of(
     requires coefficients { IsTrue (all_small rows.now) }
     requires once { AreOnce terms.now }
     requires named { AllNamed terms.now (all_seen rows.now) }
-    requires outcome { (w : ℕ) × (length terms.now < w) × (w ≤ 2 ^ 63 + 8)
+    requires outcome { (w : ℕ) × (length terms.now < w) × (w ≤ 2 ^ 63 + spare_columns)
         × IsTableOutcome w (named_constraints false terms.now (all_seen rows.now)) outcome.now }
     ensures { IfOk result (IsVerdict (all_seen rows.now)) }
 {

@@ -8,7 +8,7 @@ ghost use Rattle.e_fraction.specs.Views.{all_seen};
 ghost use Rattle.e_simplex.specs.Answer.{AreValuesOf, IsVerdict, IsHolds, IsAbsurd};
 ghost use Rattle.e_simplex.specs.Naming.{AreOnce, AllNamed, named_constraints};
 ghost use Rattle.e_simplex.specs.Preparing.{IsPreparedRows};
-ghost use Rattle.e_simplex.specs.Solved.{IsSolved, columns_of};
+ghost use Rattle.e_simplex.specs.Solved.{IsSolved, columns_of, spare_columns};
 ghost use Rattle.e_simplex.specs.SolvedRows.{IsTableFor};
 
 use crate::decision::{Absurdity, Verdict, decide, refuted_once, verdict_of, verdict_of_solved};
@@ -102,7 +102,7 @@ fn with_values(
     requires once { AreOnce terms.items }
     requires named { AllNamed terms.items (all_seen rows.items) }
     requires room { length terms.items < columns_of solved }
-    requires counted { columns_of solved ≤ 2 ^ 63 + 8 }
+    requires counted { columns_of solved ≤ 2 ^ 63 + spare_columns }
     requires solved { IsSolved (columns_of solved)
         (named_constraints false terms.items (all_seen rows.items)) solved }
     ensures { IfOk result (IsPreparedRows rows.items) }
