@@ -18,14 +18,15 @@ ghost use Rattle.e_metric.specs.MetricAnswers.{IsMetricAnswer, IsKindAnswer};
 ghost use Rattle.e_metric.specs.MetricAnswers.{preferred, IfYes, IfNo};
 
 use crate::assigning::counterexample;
-use crate::by_kind::{ByKind, other_kinds};
+use crate::by_kind::ByKind;
 use crate::certificates::sums_of;
 use crate::listing::{has_term, terms_of_kind};
+use crate::metric_facts::MetricFacts;
 use crate::systems::system;
 use e_clause::{MetricCert, RowName};
 use e_facts::Facts;
 use e_fraction::Row;
-use e_literal::{Kind, Lit, Term, Values, kind};
+use e_literal::{Kind, Lit, Term, Values};
 use e_simplex::{Absurdity, Verdict, decide, width};
 use std::alloc::{AllocError, Global};
 use std::mem;
@@ -124,60 +125,6 @@ pub fn answer_of_kind(
     }
 }
 
-// The answer of the systems of two kinds.
-fn answers_of_both(
-    alloc: Global,
-    one: Kind,
-    other: Kind,
-    facts: &Facts,
-    wanted: Option<&Lit>,
-) -> Result<(Metric, Metric), AllocError>
-    requires facts { IsTrue (list_all is_well_formed facts.now) }
-    requires few { length (terms_of_lits facts.now) ≤ most_terms_of_step }
-    requires wanted { IsTrue (is_well_formed_metric (option_copied wanted)) }
-    ensures one { IfOk result (λ p. IsKindAnswer one facts.now (option_copied wanted.entry) p.0) }
-    ensures other { IfOk result
-        (λ p. IsKindAnswer other facts.now (option_copied wanted.entry) p.1) }
-{
-    let first = answer_of_kind(alloc, one, facts, wanted)?;
-    match answer_of_kind(alloc, other, facts, wanted) {
-        Ok(second) => Ok((first, second)),
-        Err(error) => {
-            mem::drop(first);
-            Err(error)
-        }
-    }
-}
-
-// The answer of the systems of all kinds, where that of `which` is already there.
-fn answers_by_kind(
-    alloc: Global,
-    which: Kind,
-    own_answer: Metric,
-    facts: &Facts,
-    wanted: Option<&Lit>,
-) -> Result<ByKind<Metric>, AllocError>
-    requires facts { IsTrue (list_all is_well_formed facts.now) }
-    requires few { length (terms_of_lits facts.now) ≤ most_terms_of_step }
-    requires wanted { IsTrue (is_well_formed_metric (option_copied wanted)) }
-    requires own_answer { IsKindAnswer which facts.now (option_copied wanted) own_answer }
-    ensures segments { IfOk result
-        (λ b. IsKindAnswer Kind.Segment facts.now (option_copied wanted.entry) b.segments) }
-    ensures angles { IfOk result
-        (λ b. IsKindAnswer Kind.Angle facts.now (option_copied wanted.entry) b.angles) }
-    ensures areas { IfOk result
-        (λ b. IsKindAnswer Kind.Area facts.now (option_copied wanted.entry) b.areas) }
-{
-    let (first, second) = other_kinds(which);
-    match answers_of_both(alloc, first, second, facts, wanted) {
-        Ok((first, second)) => Ok(ByKind::arrange(which, own_answer, first, second)),
-        Err(error) => {
-            mem::drop(own_answer);
-            Err(error)
-        }
-    }
-}
-
 // The second, if it is a certificate, or else the first.
 fn prefer_certificate(first: Metric, second: Metric) -> Metric
     ensures { result ≡ preferred first second }
@@ -230,27 +177,6 @@ pub fn joined_answer(
     }
 }
 
-// The answer of the three systems of the facts and of the wanted literal, that of a kind first.
-fn answer(
-    alloc: Global,
-    which: Kind,
-    facts: &Facts,
-    wanted: Option<&Lit>,
-) -> Result<Metric, AllocError>
-    requires facts { IsTrue (list_all is_well_formed facts.now) }
-    requires few { length (terms_of_lits facts.now) ≤ most_terms_of_step }
-    requires wanted { IsTrue (is_well_formed_metric (option_copied wanted)) }
-    ensures { IfOk result (IsMetricAnswer facts.now (option_copied wanted.entry)) }
-{
-    match answer_of_kind(alloc, which, facts, wanted)? {
-        Metric::Yes(cert) => Ok(Metric::Yes(cert)),
-        own_answer => {
-            let answer = answers_by_kind(alloc, which, own_answer, facts, wanted)?;
-            joined_answer(alloc, facts, wanted, answer)
-        }
-    }
-}
-
 /// Whether the metric literal follows from the facts: whether each admissible assignment that makes
 /// the metric facts true makes it true. `Yes` with a certificate that names no objects but those of
 /// the facts and of the goal; `No` with values for the terms of the step with which the facts are
@@ -270,8 +196,10 @@ pub fn follows(alloc: Global, facts: &Facts, goal: &Lit) -> Result<Metric, Alloc
     ensures yes { IfOk result (λ m. IfYes m (MetricConsequence facts.now goal.now)) }
     ensures no { IfOk result (λ m. IfNo m (¬ MetricConsequence facts.now goal.now)) }
 {
-    let which = kind(goal).unwrap_or(Kind::Segment);
-    answer(alloc, which, facts, Some(goal))
+    let metric_facts = MetricFacts::new();
+    let answer = metric_facts.follows(alloc, facts, goal);
+    mem::drop(metric_facts);
+    answer
 }
 
 /// Whether the metric facts contradict each other: whether no admissible assignment makes them all
@@ -283,5 +211,8 @@ pub fn absurd(alloc: Global, facts: &Facts) -> Result<Metric, AllocError>
     ensures yes { IfOk result (λ m. IfYes m (Unsatisfiable facts.now)) }
     ensures no { IfOk result (λ m. IfNo m (¬ Unsatisfiable facts.now)) }
 {
-    answer(alloc, Kind::Segment, facts, None)
+    let metric_facts = MetricFacts::new();
+    let answer = metric_facts.absurd(alloc, facts);
+    mem::drop(metric_facts);
+    answer
 }
