@@ -2,7 +2,7 @@
 
 ghost use Rattle.std.specs.Prelude.{◌≡◌, ◌+◌, ◌<◌, ◌≤◌, ◌^◌, ◌&&◌, length, min, Some};
 ghost use Rattle.std.specs.List.{list_all};
-ghost use Rattle.e_literal.specs.Literal.{kind_of_term, kind_of_sums};
+ghost use Rattle.e_literal.specs.Literal.{kind_of_term};
 ghost use Rattle.e_literal.specs.WellFormed;
 ghost use Rattle.e_literal.specs.WellFormed.{same_kind, is_bounded_coefficient};
 ghost use Rattle.e_clause.specs.Assignment.{terms_of_atom, terms_of_lits};
@@ -10,7 +10,7 @@ ghost use Rattle.e_clause.specs.Laws.{is_well_formed_metric};
 ghost use Rattle.e_clause.specs.LimitedFacts.{are_few, most_terms_of_step};
 
 use e_facts::Facts;
-use e_literal::{Atom, Kind, Lit, Mono, Term, kind};
+use e_literal::{Atom, Kind, Lit, Mono, Term, kind, kind_of_sums};
 
 // How many monomials the facts of a step may have.
 const MOST_TERMS: usize = 1100;
@@ -35,10 +35,10 @@ fn are_bounded_monomials(which: Kind, sum: &[Mono]) -> bool
 }
 
 #[tactic(auto, using(crate::proofs::terms::WellFormedSums::parts))]
-fn are_bounded_sums(which: Kind, x: &[Mono], y: &[Mono]) -> bool
-    requires { which ≡ kind_of_sums x.now y.now }
+fn are_bounded_sums(x: &[Mono], y: &[Mono]) -> bool
     ensures { result ≡ WellFormed.are_well_formed_sums x.now y.now }
 {
+    let which = kind_of_sums(x, y);
     let monomials = x.len() + y.len();
     1 <= monomials
         && monomials <= 32
@@ -51,9 +51,8 @@ fn are_bounded_sums(which: Kind, x: &[Mono], y: &[Mono]) -> bool
 pub fn is_well_formed(lit: &Lit) -> bool
     ensures { result ≡ WellFormed.is_well_formed lit.now }
 {
-    let which = kind(lit).unwrap_or(Kind::Segment);
     match &lit.atom {
-        Atom::MagEq(x, y) | Atom::MagLt(x, y) => are_bounded_sums(which, x.items(), y.items()),
+        Atom::MagEq(x, y) | Atom::MagLt(x, y) => are_bounded_sums(x.items(), y.items()),
         _ => true,
     }
 }
