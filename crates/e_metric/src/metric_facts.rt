@@ -198,6 +198,14 @@ impl Slot {
     }
 }
 
+// The kind of a metric literal.
+fn kind_of_goal(goal: &Lit) -> Kind
+    requires { IsTrue (is_well_formed_metric (Some goal.now)) }
+    ensures { kind_of_atom goal.now.atom ≡ Some result }
+{
+    kind(goal).unwrap()
+}
+
 /// What is solved of the facts of a step. Each kind is solved where it is first asked, and brought
 /// up to the facts that have come since where it is asked again. What is there after a call that
 /// fails is right for the same facts, and it stays right where more facts come.
@@ -460,8 +468,7 @@ impl MetricFacts {
         ensures yes { IfOk result (λ m. IfYes m (MetricConsequence facts.now goal.now)) }
         ensures no { IfOk result (λ m. IfNo m (¬ MetricConsequence facts.now goal.now)) }
     {
-        let which = kind(goal).unwrap_or(Kind::Segment);
-        self.follows_of(alloc, which, facts, goal)
+        self.follows_of(alloc, kind_of_goal(goal), facts, goal)
     }
 
     /// A certificate of the goal by the facts of its own kind, where they give it. That kind is
@@ -479,7 +486,7 @@ impl MetricFacts {
         ensures cert { IfOk result (λ o. IfSome o (IsMetricCertificate facts.now (Some goal.now))) }
         ensures fronts { AreFronts facts.now self.new }
     {
-        let which = kind(goal).unwrap_or(Kind::Segment);
+        let which = kind_of_goal(goal);
         self.bring(alloc, which, facts)?;
         match self.answer_for_kind(alloc, which, facts, goal)? {
             Metric::Yes(cert) => Ok(Some(cert)),
