@@ -375,8 +375,8 @@ fn apply(
 ) -> Result<Step, AllocError>
     requires { IsTrue (list_all is_small_statement (all_stated before.now)) }
     ensures { IfOk result (λ s. IsNumberedStep (all_stated before.now)
-        (Apply application.now.theorem application.now.args.now application.now.names.now application.now.certs.now) state.old
-        (step_script s) state.new) }
+        (Apply application.now.theorem application.now.args.now application.now.names.now
+        application.now.certs.now) state.old (step_script s) state.new) }
 {
     let scope = state.scope;
     let Some(statement) = before.get(application.theorem as usize) else {

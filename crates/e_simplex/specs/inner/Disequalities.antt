@@ -13,7 +13,7 @@ use Rattle.e_simplex.specs.declared.constraints.Constraint.{Constraint}
 use Rattle.e_simplex.specs.declared.constraints.ConstraintSense.TheVariants.{More}
 use Rattle.e_simplex.specs.declared.disequalities.Point.{Point}
 use Rattle.e_simplex.specs.declared.disequalities.NextPoint.{NextPoint}
-use Rattle.e_simplex.specs.declared.disequalities.NextPoint.TheVariants.{Moved, BothRefuted as NextBothRefuted, TooWide as NextTooWide}
+use Rattle.e_simplex.specs.declared.disequalities.NextPoint.TheVariants as next
 use Rattle.e_simplex.specs.declared.disequalities.Satisfaction.{Satisfaction}
 use Rattle.e_simplex.specs.declared.disequalities.Satisfaction.TheVariants.{Found, BothRefuted}
 use Rattle.e_simplex.specs.declared.disequalities.Satisfaction.TheVariants.{TooWide}
@@ -71,11 +71,11 @@ pub record AreBothRefuted (w : ℕ) (constraints forms : List Constraint) (k : �
       → IsAbsurd w (constraints ++ negative_constraint (get_or forms k d) ∷ []) below
 
 abbrev pub IsNextPoint : ℕ → List Constraint → List Constraint → ℕ → NextPoint → Type 0
-IsNextPoint w constraints forms k (Moved m) =
+IsNextPoint w constraints forms k (next.Moved m) =
     IsPoint w constraints forms (k + 1) m.values.items m.form_values.items
-IsNextPoint w constraints forms k (NextBothRefuted above below) =
+IsNextPoint w constraints forms k (next.BothRefuted above below) =
     AreBothRefuted w constraints forms k above.items below.items
-IsNextPoint w constraints forms k NextTooWide =
+IsNextPoint w constraints forms k next.TooWide =
     WideWith w constraints forms k ⊎ WideWithTwo w constraints forms k
 
 -- the constraints satisfied, and no form 0
