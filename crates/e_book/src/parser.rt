@@ -70,6 +70,7 @@ pub struct TheoremParser {
     pub section: Section,
 }
 
+/// Whether a line may come in this section.
 pub(crate) fn allowed(section: Section, raw_line: &RawLine) -> bool
     ensures { result ≡ allowed section raw_line.now }
 {

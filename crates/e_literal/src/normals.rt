@@ -21,7 +21,7 @@ pub struct Normal {
     pub(crate) atom: NormalAtom,
 }
 
-// An atom with its two sums in one.
+/// An atom with its two sums in one.
 #[derive(PartialEq, Eq, Drop)]
 pub(crate) enum NormalAtom {
     On(u16, u16),

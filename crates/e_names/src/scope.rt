@@ -238,6 +238,7 @@ pub fn put_lits(
     Ok(())
 }
 
+/// The object of this sort with the name.
 #[tactic(auto, unfolding(crate::specs::Scope::object_as))]
 pub(crate) fn object_as(names: &Names, sort: Sort, name: Name) -> Result<Obj, LineError>
     requires { FewNames names.now }

@@ -112,6 +112,7 @@ pub(crate) struct Sides {
     pub right: Form,
 }
 
+/// The two sums with their points; a fault where a term is of another kind than the first one.
 #[tactic(auto, unfolding(crate::specs::Scope::sums_in))]
 pub(crate) fn sums_in(
     alloc: Global,
