@@ -4,7 +4,8 @@ ghost use Rattle.e_deriv.specs.declared.block.Step.TheVariants.{Make as MakeStep
 ghost use Rattle.e_deriv.specs.declared.block.Step.TheVariants.{Apply as ApplyStep};
 ghost use Rattle.e_deriv.specs.Script.{Script, script_of, step_script, close_script, erased};
 
-use crate::block::{Block, Close, Step, boxed};
+use crate::block::{Block, Close, Step};
+use crate::inner::{claim, split, superposition};
 use e_clause::By;
 use e_construct::Construction;
 use e_literal::{Items, Lit, Obj, copy};
@@ -58,9 +59,8 @@ fn erase_step(alloc: Global, step: &Step) -> Result<Step, AllocError>
             ..
         } => bare_apply(alloc, *theorem, args.items(), names.items()),
         Step::Claim { shown, inner } => {
-            let shown = copy_lits(alloc, shown.items())?;
-            let inner = Box::new(alloc, erase(alloc, inner)?)?;
-            Ok(Step::Claim { shown, inner })
+            let inner = erase(alloc, inner)?;
+            claim(alloc, shown.items(), inner)
         }
         Step::Superposed {
             form,
@@ -69,16 +69,9 @@ fn erase_step(alloc: Global, step: &Step) -> Result<Step, AllocError>
             inner,
             ..
         } => {
-            let names = copy_names(alloc, names.items())?;
-            let shown = copy_lits(alloc, shown.items())?;
-            let inner = Box::new(alloc, erase(alloc, inner)?)?;
-            Ok(Step::Superposed {
-                form: *form,
-                names,
-                shown,
-                certs: Items::empty(alloc),
-                inner,
-            })
+            let inner = erase(alloc, inner)?;
+            let certs = Items::empty(alloc);
+            superposition(alloc, form, names.items(), shown.items(), certs, inner)
         }
     }
 }
@@ -98,20 +91,11 @@ fn erase_close(alloc: Global, close: &Close) -> Result<Close, AllocError>
         }
         Close::Contradiction { .. } => Ok(Close::Contradiction { against: None }),
         Close::Cases { lit, first, second } => {
-            let lit = copy(alloc, lit)?;
             let first = erase(alloc, first)?;
-            let second = match erase(alloc, second) {
-                Ok(second) => second,
+            match erase(alloc, second) {
+                Ok(second) => split(alloc, lit, first, second),
                 Err(error) => {
                     mem::drop(first);
-                    mem::drop(lit);
-                    return Err(error);
-                }
-            };
-            match boxed(alloc, first, second) {
-                Ok((first, second)) => Ok(Close::Cases { lit, first, second }),
-                Err(error) => {
-                    mem::drop(lit);
                     Err(error)
                 }
             }
