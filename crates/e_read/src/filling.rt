@@ -8,7 +8,9 @@ ghost use Rattle.e_read.specs.Filled.{Fills, FillsStep, FillsClose};
 use crate::kept::CertQueue;
 use e_cert::{Certs, StepCerts};
 use e_clause::{Against, Cert};
-use e_deriv::{Block, Close, Step, boxed, copy_by, copy_construction, copy_lits};
+use e_deriv::{
+    Block, Close, Step, claim, copy_by, copy_construction, copy_names, split, superposition,
+};
 use e_literal::{Items, copy};
 use std::alloc::{AllocError, Global};
 use std::mem;
@@ -90,14 +92,10 @@ fn fill_step(alloc: Global, step: &Step, queue: &mut CertQueue) -> Result<Step, 
             Ok(Step::Hence { lit, cert })
         }
         Step::Make { form, names, .. } => {
-            let names = Vec::from_slice(alloc, names.items())?;
+            let names = copy_names(alloc, names.items())?;
             let form = copy_construction(alloc, form)?;
             let certs = next_certs(alloc, queue).into_items();
-            Ok(Step::Make {
-                form,
-                names: Items::new(names),
-                certs,
-            })
+            Ok(Step::Make { form, names, certs })
         }
         Step::Apply {
             theorem,
@@ -106,20 +104,18 @@ fn fill_step(alloc: Global, step: &Step, queue: &mut CertQueue) -> Result<Step, 
             ..
         } => {
             let args = Vec::from_slice(alloc, args.items())?;
-            let new = Vec::from_slice(alloc, names.items())?;
+            let names = copy_names(alloc, names.items())?;
             let certs = next_certs(alloc, queue).into_items();
             Ok(Step::Apply {
                 theorem: *theorem,
                 args: Items::new(args),
-                names: Items::new(new),
+                names,
                 certs,
             })
         }
         Step::Claim { shown, inner } => {
-            let shown = copy_lits(alloc, shown.items())?;
             let inner = fill(alloc, inner, queue)?;
-            let inner = Box::new(alloc, inner)?;
-            Ok(Step::Claim { shown, inner })
+            claim(alloc, shown.items(), inner)
         }
         Step::Superposed {
             form,
@@ -128,18 +124,14 @@ fn fill_step(alloc: Global, step: &Step, queue: &mut CertQueue) -> Result<Step, 
             inner,
             ..
         } => {
-            let copied = Vec::from_slice(alloc, names.items())?;
-            let shown = copy_lits(alloc, shown.items())?;
             let certs = next_certs(alloc, queue).into_items();
-            let inner = fill(alloc, inner, queue)?;
-            let inner = Box::new(alloc, inner)?;
-            Ok(Step::Superposed {
-                form: *form,
-                names: Items::new(copied),
-                shown,
-                certs,
-                inner,
-            })
+            match fill(alloc, inner, queue) {
+                Ok(inner) => superposition(alloc, form, names.items(), shown.items(), certs, inner),
+                Err(error) => {
+                    mem::drop(certs);
+                    Err(error)
+                }
+            }
         }
     }
 }
@@ -163,20 +155,11 @@ fn fill_close(alloc: Global, close: &Close, queue: &mut CertQueue) -> Result<Clo
             Ok(Close::Contradiction { against })
         }
         Close::Cases { lit, first, second } => {
-            let lit = copy(alloc, lit)?;
             let first = fill(alloc, first, queue)?;
-            let second = match fill(alloc, second, queue) {
-                Ok(second) => second,
+            match fill(alloc, second, queue) {
+                Ok(second) => split(alloc, lit, first, second),
                 Err(error) => {
                     mem::drop(first);
-                    mem::drop(lit);
-                    return Err(error);
-                }
-            };
-            match boxed(alloc, first, second) {
-                Ok((first, second)) => Ok(Close::Cases { lit, first, second }),
-                Err(error) => {
-                    mem::drop(lit);
                     Err(error)
                 }
             }

@@ -1,5 +1,5 @@
 //! What certificates a line owes.
-ghost use Rattle.std.specs.Prelude.{◌≡◌, ◌≤◌, ◌<◌, ◌+◌, ◌^◌, IfOk, IsTrue};
+ghost use Rattle.std.specs.Prelude.{◌≡◌, ◌≤◌, ◌<◌, ◌+◌, ◌^◌, ◌∷◌, [], IfOk, IsTrue};
 ghost use Rattle.std.specs.Prelude.{length, map, Option, Some, None, reverse};
 ghost use Rattle.std.specs.Option.{option_map};
 ghost use Rattle.std.specs.List.{list_all};
@@ -27,6 +27,14 @@ use e_names::{Theorems, apply_in, let_in, lit_in, qed_in, scope_of_names, superp
 use e_text::Name;
 use e_theorem::{Statement, UseFault, all_renamed, use_of};
 use std::alloc::{AllocError, Global};
+use std::mem;
+
+/// The literal alone.
+fn alone(alloc: Global, lit: Lit) -> Result<Items<Lit>, AllocError>
+    ensures { IfOk result (λ ls. ls ≡ lit ∷ []) }
+{
+    Ok(Items::new(vec![in alloc; lit]?))
+}
 
 /// One certificate for each of these literals.
 fn one_each(alloc: Global, wanted: Items<Lit>) -> Obligation
@@ -202,14 +210,14 @@ pub(crate) fn due_of(
     match raw_line {
         RawLine::Hence(raw) => {
             let lit = lit_in(alloc, &parser.in_scope, raw)?;
-            let mut wanted = Items::empty(alloc);
-            wanted.push(lit)?;
+            let wanted = alone(alloc, lit)?;
             Ok(one_each(alloc, wanted))
         }
         RawLine::Let(raw) => {
             let form = let_in(alloc, &parser.in_scope, raw)?;
-            let needs = form.needs(alloc)?;
-            Ok(one_each(alloc, Items::new(needs)))
+            let needs = form.needs(alloc);
+            mem::drop(form);
+            Ok(one_each(alloc, Items::new(needs?)))
         }
         RawLine::Apply(raw) => {
             let needs = needs_of_use(alloc, known, parser, raw)?;
@@ -217,8 +225,9 @@ pub(crate) fn due_of(
         }
         RawLine::Superpose(raw) => {
             let placement = superpose_in(alloc, &parser.in_scope, raw)?;
-            let needs = placement.form.needs(alloc)?;
-            Ok(one_each(alloc, Items::new(needs)))
+            let needs = placement.form.needs(alloc);
+            mem::drop(placement);
+            Ok(one_each(alloc, Items::new(needs?)))
         }
         RawLine::Qed(names) => {
             let needs = needs_at_qed(alloc, parser, names.items())?;
