@@ -1,6 +1,6 @@
 //! The trimmed block: the kept steps and the close, over the kept objects.
 
-ghost use Rattle.std.specs.Prelude.{◌≡◌, ◌++◌, ◌<◌, ◌^◌, length, map, IfOk, IsTrue, List};
+ghost use Rattle.std.specs.Prelude.{◌≡◌, ◌++◌, ◌<◌, ◌^◌, length, IfOk, IsTrue, List};
 ghost use Rattle.std.specs.List.{list_all};
 ghost use Rattle.std.specs.Option.{option_map};
 ghost use Rattle.e_literal.specs.Scopes;
@@ -12,13 +12,11 @@ ghost use Rattle.e_trim.specs.inner.StepState.{FewKept};
 ghost use Rattle.e_trim.specs.inner.Building.{AreSmall, IsSmallStep, TakesFlag, IsBuilt};
 ghost use Rattle.e_trim.specs.inner.Building.{StepIsBuilt, CloseIsBuilt, BlockIsBuilt};
 
-use crate::numbering::{
-    new_against, new_args, new_by, new_cert, new_certs, new_construction, new_lit, new_lits,
-    new_objects, new_superpose,
-};
+use crate::new_steps::{new_apply, new_claim, new_hence, new_make, new_split, new_superposition};
+use crate::numbering::{new_against, new_by, new_certs, new_objects};
 use crate::steps::makes;
-use e_clause::{Against, Cert};
-use e_deriv::{Block, Close, Step, boxed, copy_names};
+use e_clause::Against;
+use e_deriv::{Block, Close, Step};
 use e_literal::{Obj, Scope, Sort, grown, next_objects};
 use e_theorem::Statement;
 use std::alloc::{AllocError, Global};
@@ -39,16 +37,6 @@ fn with_next(
     let next = next_objects(alloc, scope, sorts)?;
     more.extend_from_slice(&next)?;
     Ok(more)
-}
-
-fn new_cert_of(alloc: Global, kept: &[Obj], cert: &Option<Cert>) -> Result<Option<Cert>, AllocError>
-    requires { length kept.now < 2 ^ 16 }
-    ensures { IfOk result (λ c. c ≡ option_map (Trimmed.cert_at kept.now) cert.now) }
-{
-    match cert {
-        Some(cert) => Ok(Some(new_cert(alloc, kept, cert)?)),
-        None => Ok(None),
-    }
 }
 
 fn new_against_of(
@@ -130,31 +118,26 @@ fn build_step(
 {
     match step {
         Step::Cite(by) => Ok(Step::Cite(new_by(alloc, kept, by)?)),
-        Step::Hence { lit, cert } => Ok(Step::Hence {
-            lit: new_lit(alloc, kept, lit)?,
-            cert: new_cert_of(alloc, kept, cert)?,
-        }),
-        Step::Make { form, names, certs } => Ok(Step::Make {
-            form: new_construction(alloc, kept, form)?,
-            names: copy_names(alloc, names.items())?,
-            certs: new_certs(alloc, kept, certs.items())?,
-        }),
+        Step::Hence { lit, cert } => new_hence(alloc, kept, lit, cert),
+        Step::Make { form, names, certs } => {
+            new_make(alloc, kept, form, names.items(), certs.items())
+        }
         Step::Apply {
             theorem,
             args,
             names,
             certs,
-        } => Ok(Step::Apply {
-            theorem: *theorem,
-            args: new_args(alloc, kept, args.items())?,
-            names: copy_names(alloc, names.items())?,
-            certs: new_certs(alloc, kept, certs.items())?,
-        }),
+        } => new_apply(
+            alloc,
+            kept,
+            *theorem,
+            args.items(),
+            names.items(),
+            certs.items(),
+        ),
         Step::Claim { shown, inner } => {
-            let shown = new_lits(alloc, kept, shown.items())?;
             let inner = build_block(alloc, before, inner, scope, kept, flags)?;
-            let inner = Box::new(alloc, inner)?;
-            Ok(Step::Claim { shown, inner })
+            new_claim(alloc, kept, shown.items(), inner)
         }
         Step::Superposed {
             form,
@@ -165,18 +148,16 @@ fn build_step(
         } => {
             let copies = form.made();
             let inside = with_next(alloc, kept, scope, copies)?;
-            let names = copy_names(alloc, names.items())?;
-            let shown = new_lits(alloc, kept, shown.items())?;
-            let certs = new_certs(alloc, kept, certs.items())?;
             let inner = build_block(alloc, before, inner, grown(scope, copies), &inside, flags)?;
-            let inner = Box::new(alloc, inner)?;
-            Ok(Step::Superposed {
-                form: new_superpose(kept, form),
-                names,
-                shown,
-                certs,
+            new_superposition(
+                alloc,
+                kept,
+                form,
+                names.items(),
+                shown.items(),
+                certs.items(),
                 inner,
-            })
+            )
         }
     }
 }
@@ -206,20 +187,11 @@ fn build_close(
             against: new_against_of(alloc, kept, against)?,
         }),
         Close::Cases { lit, first, second } => {
-            let lit = new_lit(alloc, kept, lit)?;
             let first = build_block(alloc, before, first, scope, kept, flags)?;
-            let second = match build_block(alloc, before, second, scope, kept, flags) {
-                Ok(second) => second,
+            match build_block(alloc, before, second, scope, kept, flags) {
+                Ok(second) => new_split(alloc, kept, lit, first, second),
                 Err(error) => {
                     mem::drop(first);
-                    mem::drop(lit);
-                    return Err(error);
-                }
-            };
-            match boxed(alloc, first, second) {
-                Ok((first, second)) => Ok(Close::Cases { lit, first, second }),
-                Err(error) => {
-                    mem::drop(lit);
                     Err(error)
                 }
             }

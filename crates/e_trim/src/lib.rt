@@ -8,6 +8,7 @@ mod instances;
 mod laws;
 mod looked;
 mod looking;
+mod new_steps;
 mod noting;
 mod numbering;
 mod step_state;

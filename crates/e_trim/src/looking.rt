@@ -7,6 +7,7 @@ ghost use Rattle.e_literal.specs.Scopes.{grown};
 ghost use Rattle.e_theorem.specs.Statements.{all_stated};
 ghost use Rattle.e_deriv.specs.Fitting.{is_small, is_small_statement};
 ghost use Rattle.e_deriv.specs.Script.{script_of, steps_script, close_script};
+ghost use Rattle.e_trim.specs.Looked.{both};
 ghost use Rattle.e_trim.specs.Trimmed.{wants_outside, wants};
 ghost use Rattle.e_trim.specs.inner.Flags.{flags_of};
 ghost use Rattle.e_trim.specs.inner.StepState.{IsReady, IsReadyToTrim, StepAdds, FlagsAdded};
@@ -47,14 +48,19 @@ pub fn look(
     ensures kept { OnOk result (KeepsFacts state.old state.new) }
 {
     match steps {
-        [] => look_at_close(alloc, before, close, goal, state, flags),
+        [] => look_from_close(alloc, before, close, goal, state, flags),
         [step, steps @ ..] => {
             let outer = state.checkpoint();
             pass(alloc, before, step, state)?;
             let mut wanted = look(alloc, before, steps, close, goal, state, flags)?;
             state.restore(outer);
-            look_back(alloc, before, step, state, flags, &mut wanted)?;
-            Ok(wanted)
+            match look_back(alloc, before, step, state, flags, &mut wanted) {
+                Ok(()) => Ok(wanted),
+                Err(error) => {
+                    mem::drop(wanted);
+                    Err(error)
+                }
+            }
         }
     }
 }
@@ -128,8 +134,9 @@ fn look_at_step(
             };
             let given = form.gives(alloc, state.scope)?;
             let made = form.made();
-            let inside = look_inside(alloc, before, inner, &goal, state, flags, made, &given)?;
-            out.append(inside)
+            let inside = look_inside(alloc, before, inner, &goal, state, flags, made, &given);
+            mem::drop(given);
+            out.append(inside?)
         }
     }
 }
@@ -176,10 +183,9 @@ fn look_inside(
     inside.outside(alloc, state)
 }
 
-/// What a close looks up and needs, with the blocks inside of it. The flags of the second block are
-/// put onto the pile first.
+/// What a close looks up and needs, with the blocks inside of it.
 #[cycle(look)]
-fn look_at_close(
+fn look_from_close(
     alloc: Global,
     before: &[Statement],
     close: &Close,
@@ -198,19 +204,49 @@ fn look_at_close(
     ensures kept { OnOk result (KeepsFacts state.old state.new) }
 {
     let mut wanted = Wanted::new(alloc);
-    look_close(alloc, close, goal, state, &mut wanted)?;
+    match look_at_close(alloc, before, close, goal, state, flags, &mut wanted) {
+        Ok(()) => Ok(wanted),
+        Err(error) => {
+            mem::drop(wanted);
+            Err(error)
+        }
+    }
+}
+
+/// What a close looks up and needs is wanted too, with the blocks inside of it. The flags of the
+/// second block are put onto the pile first.
+#[cycle(look)]
+fn look_at_close(
+    alloc: Global,
+    before: &[Statement],
+    close: &Close,
+    goal: &Goal,
+    state: &mut StepState,
+    flags: &mut Vec<bool>,
+    out: &mut Wanted,
+) -> Result<(), AllocError>
+    requires ready { IsReady (all_stated before.now)
+        (close_script close.now) state.old.scope state.old.facts (goal_view goal.now) }
+    requires statements { IsTrue (list_all is_small_statement (all_stated before.now)) }
+    ensures wanted { OnOk result (out.new ≡ both out.old (wants (all_stated before.now)
+        (close_script close.now) state.old.scope state.old.facts (goal_view goal.now))) }
+    ensures flags { OnOk result
+        (flags.new.items ≡ flags.old.items ++ flags_of (all_stated before.now)
+        (close_script close.now) state.old.scope state.old.facts (goal_view goal.now)) }
+    ensures kept { OnOk result (KeepsFacts state.old state.new) }
+{
+    look_close(alloc, close, goal, state, out)?;
     match close {
-        Close::Qed { .. } | Close::Contradiction { .. } => Ok(wanted),
+        Close::Qed { .. } | Close::Contradiction { .. } => Ok(()),
         Close::Cases { lit, first, second } => {
             let fails = vec![in alloc; negate(copy(alloc, lit)?)]?;
-            let other = look_inside(alloc, before, second, goal, state, flags, &[], &fails)?;
+            let other = look_inside(alloc, before, second, goal, state, flags, &[], &fails);
             mem::drop(fails);
-            wanted.append(other)?;
+            out.append(other?)?;
             let holds = vec![in alloc; copy(alloc, lit)?]?;
-            let one = look_inside(alloc, before, first, goal, state, flags, &[], &holds)?;
+            let one = look_inside(alloc, before, first, goal, state, flags, &[], &holds);
             mem::drop(holds);
-            wanted.append(one)?;
-            Ok(wanted)
+            out.append(one?)
         }
     }
 }

@@ -58,48 +58,48 @@ apply_built before kept step theorem args new names same certs now s pile is e n
     subst (λ st. StepIsBuilt before kept st s pile pile (ApplyStep theorem new same now)) (sym is)
     (λ rest more facts under h. (ap (λ x. Apply theorem x same now more) e ∙ ap (λ x. Apply theorem (args_at kept args) x now more) n ∙ ap (λ x. Apply theorem (args_at kept args) names x more) f, h ∙ append-nil under))
 
-claim_done : (before : List StatementView) (kept : List Obj) (shown new : List Lit) (inner box : Box Block Global) (s : Scope) (pile left : List Bool) → new ≡ map (lit_among_kept kept) shown → BlockIsBuilt before kept (script_of inner.value) s pile left box.value
+claim_done : (before : List StatementView) (kept : List Obj) (shown new : List Lit) (inner : Box Block Global) (block : Block) (s : Scope) (pile left : List Bool) → new ≡ map (lit_among_kept kept) shown → BlockIsBuilt before kept (script_of inner.value) s pile left block
     → (rest more : Script) (facts : List Lit) (under : List Bool) → pile ≡ under ++ step_flags before (Claim shown (script_of inner.value) rest) s facts
-    → (Claim new (script_of box.value) more ≡ kept_step before kept (Claim shown (script_of inner.value) rest) s facts more) × (left ≡ under)
-claim_done before kept shown new inner box s pile left e built rest more facts under h =
+    → (Claim new (script_of block) more ≡ kept_step before kept (Claim shown (script_of inner.value) rest) s facts more) × (left ≡ under)
+claim_done before kept shown new inner block s pile left e built rest more facts under h =
     let r = built facts (goal_of shown) under h in
-    (ap (λ x. Claim x (script_of box.value) more) e ∙ ap (λ x. Claim (map (lit_among_kept kept) shown) x more) r.0, r.1)
+    (ap (λ x. Claim x (script_of block) more) e ∙ ap (λ x. Claim (map (lit_among_kept kept) shown) x more) r.0, r.1)
 
-pub claim_built : (before : List StatementView) (kept : List Obj) (step : Step) (shown new : List Lit) (inner box : Box Block Global) (s : Scope) (pile left : List Bool) → step ≡ ClaimBlock shown inner → new ≡ map (lit_among_kept kept) shown
-    → BlockIsBuilt before kept (script_of inner.value) s pile left box.value → StepIsBuilt before kept step s pile left (ClaimBlock new box)
-claim_built before kept step shown new inner box s pile left is e built =
-    subst (λ st. StepIsBuilt before kept st s pile left (ClaimBlock new box)) (sym is)
+pub claim_built : (before : List StatementView) (kept : List Obj) (step made : Step) (shown new : List Lit) (inner : Box Block Global) (block : Block) (s : Scope) (pile left : List Bool) → step ≡ ClaimBlock shown inner → new ≡ map (lit_among_kept kept) shown
+    → ((more : Script) → step_script made more ≡ Claim new (script_of block) more) → BlockIsBuilt before kept (script_of inner.value) s pile left block → StepIsBuilt before kept step s pile left made
+claim_built before kept step made shown new inner block s pile left is e script built =
+    subst (λ st. StepIsBuilt before kept st s pile left made) (sym is)
     (λ rest more facts under h.
     let old = step_script-Claim shown inner rest in
-    let r = claim_done before kept shown new inner box s pile left e built rest more facts under (h ∙ ap (λ d. under ++ step_flags before d s facts) old) in
-    (step_script-Claim new box more ∙ r.0 ∙ ap (λ d. kept_step before kept d s facts more) (sym old), r.1))
+    let r = claim_done before kept shown new inner block s pile left e built rest more facts under (h ∙ ap (λ d. under ++ step_flags before d s facts) old) in
+    (script more ∙ r.0 ∙ ap (λ d. kept_step before kept d s facts more) (sym old), r.1))
 
-superposed_done : (before : List StatementView) (kept wide : List Obj) (form : Superpose) (now : Superpose) (names same : List (List ℕ)) (shown new : List Lit) (certs cs : List Cert) (inner box : Box Block Global) (s : Scope) (pile left : List Bool)
+superposed_done : (before : List StatementView) (kept wide : List Obj) (form : Superpose) (now : Superpose) (names same : List (List ℕ)) (shown new : List Lit) (certs cs : List Cert) (inner : Box Block Global) (block : Block) (s : Scope) (pile left : List Bool)
     → wide ≡ kept ++ next_objects s superposing.sorts_copied → now ≡ superpose_at kept form → same ≡ names → new ≡ map (lit_among_kept kept) shown → cs ≡ map (cert_at kept) certs
-    → BlockIsBuilt before wide (script_of inner.value) (grown s superposing.sorts_copied) pile left box.value
+    → BlockIsBuilt before wide (script_of inner.value) (grown s superposing.sorts_copied) pile left block
     → (rest more : Script) (facts : List Lit) (under : List Bool) → pile ≡ under ++ step_flags before (Superposed form names shown certs (script_of inner.value) rest) s facts
-    → (Superposed now same new cs (script_of box.value) more ≡ kept_step before kept (Superposed form names shown certs (script_of inner.value) rest) s facts more) × (left ≡ under)
-superposed_done before kept wide form now names same shown new certs cs inner box s pile left w f n e g built rest more facts under h =
+    → (Superposed now same new cs (script_of block) more ≡ kept_step before kept (Superposed form names shown certs (script_of inner.value) rest) s facts more) × (left ≡ under)
+superposed_done before kept wide form now names same shown new certs cs inner block s pile left w f n e g built rest more facts under h =
     let opened = joined_all facts (superposing.gives_of_superposition form s) in
     let r = built opened (goal_of shown) under h in (
-      ap (λ x. Superposed x same new cs (script_of box.value) more) f
-          ∙ ap (λ x. Superposed (superpose_at kept form) x new cs (script_of box.value) more) n
-          ∙ ap (λ x. Superposed (superpose_at kept form) names x cs (script_of box.value) more) e
-          ∙ ap (λ x. Superposed (superpose_at kept form) names (map (lit_among_kept kept) shown) x (script_of box.value) more) g
+      ap (λ x. Superposed x same new cs (script_of block) more) f
+          ∙ ap (λ x. Superposed (superpose_at kept form) x new cs (script_of block) more) n
+          ∙ ap (λ x. Superposed (superpose_at kept form) names x cs (script_of block) more) e
+          ∙ ap (λ x. Superposed (superpose_at kept form) names (map (lit_among_kept kept) shown) x (script_of block) more) g
           ∙ ap (λ x. Superposed (superpose_at kept form) names (map (lit_among_kept kept) shown) (map (cert_at kept) certs) x more)
           (r.0 ∙ ap (λ ks. trimmed_from before ks (script_of inner.value) (grown s superposing.sorts_copied) opened (goal_of shown)) w),
       r.1,
     )
 
-pub superposed_built : (before : List StatementView) (kept wide : List Obj) (step : Step) (form now : Superpose) (names same : List (List ℕ)) (shown new : List Lit) (certs cs : List Cert) (inner box : Box Block Global) (s : Scope) (pile left : List Bool)
+pub superposed_built : (before : List StatementView) (kept wide : List Obj) (step made : Step) (form now : Superpose) (names same : List (List ℕ)) (shown new : List Lit) (certs cs : List Cert) (inner : Box Block Global) (block : Block) (s : Scope) (pile left : List Bool)
     → step ≡ SuperposedBlock form names shown certs inner → wide ≡ kept ++ next_objects s superposing.sorts_copied → now ≡ superpose_at kept form → same ≡ names → new ≡ map (lit_among_kept kept) shown → cs ≡ map (cert_at kept) certs
-    → BlockIsBuilt before wide (script_of inner.value) (grown s superposing.sorts_copied) pile left box.value → StepIsBuilt before kept step s pile left (SuperposedBlock now same new cs box)
-superposed_built before kept wide step form now names same shown new certs cs inner box s pile left is w f n e g built =
-    subst (λ st. StepIsBuilt before kept st s pile left (SuperposedBlock now same new cs box)) (sym is)
+    → ((more : Script) → step_script made more ≡ Superposed now same new cs (script_of block) more) → BlockIsBuilt before wide (script_of inner.value) (grown s superposing.sorts_copied) pile left block → StepIsBuilt before kept step s pile left made
+superposed_built before kept wide step made form now names same shown new certs cs inner block s pile left is w f n e g script built =
+    subst (λ st. StepIsBuilt before kept st s pile left made) (sym is)
     (λ rest more facts under h.
     let old = step_script-Superposed form names shown certs inner rest in
-    let r = superposed_done before kept wide form now names same shown new certs cs inner box s pile left w f n e g built rest more facts under (h ∙ ap (λ d. under ++ step_flags before d s facts) old) in
-    (step_script-Superposed now same new cs box more ∙ r.0 ∙ ap (λ d. kept_step before kept d s facts more) (sym old), r.1))
+    let r = superposed_done before kept wide form now names same shown new certs cs inner block s pile left w f n e g built rest more facts under (h ∙ ap (λ d. under ++ step_flags before d s facts) old) in
+    (script more ∙ r.0 ∙ ap (λ d. kept_step before kept d s facts more) (sym old), r.1))
 
 -- ---- closes
 
@@ -116,38 +116,37 @@ unfolding close_script flags_of trimmed_from
 contradiction_built before kept close against new s pile is e =
     subst (λ cl. CloseIsBuilt before kept (close_script cl) s pile pile (ContradictionClose new)) (sym is) (λ facts goal under h. (ap Contradiction e, h ∙ append-nil under))
 
-cases_done : (before : List StatementView) (kept : List Obj) (lit new : Lit) (first second one other : Box Block Global) (s : Scope) (pile over left : List Bool) → new ≡ lit_among_kept kept lit
-    → BlockIsBuilt before kept (script_of first.value) s pile over one.value → BlockIsBuilt before kept (script_of second.value) s over left other.value
+cases_done : (before : List StatementView) (kept : List Obj) (lit new : Lit) (first second : Box Block Global) (one other : Block) (s : Scope) (pile over left : List Bool) → new ≡ lit_among_kept kept lit
+    → BlockIsBuilt before kept (script_of first.value) s pile over one → BlockIsBuilt before kept (script_of second.value) s over left other
     → (facts : List Lit) (goal : Goal) (under : List Bool) → pile ≡ under ++ flags_of before (Cases lit (script_of first.value) (script_of second.value)) s facts goal
-    → (Cases new (script_of one.value) (script_of other.value) ≡ trimmed_from before kept (Cases lit (script_of first.value) (script_of second.value)) s facts goal) × (left ≡ under)
+    → (Cases new (script_of one) (script_of other) ≡ trimmed_from before kept (Cases lit (script_of first.value) (script_of second.value)) s facts goal) × (left ≡ under)
 unfolding flags_of trimmed_from
 cases_done before kept lit new first second one other s pile over left e built built_other facts goal under h =
     let lower = flags_of before (script_of second.value) s (joined facts (negation lit)) goal in
     let a = built (joined facts lit) goal (under ++ lower) (h ∙ sym (append_assoc under lower (flags_of before (script_of first.value) s (joined facts lit) goal))) in
     let b = built_other (joined facts (negation lit)) goal under a.1 in (
-      ap (λ x. Cases x (script_of one.value) (script_of other.value)) e ∙ ap (λ x. Cases (lit_among_kept kept lit) x (script_of other.value)) a.0
+      ap (λ x. Cases x (script_of one) (script_of other)) e ∙ ap (λ x. Cases (lit_among_kept kept lit) x (script_of other)) a.0
           ∙ ap (λ x. Cases (lit_among_kept kept lit) (trimmed_from before kept (script_of first.value) s (joined facts lit) goal) x) b.0,
       b.1,
     )
 
-pub cases_built : (before : List StatementView) (kept : List Obj) (close : Close) (lit new : Lit) (first second one other : Box Block Global) (s : Scope) (pile over left : List Bool) → close ≡ CasesBlock lit first second → new ≡ lit_among_kept kept lit
-    → BlockIsBuilt before kept (script_of first.value) s pile over one.value → BlockIsBuilt before kept (script_of second.value) s over left other.value
-    → CloseIsBuilt before kept (close_script close) s pile left (CasesBlock new one other)
-cases_built before kept close lit new first second one other s pile over left is e built built_other =
-    subst (λ cl. CloseIsBuilt before kept (close_script cl) s pile left (CasesBlock new one other)) (sym is)
+pub cases_built : (before : List StatementView) (kept : List Obj) (close made : Close) (lit new : Lit) (first second : Box Block Global) (one other : Block) (s : Scope) (pile over left : List Bool) → close ≡ CasesBlock lit first second → new ≡ lit_among_kept kept lit
+    → close_script made ≡ Cases new (script_of one) (script_of other) → BlockIsBuilt before kept (script_of first.value) s pile over one → BlockIsBuilt before kept (script_of second.value) s over left other
+    → CloseIsBuilt before kept (close_script close) s pile left made
+cases_built before kept close made lit new first second one other s pile over left is e script built built_other =
+    subst (λ cl. CloseIsBuilt before kept (close_script cl) s pile left made) (sym is)
     (λ facts goal under h.
     let old = close_script-Cases lit first second in
     let r = cases_done before kept lit new first second one other s pile over left e built built_other facts goal under (h ∙ ap (λ d. under ++ flags_of before d s facts goal) old) in
-    (close_script-Cases new one other ∙ r.0 ∙ ap (λ d. trimmed_from before kept d s facts goal) (sym old), r.1))
+    (script ∙ r.0 ∙ ap (λ d. trimmed_from before kept d s facts goal) (sym old), r.1))
 
 -- ---- blocks in boxes
 
--- the block that is built of the one after a box, in a box of its own
-pub boxed : (before : List StatementView) (kept : List Obj) (inner : Block) (was box : Box Block Global) (block : Block) (s t : Scope) (pile left : List Bool) → inner ≡ was.value → box.value ≡ block → t ≡ s → BlockIsBuilt before kept (script_of inner) t pile left block
-    → BlockIsBuilt before kept (script_of was.value) s pile left box.value
-boxed before kept inner was box block s t pile left e f g built =
-    subst (λ b. BlockIsBuilt before kept (script_of was.value) s pile left b) (sym f)
-    (subst (λ x. BlockIsBuilt before kept (script_of was.value) x pile left block) g (subst (λ b. BlockIsBuilt before kept (script_of b) t pile left block) e built))
+-- the block that is built of the one in a box
+pub boxed : (before : List StatementView) (kept : List Obj) (inner : Block) (was : Box Block Global) (block : Block) (s t : Scope) (pile left : List Bool) → inner ≡ was.value → t ≡ s → BlockIsBuilt before kept (script_of inner) t pile left block
+    → BlockIsBuilt before kept (script_of was.value) s pile left block
+boxed before kept inner was block s t pile left e g built =
+    subst (λ x. BlockIsBuilt before kept (script_of was.value) x pile left block) g (subst (λ b. BlockIsBuilt before kept (script_of b) t pile left block) e built)
 
 -- the copies have numbers of 16 bits
 pub copies_room : (s : Scope) (sorts : List Sort) → is_small s ≡ true → sorts ≡ superposing.sorts_copied → (s.points + length sorts < 2 ^ 16) × (s.lines + length sorts < 2 ^ 16) × (s.circles + length sorts < 2 ^ 16)

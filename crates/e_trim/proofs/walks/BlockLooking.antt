@@ -155,25 +155,26 @@ pub contradiction_plain : (before : List StatementView) (close : Close) (against
 unfolding close_script
 contradiction_plain before close against s facts goal is = subst (λ c. NoBlocks before c s facts goal) (sym is) (contradiction_wants before against s facts goal)
 
-pub close_wanted : (before : List StatementView) (close : Close) (s : Scope) (facts : List Lit) (goal : Goal) (none w : Wants) → NoBlocks before close s facts goal → none ≡ no_wants → w ≡ both none (of_step before (as_step (close_script close) s facts goal))
-    → w ≡ wants before (close_script close) s facts goal
-close_wanted before close s facts goal none w n z e = e ∙ ap (λ v. both v (of_step before (as_step (close_script close) s facts goal))) z ∙ sym n.0
+pub close_wanted : (before : List StatementView) (close : Close) (s : Scope) (facts : List Lit) (goal : Goal) (old w : Wants) → NoBlocks before close s facts goal → w ≡ both old (of_step before (as_step (close_script close) s facts goal))
+    → w ≡ both old (wants before (close_script close) s facts goal)
+close_wanted before close s facts goal old w n e = e ∙ ap (both old) (sym n.0)
 
 pub close_flags : (before : List StatementView) (close : Close) (s : Scope) (facts : List Lit) (goal : Goal) (old : List Bool) → NoBlocks before close s facts goal → old ≡ old ++ flags_of before (close_script close) s facts goal
 close_flags before close s facts goal old n = sym (append-nil old) ∙ ap (λ xs. old ++ xs) (sym n.1)
 
-pub cases_wanted : (before : List StatementView) (close : Close) (lit : Lit) (first second : Box Block Global) (s : Scope) (facts : List Lit) (goal : Goal) (none line other one w v : Wants) → close ≡ CasesBlock lit first second → none ≡ no_wants
-    → line ≡ both none (of_step before (as_step (close_script close) s facts goal))
+pub cases_wanted : (before : List StatementView) (close : Close) (lit : Lit) (first second : Box Block Global) (s : Scope) (facts : List Lit) (goal : Goal) (old line other one w v : Wants) → close ≡ CasesBlock lit first second
+    → line ≡ both old (of_step before (as_step (close_script close) s facts goal))
     → other ≡ wants_outside s facts (wants before (script_of second.value) s (joined facts (negation lit)) goal) → one ≡ wants_outside s facts (wants before (script_of first.value) s (joined facts lit) goal) → v ≡ both line other → w ≡ both v one
-    → w ≡ wants before (close_script close) s facts goal
-cases_wanted before close lit first second s facts goal none line other one w v is z l o p a b =
+    → w ≡ both old (wants before (close_script close) s facts goal)
+cases_wanted before close lit first second s facts goal old line other one w v is l o p a b =
     let e = ap close_script is ∙ close_script-Cases lit first second in
     let own = of_step before (as_step (close_script close) s facts goal) in
     let f = cases_forms before lit (script_of first.value) (script_of second.value) s facts goal in
-    b ∙ ap (λ x. both x one) (a ∙ ap (λ x. both x other) (l ∙ ap (λ x. both x own) z)) ∙ both-assoc own other one
-    ∙ ap (λ x. both own (both x one)) o ∙ ap (λ x. both own (both (wants_outside s facts (wants before (script_of second.value) s (joined facts (negation lit)) goal)) x)) p
+    b ∙ ap (λ x. both x one) (a ∙ ap (λ x. both x other) l ∙ both-assoc old own other) ∙ both-assoc old (both own other) one
+    ∙ ap (both old)
+    (both-assoc own other one ∙ ap (λ x. both own (both x one)) o ∙ ap (λ x. both own (both (wants_outside s facts (wants before (script_of second.value) s (joined facts (negation lit)) goal)) x)) p
     ∙ ap (λ d. both (of_step before (as_step d s facts goal)) (both (wants_outside s facts (wants before (script_of second.value) s (joined facts (negation lit)) goal)) (wants_outside s facts (wants before (script_of first.value) s (joined facts lit) goal)))) e
-    ∙ sym (ap (λ d. wants before d s facts goal) e ∙ f.0)
+    ∙ sym (ap (λ d. wants before d s facts goal) e ∙ f.0))
 
 pub cases_flags : (before : List StatementView) (close : Close) (lit : Lit) (first second : Box Block Global) (s : Scope) (facts : List Lit) (goal : Goal) (old mid new : List Bool) → close ≡ CasesBlock lit first second
     → mid ≡ old ++ flags_of before (script_of second.value) s (joined facts (negation lit)) goal → new ≡ mid ++ flags_of before (script_of first.value) s (joined facts lit) goal → new ≡ old ++ flags_of before (close_script close) s facts goal

@@ -1,11 +1,14 @@
-use Rattle.std.proofs.Common.{arith, ◌++◌, map, refl, sym, ap, ◌∙◌, subst}
+use Rattle.std.proofs.Common.{arith, ◌≡◌, ◌++◌, map, refl, sym, ap, ◌∙◌, subst}
+use Rattle.std.specs.Option.{option_map}
 use Rattle.e_theorem.specs.Statements.{all_stated}
 use Rattle.e_deriv.specs.declared.block.Close.{Close}
-use Rattle.e_deriv.specs.Script.{close_script, script_of, steps_script}
+use Rattle.e_deriv.specs.declared.block.Step.{Step}
+use Rattle.e_deriv.specs.declared.block.Step.TheVariants.{Hence as HenceStep, Make as MakeStep, Apply as ApplyStep}
+use Rattle.e_deriv.specs.Script.{Script, Claim, Superposed, Cases, close_script, script_of, step_script, steps_script}
 use Rattle.e_literal.specs.Scopes.{grown, next_objects}
 use Rattle.e_construct.specs.Superposing as superposing
-use Rattle.e_trim.specs.Trimmed.{obj_at, lit_among_kept, cert_at, args_at}
-use Rattle.e_trim.specs.inner.Building.{IsBuilt, AreSmall, IsSmallStep}
+use Rattle.e_trim.specs.Trimmed.{obj_at, lit_among_kept, cert_at, args_at, construction_among_kept, superpose_at}
+use Rattle.e_trim.specs.inner.Building.{IsBuilt, AreSmall, IsSmallStep, StepIsBuilt, CloseIsBuilt}
 use Rattle.e_trim.proofs.kept_scripts.BuiltSteps.{few_numbers, small_first, small_step, small_claim, small_superposed, small_cases}
 use Rattle.e_trim.proofs.kept_scripts.KeptSteps.{cite_built, hence_built, make_built, apply_built, claim_built, superposed_built, qed_built, contradiction_built, cases_built, boxed, copies_room}
 use Rattle.e_trim.proofs.walks.FirstSteps.{ok_map, later_steps, whole_is, begun_small, begun_few, begun_room, begun_step, begun_rest, wide_few, more_few, dropped_whole, kept_whole}
@@ -94,8 +97,8 @@ build_close-new_certs-requires t c = few_numbers c.args.scope c.args.kept.now (s
 pub build_close-new_against_of-requires : goal.build_close-new_against_of-requires
 build_close-new_against_of-requires t c = few_numbers c.args.scope c.args.kept.now (small_first (all_stated c.args.before.now) (close_script c.args.close.now) c.args.scope c.requires.scopes) c.requires.few
 
-pub build_close-new_lit-requires : goal.build_close-new_lit-requires
-build_close-new_lit-requires t c = few_numbers c.args.scope c.args.kept.now (small_first (all_stated c.args.before.now) (close_script c.args.close.now) c.args.scope c.requires.scopes) c.requires.few
+pub build_close-new_split-requires : goal.build_close-new_split-requires
+build_close-new_split-requires t c = few_numbers c.args.scope c.args.kept.now (small_first (all_stated c.args.before.now) (close_script c.args.close.now) c.args.scope c.requires.scopes) c.requires.few
 
 pub build_close-build_block-requires : goal.build_close-build_block-requires
 build_close-build_block-requires t c = (
@@ -118,66 +121,72 @@ pub build_close-returns-in_ok-new_against_of-in-Contradiction : goal.build_close
 build_close-returns-in_ok-new_against_of-in-Contradiction t c =
     contradiction_built (all_stated c.args.before.now) c.args.kept.now c.args.close.now c.in-Contradiction.against c.in_ok-new_against_of-in-Contradiction.field-0 c.args.scope c.args.flags.now.items c.in-Contradiction.is c.in_ok-new_against_of-in-Contradiction.ensures
 
-pub build_close-returns-in-Ok-boxed : goal.build_close-returns-in-Ok-boxed
-build_close-returns-in-Ok-boxed t c =
+pub build_close-returns-in-Ok : goal.build_close-returns-in-Ok
+build_close-returns-in-Ok t c =
+    let before = all_stated c.args.before.now in
+    let kept = c.args.kept.now in
+    let y = c.in-Cases in
     let pile = c.args.flags.now.items in
     let over = c.build_block.new.flags.items in
     let left = c.build_block-in-Cases.new.flags.items in
-    let one = boxed (all_stated c.args.before.now) c.args.kept.now c.deref.result.now c.in-Cases.first c.in-Ok-boxed.first c.in_ok-first-in-Cases.first c.args.scope c.args.scope pile over c.deref.ensures c.in-Ok-boxed.ensures.first refl c.in_ok-first-in-Cases.ensures in
-    let other = boxed (all_stated c.args.before.now) c.args.kept.now c.deref-in-Cases.result.now c.in-Cases.second c.in-Ok-boxed.second c.in-Ok.second c.args.scope c.args.scope over left c.deref-in-Cases.ensures c.in-Ok-boxed.ensures.second refl c.in-Ok.ensures in
-    cases_built (all_stated c.args.before.now) c.args.kept.now c.args.close.now c.in-Cases.lit c.in_ok-lit-in-Cases.lit c.in-Cases.first c.in-Cases.second c.in-Ok-boxed.first c.in-Ok-boxed.second c.args.scope pile over left c.in-Cases.is c.in_ok-lit-in-Cases.ensures one other
+    let one = c.in_ok-first-in-Cases.first in
+    let other = c.in-Ok.second in
+    let lit = lit_among_kept kept y.lit in
+    ok_map (λ (made : Close). close_script made ≡ Cases lit (script_of one) (script_of other)) (λ (made : Close). CloseIsBuilt before kept (close_script c.args.close.now) c.args.scope pile left made) c.new_split.result
+    (λ made script. cases_built before kept c.args.close.now made y.lit lit y.first y.second one other c.args.scope pile over left y.is refl script
+    (boxed before kept c.deref.result.now y.first one c.args.scope c.args.scope pile over c.deref.ensures refl c.in_ok-first-in-Cases.ensures)
+    (boxed before kept c.deref-in-Cases.result.now y.second other c.args.scope c.args.scope over left c.deref-in-Cases.ensures refl c.in-Ok.ensures)) c.new_split.ensures
 
 -- ---- a step
 
 pub build_step-new_by-requires : goal.build_step-new_by-requires
 build_step-new_by-requires t c = few_numbers c.args.scope c.args.kept.now (small_step (all_stated c.args.before.now) c.args.step.now c.args.scope c.requires.scopes) c.requires.few
 
-pub build_step-new_lit-requires : goal.build_step-new_lit-requires
-build_step-new_lit-requires t c = few_numbers c.args.scope c.args.kept.now (small_step (all_stated c.args.before.now) c.args.step.now c.args.scope c.requires.scopes) c.requires.few
+pub build_step-new_hence-requires : goal.build_step-new_hence-requires
+build_step-new_hence-requires t c = few_numbers c.args.scope c.args.kept.now (small_step (all_stated c.args.before.now) c.args.step.now c.args.scope c.requires.scopes) c.requires.few
 
-pub build_step-new_cert_of-requires : goal.build_step-new_cert_of-requires
-build_step-new_cert_of-requires t c = few_numbers c.args.scope c.args.kept.now (small_step (all_stated c.args.before.now) c.args.step.now c.args.scope c.requires.scopes) c.requires.few
+pub build_step-new_make-requires : goal.build_step-new_make-requires
+build_step-new_make-requires t c = few_numbers c.args.scope c.args.kept.now (small_step (all_stated c.args.before.now) c.args.step.now c.args.scope c.requires.scopes) c.requires.few
 
-pub build_step-new_construction-requires : goal.build_step-new_construction-requires
-build_step-new_construction-requires t c = few_numbers c.args.scope c.args.kept.now (small_step (all_stated c.args.before.now) c.args.step.now c.args.scope c.requires.scopes) c.requires.few
+pub build_step-new_apply-requires : goal.build_step-new_apply-requires
+build_step-new_apply-requires t c = few_numbers c.args.scope c.args.kept.now (small_step (all_stated c.args.before.now) c.args.step.now c.args.scope c.requires.scopes) c.requires.few
 
-pub build_step-new_certs-requires : goal.build_step-new_certs-requires
-build_step-new_certs-requires t c = few_numbers c.args.scope c.args.kept.now (small_step (all_stated c.args.before.now) c.args.step.now c.args.scope c.requires.scopes) c.requires.few
+pub build_step-new_claim-requires : goal.build_step-new_claim-requires
+build_step-new_claim-requires t c = few_numbers c.args.scope c.args.kept.now (small_step (all_stated c.args.before.now) c.args.step.now c.args.scope c.requires.scopes) c.requires.few
 
-pub build_step-new_args-requires : goal.build_step-new_args-requires
-build_step-new_args-requires t c = few_numbers c.args.scope c.args.kept.now (small_step (all_stated c.args.before.now) c.args.step.now c.args.scope c.requires.scopes) c.requires.few
-
-pub build_step-new_certs-requires-in-Apply : goal.build_step-new_certs-requires-in-Apply
-build_step-new_certs-requires-in-Apply t c = few_numbers c.args.scope c.args.kept.now (small_step (all_stated c.args.before.now) c.args.step.now c.args.scope c.requires.scopes) c.requires.few
-
-pub build_step-new_lits-requires : goal.build_step-new_lits-requires
-build_step-new_lits-requires t c = few_numbers c.args.scope c.args.kept.now (small_step (all_stated c.args.before.now) c.args.step.now c.args.scope c.requires.scopes) c.requires.few
-
-pub build_step-new_lits-requires-in-Superposed : goal.build_step-new_lits-requires-in-Superposed
-build_step-new_lits-requires-in-Superposed t c = few_numbers c.args.scope c.args.kept.now (small_step (all_stated c.args.before.now) c.args.step.now c.args.scope c.requires.scopes) c.requires.few
-
-pub build_step-new_certs-requires-in-Superposed : goal.build_step-new_certs-requires-in-Superposed
-build_step-new_certs-requires-in-Superposed t c = few_numbers c.args.scope c.args.kept.now (small_step (all_stated c.args.before.now) c.args.step.now c.args.scope c.requires.scopes) c.requires.few
-
-pub build_step-new_superpose-requires : goal.build_step-new_superpose-requires
-build_step-new_superpose-requires t c = few_numbers c.args.scope c.args.kept.now (small_step (all_stated c.args.before.now) c.args.step.now c.args.scope c.requires.scopes) c.requires.few
+pub build_step-new_superposition-requires : goal.build_step-new_superposition-requires
+build_step-new_superposition-requires t c = few_numbers c.args.scope c.args.kept.now (small_step (all_stated c.args.before.now) c.args.step.now c.args.scope c.requires.scopes) c.requires.few
 
 pub build_step-returns-in_ok-new_by-in-Cite : goal.build_step-returns-in_ok-new_by-in-Cite
 build_step-returns-in_ok-new_by-in-Cite t c = cite_built (all_stated c.args.before.now) c.args.kept.now c.args.step.now c.in-Cite.by c.in_ok-new_by-in-Cite.field-0 c.args.scope c.args.flags.now.items c.in-Cite.is c.in_ok-new_by-in-Cite.ensures
 
-pub build_step-returns-in_ok-new_cert_of-in-Hence : goal.build_step-returns-in_ok-new_cert_of-in-Hence
-build_step-returns-in_ok-new_cert_of-in-Hence t c =
-    hence_built (all_stated c.args.before.now) c.args.kept.now c.args.step.now c.in-Hence.lit c.in_ok-new_lit-in-Hence.field-0 c.in-Hence.cert c.in_ok-new_cert_of-in-Hence.field-0 c.args.scope c.args.flags.now.items c.in-Hence.is c.in_ok-new_lit-in-Hence.ensures c.in_ok-new_cert_of-in-Hence.ensures
+pub build_step-returns-in-Hence : goal.build_step-returns-in-Hence
+build_step-returns-in-Hence t c =
+    let kept = c.args.kept.now in
+    let y = c.in-Hence in
+    let new = HenceStep (lit_among_kept kept y.lit) (option_map (cert_at kept) y.cert) in
+    ok_map (λ (made : Step). made ≡ new) (λ (made : Step). StepIsBuilt (all_stated c.args.before.now) kept c.args.step.now c.args.scope c.args.flags.now.items c.args.flags.now.items made) c.new_hence.result
+    (λ made e. subst (λ x. StepIsBuilt (all_stated c.args.before.now) kept c.args.step.now c.args.scope c.args.flags.now.items c.args.flags.now.items x) (sym e)
+    (hence_built (all_stated c.args.before.now) kept c.args.step.now y.lit (lit_among_kept kept y.lit) y.cert (option_map (cert_at kept) y.cert) c.args.scope c.args.flags.now.items y.is refl refl)) c.new_hence.ensures
 
-pub build_step-returns-in_ok-new_certs-in-Make : goal.build_step-returns-in_ok-new_certs-in-Make
-build_step-returns-in_ok-new_certs-in-Make t c =
-    make_built (all_stated c.args.before.now) c.args.kept.now c.args.step.now c.in-Make.form c.in_ok-new_construction-in-Make.field-0 c.in-Make.names c.in_ok-copy_names-in-Make.field-0 c.in-Make.certs c.in_ok-new_certs-in-Make.field-0 c.args.scope c.args.flags.now.items c.in-Make.is c.in_ok-new_construction-in-Make.ensures
-    (c.in_ok-copy_names-in-Make.ensures ∙ c.items.ensures) (c.in_ok-new_certs-in-Make.ensures ∙ ap (map (cert_at c.args.kept.now)) c.items-in-Make.ensures)
+pub build_step-returns-in-Make : goal.build_step-returns-in-Make
+build_step-returns-in-Make t c =
+    let kept = c.args.kept.now in
+    let y = c.in-Make in
+    let new = MakeStep (construction_among_kept kept y.form) c.items.result.now (map (cert_at kept) c.items-in-Make.result.now) in
+    ok_map (λ (made : Step). made ≡ new) (λ (made : Step). StepIsBuilt (all_stated c.args.before.now) kept c.args.step.now c.args.scope c.args.flags.now.items c.args.flags.now.items made) c.new_make.result
+    (λ made e. subst (λ x. StepIsBuilt (all_stated c.args.before.now) kept c.args.step.now c.args.scope c.args.flags.now.items c.args.flags.now.items x) (sym e)
+    (make_built (all_stated c.args.before.now) kept c.args.step.now y.form (construction_among_kept kept y.form) y.names c.items.result.now y.certs (map (cert_at kept) c.items-in-Make.result.now) c.args.scope c.args.flags.now.items y.is refl c.items.ensures (ap (map (cert_at kept)) c.items-in-Make.ensures))) c.new_make.ensures
 
-pub build_step-returns-in_ok-new_certs-in-Apply : goal.build_step-returns-in_ok-new_certs-in-Apply
-build_step-returns-in_ok-new_certs-in-Apply t c =
-    apply_built (all_stated c.args.before.now) c.args.kept.now c.args.step.now c.in-Apply.theorem c.in-Apply.args c.in_ok-new_args-in-Apply.field-0 c.in-Apply.names c.in_ok-copy_names-in-Apply.field-0 c.in-Apply.certs c.in_ok-new_certs-in-Apply.field-0 c.args.scope c.args.flags.now.items c.in-Apply.is
-    (c.in_ok-new_args-in-Apply.ensures ∙ ap (args_at c.args.kept.now) c.items-in-Apply.ensures) (c.in_ok-copy_names-in-Apply.ensures ∙ c.items-in-Apply-2.ensures) (c.in_ok-new_certs-in-Apply.ensures ∙ ap (map (cert_at c.args.kept.now)) c.items-in-Apply-3.ensures)
+pub build_step-returns-in-Apply : goal.build_step-returns-in-Apply
+build_step-returns-in-Apply t c =
+    let kept = c.args.kept.now in
+    let y = c.in-Apply in
+    let new = ApplyStep y.theorem (args_at kept c.items-in-Apply.result.now) c.items-in-Apply-2.result.now (map (cert_at kept) c.items-in-Apply-3.result.now) in
+    ok_map (λ (made : Step). made ≡ new) (λ (made : Step). StepIsBuilt (all_stated c.args.before.now) kept c.args.step.now c.args.scope c.args.flags.now.items c.args.flags.now.items made) c.new_apply.result
+    (λ made e. subst (λ x. StepIsBuilt (all_stated c.args.before.now) kept c.args.step.now c.args.scope c.args.flags.now.items c.args.flags.now.items x) (sym e)
+    (apply_built (all_stated c.args.before.now) kept c.args.step.now y.theorem y.args (args_at kept c.items-in-Apply.result.now) y.names c.items-in-Apply-2.result.now y.certs (map (cert_at kept) c.items-in-Apply-3.result.now) c.args.scope c.args.flags.now.items y.is
+    (ap (args_at kept) c.items-in-Apply.ensures) c.items-in-Apply-2.ensures (ap (map (cert_at kept)) c.items-in-Apply-3.ensures))) c.new_apply.ensures
 
 pub build_step-build_block-requires : goal.build_step-build_block-requires
 build_step-build_block-requires t c = (
@@ -188,10 +197,18 @@ build_step-build_block-requires t c = (
   ),
 )
 
-pub build_step-returns-in_ok-inner-in-Claim-2 : goal.build_step-returns-in_ok-inner-in-Claim-2
-build_step-returns-in_ok-inner-in-Claim-2 t c =
-    claim_built (all_stated c.args.before.now) c.args.kept.now c.args.step.now c.in-Claim.shown c.in_ok-shown-in-Claim.shown c.in-Claim.inner c.in_ok-inner-in-Claim-2.inner c.args.scope c.args.flags.now.items c.build_block.new.flags.items c.in-Claim.is (c.in_ok-shown-in-Claim.ensures ∙ ap (map (lit_among_kept c.args.kept.now)) c.items-in-Claim.ensures)
-    (boxed (all_stated c.args.before.now) c.args.kept.now c.deref.result.now c.in-Claim.inner c.in_ok-inner-in-Claim-2.inner c.in_ok-inner-in-Claim.inner c.args.scope c.args.scope c.args.flags.now.items c.build_block.new.flags.items c.deref.ensures c.in_ok-inner-in-Claim-2.ensures.ok refl c.in_ok-inner-in-Claim.ensures)
+pub build_step-returns-in_ok-inner-in-Claim : goal.build_step-returns-in_ok-inner-in-Claim
+build_step-returns-in_ok-inner-in-Claim t c =
+    let before = all_stated c.args.before.now in
+    let kept = c.args.kept.now in
+    let y = c.in-Claim in
+    let pile = c.args.flags.now.items in
+    let left = c.build_block.new.flags.items in
+    let shown = map (lit_among_kept kept) c.items-in-Claim.result.now in
+    let block = c.in_ok-inner-in-Claim.inner in
+    ok_map (λ (made : Step). (more : Script) → step_script made more ≡ Claim shown (script_of block) more) (λ (made : Step). StepIsBuilt before kept c.args.step.now c.args.scope pile left made) c.new_claim.result
+    (λ made script. claim_built before kept c.args.step.now made y.shown shown y.inner block c.args.scope pile left y.is (ap (map (lit_among_kept kept)) c.items-in-Claim.ensures) script
+    (boxed before kept c.deref.result.now y.inner block c.args.scope c.args.scope pile left c.deref.ensures refl c.in_ok-inner-in-Claim.ensures)) c.new_claim.ensures
 
 pub build_step-with_next-requires-clause-small : goal.build_step-with_next-requires-clause-small
 build_step-with_next-requires-clause-small t c = (small_step (all_stated c.args.before.now) c.args.step.now c.args.scope c.requires.scopes)
@@ -216,12 +233,21 @@ build_step-build_block-requires-in-Superposed t c = (
   ),
 )
 
-pub build_step-returns-in_ok-inner-in-Superposed-2 : goal.build_step-returns-in_ok-inner-in-Superposed-2
-build_step-returns-in_ok-inner-in-Superposed-2 t c =
+pub build_step-returns-in_ok-inner-in-Superposed : goal.build_step-returns-in_ok-inner-in-Superposed
+build_step-returns-in_ok-inner-in-Superposed t c =
+    let before = all_stated c.args.before.now in
+    let kept = c.args.kept.now in
+    let y = c.in-Superposed in
     let pile = c.args.flags.now.items in
     let left = c.build_block-in-Superposed.new.flags.items in
     let wide = c.deref-in-Superposed-2.result.now in
-    superposed_built (all_stated c.args.before.now) c.args.kept.now wide c.args.step.now c.in-Superposed.form c.new_superpose.result c.in-Superposed.names c.in_ok-names-in-Superposed.names c.in-Superposed.shown c.in_ok-shown-in-Superposed.shown c.in-Superposed.certs c.in_ok-certs-in-Superposed.certs c.in-Superposed.inner c.in_ok-inner-in-Superposed-2.inner c.args.scope pile left c.in-Superposed.is
-    (c.deref-in-Superposed-2.ensures.value ∙ c.in_ok-inside-in-Superposed.ensures ∙ ap (λ xs. c.args.kept.now ++ next_objects c.args.scope xs) c.made-copies.ensures) c.new_superpose.ensures (c.in_ok-names-in-Superposed.ensures ∙ c.items-in-Superposed.ensures)
-    (c.in_ok-shown-in-Superposed.ensures ∙ ap (map (lit_among_kept c.args.kept.now)) c.items-in-Superposed-2.ensures) (c.in_ok-certs-in-Superposed.ensures ∙ ap (map (cert_at c.args.kept.now)) c.items-in-Superposed-3.ensures)
-    (boxed (all_stated c.args.before.now) wide c.deref-in-Superposed.result.now c.in-Superposed.inner c.in_ok-inner-in-Superposed-2.inner c.in_ok-inner-in-Superposed.inner (grown c.args.scope superposing.sorts_copied) c.grown.result pile left c.deref-in-Superposed.ensures c.in_ok-inner-in-Superposed-2.ensures.ok (c.grown.ensures ∙ ap (grown c.args.scope) c.made-copies.ensures) c.in_ok-inner-in-Superposed.ensures)
+    let form = superpose_at kept y.form in
+    let names = c.items-in-Superposed.result.now in
+    let shown = map (lit_among_kept kept) c.items-in-Superposed-2.result.now in
+    let certs = map (cert_at kept) c.items-in-Superposed-3.result.now in
+    let block = c.in_ok-inner-in-Superposed.inner in
+    ok_map (λ (made : Step). (more : Script) → step_script made more ≡ Superposed form names shown certs (script_of block) more) (λ (made : Step). StepIsBuilt before kept c.args.step.now c.args.scope pile left made) c.new_superposition.result
+    (λ made script. superposed_built before kept wide c.args.step.now made y.form form y.names names y.shown shown y.certs certs y.inner block c.args.scope pile left y.is
+    (c.deref-in-Superposed-2.ensures.value ∙ c.in_ok-inside-in-Superposed.ensures ∙ ap (λ xs. kept ++ next_objects c.args.scope xs) c.made-copies.ensures) refl c.items-in-Superposed.ensures
+    (ap (map (lit_among_kept kept)) c.items-in-Superposed-2.ensures) (ap (map (cert_at kept)) c.items-in-Superposed-3.ensures) script
+    (boxed before wide c.deref-in-Superposed.result.now y.inner block (grown c.args.scope superposing.sorts_copied) c.grown.result pile left c.deref-in-Superposed.ensures (c.grown.ensures ∙ ap (grown c.args.scope) c.made-copies.ensures) c.in_ok-inner-in-Superposed.ensures)) c.new_superposition.ensures

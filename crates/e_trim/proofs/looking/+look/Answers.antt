@@ -12,7 +12,7 @@ use Rattle.e_trim.proofs.walks.StepForms.{ready_small, ready_fits, claim_ready, 
 use Rattle.e_literal.specs.Scopes.{grown}
 use Rattle.e_theorem.specs.Statements.{all_stated}
 use Rattle.e_deriv.specs.Script.{close_script, script_of, steps_script, size}
-use Rattle.e_trim.specs.Looked.{Wants}
+use Rattle.e_trim.specs.Looked.{Wants, both}
 use Rattle.e_trim.specs.Trimmed.{wants_outside, wants}
 use Rattle.e_trim.specs.inner.StepState.{goal_view, IsReady, IsReadyToTrim}
 use Rattle.e_trim.specs.inner.Flags.{flags_of}
@@ -45,17 +45,17 @@ look-look_back-requires t c = (
   (subst (IsReadyToTrim (all_stated c.args.before.now) c.step-item.result) (sym (look_back_is (all_stated c.args.before.now) c.step-item.result c.args.state.now c.pass.new.state c.look.new.state c.restore.new.self c.checkpoint-outer.result c.in_ok-pass-in-len1-up.ensures c.in_ok-wanted-in-len1-up.ensures.kept c.checkpoint-outer.ensures c.restore.ensures)) (look_step_ready (all_stated c.args.before.now) c.args.steps.now c.step-item.result c.args.state.now (goal_view c.args.goal.now) (close_script c.args.close.now) (record { some = c.in-len1-up.len_at_least; first = c.step-item.is; ready = c.requires.ready })), c.requires.statements),
 )
 
-pub look-returns-in_ok-look_back-in-len1-up-clause-wanted : goal.look-returns-in_ok-look_back-in-len1-up-clause-wanted
-look-returns-in_ok-look_back-in-len1-up-clause-wanted t c =
-    wanted_whole (all_stated c.args.before.now) c.args.steps.now c.step-item.result c.args.state.now c.pass.new.state c.restore.new.self (goal_view c.args.goal.now) (close_script c.args.close.now) c.in_ok-wanted-in-len1-up.wanted c.look_back.new.out (record { some = c.in-len1-up.len_at_least; first = c.step-item.is; ready = c.requires.ready }) c.in_ok-pass-in-len1-up.ensures (look_back_is (all_stated c.args.before.now) c.step-item.result c.args.state.now c.pass.new.state c.look.new.state c.restore.new.self c.checkpoint-outer.result c.in_ok-pass-in-len1-up.ensures c.in_ok-wanted-in-len1-up.ensures.kept c.checkpoint-outer.ensures c.restore.ensures) c.in_ok-wanted-in-len1-up.ensures.wanted c.in_ok-look_back-in-len1-up.ensures.wanted
+pub look-returns-in-Ok-clause-wanted : goal.look-returns-in-Ok-clause-wanted
+look-returns-in-Ok-clause-wanted t c =
+    wanted_whole (all_stated c.args.before.now) c.args.steps.now c.step-item.result c.args.state.now c.pass.new.state c.restore.new.self (goal_view c.args.goal.now) (close_script c.args.close.now) c.in_ok-wanted-in-len1-up.wanted c.look_back.new.out (record { some = c.in-len1-up.len_at_least; first = c.step-item.is; ready = c.requires.ready }) c.in_ok-pass-in-len1-up.ensures (look_back_is (all_stated c.args.before.now) c.step-item.result c.args.state.now c.pass.new.state c.look.new.state c.restore.new.self c.checkpoint-outer.result c.in_ok-pass-in-len1-up.ensures c.in_ok-wanted-in-len1-up.ensures.kept c.checkpoint-outer.ensures c.restore.ensures) c.in_ok-wanted-in-len1-up.ensures.wanted c.in-Ok.ensures.wanted
 
-pub look-returns-in_ok-look_back-in-len1-up-clause-flags : goal.look-returns-in_ok-look_back-in-len1-up-clause-flags
-look-returns-in_ok-look_back-in-len1-up-clause-flags t c =
+pub look-returns-in-Ok-clause-flags : goal.look-returns-in-Ok-clause-flags
+look-returns-in-Ok-clause-flags t c =
     flags_whole (all_stated c.args.before.now) c.args.steps.now c.step-item.result c.args.state.now c.pass.new.state c.restore.new.self (goal_view c.args.goal.now) (close_script c.args.close.now) c.in_ok-wanted-in-len1-up.wanted c.args.flags.now.items c.look.new.flags.items c.look_back.new.flags.items (record { some = c.in-len1-up.len_at_least; first = c.step-item.is; ready = c.requires.ready }) c.in_ok-pass-in-len1-up.ensures (look_back_is (all_stated c.args.before.now) c.step-item.result c.args.state.now c.pass.new.state c.look.new.state c.restore.new.self c.checkpoint-outer.result c.in_ok-pass-in-len1-up.ensures c.in_ok-wanted-in-len1-up.ensures.kept c.checkpoint-outer.ensures c.restore.ensures) c.in_ok-wanted-in-len1-up.ensures.wanted c.in_ok-wanted-in-len1-up.ensures.flags
-    c.in_ok-look_back-in-len1-up.ensures.flags
+    c.in-Ok.ensures.flags
 
-pub look-returns-in_ok-look_back-in-len1-up-clause-kept : goal.look-returns-in_ok-look_back-in-len1-up-clause-kept
-look-returns-in_ok-look_back-in-len1-up-clause-kept t c = later_keeps c.args.state.now c.restore.new.self c.look_back.new.state (look_back_is (all_stated c.args.before.now) c.step-item.result c.args.state.now c.pass.new.state c.look.new.state c.restore.new.self c.checkpoint-outer.result c.in_ok-pass-in-len1-up.ensures c.in_ok-wanted-in-len1-up.ensures.kept c.checkpoint-outer.ensures c.restore.ensures) c.in_ok-look_back-in-len1-up.ensures.kept
+pub look-returns-in-Ok-clause-kept : goal.look-returns-in-Ok-clause-kept
+look-returns-in-Ok-clause-kept t c = later_keeps c.args.state.now c.restore.new.self c.look_back.new.state (look_back_is (all_stated c.args.before.now) c.step-item.result c.args.state.now c.pass.new.state c.look.new.state c.restore.new.self c.checkpoint-outer.result c.in_ok-pass-in-len1-up.ensures c.in_ok-wanted-in-len1-up.ensures.kept c.checkpoint-outer.ensures c.restore.ensures) c.in-Ok.ensures.kept
 
 -- ---- a block
 
@@ -125,8 +125,8 @@ look_at_step-returns-in_ok-inside-in-Claim-clause-flags t c =
     on_ok c.append.result
     (inside_flags (all_stated c.args.before.now) c.args.step.now c.args.state.now c.args.flags.now.items (flags_of (all_stated c.args.before.now) (script_of c.in-Claim.inner.value) c.args.state.now.scope c.args.state.now.facts (goal_of c.in-Claim.shown)) c.look_inside.new.flags.items (λ rest. (claim_inside (all_stated c.args.before.now) c.args.step.now c.in-Claim.shown c.in-Claim.inner c.args.state.now rest c.in-Claim.is).1) inside)
 
-pub look_at_step-look_inside-requires-in-Superposed : goal.look_at_step-look_inside-requires-in-Superposed
-look_at_step-look_inside-requires-in-Superposed t c = (
+pub look_at_step-look_inside-inside-requires : goal.look_at_step-look_inside-inside-requires
+look_at_step-look_inside-inside-requires t c = (
   (let n = superposed_falls c.args.step.now c.in-Superposed.form c.in-Superposed.names c.in-Superposed.shown c.in-Superposed.certs c.in-Superposed.inner c.deref-in-Superposed.result.now c.in-Superposed.is c.deref-in-Superposed.ensures in omega (arith, c.decreases, n)),
   (
     ready_small (all_stated c.args.before.now) c.args.step.now c.requires.ready.rest c.args.state.now c.requires.ready.goal c.requires.ready.ready,
@@ -151,7 +151,7 @@ look_at_step-returns-in_ok-inside-in-Superposed-clause-wanted t c =
     ∙ ap (λ fs. wants_outside c.args.state.now.scope c.args.state.now.facts (wants (all_stated c.args.before.now) (script_of c.in-Superposed.inner.value) (grown c.args.state.now.scope superposing.sorts_copied) (joined_all c.args.state.now.facts fs) (goal_of c.items-in-Superposed.result.now))) (c.deref-in-Superposed-2.ensures.value ∙ c.in_ok-given-in-Superposed.ensures)
     ∙ ap (λ ls. wants_outside c.args.state.now.scope c.args.state.now.facts (wants (all_stated c.args.before.now) (script_of c.in-Superposed.inner.value) (grown c.args.state.now.scope superposing.sorts_copied) (joined_all c.args.state.now.facts (superposing.gives_of_superposition c.in-Superposed.form c.args.state.now.scope)) (goal_of ls))) c.items-in-Superposed.ensures in
     and_so c.append-in-Superposed.result
-    (λ h. inside_wants (all_stated c.args.before.now) c.args.step.now c.args.state.now c.args.out.now c.look_step.new.out c.in_ok-inside-in-Superposed.inside c.append-in-Superposed.new.self c.in_ok-look_step.ensures
+    (λ h. inside_wants (all_stated c.args.before.now) c.args.step.now c.args.state.now c.args.out.now c.look_step.new.out c.in_ok-inside-in-Superposed.field-0 c.append-in-Superposed.new.self c.in_ok-look_step.ensures
     (λ rest. (superposed_inside (all_stated c.args.before.now) c.args.step.now c.in-Superposed.form c.in-Superposed.names c.in-Superposed.shown c.in-Superposed.certs c.in-Superposed.inner c.args.state.now rest c.in-Superposed.is).0 ∙ sym inside) h) c.append-in-Superposed.ensures
 
 pub look_at_step-returns-in_ok-inside-in-Superposed-clause-flags : goal.look_at_step-returns-in_ok-inside-in-Superposed-clause-flags
@@ -161,7 +161,7 @@ look_at_step-returns-in_ok-inside-in-Superposed-clause-flags t c =
     ∙ ap (λ fs. c.args.flags.now.items ++ flags_of (all_stated c.args.before.now) (script_of c.in-Superposed.inner.value) (grown c.args.state.now.scope superposing.sorts_copied) (joined_all c.args.state.now.facts fs) (goal_of c.items-in-Superposed.result.now)) (c.deref-in-Superposed-2.ensures.value ∙ c.in_ok-given-in-Superposed.ensures)
     ∙ ap (λ ls. c.args.flags.now.items ++ flags_of (all_stated c.args.before.now) (script_of c.in-Superposed.inner.value) (grown c.args.state.now.scope superposing.sorts_copied) (joined_all c.args.state.now.facts (superposing.gives_of_superposition c.in-Superposed.form c.args.state.now.scope)) (goal_of ls)) c.items-in-Superposed.ensures in
     on_ok c.append-in-Superposed.result
-    (inside_flags (all_stated c.args.before.now) c.args.step.now c.args.state.now c.args.flags.now.items (flags_of (all_stated c.args.before.now) (script_of c.in-Superposed.inner.value) (grown c.args.state.now.scope superposing.sorts_copied) (joined_all c.args.state.now.facts (superposing.gives_of_superposition c.in-Superposed.form c.args.state.now.scope)) (goal_of c.in-Superposed.shown)) c.look_inside-in-Superposed.new.flags.items
+    (inside_flags (all_stated c.args.before.now) c.args.step.now c.args.state.now c.args.flags.now.items (flags_of (all_stated c.args.before.now) (script_of c.in-Superposed.inner.value) (grown c.args.state.now.scope superposing.sorts_copied) (joined_all c.args.state.now.facts (superposing.gives_of_superposition c.in-Superposed.form c.args.state.now.scope)) (goal_of c.in-Superposed.shown)) c.look_inside-inside.new.flags.items
     (λ rest. (superposed_inside (all_stated c.args.before.now) c.args.step.now c.in-Superposed.form c.in-Superposed.names c.in-Superposed.shown c.in-Superposed.certs c.in-Superposed.inner c.args.state.now rest c.in-Superposed.is).1) inside)
 
 pub look_at_step-returns-in-Cite-clause-wanted : goal.look_at_step-returns-in-Cite-clause-wanted
@@ -190,11 +190,15 @@ look_at_step-returns-in-Cite-4-clause-flags t c = plain_flags (all_stated c.args
 
 -- ---- a close
 
+pub look_from_close-returns-in-Ok-clause-wanted : goal.look_from_close-returns-in-Ok-clause-wanted
+look_from_close-returns-in-Ok-clause-wanted t c =
+    c.in-Ok.ensures.wanted ∙ ap (λ w. both w (wants (all_stated c.args.before.now) (close_script c.args.close.now) c.args.state.now.scope c.args.state.now.facts (goal_view c.args.goal.now))) c.new-wanted.ensures
+
 pub look_at_close-look_close-requires : goal.look_at_close-look_close-requires
 look_at_close-look_close-requires t c = record { fits = close_fits (all_stated c.args.before.now) c.args.close.now c.args.state.now.scope c.args.state.now.facts (goal_view c.args.goal.now) c.requires.ready }
 
-pub look_at_close-look_inside-requires : goal.look_at_close-look_inside-requires
-look_at_close-look_inside-requires t c = (
+pub look_at_close-look_inside-other-requires : goal.look_at_close-look_inside-other-requires
+look_at_close-look_inside-other-requires t c = (
   (let n = second_falls c.args.close.now c.in-Cases.lit c.in-Cases.first c.in-Cases.second c.deref.result.now c.in-Cases.is c.deref.ensures in omega (arith, c.decreases, n)),
   (
     (cases_ready (all_stated c.args.before.now) c.in-Cases.lit c.in-Cases.first c.in-Cases.second c.args.state.now.scope c.args.state.now.facts (goal_view c.args.goal.now) (subst (λ cl. IsReady (all_stated c.args.before.now) (close_script cl) c.args.state.now.scope c.args.state.now.facts (goal_view c.args.goal.now)) c.in-Cases.is c.requires.ready)).0,
@@ -208,8 +212,8 @@ look_at_close-look_inside-requires t c = (
   ),
 )
 
-pub look_at_close-look_inside-requires-in-Cases : goal.look_at_close-look_inside-requires-in-Cases
-look_at_close-look_inside-requires-in-Cases t c = (
+pub look_at_close-look_inside-one-requires : goal.look_at_close-look_inside-one-requires
+look_at_close-look_inside-one-requires t c = (
   (let n = first_falls c.args.close.now c.in-Cases.lit c.in-Cases.first c.in-Cases.second c.deref-in-Cases-2.result.now c.in-Cases.is c.deref-in-Cases-2.ensures in omega (arith, c.decreases, n)),
   subst (λ (y : StepState). (is_small y.scope ≡ true) × ((length {A = Sort} [] < 2 ^ 15) × (IsReady (all_stated c.args.before.now) (script_of c.deref-in-Cases-2.result.now) y.scope (joined_all y.facts c.deref-in-Cases-3.result.now) (goal_view c.args.goal.now) × (list_all is_small_statement (all_stated c.args.before.now) ≡ true)))) (sym c.in_ok-other-in-Cases.ensures.same) (
     (cases_ready (all_stated c.args.before.now) c.in-Cases.lit c.in-Cases.first c.in-Cases.second c.args.state.now.scope c.args.state.now.facts (goal_view c.args.goal.now) (subst (λ cl. IsReady (all_stated c.args.before.now) (close_script cl) c.args.state.now.scope c.args.state.now.facts (goal_view c.args.goal.now)) c.in-Cases.is c.requires.ready)).0,
@@ -223,26 +227,42 @@ look_at_close-look_inside-requires-in-Cases t c = (
   ),
 )
 
-pub look_at_close-returns-in_ok-append-in-Cases-2-clause-wanted : goal.look_at_close-returns-in_ok-append-in-Cases-2-clause-wanted
-look_at_close-returns-in_ok-append-in-Cases-2-clause-wanted t c =
-    cases_wanted (all_stated c.args.before.now) c.args.close.now c.in-Cases.lit c.in-Cases.first c.in-Cases.second c.args.state.now.scope c.args.state.now.facts (goal_view c.args.goal.now) c.new-wanted.result c.look_close.new.out c.in_ok-other-in-Cases.other c.in_ok-one-in-Cases.one c.append-in-Cases.new.self c.append.new.self c.in-Cases.is c.new-wanted.ensures (c.in_ok-look_close.ensures (all_stated c.args.before.now))
+pub look_at_close-returns-in_ok-one-in-Cases-clause-wanted : goal.look_at_close-returns-in_ok-one-in-Cases-clause-wanted
+look_at_close-returns-in_ok-one-in-Cases-clause-wanted t c =
+    and_so c.append-in-Cases.result
+    (λ h. cases_wanted (all_stated c.args.before.now) c.args.close.now c.in-Cases.lit c.in-Cases.first c.in-Cases.second c.args.state.now.scope c.args.state.now.facts (goal_view c.args.goal.now) c.args.out.now c.look_close.new.out c.in_ok-other-in-Cases.field-0 c.in_ok-one-in-Cases.field-0 c.append-in-Cases.new.self c.append.new.self c.in-Cases.is (c.in_ok-look_close.ensures (all_stated c.args.before.now))
     (c.in_ok-other-in-Cases.ensures.wanted ∙ ap (λ b. wants_outside c.args.state.now.scope c.args.state.now.facts (wants (all_stated c.args.before.now) (script_of b) c.args.state.now.scope (joined_all c.args.state.now.facts c.deref-in-Cases.result.now) (goal_view c.args.goal.now))) c.deref.ensures
     ∙ ap (λ ls. wants_outside c.args.state.now.scope c.args.state.now.facts (wants (all_stated c.args.before.now) (script_of c.in-Cases.second.value) c.args.state.now.scope (joined_all c.args.state.now.facts ls) (goal_view c.args.goal.now))) (c.deref-in-Cases.ensures.value ∙ c.in_ok-fails-in-Cases.ensures.items ∙ ap (λ l. l ∷ []) (c.negate.ensures ∙ ap negation c.in_ok-copy-in-Cases.ensures)))
     (c.in_ok-one-in-Cases.ensures.wanted ∙ ap (λ (y : StepState). wants_outside y.scope y.facts (wants (all_stated c.args.before.now) (script_of c.deref-in-Cases-2.result.now) y.scope (joined_all y.facts c.deref-in-Cases-3.result.now) (goal_view c.args.goal.now))) c.in_ok-other-in-Cases.ensures.same
     ∙ ap (λ b. wants_outside c.args.state.now.scope c.args.state.now.facts (wants (all_stated c.args.before.now) (script_of b) c.args.state.now.scope (joined_all c.args.state.now.facts c.deref-in-Cases-3.result.now) (goal_view c.args.goal.now))) c.deref-in-Cases-2.ensures
-    ∙ ap (λ ls. wants_outside c.args.state.now.scope c.args.state.now.facts (wants (all_stated c.args.before.now) (script_of c.in-Cases.first.value) c.args.state.now.scope (joined_all c.args.state.now.facts ls) (goal_view c.args.goal.now))) (c.deref-in-Cases-3.ensures.value ∙ c.in_ok-holds-in-Cases.ensures.items ∙ ap (λ l. l ∷ []) c.in_ok-copy-in-Cases-2.ensures)) c.in_ok-append-in-Cases.ensures c.in_ok-append-in-Cases-2.ensures
+    ∙ ap (λ ls. wants_outside c.args.state.now.scope c.args.state.now.facts (wants (all_stated c.args.before.now) (script_of c.in-Cases.first.value) c.args.state.now.scope (joined_all c.args.state.now.facts ls) (goal_view c.args.goal.now))) (c.deref-in-Cases-3.ensures.value ∙ c.in_ok-holds-in-Cases.ensures.items ∙ ap (λ l. l ∷ []) c.in_ok-copy-in-Cases-2.ensures)) c.in_ok-append-in-Cases.ensures h) c.append-in-Cases.ensures
 
-pub look_at_close-returns-in_ok-append-in-Cases-2-clause-flags : goal.look_at_close-returns-in_ok-append-in-Cases-2-clause-flags
-look_at_close-returns-in_ok-append-in-Cases-2-clause-flags t c =
-    cases_flags (all_stated c.args.before.now) c.args.close.now c.in-Cases.lit c.in-Cases.first c.in-Cases.second c.args.state.now.scope c.args.state.now.facts (goal_view c.args.goal.now) c.args.flags.now.items c.look_inside.new.flags.items c.look_inside-in-Cases.new.flags.items c.in-Cases.is
+pub look_at_close-returns-in_ok-one-in-Cases-clause-flags : goal.look_at_close-returns-in_ok-one-in-Cases-clause-flags
+look_at_close-returns-in_ok-one-in-Cases-clause-flags t c =
+    on_ok c.append-in-Cases.result
+    (cases_flags (all_stated c.args.before.now) c.args.close.now c.in-Cases.lit c.in-Cases.first c.in-Cases.second c.args.state.now.scope c.args.state.now.facts (goal_view c.args.goal.now) c.args.flags.now.items c.look_inside-other.new.flags.items c.look_inside-one.new.flags.items c.in-Cases.is
     (c.in_ok-other-in-Cases.ensures.flags ∙ ap (λ b. c.args.flags.now.items ++ flags_of (all_stated c.args.before.now) (script_of b) c.args.state.now.scope (joined_all c.args.state.now.facts c.deref-in-Cases.result.now) (goal_view c.args.goal.now)) c.deref.ensures
     ∙ ap (λ ls. c.args.flags.now.items ++ flags_of (all_stated c.args.before.now) (script_of c.in-Cases.second.value) c.args.state.now.scope (joined_all c.args.state.now.facts ls) (goal_view c.args.goal.now)) (c.deref-in-Cases.ensures.value ∙ c.in_ok-fails-in-Cases.ensures.items ∙ ap (λ l. l ∷ []) (c.negate.ensures ∙ ap negation c.in_ok-copy-in-Cases.ensures)))
-    (c.in_ok-one-in-Cases.ensures.flags ∙ ap (λ (y : StepState). c.look_inside.new.flags.items ++ flags_of (all_stated c.args.before.now) (script_of c.deref-in-Cases-2.result.now) y.scope (joined_all y.facts c.deref-in-Cases-3.result.now) (goal_view c.args.goal.now)) c.in_ok-other-in-Cases.ensures.same
-    ∙ ap (λ b. c.look_inside.new.flags.items ++ flags_of (all_stated c.args.before.now) (script_of b) c.args.state.now.scope (joined_all c.args.state.now.facts c.deref-in-Cases-3.result.now) (goal_view c.args.goal.now)) c.deref-in-Cases-2.ensures
-    ∙ ap (λ ls. c.look_inside.new.flags.items ++ flags_of (all_stated c.args.before.now) (script_of c.in-Cases.first.value) c.args.state.now.scope (joined_all c.args.state.now.facts ls) (goal_view c.args.goal.now)) (c.deref-in-Cases-3.ensures.value ∙ c.in_ok-holds-in-Cases.ensures.items ∙ ap (λ l. l ∷ []) c.in_ok-copy-in-Cases-2.ensures))
+    (c.in_ok-one-in-Cases.ensures.flags ∙ ap (λ (y : StepState). c.look_inside-other.new.flags.items ++ flags_of (all_stated c.args.before.now) (script_of c.deref-in-Cases-2.result.now) y.scope (joined_all y.facts c.deref-in-Cases-3.result.now) (goal_view c.args.goal.now)) c.in_ok-other-in-Cases.ensures.same
+    ∙ ap (λ b. c.look_inside-other.new.flags.items ++ flags_of (all_stated c.args.before.now) (script_of b) c.args.state.now.scope (joined_all c.args.state.now.facts c.deref-in-Cases-3.result.now) (goal_view c.args.goal.now)) c.deref-in-Cases-2.ensures
+    ∙ ap (λ ls. c.look_inside-other.new.flags.items ++ flags_of (all_stated c.args.before.now) (script_of c.in-Cases.first.value) c.args.state.now.scope (joined_all c.args.state.now.facts ls) (goal_view c.args.goal.now)) (c.deref-in-Cases-3.ensures.value ∙ c.in_ok-holds-in-Cases.ensures.items ∙ ap (λ l. l ∷ []) c.in_ok-copy-in-Cases-2.ensures)))
 
 pub look_at_close-returns-in-Qed-clause-wanted : goal.look_at_close-returns-in-Qed-clause-wanted
-look_at_close-returns-in-Qed-clause-wanted t c = close_wanted (all_stated c.args.before.now) c.args.close.now c.args.state.now.scope c.args.state.now.facts (goal_view c.args.goal.now) c.new-wanted.result c.look_close.new.out (no_blocks (all_stated c.args.before.now) c.args.close.now c.args.state.now.scope c.args.state.now.facts (goal_view c.args.goal.now) c.in-Qed.is) c.new-wanted.ensures (c.in_ok-look_close.ensures (all_stated c.args.before.now))
+look_at_close-returns-in-Qed-clause-wanted t c =
+    close_wanted (all_stated c.args.before.now) c.args.close.now c.args.state.now.scope c.args.state.now.facts (goal_view c.args.goal.now) c.args.out.now c.look_close.new.out
+    (no_blocks (all_stated c.args.before.now) c.args.close.now c.args.state.now.scope c.args.state.now.facts (goal_view c.args.goal.now) c.in-Qed.is) (c.in_ok-look_close.ensures (all_stated c.args.before.now))
 
 pub look_at_close-returns-in-Qed-clause-flags : goal.look_at_close-returns-in-Qed-clause-flags
-look_at_close-returns-in-Qed-clause-flags t c = close_flags (all_stated c.args.before.now) c.args.close.now c.args.state.now.scope c.args.state.now.facts (goal_view c.args.goal.now) c.args.flags.now.items (no_blocks (all_stated c.args.before.now) c.args.close.now c.args.state.now.scope c.args.state.now.facts (goal_view c.args.goal.now) c.in-Qed.is)
+look_at_close-returns-in-Qed-clause-flags t c =
+    close_flags (all_stated c.args.before.now) c.args.close.now c.args.state.now.scope c.args.state.now.facts (goal_view c.args.goal.now) c.args.flags.now.items
+    (no_blocks (all_stated c.args.before.now) c.args.close.now c.args.state.now.scope c.args.state.now.facts (goal_view c.args.goal.now) c.in-Qed.is)
+
+pub look_at_close-returns-in-Qed-2-clause-wanted : goal.look_at_close-returns-in-Qed-2-clause-wanted
+look_at_close-returns-in-Qed-2-clause-wanted t c =
+    close_wanted (all_stated c.args.before.now) c.args.close.now c.args.state.now.scope c.args.state.now.facts (goal_view c.args.goal.now) c.args.out.now c.look_close.new.out
+    (no_blocks (all_stated c.args.before.now) c.args.close.now c.args.state.now.scope c.args.state.now.facts (goal_view c.args.goal.now) c.in-Qed.is) (c.in_ok-look_close.ensures (all_stated c.args.before.now))
+
+pub look_at_close-returns-in-Qed-2-clause-flags : goal.look_at_close-returns-in-Qed-2-clause-flags
+look_at_close-returns-in-Qed-2-clause-flags t c =
+    close_flags (all_stated c.args.before.now) c.args.close.now c.args.state.now.scope c.args.state.now.facts (goal_view c.args.goal.now) c.args.flags.now.items
+    (no_blocks (all_stated c.args.before.now) c.args.close.now c.args.state.now.scope c.args.state.now.facts (goal_view c.args.goal.now) c.in-Qed.is)

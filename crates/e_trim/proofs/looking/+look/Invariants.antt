@@ -15,5 +15,8 @@ decreases-look_at_step l = 4 * size (step_script l.step.now (Qed [] []))
 abbrev pub decreases-look_inside : goal.decreases-look_inside
 decreases-look_inside l = 4 * size (script_of l.block.now) + 3
 
+abbrev pub decreases-look_from_close : goal.decreases-look_from_close
+decreases-look_from_close l = 4 * size (close_script l.close.now) + 1
+
 abbrev pub decreases-look_at_close : goal.decreases-look_at_close
 decreases-look_at_close l = 4 * size (close_script l.close.now)
