@@ -8,6 +8,7 @@ use e_theorem::Notion;
 use indexmap::IndexSet;
 use std::alloc::{AllocError, Global};
 use std::marker::Model;
+use std::mem;
 
 /// Titles and notions of definitions, in order. No two titles are equal.
 #[derive(Drop)]
@@ -52,7 +53,10 @@ impl Notions {
         ensures ok { OnOk result (self.new ≡ self.old ++ titled title notion ∷ []) }
         ensures err { OnErr result (self.new ≡ self.old) }
     {
-        self.titles.reserve(1)?;
+        if let Err(error) = self.titles.reserve(1) {
+            mem::drop(notion);
+            return Err(error);
+        }
         self.notions.push(notion)?;
         self.titles.insert(title).unwrap();
         Ok(())

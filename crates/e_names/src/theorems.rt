@@ -10,6 +10,7 @@ use e_theorem::Statement;
 use indexmap::IndexSet;
 use std::alloc::{AllocError, Global};
 use std::marker::Model;
+use std::mem;
 
 /// Titles and statements of theorems, in order. No two titles are equal.
 #[derive(Drop)]
@@ -54,7 +55,10 @@ impl Theorems {
         ensures ok { OnOk result (self.new ≡ self.old ++ headed title statement ∷ []) }
         ensures err { OnErr result (self.new ≡ self.old) }
     {
-        self.titles.reserve(1)?;
+        if let Err(error) = self.titles.reserve(1) {
+            mem::drop(statement);
+            return Err(error);
+        }
         self.statements.push(statement)?;
         self.titles.insert(title).unwrap();
         Ok(())
