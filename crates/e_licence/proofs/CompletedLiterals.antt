@@ -2,7 +2,7 @@
 use Rattle.std.proofs.Common.{◌≡◌, ℕ, zero, suc, ◌+◌, ◌-◌, ◌<◌, ◌≤◌, List, [], ◌∷◌, ◌++◌, map, length, take, drop, get_or, refl, sym, ap, ◌∙◌, subst, arith, Bool, true, false, cond, not, ltb, eqb, ◌&&◌, ◌||◌, inl, inr, Option, Some, None, append_assoc, append-nil}
 use Rattle.std.specs.Prelude.{IsTrue, Contains, slice_index_or}
 use Rattle.std.specs.Option.{option_map_or}
-use Rattle.std.proofs.lemmas.Bool.{ltb-true, cases_Bool}
+use Rattle.std.proofs.lemmas.Bool.{ltb-true, cases_Bool, false≢true}
 use Rattle.std.proofs.lemmas.List.{take-append-drop, take-append-le, drop_more, drop_all}
 use Rattle.e_literal.specs.declared.object.Obj.{Obj}
 use Rattle.e_literal.specs.declared.object.Scope.{Scope}
@@ -14,6 +14,7 @@ use Rattle.e_literal.specs.WellFormed.{is_well_formed}
 use Rattle.e_literal.specs.Rename.{same_obj, image_in, paired, renamed}
 use Rattle.e_literal.specs.Scopes.{same_sort, nothing, with_one, next_objects}
 use Rattle.e_clause.specs.Allowed.{Allowed, AllAllowed}
+use Rattle.e_clause.specs.Wide.{IsTooWideLit}
 use Rattle.e_clause.specs.LimitedFacts.{is_well_formed_in, are_well_formed_in}
 use Rattle.e_theorem.proofs.Renaming.{same_renamed}
 use Rattle.e_transfer.specs.Choice.{EachKept}
@@ -30,7 +31,7 @@ use Rattle.e_licence.specs.declared.licensing.Licensed.{Licensed}
 use Rattle.e_licence.specs.declared.licensing.Licensed.TheVariants as licensed
 use Rattle.e_licence.specs.Licences.{IsLicence}
 use Rattle.e_licence.specs.Contexts.{Basis}
-use Rattle.e_licence.specs.inner.BlankChoices.{numbers_left, filled_arguments, images_of_choice, is_completed, AllCompleted, IsKeptChoice, IsWanted, IsRefusedAt, SomeIsRefusedAt, SomeIsWideAt, OneIs, AllIs}
+use Rattle.e_licence.specs.inner.BlankChoices.{numbers_left, filled_arguments, images_of_choice, is_completed, AllCompleted, IsKeptChoice, IsWanted, IsRefusedAt, SomeIsRefusedAt, IsWideUnder, SomeIsWideAt, OneIs, AllIs}
 
 -- ---- one object
 
@@ -206,6 +207,21 @@ claim_no b es l image o values is good answer claim =
       good = subst (λ x. is_well_formed_in b.scope x ≡ true) is good;
       not_allowed = λ allowed. (subst (λ x. IsLicence b image x) answer claim).not_allowed (subst (λ x. Allowed b.scope b.facts x) (sym is) allowed);
     }
+
+pub claim_wide : (b : Basis) (es : List Entry) (l image : Lit) (o : Licensed) (w : ℕ) → image ≡ at es l → is_well_formed_in b.scope image ≡ true → o ≡ licensed.TooWide w
+    → IsLicence b image o → IsWideUnder b es l w
+claim_wide b es l image o w is good answer claim =
+    record {
+      good = subst (λ x. is_well_formed_in b.scope x ≡ true) is good;
+      is_wide = subst (λ x. IsTooWideLit b.scope b.facts x w) is (subst (λ x. IsLicence b image x) answer claim);
+    }
+
+-- one that the last number does not complete
+pub not_completed : (b : Basis) (now before : List Entry) (first : Bool) (l image : Lit) → (is_well_formed_in b.scope image && (first || not (is_well_formed_in b.scope (at before l)))) ≡ false
+    → image ≡ at now l → is_completed b.scope now before first l ≡ true → Allowed b.scope b.facts (at now l)
+not_completed b now before first l image no is done =
+    let so = subst (λ x. (is_well_formed_in b.scope x && (first || not (is_well_formed_in b.scope (at before l)))) ≡ false) is no in
+    absurd (false≢true (sym so ∙ done))
 
 -- ---- one literal after the other
 

@@ -1,9 +1,14 @@
 //! The blanks of an application, filled by the least good choice.
 
-ghost use Rattle.std.specs.Prelude.{◌≡◌, ◌-◌, ◌<◌, ◌^◌, ◌==◌, IsTrue, IfOk, length, take};
+ghost use Rattle.std.specs.Prelude.{◌≡◌, ◌-◌, ◌<◌, ◌^◌, ◌==◌, ◌&&◌, ◌||◌, not, IsTrue, IfOk};
+ghost use Rattle.std.specs.Prelude.{List, length, take};
 ghost use Rattle.std.specs.List.{list_any};
+ghost use Rattle.e_literal.specs.declared.map.Entry.{Entry};
+ghost use Rattle.e_literal.specs.Rename;
+ghost use Rattle.e_literal.specs.Rename.{image_in};
 ghost use Rattle.e_literal.specs.Scopes.{nothing, next_objects as declared_objects};
 ghost use Rattle.e_literal.specs.Use.{is_statement};
+ghost use Rattle.e_clause.specs.LimitedFacts;
 ghost use Rattle.e_metric.specs.Fronts.{AreFronts};
 ghost use Rattle.e_theorem.specs.Pattern.{is_pattern};
 ghost use Rattle.e_theorem.specs.Statements.{stated};
@@ -246,20 +251,64 @@ impl<'a> Blanks<'a> {
     ) -> Result<Verdict<()>, AllocError>
         ensures { IfOk result (OneIs self.now.context.now images.now earlier.now first lit.now) }
     {
-        let scope = self.context.scope();
         let image = renamed(alloc, lit, images)?;
-        if !is_well_formed_in(scope, &image) {
-            return Ok(Verdict::Yes(()));
-        }
-        if !first && is_well_formed_in(scope, &renamed(alloc, lit, earlier)?) {
+        let verdict = self.license_image(alloc, lit, &image, earlier, first);
+        mem::drop(image);
+        verdict
+    }
+
+    /// The same of a literal with this image, whichever images of its objects give it.
+    fn license_image(
+        &self,
+        alloc: Global,
+        lit: &Lit,
+        image: &Lit,
+        earlier: &Map,
+        first: bool,
+    ) -> Result<Verdict<()>, AllocError>
+        ensures { IfOk result (λ v. (images : List Entry)
+            → image.now ≡ Rename.renamed (image_in images) lit.now
+            → OneIs self.now.context.now images earlier.now first lit.now v) }
+    {
+        if !self.is_newly_known(alloc, lit, image, earlier, first)? {
             return Ok(Verdict::Yes(()));
         }
         let metric_facts = self.step_facts.metric_facts();
-        match licence_by(alloc, self.context, metric_facts, self.prepared, &image)? {
-            Licensed::Yes(_) => Ok(Verdict::Yes(())),
-            Licensed::No(_) => Ok(Verdict::No),
+        match licence_by(alloc, self.context, metric_facts, self.prepared, image)? {
+            Licensed::Yes(cert) => {
+                mem::drop(cert);
+                Ok(Verdict::Yes(()))
+            }
+            Licensed::No(values) => {
+                mem::drop(values);
+                Ok(Verdict::No)
+            }
             Licensed::TooWide(width) => Ok(Verdict::TooWide(width)),
         }
+    }
+
+    /// Whether the literal's objects are all known by this image, and were not before.
+    fn is_newly_known(
+        &self,
+        alloc: Global,
+        lit: &Lit,
+        image: &Lit,
+        earlier: &Map,
+        first: bool,
+    ) -> Result<bool, AllocError>
+        ensures { IfOk result (λ b. b ≡ (LimitedFacts.is_well_formed_in
+            self.now.context.now.scope image.now && (first || not (LimitedFacts.is_well_formed_in
+            self.now.context.now.scope (Rename.renamed (image_in earlier.now) lit.now))))) }
+    {
+        let scope = self.context.scope();
+        if !is_well_formed_in(scope, image) {
+            return Ok(false);
+        }
+        if first {
+            return Ok(true);
+        }
+        let before = renamed(alloc, lit, earlier)?;
+        Ok(!is_well_formed_in(scope, &before))
     }
 
     /// Licenses the given literals whose objects are all known now, and were not before, up to the

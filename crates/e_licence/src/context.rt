@@ -80,14 +80,6 @@ impl Context {
         &self.facts
     }
 
-    /// The facts alone.
-    pub fn into_facts(self) -> Facts
-        ensures { result ≡ self.facts }
-    {
-        let Context { facts, .. } = self;
-        facts
-    }
-
     /// The facts are in scope and well formed, and their terms are few. It does nothing: callers
     /// that need this of the context have it from the contract.
     pub fn has_limited_facts(&self)

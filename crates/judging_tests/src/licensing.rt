@@ -203,7 +203,8 @@ fn a_context_grows(rt: HostRuntime) -> Result<(), Fail> {
             context.release();
             context.has_limited_facts();
             assert_eq!(rt; context.scope().points, 1);
-            assert_eq!(rt; context.into_facts().len(), 0);
+            assert_eq!(rt; context.facts().len(), 0);
+            mem::drop(context);
             Ok(())
         }
         Err(error) => {
