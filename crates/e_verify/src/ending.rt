@@ -39,6 +39,29 @@ fn show_after(
     copy_lits(alloc, shown)
 }
 
+/// The same, which hands out the block too, boxed.
+fn close_block(
+    alloc: Global,
+    shown: &[Lit],
+    block: Block,
+    outer: Checkpoint,
+    state: &mut StepState,
+) -> Result<(Items<Lit>, Box<Block>), AllocError>
+    ensures shown { IfOk result (λ p. p.0 ≡ shown.now) }
+    ensures block { IfOk result (λ p. p.1.value ≡ block) }
+    ensures after { OnOk result (state.new ≡ with_facts
+        (joined_all (restored outer state.old).facts shown.now) (restored outer state.old)) }
+{
+    let inner = Box::new(alloc, block)?;
+    match show_after(alloc, shown, outer, state) {
+        Ok(shown) => Ok((shown, inner)),
+        Err(error) => {
+            mem::drop(inner);
+            Err(error)
+        }
+    }
+}
+
 /// A claim whose block has its places: what it shows are facts where the block was entered.
 #[tactic(auto, using(e_deriv::proofs::Scripts::scripts))]
 pub fn claimed(
@@ -53,14 +76,7 @@ pub fn claimed(
     ensures after { OnOk result (state.new ≡ with_facts
         (joined_all (restored outer state.old).facts shown.now) (restored outer state.old)) }
 {
-    let shown = match show_after(alloc, shown, outer, state) {
-        Ok(shown) => shown,
-        Err(_) => {
-            mem::drop(block);
-            return Err(AllocError);
-        }
-    };
-    let inner = Box::new(alloc, block)?;
+    let (shown, inner) = close_block(alloc, shown, block, outer, state)?;
     Ok(Step::Claim { shown, inner })
 }
 
@@ -81,31 +97,27 @@ pub fn superposed(
         (joined_all (restored outer state.old).facts shown.now) (restored outer state.old)) }
 {
     let Head { form, names, certs } = head;
-    let shown = match show_after(alloc, shown, outer, state) {
-        Ok(shown) => shown,
-        Err(_) => {
-            mem::drop(block);
-            mem::drop(certs);
-            return Err(AllocError);
-        }
-    };
     let names = match Vec::from_slice(alloc, names) {
-        Ok(names) => names,
-        Err(_) => {
+        Ok(names) => Items::new(names),
+        Err(error) => {
             mem::drop(block);
             mem::drop(certs);
-            mem::drop(shown);
-            return Err(AllocError);
+            return Err(error);
         }
     };
-    let inner = Box::new(alloc, block)?;
-    Ok(Step::Superposed {
-        form: *form,
-        names: Items::new(names),
-        shown,
-        certs,
-        inner,
-    })
+    match close_block(alloc, shown, block, outer, state) {
+        Ok((shown, inner)) => Ok(Step::Superposed {
+            form: *form,
+            names,
+            shown,
+            certs,
+            inner,
+        }),
+        Err(error) => {
+            mem::drop(certs);
+            Err(error)
+        }
+    }
 }
 
 /// A split whose blocks have their places.

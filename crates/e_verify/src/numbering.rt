@@ -3,6 +3,7 @@
 ghost use Rattle.std.specs.Prelude.{◌≡◌, ◌<◌, ◌^◌, List, length, IfOk, OnOk, IsTrue};
 ghost use Rattle.std.specs.List.{list_all};
 ghost use Rattle.std.specs.Option.{option_map};
+ghost use Rattle.e_literal.specs.Facts.{joined};
 ghost use Rattle.e_literal.specs.Use.{StatementView};
 ghost use Rattle.e_construct.specs.Superposing as superposing;
 ghost use Rattle.e_theorem.specs.Statements.{stated, all_stated};
@@ -12,6 +13,7 @@ ghost use Rattle.e_deriv.specs.Fitting.{is_small, is_small_statement};
 ghost use Rattle.e_deriv.specs.declared.block.Close.TheVariants.{
   Contradiction as ContradictionClose,
 };
+ghost use Rattle.e_deriv.specs.declared.block.Step.TheVariants.{Apply as ApplyStep};
 ghost use Rattle.e_deriv.specs.Script.{Cite, Hence, Make, Apply, Claim, Superposed, Qed};
 ghost use Rattle.e_deriv.specs.Script.{script_of, step_script, close_script, erased};
 ghost use Rattle.e_deriv.specs.Versions.{has_certs_of};
@@ -20,6 +22,7 @@ ghost use Rattle.e_verify.specs.Numbered.{derivation_with_places};
 ghost use Rattle.e_verify.specs.Verdicts.{IsVerifiable};
 ghost use Rattle.e_verify.specs.Checking.{KeepsFirstFacts};
 ghost use Rattle.e_verify.specs.inner.Numbering.{HaveFew, IsNumberedStep, places_at};
+ghost use Rattle.e_verify.specs.inner.StepStates.{state_after_make, state_after_use, with_facts};
 ghost use Rattle.e_verify.specs.inner.StepStates.{state_after_superposed, block_goal};
 
 use crate::closes::goal_with;
@@ -34,7 +37,7 @@ use e_construct::{Construction, Superpose};
 use e_deriv::{Block, Close, Step, copy_by, copy_construction};
 use e_literal::{Items, Lit, NOTHING, Obj, Scope, copy, grown, have_sorts_of, next_objects};
 use e_text::Name;
-use e_theorem::{Statement, UseFault, use_of};
+use e_theorem::{Applied, Statement, UseFault, use_of};
 use std::alloc::{AllocError, Global};
 use std::mem;
 
@@ -304,9 +307,23 @@ fn hence(
         → IsNumberedStep before (Hence lit.now cert.now) state.old (step_script s) state.new) }
 {
     let cert = placed_option(alloc, &state.facts, lit, cert)?;
+    match assumed(alloc, lit, state) {
+        Ok(lit) => Ok(Step::Hence { lit, cert }),
+        Err(error) => {
+            mem::drop(cert);
+            Err(error)
+        }
+    }
+}
+
+/// The literal is a fact; hands out an equal one.
+fn assumed(alloc: Global, lit: &Lit, state: &mut StepState) -> Result<Lit, AllocError>
+    ensures lit { IfOk result (λ l. l ≡ lit.now) }
+    ensures after { OnOk result
+        (state.new ≡ with_facts (joined state.old.facts lit.now) state.old) }
+{
     state.assume(alloc, lit)?;
-    let lit = copy(alloc, lit)?;
-    Ok(Step::Hence { lit, cert })
+    copy(alloc, lit)
 }
 
 /// The certificate of a hence, where it has one.
@@ -340,21 +357,31 @@ fn make(
         return Err(AllocError);
     }
     let names = Items::new(Vec::from_slice(alloc, names)?);
-    let copied = copy_construction(alloc, form)?;
     let needs = form.needs(alloc)?;
-    let certs = placed_certs(alloc, &state.facts, &needs, certs)?;
+    let placed = placed_certs(alloc, &state.facts, &needs, certs);
     mem::drop(needs);
-    match state.make(alloc, form) {
-        Ok(()) => Ok(Step::Make {
-            form: copied,
-            names,
-            certs,
-        }),
+    let certs = placed?;
+    match made(alloc, form, state) {
+        Ok(form) => Ok(Step::Make { form, names, certs }),
         Err(error) => {
             mem::drop(certs);
             Err(error)
         }
     }
+}
+
+/// What the construction makes is in scope, and what it gives are facts; hands out an equal one.
+fn made(
+    alloc: Global,
+    form: &Construction,
+    state: &mut StepState,
+) -> Result<Construction, AllocError>
+    requires { IsTrue (is_small state.old.scope) }
+    ensures form { IfOk result (λ f. f ≡ form.now) }
+    ensures after { OnOk result (state.new ≡ state_after_make form.now state.old) }
+{
+    state.make(alloc, form)?;
+    copy_construction(alloc, form)
 }
 
 /// An application, as it is written.
@@ -388,20 +415,41 @@ fn apply(
     if !has_room(scope) {
         return Err(AllocError);
     }
-    let args = Items::new(Vec::from_slice(alloc, application.args)?);
-    let names = Items::new(Vec::from_slice(alloc, application.names)?);
     let applied = match use_of(alloc, statement, &objects, scope) {
         Ok(applied) => applied,
         Err(UseFault::BadArgs | UseFault::NoMemory) => return Err(AllocError),
     };
+    let step = take_use(alloc, application, statement, &applied, state);
+    mem::drop(applied);
+    step
+}
+
+/// The application as a step, by what it needs and gives; then its made objects are in scope, and
+/// what it gives are facts.
+fn take_use(
+    alloc: Global,
+    application: &Application,
+    statement: &Statement,
+    applied: &Applied,
+    state: &mut StepState,
+) -> Result<Step, AllocError>
+    requires statement { IsTrue (is_small_statement (stated statement.now)) }
+    requires scope { IsTrue (is_small state.old.scope) }
+    ensures step { IfOk result (λ s. s ≡ ApplyStep application.now.theorem application.now.args.now
+        application.now.names.now (Numbered.certs_with_places state.old.facts applied.now.needs
+        application.now.certs.now)) }
+    ensures after { OnOk result
+        (state.new ≡ state_after_use (stated statement.now) applied.now.gives state.old) }
+{
+    let args = Items::new(Vec::from_slice(alloc, application.args)?);
+    let names = Items::new(Vec::from_slice(alloc, application.names)?);
     let certs = placed_certs(
         alloc,
         &state.facts,
         applied.needs.items(),
         application.certs,
     )?;
-    state.scope = grown(scope, statement.made.items());
-    match state.assume_all(alloc, applied.gives.items()) {
+    match state.take_use(alloc, statement, applied.gives.items()) {
         Ok(()) => Ok(Step::Apply {
             theorem: application.theorem,
             args,
@@ -431,8 +479,9 @@ fn superpose(
         return Err(AllocError);
     }
     let needs = form.needs(alloc)?;
-    let certs = placed_certs(alloc, &state.facts, &needs, certs)?;
+    let placed = placed_certs(alloc, &state.facts, &needs, certs);
     mem::drop(needs);
+    let certs = placed?;
     match state.superpose(alloc, form) {
         Ok(()) => Ok(certs),
         Err(error) => {

@@ -3,13 +3,16 @@
 ghost use Rattle.std.specs.Prelude.{◌≡◌, OnOk, IsTrue};
 ghost use Rattle.e_literal.specs.Literal.{negation};
 ghost use Rattle.e_literal.specs.Facts.{joined, joined_all};
-ghost use Rattle.e_deriv.specs.Fitting.{is_small};
+ghost use Rattle.e_theorem.specs.Statements.{stated};
+ghost use Rattle.e_deriv.specs.Fitting.{is_small, is_small_statement};
 ghost use Rattle.e_verify.specs.inner.StepStates.{checkpoint_of, restored, with_facts};
 ghost use Rattle.e_verify.specs.inner.StepStates.{state_after_make, state_after_superposed};
+ghost use Rattle.e_verify.specs.inner.StepStates.{state_after_use};
 
 use crate::facts::Facts;
 use e_construct::{Construction, Superpose};
 use e_literal::{Lit, Obj, Scope, copy, grown, negate};
+use e_theorem::Statement;
 use std::alloc::{AllocError, Global};
 
 /// The objects in scope and the facts before a step.
@@ -89,6 +92,23 @@ impl StepState {
         self.facts.join(given)?;
         self.scope = grown(scope, form.made());
         Ok(())
+    }
+
+    /// The made objects of a statement come into scope, and what a use of it gives are facts.
+    pub fn take_use(
+        &mut self,
+        alloc: Global,
+        statement: &Statement,
+        gives: &[Lit],
+    ) -> Result<(), AllocError>
+        requires statement { IsTrue (is_small_statement (stated statement.now)) }
+        requires scope { IsTrue (is_small self.old.scope) }
+        ensures { OnOk result
+            (self.new ≡ state_after_use (stated statement.now) gives.now self.old) }
+    {
+        let scope = self.scope;
+        self.scope = grown(scope, statement.made.items());
+        self.assume_all(alloc, gives)
     }
 
     /// The literals are facts.

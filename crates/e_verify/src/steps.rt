@@ -7,7 +7,8 @@ ghost use Rattle.std.specs.Option.{option_map, option_map_or};
 ghost use Rattle.e_literal.specs.Literal.{all_in_scope};
 ghost use Rattle.e_literal.specs.Use.{StatementView};
 ghost use Rattle.e_literal.specs.WellFormed.{is_well_formed};
-ghost use Rattle.e_theorem.specs.Statements.{all_stated};
+ghost use Rattle.e_clause.specs.Certify;
+ghost use Rattle.e_theorem.specs.Statements.{stated, all_stated};
 ghost use Rattle.e_deriv.specs.Fitting.{is_small, is_small_statement};
 ghost use Rattle.e_deriv.specs.Parts.{has_no_blank, written};
 ghost use Rattle.e_deriv.specs.Certified.{is_certified};
@@ -16,7 +17,7 @@ ghost use Rattle.e_deriv.specs.Script.{Script, Cite, Hence, Make, Apply, Superpo
 ghost use Rattle.e_deriv.specs.Steps;
 ghost use Rattle.e_deriv.specs.Steps.{is_citation};
 ghost use Rattle.e_verify.specs.Checking.{IsChecked, step_in_state};
-ghost use Rattle.e_verify.specs.inner.StepStates.{state_after_superposed};
+ghost use Rattle.e_verify.specs.inner.StepStates.{state_after_superposed, state_after_use};
 ghost use Rattle.e_clause.specs.Written.{is_writable_cert};
 
 use crate::certificate::{certifies, certify_all};
@@ -26,8 +27,8 @@ use crate::scope::{are_over, objects_in};
 use crate::step_state::StepState;
 use e_clause::{By, Cert};
 use e_construct::{Construction, Superpose};
-use e_literal::{Lit, Obj, Scope, grown, in_scope};
-use e_theorem::{Statement, UseFault, use_of};
+use e_literal::{Lit, Obj, Scope, in_scope};
+use e_theorem::{Applied, Statement, UseFault, use_of};
 use std::alloc::{AllocError, Global};
 use std::mem;
 
@@ -105,10 +106,11 @@ pub fn make(
         return Ok(false);
     }
     let needs = form.needs(alloc)?;
-    if !certify_all(alloc, scope, &state.facts, &needs, certs)? {
+    let certified = certify_all(alloc, scope, &state.facts, &needs, certs);
+    mem::drop(needs);
+    if !certified? {
         return Ok(false);
     }
-    mem::drop(needs);
     state.make(alloc, form)?;
     Ok(true)
 }
@@ -142,11 +144,35 @@ pub fn apply(
         Err(UseFault::BadArgs) => return Ok(false),
         Err(UseFault::NoMemory) => return Err(AllocError),
     };
+    let certified = take_use(alloc, statement, &applied, certs, state);
+    mem::drop(applied);
+    certified
+}
+
+/// Whether what a use of a statement needs is certified; then the made objects are in scope, and
+/// what it gives are facts.
+fn take_use(
+    alloc: Global,
+    statement: &Statement,
+    applied: &Applied,
+    certs: &[Cert],
+    state: &mut StepState,
+) -> Result<bool, AllocError>
+    requires facts { IsTrue (list_all is_well_formed state.old.facts) }
+    requires scope { IsTrue (is_small state.old.scope) }
+    requires statement { IsTrue (is_small_statement (stated statement.now)) }
+    requires needs { IsTrue (list_all is_well_formed applied.now.needs) }
+    requires certs { IsTrue (list_all is_writable_cert certs.now) }
+    ensures test { IfOk result (λ b. b ≡ Certify.certify_all state.old.scope state.old.facts
+        applied.now.needs certs.now) }
+    ensures after { IfOk result (λ b. IsTrue b → state.new
+        ≡ state_after_use (stated statement.now) applied.now.gives state.old) }
+{
+    let scope = state.scope;
     if !certify_all(alloc, scope, &state.facts, applied.needs.items(), certs)? {
         return Ok(false);
     }
-    state.scope = grown(scope, statement.made.items());
-    state.assume_all(alloc, applied.gives.items())?;
+    state.take_use(alloc, statement, applied.gives.items())?;
     Ok(true)
 }
 
@@ -173,10 +199,11 @@ pub fn superpose(
         return Ok(false);
     }
     let needs = form.needs(alloc)?;
-    if !certify_all(alloc, scope, &state.facts, &needs, certs)? {
+    let certified = certify_all(alloc, scope, &state.facts, &needs, certs);
+    mem::drop(needs);
+    if !certified? {
         return Ok(false);
     }
-    mem::drop(needs);
     state.superpose(alloc, form)?;
     Ok(true)
 }

@@ -159,6 +159,13 @@ not_certified before theorem args names certs t x after at h =
     refused before (Apply theorem args names certs) x after
     (λ rest goal. ap (λ b. form && (b && has_no_blank args)) (ap (λ u. certify_all x.scope x.facts (needs_of_use u (written args) x.scope) certs) is ∙ h) ∙ and-false form)
 
+-- an application whose arguments fit, by whether what it needs is certified
+pub use_checked : (before : List StatementView) (theorem : ℕ) (args : List (Option Obj)) (names : List (List ℕ)) (certs : List Cert) (t : StatementView) (x after : StepState) (b : Bool) → is_small_statement t ≡ true → slice_get before theorem ≡ Some t → has_no_blank args ≡ true
+    → are_arguments t x.scope (written args) ≡ true → b ≡ certify_all x.scope x.facts (needs_of_use t (written args) x.scope) certs → (b ≡ true → after ≡ after_apply t (written args) x)
+    → IsChecked before (Apply theorem args names certs) x after b
+use_checked before theorem args names certs t x after true small at blank fit test end = checked_apply before theorem args names certs t x after small at blank fit (sym test) (end refl)
+use_checked before theorem args names certs t x after false small at blank fit test end = not_certified before theorem args names certs t x after at (sym test)
+
 -- what the table of arguments answers
 pub all_are_written : (v w : List Obj) (b : Bool) → Some v ≡ (if b then Some w else None) → (b ≡ true) × (v ≡ w)
 all_are_written v w true e = (refl, same_Some v w e)

@@ -29,6 +29,11 @@ state_after_make form x =
       facts = joined_all x.facts (gives_of_construction form x.scope);
     }
 
+-- after a use of a statement that gives these literals
+abbrev pub state_after_use : StatementView → List Lit → StepState → StepState
+state_after_use t gives x =
+    record { scope = grown x.scope t.made; facts = joined_all x.facts gives }
+
 -- what the block of a superposition begins with
 abbrev pub state_after_superposed : Superpose → StepState → StepState
 state_after_superposed form x =

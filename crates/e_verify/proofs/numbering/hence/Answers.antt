@@ -3,8 +3,8 @@ use Rattle.e_deriv.specs.declared.block.Step.TheVariants.{Hence as HenceStep}
 use Rattle.e_verify.proofs.placing.NumberedSteps.{hence_numbered}
 use Rattle.e_verify.proofs.numbering.hence.Goals as goal
 
-pub returns : goal.returns
-returns c before =
+pub returns-in-Ok : goal.returns-in-Ok
+returns-in-Ok c before =
     let cert = c.in_ok-cert.cert in
-    hence_numbered before c.args.lit.now c.args.cert.now c.args.state.now c.assume.new.self _
-    (ap (λ l. HenceStep l cert) c.in_ok-lit.ensures ∙ ap (HenceStep c.args.lit.now) c.in_ok-cert.ensures) c.in_ok-assume.ensures
+    hence_numbered before c.args.lit.now c.args.cert.now c.args.state.now c.assumed.new.state _
+    (ap (λ l. HenceStep l cert) c.in-Ok.ensures.lit ∙ ap (HenceStep c.args.lit.now) c.in_ok-cert.ensures) c.in-Ok.ensures.after

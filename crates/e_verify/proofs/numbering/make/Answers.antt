@@ -4,8 +4,8 @@ use Rattle.e_verify.specs.Numbered.{certs_with_places}
 use Rattle.e_verify.proofs.placing.NumberedSteps.{make_numbered}
 use Rattle.e_verify.proofs.numbering.make.Goals as goal
 
-pub make-requires : goal.make-requires
-make-requires c = sym c.has_room.ensures ∙ c.if-not-has_room.false
+pub made-requires : goal.made-requires
+made-requires c = sym c.has_room.ensures ∙ c.if-not-has_room.false
 
 pub returns-in-Ok : goal.returns-in-Ok
 returns-in-Ok c before =
@@ -15,7 +15,7 @@ returns-in-Ok c before =
     let wanted = c.deref.ensures.value ∙ c.in_ok-needs.ensures in
     let placed = c.in_ok-certs.certs in
     make_numbered before form names c.args.certs.now x _ _
-    (ap (λ f. MakeStep f c.new-names.result placed) c.in_ok-copied.ensures
+    (ap (λ f. MakeStep f c.new-names.result placed) c.in-Ok.ensures.form
     ∙ ap (λ ns. MakeStep form ns placed) (c.new-names.ensures ∙ c.in_ok-from_slice.ensures.items)
     ∙ ap (MakeStep form names) (c.in_ok-certs.ensures ∙ ap (λ ls. certs_with_places x.facts ls c.args.certs.now) wanted))
-    c.in-Ok.ensures
+    c.in-Ok.ensures.after
