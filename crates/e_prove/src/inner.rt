@@ -9,7 +9,7 @@ use crate::block::{ProvedBlock, ProvedClose, ProvedStep};
 use crate::step_state::StepState;
 use e_clause::Cert;
 use e_construct::Superpose;
-use e_deriv::{Close, Names, Step, Stop, boxed, copy_lits};
+use e_deriv::{Block, Close, Names, Step, Stop, boxed, copy_lits};
 use e_literal::{Items, Lit, copy};
 use e_text::Name;
 use std::alloc::{AllocError, Global};
@@ -40,6 +40,37 @@ fn show_after(
     copy_lits(alloc, shown)
 }
 
+/// The same, which hands out the block too, boxed.
+fn close_block(
+    alloc: Global,
+    shown: &[Lit],
+    block: Block,
+    outer: Names,
+    state: &mut StepState,
+) -> Result<(Items<Lit>, Box<Block>), AllocError>
+    requires held { 0 < length state.old.context.held }
+    requires good { CanJoinLast shown.now state.old }
+    ensures shown { IfOk result (λ p. p.0 ≡ shown.now) }
+    ensures block { IfOk result (λ p. p.1.value ≡ block) }
+    ensures after { OnOk result (IsLeftWith outer shown.now state.old state.new) }
+{
+    let inner = match Box::new(alloc, block) {
+        Ok(inner) => inner,
+        Err(failed) => {
+            mem::drop(failed);
+            mem::drop(outer);
+            return Err(AllocError);
+        }
+    };
+    match show_after(alloc, shown, outer, state) {
+        Ok(shown) => Ok((shown, inner)),
+        Err(error) => {
+            mem::drop(inner);
+            Err(error)
+        }
+    }
+}
+
 /// A claim whose block is proved: what it shows are facts where the block was entered.
 #[tactic(auto, using(e_deriv::proofs::Scripts::scripts))]
 pub fn claimed(
@@ -58,14 +89,7 @@ pub fn claimed(
     ensures err { IfErr result (λ s. s ≡ NoMemory) }
 {
     let ProvedBlock { block, next } = proved;
-    let shown = match show_after(alloc, shown, outer, state) {
-        Ok(shown) => shown,
-        Err(_) => {
-            mem::drop(block);
-            return Err(Stop::NoMemory);
-        }
-    };
-    let inner = Box::new(alloc, block)?;
+    let (shown, inner) = close_block(alloc, shown, block, outer, state)?;
     let step = Step::Claim { shown, inner };
     Ok(ProvedStep { step, next })
 }
@@ -91,32 +115,31 @@ pub fn superposed(
 {
     let Head { form, names, certs } = head;
     let ProvedBlock { block, next } = proved;
-    let shown = match show_after(alloc, shown, outer, state) {
-        Ok(shown) => shown,
-        Err(_) => {
-            mem::drop(block);
-            mem::drop(certs);
-            return Err(Stop::NoMemory);
-        }
-    };
     let names = match Vec::from_slice(alloc, names) {
-        Ok(names) => names,
+        Ok(names) => Items::new(names),
         Err(_) => {
             mem::drop(block);
             mem::drop(certs);
-            mem::drop(shown);
+            mem::drop(outer);
             return Err(Stop::NoMemory);
         }
     };
-    let inner = Box::new(alloc, block)?;
-    let step = Step::Superposed {
-        form: *form,
-        names: Items::new(names),
-        shown,
-        certs: Items::new(certs),
-        inner,
-    };
-    Ok(ProvedStep { step, next })
+    match close_block(alloc, shown, block, outer, state) {
+        Ok((shown, inner)) => {
+            let step = Step::Superposed {
+                form: *form,
+                names,
+                shown,
+                certs: Items::new(certs),
+                inner,
+            };
+            Ok(ProvedStep { step, next })
+        }
+        Err(_) => {
+            mem::drop(certs);
+            Err(Stop::NoMemory)
+        }
+    }
 }
 
 /// A split whose blocks are proved.
