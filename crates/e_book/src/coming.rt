@@ -256,29 +256,21 @@ impl Coming {
             ..
         } = self;
         if defines {
-            return into_definition(parser);
+            return into_definition(alloc, parser);
         }
         Item::Theorem(parser.into_theorem(alloc))
     }
 }
 
 /// The definition that the lines make.
-fn into_definition(parser: TheoremParser) -> Item
+fn into_definition(alloc: Global, mut parser: TheoremParser) -> Item
     ensures { view_of result ≡ OfNotion (notion_of_parser parser) }
 {
-    let TheoremParser {
-        title,
-        declared,
-        shown,
-        ..
-    } = parser;
-    Item::Notion(
-        title,
-        Notion {
-            declared,
-            means: shown,
-        },
-    )
+    let title = parser.title;
+    let declared = mem::replace(&mut parser.declared, Items::empty(alloc));
+    let means = mem::replace(&mut parser.shown, Items::empty(alloc));
+    mem::drop(parser);
+    Item::Notion(title, Notion { declared, means })
 }
 
 /// Whether a line that takes literals may come at a place.

@@ -140,28 +140,65 @@ impl TheoremParser {
         Ok(())
     }
 
+    /// An inner block begins, with the names that are in scope and this many facts.
+    fn interrupt_here(
+        &mut self,
+        alloc: Global,
+        kind: BlockKind,
+        given: usize,
+    ) -> Result<(), AllocError>
+        requires parser { FitsScope self.old }
+        requires room { HasRoom self.old given }
+        requires begun { begun_with kind ≤ given }
+        requires terms { self.old.terms + begun_terms kind ≤ most_terms }
+        ensures value { OnOk result (self.new ≡ interrupted self.old kind given) }
+        ensures fits { OnOk result (FitsScope self.new) }
+    {
+        match self.in_scope.copy(alloc) {
+            Ok(inside) => self.interrupt(alloc, kind, inside, given),
+            Err(error) => {
+                mem::drop(kind);
+                Err(error)
+            }
+        }
+    }
+
     /// A claim: its literals, and then the limits.
-    #[tactic(auto, unfolding(crate::specs::Steps::claimed, crate::specs::Steps::deeper, crate::specs::Steps::room_inside))]
     pub(crate) fn on_claim(&mut self, alloc: Global, raw: &[RawLit]) -> Result<(), LineError>
         requires { FitsScope self.old }
         ensures value { Moves result self.new (claimed self.old raw.now) }
         ensures fits { OnOk result (FitsScope self.new) }
     {
         let mut shown = Items::empty(alloc);
-        if let Err(error) = put_lits(alloc, &self.in_scope, raw, &mut shown) {
-            mem::drop(shown);
-            return Err(error);
+        match self.put_claimed(alloc, raw, &mut shown) {
+            Ok(()) => {
+                self.interrupt_here(alloc, BlockKind::Claim { shown }, 0)?;
+                Ok(())
+            }
+            Err(error) => {
+                mem::drop(shown);
+                Err(error)
+            }
         }
-        if let Err(error) = self.room_inside(0) {
-            mem::drop(shown);
-            return Err(error);
-        }
-        if let Err(error) = few_monos(raw) {
-            mem::drop(shown);
-            return Err(error);
-        }
-        let inside = self.in_scope.copy(alloc)?;
-        self.interrupt(alloc, BlockKind::Claim { shown }, inside, 0)?;
+    }
+
+    /// The literals of a claim, and then the limits of the block that begins with it.
+    #[tactic(auto, unfolding(crate::specs::Steps::claimed, crate::specs::Steps::deeper, crate::specs::Steps::room_inside))]
+    fn put_claimed(
+        &self,
+        alloc: Global,
+        raw: &[RawLit],
+        shown: &mut Items<Lit>,
+    ) -> Result<(), LineError>
+        requires parser { FitsScope self.now }
+        requires empty { shown.old ≡ [] }
+        ensures value { Gives (λ u. interrupted self.now (BlockKind.Claim shown.new) 0) result
+            (claimed self.now raw.now) }
+        ensures room { OnOk result (HasRoom self.now 0) }
+    {
+        put_lits(alloc, &self.in_scope, raw, shown)?;
+        self.room_inside(0)?;
+        few_monos(raw)?;
         Ok(())
     }
 
@@ -178,10 +215,25 @@ impl TheoremParser {
     {
         let names = Items::new(Vec::from_slice(alloc, raw.new.items())?);
         let Placement { form, shown } = superpose_in(alloc, &self.in_scope, raw)?;
-        let given = form.gives(alloc, scope_of_names(&self.in_scope))?;
-        let after = names_with(alloc, &self.in_scope, form.made(), raw.new.items())?;
         let kind = BlockKind::Superpose { form, names, shown };
-        self.begin_copies(alloc, kind, after, &given, raw.shown.items())
+        let after = match names_with(alloc, &self.in_scope, form.made(), raw.new.items()) {
+            Ok(after) => after,
+            Err(error) => {
+                mem::drop(kind);
+                return Err(error);
+            }
+        };
+        let given = match form.gives(alloc, scope_of_names(&self.in_scope)) {
+            Ok(given) => given,
+            Err(error) => {
+                mem::drop(kind);
+                mem::drop(after);
+                return Err(error.into());
+            }
+        };
+        let begun = self.begin_copies(alloc, kind, after, &given, raw.shown.items());
+        mem::drop(given);
+        begun
     }
 
     /// The block of a superposition begins with these names and facts: the limits of steps, of
@@ -224,11 +276,17 @@ impl TheoremParser {
         ensures fits { OnOk result (FitsScope self.new) }
     {
         let lit = lit_in(alloc, &self.in_scope, raw)?;
-        let terms = self.terms_inside(slice::from_ref(&lit), slice::from_ref(raw))?;
-        let inside = self.in_scope.copy(alloc)?;
-        self.interrupt(alloc, BlockKind::First { lit }, inside, 1)?;
-        self.terms = terms;
-        Ok(())
+        match self.terms_inside(slice::from_ref(&lit), slice::from_ref(raw)) {
+            Ok(terms) => {
+                self.interrupt_here(alloc, BlockKind::First { lit }, 1)?;
+                self.terms = terms;
+                Ok(())
+            }
+            Err(error) => {
+                mem::drop(lit);
+                Err(error)
+            }
+        }
     }
 
     /// The close by `qed`: its objects, and then the limit of steps.

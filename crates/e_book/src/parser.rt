@@ -414,14 +414,23 @@ impl TheoremParser {
         ensures fits { OnOk result (FitsScope self.new) }
     {
         let form = let_in(alloc, &self.in_scope, raw)?;
-        let given = count_given(alloc, &form, scope_of_names(&self.in_scope))?;
-        let names = self.bring_in(alloc, form.made(), raw.new.items())?;
-        let step = Step::Make {
-            form,
-            names,
-            certs: Items::empty(alloc),
+        let given = match count_given(alloc, &form, scope_of_names(&self.in_scope)) {
+            Ok(given) => given,
+            Err(error) => {
+                mem::drop(form);
+                return Err(error.into());
+            }
         };
-        self.add_step(step, given)
+        match self.bring_in(alloc, form.made(), raw.new.items()) {
+            Ok(names) => {
+                let certs = Items::empty(alloc);
+                self.add_step(Step::Make { form, names, certs }, given)
+            }
+            Err(error) => {
+                mem::drop(form);
+                Err(error)
+            }
+        }
     }
 
     /// New names come into scope, each after those of its sort: the limits of objects. It gives a
@@ -473,9 +482,15 @@ impl TheoremParser {
             (used_by self.old (stated statement.now) application.theorem application.args new.now) }
         ensures fits { OnOk result (FitsScope self.new) }
     {
+        let names = match self.bring_in(alloc, statement.made.items(), new) {
+            Ok(names) => names,
+            Err(error) => {
+                mem::drop(application);
+                return Err(error);
+            }
+        };
         let Application { theorem, args } = application;
         let blanks = count_blanks(args.items());
-        let names = self.bring_in(alloc, statement.made.items(), new)?;
         let step = Step::Apply {
             theorem,
             args,

@@ -1,5 +1,4 @@
 use Rattle.std.proofs.Common.{◌≡◌, ℕ, List, [], ◌∷◌, Result, Ok, sym, ap, subst, ◌∙◌}
-use Rattle.std.proofs.lemmas.Result.{err_from_is_err_and}
 use Rattle.e_literal.specs.declared.literal.Lit.{Lit}
 use Rattle.e_line.specs.declared.fault.FaultKind.{FaultKind}
 use Rattle.e_line.specs.declared.fault.LineError.{LineError}
@@ -21,7 +20,6 @@ split_fails d r l given raws e is g w f =
     let one = subst (λ (x : List Lit). Fails e (terms_inside d x (r ∷ []))) g (subst (λ (x : List RawLit). Fails e (terms_inside d given x)) w f) in
     subst (Fails e) (sym (begun_with_lit d r ∙ ap there is)) (fails_on e (terms_inside d (l ∷ []) (r ∷ [])) (begun l) one)
 
-pub returns-in_err-terms-clause-value : goal.returns-in_err-terms-clause-value
-returns-in_err-terms-clause-value c =
-    let p = err_from_is_err_and c.from_residual-in_err-terms.result c.from_residual-in_err-terms.ensures.1 in
-    rw (p.1, p.2) (split_fails c.args.self.now c.args.raw.now c.in_ok-lit.lit c.from_ref.result.now c.from_ref-2.result.now c.in_err-terms.field-0.0 c.in_ok-lit.ensures c.from_ref.ensures.value c.from_ref-2.ensures.value c.in_err-terms.ensures.value)
+pub returns-in-Err-clause-value : goal.returns-in-Err-clause-value
+returns-in-Err-clause-value c =
+    split_fails c.args.self.now c.args.raw.now c.in_ok-lit.lit c.from_ref.result.now c.from_ref-2.result.now c.in-Err.error c.in_ok-lit.ensures c.from_ref.ensures.value c.from_ref-2.ensures.value c.in-Err.ensures.value

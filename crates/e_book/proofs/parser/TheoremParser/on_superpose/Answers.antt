@@ -12,4 +12,4 @@ returns-clause-value c =
     let form = c.in_ok-form.field-0.form in
     let shown = c.in_ok-form.field-0.shown in
     let is = superposed_is d raw form shown tt c.in_ok-form.ensures (grind arith) in
-    subst (λ (r : Result TheoremParser FaultKind). Moves c.begin_copies.result c.begin_copies.new.self r) (grind (arith, is)) c.begin_copies.ensures.value
+    subst (λ (r : Result TheoremParser FaultKind). Moves c.begin_copies-begun.result c.begin_copies-begun.new.self r) (grind (arith, is)) c.begin_copies-begun.ensures.value
