@@ -219,8 +219,8 @@ claim_wide b es l image o w is good answer claim =
 -- one that the last number does not complete
 pub not_completed : (b : Basis) (now before : List Entry) (first : Bool) (l image : Lit) → (is_well_formed_in b.scope image && (first || not (is_well_formed_in b.scope (at before l)))) ≡ false
     → image ≡ at now l → is_completed b.scope now before first l ≡ true → Allowed b.scope b.facts (at now l)
-not_completed b now before first l image no is done =
-    let so = subst (λ x. (is_well_formed_in b.scope x && (first || not (is_well_formed_in b.scope (at before l)))) ≡ false) is no in
+not_completed b now before first l image open_yet is done =
+    let so = subst (λ x. (is_well_formed_in b.scope x && (first || not (is_well_formed_in b.scope (at before l)))) ≡ false) is open_yet in
     absurd (false≢true (sym so ∙ done))
 
 -- ---- one literal after the other

@@ -11,17 +11,17 @@ returns-then-not-branch c =
 
 pub returns-in-Yes : goal.returns-in-Yes
 returns-in-Yes c =
-    λ images is done. claim_yes c.args.self.now.context.now images c.args.lit.now c.args.image.now c.in_ok-licence_by.field-0 c.in-Yes.cert is c.in-Yes.is c.in_ok-licence_by.ensures
+    λ images is done. claim_yes c.args.self.now.context.now images c.args.lit.now c.args.image.now c.in_ok-cert.field-0 c.in-Yes.cert is c.in-Yes.is c.in_ok-cert.ensures
 
 pub returns-in-No : goal.returns-in-No
 returns-in-No c =
-    λ images is. claim_no c.args.self.now.context.now images c.args.lit.now c.args.image.now c.in_ok-licence_by.field-0 c.in-No.values is
-    (and_left _ _ (sym c.in_ok-is_newly_known.ensures ∙ c.if-not-branch.false)) c.in-No.is c.in_ok-licence_by.ensures
+    λ images is. claim_no c.args.self.now.context.now images c.args.lit.now c.args.image.now c.in_ok-cert.field-0 c.in-No.values is
+    (and_left _ _ (sym c.in_ok-is_newly_known.ensures ∙ c.if-not-branch.false)) c.in-No.is c.in_ok-cert.ensures
 
 pub returns-in-TooWide : goal.returns-in-TooWide
 returns-in-TooWide c =
-    λ images is. claim_wide c.args.self.now.context.now images c.args.lit.now c.args.image.now c.in_ok-licence_by.field-0 c.in-TooWide.width is
-    (and_left _ _ (sym c.in_ok-is_newly_known.ensures ∙ c.if-not-branch.false)) c.in-TooWide.is c.in_ok-licence_by.ensures
+    λ images is. claim_wide c.args.self.now.context.now images c.args.lit.now c.args.image.now c.in_ok-cert.field-0 c.in-TooWide.width is
+    (and_left _ _ (sym c.in_ok-is_newly_known.ensures ∙ c.if-not-branch.false)) c.in-TooWide.is c.in_ok-cert.ensures
 
 pub licence_by-requires-clause-metric_facts : goal.licence_by-requires-clause-metric_facts
 licence_by-requires-clause-metric_facts c = subst (λ fs. AreFronts fs c.metric_facts-metric_facts.result.now) c.args.self.now.fronts c.metric_facts-metric_facts.ensures
