@@ -14,8 +14,8 @@ use Rattle.e_deriv.specs.declared.names.Names.{Names}
 use Rattle.e_deriv.specs.Script.{Script, Make, Qed}
 use Rattle.e_names.specs.Scope.{construction}
 use Rattle.e_line.specs.Canonical.{line_of}
-use Rattle.e_names.specs.Canonical.{given_form, let_form}
-use Rattle.e_book.specs.Canonical.{given_forms, shown_forms, script_forms}
+use Rattle.e_names.specs.Canonical.{given_raw_line, let_raw_line}
+use Rattle.e_book.specs.Canonical.{given_raw_lines, shown_raw_lines, script_raw_lines}
 
 -- points a and b, line L
 abbrev names : Names
@@ -27,10 +27,10 @@ differ = record { neg = true; atom = atoms.EqP 0 1 }
 abbrev not_on : Lit
 not_on = record { neg = true; atom = atoms.On 1 0 }
 
-differs_by_its_sign : line_of (given_form names differ) ≡ codes "given a != b"
+differs_by_its_sign : line_of (given_raw_line names differ) ≡ codes "given a != b"
 differs_by_its_sign = refl
 
-not_stands_before : line_of (given_form names not_on) ≡ codes "given not on b L"
+not_stands_before : line_of (given_raw_line names not_on) ≡ codes "given not on b L"
 not_stands_before = refl
 
 -- two points and a line are declared, and two points and a circle are made
@@ -40,15 +40,15 @@ statement = record { declared = Point ∷ Line ∷ Point ∷ []; given = []; mad
 abbrev all_names : Names
 all_names = record { points = codes "a" ∷ codes "b" ∷ codes "c" ∷ codes "d" ∷ []; lines = codes "L" ∷ []; circles = codes "A" ∷ [] }
 
-declared_lines : map line_of (given_forms all_names statement) ≡ codes "points a" ∷ codes "lines L" ∷ codes "points b" ∷ []
+declared_lines : map line_of (given_raw_lines all_names statement) ≡ codes "points a" ∷ codes "lines L" ∷ codes "points b" ∷ []
 declared_lines = refl
 
 -- neighbouring objects of one sort are on one line
-made_lines : map line_of (shown_forms all_names statement) ≡ codes "made points c d" ∷ codes "made circles A" ∷ codes "show a != b" ∷ []
+made_lines : map line_of (shown_raw_lines all_names statement) ≡ codes "made points c d" ∷ codes "made circles A" ∷ codes "show a != b" ∷ []
 made_lines = refl
 
 abbrev let_line : Construction → List (List ℕ) → List ℕ
-let_line form new = line_of (let_form all_names form new)
+let_line construction new = line_of (let_raw_line all_names construction new)
 
 point_between : let_line (construction Within (obj Line 0 ∷ obj Point 0 ∷ obj Point 1 ∷ []) []) (codes "e" ∷ []) ≡ codes "let e on L between a b"
 unfolding pieces
@@ -66,6 +66,6 @@ two_points = refl
 abbrev script : Script
 script = Make (construction LineThrough (obj Point 0 ∷ obj Point 1 ∷ []) []) (codes "M" ∷ []) [] (Qed (obj Point 0 ∷ obj Line 1 ∷ []) [])
 
-proof_lines : map line_of (script_forms [] names script) ≡ codes "let M line a b" ∷ codes "qed a M" ∷ []
-unfolding script_forms pieces shape_row
+proof_lines : map line_of (script_raw_lines [] names script) ≡ codes "let M line a b" ∷ codes "qed a M" ∷ []
+unfolding script_raw_lines pieces shape_row
 proof_lines = refl

@@ -11,7 +11,7 @@ use Rattle.e_book.specs.declared.blocks.BlockKind.TheVariants as kind
 -- that of the block it closes
 abbrev pub is_claim : BlockKind → Bool
 is_claim (kind.Claim shown) = true
-is_claim (kind.Superpose form names shown) = true
+is_claim (kind.Superpose superposition names shown) = true
 is_claim (kind.First lit) = false
 is_claim (kind.Second lit first) = false
 

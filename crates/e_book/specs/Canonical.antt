@@ -1,4 +1,4 @@
--- The canonical spelling: the words of each form, and the lines of each theorem, in order.
+-- The canonical spelling: the raw lines of each theorem, in order.
 use Rattle.std.specs.Prelude.{ℕ, List, [], ◌∷◌, ◌++◌, map, if◌then◌else◌}
 use Rattle.std.specs.List.{flat_map}
 use Rattle.e_literal.specs.declared.object.Sort.{Sort}
@@ -17,9 +17,10 @@ use Rattle.e_line.specs.declared.raw_line.RawLine.{RawLine}
 use Rattle.e_line.specs.declared.raw_line.RawLine.TheVariants as rawlines
 use Rattle.e_names.specs.TitledStatements.{TitledStatement, theorem_of}
 use Rattle.e_book.specs.TheoremViews.{TheoremView}
-use Rattle.e_names.specs.Canonical.{name_of_object, given_form, show_form, by_form, hence_form}
-use Rattle.e_names.specs.Canonical.{let_form, apply_form, claim_form, superpose_form, cases_form}
-use Rattle.e_names.specs.Canonical.{else_form, qed_form, contradiction_form, end_form}
+use Rattle.e_names.specs.Canonical.{name_of_object, given_raw_line, show_raw_line, by_raw_line}
+use Rattle.e_names.specs.Canonical.{hence_raw_line, let_raw_line, apply_raw_line, claim_raw_line}
+use Rattle.e_names.specs.Canonical.{superpose_raw_line, cases_raw_line, else_raw_line, qed_raw_line}
+use Rattle.e_names.specs.Canonical.{contradiction_raw_line, end_raw_line}
 
 -- ---- literals
 
@@ -43,11 +44,11 @@ abbrev pub grouped : Names → List Obj → List Group
 grouped ns [] = []
 grouped ns (o ∷ os) = grouped_before o.sort (name_of_object ns o) (grouped ns os)
 
-abbrev pub declare_form : Group → RawLine
-declare_form g = rawlines.Declare g.sort g.names
+abbrev pub declare_raw_line : Group → RawLine
+declare_raw_line g = rawlines.Declare g.sort g.names
 
-abbrev pub made_form : Group → RawLine
-made_form g = rawlines.Made g.sort g.names
+abbrev pub made_raw_line : Group → RawLine
+made_raw_line g = rawlines.Made g.sort g.names
 
 -- the declared objects of a statement, in order
 abbrev pub declared_objects : Statement → List Obj
@@ -57,48 +58,54 @@ declared_objects t = next_objects nothing t.declared
 abbrev pub made_objects : Statement → List Obj
 made_objects t = next_objects (scope_of (stated t)) t.made
 
--- what is given: one line for each group of declared objects, and one for each given literal
-abbrev pub given_forms : Names → Statement → List RawLine
-given_forms ns t = map declare_form (grouped ns (declared_objects t)) ++ map (given_form ns) t.given
+-- what is given: one raw line for each group of declared objects, and one for each given literal
+abbrev pub given_raw_lines : Names → Statement → List RawLine
+given_raw_lines ns t =
+    map declare_raw_line (grouped ns (declared_objects t)) ++ map (given_raw_line ns) t.given
 
--- what is shown: one line for each group of made objects, and one for each shown literal
-abbrev pub shown_forms : Names → Statement → List RawLine
-shown_forms ns t = map made_form (grouped ns (made_objects t)) ++ map (show_form ns) t.shown
+-- what is shown: one raw line for each group of made objects, and one for each shown literal
+abbrev pub shown_raw_lines : Names → Statement → List RawLine
+shown_raw_lines ns t =
+    map made_raw_line (grouped ns (made_objects t)) ++ map (show_raw_line ns) t.shown
 
 -- from the title to the word proof
-abbrev pub head_forms : TheoremView → List RawLine
-head_forms t =
+abbrev pub head_raw_lines : TheoremView → List RawLine
+head_raw_lines t =
     rawlines.Theorem t.title
-    ∷ (given_forms t.names t.statement ++ (shown_forms t.names t.statement ++ rawlines.Proof ∷ []))
+    ∷ (given_raw_lines t.names t.statement
+    ++ (shown_raw_lines t.names t.statement ++ rawlines.Proof ∷ []))
 
--- the forms of a script's lines, where these names are in scope before the first: those of new
--- objects come into scope after the line that makes them, and those of an inner block are gone
--- after it
-unfoldable pub script_forms : List TitledStatement → Names → Script → List RawLine
-script_forms known ns (Cite by rest) = by_form ns by ∷ script_forms known ns rest
-script_forms known ns (Hence lit cert rest) = hence_form ns lit ∷ script_forms known ns rest
-script_forms known ns (Make form names certs rest) =
-    let_form ns form names ∷ script_forms known (named ns (sorts_made form) names) rest
-script_forms known ns (Apply theorem args names certs rest) =
-    apply_form known ns theorem args names
-    ∷ script_forms known (named ns (theorem_of known theorem).made names) rest
-script_forms known ns (Claim shown inner rest) =
-    claim_form ns shown ∷ (script_forms known ns inner ++ script_forms known ns rest)
-script_forms known ns (Superposed form names shown certs inner rest) =
-    superpose_form ns form names shown ∷ (script_forms known
-    (named ns superposing.sorts_copied names) inner ++ script_forms known ns rest)
-script_forms known ns (Qed objects certs) = qed_form ns objects ∷ []
-script_forms known ns (Contradiction against) = contradiction_form ∷ []
-script_forms known ns (Cases lit first second) =
-    cases_form ns lit ∷ (script_forms known ns first ++ else_form ∷ script_forms known ns second)
+-- the raw lines of a script, where these names are in scope before the first: those of new objects
+-- come into scope after the line that makes them, and those of an inner block are gone after it
+unfoldable pub script_raw_lines : List TitledStatement → Names → Script → List RawLine
+script_raw_lines known ns (Cite by rest) = by_raw_line ns by ∷ script_raw_lines known ns rest
+script_raw_lines known ns (Hence lit cert rest) =
+    hence_raw_line ns lit ∷ script_raw_lines known ns rest
+script_raw_lines known ns (Make construction names certs rest) =
+    let_raw_line ns construction names
+    ∷ script_raw_lines known (named ns (sorts_made construction) names) rest
+script_raw_lines known ns (Apply theorem args names certs rest) =
+    apply_raw_line known ns theorem args names
+    ∷ script_raw_lines known (named ns (theorem_of known theorem).made names) rest
+script_raw_lines known ns (Claim shown inner rest) =
+    claim_raw_line ns shown ∷ (script_raw_lines known ns inner ++ script_raw_lines known ns rest)
+script_raw_lines known ns (Superposed superposition names shown certs inner rest) =
+    superpose_raw_line ns superposition names shown ∷ (script_raw_lines known
+    (named ns superposing.sorts_copied names) inner ++ script_raw_lines known ns rest)
+script_raw_lines known ns (Qed objects certs) = qed_raw_line ns objects ∷ []
+script_raw_lines known ns (Contradiction against) = contradiction_raw_line ∷ []
+script_raw_lines known ns (Cases lit first second) =
+    cases_raw_line ns lit
+    ∷ (script_raw_lines known ns first ++ else_raw_line ∷ script_raw_lines known ns second)
 
 -- the names that a theorem's proof begins with: those of the declared objects
 abbrev pub names_of_proof : TheoremView → Names
 names_of_proof t = declared_names (stated t.statement) t.names
 
--- the lines of a theorem after those that are known, in order
-abbrev pub forms_of : List TitledStatement → TheoremView → List RawLine
-forms_of known t = head_forms t ++ (script_forms known (names_of_proof t) t.script ++ end_form ∷ [])
+-- the raw lines of a theorem after those that are known, in order
+abbrev pub raw_lines_of : List TitledStatement → TheoremView → List RawLine
+raw_lines_of known t =
+    head_raw_lines t ++ (script_raw_lines known (names_of_proof t) t.script ++ end_raw_line ∷ [])
 
 -- lines, each ended by a line feed
 abbrev pub text_of : List (List ℕ) → List ℕ

@@ -8,9 +8,9 @@ use Rattle.e_literal.specs.contracts.literal.Lit as literal
 use Rattle.e_literal.specs.declared.object.Obj.{Obj}
 use Rattle.e_literal.specs.contracts.object.Obj as object
 use Rattle.e_construct.specs.declared.construction.Construction.{Construction}
-use Rattle.e_construct.specs.contracts.construction.Construction as construction
+use Rattle.e_construct.specs.contracts.construction.Construction as constructions
 use Rattle.e_construct.specs.declared.superpose.Superpose.{Superpose}
-use Rattle.e_construct.specs.contracts.superpose.Superpose as superposition
+use Rattle.e_construct.specs.contracts.superpose.Superpose as superpositions
 use Rattle.e_clause.specs.declared.cert.Against.{Against}
 use Rattle.e_clause.specs.contracts.cert.Against as against
 use Rattle.e_clause.specs.declared.cert.By.{By}
@@ -42,14 +42,14 @@ CodedLine = StepLine ⊎ CloseLine
 abbrev pub coded_lines : Script → List CodedLine → List CodedLine
 coded_lines (Cite by rest) more = inl (inl (inl by)) ∷ coded_lines rest more
 coded_lines (Hence lit cert rest) more = inl (inl (inr (lit, cert))) ∷ coded_lines rest more
-coded_lines (Make form names certs rest) more =
-    inl (inr (inl (inl (form, (names, certs))))) ∷ coded_lines rest more
+coded_lines (Make construction names certs rest) more =
+    inl (inr (inl (inl (construction, (names, certs))))) ∷ coded_lines rest more
 coded_lines (Apply theorem args names certs rest) more =
     inl (inr (inl (inr (theorem, (args, (names, certs)))))) ∷ coded_lines rest more
 coded_lines (Claim shown inner rest) more =
     inl (inr (inr (inl shown))) ∷ coded_lines inner (coded_lines rest more)
-coded_lines (Superposed form names shown certs inner rest) more =
-    inl (inr (inr (inr (form, (shown, (names, certs))))))
+coded_lines (Superposed superposition names shown certs inner rest) more =
+    inl (inr (inr (inr (superposition, (shown, (names, certs))))))
     ∷ coded_lines inner (coded_lines rest more)
 coded_lines (Qed objects certs) more = inr (inl (objects, certs)) ∷ more
 coded_lines (Contradiction cert) more = inr (inr (inl cert)) ∷ more
@@ -91,15 +91,15 @@ pub scripts-lines : (s : Script) (more : List CodedLine)
 scripts-lines (Cite by rest) more = ap (before_one (Cite by)) (scripts-lines rest more)
 scripts-lines (Hence lit cert rest) more =
     ap (before_one (Hence lit cert)) (scripts-lines rest more)
-scripts-lines (Make form names certs rest) more =
-    ap (before_one (Make form names certs)) (scripts-lines rest more)
+scripts-lines (Make construction names certs rest) more =
+    ap (before_one (Make construction names certs)) (scripts-lines rest more)
 scripts-lines (Apply theorem args names certs rest) more =
     ap (before_one (Apply theorem args names certs)) (scripts-lines rest more)
 scripts-lines (Claim shown inner rest) more =
     scripts-two (Claim shown) inner rest (scripts-lines inner (coded_lines rest more))
     (scripts-lines rest more)
-scripts-lines (Superposed form names shown certs inner rest) more =
-    scripts-two (Superposed form names shown certs) inner rest
+scripts-lines (Superposed superposition names shown certs inner rest) more =
+    scripts-two (Superposed superposition names shown certs) inner rest
     (scripts-lines inner (coded_lines rest more)) (scripts-lines rest more)
 scripts-lines (Qed objects certs) more = refl
 scripts-lines (Contradiction cert) more = refl
@@ -118,9 +118,9 @@ abbrev pub step_line_code : Coded StepLine
 step_line_code =
     coded⊎ (coded⊎ citation.the_row.coded
     (coded× literal.the_row.coded (coded_option certificate.the_row.coded)))
-    (coded⊎ (coded⊎ (coded× construction.the_row.coded named_code)
+    (coded⊎ (coded⊎ (coded× constructions.the_row.coded named_code)
     (coded× coded_ℕ (coded× (coded_list (coded_option object.the_row.coded)) named_code)))
-    (coded⊎ (coded_list literal.the_row.coded) (coded× superposition.the_row.coded
+    (coded⊎ (coded_list literal.the_row.coded) (coded× superpositions.the_row.coded
     (coded× (coded_list literal.the_row.coded) named_code))))
 
 abbrev pub close_line_code : Coded CloseLine
@@ -138,10 +138,11 @@ script_code =
 abbrev pub first_step : Script → PlainStep
 first_step (Cite by rest) = Cited by
 first_step (Hence lit cert rest) = Inferred lit cert
-first_step (Make form names certs rest) = Made form names certs
+first_step (Make construction names certs rest) = Made construction names certs
 first_step (Apply theorem args names certs rest) = Applied theorem args names certs
 first_step (Claim shown inner rest) = Claimed shown inner
-first_step (Superposed form names shown certs inner rest) = Copied form names shown certs inner
+first_step (Superposed superposition names shown certs inner rest) =
+    Copied superposition names shown certs inner
 first_step (Qed objects certs) = Claimed [] (Qed objects certs)
 first_step (Contradiction cert) = Claimed [] (Contradiction cert)
 first_step (Cases lit first second) = Claimed [] (Cases lit first second)
@@ -149,10 +150,10 @@ first_step (Cases lit first second) = Claimed [] (Cases lit first second)
 pub first_step-before : (s : PlainStep) → first_step (before s (Contradiction None)) ≡ s
 first_step-before (Cited by) = refl
 first_step-before (Inferred lit cert) = refl
-first_step-before (Made form names certs) = refl
+first_step-before (Made construction names certs) = refl
 first_step-before (Applied theorem args names certs) = refl
 first_step-before (Claimed shown inner) = refl
-first_step-before (Copied form names shown certs inner) = refl
+first_step-before (Copied superposition names shown certs inner) = refl
 
 abbrev pub steps_code : Coded (List PlainStep)
 steps_code =

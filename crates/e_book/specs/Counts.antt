@@ -31,7 +31,8 @@ use Rattle.e_book.specs.Open.{Open, Stating, Proving, Splitting, Proved, Ended}
 
 -- the names in scope after a step
 abbrev pub names_after_plain_step : List TitledStatement → Names → PlainStep → Names
-names_after_plain_step known ns (Made form names certs) = named ns (sorts_made form) names
+names_after_plain_step known ns (Made construction names certs) =
+    named ns (sorts_made construction) names
 names_after_plain_step known ns (Applied theorem args names certs) =
     named ns (theorem_of known theorem).made names
 names_after_plain_step known ns step = ns
@@ -41,10 +42,10 @@ names_after_plain_step known ns step = ns
 abbrev pub given_by : List TitledStatement → Scope → PlainStep → List Lit
 given_by known s (Cited by) = by.lit ∷ []
 given_by known s (Inferred lit cert) = lit ∷ []
-given_by known s (Made form names certs) = gives_of_construction form s
+given_by known s (Made construction names certs) = gives_of_construction construction s
 given_by known s (Applied theorem args names certs) = (theorem_of known theorem).shown
 given_by known s (Claimed shown inner) = shown
-given_by known s (Copied form names shown certs inner) = shown
+given_by known s (Copied superposition names shown certs inner) = shown
 
 -- before a line: the names in scope, and the facts on the path to it, repeats counted
 pub record LineContext : Type 0 where
@@ -65,10 +66,11 @@ after_steps known at (s ∷ steps) = after_steps known (after_step known at s) s
 -- where an inner block begins
 abbrev pub context_inside : LineContext → Opener → LineContext
 context_inside at (ByClaim shown) = at
-context_inside at (BySuperposition form names shown) =
+context_inside at (BySuperposition superposition names shown) =
     record {
       names = named at.names superposing.sorts_copied names;
-      facts = at.facts ++ superposing.gives_of_superposition form (scope_of_names at.names);
+      facts = at.facts
+          ++ superposing.gives_of_superposition superposition (scope_of_names at.names);
     }
 context_inside at (ByCase lit) = record at { facts = at.facts ++ lit ∷ [] }
 context_inside at (ByElse lit first) = record at { facts = at.facts ++ negation lit ∷ [] }
@@ -92,7 +94,7 @@ context_at known (Ended t) = record { names = t.names; facts = [] }
 
 abbrev pub lines_of_step : PlainStep → ℕ
 lines_of_step (Claimed shown inner) = 1 + size inner
-lines_of_step (Copied form names shown certs inner) = 1 + size inner
+lines_of_step (Copied superposition names shown certs inner) = 1 + size inner
 lines_of_step step = 1
 
 abbrev pub count_lines : List PlainStep → ℕ
@@ -130,11 +132,11 @@ literals_on (rawlines.Hence raw) = raw ∷ []
 literals_on (rawlines.Claim raws) = raws
 literals_on (rawlines.Superpose s) = s.shown
 literals_on (rawlines.Cases raw) = raw ∷ []
-literals_on form = []
+literals_on raw_line = []
 
 abbrev pub blanks_on : RawLine → ℕ
 blanks_on (rawlines.Apply a) = length (filter is_none a.args)
-blanks_on form = 0
+blanks_on raw_line = 0
 
 -- ---- the limits, in the order of their table: whether a line and what comes after it keep each
 

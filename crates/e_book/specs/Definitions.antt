@@ -31,7 +31,7 @@ use Rattle.e_line.specs.Limits.{most_notions, most_expanded}
 use Rattle.e_names.specs.Canonical.{raw_of}
 use Rattle.e_book.specs.TheoremViews.{TheoremView, entry_of}
 use Rattle.e_book.specs.HasSpelling.{HasSpelling}
-use Rattle.e_line.specs.Items.{book_line_of, listing_form, is_show}
+use Rattle.e_line.specs.Items.{book_line_of, listing_raw_line, is_show}
 use Rattle.e_names.specs.Meanings.{items_in}
 use Rattle.e_book.specs.Open.{Head, Open, Stating}
 use Rattle.e_book.specs.Counts.{context_at, all_kept}
@@ -44,7 +44,7 @@ pub data BookItem : Type 0 where
   OfNotion : (notion : Titled) → BookItem
 
 -- What has been said of a theorem or of a definition whose lines come, and how many literals its
--- items stand for. A definition says what it means as a statement says what it shows.
+-- items mean. A definition says what it means as a statement says what it shows.
 pub data Coming : Type 0 where
   InTheorem : (so_far : Open) (expanded : ℕ) → Coming
   InDefinition : (head : Head) (expanded : ℕ) → Coming
@@ -96,15 +96,15 @@ plain_line known (InDefinition h n) f =
     else ends_definition h f
 plain_line known (Defined t) f = Err Malformed
 
--- ---- a line with items: the literals that they stand for are written out in their place
+-- ---- a line with items: the literals that they mean are written out in their place
 
 -- The line may come there, and then the names are looked up from left to right: the line with the
 -- literals, with the names of their objects, and how many of them are of notions.
 abbrev pub written_out : Known → Open → Listing → List RawItem → Result (RawLine × ℕ) FaultKind
 written_out known o line is =
     let ns : Names = (context_at known.theorems o).names in
-    next known.theorems o (listing_form line []) >>= λ there. items_in known.notions ns 0 is
-    >>= λ p. Ok (listing_form line (map (raw_of ns) p.0), p.1)
+    next known.theorems o (listing_raw_line line []) >>= λ there. items_in known.notions ns 0 is
+    >>= λ p. Ok (listing_raw_line line (map (raw_of ns) p.0), p.1)
 
 abbrev pub counted : ℕ → Coming → Result Coming FaultKind
 counted n (InTheorem o m) =
@@ -115,7 +115,7 @@ counted n (InDefinition h m) =
     >>= λ kept. Ok (InDefinition h (m + n))
 counted n (Defined t) = Err Malformed
 
--- it is taken as it is written out; the last limit is that of the literals that items stand for
+-- it is taken as it is written out; the last limit is that of the literals that items mean
 abbrev pub after_listed_line : Known → Coming → Listing → List RawItem → Result Coming FaultKind
 after_listed_line known (InTheorem o n) line is =
     written_out known o line is >>= λ w. plain_line known (InTheorem o n) w.0 >>= λ c. counted w.1 c

@@ -33,17 +33,17 @@ use Rattle.e_names.specs.Fits.{NamesDiffer, is_diagram_lit}
 unfoldable pub NewNamesFit : List StatementView → Names → Script → Type 0
 NewNamesFit before ns (Cite by rest) = NewNamesFit before ns rest
 NewNamesFit before ns (Hence lit cert rest) = NewNamesFit before ns rest
-NewNamesFit before ns (Make form names certs rest) =
-    (fresh ns [] names ≡ Ok tt) × (length names ≡ length (sorts_made form))
-    × (few_objects (named ns (sorts_made form) names) ≡ Ok tt)
-    × NewNamesFit before (named ns (sorts_made form) names) rest
+NewNamesFit before ns (Make construction names certs rest) =
+    (fresh ns [] names ≡ Ok tt) × (length names ≡ length (sorts_made construction))
+    × (few_objects (named ns (sorts_made construction) names) ≡ Ok tt)
+    × NewNamesFit before (named ns (sorts_made construction) names) rest
 NewNamesFit before ns (Apply theorem args names certs rest) =
     (fresh ns [] names ≡ Ok tt) × (length names ≡ length (theorem_at before theorem).made)
     × (few_objects (named ns (theorem_at before theorem).made names) ≡ Ok tt)
     × NewNamesFit before (named ns (theorem_at before theorem).made names) rest
 NewNamesFit before ns (Claim shown inner rest) =
     NewNamesFit before ns inner × NewNamesFit before ns rest
-NewNamesFit before ns (Superposed form names shown certs inner rest) =
+NewNamesFit before ns (Superposed superposition names shown certs inner rest) =
     (fresh ns [] names ≡ Ok tt) × (length names ≡ length superposing.sorts_copied)
     × (few_objects (named ns superposing.sorts_copied names) ≡ Ok tt)
     × NewNamesFit before (named ns superposing.sorts_copied names) inner
@@ -59,9 +59,10 @@ unfoldable pub few_facts : List StatementView → ℕ → Scope → Script → B
 few_facts before n s (Cite by rest) = nat_le (n + 1) most_facts && few_facts before (n + 1) s rest
 few_facts before n s (Hence lit cert rest) =
     nat_le (n + 1) most_facts && few_facts before (n + 1) s rest
-few_facts before n s (Make form names certs rest) =
-    nat_le (n + length (gives_of_construction form s)) most_facts
-    && few_facts before (n + length (gives_of_construction form s)) (grown s (sorts_made form)) rest
+few_facts before n s (Make construction names certs rest) =
+    nat_le (n + length (gives_of_construction construction s)) most_facts
+    && few_facts before (n + length (gives_of_construction construction s))
+    (grown s (sorts_made construction)) rest
 few_facts before n s (Apply theorem args names certs rest) =
     nat_le (n + length (theorem_at before theorem).shown) most_facts
     && few_facts before (n + length (theorem_at before theorem).shown)
@@ -69,9 +70,9 @@ few_facts before n s (Apply theorem args names certs rest) =
 few_facts before n s (Claim shown inner rest) =
     few_facts before n s inner
     && (nat_le (n + length shown) most_facts && few_facts before (n + length shown) s rest)
-few_facts before n s (Superposed form names shown certs inner rest) =
-    nat_le (n + length (superposing.gives_of_superposition form s)) most_facts
-    && (few_facts before (n + length (superposing.gives_of_superposition form s))
+few_facts before n s (Superposed superposition names shown certs inner rest) =
+    nat_le (n + length (superposing.gives_of_superposition superposition s)) most_facts
+    && (few_facts before (n + length (superposing.gives_of_superposition superposition s))
     (grown s superposing.sorts_copied) inner
     && (nat_le (n + length shown) most_facts && few_facts before (n + length shown) s rest))
 few_facts before n s (Qed objects certs) = true
@@ -81,27 +82,29 @@ few_facts before n s (Cases lit first second) =
     && (few_facts before (n + 1) s first && few_facts before (n + 1) s second)
 
 -- the literals of a script are well formed, and no citation speaks of magnitudes
-unfoldable pub has_good_literals : Script → Bool
-has_good_literals (Cite by rest) = is_diagram_lit by.lit && has_good_literals rest
-has_good_literals (Hence lit cert rest) = is_well_formed lit && has_good_literals rest
-has_good_literals (Make form names certs rest) = has_good_literals rest
-has_good_literals (Apply theorem args names certs rest) = has_good_literals rest
-has_good_literals (Claim shown inner rest) =
-    list_all is_well_formed shown && (has_good_literals inner && has_good_literals rest)
-has_good_literals (Superposed form names shown certs inner rest) =
-    list_all is_well_formed shown && (has_good_literals inner && has_good_literals rest)
-has_good_literals (Qed objects certs) = true
-has_good_literals (Contradiction against) = true
-has_good_literals (Cases lit first second) =
-    is_well_formed lit && (has_good_literals first && has_good_literals second)
+unfoldable pub has_well_formed_literals : Script → Bool
+has_well_formed_literals (Cite by rest) = is_diagram_lit by.lit && has_well_formed_literals rest
+has_well_formed_literals (Hence lit cert rest) = is_well_formed lit && has_well_formed_literals rest
+has_well_formed_literals (Make construction names certs rest) = has_well_formed_literals rest
+has_well_formed_literals (Apply theorem args names certs rest) = has_well_formed_literals rest
+has_well_formed_literals (Claim shown inner rest) =
+    list_all is_well_formed shown
+    && (has_well_formed_literals inner && has_well_formed_literals rest)
+has_well_formed_literals (Superposed superposition names shown certs inner rest) =
+    list_all is_well_formed shown
+    && (has_well_formed_literals inner && has_well_formed_literals rest)
+has_well_formed_literals (Qed objects certs) = true
+has_well_formed_literals (Contradiction against) = true
+has_well_formed_literals (Cases lit first second) =
+    is_well_formed lit && (has_well_formed_literals first && has_well_formed_literals second)
 
 -- the facts before the script have this many monomials, and nowhere in it more than the limit
 unfoldable pub few_terms : List StatementView → ℕ → Scope → Script → Bool
 few_terms before n s (Cite by rest) = few_terms before n s rest
 few_terms before n s (Hence lit cert rest) =
     nat_le (n + monomials lit.atom) most_terms && few_terms before (n + monomials lit.atom) s rest
-few_terms before n s (Make form names certs rest) =
-    few_terms before n (grown s (sorts_made form)) rest
+few_terms before n s (Make construction names certs rest) =
+    few_terms before n (grown s (sorts_made construction)) rest
 few_terms before n s (Apply theorem args names certs rest) =
     nat_le (n + count_monomials (theorem_at before theorem).shown) most_terms
     && few_terms before (n + count_monomials (theorem_at before theorem).shown)
@@ -109,9 +112,9 @@ few_terms before n s (Apply theorem args names certs rest) =
 few_terms before n s (Claim shown inner rest) =
     few_terms before n s inner && (nat_le (n + count_monomials shown) most_terms
     && few_terms before (n + count_monomials shown) s rest)
-few_terms before n s (Superposed form names shown certs inner rest) =
-    nat_le (n + count_monomials (superposing.gives_of_superposition form s)) most_terms
-    && (few_terms before (n + count_monomials (superposing.gives_of_superposition form s))
+few_terms before n s (Superposed superposition names shown certs inner rest) =
+    nat_le (n + count_monomials (superposing.gives_of_superposition superposition s)) most_terms
+    && (few_terms before (n + count_monomials (superposing.gives_of_superposition superposition s))
     (grown s superposing.sorts_copied) inner
     && (nat_le (n + count_monomials shown) most_terms
     && few_terms before (n + count_monomials shown) s rest))
@@ -125,11 +128,12 @@ few_terms before n s (Cases lit first second) =
 unfoldable pub few_blanks : Script → Bool
 few_blanks (Cite by rest) = few_blanks rest
 few_blanks (Hence lit cert rest) = few_blanks rest
-few_blanks (Make form names certs rest) = few_blanks rest
+few_blanks (Make construction names certs rest) = few_blanks rest
 few_blanks (Apply theorem args names certs rest) =
     nat_le (count_blanks args) most_blanks && few_blanks rest
 few_blanks (Claim shown inner rest) = few_blanks inner && few_blanks rest
-few_blanks (Superposed form names shown certs inner rest) = few_blanks inner && few_blanks rest
+few_blanks (Superposed superposition names shown certs inner rest) =
+    few_blanks inner && few_blanks rest
 few_blanks (Qed objects certs) = true
 few_blanks (Contradiction against) = true
 few_blanks (Cases lit first second) = few_blanks first && few_blanks second
@@ -150,8 +154,8 @@ pub record Fits (known : List TitledStatement) (t : TheoremView) : Type 0 where
   -- sums have terms of one kind, not too many, with coefficients that are not too large
   pub good_given : IsTrue (list_all is_well_formed t.statement.given)
   pub good_shown : IsTrue (list_all is_well_formed t.statement.shown)
-  pub good_script : IsTrue (has_good_literals t.script)
-  -- each step of the script has objects of the right sorts, all in scope where it stands, whatever
+  pub good_script : IsTrue (has_well_formed_literals t.script)
+  -- each step of the script has objects of the right sorts, all in scope where it is, whatever
   -- its blanks are filled with; each theorem that it uses is an earlier one
   pub script : IsTrue (list_all (λ x. form_fits (stated_by known) x x.here)
       (proof_steps (stated_by known) (stated t.statement) t.script t.script))

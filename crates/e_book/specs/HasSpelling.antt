@@ -17,14 +17,14 @@ unfoldable pub is_plain : Script → Bool
 is_plain (Cite by rest) = is_plain rest
 is_plain (Hence lit None rest) = is_plain rest
 is_plain (Hence lit (Some cert) rest) = false
-is_plain (Make form names [] rest) = list_all is_name names && is_plain rest
-is_plain (Make form names certs rest) = false
+is_plain (Make construction names [] rest) = list_all is_name names && is_plain rest
+is_plain (Make construction names certs rest) = false
 is_plain (Apply theorem args names [] rest) = list_all is_name names && is_plain rest
 is_plain (Apply theorem args names certs rest) = false
 is_plain (Claim shown inner rest) = nat_lt 0 (length shown) && (is_plain inner && is_plain rest)
-is_plain (Superposed form names shown [] inner rest) =
+is_plain (Superposed superposition names shown [] inner rest) =
     list_all is_name names && (nat_lt 0 (length shown) && (is_plain inner && is_plain rest))
-is_plain (Superposed form names shown certs inner rest) = false
+is_plain (Superposed superposition names shown certs inner rest) = false
 is_plain (Qed objects []) = true
 is_plain (Qed objects certs) = false
 is_plain (Contradiction None) = true
@@ -35,12 +35,12 @@ is_plain (Cases lit first second) = is_plain first && is_plain second
 unfoldable pub names_theorems : List TitledStatement → Script → Bool
 names_theorems known (Cite by rest) = names_theorems known rest
 names_theorems known (Hence lit cert rest) = names_theorems known rest
-names_theorems known (Make form names certs rest) = names_theorems known rest
+names_theorems known (Make construction names certs rest) = names_theorems known rest
 names_theorems known (Apply theorem args names certs rest) =
     is_named_by_title known theorem && names_theorems known rest
 names_theorems known (Claim shown inner rest) =
     names_theorems known inner && names_theorems known rest
-names_theorems known (Superposed form names shown certs inner rest) =
+names_theorems known (Superposed superposition names shown certs inner rest) =
     names_theorems known inner && names_theorems known rest
 names_theorems known (Qed objects certs) = true
 names_theorems known (Contradiction against) = true

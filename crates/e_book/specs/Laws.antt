@@ -17,7 +17,7 @@ use Rattle.e_names.specs.Scope.{scope_of_names, lit_in}
 use Rattle.e_names.specs.Fits.{NamesDiffer}
 use Rattle.e_names.specs.Canonical.{raw_of}
 use Rattle.e_line.specs.Canonical.{line_of}
-use Rattle.e_book.specs.Canonical.{forms_of}
+use Rattle.e_book.specs.Canonical.{raw_lines_of}
 use Rattle.e_line.specs.HasSpelling.{AreNames}
 use Rattle.e_book.specs.HasSpelling.{HasSpelling}
 
@@ -36,7 +36,7 @@ CanonicalLinesAreRead =
     (known : Known) (last : ℕ) (t : TheoremView) (lines rest : List (Result LineView LineFault))
     → IsTrue (are_notions known.notions) → HasSpelling known.theorems t
     → defines known.notions t.title ≡ false
-    → Shows lines (map line_of (forms_of known.theorems t)) rest
+    → Shows lines (map line_of (raw_lines_of known.theorems t)) rest
     → item_from known last None lines ≡ Ok (Some (OfTheorem t, rest))
 
 -- and a theorem that is read, from whatever lines, has a spelling
@@ -56,7 +56,7 @@ ReadDefinitionsAreNotions =
     → IsWellFormedItem known (OfNotion n)
 
 -- Literals that are written out, with the names of their objects, are read as they were: so an item
--- stands for the literals of its notion, with its objects for the declared ones.
+-- means the literals of its notion, with its objects for the declared ones.
 abbrev pub LiteralsAreReadAsNamed : Type 0
 LiteralsAreReadAsNamed =
     (ns : Names) (l : Lit) → AreNames ns.points → AreNames ns.lines → AreNames ns.circles

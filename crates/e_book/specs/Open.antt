@@ -18,7 +18,7 @@ pub record Head : Type 0 where
 -- what began a block inside another
 pub data Opener : Type 0 where
   ByClaim : (shown : List Lit) → Opener
-  BySuperposition : (form : Superpose) (names : List (List ℕ)) (shown : List Lit) → Opener
+  BySuperposition : (superposition : Superpose) (names : List (List ℕ)) (shown : List Lit) → Opener
   ByCase : (lit : Lit) → Opener
   ByElse : (lit : Lit) (first : Script) → Opener
 
@@ -39,7 +39,7 @@ pub data Open : Type 0 where
 -- a claim and a superposition have goals of their own, without made objects
 abbrev pub has_goal : Opener → Bool
 has_goal (ByClaim shown) = true
-has_goal (BySuperposition form names shown) = true
+has_goal (BySuperposition superposition names shown) = true
 has_goal (ByCase lit) = false
 has_goal (ByElse lit first) = false
 
@@ -54,8 +54,8 @@ abbrev pub after_inner_close : Head → List Enclosing → List PlainStep → Sc
     → (Script → Open) → Opener → Open
 after_inner_close h around steps inner again (ByClaim shown) =
     Proving h around (steps ++ Claimed shown inner ∷ [])
-after_inner_close h around steps inner again (BySuperposition form names shown) =
-    Proving h around (steps ++ Copied form names shown [] inner ∷ [])
+after_inner_close h around steps inner again (BySuperposition superposition names shown) =
+    Proving h around (steps ++ Copied superposition names shown [] inner ∷ [])
 after_inner_close h around steps inner again (ByCase lit) =
     Splitting h (record { steps = steps; opener = ByElse lit inner } ∷ around)
 after_inner_close h around steps inner again (ByElse lit first) = again (Cases lit first inner)

@@ -70,7 +70,7 @@ allowed Proving (rawlines.Superpose s) = true
 allowed Proving (rawlines.Cases l) = true
 allowed Splitting rawlines.Else = true
 allowed Closed rawlines.End = true
-allowed place form = false
+allowed section raw_line = false
 
 -- the names with new ones for objects of a sort
 unfoldable pub declared : Names → Sort → List (List ℕ) → Result Names FaultKind
@@ -106,11 +106,11 @@ with_terms d raws = do
 -- in scope after it.
 unfoldable pub built : TheoremParser → RawLet → Result TheoremParser FaultKind
 built d raw = do
-  form ← let_in d.in_scope raw
-  let after = named d.in_scope (sorts_made form) raw.new
+  construction ← let_in d.in_scope raw
+  let after = named d.in_scope (sorts_made construction) raw.new
   few ← few_objects after
-  with_step (record d { in_scope = after }) (Made form raw.new [])
-      (length (gives_of_construction form (scope_of_names d.in_scope)))
+  with_step (record d { in_scope = after }) (Made construction raw.new [])
+      (length (gives_of_construction construction (scope_of_names d.in_scope)))
 
 -- a theorem is used within the limits of objects, of steps, of facts, of monomials and of blanks.
 -- What it shows are facts, and its made objects are in scope after the line.
@@ -229,8 +229,8 @@ resumed d o os shown s = do
 abbrev pub closed_inside : TheoremParser → OpenBlock → List OpenBlock → Script
     → (CloseLine → Result TheoremParser FaultKind) → BlockKind → Result TheoremParser FaultKind
 closed_inside d o os inner close (kind.Claim shown) = resumed d o os shown (Claimed shown inner)
-closed_inside d o os inner close (kind.Superpose form names shown) =
-    resumed d o os shown (Copied form names shown [] inner)
+closed_inside d o os inner close (kind.Superpose superposition names shown) =
+    resumed d o os shown (Copied superposition names shown [] inner)
 closed_inside d o os inner close (kind.First lit) =
     Ok (record d {
       steps = [];
@@ -377,7 +377,8 @@ stepped known d rawlines.End = Ok (record d { section = Done })
 -- a line at its place: its form there, then its names from left to right, then the limits
 unfoldable pub step : List TitledStatement → TheoremParser → RawLine
     → Result TheoremParser FaultKind
-step known d form = if allowed d.section form then stepped known d form else Err Malformed
+step known d raw_line =
+    if allowed d.section raw_line then stepped known d raw_line else Err Malformed
 
 -- how many names there are
 abbrev pub count_names : Names → ℕ
@@ -447,4 +448,4 @@ unfoldable pub begin : List TitledStatement → RawLine → Result TheoremParser
 begin known (rawlines.Theorem t) =
     if is_known known t then Err NameTaken else
     (within (length known + 1) most_theorems limits.Theorems >>= λ few. Ok (begun t))
-begin known form = Err Malformed
+begin known raw_line = Err Malformed

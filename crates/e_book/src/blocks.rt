@@ -55,7 +55,7 @@ pub enum BlockKind {
     },
     /// `superpose`, with the names of the copied points and the literals that the block shows.
     Superpose {
-        form: Superpose,
+        superposition: Superpose,
         names: Items<Name>,
         shown: Items<Lit>,
     },

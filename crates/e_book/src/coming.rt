@@ -3,7 +3,7 @@ ghost use Rattle.std.specs.Prelude.{◌≡◌, ◌≤◌, ◌+◌, [], IfOk, OnO
 ghost use Rattle.e_line.specs.Reading.{Gives, Moves};
 ghost use Rattle.e_line.specs.Limits.{most_expanded};
 ghost use Rattle.e_names.specs.Titled.{are_notions};
-ghost use Rattle.e_line.specs.Items.{listing_form, raw_superpose_line, is_show};
+ghost use Rattle.e_line.specs.Items.{listing_raw_line, raw_superpose_line, is_show};
 ghost use Rattle.e_names.specs.Scope.{right_count};
 ghost use Rattle.e_book.specs.Definitions.{has_notion_title, OfNotion, view_of};
 ghost use Rattle.e_book.specs.Steps.{allowed, FitsScope};
@@ -30,7 +30,7 @@ pub struct Coming {
     /// Whether it is a definition: what it means is what its parser shows.
     pub defines: bool,
     pub parser: TheoremParser,
-    /// How many literals its items stand for.
+    /// How many literals its items mean.
     pub expanded: usize,
 }
 
@@ -39,24 +39,33 @@ fn has_notion_title(known: &Known, raw_line: &RawLine) -> bool
     ensures { result ≡ has_notion_title known.now.notions raw_line.now }
 {
     match raw_line {
-        RawLine::Theorem(title) => known.notions.is_known(*title),
+        RawLine::Theorem(title) => known.notions.defines(*title),
         _ => false,
     }
 }
 
-/// A line with these literals.
-fn listing_form(alloc: Global, line: &Listing, raws: Items<RawLit>) -> Result<RawLine, AllocError>
-    ensures { IfOk result (λ f. f ≡ listing_form line.now raws) }
+/// A raw line with these literals.
+fn listing_raw_line(
+    alloc: Global,
+    line: &Listing,
+    raws: Items<RawLit>,
+) -> Result<RawLine, AllocError>
+    ensures { IfOk result (λ f. f ≡ listing_raw_line line.now raws) }
 {
     match line {
         Listing::Given => Ok(RawLine::Given(raws)),
         Listing::Show => Ok(RawLine::Show(raws)),
         Listing::Claim => Ok(RawLine::Claim(raws)),
-        Listing::Superpose { args, new } => superpose_form(alloc, args.items(), new.items(), raws),
+        Listing::Superpose { args, new } => raw_superpose_line(
+            alloc,
+            args.items(),
+            new.items(),
+            raws,
+        ),
     }
 }
 
-fn superpose_form(
+fn raw_superpose_line(
     alloc: Global,
     args: &[Name],
     new: &[Name],
@@ -69,7 +78,7 @@ fn superpose_form(
     Ok(RawLine::Superpose(RawSuperpose { args, new, shown }))
 }
 
-/// A line with its items written out, and how many literals they stand for.
+/// A line with its items written out, and how many literals they mean.
 #[derive(Drop)]
 struct Written {
     raw_line: RawLine,
@@ -200,7 +209,7 @@ impl Coming {
     }
 
     /// A line with items: they are written out, and it is taken; then the limit of the literals
-    /// that they stand for.
+    /// that they mean.
     #[tactic(auto, unfolding(crate::specs::inner::Machine::lists))]
     fn list(
         &mut self,
@@ -242,7 +251,7 @@ impl Coming {
         let names = self.parser.names_there();
         let mut raws = Items::empty(alloc);
         let count = put_items(alloc, &known.notions, names, items, 0, &mut raws)?;
-        let raw_line = listing_form(alloc, line, raws)?;
+        let raw_line = listing_raw_line(alloc, line, raws)?;
         Ok(Written { raw_line, count })
     }
 
@@ -275,7 +284,7 @@ fn into_definition(alloc: Global, mut parser: TheoremParser) -> Item
 
 /// Whether a line that takes literals may come at a place.
 fn may_come(section: Section, line: &Listing) -> bool
-    ensures { result ≡ allowed section (listing_form line.now []) }
+    ensures { result ≡ allowed section (listing_raw_line line.now []) }
 {
     match line {
         Listing::Given => matches!(section, Section::Declaring | Section::Giving),

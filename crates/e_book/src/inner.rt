@@ -214,16 +214,23 @@ impl TheoremParser {
         ensures fits { OnOk result (FitsScope self.new) }
     {
         let names = Items::new(Vec::from_slice(alloc, raw.new.items())?);
-        let Placement { form, shown } = superpose_in(alloc, &self.in_scope, raw)?;
-        let kind = BlockKind::Superpose { form, names, shown };
-        let after = match names_with(alloc, &self.in_scope, form.made(), raw.new.items()) {
+        let Placement {
+            superposition,
+            shown,
+        } = superpose_in(alloc, &self.in_scope, raw)?;
+        let kind = BlockKind::Superpose {
+            superposition,
+            names,
+            shown,
+        };
+        let after = match names_with(alloc, &self.in_scope, superposition.made(), raw.new.items()) {
             Ok(after) => after,
             Err(error) => {
                 mem::drop(kind);
                 return Err(error);
             }
         };
-        let given = match form.gives(alloc, scope_of_names(&self.in_scope)) {
+        let given = match superposition.gives(alloc, scope_of_names(&self.in_scope)) {
             Ok(given) => given,
             Err(error) => {
                 mem::drop(kind);
@@ -383,8 +390,12 @@ impl TheoremParser {
                 self.end_claim(around, shown, inner)?;
                 Ok(None)
             }
-            BlockKind::Superpose { form, names, shown } => {
-                self.end_superposition(alloc, around, form, names, shown, inner)?;
+            BlockKind::Superpose {
+                superposition,
+                names,
+                shown,
+            } => {
+                self.end_superposition(alloc, around, superposition, names, shown, inner)?;
                 Ok(None)
             }
             BlockKind::First { lit } => {
@@ -451,16 +462,17 @@ impl TheoremParser {
         &mut self,
         alloc: Global,
         mut around: Saved,
-        form: Superpose,
+        superposition: Superpose,
         names: Items<Name>,
         shown: Items<Lit>,
         inner: Closed,
     ) -> Result<(), LineError>
         requires parser { FitsScope self.old }
-        requires outer { FitsOuter (outer_with around (BlockKind.Superpose form names shown)) }
+        requires outer { FitsOuter
+            (outer_with around (BlockKind.Superpose superposition names shown)) }
         ensures value { Moves result self.new
-            (resumed self.old (outer_with around (BlockKind.Superpose form names shown))
-            self.old.blocks shown (Copied form names shown [] inner)) }
+            (resumed self.old (outer_with around (BlockKind.Superpose superposition names shown))
+            self.old.blocks shown (Copied superposition names shown [] inner)) }
         ensures fits { OnOk result (FitsScope self.new) }
     {
         if let Err(error) = around.add_facts(shown.items()) {
@@ -472,7 +484,7 @@ impl TheoremParser {
         }
         let inner = inner.into_box();
         let step = Step::Superposed {
-            form,
+            superposition,
             names,
             shown,
             certs: Items::empty(alloc),

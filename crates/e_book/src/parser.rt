@@ -149,13 +149,17 @@ fn repeated(alloc: Global, sort: Sort, count: usize) -> Result<Items<Sort>, Allo
 }
 
 /// How many literals a construction gives.
-fn count_given(alloc: Global, form: &Construction, scope: Scope) -> Result<usize, AllocError>
+fn count_given(
+    alloc: Global,
+    construction: &Construction,
+    scope: Scope,
+) -> Result<usize, AllocError>
     requires points { scope.points + 2 < 2 ^ 16 }
     requires lines { scope.lines + 2 < 2 ^ 16 }
     requires circles { scope.circles + 2 < 2 ^ 16 }
-    ensures { IfOk result (λ n. n ≡ length (gives_of_construction form.now scope)) }
+    ensures { IfOk result (λ n. n ≡ length (gives_of_construction construction.now scope)) }
 {
-    let given = form.gives(alloc, scope)?;
+    let given = construction.gives(alloc, scope)?;
     Ok(given.len())
 }
 
@@ -413,21 +417,28 @@ impl TheoremParser {
         ensures value { Moves result self.new (built self.old raw.now) }
         ensures fits { OnOk result (FitsScope self.new) }
     {
-        let form = let_in(alloc, &self.in_scope, raw)?;
-        let given = match count_given(alloc, &form, scope_of_names(&self.in_scope)) {
+        let construction = let_in(alloc, &self.in_scope, raw)?;
+        let given = match count_given(alloc, &construction, scope_of_names(&self.in_scope)) {
             Ok(given) => given,
             Err(error) => {
-                mem::drop(form);
+                mem::drop(construction);
                 return Err(error.into());
             }
         };
-        match self.bring_in(alloc, form.made(), raw.new.items()) {
+        match self.bring_in(alloc, construction.made(), raw.new.items()) {
             Ok(names) => {
                 let certs = Items::empty(alloc);
-                self.add_step(Step::Make { form, names, certs }, given)
+                self.add_step(
+                    Step::Make {
+                        construction,
+                        names,
+                        certs,
+                    },
+                    given,
+                )
             }
             Err(error) => {
-                mem::drop(form);
+                mem::drop(construction);
                 Err(error)
             }
         }

@@ -13,7 +13,7 @@ ghost use Rattle.e_book.specs.inner.Machine.{TakesWords, TakesLine, ReadsOn, end
 use crate::coming::Coming;
 use crate::item::Item;
 use crate::parser::Section;
-use e_line::{BookFault, LineError, collected, line_of, of_line};
+use e_line::{BookFault, LineError, book_line_of, collected, of_line};
 use e_names::Known;
 use e_text::{Line, Lines};
 use std::alloc::Global;
@@ -57,7 +57,7 @@ fn line_step(
     ensures value { Gives (λ c. c) result (line_step known.now coming (texts words.now)) }
     ensures fits { IfOk result (FitsComing known.now) }
 {
-    let line = match line_of(alloc, words) {
+    let line = match book_line_of(alloc, words) {
         Ok(line) => line,
         Err(error) => {
             mem::drop(coming);

@@ -84,7 +84,7 @@ each_system P which facts wanted a b c d =
 -- the name means the row, where a row may be used by its name; and one that says that its form is not 0 may differ
 pub record IsNamed (p : Place) (n : NamedRow) : Type 0 where
   pub by_name : row_named p n.name ≡ unless_not (Some n.row)
-  pub differs : says_differ n.row.says ≡ true → differing p.facts p.wanted n.name ≡ Some n.row
+  pub differs : says_differ n.row.sense ≡ true → differing p.facts p.wanted n.name ≡ Some n.row
 
 has_more : (facts : List Lit) (x : Lit) (ls : List Lit) → EachLit (λ l. has facts l ≡ true) ls → EachLit (λ l. has (x ∷ facts) l ≡ true) ls
 has_more facts x [] h = tt
@@ -95,14 +95,14 @@ pub has_own : (facts : List Lit) → EachLit (λ l. has facts l ≡ true) facts
 has_own [] = tt
 has_own (f ∷ facts) = (ap (λ b. b || has facts f) (same_lit_self f), has_more facts f facts (has_own facts))
 
-says_so : (r : Row) → says_differ r.says ≡ true → option_and_then (λ (x : Row). cond (says_differ x.says) (Some x) None) (Some r) ≡ Some r
+says_so : (r : Row) → says_differ r.sense ≡ true → option_and_then (λ (x : Row). cond (says_differ x.sense) (Some x) None) (Some r) ≡ Some r
 says_so r e = ap (λ b. cond b (Some r) None) e
 
 module _ (p : Place) where
   fact_named : (l : Lit) (r : Row) → has p.facts l ≡ true → row_of_lit l ≡ Some r → IsNamed p (named_row (Fact l) r)
   fact_named l r h e =
       let k : fact_row p.facts l ≡ Some r = ap (λ b. cond b (row_of_lit l) None) h ∙ e in
-      record { by_name = ap unless_not k; differs = λ s. ap (option_and_then (λ (x : Row). cond (says_differ x.says) (Some x) None)) k ∙ says_so r s }
+      record { by_name = ap unless_not k; differs = λ s. ap (option_and_then (λ (x : Row). cond (says_differ x.sense) (Some x) None)) k ∙ says_so r s }
 
   goal_named : (which : Kind) → Each (IsNamed p) (rows_named (λ l. Goal) (of_kind which (against_goal p.wanted)))
   goal_named which = by p.wanted refl
@@ -114,7 +114,7 @@ module _ (p : Place) where
       by None e = tt
       by (Some l) e = each_literal (IsNamed p) (λ m. m ≡ negation l) which (λ m. Goal) (negation l ∷ []) (refl, tt) (λ m r k of h. record {
         by_name = ap unless_not (row_is l m r e k h);
-        differs = λ s. ap (option_and_then (λ (x : Row). cond (says_differ x.says) (Some x) None)) (row_is l m r e k h) ∙ says_so r s;
+        differs = λ s. ap (option_and_then (λ (x : Row). cond (says_differ x.sense) (Some x) None)) (row_is l m r e k h) ∙ says_so r s;
       })
 
   term_named : (t : Term) → is_among (terms_of_step p.facts p.wanted) t ≡ true → Each (IsNamed p) (rows_of_term p.facts t)

@@ -53,12 +53,12 @@ kept false x r e = same_Some x r e
 
 unless_not_is : (o : Option Row) (r : Row) → unless_not o ≡ Some r → o ≡ Some r
 unless_not_is None r e = absurd (none-some r e)
-unless_not_is (Some x) r e = ap Some (kept (says_differ x.says) x r e)
+unless_not_is (Some x) r e = ap Some (kept (says_differ x.sense) x r e)
 
 -- ---- rows
 
 abbrev pub IsSoAt : (Term → ℕ) → Row → Type 0
-IsSoAt w r = IsSo r.says (form_value r.form w)
+IsSoAt w r = IsSo r.sense (form_value r.form w)
 
 -- what is among true facts is true
 pub has_holds : (facts : List Lit) (l : Lit) (w : Term → ℕ) → all_hold (carried w) facts ≡ true → has facts l ≡ true → holds (carried w) l ≡ true
@@ -233,12 +233,12 @@ sums_not_refuted facts wanted w model (Two differs first second) h =
     by r e both = at (option_split (differing_of facts wanted differs))
       where
         at : (differing_of facts wanted differs ≡ None) ⊎ (x : Row) × (differing_of facts wanted differs ≡ Some x) → ⊥
-        at (inl n) = none-some r (sym (ap (option_and_then (λ x. cond (says_differ x.says) (Some x) None)) n) ∙ e)
+        at (inl n) = none-some r (sym (ap (option_and_then (λ x. cond (says_differ x.sense) (Some x) None)) n) ∙ e)
         at (inr m) =
-            let k = cond_some (says_differ m.0.says) (Some m.0) r (sym (ap (option_and_then (λ x. cond (says_differ x.says) (Some x) None)) m.1) ∙ e) in
+            let k = cond_some (says_differ m.0.sense) (Some m.0) r (sym (ap (option_and_then (λ x. cond (says_differ x.sense) (Some x) None)) m.1) ∙ e) in
             let is : m.0 ≡ r = same_Some m.0 r k.1 in
             let differs_from : form_value r.form w ≢ pos 0 =
-            subst (λ s. IsSo s (form_value r.form w)) (ap (λ (x : Row). x.says) (sym is) ∙ says_not m.0.says k.0) (subst (IsSoAt w) is (differing_so facts wanted w model differs m.0 m.1)) in
+            subst (λ s. IsSo s (form_value r.form w)) (ap (λ (x : Row). x.sense) (sym is) ∙ says_not m.0.sense k.0) (subst (IsSoAt w) is (differing_so facts wanted w model differs m.0 m.1)) in
             let high : Place = record { facts = facts; wanted = wanted; above = Some (above_row r); below = None } in
             let low : Place = record { facts = facts; wanted = wanted; above = None; below = Some (below_row r) } in
             elim (other_sign (form_value r.form w) differs_from) [

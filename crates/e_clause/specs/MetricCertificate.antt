@@ -27,15 +27,15 @@ differing_of facts wanted _ = None
 
 abbrev pub differing : List Lit → Option Lit → RowName → Option Row
 differing facts wanted name =
-    option_and_then (λ r. if says_differ r.says then Some r else None)
+    option_and_then (λ r. if says_differ r.sense then Some r else None)
     (differing_of facts wanted name)
 
 -- the row that says that the form is more than 0, and the one that says that it is less
 abbrev pub above_row : Row → Row
-above_row r = record { says = More; form = r.form }
+above_row r = record { sense = More; form = r.form }
 
 abbrev pub below_row : Row → Row
-below_row r = record { says = More; form = negative r.form }
+below_row r = record { sense = More; form = negative r.form }
 
 -- the form is not more than 0 by the first sum, and not less by the second
 abbrev pub both_refute : List Lit → Option Lit → Row → List (ℤ × RowName)

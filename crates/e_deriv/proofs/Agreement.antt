@@ -76,11 +76,11 @@ proves_of_certified before (Hence lit (Some cert) rest) s facts goal h =
     let x = placed_step (Hence lit (Some cert) rest) (Hence lit (Some cert) rest) s facts goal in
     let q = parts_of before x (placed_steps before rest rest s (joined facts lit) goal) h in
     (q.form, (all_allowed_of_certified s facts (needs before x) (certs_of x.here) q.certs).0, proves_of_certified before rest s (joined facts lit) goal q.rest)
-proves_of_certified before (Make form names certs rest) s facts goal h =
-    let x = placed_step (Make form names certs rest) (Make form names certs rest) s facts goal in
-    let after = joined_all facts (gives_of_construction form s) in
-    let q = parts_of before x (placed_steps before rest rest (grown s (sorts_made form)) after goal) h in
-    (q.form, all_allowed_of_certified s facts (needs before x) certs q.certs, proves_of_certified before rest (grown s (sorts_made form)) after goal q.rest)
+proves_of_certified before (Make construction names certs rest) s facts goal h =
+    let x = placed_step (Make construction names certs rest) (Make construction names certs rest) s facts goal in
+    let after = joined_all facts (gives_of_construction construction s) in
+    let q = parts_of before x (placed_steps before rest rest (grown s (sorts_made construction)) after goal) h in
+    (q.form, all_allowed_of_certified s facts (needs before x) certs q.certs, proves_of_certified before rest (grown s (sorts_made construction)) after goal q.rest)
 proves_of_certified before (Apply theorem args names certs rest) s facts goal h =
     let x = placed_step (Apply theorem args names certs rest) (Apply theorem args names certs rest) s facts goal in
     let t = theorem_at before theorem in
@@ -96,16 +96,16 @@ proves_of_certified before (Claim shown inner rest) s facts goal h =
       proves_of_certified before inner s facts (goal_of shown) (all_left (is_certified before) one other q.rest),
       proves_of_certified before rest s (joined_all facts shown) goal (all_right (is_certified before) one other q.rest),
     )
-proves_of_certified before (Superposed form names shown certs inner rest) s facts goal h =
-    let x = placed_step (Superposed form names shown certs inner rest) (Superposed form names shown certs inner rest) s facts goal in
+proves_of_certified before (Superposed superposition names shown certs inner rest) s facts goal h =
+    let x = placed_step (Superposed superposition names shown certs inner rest) (Superposed superposition names shown certs inner rest) s facts goal in
     let g = grown s superposing.sorts_copied in
-    let given = joined_all facts (superposing.gives_of_superposition form s) in
+    let given = joined_all facts (superposing.gives_of_superposition superposition s) in
     let one = placed_steps before inner inner g given (goal_of shown) in
     let other = placed_steps before rest rest s (joined_all facts shown) goal in
     let q = parts_of before x (one ++ other) h in (
-      and_left (superposing.fits_superposition form s) (are_over s shown) q.form,
+      and_left (superposing.fits_superposition superposition s) (are_over s shown) q.form,
       all_allowed_of_certified s facts (needs before x) certs q.certs,
-      and_right (superposing.fits_superposition form s) (are_over s shown) q.form,
+      and_right (superposing.fits_superposition superposition s) (are_over s shown) q.form,
       proves_of_certified before inner g given (goal_of shown) (all_left (is_certified before) one other q.rest),
       proves_of_certified before rest s (joined_all facts shown) goal (all_right (is_certified before) one other q.rest),
     )
@@ -143,8 +143,8 @@ proves_of_licensed : (before : List StatementView) (d f : Script) (s : Scope) (f
 unfolding placed_steps Proves filled_by
 proves_of_licensed before (Cite by rest) f s facts goal h = (h.0.fits, h.0.others, proves_of_licensed before rest (rest_of f) s (joined facts by.lit) goal h.1)
 proves_of_licensed before (Hence lit cert rest) f s facts goal h = (h.0.fits, h.0.allowed.0, proves_of_licensed before rest (rest_of f) s (joined facts lit) goal h.1)
-proves_of_licensed before (Make form names certs rest) f s facts goal h =
-    (h.0.fits, h.0.allowed, proves_of_licensed before rest (rest_of f) (grown s (sorts_made form)) (joined_all facts (gives_of_construction form s)) goal h.1)
+proves_of_licensed before (Make construction names certs rest) f s facts goal h =
+    (h.0.fits, h.0.allowed, proves_of_licensed before rest (rest_of f) (grown s (sorts_made construction)) (joined_all facts (gives_of_construction construction s)) goal h.1)
 proves_of_licensed before (Apply theorem pattern names certs rest) f s facts goal h =
     let t = theorem_at before theorem in
     let args = args_of f in
@@ -162,14 +162,14 @@ proves_of_licensed before (Claim shown inner rest) f s facts goal h =
       proves_of_licensed before inner (inner_of f) s facts (goal_of shown) (first_licensed before one other h.1),
       proves_of_licensed before rest (rest_of f) s (joined_all facts shown) goal (second_licensed before one other h.1),
     )
-proves_of_licensed before (Superposed form names shown certs inner rest) f s facts goal h =
+proves_of_licensed before (Superposed superposition names shown certs inner rest) f s facts goal h =
     let g = grown s superposing.sorts_copied in
-    let given = joined_all facts (superposing.gives_of_superposition form s) in
+    let given = joined_all facts (superposing.gives_of_superposition superposition s) in
     let one = placed_steps before inner (inner_of f) g given (goal_of shown) in
     let other = placed_steps before rest (rest_of f) s (joined_all facts shown) goal in (
-      and_left (superposing.fits_superposition form s) (are_over s shown) h.0.fits,
+      and_left (superposing.fits_superposition superposition s) (are_over s shown) h.0.fits,
       h.0.allowed,
-      and_right (superposing.fits_superposition form s) (are_over s shown) h.0.fits,
+      and_right (superposing.fits_superposition superposition s) (are_over s shown) h.0.fits,
       proves_of_licensed before inner (inner_of f) g given (goal_of shown) (first_licensed before one other h.1),
       proves_of_licensed before rest (rest_of f) s (joined_all facts shown) goal (second_licensed before one other h.1),
     )
@@ -189,8 +189,8 @@ licensed_of_proves : (before : List StatementView) (d : Script) (s : Scope) (fac
 unfolding placed_steps Proves
 licensed_of_proves before (Cite by rest) s facts goal h = (record { fits = h.0; allowed = tt; others = h.1 }, licensed_of_proves before rest s (joined facts by.lit) goal h.2)
 licensed_of_proves before (Hence lit cert rest) s facts goal h = (record { fits = h.0; allowed = (h.1, tt); others = tt }, licensed_of_proves before rest s (joined facts lit) goal h.2)
-licensed_of_proves before (Make form names certs rest) s facts goal h =
-    (record { fits = h.0; allowed = h.1; others = tt }, licensed_of_proves before rest (grown s (sorts_made form)) (joined_all facts (gives_of_construction form s)) goal h.2)
+licensed_of_proves before (Make construction names certs rest) s facts goal h =
+    (record { fits = h.0; allowed = h.1; others = tt }, licensed_of_proves before rest (grown s (sorts_made construction)) (joined_all facts (gives_of_construction construction s)) goal h.2)
 licensed_of_proves before (Apply theorem args names certs rest) s facts goal h =
     let t = theorem_at before theorem in
     let good : IsAllowedChoice t s facts args (written args) = record { is_choice = and_right (ltb theorem (length before)) (is_choice t s args (written args)) h.1; allowed = h.2 } in (
@@ -203,12 +203,12 @@ licensed_of_proves before (Claim shown inner rest) s facts goal h =
       record { fits = h.0; allowed = tt; others = tt },
       both_licensed before one other (licensed_of_proves before inner s facts (goal_of shown) h.1) (licensed_of_proves before rest s (joined_all facts shown) goal h.2),
     )
-licensed_of_proves before (Superposed form names shown certs inner rest) s facts goal h =
+licensed_of_proves before (Superposed superposition names shown certs inner rest) s facts goal h =
     let g = grown s superposing.sorts_copied in
-    let given = joined_all facts (superposing.gives_of_superposition form s) in
+    let given = joined_all facts (superposing.gives_of_superposition superposition s) in
     let one = placed_steps before inner inner g given (goal_of shown) in
     let other = placed_steps before rest rest s (joined_all facts shown) goal in (
-      record { fits = and_from (superposing.fits_superposition form s) (are_over s shown) h.0 h.2; allowed = h.1; others = tt },
+      record { fits = and_from (superposing.fits_superposition superposition s) (are_over s shown) h.0 h.2; allowed = h.1; others = tt },
       both_licensed before one other (licensed_of_proves before inner g given (goal_of shown) h.3) (licensed_of_proves before rest s (joined_all facts shown) goal h.4),
     )
 licensed_of_proves before (Qed objects certs) s facts goal h = (record { fits = h.0; allowed = h.1; others = tt }, tt)

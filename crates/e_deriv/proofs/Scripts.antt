@@ -37,9 +37,9 @@ pub step_script-Hence : (lit : Lit) (cert : Option Cert) (rest : Script) → ste
 unfolding step_script
 step_script-Hence lit cert rest = refl
 
-pub step_script-Make : (form : Construction) (names : List (List ℕ)) (certs : List Cert) (rest : Script) → step_script (MakeStep form names certs) rest ≡ Make form names certs rest
+pub step_script-Make : (construction : Construction) (names : List (List ℕ)) (certs : List Cert) (rest : Script) → step_script (MakeStep construction names certs) rest ≡ Make construction names certs rest
 unfolding step_script
-step_script-Make form names certs rest = refl
+step_script-Make construction names certs rest = refl
 
 pub step_script-Apply : (theorem : ℕ) (args : List (Option Obj)) (names : List (List ℕ)) (certs : List Cert) (rest : Script) → step_script (ApplyStep theorem args names certs) rest ≡ Apply theorem args names certs rest
 unfolding step_script
@@ -49,9 +49,9 @@ pub step_script-Claim : (shown : List Lit) (inner : Box Block Global) (rest : Sc
 unfolding step_script
 step_script-Claim shown inner rest = ap (λ s. Claim shown s rest) (row_script-block inner (close_script inner.value.close))
 
-pub step_script-Superposed : (form : Superpose) (names : List (List ℕ)) (shown : List Lit) (certs : List Cert) (inner : Box Block Global) (rest : Script) → step_script (SuperposedStep form names shown certs inner) rest ≡ Superposed form names shown certs (script_of inner.value) rest
+pub step_script-Superposed : (superposition : Superpose) (names : List (List ℕ)) (shown : List Lit) (certs : List Cert) (inner : Box Block Global) (rest : Script) → step_script (SuperposedStep superposition names shown certs inner) rest ≡ Superposed superposition names shown certs (script_of inner.value) rest
 unfolding step_script
-step_script-Superposed form names shown certs inner rest = ap (λ s. Superposed form names shown certs s rest) (row_script-block inner (close_script inner.value.close))
+step_script-Superposed superposition names shown certs inner rest = ap (λ s. Superposed superposition names shown certs s rest) (row_script-block inner (close_script inner.value.close))
 
 pub close_script-Qed : (objects : List Obj) (certs : List Cert) → close_script (QedClose objects certs) ≡ Qed objects certs
 unfolding close_script
@@ -77,9 +77,9 @@ pub size-Hence : (lit : Lit) (cert : Option Cert) (rest : Script) → size (Henc
 unfolding size
 size-Hence lit cert rest = refl
 
-pub size-Make : (form : Construction) (names : List (List ℕ)) (certs : List Cert) (rest : Script) → size (Make form names certs rest) ≡ 1 + size rest
+pub size-Make : (construction : Construction) (names : List (List ℕ)) (certs : List Cert) (rest : Script) → size (Make construction names certs rest) ≡ 1 + size rest
 unfolding size
-size-Make form names certs rest = refl
+size-Make construction names certs rest = refl
 
 pub size-Apply : (theorem : ℕ) (args : List (Option Obj)) (names : List (List ℕ)) (certs : List Cert) (rest : Script) → size (Apply theorem args names certs rest) ≡ 1 + size rest
 unfolding size
@@ -89,9 +89,9 @@ pub size-Claim : (shown : List Lit) (inner : Script) (rest : Script) → size (C
 unfolding size
 size-Claim shown inner rest = refl
 
-pub size-Superposed : (form : Superpose) (names : List (List ℕ)) (shown : List Lit) (certs : List Cert) (inner : Script) (rest : Script) → size (Superposed form names shown certs inner rest) ≡ 1 + size inner + size rest
+pub size-Superposed : (superposition : Superpose) (names : List (List ℕ)) (shown : List Lit) (certs : List Cert) (inner : Script) (rest : Script) → size (Superposed superposition names shown certs inner rest) ≡ 1 + size inner + size rest
 unfolding size
-size-Superposed form names shown certs inner rest = refl
+size-Superposed superposition names shown certs inner rest = refl
 
 pub size-Qed : (objects : List Obj) (certs : List Cert) → size (Qed objects certs) ≡ 1
 unfolding size
@@ -115,9 +115,9 @@ pub depth-Hence : (lit : Lit) (cert : Option Cert) (rest : Script) → depth (He
 unfolding depth
 depth-Hence lit cert rest = refl
 
-pub depth-Make : (form : Construction) (names : List (List ℕ)) (certs : List Cert) (rest : Script) → depth (Make form names certs rest) ≡ depth rest
+pub depth-Make : (construction : Construction) (names : List (List ℕ)) (certs : List Cert) (rest : Script) → depth (Make construction names certs rest) ≡ depth rest
 unfolding depth
-depth-Make form names certs rest = refl
+depth-Make construction names certs rest = refl
 
 pub depth-Apply : (theorem : ℕ) (args : List (Option Obj)) (names : List (List ℕ)) (certs : List Cert) (rest : Script) → depth (Apply theorem args names certs rest) ≡ depth rest
 unfolding depth
@@ -127,9 +127,9 @@ pub depth-Claim : (shown : List Lit) (inner : Script) (rest : Script) → depth 
 unfolding depth
 depth-Claim shown inner rest = refl
 
-pub depth-Superposed : (form : Superpose) (names : List (List ℕ)) (shown : List Lit) (certs : List Cert) (inner : Script) (rest : Script) → depth (Superposed form names shown certs inner rest) ≡ max (1 + depth inner) (depth rest)
+pub depth-Superposed : (superposition : Superpose) (names : List (List ℕ)) (shown : List Lit) (certs : List Cert) (inner : Script) (rest : Script) → depth (Superposed superposition names shown certs inner rest) ≡ max (1 + depth inner) (depth rest)
 unfolding depth
-depth-Superposed form names shown certs inner rest = refl
+depth-Superposed superposition names shown certs inner rest = refl
 
 pub depth-Qed : (objects : List Obj) (certs : List Cert) → depth (Qed objects certs) ≡ 1
 unfolding depth
@@ -153,9 +153,9 @@ pub erased-Hence : (lit : Lit) (cert : Option Cert) (rest : Script) → erased (
 unfolding erased
 erased-Hence lit cert rest = refl
 
-pub erased-Make : (form : Construction) (names : List (List ℕ)) (certs : List Cert) (rest : Script) → erased (Make form names certs rest) ≡ Make form names [] (erased rest)
+pub erased-Make : (construction : Construction) (names : List (List ℕ)) (certs : List Cert) (rest : Script) → erased (Make construction names certs rest) ≡ Make construction names [] (erased rest)
 unfolding erased
-erased-Make form names certs rest = refl
+erased-Make construction names certs rest = refl
 
 pub erased-Apply : (theorem : ℕ) (args : List (Option Obj)) (names : List (List ℕ)) (certs : List Cert) (rest : Script) → erased (Apply theorem args names certs rest) ≡ Apply theorem args names [] (erased rest)
 unfolding erased
@@ -165,9 +165,9 @@ pub erased-Claim : (shown : List Lit) (inner : Script) (rest : Script) → erase
 unfolding erased
 erased-Claim shown inner rest = refl
 
-pub erased-Superposed : (form : Superpose) (names : List (List ℕ)) (shown : List Lit) (certs : List Cert) (inner : Script) (rest : Script) → erased (Superposed form names shown certs inner rest) ≡ Superposed form names shown [] (erased inner) (erased rest)
+pub erased-Superposed : (superposition : Superpose) (names : List (List ℕ)) (shown : List Lit) (certs : List Cert) (inner : Script) (rest : Script) → erased (Superposed superposition names shown certs inner rest) ≡ Superposed superposition names shown [] (erased inner) (erased rest)
 unfolding erased
-erased-Superposed form names shown certs inner rest = refl
+erased-Superposed superposition names shown certs inner rest = refl
 
 pub erased-Qed : (objects : List Obj) (certs : List Cert) → erased (Qed objects certs) ≡ Qed objects []
 unfolding erased
@@ -206,9 +206,9 @@ pub plain_step-Hence : (lit : Lit) (cert : Option Cert) → plain_step (HenceSte
 unfolding plain_step
 plain_step-Hence lit cert = refl
 
-pub plain_step-Make : (form : Construction) (names : List (List ℕ)) (certs : List Cert) → plain_step (MakeStep form names certs) ≡ Made form names certs
+pub plain_step-Make : (construction : Construction) (names : List (List ℕ)) (certs : List Cert) → plain_step (MakeStep construction names certs) ≡ Made construction names certs
 unfolding plain_step
-plain_step-Make form names certs = refl
+plain_step-Make construction names certs = refl
 
 pub plain_step-Apply : (theorem : ℕ) (args : List (Option Obj)) (names : List (List ℕ)) (certs : List Cert) → plain_step (ApplyStep theorem args names certs) ≡ Applied theorem args names certs
 unfolding plain_step
@@ -218,9 +218,9 @@ pub plain_step-Claim : (shown : List Lit) (inner : Box Block Global) → plain_s
 unfolding plain_step
 plain_step-Claim shown inner = ap (Claimed shown) (row_script-block inner (close_script inner.value.close))
 
-pub plain_step-Superposed : (form : Superpose) (names : List (List ℕ)) (shown : List Lit) (certs : List Cert) (inner : Box Block Global) → plain_step (SuperposedStep form names shown certs inner) ≡ Copied form names shown certs (script_of inner.value)
+pub plain_step-Superposed : (superposition : Superpose) (names : List (List ℕ)) (shown : List Lit) (certs : List Cert) (inner : Box Block Global) → plain_step (SuperposedStep superposition names shown certs inner) ≡ Copied superposition names shown certs (script_of inner.value)
 unfolding plain_step
-plain_step-Superposed form names shown certs inner = ap (Copied form names shown certs) (row_script-block inner (close_script inner.value.close))
+plain_step-Superposed superposition names shown certs inner = ap (Copied superposition names shown certs) (row_script-block inner (close_script inner.value.close))
 
 pub ruleset plain_steps = (plain_step-Cite, plain_step-Hence, plain_step-Make, plain_step-Apply, plain_step-Claim, plain_step-Superposed)
 
@@ -229,7 +229,7 @@ pub step_script-plain : (s : Step) (rest : Script) → step_script s rest ≡ be
 unfolding step_script plain_step
 step_script-plain (CiteStep by) rest = refl
 step_script-plain (HenceStep lit cert) rest = refl
-step_script-plain (MakeStep form names certs) rest = refl
+step_script-plain (MakeStep construction names certs) rest = refl
 step_script-plain (ApplyStep theorem args names certs) rest = refl
 step_script-plain (Claim' shown p0 n0 row0 close0) rest = refl
-step_script-plain (Superposed' form names shown certs p0 n0 row0 close0) rest = refl
+step_script-plain (Superposed' superposition names shown certs p0 n0 row0 close0) rest = refl

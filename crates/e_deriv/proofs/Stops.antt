@@ -68,14 +68,14 @@ lacks_nothing : (before : List StatementView) (here : Script) (s : Scope) (facts
     Licensed before (at_place here s facts goal args) → ¬ Lacks before (at_place here s facts goal args) here w
 lacks_nothing before (Cite by rest) s facts goal args (Literal l) h k = true≢false (sym h.others ∙ k.0)
 lacks_nothing before (Hence lit cert rest) s facts goal args (Literal l) h k = none_not_allowed s facts (needs_at before (Hence lit cert rest) s goal args) l h.allowed k
-lacks_nothing before (Make form names certs rest) s facts goal args (Literal l) h k = none_not_allowed s facts (needs_at before (Make form names certs rest) s goal args) l h.allowed k
+lacks_nothing before (Make construction names certs rest) s facts goal args (Literal l) h k = none_not_allowed s facts (needs_at before (Make construction names certs rest) s goal args) l h.allowed k
 lacks_nothing before (Apply theorem pattern names certs rest) s facts goal args (Literal l) h k =
     let t = theorem_at before theorem in
     let same : args ≡ written pattern = only_choice pattern args k.0 (and_left (fills pattern args) (are_arguments t s args) (and_right _ (is_choice t s pattern args) h.fits)) in
     none_not_allowed s facts (needs_of_use t (written pattern) s) l (subst (λ xs. AllAllowed s facts (needs_of_use t xs s)) same h.allowed) k.1
 lacks_nothing before (Apply theorem pattern names certs rest) s facts goal args Match h k = k.1 args h.others.good
-lacks_nothing before (Superposed form names shown certs inner rest) s facts goal args (Literal l) h k =
-    none_not_allowed s facts (needs_at before (Superposed form names shown certs inner rest) s goal args) l h.allowed k
+lacks_nothing before (Superposed superposition names shown certs inner rest) s facts goal args (Literal l) h k =
+    none_not_allowed s facts (needs_at before (Superposed superposition names shown certs inner rest) s goal args) l h.allowed k
 lacks_nothing before (Qed objects certs) s facts goal args (Literal l) h k = none_not_allowed s facts (needs_at before (Qed objects certs) s goal args) l h.allowed k
 lacks_nothing before (Contradiction against) s facts goal args AContradiction h k = k h.others
 lacks_nothing before here s facts goal args w h k = k
@@ -85,10 +85,10 @@ lacks_again : (before : List StatementView) (here : Script) (s : Scope) (facts :
     Lacks before (at_place here s facts goal a) here w → Lacks before (at_place here s facts goal b) here w
 lacks_again before (Cite by rest) s facts goal a b (Literal l) k = k
 lacks_again before (Hence lit cert rest) s facts goal a b (Literal l) k = k
-lacks_again before (Make form names certs rest) s facts goal a b (Literal l) k = k
+lacks_again before (Make construction names certs rest) s facts goal a b (Literal l) k = k
 lacks_again before (Apply theorem pattern names certs rest) s facts goal a b (Literal l) k = k
 lacks_again before (Apply theorem pattern names certs rest) s facts goal a b Match k = k
-lacks_again before (Superposed form names shown certs inner rest) s facts goal a b (Literal l) k = k
+lacks_again before (Superposed superposition names shown certs inner rest) s facts goal a b (Literal l) k = k
 lacks_again before (Qed objects certs) s facts goal a b (Literal l) k = k
 lacks_again before (Contradiction against) s facts goal a b AContradiction k = k
 lacks_again before here s facts goal a b w k = absurd k
@@ -97,14 +97,14 @@ lacks_same : (before : List StatementView) (here : Script) (s : Scope) (facts : 
     Lacks before (at_place here s facts goal args) here v → Lacks before (at_place here s facts goal args) here w → v ≡ w
 lacks_same before (Cite by rest) s facts goal args (Literal l) (Literal l') h k = ap Literal (h.1 ∙ sym k.1)
 lacks_same before (Hence lit cert rest) s facts goal args (Literal l) (Literal l') h k = ap Literal (one_not_allowed s facts (needs_at before (Hence lit cert rest) s goal []) l l' h k)
-lacks_same before (Make form names certs rest) s facts goal args (Literal l) (Literal l') h k = ap Literal (one_not_allowed s facts (needs_at before (Make form names certs rest) s goal []) l l' h k)
+lacks_same before (Make construction names certs rest) s facts goal args (Literal l) (Literal l') h k = ap Literal (one_not_allowed s facts (needs_at before (Make construction names certs rest) s goal []) l l' h k)
 lacks_same before (Apply theorem pattern names certs rest) s facts goal args (Literal l) (Literal l') h k =
     ap Literal (one_not_allowed s facts (needs_of_use (theorem_at before theorem) (written pattern) s) l l' h.1 k.1)
 lacks_same before (Apply theorem pattern names certs rest) s facts goal args Match Match h k = refl
 lacks_same before (Apply theorem pattern names certs rest) s facts goal args (Literal l) Match h k = absurd (true≢false (sym h.0 ∙ k.0))
 lacks_same before (Apply theorem pattern names certs rest) s facts goal args Match (Literal l) h k = absurd (true≢false (sym k.0 ∙ h.0))
-lacks_same before (Superposed form names shown certs inner rest) s facts goal args (Literal l) (Literal l') h k =
-    ap Literal (one_not_allowed s facts (needs_at before (Superposed form names shown certs inner rest) s goal []) l l' h k)
+lacks_same before (Superposed superposition names shown certs inner rest) s facts goal args (Literal l) (Literal l') h k =
+    ap Literal (one_not_allowed s facts (needs_at before (Superposed superposition names shown certs inner rest) s goal []) l l' h k)
 lacks_same before (Qed objects certs) s facts goal args (Literal l) (Literal l') h k = ap Literal (one_not_allowed s facts (needs_at before (Qed objects certs) s goal []) l l' h k)
 lacks_same before (Contradiction against) s facts goal args AContradiction AContradiction h k = refl
 lacks_same before (Contradiction against) s facts goal args (Literal l) w h k = absurd h
@@ -177,8 +177,8 @@ pub lines_length : (before : List StatementView) (d f : Script) (s : Scope) (fac
 unfolding placed_steps size
 lines_length before (Cite by rest) f s facts goal = let h = lines_length before rest (rest_of f) s (joined facts by.lit) goal in omega (arith, h)
 lines_length before (Hence lit cert rest) f s facts goal = let h = lines_length before rest (rest_of f) s (joined facts lit) goal in omega (arith, h)
-lines_length before (Make form names certs rest) f s facts goal =
-    let h = lines_length before rest (rest_of f) (grown s (sorts_made form)) (joined_all facts (gives_of_construction form s)) goal in omega (arith, h)
+lines_length before (Make construction names certs rest) f s facts goal =
+    let h = lines_length before rest (rest_of f) (grown s (sorts_made construction)) (joined_all facts (gives_of_construction construction s)) goal in omega (arith, h)
 lines_length before (Apply theorem args names certs rest) f s facts goal =
     let h = lines_length before rest (rest_of f) (grown s (theorem_at before theorem).made) (joined_all facts (gives_of_use (theorem_at before theorem) (args_of f) s)) goal in omega (arith, h)
 lines_length before (Claim shown inner rest) f s facts goal =
@@ -187,10 +187,10 @@ lines_length before (Claim shown inner rest) f s facts goal =
     let h = lines_length before inner (inner_of f) s facts (goal_of shown) in
     let k = lines_length before rest (rest_of f) s (joined_all facts shown) goal in
     omega (arith, h, k, length-append one other)
-lines_length before (Superposed form names shown certs inner rest) f s facts goal =
-    let one = placed_steps before inner (inner_of f) (grown s superposing.sorts_copied) (joined_all facts (superposing.gives_of_superposition form s)) (goal_of shown) in
+lines_length before (Superposed superposition names shown certs inner rest) f s facts goal =
+    let one = placed_steps before inner (inner_of f) (grown s superposing.sorts_copied) (joined_all facts (superposing.gives_of_superposition superposition s)) (goal_of shown) in
     let other = placed_steps before rest (rest_of f) s (joined_all facts shown) goal in
-    let h = lines_length before inner (inner_of f) (grown s superposing.sorts_copied) (joined_all facts (superposing.gives_of_superposition form s)) (goal_of shown) in
+    let h = lines_length before inner (inner_of f) (grown s superposing.sorts_copied) (joined_all facts (superposing.gives_of_superposition superposition s)) (goal_of shown) in
     let k = lines_length before rest (rest_of f) s (joined_all facts shown) goal in
     omega (arith, h, k, length-append one other)
 lines_length before (Qed objects certs) f s facts goal = refl
@@ -224,11 +224,11 @@ same_context before (Hence lit cert rest) f f' s facts goal zero x y h k =
     first_place before _ _ (placed_steps before rest (rest_of f) s (joined facts lit) goal) (placed_steps before rest (rest_of f') s (joined facts lit) goal) x y (alike (Hence lit cert rest) f f' s facts goal) h k
 same_context before (Hence lit cert rest) f f' s facts goal (suc p) x y h k =
     same_context before rest (rest_of f) (rest_of f') s (joined facts lit) goal p x y (stands_after before _ _ p x h) (stands_after before _ _ p y k)
-same_context before (Make form names certs rest) f f' s facts goal zero x y h k =
-    let after = joined_all facts (gives_of_construction form s) in
-    first_place before _ _ (placed_steps before rest (rest_of f) (grown s (sorts_made form)) after goal) (placed_steps before rest (rest_of f') (grown s (sorts_made form)) after goal) x y (alike (Make form names certs rest) f f' s facts goal) h k
-same_context before (Make form names certs rest) f f' s facts goal (suc p) x y h k =
-    same_context before rest (rest_of f) (rest_of f') (grown s (sorts_made form)) (joined_all facts (gives_of_construction form s)) goal p x y (stands_after before _ _ p x h) (stands_after before _ _ p y k)
+same_context before (Make construction names certs rest) f f' s facts goal zero x y h k =
+    let after = joined_all facts (gives_of_construction construction s) in
+    first_place before _ _ (placed_steps before rest (rest_of f) (grown s (sorts_made construction)) after goal) (placed_steps before rest (rest_of f') (grown s (sorts_made construction)) after goal) x y (alike (Make construction names certs rest) f f' s facts goal) h k
+same_context before (Make construction names certs rest) f f' s facts goal (suc p) x y h k =
+    same_context before rest (rest_of f) (rest_of f') (grown s (sorts_made construction)) (joined_all facts (gives_of_construction construction s)) goal p x y (stands_after before _ _ p x h) (stands_after before _ _ p y k)
 same_context before (Apply theorem pattern names certs rest) f f' s facts goal zero x y h k =
     let t = theorem_at before theorem in
     first_place before _ _ (placed_steps before rest (rest_of f) (grown s t.made) (joined_all facts (gives_of_use t (args_of f) s)) goal)
@@ -251,14 +251,14 @@ same_context before (Claim shown inner rest) f f' s facts goal (suc p) x y h k =
       | inl r ↦ same_context before inner (inner_of f) (inner_of f') s facts (goal_of shown) p x y r.one r.other
       | inr r ↦ same_context before rest (rest_of f) (rest_of f') s (joined_all facts shown) goal r.place x y r.one r.other
     ]
-same_context before (Superposed form names shown certs inner rest) f f' s facts goal zero x y h k =
+same_context before (Superposed superposition names shown certs inner rest) f f' s facts goal zero x y h k =
     let g = grown s superposing.sorts_copied in
-    let given = joined_all facts (superposing.gives_of_superposition form s) in
+    let given = joined_all facts (superposing.gives_of_superposition superposition s) in
     first_place before _ _ (placed_steps before inner (inner_of f) g given (goal_of shown) ++ placed_steps before rest (rest_of f) s (joined_all facts shown) goal)
-    (placed_steps before inner (inner_of f') g given (goal_of shown) ++ placed_steps before rest (rest_of f') s (joined_all facts shown) goal) x y (alike (Superposed form names shown certs inner rest) f f' s facts goal) h k
-same_context before (Superposed form names shown certs inner rest) f f' s facts goal (suc p) x y h k =
+    (placed_steps before inner (inner_of f') g given (goal_of shown) ++ placed_steps before rest (rest_of f') s (joined_all facts shown) goal) x y (alike (Superposed superposition names shown certs inner rest) f f' s facts goal) h k
+same_context before (Superposed superposition names shown certs inner rest) f f' s facts goal (suc p) x y h k =
     let g = grown s superposing.sorts_copied in
-    let given = joined_all facts (superposing.gives_of_superposition form s) in
+    let given = joined_all facts (superposing.gives_of_superposition superposition s) in
     let one = placed_steps before inner (inner_of f) g given (goal_of shown) in
     let one' = placed_steps before inner (inner_of f') g given (goal_of shown) in
     let other = placed_steps before rest (rest_of f) s (joined_all facts shown) goal in

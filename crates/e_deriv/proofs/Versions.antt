@@ -10,7 +10,7 @@ use Rattle.e_clause.specs.Versions.{is_cert_of, is_against_of}
 use Rattle.e_clause.proofs.Versions.{good_cert, good_certs, good_against}
 use Rattle.e_clause.specs.Written.{is_writable_cert, is_writable_against}
 use Rattle.e_deriv.specs.Script.{Script, Cite, Hence, Make, Apply, Claim, Superposed, Qed, Contradiction, Cases}
-use Rattle.e_deriv.specs.Written.{has_good_certs}
+use Rattle.e_deriv.specs.Written.{has_writable_certs}
 use Rattle.e_deriv.specs.Versions.{has_certs_of}
 
 good_if_any : (v : Version) (c : Option Cert) → option_map_or (is_cert_of v) c true ≡ true → option_map_or is_writable_cert c true ≡ true
@@ -21,18 +21,18 @@ good_against_if_any : (v : Version) (a : Option Against) → option_map_or (is_a
 good_against_if_any v None h = refl
 good_against_if_any v (Some a) h = good_against v a h
 
-pub good_of_version : (v : Version) (d : Script) → has_certs_of v d ≡ true → has_good_certs d ≡ true
-unfolding has_certs_of has_good_certs
+pub good_of_version : (v : Version) (d : Script) → has_certs_of v d ≡ true → has_writable_certs d ≡ true
+unfolding has_certs_of has_writable_certs
 good_of_version v (Cite by rest) h = good_of_version v rest h
 good_of_version v (Hence lit cert rest) h =
     let k = and_parts (option_map_or (is_cert_of v) cert true) (has_certs_of v rest) h in and_from _ _ (good_if_any v cert k.0) (good_of_version v rest k.1)
-good_of_version v (Make form names certs rest) h =
+good_of_version v (Make construction names certs rest) h =
     let k = and_parts (list_all (is_cert_of v) certs) (has_certs_of v rest) h in and_from _ _ (good_certs v certs k.0) (good_of_version v rest k.1)
 good_of_version v (Apply theorem args names certs rest) h =
     let k = and_parts (list_all (is_cert_of v) certs) (has_certs_of v rest) h in and_from _ _ (good_certs v certs k.0) (good_of_version v rest k.1)
 good_of_version v (Claim shown inner rest) h =
     let k = and_parts (has_certs_of v inner) (has_certs_of v rest) h in and_from _ _ (good_of_version v inner k.0) (good_of_version v rest k.1)
-good_of_version v (Superposed form names shown certs inner rest) h =
+good_of_version v (Superposed superposition names shown certs inner rest) h =
     let k = and_parts (list_all (is_cert_of v) certs) (has_certs_of v inner && has_certs_of v rest) h in
     let m = and_parts (has_certs_of v inner) (has_certs_of v rest) k.1 in
     and_from _ _ (good_certs v certs k.0) (and_from _ _ (good_of_version v inner m.0) (good_of_version v rest m.1))

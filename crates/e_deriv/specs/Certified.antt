@@ -16,9 +16,9 @@ use Rattle.e_deriv.specs.Steps.{fits, needs, is_cited}
 abbrev pub certs_of : Script → List Cert
 certs_of (Hence lit (Some cert) rest) = cert ∷ []
 certs_of (Hence lit None rest) = []
-certs_of (Make form names certs rest) = certs
+certs_of (Make construction names certs rest) = certs
 certs_of (Apply theorem args names certs rest) = certs
-certs_of (Superposed form names shown certs inner rest) = certs
+certs_of (Superposed superposition names shown certs inner rest) = certs
 certs_of (Qed objects certs) = certs
 certs_of (Cite by rest) = []
 certs_of (Claim shown inner rest) = []

@@ -22,7 +22,7 @@ is_small s = nat_le s.points 1000 && (nat_le s.lines 1000 && nat_le s.circles 10
 abbrev pub is_small_statement : StatementView → Bool
 is_small_statement t = is_statement t && is_small (all_objects t)
 
--- the step's form fits where it stands, whatever its blanks are filled with: the theorem that it
+-- the step's form fits where it is, whatever its blanks are filled with: the theorem that it
 -- applies is one of those before, and the arguments that are written are of its sorts and in scope
 abbrev pub form_fits : List StatementView → PlacedStep → Script → Bool
 form_fits before x (Apply theorem pattern names certs rest) =

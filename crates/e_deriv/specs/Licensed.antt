@@ -51,14 +51,14 @@ abbrev pub Lacks : List StatementView → PlacedStep → Script → Wanted → T
 Lacks before x (Cite by rest) (Literal l) = IsFalse (is_cited x.facts by) × (l ≡ by.lit)
 Lacks before x (Hence lit cert rest) (Literal l) =
     IsFirstNotAllowed x.scope x.facts (needs_as_written before x) l
-Lacks before x (Make form names certs rest) (Literal l) =
+Lacks before x (Make construction names certs rest) (Literal l) =
     IsFirstNotAllowed x.scope x.facts (needs_as_written before x) l
 Lacks before x (Apply theorem pattern names certs rest) (Literal l) =
     IsTrue (has_no_blank pattern) × IsFirstNotAllowed x.scope x.facts (needs_as_written before x) l
 Lacks before x (Apply theorem pattern names certs rest) Match =
     IsFalse (has_no_blank pattern)
     × NoneIsAllowed (theorem_at before theorem) x.scope x.facts pattern
-Lacks before x (Superposed form names shown certs inner rest) (Literal l) =
+Lacks before x (Superposed superposition names shown certs inner rest) (Literal l) =
     IsFirstNotAllowed x.scope x.facts (needs_as_written before x) l
 Lacks before x (Qed objects certs) (Literal l) =
     IsFirstNotAllowed x.scope x.facts (needs_as_written before x) l

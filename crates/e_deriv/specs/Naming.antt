@@ -34,13 +34,13 @@ named ns _ _ = ns
 unfoldable pub names_of_steps : List StatementView → Names → Script → List Names
 names_of_steps before ns (Cite by rest) = ns ∷ names_of_steps before ns rest
 names_of_steps before ns (Hence lit cert rest) = ns ∷ names_of_steps before ns rest
-names_of_steps before ns (Make form names certs rest) =
-    ns ∷ names_of_steps before (named ns (sorts_made form) names) rest
+names_of_steps before ns (Make construction names certs rest) =
+    ns ∷ names_of_steps before (named ns (sorts_made construction) names) rest
 names_of_steps before ns (Apply theorem args names certs rest) =
     ns ∷ names_of_steps before (named ns (theorem_at before theorem).made names) rest
 names_of_steps before ns (Claim shown inner rest) =
     ns ∷ (names_of_steps before ns inner ++ names_of_steps before ns rest)
-names_of_steps before ns (Superposed form names shown certs inner rest) =
+names_of_steps before ns (Superposed superposition names shown certs inner rest) =
     ns ∷ (names_of_steps before (named ns superposing.sorts_copied names) inner
     ++ names_of_steps before ns rest)
 names_of_steps before ns (Qed objects certs) = ns ∷ []

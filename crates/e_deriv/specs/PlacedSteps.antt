@@ -50,9 +50,11 @@ placed_steps before (Cite by rest) f s facts goal =
 placed_steps before (Hence lit cert rest) f s facts goal =
     placed_step (Hence lit cert rest) f s facts goal
     ∷ placed_steps before rest (rest_of f) s (joined facts lit) goal
-placed_steps before (Make form names certs rest) f s facts goal =
-    placed_step (Make form names certs rest) f s facts goal ∷ placed_steps before rest (rest_of f)
-    (grown s (sorts_made form)) (joined_all facts (gives_of_construction form s)) goal
+placed_steps before (Make construction names certs rest) f s facts goal =
+    placed_step (Make construction names certs rest) f s facts goal
+    ∷ placed_steps before rest (rest_of f)
+    (grown s (sorts_made construction))
+    (joined_all facts (gives_of_construction construction s)) goal
 placed_steps before (Apply theorem args names certs rest) f s facts goal =
     placed_step (Apply theorem args names certs rest) f s facts goal
     ∷ placed_steps before rest (rest_of f) (grown s (theorem_at before theorem).made)
@@ -61,10 +63,10 @@ placed_steps before (Claim shown inner rest) f s facts goal =
     placed_step (Claim shown inner rest) f s facts goal
     ∷ (placed_steps before inner (inner_of f) s facts (goal_of shown)
     ++ placed_steps before rest (rest_of f) s (joined_all facts shown) goal)
-placed_steps before (Superposed form names shown certs inner rest) f s facts goal =
-    placed_step (Superposed form names shown certs inner rest) f s facts goal
+placed_steps before (Superposed superposition names shown certs inner rest) f s facts goal =
+    placed_step (Superposed superposition names shown certs inner rest) f s facts goal
     ∷ (placed_steps before inner (inner_of f) (grown s superposing.sorts_copied)
-    (joined_all facts (superposing.gives_of_superposition form s)) (goal_of shown)
+    (joined_all facts (superposing.gives_of_superposition superposition s)) (goal_of shown)
     ++ placed_steps before rest (rest_of f) s (joined_all facts shown) goal)
 placed_steps before (Qed objects certs) f s facts goal =
     placed_step (Qed objects certs) f s facts goal ∷ []

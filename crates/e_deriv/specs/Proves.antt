@@ -30,10 +30,11 @@ Proves before s facts goal (Hence lit cert rest) =
     × Proves before s (joined facts lit) goal rest
 -- each literal that the construction needs is allowed; the new objects come into scope, and what it
 -- gives joins the facts
-Proves before s facts goal (Make form names certs rest) =
-    IsTrue (fits_construction form s) × AllAllowed s facts (needs_of_construction form)
-    × Proves before (grown s (sorts_made form))
-    (joined_all facts (gives_of_construction form s)) goal rest
+Proves before s facts goal (Make construction names certs rest) =
+    IsTrue (fits_construction construction s)
+    × AllAllowed s facts (needs_of_construction construction)
+    × Proves before (grown s (sorts_made construction))
+    (joined_all facts (gives_of_construction construction s)) goal rest
 -- no argument is a blank, they fit the theorem, which is an earlier one, and each given literal is
 -- allowed; the made objects come into scope, and the shown literals join the facts
 Proves before s facts goal (Apply theorem args names certs rest) =
@@ -49,12 +50,12 @@ Proves before s facts goal (Claim shown inner rest) =
     × Proves before s (joined_all facts shown) goal rest
 -- each literal that the superposition needs is allowed, and the inner block proves the shown
 -- literals with the copy; these join the facts, and the copy is gone
-Proves before s facts goal (Superposed form names shown certs inner rest) =
-    IsTrue (superposing.fits_superposition form s)
-    × AllAllowed s facts (superposing.needs_of_superposition form)
+Proves before s facts goal (Superposed superposition names shown certs inner rest) =
+    IsTrue (superposing.fits_superposition superposition s)
+    × AllAllowed s facts (superposing.needs_of_superposition superposition)
     × IsTrue (are_over s shown)
     × Proves before (grown s superposing.sorts_copied)
-    (joined_all facts (superposing.gives_of_superposition form s)) (goal_of shown) inner
+    (joined_all facts (superposing.gives_of_superposition superposition s)) (goal_of shown) inner
     × Proves before s (joined_all facts shown) goal rest
 -- each goal literal, with the objects for the made ones, is allowed
 Proves before s facts goal (Qed objects certs) =

@@ -22,11 +22,13 @@ use Rattle.e_deriv.specs.declared.block.Close.TheVariants.{Cases' as CasesClose}
 pub data Script : Type 0 where
   Cite : (by : By) (rest : Script) → Script
   Hence : (lit : Lit) (cert : Option Cert) (rest : Script) → Script
-  Make : (form : Construction) (names : List (List ℕ)) (certs : List Cert) (rest : Script) → Script
+  Make : (construction : Construction) (names : List (List ℕ)) (certs : List Cert) (rest : Script)
+      → Script
   Apply : (theorem : ℕ) (args : List (Option Obj)) (names : List (List ℕ)) (certs : List Cert)
       (rest : Script) → Script
   Claim : (shown : List Lit) (inner : Script) (rest : Script) → Script
-  Superposed : (form : Superpose) (names : List (List ℕ)) (shown : List Lit) (certs : List Cert)
+  Superposed : (superposition : Superpose) (names : List (List ℕ))
+      (shown : List Lit) (certs : List Cert)
       (inner : Script) (rest : Script) → Script
   Qed : (objects : List Obj) (certs : List Cert) → Script
   Contradiction : (against : Option Against) → Script
@@ -37,12 +39,12 @@ unfoldable mutual
   pub step_script : Step → Script → Script
   step_script (CiteStep by) rest = Cite by rest
   step_script (HenceStep lit cert) rest = Hence lit cert rest
-  step_script (MakeStep form names certs) rest = Make form names certs rest
+  step_script (MakeStep construction names certs) rest = Make construction names certs rest
   step_script (ApplyStep theorem args names certs) rest = Apply theorem args names certs rest
   step_script (ClaimStep shown p0 n0 row0 close0) rest =
       Claim shown (row_script row0 (close_script close0)) rest
-  step_script (SuperposedStep form names shown certs p0 n0 row0 close0) rest =
-      Superposed form names shown certs (row_script row0 (close_script close0)) rest
+  step_script (SuperposedStep superposition names shown certs p0 n0 row0 close0) rest =
+      Superposed superposition names shown certs (row_script row0 (close_script close0)) rest
 
   pub row_script : {n : _} → Row_of-Step n → Script → Script
   row_script end_of-Step rest = rest
@@ -66,10 +68,10 @@ script_of b = steps_script b.steps.items (close_script b.close)
 unfoldable pub size : Script → ℕ
 size (Cite by rest) = 1 + size rest
 size (Hence lit cert rest) = 1 + size rest
-size (Make form names certs rest) = 1 + size rest
+size (Make construction names certs rest) = 1 + size rest
 size (Apply theorem args names certs rest) = 1 + size rest
 size (Claim shown inner rest) = 1 + size inner + size rest
-size (Superposed form names shown certs inner rest) = 1 + size inner + size rest
+size (Superposed superposition names shown certs inner rest) = 1 + size inner + size rest
 size (Qed objects certs) = 1
 size (Contradiction against) = 1
 size (Cases lit first second) = 1 + size first + size second
@@ -78,10 +80,10 @@ size (Cases lit first second) = 1 + size first + size second
 unfoldable pub depth : Script → ℕ
 depth (Cite by rest) = depth rest
 depth (Hence lit cert rest) = depth rest
-depth (Make form names certs rest) = depth rest
+depth (Make construction names certs rest) = depth rest
 depth (Apply theorem args names certs rest) = depth rest
 depth (Claim shown inner rest) = max (1 + depth inner) (depth rest)
-depth (Superposed form names shown certs inner rest) = max (1 + depth inner) (depth rest)
+depth (Superposed superposition names shown certs inner rest) = max (1 + depth inner) (depth rest)
 depth (Qed objects certs) = 1
 depth (Contradiction against) = 1
 depth (Cases lit first second) = 1 + max (depth first) (depth second)
@@ -90,11 +92,11 @@ depth (Cases lit first second) = 1 + max (depth first) (depth second)
 unfoldable pub erased : Script → Script
 erased (Cite by rest) = Cite by (erased rest)
 erased (Hence lit cert rest) = Hence lit None (erased rest)
-erased (Make form names certs rest) = Make form names [] (erased rest)
+erased (Make construction names certs rest) = Make construction names [] (erased rest)
 erased (Apply theorem args names certs rest) = Apply theorem args names [] (erased rest)
 erased (Claim shown inner rest) = Claim shown (erased inner) (erased rest)
-erased (Superposed form names shown certs inner rest) =
-    Superposed form names shown [] (erased inner) (erased rest)
+erased (Superposed superposition names shown certs inner rest) =
+    Superposed superposition names shown [] (erased inner) (erased rest)
 erased (Qed objects certs) = Qed objects []
 erased (Contradiction against) = Contradiction None
 erased (Cases lit first second) = Cases lit (erased first) (erased second)

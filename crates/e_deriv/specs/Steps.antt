@@ -8,8 +8,7 @@ use Rattle.e_literal.specs.declared.literal.Lit.{Lit}
 use Rattle.e_literal.specs.Literal.{all_in_scope}
 use Rattle.e_literal.specs.Use.{StatementView, needs_of_use}
 pub use Rattle.e_clause.specs.Citing.{is_citation, instance_gives, is_cited}
-use Rattle.e_construct.specs.Construct.{fits_construction as fits_form}
-use Rattle.e_construct.specs.Construct.{needs_of_construction as needs_of_form}
+use Rattle.e_construct.specs.Construct.{fits_construction, needs_of_construction}
 use Rattle.e_construct.specs.Superposing as superposing
 use Rattle.e_deriv.specs.Script.{Script, Cite, Hence, Make, Apply, Claim, Superposed, Qed}
 use Rattle.e_deriv.specs.Script.{Contradiction, Cases}
@@ -27,17 +26,17 @@ abbrev pub is_applied : List StatementView → ℕ → Scope → List (Option Ob
 is_applied before theorem s pattern args =
     nat_lt theorem (length before) && is_choice (theorem_at before theorem) s pattern args
 
--- the step's form fits where it stands; what a superposition shows does not speak of the copied
+-- the step's form fits where it is; what a superposition shows does not speak of the copied
 -- points
 abbrev pub fits_at : List StatementView → Script → Scope → Goal → List Obj → Bool
 fits_at before (Cite by rest) s goal args = is_citation s by
 fits_at before (Hence lit cert rest) s goal args = all_in_scope s lit
-fits_at before (Make form names certs rest) s goal args = fits_form form s
+fits_at before (Make construction names certs rest) s goal args = fits_construction construction s
 fits_at before (Apply theorem pattern names certs rest) s goal args =
     is_applied before theorem s pattern args
 fits_at before (Claim shown inner rest) s goal args = are_over s shown
-fits_at before (Superposed form names shown certs inner rest) s goal args =
-    superposing.fits_superposition form s && are_over s shown
+fits_at before (Superposed superposition names shown certs inner rest) s goal args =
+    superposing.fits_superposition superposition s && are_over s shown
 fits_at before (Qed objects certs) s goal args = are_for goal s objects
 fits_at before (Contradiction against) s goal args = true
 fits_at before (Cases lit first second) s goal args = all_in_scope s lit
@@ -45,11 +44,12 @@ fits_at before (Cases lit first second) s goal args = all_in_scope s lit
 -- the literals that the step needs, in order
 abbrev pub needs_at : List StatementView → Script → Scope → Goal → List Obj → List Lit
 needs_at before (Hence lit cert rest) s goal args = lit ∷ []
-needs_at before (Make form names certs rest) s goal args = needs_of_form form
+needs_at before (Make construction names certs rest) s goal args =
+    needs_of_construction construction
 needs_at before (Apply theorem pattern names certs rest) s goal args =
     needs_of_use (theorem_at before theorem) args s
-needs_at before (Superposed form names shown certs inner rest) s goal args =
-    superposing.needs_of_superposition form
+needs_at before (Superposed superposition names shown certs inner rest) s goal args =
+    superposing.needs_of_superposition superposition
 needs_at before (Qed objects certs) s goal args = goal_with goal objects
 needs_at before (Cite by rest) s goal args = []
 needs_at before (Claim shown inner rest) s goal args = []

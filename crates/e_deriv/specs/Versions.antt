@@ -13,11 +13,12 @@ use Rattle.e_deriv.specs.Script.{Contradiction, Cases}
 unfoldable pub has_certs_of : Version → Script → Bool
 has_certs_of v (Cite by rest) = has_certs_of v rest
 has_certs_of v (Hence lit cert rest) = option_map_or (is_cert_of v) cert true && has_certs_of v rest
-has_certs_of v (Make form names certs rest) = list_all (is_cert_of v) certs && has_certs_of v rest
+has_certs_of v (Make construction names certs rest) =
+    list_all (is_cert_of v) certs && has_certs_of v rest
 has_certs_of v (Apply theorem args names certs rest) =
     list_all (is_cert_of v) certs && has_certs_of v rest
 has_certs_of v (Claim shown inner rest) = has_certs_of v inner && has_certs_of v rest
-has_certs_of v (Superposed form names shown certs inner rest) =
+has_certs_of v (Superposed superposition names shown certs inner rest) =
     list_all (is_cert_of v) certs && (has_certs_of v inner && has_certs_of v rest)
 has_certs_of v (Qed objects certs) = list_all (is_cert_of v) certs
 has_certs_of v (Contradiction against) = option_map_or (is_against_of v) against true

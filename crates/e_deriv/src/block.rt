@@ -32,7 +32,7 @@ pub enum Step {
     /// Each literal that the construction needs is allowed; the new objects, with these names, come
     /// into scope, and what it gives are facts.
     Make {
-        form: Construction,
+        construction: Construction,
         names: Items<Name>,
         certs: Items<Cert>,
     },
@@ -57,12 +57,19 @@ pub enum Step {
     /// literals, which do not speak of the copied points. Its objects and facts end with it, and
     /// the literals are facts.
     Superposed {
-        form: Superpose,
+        superposition: Superpose,
         names: Items<Name>,
         shown: Items<Lit>,
         certs: Items<Cert>,
         inner: Box<Block>,
     },
+}
+
+/// What a block has to show: literals, and the made objects in them.
+#[derive(Clone, Copy)]
+pub struct Goal<'a> {
+    pub made: &'a [Obj],
+    pub shown: &'a [Lit],
 }
 
 /// The end of a block.

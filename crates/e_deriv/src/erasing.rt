@@ -51,7 +51,11 @@ fn erase_step(alloc: Global, step: &Step) -> Result<Step, AllocError>
             lit: copy(alloc, lit)?,
             cert: None,
         }),
-        Step::Make { form, names, .. } => bare_make(alloc, form, names.items()),
+        Step::Make {
+            construction,
+            names,
+            ..
+        } => bare_make(alloc, construction, names.items()),
         Step::Apply {
             theorem,
             args,
@@ -63,7 +67,7 @@ fn erase_step(alloc: Global, step: &Step) -> Result<Step, AllocError>
             claim(alloc, shown.items(), inner)
         }
         Step::Superposed {
-            form,
+            superposition,
             names,
             shown,
             inner,
@@ -71,7 +75,14 @@ fn erase_step(alloc: Global, step: &Step) -> Result<Step, AllocError>
         } => {
             let inner = erase(alloc, inner)?;
             let certs = Items::empty(alloc);
-            superposition(alloc, form, names.items(), shown.items(), certs, inner)
+            superposition(
+                alloc,
+                superposition,
+                names.items(),
+                shown.items(),
+                certs,
+                inner,
+            )
         }
     }
 }
@@ -104,13 +115,13 @@ fn erase_close(alloc: Global, close: &Close) -> Result<Close, AllocError>
 }
 
 /// The step of a construction, without certificates.
-fn bare_make(alloc: Global, form: &Construction, names: &[Name]) -> Result<Step, AllocError>
-    ensures { IfOk result (λ s. s ≡ MakeStep form.now names.now []) }
+fn bare_make(alloc: Global, construction: &Construction, names: &[Name]) -> Result<Step, AllocError>
+    ensures { IfOk result (λ s. s ≡ MakeStep construction.now names.now []) }
 {
     let names = copy_names(alloc, names)?;
-    let form = copy_construction(alloc, form)?;
+    let construction = copy_construction(alloc, construction)?;
     Ok(Step::Make {
-        form,
+        construction,
         names,
         certs: Items::empty(alloc),
     })
@@ -159,13 +170,16 @@ pub fn copy_by(alloc: Global, by: &By) -> Result<By, AllocError>
 }
 
 /// An equal construction.
-pub fn copy_construction(alloc: Global, form: &Construction) -> Result<Construction, AllocError>
-    ensures { IfOk result (λ f. f ≡ form.now) }
+pub fn copy_construction(
+    alloc: Global,
+    construction: &Construction,
+) -> Result<Construction, AllocError>
+    ensures { IfOk result (λ f. f ≡ construction.now) }
 {
     Ok(Construction {
-        shape: form.shape,
-        args: copy_objects(alloc, form.args.items())?,
-        avoid: copy_objects(alloc, form.avoid.items())?,
+        shape: construction.shape,
+        args: copy_objects(alloc, construction.args.items())?,
+        avoid: copy_objects(alloc, construction.avoid.items())?,
     })
 }
 

@@ -32,14 +32,14 @@ pub fn claim(alloc: Global, shown: &[Lit], inner: Block) -> Result<Step, AllocEr
 #[tactic(auto, using(crate::proofs::Scripts::scripts))]
 pub fn superposition(
     alloc: Global,
-    form: &Superpose,
+    superposition: &Superpose,
     names: &[Name],
     shown: &[Lit],
     certs: Items<Cert>,
     inner: Block,
 ) -> Result<Step, AllocError>
     ensures { IfOk result (λ s. (rest : Script) → step_script s rest
-        ≡ Superposed form.now names.now shown.now certs (script_of inner) rest) }
+        ≡ Superposed superposition.now names.now shown.now certs (script_of inner) rest) }
 {
     let inner = match Box::new(alloc, inner) {
         Ok(inner) => inner,
@@ -51,7 +51,7 @@ pub fn superposition(
     };
     match copy_head(alloc, names, shown) {
         Ok((names, shown)) => Ok(Step::Superposed {
-            form: *form,
+            superposition: *superposition,
             names,
             shown,
             certs,

@@ -10,7 +10,7 @@ mod names;
 mod sizes;
 mod stop;
 
-pub use block::{Block, Close, Step, boxed};
+pub use block::{Block, Close, Goal, Step, boxed};
 pub use e_clause::Against;
 pub use erasing::{copy_by, copy_construction, copy_lits, copy_names, erase};
 pub use inner::{claim, split, superposition};

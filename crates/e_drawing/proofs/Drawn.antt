@@ -1,6 +1,6 @@
 -- What is written of a plan is what is written of its text.
 use Rattle.std.proofs.Common.{◌≡◌, ℕ, ◌+◌, ◌<◌, ◌^◌, List, length, Result, Ok, Err, ap, sym, ◌∙◌, arith}
-use Rattle.e_text.proofs.WholeLines.{length-lines_of}
+use Rattle.e_text.proofs.LinesOfTexts.{length-lines_of}
 use Rattle.e_line.specs.declared.fault.BookFault.{BookFault}
 use Rattle.e_line.specs.Reading.{◌>>=◌}
 use Rattle.e_book.specs.Grammar.{BookFails}

@@ -14,7 +14,7 @@ most_size = 1000000
 abbrev pub most_square : ℕ
 most_square = 1000000000000
 
--- the value of a numeral, whatever its length: one more than the bound stands for all that are past
+-- the value of a numeral, whatever its length: one more than the bound is that of all that are past
 -- it
 abbrev pub value_to : ℕ → List ℕ → ℕ
 value_to most w = min (value_from 0 w) (most + 1)

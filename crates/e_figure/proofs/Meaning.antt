@@ -16,7 +16,7 @@ use Rattle.e_literal.proofs.Arith.{sums}
 use Rattle.e_plane.proofs.Squares.{square-not_negative, square-positive}
 use Rattle.e_plane.proofs.Cone.{Fact, Hold}
 use Rattle.e_figure.specs.Figure.{FigureView, point_of, line_of_figure, circle_of}
-use Rattle.e_figure.specs.Truth.{cross, dot, side, dist, atom_holds, is_true}
+use Rattle.e_figure.specs.Truth.{cross, dot, side_of_line, dist, atom_holds, is_true}
 use Rattle.e_figure.proofs.Facts.{when_true, when_false, none_true}
 
 -- the coordinates of what stands for a rule's variables
@@ -114,7 +114,7 @@ pub when_true_holds : (d : FigureView) (p l c : ℕ → ℕ) (t : Atom) → atom
 when_true_holds d p l c (On a L) e =
     let one = point_of d (p a) in
     let first = line_of_figure d (l L) in
-    (equal (side one.x one.y first) (pos 0) e, tt)
+    (equal (side_of_line one.x one.y first) (pos 0) e, tt)
 when_true_holds d p l c (OnC a A) e =
     let one = point_of d (p a) in
     let inner = circle_of d (c A) in
@@ -138,7 +138,7 @@ when_true_holds d p l c (Same a b L) e =
     let one = point_of d (p a) in
     let two = point_of d (p b) in
     let first = line_of_figure d (l L) in
-    (positive_is ((side one.x one.y first) *ℤ (side two.x two.y first)) e, tt)
+    (positive_is ((side_of_line one.x one.y first) *ℤ (side_of_line two.x two.y first)) e, tt)
 when_true_holds d p l c (MeetLL L M) e =
     let first = line_of_figure d (l L) in
     let second = line_of_figure d (l M) in
@@ -146,7 +146,7 @@ when_true_holds d p l c (MeetLL L M) e =
 when_true_holds d p l c (MeetLC L A) e =
     let first = line_of_figure d (l L) in
     let inner = circle_of d (c A) in
-    (less ((side inner.x inner.y first) *ℤ (side inner.x inner.y first)) (pos inner.square *ℤ dot first.dx first.dy first.dx first.dy) e, tt)
+    (less ((side_of_line inner.x inner.y first) *ℤ (side_of_line inner.x inner.y first)) (pos inner.square *ℤ dot first.dx first.dy first.dx first.dy) e, tt)
 when_true_holds d p l c (MeetCC A B) e =
     let inner = circle_of d (c A) in
     let outer = circle_of d (c B) in
@@ -159,8 +159,8 @@ when_true_holds d p l c (EqP a b) e =
 when_true_holds d p l c (EqL L M) e =
     let first = line_of_figure d (l L) in
     let second = line_of_figure d (l M) in
-    let h = and_parts (int_eq (cross first.dx first.dy second.dx second.dy) (pos 0)) (int_eq (side second.x second.y first) (pos 0)) e in
-    (equal (cross first.dx first.dy second.dx second.dy) (pos 0) h.0, (equal (side second.x second.y first) (pos 0) h.1, tt))
+    let h = and_parts (int_eq (cross first.dx first.dy second.dx second.dy) (pos 0)) (int_eq (side_of_line second.x second.y first) (pos 0)) e in
+    (equal (cross first.dx first.dy second.dx second.dy) (pos 0) h.0, (equal (side_of_line second.x second.y first) (pos 0) h.1, tt))
 when_true_holds d p l c (EqC A B) e =
     let inner = circle_of d (c A) in
     let outer = circle_of d (c B) in
@@ -174,7 +174,7 @@ pub when_false_holds : (d : FigureView) (p l c : ℕ → ℕ) (t : Atom) → ato
 when_false_holds d p l c (On a L) e =
     let one = point_of d (p a) in
     let first = line_of_figure d (l L) in
-    (not_zero_square (side one.x one.y first) e, tt)
+    (not_zero_square (side_of_line one.x one.y first) e, tt)
 when_false_holds d p l c (OnC a A) e =
     let one = point_of d (p a) in
     let inner = circle_of d (c A) in
@@ -196,7 +196,7 @@ when_false_holds d p l c (Same a b L) e =
     let one = point_of d (p a) in
     let two = point_of d (p b) in
     let first = line_of_figure d (l L) in
-    (not_positive_is ((side one.x one.y first) *ℤ (side two.x two.y first)) e, tt)
+    (not_positive_is ((side_of_line one.x one.y first) *ℤ (side_of_line two.x two.y first)) e, tt)
 when_false_holds d p l c (MeetLL L M) e =
     let first = line_of_figure d (l L) in
     let second = line_of_figure d (l M) in
@@ -204,7 +204,7 @@ when_false_holds d p l c (MeetLL L M) e =
 when_false_holds d p l c (MeetLC L A) e =
     let first = line_of_figure d (l L) in
     let inner = circle_of d (c A) in
-    (not_less ((side inner.x inner.y first) *ℤ (side inner.x inner.y first)) (pos inner.square *ℤ dot first.dx first.dy first.dx first.dy) e, tt)
+    (not_less ((side_of_line inner.x inner.y first) *ℤ (side_of_line inner.x inner.y first)) (pos inner.square *ℤ dot first.dx first.dy first.dx first.dy) e, tt)
 when_false_holds d p l c (MeetCC A B) e =
     let inner = circle_of d (c A) in
     let outer = circle_of d (c B) in
@@ -216,7 +216,7 @@ when_false_holds d p l c (EqP a b) e =
 when_false_holds d p l c (EqL L M) e =
     let first = line_of_figure d (l L) in
     let second = line_of_figure d (l M) in
-    (not_both_zero (cross first.dx first.dy second.dx second.dy) (side second.x second.y first) e, tt)
+    (not_both_zero (cross first.dx first.dy second.dx second.dy) (side_of_line second.x second.y first) e, tt)
 when_false_holds d p l c (EqC A B) e =
     let inner = circle_of d (c A) in
     let outer = circle_of d (c B) in

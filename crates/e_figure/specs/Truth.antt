@@ -20,15 +20,15 @@ abbrev pub dot : ℤ → ℤ → ℤ → ℤ → ℤ
 dot ux uy vx vy = ux *ℤ vx +ℤ uy *ℤ vy
 
 -- on which side of the line, and how far: 0 on it
-abbrev pub side : ℤ → ℤ → Straight → ℤ
-side x y l = cross l.dx l.dy (x -ℤ l.x) (y -ℤ l.y)
+abbrev pub side_of_line : ℤ → ℤ → Straight → ℤ
+side_of_line x y l = cross l.dx l.dy (x -ℤ l.x) (y -ℤ l.y)
 
 -- the square of the distance
 abbrev pub dist : ℤ → ℤ → ℤ → ℤ → ℤ
 dist x y u v = dot (x -ℤ u) (y -ℤ v) (x -ℤ u) (y -ℤ v)
 
 abbrev pub is_on : Point → Straight → Bool
-is_on a l = int_eq (side a.x a.y l) (pos 0)
+is_on a l = int_eq (side_of_line a.x a.y l) (pos 0)
 
 abbrev pub is_on_circle : Point → Round → Bool
 is_on_circle a c = int_eq (dist a.x a.y c.x c.y) (pos c.square)
@@ -45,14 +45,15 @@ is_between a b c =
     && int_lt (dot (a.x -ℤ b.x) (a.y -ℤ b.y) (c.x -ℤ b.x) (c.y -ℤ b.y)) (pos 0)
 
 abbrev pub is_same_side : Point → Point → Straight → Bool
-is_same_side a b l = int_lt (pos 0) (side a.x a.y l *ℤ side b.x b.y l)
+is_same_side a b l = int_lt (pos 0) (side_of_line a.x a.y l *ℤ side_of_line b.x b.y l)
 
 abbrev pub lines_meet : Straight → Straight → Bool
 lines_meet l m = not (int_eq (cross l.dx l.dy m.dx m.dy) (pos 0))
 
 abbrev pub line_meets_circle : Straight → Round → Bool
 line_meets_circle l c =
-    int_lt (side c.x c.y l *ℤ side c.x c.y l) (pos c.square *ℤ dot l.dx l.dy l.dx l.dy)
+    int_lt (side_of_line c.x c.y l *ℤ side_of_line c.x c.y l)
+    (pos c.square *ℤ dot l.dx l.dy l.dx l.dy)
 
 abbrev pub circles_meet : Round → Round → Bool
 circles_meet c e =
@@ -65,7 +66,8 @@ same_point a b = int_eq a.x b.x && int_eq a.y b.y
 
 -- the directions are parallel, and the point of the second is on the first
 abbrev pub same_line : Straight → Straight → Bool
-same_line l m = int_eq (cross l.dx l.dy m.dx m.dy) (pos 0) && int_eq (side m.x m.y l) (pos 0)
+same_line l m =
+    int_eq (cross l.dx l.dy m.dx m.dy) (pos 0) && int_eq (side_of_line m.x m.y l) (pos 0)
 
 abbrev pub same_circle : Round → Round → Bool
 same_circle c e = int_eq c.x e.x && (int_eq c.y e.y && int_eq (pos c.square) (pos e.square))

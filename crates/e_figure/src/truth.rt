@@ -50,7 +50,7 @@ fn side(x: i32, y: i32, l: Straight) -> i128
     requires x { IsTrue (is_small_number x) }
     requires y { IsTrue (is_small_number y) }
     requires l { IsTrue (is_small_line l) }
-    ensures value { result ≡ truth.side x y l }
+    ensures value { result ≡ truth.side_of_line x y l }
     ensures size { unsigned_abs result ≤ 2 ^ 43 }
 {
     cross(
@@ -104,7 +104,7 @@ fn lines_meet(l: Straight, m: Straight) -> bool
 fn base_side(l: Straight, m: Straight) -> i128
     requires l { IsTrue (is_small_line l) }
     requires m { IsTrue (is_small_line m) }
-    ensures { result ≡ truth.side m.x m.y l }
+    ensures { result ≡ truth.side_of_line m.x m.y l }
 {
     side(m.x, m.y, l)
 }
@@ -260,7 +260,7 @@ fn same_circle(c: Round, e: Round) -> bool
 fn squared_side(l: Straight, c: Round) -> i128
     requires l { IsTrue (is_small_line l) }
     requires c { IsTrue (is_small_circle c) }
-    ensures { result ≡ truth.side c.x c.y l *ℤ truth.side c.x c.y l }
+    ensures { result ≡ truth.side_of_line c.x c.y l *ℤ truth.side_of_line c.x c.y l }
 {
     let far = side(c.x, c.y, l);
     product(far, far)

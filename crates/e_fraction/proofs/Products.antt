@@ -13,7 +13,7 @@ use Rattle.e_literal.specs.Same.{term_eq}
 use Rattle.e_literal.specs.Rows.{Row, Summands, terms_of_rows}
 use Rattle.e_literal.specs.Width.{is_among, new_terms, weight, product, constants, width_over, width}
 use Rattle.e_fraction.specs.declared.row.Row.{Row as GivenRow}
-use Rattle.e_fraction.specs.Views.{all_seen}
+use Rattle.e_fraction.specs.Views.{views_of_rows}
 use Rattle.e_literal.proofs.Terms.{term_eq_is, term_eq_turned}
 
 -- ---- what the tests find
@@ -22,11 +22,11 @@ pub among_form : (form : Summands) (t : Term) → is_among (map (λ p. p.1) form
 among_form [] t = refl
 among_form (p ∷ ps) t = ap (λ b. b || is_among (map (λ q. q.1) ps) t) (term_eq_turned t p.1) ∙ ap (λ b. term_eq p.1 t || b) (among_form ps t)
 
-pub among_rows : (rows : List GivenRow) (t : Term) → is_among (terms_of_rows (all_seen rows)) t ≡ list_any (λ (r : GivenRow). list_any (λ (q : ℤ × Term). term_eq q.1 t) r.form) rows
+pub among_rows : (rows : List GivenRow) (t : Term) → is_among (terms_of_rows (views_of_rows rows)) t ≡ list_any (λ (r : GivenRow). list_any (λ (q : ℤ × Term). term_eq q.1 t) r.form) rows
 among_rows [] t = refl
 among_rows (r ∷ rs) t =
-    list_any-append (term_eq t) (map (λ p. p.1) r.form) (terms_of_rows (all_seen rs))
-    ∙ ap (λ b. b || is_among (terms_of_rows (all_seen rs)) t) (among_form r.form t)
+    list_any-append (term_eq t) (map (λ p. p.1) r.form) (terms_of_rows (views_of_rows rs))
+    ∙ ap (λ b. b || is_among (terms_of_rows (views_of_rows rs)) t) (among_form r.form t)
     ∙ ap (λ b. list_any (λ (q : ℤ × Term). term_eq q.1 t) r.form || b) (among_rows rs t)
 
 neither : (a b : Bool) → (not a && not b) ≡ not (b || a)
@@ -37,10 +37,10 @@ neither false false = refl
 
 pub is_new_is : (rows : List GivenRow) (form : Summands) (t : Term) (a b : Bool) → a ≡ list_any (λ (q : ℤ × Term). term_eq q.1 t) form
     → b ≡ list_any (λ (r : GivenRow). list_any (λ (q : ℤ × Term). term_eq q.1 t) r.form) rows
-    → (not a && not b) ≡ not (is_among (terms_of_rows (all_seen rows) ++ map (λ p. p.1) form) t)
+    → (not a && not b) ≡ not (is_among (terms_of_rows (views_of_rows rows) ++ map (λ p. p.1) form) t)
 is_new_is rows form t a b e f =
-    neither a b ∙ ap not (ap (λ k. k || a) (f ∙ sym (among_rows rows t)) ∙ ap (λ k. is_among (terms_of_rows (all_seen rows)) t || k) (e ∙ sym (among_form form t))
-    ∙ sym (list_any-append (term_eq t) (terms_of_rows (all_seen rows)) (map (λ p. p.1) form)))
+    neither a b ∙ ap not (ap (λ k. k || a) (f ∙ sym (among_rows rows t)) ∙ ap (λ k. is_among (terms_of_rows (views_of_rows rows)) t || k) (e ∙ sym (among_form form t))
+    ∙ sym (list_any-append (term_eq t) (terms_of_rows (views_of_rows rows)) (map (λ p. p.1) form)))
 
 -- ---- one term more
 
@@ -121,16 +121,16 @@ summands_more form j d h = ap (λ n. map (λ p. p.1) (take n form)) (one_more j)
 pub one_row_more : (rows : List GivenRow) (i : ℕ) (r : GivenRow) → i < length rows → r ≡ get_or rows i r → take i rows ++ r ∷ [] ≡ take (i + 1) rows
 one_row_more rows i r h is = ap (λ q. take i rows ++ q ∷ []) is ∙ sym (take_more rows i r h)
 
-terms_after : (before : List GivenRow) (r : GivenRow) → terms_of_rows (all_seen (before ++ r ∷ [])) ≡ terms_of_rows (all_seen before) ++ map (λ p. p.1) r.form
+terms_after : (before : List GivenRow) (r : GivenRow) → terms_of_rows (views_of_rows (before ++ r ∷ [])) ≡ terms_of_rows (views_of_rows before) ++ map (λ p. p.1) r.form
 terms_after [] r = none_more (map (λ p. p.1) r.form)
 terms_after (q ∷ qs) r =
-    ap (λ xs. map (λ p. p.1) q.form ++ xs) (terms_after qs r) ∙ sym (append_assoc (map (λ p. p.1) q.form) (terms_of_rows (all_seen qs)) (map (λ p. p.1) r.form))
+    ap (λ xs. map (λ p. p.1) q.form ++ xs) (terms_after qs r) ∙ sym (append_assoc (map (λ p. p.1) q.form) (terms_of_rows (views_of_rows qs)) (map (λ p. p.1) r.form))
 
 -- all summands of a row are passed
-pub row_passed : (rows : List Row) (before : List GivenRow) (r : GivenRow) (form : Summands) (j n : ℕ) → form ≡ r.form → length form ≤ j → n ≡ width_over rows (terms_of_rows (all_seen before) ++ map (λ p. p.1) (take j form))
-    → n ≡ width_over rows (terms_of_rows (all_seen (before ++ r ∷ [])))
+pub row_passed : (rows : List Row) (before : List GivenRow) (r : GivenRow) (form : Summands) (j n : ℕ) → form ≡ r.form → length form ≤ j → n ≡ width_over rows (terms_of_rows (views_of_rows before) ++ map (λ p. p.1) (take j form))
+    → n ≡ width_over rows (terms_of_rows (views_of_rows (before ++ r ∷ [])))
 row_passed rows before r form j n is done e =
-    e ∙ ap (λ (f : Summands). width_over rows (terms_of_rows (all_seen before) ++ map (λ p. p.1) f)) (take_all j form done ∙ is)
+    e ∙ ap (λ (f : Summands). width_over rows (terms_of_rows (views_of_rows before) ++ map (λ p. p.1) f)) (take_all j form done ∙ is)
     ∙ ap (width_over rows) (sym (terms_after before r))
 
 -- the summand at j, which stands nowhere before, or somewhere
@@ -150,8 +150,8 @@ width_step_known rows before form j d n h old e =
     ∙ sym (width_known rows (before ++ map (λ p. p.1) (take j form)) (get_or form j d).1 (not-false (is_among (before ++ map (λ p. p.1) (take j form)) (get_or form j d).1) old))
     ∙ ap (width_over rows) (append_assoc before (map (λ p. p.1) (take j form)) ((get_or form j d).1 ∷ []) ∙ ap (λ xs. before ++ xs) (sym (summands_more form j d h)))
 
-pub all_rows : (rows : List GivenRow) (i n : ℕ) → length rows ≤ i → n ≡ width_over (all_seen rows) (terms_of_rows (all_seen (take i rows))) → n ≡ width (all_seen rows)
-all_rows rows i n h e = e ∙ ap (λ rs. width_over (all_seen rows) (terms_of_rows (all_seen rs))) (whole rows i h)
+pub all_rows : (rows : List GivenRow) (i n : ℕ) → length rows ≤ i → n ≡ width_over (views_of_rows rows) (terms_of_rows (views_of_rows (take i rows))) → n ≡ width (views_of_rows rows)
+all_rows rows i n h e = e ∙ ap (λ rs. width_over (views_of_rows rows) (terms_of_rows (views_of_rows rs))) (whole rows i h)
   where
     whole : (rs : List GivenRow) (k : ℕ) → length rs ≤ k → take k rs ≡ rs
     whole [] zero l = refl

@@ -17,7 +17,7 @@ use Rattle.e_literal.specs.Absurd.{Weighed, total, allows_multiplier, is_strict,
 use Rattle.e_fraction.specs.declared.row.Row.{Row as GivenRow}
 use Rattle.e_fraction.specs.Distinct.{have_distinct_terms}
 use Rattle.e_fraction.specs.Limits.{has_small_coefficients, all_small, small_multipliers}
-use Rattle.e_fraction.specs.Views.{sense_of, seen, all_seen, weighed}
+use Rattle.e_fraction.specs.Views.{sense_of, view_of_row, views_of_rows, weighed}
 use Rattle.e_literal.proofs.Arith.{sums}
 use Rattle.e_literal.proofs.Terms.{term_eq_is}
 use Rattle.e_literal.proofs.Booleans.{and_left, and_right}
@@ -111,42 +111,42 @@ total_more rows ms i d t h k = ap (λ n. total (weighed (take n rows) (take n ms
 
 -- ---- all rows
 
-pub weighed_rows : (rows : List GivenRow) (ms : List ℤ) → length ms ≡ length rows → map (λ (w : Weighed). w.row) (weighed rows ms) ≡ all_seen rows
+pub weighed_rows : (rows : List GivenRow) (ms : List ℤ) → length ms ≡ length rows → map (λ (w : Weighed). w.row) (weighed rows ms) ≡ views_of_rows rows
 weighed_rows [] ms e = refl
 weighed_rows (r ∷ rs) [] e = absurd (omega (arith, e))
-weighed_rows (r ∷ rs) (m ∷ ms) e = ap (λ xs. seen r ∷ xs) (weighed_rows rs ms (omega (arith, e)))
+weighed_rows (r ∷ rs) (m ∷ ms) e = ap (λ xs. view_of_row r ∷ xs) (weighed_rows rs ms (omega (arith, e)))
 
 cancels_rows : (f : Term → ℤ) (rows : List GivenRow)
-    → list_all (λ t. int_eq (f t) (pos 0)) (terms_of_rows (all_seen rows)) ≡ list_all (λ r. list_all (λ p. int_eq (f p.1) (pos 0)) r.form) rows
+    → list_all (λ t. int_eq (f t) (pos 0)) (terms_of_rows (views_of_rows rows)) ≡ list_all (λ r. list_all (λ p. int_eq (f p.1) (pos 0)) r.form) rows
 cancels_rows f [] = refl
 cancels_rows f (r ∷ rs) =
-    list_all-append (λ t. int_eq (f t) (pos 0)) (map (λ p. p.1) r.form) (terms_of_rows (all_seen rs))
-    ∙ ap (λ b. b && list_all (λ t. int_eq (f t) (pos 0)) (terms_of_rows (all_seen rs))) (list_all-map (λ t. int_eq (f t) (pos 0)) (λ p. p.1) r.form)
+    list_all-append (λ t. int_eq (f t) (pos 0)) (map (λ p. p.1) r.form) (terms_of_rows (views_of_rows rs))
+    ∙ ap (λ b. b && list_all (λ t. int_eq (f t) (pos 0)) (terms_of_rows (views_of_rows rs))) (list_all-map (λ t. int_eq (f t) (pos 0)) (λ p. p.1) r.form)
     ∙ ap (λ b. list_all (λ p. int_eq (f p.1) (pos 0)) r.form && b) (cancels_rows f rs)
 
-good_signs : (xs : List (GivenRow × ℤ)) → list_all (λ (w : Weighed). allows_multiplier w.row.says w.multiplier) (map (λ (x : GivenRow × ℤ). record { multiplier = x.1; row = seen x.0 }) xs)
-    ≡ list_all (λ (x : GivenRow × ℤ). allows_multiplier (sense_of x.0.kind) x.1) xs
+good_signs : (xs : List (GivenRow × ℤ)) → list_all (λ (w : Weighed). allows_multiplier w.row.sense w.multiplier) (map (λ (x : GivenRow × ℤ). record { multiplier = x.1; row = view_of_row x.0 }) xs)
+    ≡ list_all (λ (x : GivenRow × ℤ). allows_multiplier (sense_of x.0.sense) x.1) xs
 good_signs [] = refl
-good_signs (x ∷ xs) = ap (λ b. allows_multiplier (sense_of x.0.kind) x.1 && b) (good_signs xs)
+good_signs (x ∷ xs) = ap (λ b. allows_multiplier (sense_of x.0.sense) x.1 && b) (good_signs xs)
 
-strict_signs : (xs : List (GivenRow × ℤ)) → list_any (λ (w : Weighed). is_strict w.row.says w.multiplier) (map (λ (x : GivenRow × ℤ). record { multiplier = x.1; row = seen x.0 }) xs)
-    ≡ list_any (λ (x : GivenRow × ℤ). is_strict (sense_of x.0.kind) x.1) xs
+strict_signs : (xs : List (GivenRow × ℤ)) → list_any (λ (w : Weighed). is_strict w.row.sense w.multiplier) (map (λ (x : GivenRow × ℤ). record { multiplier = x.1; row = view_of_row x.0 }) xs)
+    ≡ list_any (λ (x : GivenRow × ℤ). is_strict (sense_of x.0.sense) x.1) xs
 strict_signs [] = refl
-strict_signs (x ∷ xs) = ap (λ b. is_strict (sense_of x.0.kind) x.1 || b) (strict_signs xs)
+strict_signs (x ∷ xs) = ap (λ b. is_strict (sense_of x.0.sense) x.1 || b) (strict_signs xs)
 
 pub absurd_is : (rows : List GivenRow) (ms : List ℤ) (signs cancels : Bool) → length ms ≡ length rows
-    → signs ≡ (list_all (λ (x : GivenRow × ℤ). allows_multiplier (sense_of x.0.kind) x.1) (zip rows ms) && list_any (λ (x : GivenRow × ℤ). is_strict (sense_of x.0.kind) x.1) (zip rows ms))
+    → signs ≡ (list_all (λ (x : GivenRow × ℤ). allows_multiplier (sense_of x.0.sense) x.1) (zip rows ms) && list_any (λ (x : GivenRow × ℤ). is_strict (sense_of x.0.sense) x.1) (zip rows ms))
     → cancels ≡ list_all (λ r. list_all (λ p. int_eq (total (weighed rows ms) p.1) (pos 0)) r.form) rows
     → (signs && cancels) ≡ is_absurd (weighed rows ms)
 absurd_is rows ms signs cancels e s c =
     and_comm signs cancels
     ∙ ap (λ b. b && signs) (c ∙ sym (cancels_rows (total (weighed rows ms)) rows) ∙ ap (λ rs. list_all (λ t. int_eq (total (weighed rows ms) t) (pos 0)) (terms_of_rows rs)) (sym (weighed_rows rows ms e)))
     ∙ ap (λ b. list_all (λ t. int_eq (total (weighed rows ms) t) (pos 0)) (terms_of_rows (map (λ (w : Weighed). w.row) (weighed rows ms))) && b)
-    (s ∙ ap (λ b. b && list_any (λ (x : GivenRow × ℤ). is_strict (sense_of x.0.kind) x.1) (zip rows ms)) (sym (good_signs (zip rows ms)))
-    ∙ ap (λ b. list_all (λ (w : Weighed). allows_multiplier w.row.says w.multiplier) (weighed rows ms) && b) (sym (strict_signs (zip rows ms))))
+    (s ∙ ap (λ b. b && list_any (λ (x : GivenRow × ℤ). is_strict (sense_of x.0.sense) x.1) (zip rows ms)) (sym (good_signs (zip rows ms)))
+    ∙ ap (λ b. list_all (λ (w : Weighed). allows_multiplier w.row.sense w.multiplier) (weighed rows ms) && b) (sym (strict_signs (zip rows ms))))
 
 pub absurd_not : (rows : List GivenRow) (ms : List ℤ) (signs : Bool) → length ms ≡ length rows
-    → signs ≡ (list_all (λ (x : GivenRow × ℤ). allows_multiplier (sense_of x.0.kind) x.1) (zip rows ms) && list_any (λ (x : GivenRow × ℤ). is_strict (sense_of x.0.kind) x.1) (zip rows ms))
+    → signs ≡ (list_all (λ (x : GivenRow × ℤ). allows_multiplier (sense_of x.0.sense) x.1) (zip rows ms) && list_any (λ (x : GivenRow × ℤ). is_strict (sense_of x.0.sense) x.1) (zip rows ms))
     → signs ≡ false → signs ≡ is_absurd (weighed rows ms)
 absurd_not rows ms signs e s n =
     let cancels = list_all (λ (r : GivenRow). list_all (λ (p : ℤ × Term). int_eq (total (weighed rows ms) p.1) (pos 0)) r.form) rows in

@@ -34,7 +34,7 @@ part_sum f ps (r ∷ rows) (inr (qs, e, h)) =
 
 -- the size of a row's constant
 abbrev has_one : Row → ℕ
-has_one r = cond (has_constant r.says) 1 0
+has_one r = cond (has_constant r.sense) 1 0
 
 constant_size : (s : Sense) (down : Bool) → unsigned_abs (constant s down) ≡ cond (has_constant s) 1 0
 constant_size Zero down = refl
@@ -45,7 +45,7 @@ constant_size Not false = refl
 
 sum_constants : (ts : List Term) (ss : List SignedRow) → column_sum (numbered (column ts) (map entry ss)) 0 ≡ sum_by has_one (map row_of ss)
 sum_constants ts [] = refl
-sum_constants ts (s ∷ ss) = omega (arith, constant_size s.row.says s.down, sum_constants ts ss, sum_by-cons has_one s.row (map row_of ss))
+sum_constants ts (s ∷ ss) = omega (arith, constant_size s.row.sense s.down, sum_constants ts ss, sum_by-cons has_one s.row (map row_of ss))
 
 abbrev pub size_at : Term → Row → ℕ
 size_at t r = unsigned_abs (coefficient r.form t)

@@ -15,13 +15,13 @@ sense_of CodeAtLeast = AtLeast
 sense_of CodeMore = More
 sense_of CodeNot = Not
 
-abbrev pub seen : GivenRow → Row
-seen r = record { says = sense_of r.kind; form = r.form }
+abbrev pub view_of_row : GivenRow → Row
+view_of_row r = record { sense = sense_of r.sense; form = r.form }
 
-abbrev pub all_seen : List GivenRow → List Row
-all_seen rows = map seen rows
+abbrev pub views_of_rows : List GivenRow → List Row
+views_of_rows rows = map view_of_row rows
 
 -- each row with its multiplier
 abbrev pub weighed : List GivenRow → List ℤ → List Weighed
 weighed rows multipliers =
-    map (λ x. record { multiplier = x.1; row = seen x.0 }) (zip rows multipliers)
+    map (λ x. record { multiplier = x.1; row = view_of_row x.0 }) (zip rows multipliers)

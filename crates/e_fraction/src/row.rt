@@ -20,7 +20,7 @@ pub enum RowSense {
 /// A row: a form, and what is said of it.
 #[derive(Drop)]
 pub struct Row {
-    pub kind: RowSense,
+    pub sense: RowSense,
     pub form: Signed,
 }
 

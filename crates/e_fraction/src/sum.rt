@@ -8,7 +8,7 @@ ghost use Rattle.e_literal.specs.Rows.{Summands, coefficient};
 ghost use Rattle.e_literal.specs.Absurd.{total, allows_multiplier, is_strict, is_absurd};
 ghost use Rattle.e_fraction.specs.Limits.{has_small_coefficients, all_small, small_multipliers};
 ghost use Rattle.e_fraction.specs.Limits.{most_rows_of_system};
-ghost use Rattle.e_fraction.specs.Views.{sense_of, weighed, all_seen};
+ghost use Rattle.e_fraction.specs.Views.{sense_of, weighed, views_of_rows};
 ghost use Rattle.e_literal.specs.Solution.{HasSolution};
 
 use crate::row::{Row, RowSense};
@@ -26,7 +26,7 @@ pub fn check_sum(rows: &[Row], multipliers: &[i128]) -> bool
     requires coefficients { IsTrue (all_small rows.now) }
     requires multipliers { IsTrue (small_multipliers multipliers.now) }
     ensures value { result ≡ is_absurd (weighed rows.now multipliers.now) }
-    ensures refutes { IsTrue result → ¬ HasSolution (all_seen rows.now) }
+    ensures refutes { IsTrue result → ¬ HasSolution (views_of_rows rows.now) }
 {
     have_absurd_signs(rows, multipliers) && cancels(rows, multipliers)
 }
@@ -77,14 +77,14 @@ pub fn total(rows: &[Row], multipliers: &[i128], term: Term) -> i128
 {
     let mut sum: i128 = 0;
     for (row, multiplier) in rows.iter().zip(multipliers) {
-        sum += weighed(row, *multiplier, term);
+        sum += weigh(row, *multiplier, term);
     }
     sum
 }
 
 /// The coefficient of the term in a row, times the row's multiplier. A row that takes no part is
 /// not looked at.
-fn weighed(row: &Row, multiplier: i128, term: Term) -> i128
+fn weigh(row: &Row, multiplier: i128, term: Term) -> i128
     requires row { IsTrue (has_small_coefficients row.now.form) }
     requires multiplier { unsigned_abs multiplier ≤ 2 ^ 80 }
     ensures value { result ≡ multiplier *ℤ coefficient row.now.form term }
@@ -99,26 +99,26 @@ fn weighed(row: &Row, multiplier: i128, term: Term) -> i128
 /// Whether no row that says `at least` or `more` is taken away, and one that says `more` is added.
 fn have_absurd_signs(rows: &[Row], multipliers: &[i128]) -> bool
     ensures { result
-        ≡ (list_all (λ x. allows_multiplier (sense_of x.0.kind) x.1) (zip rows.now multipliers.now)
-        && list_any (λ x. is_strict (sense_of x.0.kind) x.1) (zip rows.now multipliers.now)) }
+        ≡ (list_all (λ x. allows_multiplier (sense_of x.0.sense) x.1) (zip rows.now multipliers.now)
+        && list_any (λ x. is_strict (sense_of x.0.sense) x.1) (zip rows.now multipliers.now)) }
 {
     may_take_all(rows, multipliers) && has_strict(rows, multipliers)
 }
 
 /// Whether no row that says `at least` or `more` is taken away, and none says `not 0`.
 fn may_take_all(rows: &[Row], multipliers: &[i128]) -> bool
-    ensures { result
-        ≡ list_all (λ x. allows_multiplier (sense_of x.0.kind) x.1) (zip rows.now multipliers.now) }
+    ensures { result ≡ list_all (λ x. allows_multiplier (sense_of x.0.sense) x.1)
+        (zip rows.now multipliers.now) }
 {
     rows.iter()
         .zip(multipliers)
-        .all(|(row, multiplier)| may_take(row.kind, *multiplier))
+        .all(|(row, multiplier)| may_take(row.sense, *multiplier))
 }
 
-fn may_take(kind: RowSense, multiplier: i128) -> bool
-    ensures { result ≡ allows_multiplier (sense_of kind) multiplier }
+fn may_take(sense: RowSense, multiplier: i128) -> bool
+    ensures { result ≡ allows_multiplier (sense_of sense) multiplier }
 {
-    match kind {
+    match sense {
         RowSense::Zero => true,
         RowSense::AtLeast | RowSense::More => 0 <= multiplier,
         RowSense::Not => false,
@@ -128,15 +128,15 @@ fn may_take(kind: RowSense, multiplier: i128) -> bool
 /// Whether a row that says `more` is added.
 fn has_strict(rows: &[Row], multipliers: &[i128]) -> bool
     ensures { result
-        ≡ list_any (λ x. is_strict (sense_of x.0.kind) x.1) (zip rows.now multipliers.now) }
+        ≡ list_any (λ x. is_strict (sense_of x.0.sense) x.1) (zip rows.now multipliers.now) }
 {
     rows.iter()
         .zip(multipliers)
-        .any(|(row, multiplier)| is_strict(row.kind, *multiplier))
+        .any(|(row, multiplier)| is_strict(row.sense, *multiplier))
 }
 
-fn is_strict(kind: RowSense, multiplier: i128) -> bool
-    ensures { result ≡ Rattle.e_literal.specs.Absurd.is_strict (sense_of kind) multiplier }
+fn is_strict(sense: RowSense, multiplier: i128) -> bool
+    ensures { result ≡ Rattle.e_literal.specs.Absurd.is_strict (sense_of sense) multiplier }
 {
-    kind == RowSense::More && 1 <= multiplier
+    sense == RowSense::More && 1 <= multiplier
 }

@@ -7,7 +7,7 @@ ghost use Rattle.e_literal.specs.Same.{term_eq};
 ghost use Rattle.e_literal.specs.Rows.{coefficient, terms_of_rows};
 ghost use Rattle.e_literal.specs.Width.{has_constant, constants, width_over, is_among};
 ghost use Rattle.e_literal.specs.Minor.{IsWide};
-ghost use Rattle.e_fraction.specs.Views.{sense_of, all_seen};
+ghost use Rattle.e_fraction.specs.Views.{sense_of, views_of_rows};
 
 use crate::row::{Row, RowSense};
 use crate::signed::has_summand;
@@ -18,8 +18,8 @@ use e_literal::Term;
 /// product is greater. Before that cap it is at least the size of every minor, so the width of rows
 /// that are wide is at least 2^63.
 pub fn width(rows: &[Row]) -> u128
-    ensures value { result ≡ Rattle.e_literal.specs.Width.width (all_seen rows.now) }
-    ensures wide { IsWide (all_seen rows.now) → 2 ^ 63 ≤ result }
+    ensures value { result ≡ Rattle.e_literal.specs.Width.width (views_of_rows rows.now) }
+    ensures wide { IsWide (views_of_rows rows.now) → 2 ^ 63 ≤ result }
 {
     let mut product = constants(rows);
     for (i, row) in rows.iter().enumerate() {
@@ -30,16 +30,16 @@ pub fn width(rows: &[Row]) -> u128
 
 /// How many rows have a constant, or 1.
 fn constants(rows: &[Row]) -> u128
-    ensures { result ≡ Rattle.e_literal.specs.Width.constants (all_seen rows.now) }
+    ensures { result ≡ Rattle.e_literal.specs.Width.constants (views_of_rows rows.now) }
 {
-    let count = rows.iter().filter(|row| has_constant(row.kind)).count();
+    let count = rows.iter().filter(|row| has_constant(row.sense)).count();
     (count as u128).max(1)
 }
 
-fn has_constant(kind: RowSense) -> bool
-    ensures { result ≡ Rattle.e_literal.specs.Width.has_constant (sense_of kind) }
+fn has_constant(sense: RowSense) -> bool
+    ensures { result ≡ Rattle.e_literal.specs.Width.has_constant (sense_of sense) }
 {
-    match kind {
+    match sense {
         RowSense::More | RowSense::Not => true,
         RowSense::Zero | RowSense::AtLeast => false,
     }
@@ -47,9 +47,10 @@ fn has_constant(kind: RowSense) -> bool
 
 /// The product, times the weights of the terms of a row that are in no row before it.
 fn times_weights(product: u128, rows: &[Row], before: &[Row], row: &Row) -> u128
-    requires { product ≡ width_over (all_seen rows.now) (terms_of_rows (all_seen before.now)) }
-    ensures { result ≡ width_over (all_seen rows.now)
-        (terms_of_rows (all_seen (before.now ++ row.now ∷ []))) }
+    requires { product
+        ≡ width_over (views_of_rows rows.now) (terms_of_rows (views_of_rows before.now)) }
+    ensures { result ≡ width_over (views_of_rows rows.now)
+        (terms_of_rows (views_of_rows (before.now ++ row.now ∷ []))) }
 {
     let form = row.form.summands();
     let mut product = product;
@@ -65,7 +66,7 @@ fn times_weights(product: u128, rows: &[Row], before: &[Row], row: &Row) -> u128
 /// Whether the term is neither in one of the rows nor in the form.
 fn is_new(rows: &[Row], form: &[(i64, Term)], term: Term) -> bool
     ensures { result
-        ≡ not (is_among (terms_of_rows (all_seen rows.now) ++ map (λ p. p.1) form.now) term) }
+        ≡ not (is_among (terms_of_rows (views_of_rows rows.now) ++ map (λ p. p.1) form.now) term) }
 {
     !has_summand(form, term) && !occurs(rows, term)
 }
@@ -80,7 +81,7 @@ fn occurs(rows: &[Row], term: Term) -> bool
 
 /// The sum of the sizes of the term's coefficients, or 1.
 fn weight(rows: &[Row], term: Term) -> u128
-    ensures { result ≡ Rattle.e_literal.specs.Width.weight (all_seen rows.now) term }
+    ensures { result ≡ Rattle.e_literal.specs.Width.weight (views_of_rows rows.now) term }
 {
     sizes(rows, term).max(1)
 }

@@ -22,10 +22,10 @@ pub size_erased : (s : Script) → size (erased s) ≡ size s
 unfolding size erased
 size_erased (Cite by rest) = ap (λ n. 1 + n) (size_erased rest)
 size_erased (Hence lit cert rest) = ap (λ n. 1 + n) (size_erased rest)
-size_erased (Make form names certs rest) = ap (λ n. 1 + n) (size_erased rest)
+size_erased (Make construction names certs rest) = ap (λ n. 1 + n) (size_erased rest)
 size_erased (Apply theorem args names certs rest) = ap (λ n. 1 + n) (size_erased rest)
 size_erased (Claim shown inner rest) = ap (λ n. 1 + n + size (erased rest)) (size_erased inner) ∙ ap (λ n. 1 + size inner + n) (size_erased rest)
-size_erased (Superposed form names shown certs inner rest) = ap (λ n. 1 + n + size (erased rest)) (size_erased inner) ∙ ap (λ n. 1 + size inner + n) (size_erased rest)
+size_erased (Superposed superposition names shown certs inner rest) = ap (λ n. 1 + n + size (erased rest)) (size_erased inner) ∙ ap (λ n. 1 + size inner + n) (size_erased rest)
 size_erased (Qed objects certs) = refl
 size_erased (Contradiction against) = refl
 size_erased (Cases lit first second) = ap (λ n. 1 + n + size (erased second)) (size_erased first) ∙ ap (λ n. 1 + size first + n) (size_erased second)
@@ -47,10 +47,10 @@ small_with bs (Cite by rest) f g s facts more goal aim h =
 small_with bs (Hence lit cert rest) f g s facts more goal aim h =
     let p = and_parts (is_small s) (list_all is_small_line (placed_steps bs (erased rest) (rest_of f) s (joined facts lit) goal)) h in
     and_from _ _ p.0 (small_with bs rest (rest_of f) (rest_of g) s (joined facts lit) (joined more lit) goal aim p.1)
-small_with bs (Make form names certs rest) f g s facts more goal aim h =
-    let t = grown s (sorts_made form) in
-    let p = and_parts (is_small s) (list_all is_small_line (placed_steps bs (erased rest) (rest_of f) t (joined_all facts (gives_of_construction form s)) goal)) h in
-    and_from _ _ p.0 (small_with bs rest (rest_of f) (rest_of g) t (joined_all facts (gives_of_construction form s)) (joined_all more (gives_of_construction form s)) goal aim p.1)
+small_with bs (Make construction names certs rest) f g s facts more goal aim h =
+    let t = grown s (sorts_made construction) in
+    let p = and_parts (is_small s) (list_all is_small_line (placed_steps bs (erased rest) (rest_of f) t (joined_all facts (gives_of_construction construction s)) goal)) h in
+    and_from _ _ p.0 (small_with bs rest (rest_of f) (rest_of g) t (joined_all facts (gives_of_construction construction s)) (joined_all more (gives_of_construction construction s)) goal aim p.1)
 small_with bs (Apply theorem args names certs rest) f g s facts more goal aim h =
     let u = theorem_at bs theorem in
     let t = grown s u.made in
@@ -64,9 +64,9 @@ small_with bs (Claim shown inner rest) f g s facts more goal aim h =
     and_from _ _ p.0
     (all_both is_small_line (placed_steps bs inner (inner_of g) s more (goal_of shown)) _ (small_with bs inner (inner_of f) (inner_of g) s facts more (goal_of shown) (goal_of shown) q.0)
     (small_with bs rest (rest_of f) (rest_of g) s (joined_all facts shown) (joined_all more shown) goal aim q.1))
-small_with bs (Superposed form names shown certs inner rest) f g s facts more goal aim h =
+small_with bs (Superposed superposition names shown certs inner rest) f g s facts more goal aim h =
     let t = grown s superposing.sorts_copied in
-    let given = superposing.gives_of_superposition form s in
+    let given = superposing.gives_of_superposition superposition s in
     let inside = placed_steps bs (erased inner) (inner_of f) t (joined_all facts given) (goal_of shown) in
     let after = placed_steps bs (erased rest) (rest_of f) s (joined_all facts shown) goal in
     let p = and_parts (is_small s) (list_all is_small_line (inside ++ after)) h in

@@ -44,7 +44,7 @@ abbrev pub number_of_line : Result LineView LineFault → ℕ
 number_of_line (Ok l) = l.number
 number_of_line (Err f) = line_of_fault f
 
--- nothing stands after the last line
+-- nothing comes after the last line
 abbrev pub JudgedAfter : ℕ → Rest → Judgement
 JudgedAfter n [] = Verified n
 JudgedAfter n (x ∷ xs) = Garbled (number_of_line x)

@@ -1,5 +1,5 @@
 -- What is known of the lines that are read.
-pub mod FormsByWord
+pub mod RawLinesByWord
 pub mod LinesByWord
 pub mod LitsByWord
 pub mod ItemsOfWords

@@ -1,4 +1,4 @@
--- The words of each form.
+-- The words of each raw line.
 use Rattle.std.specs.Prelude.{ℕ, Bool, true, false, Option, Some, None, List, [], ◌∷◌, ◌++◌, map}
 use Rattle.std.specs.Prelude.{codes, decimal, ◌==◌, if◌then◌else◌}
 use Rattle.e_text.specs.Tokens.{joined_words}
@@ -156,4 +156,4 @@ raw_line_words rawlines.End = codes "end" ∷ []
 
 -- a line without its end
 abbrev pub line_of : RawLine → List ℕ
-line_of form = joined_words (raw_line_words form)
+line_of raw_line = joined_words (raw_line_words raw_line)

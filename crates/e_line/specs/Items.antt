@@ -90,17 +90,17 @@ unfoldable pub book_line_of : List (List ℕ) → Result BookLine FaultKind
 book_line_of [] = Err Malformed
 book_line_of (w ∷ ws) = line_named w ws
 
--- ---- a line that takes literals, with these literals
+-- ---- the raw line of a line that takes literals, with these literals
 
 abbrev pub raw_superpose_line : (args new : List (List ℕ)) → List RawLit → RawLine
 raw_superpose_line args new shown =
     rawlines.Superpose (record { args = args; new = new; shown = shown })
 
-abbrev pub listing_form : Listing → List RawLit → RawLine
-listing_form Given raws = rawlines.Given raws
-listing_form Show raws = rawlines.Show raws
-listing_form Claim raws = rawlines.Claim raws
-listing_form (Superpose args new) raws = raw_superpose_line args new raws
+abbrev pub listing_raw_line : Listing → List RawLit → RawLine
+listing_raw_line Given raws = rawlines.Given raws
+listing_raw_line Show raws = rawlines.Show raws
+listing_raw_line Claim raws = rawlines.Claim raws
+listing_raw_line (Superpose args new) raws = raw_superpose_line args new raws
 
 abbrev pub is_show : Listing → Bool
 is_show Show = true

@@ -52,7 +52,7 @@ most_blanks = 6
 abbrev pub most_notions : ℕ
 most_notions = 200
 
--- literals that items stand for, in one theorem or one definition
+-- literals that items mean, in one theorem or one definition
 abbrev pub most_expanded : ℕ
 most_expanded = 4096
 

@@ -1,4 +1,4 @@
--- The forms of literals, by their spelling alone.
+-- Literals as they are spelled, by their words alone.
 use Rattle.std.specs.Prelude.{ℕ, Bool, true, false, ◌&&◌, ◌==◌, List, [], ◌∷◌, ◌++◌, length, take}
 use Rattle.std.specs.Prelude.{drop, Option, Some, None, is_some, Result, Ok, Err, codes}
 use Rattle.std.specs.Prelude.{if◌then◌else◌}
@@ -61,7 +61,7 @@ sides_of signs.Differ left right =
 sides_of signs.Less left right = sums_of left right >>= λ p. Ok (SumsLess p.0 p.1)
 sides_of signs.AtMost left right = sums_of left right >>= λ p. Ok (SumsAtMost p.0 p.1)
 
--- != is a negation, and not may stand before neither it nor <=
+-- != is a negation, and not may come before neither it nor <=
 abbrev pub negation_of : Bool → Sign → Result Bool FaultKind
 negation_of negated signs.Equal = Ok negated
 negation_of true signs.Differ = Err Malformed

@@ -1,4 +1,4 @@
--- Lines that are spelled as their form is.
+-- Lines that are spelled as their raw line is.
 use Rattle.std.specs.Prelude.{ℕ, Bool, true, false, not, ◌&&◌, ◌==◌, List, length, is_some, Result}
 use Rattle.std.specs.Prelude.{Ok, Err, if◌then◌else◌}
 use Rattle.std.specs.List.{list_all}
@@ -35,9 +35,9 @@ is_strict_line (rawlines.Apply a) = list_all is_some a.args
 is_strict_line (rawlines.Claim ls) = are_direct ls
 is_strict_line (rawlines.Superpose s) = are_direct s.shown
 is_strict_line (rawlines.Cases l) = is_direct l
-is_strict_line form = true
+is_strict_line raw_line = true
 
--- the form of a line of these words that is spelled as this form is
+-- the raw line of a line of these words that is spelled as this raw line is
 unfoldable pub exact_line_of : List ℕ → List (List ℕ) → Result RawLine FaultKind
 exact_line_of line words =
     raw_line_of words

@@ -24,8 +24,8 @@ unfoldable pub term_of : List (List ℕ) → Result RawTerm FaultKind
 term_of [] = Err Malformed
 term_of (w ∷ ws) = term_named w ws
 
--- the value of a numeral, whatever its length: one more than a coefficient may be stands for all
--- that are too large
+-- the value of a numeral, whatever its length: of all that are too large it is one more than a
+-- coefficient may be
 abbrev pub coefficient_of : List ℕ → ℕ
 coefficient_of w = min (value_from 0 w) (most_coefficient + 1)
 

@@ -50,7 +50,7 @@ pub enum What {
     Blanks,
     /// Definitions of a book, at most 200.
     Notions,
-    /// Literals that items stand for, in one theorem or one definition, at most 4,096.
+    /// Literals that items mean, in one theorem or one definition, at most 4,096.
     Expanded,
     /// A number of a figure: at most 1,000,000 in size, and a square at most 10^12.
     Number,

@@ -208,7 +208,7 @@ fn line_named(
 
 /// A line of a book, by its words alone.
 #[tactic(auto, unfolding(crate::specs::Items::book_line_of))]
-pub fn line_of(alloc: Global, words: &[&[u8]]) -> Result<BookLine, LineError>
+pub fn book_line_of(alloc: Global, words: &[&[u8]]) -> Result<BookLine, LineError>
     ensures { Gives (λ l. l) result (book_line_of (texts words.now)) }
 {
     match words {

@@ -19,7 +19,7 @@ mod words;
 
 pub use applies::RawApply;
 pub use fault::{BookFault, FaultKind, LineError, What, of_line};
-pub use items::{BookLine, Listing, RawAs, RawItem, line_of};
+pub use items::{BookLine, Listing, RawAs, RawItem, book_line_of};
 pub use lets::RawLet;
 pub use limits::{count_of, few_monos, within};
 pub use lines::{

@@ -1,5 +1,5 @@
-//! The line of each form, with the names that it has, and without its end. It fails only out of
-//! memory.
+//! The line of each raw line, with the names that it has, and without its end. It fails only out
+//! of memory.
 ghost use Rattle.std.specs.Prelude.{◌≡◌, ◌++◌, ◌∷◌, [], codes, map, OnOk};
 ghost use Rattle.e_text.specs.Tokens.{spaced};
 ghost use Rattle.e_construct.specs.Views.{piece_view};
@@ -258,7 +258,7 @@ pub fn put_word_and_lit(out: &mut Vec<u8>, word: &[u8], lit: &RawLit) -> Result<
     put_literal(out, lit)
 }
 
-/// Writes the line of a form.
+/// Writes a raw line as it is spelled.
 pub fn put_raw_line(out: &mut Vec<u8>, raw_line: &RawLine) -> Result<(), AllocError>
     ensures { OnOk result (out.new.items ≡ out.old.items ++ line_of raw_line.now) }
 {

@@ -1,4 +1,4 @@
-//! The forms of literals, known from their words by spelling alone.
+//! Literals as they are spelled, known from their words alone.
 ghost use Rattle.std.specs.Prelude.{◌≡◌, ◌∷◌, ◌≤◌, List, length};
 ghost use Rattle.std.specs.List.{list_all, position_or_len};
 ghost use Rattle.e_line.specs.Reading.{texts, Gives, Moves, with_front};

@@ -1,4 +1,4 @@
-//! The forms of lines, known from their words by spelling alone.
+//! Raw lines: lines as they are spelled, known from their words alone.
 ghost use Rattle.std.specs.Prelude.{◌≡◌, List, length, IfOk, [], ◌∷◌, ◌==◌};
 ghost use Rattle.e_line.specs.Reading.{texts, Gives};
 ghost use Rattle.e_line.specs.RawLines.{declare_of, sort_of, made_of, by_of};
@@ -197,7 +197,7 @@ fn raw_line_named(alloc: Global, word: &[u8], rest: &[&[u8]]) -> Result<RawLine,
     Err(LineError::Fault(FaultKind::Malformed))
 }
 
-/// The form of a line, by its words alone.
+/// The raw line of a line, by its words alone.
 #[tactic(auto, unfolding(crate::specs::RawLines::raw_line_of))]
 pub fn raw_line_of(alloc: Global, words: &[&[u8]]) -> Result<RawLine, LineError>
     ensures { Gives (λ f. f) result (raw_line_of (texts words.now)) }

@@ -1,4 +1,4 @@
-//! Lines that are spelled as their form is.
+//! Lines that are spelled as their raw line is.
 ghost use Rattle.std.specs.Prelude.{◌≡◌, is_some, IfOk};
 ghost use Rattle.std.specs.List.{list_all};
 ghost use Rattle.e_line.specs.Canonical.{line_of};
@@ -56,7 +56,7 @@ fn is_strict(raw_line: &RawLine) -> bool
     }
 }
 
-/// The line of a form, made in room for this many bytes.
+/// The line of a raw line, made in room for this many bytes.
 fn line_of(alloc: Global, raw_line: &RawLine, room: usize) -> Result<Vec<u8>, AllocError>
     ensures { IfOk result (λ line. line.items ≡ line_of raw_line.now) }
 {
@@ -65,7 +65,7 @@ fn line_of(alloc: Global, raw_line: &RawLine, room: usize) -> Result<Vec<u8>, Al
     Ok(line)
 }
 
-/// The form of a line of these words that is spelled as this form is.
+/// The raw line of a line of these words that is spelled as this raw line is.
 #[tactic(auto, unfolding(crate::specs::Strict::exact_line_of))]
 pub fn exact_line_of(alloc: Global, line: &[u8], words: &[&[u8]]) -> Result<RawLine, LineError>
     ensures { Gives (λ f. f) result (exact_line_of line.now (texts words.now)) }

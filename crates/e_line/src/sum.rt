@@ -1,4 +1,4 @@
-//! The forms of sums, known from their words by spelling alone.
+//! Sums as they are spelled, known from their words alone.
 ghost use Rattle.std.specs.Prelude.{◌≡◌, true};
 ghost use Rattle.e_line.specs.Reading.{texts, Gives, Moves, with_front, each};
 ghost use Rattle.e_line.specs.Sums.{term_named, term_of, coefficient_of};

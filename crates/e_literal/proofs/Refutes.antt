@@ -170,10 +170,10 @@ one_strict More m z a b = mul-positive m z (is_more m a) b
 one_strict Not m z a b = absurd (true≢false (sym a))
 
 abbrev good : Weighed → Bool
-good w = allows_multiplier w.row.says w.multiplier
+good w = allows_multiplier w.row.sense w.multiplier
 
 abbrev strict : Weighed → Bool
-strict w = is_strict w.row.says w.multiplier
+strict w = is_strict w.row.sense w.multiplier
 
 value-not_negative : (ws : List Weighed) (v : Term → ℕ) → list_all good ws ≡ true → Satisfy v (map (λ w. w.row) ws) → pos 0 ≤ℤ weighed_value ws v
 value-not_negative [] v a s = omega (arith, sums)
@@ -181,7 +181,7 @@ value-not_negative (w ∷ ws) v a s =
     omega (
       arith,
       sums,
-      one_row w.row.says w.multiplier (form_value w.row.form v) (and_left (good w) (list_all good ws) a) s.0,
+      one_row w.row.sense w.multiplier (form_value w.row.form v) (and_left (good w) (list_all good ws) a) s.0,
       value-not_negative ws v (and_right (good w) (list_all good ws) a) s.1,
     )
 
@@ -191,13 +191,13 @@ value-positive (w ∷ ws) v a b s = elim (or_cases (strict w) (list_any strict w
   | inl e ↦ omega (
     arith,
     sums,
-    one_strict w.row.says w.multiplier (form_value w.row.form v) e s.0,
+    one_strict w.row.sense w.multiplier (form_value w.row.form v) e s.0,
     value-not_negative ws v (and_right (good w) (list_all good ws) a) s.1,
   )
   | inr r ↦ omega (
     arith,
     sums,
-    one_row w.row.says w.multiplier (form_value w.row.form v) (and_left (good w) (list_all good ws) a) s.0,
+    one_row w.row.sense w.multiplier (form_value w.row.form v) (and_left (good w) (list_all good ws) a) s.0,
     value-positive ws v (and_right (good w) (list_all good ws) a) r s.1,
   )
 ]

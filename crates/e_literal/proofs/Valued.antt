@@ -325,7 +325,7 @@ not_eqb_of a b h = elim (cases_Bool (eqb a b)) [
 
 -- what the row of an atom says is so exactly where the atom is true
 abbrev IsSoWhere : (Term → ℕ) → Atom → Bool → Row → Type 0
-IsSoWhere w a neg r = (metric_atom_holds (carried w) a neg ≡ true → IsSo r.says (form_value r.form w)) × (IsSo r.says (form_value r.form w) → metric_atom_holds (carried w) a neg ≡ true)
+IsSoWhere w a neg r = (metric_atom_holds (carried w) a neg ≡ true → IsSo r.sense (form_value r.form w)) × (IsSo r.sense (form_value r.form w) → metric_atom_holds (carried w) a neg ≡ true)
 
 row_value : (w : Term → ℕ) (x y : List Mono) → form_value (normal_summands (plus x ++ minus y)) w ≡ pos (value_of (carried w) x) -ℤ pos (value_of (carried w) y)
 row_value w x y = normal_value (plus x ++ minus y) w ∙ difference x y (carried w)
@@ -368,11 +368,11 @@ row_where w a false r e (inl (inr p)) =
 row_where w a neg r e (inr d) = absurd (none-some r (sym (d.no_row neg) ∙ e))
 
 -- the row of a true literal is so
-pub so_of_holds : (l : Lit) (r : Row) (w : Term → ℕ) → row_of_lit l ≡ Some r → holds (carried w) l ≡ true → IsSo r.says (form_value r.form w)
+pub so_of_holds : (l : Lit) (r : Row) (w : Term → ℕ) → row_of_lit l ≡ Some r → holds (carried w) l ≡ true → IsSo r.sense (form_value r.form w)
 so_of_holds l r w e h = (row_where w l.atom l.neg r e (split l.atom)).0 h
 
 -- a literal whose row is so is true
-pub holds_of_so : (l : Lit) (r : Row) (w : Term → ℕ) → row_of_lit l ≡ Some r → IsSo r.says (form_value r.form w) → holds (carried w) l ≡ true
+pub holds_of_so : (l : Lit) (r : Row) (w : Term → ℕ) → row_of_lit l ≡ Some r → IsSo r.sense (form_value r.form w) → holds (carried w) l ≡ true
 holds_of_so l r w e h = (row_where w l.atom l.neg r e (split l.atom)).1 h
 
 -- ---- coefficients of negatives

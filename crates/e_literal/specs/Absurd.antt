@@ -32,5 +32,5 @@ is_strict _ n = false
 abbrev pub is_absurd : List Weighed → Bool
 is_absurd ws =
     list_all (λ t. int_eq (total ws t) (pos 0)) (terms_of_rows (map (λ w. w.row) ws))
-    && (list_all (λ w. allows_multiplier w.row.says w.multiplier) ws
-    && list_any (λ w. is_strict w.row.says w.multiplier) ws)
+    && (list_all (λ w. allows_multiplier w.row.sense w.multiplier) ws
+    && list_any (λ w. is_strict w.row.sense w.multiplier) ws)

@@ -20,7 +20,7 @@ IsSo Not z = z ≢ pos 0
 -- the values satisfy each row
 abbrev pub Satisfy : (Term → ℕ) → List Row → Type 0
 Satisfy values [] = Unit {0}
-Satisfy values (r ∷ rs) = IsSo r.says (form_value r.form values) × Satisfy values rs
+Satisfy values (r ∷ rs) = IsSo r.sense (form_value r.form values) × Satisfy values rs
 
 -- some values satisfy the rows
 pub record HasSolution (rows : List Row) : Type 0 where

@@ -89,7 +89,7 @@ impl Map {
     }
 
     /// Whether the object with this number has an image.
-    pub(crate) fn has(&self, sort: Sort, number: u16) -> bool
+    pub(crate) fn has_image(&self, sort: Sort, number: u16) -> bool
         ensures { result ≡ is_some (image_in self.now (obj sort number)) }
     {
         self.image(Obj { sort, num: number }).is_some()

@@ -20,7 +20,7 @@ use std::alloc::{AllocError, Global};
 pub fn rename(alloc: Global, lit: &Lit, map: &Map) -> Result<Option<Lit>, AllocError>
     ensures { IfOk result (λ r. r ≡ Rename.rename (image_in map.now) lit.now) }
 {
-    if !has_images(map, &lit.atom) {
+    if !atom_has_images(map, &lit.atom) {
         return Ok(None);
     }
     let lit = renamed(alloc, lit, map)?;
@@ -37,26 +37,31 @@ pub fn renamed(alloc: Global, lit: &Lit, map: &Map) -> Result<Lit, AllocError>
     Ok(Lit { neg: lit.neg, atom })
 }
 
-fn has_images(map: &Map, atom: &Atom) -> bool
+fn atom_has_images(map: &Map, atom: &Atom) -> bool
     ensures { result ≡ list_all (λ o. is_some (image_in map.now o)) (objects_of_atom atom.now) }
 {
     match atom {
-        Atom::On(a, l) => map.has(Sort::Point, *a) && map.has(Sort::Line, *l),
+        Atom::On(a, l) => map.has_image(Sort::Point, *a) && map.has_image(Sort::Line, *l),
         Atom::OnC(a, c) | Atom::Inside(a, c) | Atom::Center(a, c) => {
-            map.has(Sort::Point, *a) && map.has(Sort::Circle, *c)
+            map.has_image(Sort::Point, *a) && map.has_image(Sort::Circle, *c)
         }
         Atom::Between(a, b, c) => {
-            map.has(Sort::Point, *a) && map.has(Sort::Point, *b) && map.has(Sort::Point, *c)
+            map.has_image(Sort::Point, *a)
+                && map.has_image(Sort::Point, *b)
+                && map.has_image(Sort::Point, *c)
         }
         Atom::Same(a, b, l) => {
-            map.has(Sort::Point, *a) && map.has(Sort::Point, *b) && map.has(Sort::Line, *l)
+            map.has_image(Sort::Point, *a)
+                && map.has_image(Sort::Point, *b)
+                && map.has_image(Sort::Line, *l)
         }
-        Atom::MeetLL(l, m) | Atom::EqL(l, m) => map.has(Sort::Line, *l) && map.has(Sort::Line, *m),
-        Atom::MeetLC(l, c) => map.has(Sort::Line, *l) && map.has(Sort::Circle, *c),
+        Atom::MeetLL(l, m) | Atom::EqL(l, m) => map.has_image(Sort::Line, *l)
+            && map.has_image(Sort::Line, *m),
+        Atom::MeetLC(l, c) => map.has_image(Sort::Line, *l) && map.has_image(Sort::Circle, *c),
         Atom::MeetCC(c, d) | Atom::EqC(c, d) => {
-            map.has(Sort::Circle, *c) && map.has(Sort::Circle, *d)
+            map.has_image(Sort::Circle, *c) && map.has_image(Sort::Circle, *d)
         }
-        Atom::EqP(a, b) => map.has(Sort::Point, *a) && map.has(Sort::Point, *b),
+        Atom::EqP(a, b) => map.has_image(Sort::Point, *a) && map.has_image(Sort::Point, *b),
         Atom::MagEq(x, y) | Atom::MagLt(x, y) => {
             sum_has_images(map, x.items()) && sum_has_images(map, y.items())
         }
@@ -73,9 +78,11 @@ fn term_has_images(map: &Map, term: Term) -> bool
     ensures { result ≡ list_all (λ o. is_some (image_in map.now o)) (objects_of_term term) }
 {
     match term {
-        Term::Seg(a, b) => map.has(Sort::Point, a) && map.has(Sort::Point, b),
+        Term::Seg(a, b) => map.has_image(Sort::Point, a) && map.has_image(Sort::Point, b),
         Term::Ang(a, b, c) | Term::Area(a, b, c) => {
-            map.has(Sort::Point, a) && map.has(Sort::Point, b) && map.has(Sort::Point, c)
+            map.has_image(Sort::Point, a)
+                && map.has_image(Sort::Point, b)
+                && map.has_image(Sort::Point, c)
         }
         Term::Right => true,
     }

@@ -18,7 +18,7 @@ has_no_zero form = list_all (λ p. not (int_eq p.0 (pos 0))) form
 -- the row says the same of a form with the same coefficients, in which each term occurs once and
 -- none with 0
 pub record IsRow (given : GivenRow) (r : Row) : Type 0 where
-  pub says : sense_of given.kind ≡ r.says
+  pub sense : sense_of given.sense ≡ r.sense
   pub coefficients : (t : Term) → coefficient given.form t ≡ coefficient r.form t
   pub no_zero : IsTrue (has_no_zero given.form)
 

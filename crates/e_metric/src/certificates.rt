@@ -4,7 +4,7 @@ ghost use Rattle.std.specs.Prelude.{◌≡◌, ℕ, ◌+◌, ◌<◌, ◌≤◌,
 ghost use Rattle.std.specs.Prelude.{get_or, set, pos, unsigned_abs, IfOk, OnOk, IsTrue};
 ghost use Rattle.e_literal.specs.Absurd;
 ghost use Rattle.e_fraction.specs.Limits.{most_rows_of_system, all_small};
-ghost use Rattle.e_fraction.specs.Views.{weighed, all_seen};
+ghost use Rattle.e_fraction.specs.Views.{weighed, views_of_rows};
 ghost use Rattle.e_simplex.specs.Answer.{IsAbsurdity};
 ghost use Rattle.e_clause.specs.declared.cert.RowName.TheVariants as name;
 ghost use Rattle.e_clause.specs.declared.cert.Sums.TheVariants.{Two as TwoSums};
@@ -283,7 +283,7 @@ pub fn sums_of(
     requires names { length names.items ≡ length rows.now }
     requires few { length rows.now ≤ most_rows_of_system }
     requires coefficients { IsTrue (all_small rows.now) }
-    requires refuted { IsAbsurdity (all_seen rows.now) absurdity.now }
+    requires refuted { IsAbsurdity (views_of_rows rows.now) absurdity.now }
     ensures { IfOk result
         (λ s. s ≡ Certificate.certificate_sums names.items rows.now terms.now absurdity.now) }
 {

@@ -10,7 +10,7 @@ ghost use Rattle.e_clause.specs.Metric.{MetricConsequence, Unsatisfiable};
 ghost use Rattle.e_clause.specs.Laws.{is_well_formed_metric};
 ghost use Rattle.e_clause.specs.LimitedFacts.{most_terms_of_step};
 ghost use Rattle.e_fraction.specs.Limits.{most_rows_of_system, all_small};
-ghost use Rattle.e_fraction.specs.Views.{all_seen};
+ghost use Rattle.e_fraction.specs.Views.{views_of_rows};
 ghost use Rattle.e_simplex.specs.Answer.{IsAbsurdity};
 ghost use Rattle.e_metric.specs.inner.Certificate;
 ghost use Rattle.e_metric.specs.ListedTerms.{distinct_terms, with_listed};
@@ -90,7 +90,7 @@ pub fn certificate_of(
     requires names { length names.items ≡ length rows.now }
     requires few { length rows.now ≤ most_rows_of_system }
     requires coefficients { IsTrue (all_small rows.now) }
-    requires refuted { IsAbsurdity (all_seen rows.now) absurdity.now }
+    requires refuted { IsAbsurdity (views_of_rows rows.now) absurdity.now }
     ensures { IfOk result (λ m. m.sums ≡ Certificate.certificate_sums names.items
         rows.now (with_listed (distinct_terms which facts.now (option_copied wanted.entry))
         (Term.Right ∷ [])) absurdity.now) }

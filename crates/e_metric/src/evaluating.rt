@@ -3,7 +3,7 @@
 ghost use Rattle.std.specs.Prelude.{◌≡◌, true, IfSome, IfOk};
 ghost use Rattle.e_literal.specs.Solution;
 ghost use Rattle.e_literal.specs.Solution.{IsSo, Satisfy};
-ghost use Rattle.e_fraction.specs.Views.{sense_of, all_seen};
+ghost use Rattle.e_fraction.specs.Views.{sense_of, views_of_rows};
 ghost use Rattle.e_simplex.specs.Answer;
 ghost use Rattle.e_metric.specs.inner.FurtherRows;
 
@@ -30,12 +30,12 @@ fn form_value(values: &[(Term, u128)], form: &[(i64, Term)]) -> Option<i128>
 
 // Whether a row is seen to be so.
 fn is_so(values: &[(Term, u128)], row: &Row) -> bool
-    ensures { result ≡ true → IsSo (sense_of row.now.kind)
+    ensures { result ≡ true → IsSo (sense_of row.now.sense)
         (Solution.form_value row.now.form (Answer.assigned values.now)) }
 {
     match form_value(values, row.form.summands()) {
         None => false,
-        Some(value) => match row.kind {
+        Some(value) => match row.sense {
             RowSense::Zero => value == 0,
             RowSense::AtLeast => value >= 0,
             RowSense::More => value > 0,
@@ -46,7 +46,7 @@ fn is_so(values: &[(Term, u128)], row: &Row) -> bool
 
 /// Whether each row is seen to be so with these values.
 pub fn are_so(values: &[(Term, u128)], rows: &[Row]) -> bool
-    ensures { result ≡ true → Satisfy (Answer.assigned values.now) (all_seen rows.now) }
+    ensures { result ≡ true → Satisfy (Answer.assigned values.now) (views_of_rows rows.now) }
 {
     for row in rows {
         if !is_so(values, row) {

@@ -36,19 +36,19 @@ pub fn row_of(alloc: Global, atom: &Atom, neg: bool) -> Result<Option<Row>, Allo
 {
     match atom {
         Atom::MagEq(x, y) => {
-            let kind = if neg { RowSense::Not } else { RowSense::Zero };
+            let sense = if neg { RowSense::Not } else { RowSense::Zero };
             let form = difference(alloc, x.items(), y.items())?;
-            Ok(Some(Row { kind, form }))
+            Ok(Some(Row { sense, form }))
         }
         Atom::MagLt(x, y) => {
             if neg {
                 let form = difference(alloc, x.items(), y.items())?;
-                let kind = RowSense::AtLeast;
-                Ok(Some(Row { kind, form }))
+                let sense = RowSense::AtLeast;
+                Ok(Some(Row { sense, form }))
             } else {
                 let form = difference(alloc, y.items(), x.items())?;
-                let kind = RowSense::More;
-                Ok(Some(Row { kind, form }))
+                let sense = RowSense::More;
+                Ok(Some(Row { sense, form }))
             }
         }
         _ => Ok(None),

@@ -10,7 +10,7 @@ ghost use Rattle.e_clause.specs.Laws.{is_well_formed_metric};
 ghost use Rattle.e_clause.specs.LimitedFacts.{most_terms_of_step};
 ghost use Rattle.e_clause.specs.System;
 ghost use Rattle.e_clause.specs.System.{system, rows_of_system};
-ghost use Rattle.e_fraction.specs.Views.{all_seen};
+ghost use Rattle.e_fraction.specs.Views.{views_of_rows};
 ghost use Rattle.e_simplex.specs.Answer.{AreValuesOf, IsRefuted};
 ghost use Rattle.e_metric.specs.inner.FurtherRows.{values_extended};
 ghost use Rattle.e_metric.specs.SolvedSystems.{AreTogether, IsSolvedSystem};
@@ -47,7 +47,7 @@ pub fn copied_row(alloc: Global, row: &Row) -> Result<Row, AllocError>
 {
     let summands = Vec::from_slice(alloc, row.form.summands())?;
     Ok(Row {
-        kind: row.kind,
+        sense: row.sense,
         form: Signed::new(summands),
     })
 }
@@ -167,7 +167,8 @@ impl SolvedSystem {
         requires wanted { IsTrue (is_well_formed_metric (option_copied wanted)) }
         requires together { AreTogether which facts.now (option_copied wanted) self.now names.now
             rows.now }
-        requires refuted { IsRefuted (all_seen (self.now.solved_rows ++ rows.now)) absurdity.now }
+        requires refuted { IsRefuted
+            (views_of_rows (self.now.solved_rows ++ rows.now)) absurdity.now }
         ensures { IfOk result (IsMetricCertificate facts.now (option_copied wanted.entry)) }
     {
         let names = self.names_with(alloc, names)?;
@@ -235,7 +236,7 @@ impl SolvedSystem {
 
     /// The values that the facts have.
     pub fn values(&self, alloc: Global) -> Result<Values, AllocError>
-        ensures { IfOk result (AreValuesOf (all_seen self.now.solved_rows)) }
+        ensures { IfOk result (AreValuesOf (views_of_rows self.now.solved_rows)) }
     {
         let pairs = Vec::from_slice(alloc, self.solved_rows.values().items())?;
         Ok(Values::new(pairs))

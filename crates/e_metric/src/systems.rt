@@ -31,7 +31,7 @@ fn positive(alloc: Global, term: Term) -> Result<Row, AllocError>
         summands.push((1, canonical(term)))?;
     }
     Ok(Row {
-        kind: RowSense::More,
+        sense: RowSense::More,
         form: Signed::new(summands),
     })
 }
@@ -45,7 +45,7 @@ fn at_most_two_right(alloc: Global, a: u16, b: u16, c: u16) -> Result<Row, Alloc
     summands.push((2, Term::Right))?;
     summands.push((-1, canonical(Term::Ang(a, b, c))))?;
     Ok(Row {
-        kind: RowSense::AtLeast,
+        sense: RowSense::AtLeast,
         form: Signed::new(summands),
     })
 }

@@ -4,6 +4,6 @@ pub mod Citations
 pub mod InScope
 pub mod ItemsWritten
 pub mod NamedLiterals
-pub mod LiteralsOfForms
+pub mod LiteralsOfRawLines
 pub mod Uses
 pub mod WellRead

@@ -17,7 +17,7 @@ abbrev pub known_place : Option ℕ → Result ℕ FaultKind
 known_place None = Err UnknownName
 known_place (Some k) = Ok k
 
--- what stands for a declared object of a sort: an object of this sort, or a blank
+-- what is given for a declared object of a sort: an object of this sort, or a blank
 abbrev pub entry_in : Names → Sort → Option (List ℕ) → Result (Option Obj) FaultKind
 entry_in ns sort None = Ok None
 entry_in ns sort (Some name) = object_as ns sort name >>= λ o. Ok (Some o)
@@ -33,7 +33,7 @@ abbrev pub count_blanks : List (Option Obj) → ℕ
 count_blanks pattern = length (filter is_none pattern)
 
 -- the title, then how many arguments and new names there are, then the arguments, then the new
--- names, from left to right: the place of the theorem, and what stands for its declared
+-- names, from left to right: the place of the theorem, and what is given for its declared
 -- objects
 unfoldable pub apply_in : List TitledStatement → Names → RawApply
     → Result (ℕ × List (Option Obj)) FaultKind

@@ -1,4 +1,4 @@
--- The line of each step, with the names of its objects.
+-- The raw line of each step, with the names of its objects.
 use Rattle.std.specs.Prelude.{ℕ, Bool, true, false, Option, Some, None, List, [], ◌∷◌, map, codes}
 use Rattle.std.specs.Prelude.{slice_index_or}
 use Rattle.std.specs.Option.{option_map_or}
@@ -84,72 +84,72 @@ raw_of ns l = raw_signed ns l.neg l.atom
 abbrev pub rule_name : ℕ → List ℕ
 rule_name rule = option_map_or (λ n. n) (name_of_rule rule) []
 
-abbrev pub given_form : Names → Lit → RawLine
-given_form ns l = rawlines.Given (raw_of ns l ∷ [])
+abbrev pub given_raw_line : Names → Lit → RawLine
+given_raw_line ns l = rawlines.Given (raw_of ns l ∷ [])
 
-abbrev pub show_form : Names → Lit → RawLine
-show_form ns l = rawlines.Show (raw_of ns l ∷ [])
+abbrev pub show_raw_line : Names → Lit → RawLine
+show_raw_line ns l = rawlines.Show (raw_of ns l ∷ [])
 
-abbrev pub by_form : Names → By → RawLine
-by_form ns b = rawlines.By (rule_name b.rule) (map (name_of_object ns) b.args) (raw_of ns b.lit)
+abbrev pub by_raw_line : Names → By → RawLine
+by_raw_line ns b = rawlines.By (rule_name b.rule) (map (name_of_object ns) b.args) (raw_of ns b.lit)
 
-abbrev pub hence_form : Names → Lit → RawLine
-hence_form ns l = rawlines.Hence (raw_of ns l)
+abbrev pub hence_raw_line : Names → Lit → RawLine
+hence_raw_line ns l = rawlines.Hence (raw_of ns l)
 
--- the line of a construction, with names for the objects that it makes. Its words are those of
+-- the raw line of a construction, with names for the objects that it makes. Its words are those of
 -- other shapes too where these have the same line: the sorts of the arguments tell them apart.
-abbrev pub let_form : Names → Construction → List (List ℕ) → RawLine
-let_form ns form names =
+abbrev pub let_raw_line : Names → Construction → List (List ℕ) → RawLine
+let_raw_line ns construction names =
     rawlines.Let (record {
-      shapes = form.shape ∷ [];
+      shapes = construction.shape ∷ [];
       new = names;
-      args = map (name_of_object ns) form.args;
-      avoid = map (name_of_object ns) form.avoid;
+      args = map (name_of_object ns) construction.args;
+      avoid = map (name_of_object ns) construction.avoid;
     })
 
--- what stands for a declared object of an earlier theorem: the name of an object, or a blank
+-- what is given for a declared object of an earlier theorem: the name of an object, or a blank
 abbrev pub argument_name : Names → Option Obj → Option (List ℕ)
 argument_name ns None = None
 argument_name ns (Some o) = Some (name_of_object ns o)
 
--- the line that uses the theorem at a place, by its title
-abbrev pub apply_form : List TitledStatement → Names → ℕ → List (Option Obj)
+-- the raw line that uses the theorem at a place, by its title
+abbrev pub apply_raw_line : List TitledStatement → Names → ℕ → List (Option Obj)
     → List (List ℕ) → RawLine
-apply_form known ns theorem args names =
+apply_raw_line known ns theorem args names =
     rawlines.Apply
     (record { title = title_at known theorem; args = map (argument_name ns) args; new = names })
 
-abbrev pub claim_form : Names → List Lit → RawLine
-claim_form ns shown = rawlines.Claim (map (raw_of ns) shown)
+abbrev pub claim_raw_line : Names → List Lit → RawLine
+claim_raw_line ns shown = rawlines.Claim (map (raw_of ns) shown)
 
 -- the names of a superposition's points and lines, in the order of its line
 abbrev pub placed_names : Names → Superpose → List (List ℕ)
-placed_names ns form =
+placed_names ns superposition =
     point 0 ∷ point 1 ∷ point 2 ∷ line 0 ∷ point 3 ∷ point 4 ∷ point 5 ∷ line 1 ∷ []
   where
     point : ℕ → List ℕ
-    point i = name_at ns.points (slice_index_or form.points i 0)
+    point i = name_at ns.points (slice_index_or superposition.points i 0)
 
     line : ℕ → List ℕ
-    line i = name_at ns.lines (slice_index_or form.lines i 0)
+    line i = name_at ns.lines (slice_index_or superposition.lines i 0)
 
 -- the names before it are those of the objects and of the literals
-abbrev pub superpose_form : Names → Superpose → List (List ℕ) → List Lit → RawLine
-superpose_form ns form names shown =
+abbrev pub superpose_raw_line : Names → Superpose → List (List ℕ) → List Lit → RawLine
+superpose_raw_line ns superposition names shown =
     rawlines.Superpose
-    (record { args = placed_names ns form; new = names; shown = map (raw_of ns) shown })
+    (record { args = placed_names ns superposition; new = names; shown = map (raw_of ns) shown })
 
-abbrev pub cases_form : Names → Lit → RawLine
-cases_form ns lit = rawlines.Cases (raw_of ns lit)
+abbrev pub cases_raw_line : Names → Lit → RawLine
+cases_raw_line ns lit = rawlines.Cases (raw_of ns lit)
 
-abbrev pub else_form : RawLine
-else_form = rawlines.Else
+abbrev pub else_raw_line : RawLine
+else_raw_line = rawlines.Else
 
-abbrev pub qed_form : Names → List Obj → RawLine
-qed_form ns objects = rawlines.Qed (map (name_of_object ns) objects)
+abbrev pub qed_raw_line : Names → List Obj → RawLine
+qed_raw_line ns objects = rawlines.Qed (map (name_of_object ns) objects)
 
-abbrev pub contradiction_form : RawLine
-contradiction_form = rawlines.Contradiction
+abbrev pub contradiction_raw_line : RawLine
+contradiction_raw_line = rawlines.Contradiction
 
-abbrev pub end_form : RawLine
-end_form = rawlines.End
+abbrev pub end_raw_line : RawLine
+end_raw_line = rawlines.End

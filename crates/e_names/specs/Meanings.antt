@@ -1,4 +1,4 @@
--- What items stand for: literals of the objects in scope.
+-- What items mean: literals of the objects in scope.
 use Rattle.std.specs.Prelude.{ℕ, ◌+◌, ◌-◌, ◌==◌, List, [], ◌∷◌, ◌++◌, length, take, Option, Some}
 use Rattle.std.specs.Prelude.{None, Result, Ok, Err}
 use Rattle.e_literal.specs.declared.literal.Lit.{Lit}
@@ -28,15 +28,15 @@ meant_in notions ns most raw = do
   args ← objects_of_sorts ns n.declared raw.args
   Ok (take most (expanded n args (scope_of_names ns)))
 
--- what an item stands for, and how many literals of the line are of notions, of which this many
--- come before it. One more than a theorem may have stands for all that are too many: then the line
+-- what an item means, and how many literals of the line are of notions, of which this many
+-- come before it. One more than a theorem may have is for all that are too many: then the line
 -- passes a limit, whatever else it has.
 abbrev pub item_in : List Titled → Names → ℕ → RawItem → Result (List Lit × ℕ) FaultKind
 item_in notions ns n (Literal raw) = lit_in ns raw >>= λ l. Ok (l ∷ [], n)
 item_in notions ns n (As raw) =
     meant_in notions ns (most_expanded + 1 - n) raw >>= λ ls. Ok (ls, n + length ls)
 
--- what the items of a line stand for, in order, and how many of these literals are of notions
+-- what the items of a line mean, in order, and how many of these literals are of notions
 abbrev pub items_in : List Titled → Names → ℕ → List RawItem → Result (List Lit × ℕ) FaultKind
 items_in notions ns n [] = Ok ([], n)
 items_in notions ns n (item ∷ items) =

@@ -273,9 +273,9 @@ let_in ns l = do
   free ← fresh ns [] l.new
   args ← arguments_in ns l.shapes [] l.args
   avoid ← each (used ns) l.avoid
-  form ← first_fitting (scope_of_names ns) args avoid l.shapes
-  right ← right_count (length l.new == length (sorts_made form))
-  Ok form
+  construction ← first_fitting (scope_of_names ns) args avoid l.shapes
+  right ← right_count (length l.new == length (sorts_made construction))
+  Ok construction
 
 -- ---- the close
 

@@ -31,7 +31,7 @@ placed_in ns _ = Err Malformed
 -- the objects, then the new names, then the literals, in which the new names are not in scope yet
 unfoldable pub superpose_in : Names → RawSuperpose → Result (Superpose × List Lit) FaultKind
 superpose_in ns raw = do
-  form ← placed_in ns raw.args
+  superposition ← placed_in ns raw.args
   free ← fresh ns [] raw.new
   ls ← lits_in ns raw.shown
-  Ok (form, ls)
+  Ok (superposition, ls)

@@ -25,7 +25,7 @@ fn place_of_title(known: &Theorems, title: Title) -> Result<usize, LineError>
     }
 }
 
-/// What stands for a declared object of a sort: an object of this sort, or a blank.
+/// What is given for a declared object of a sort: an object of this sort, or a blank.
 fn entry_in(names: &Names, sort: Sort, name: Option<Name>) -> Result<Option<Obj>, LineError>
     requires { FewNames names.now }
     ensures { Gives (λ o. o) result (entry_in names.now sort name) }
@@ -64,7 +64,7 @@ pub fn count_blanks(pattern: &[Option<Obj>]) -> usize
     pattern.iter().filter(|entry| entry.is_none()).count()
 }
 
-/// The place of an earlier theorem, and what stands for its declared objects.
+/// The place of an earlier theorem, and what is given for its declared objects.
 #[derive(Drop)]
 pub struct Application {
     pub theorem: u32,

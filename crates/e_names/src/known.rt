@@ -33,7 +33,7 @@ impl Known {
     pub fn is_taken(&self, title: Title) -> bool
         ensures { result ≡ is_taken self.now title }
     {
-        self.theorems.is_known(title) || self.notions.is_known(title)
+        self.theorems.is_known(title) || self.notions.defines(title)
     }
 
     /// Puts a theorem last. When memory runs out all is as before.

@@ -1,4 +1,4 @@
-//! What items stand for: with the objects of their names, and written out.
+//! What items mean: with the objects of their names, and written out.
 ghost use Rattle.std.specs.Prelude.{◌≤◌, ◌+◌, ◌-◌, length, IfOk, IsTrue};
 ghost use Rattle.std.specs.List.{list_all};
 ghost use Rattle.e_literal.specs.Literal.{all_in_scope};
@@ -20,7 +20,7 @@ use e_theorem::{Notion, UseFault, expand_first};
 use std::alloc::Global;
 use std::slice;
 
-/// How many literals items may stand for, in one theorem or one definition.
+/// How many literals items may mean, in one theorem or one definition.
 pub const MAX_EXPANDED: usize = 4_096;
 
 fn known_notion(notions: &Notions, title: Title) -> Result<&Notion, LineError>
@@ -32,7 +32,7 @@ fn known_notion(notions: &Notions, title: Title) -> Result<&Notion, LineError>
     }
 }
 
-/// The first n literals that an item stands for: the title, then how many names there are, then the
+/// The first n literals that an item means: the title, then how many names there are, then the
 /// names.
 #[tactic(auto, unfolding(crate::specs::Meanings::meant_in))]
 fn meant_in(
@@ -61,7 +61,7 @@ fn meant_in(
     }
 }
 
-/// Puts last what an item stands for, with names, and counts on: how many literals of the line are
+/// Puts last what an item means, with names, and counts on: how many literals of the line are
 /// of notions.
 fn put_item(
     alloc: Global,
@@ -92,7 +92,7 @@ fn put_item(
     }
 }
 
-/// Puts last what the items stand for, with names: the leftmost fault, or how many literals of the
+/// Puts last what the items mean, with names: the leftmost fault, or how many literals of the
 /// line are of notions.
 pub fn put_items(
     alloc: Global,

@@ -64,7 +64,7 @@ impl Notions {
 
     /// Whether a definition has this title.
     #[tactic(auto, using(crate::proofs::titles::NotionsBeside::titles_of))]
-    pub fn is_known(&self, title: Title) -> bool
+    pub fn defines(&self, title: Title) -> bool
         ensures { result ≡ defines self.now title }
     {
         self.titles.contains(&title)

@@ -209,7 +209,7 @@ fn negated_in(atom: &RawAtom, neg: bool) -> bool
     }
 }
 
-/// The literal with the objects that its names stand for; the leftmost fault.
+/// The literal with the objects of its names; the leftmost fault.
 #[tactic(auto, unfolding(crate::specs::Scope::lit_in))]
 pub fn lit_in(alloc: Global, names: &Names, lit: &RawLit) -> Result<Lit, LineError>
     requires { FewNames names.now }
@@ -394,15 +394,15 @@ fn first_fitting(
 ) -> Result<Construction, LineError>
     ensures { Gives (λ f. f) result (first_fitting scope args avoid shapes.now) }
 {
-    let mut form = Construction {
+    let mut construction = Construction {
         shape: Shape::Free,
         args,
         avoid,
     };
     for shape in shapes {
-        form.shape = *shape;
-        if form.fits(scope) {
-            return Ok(form);
+        construction.shape = *shape;
+        if construction.fits(scope) {
+            return Ok(construction);
         }
     }
     Err(LineError::Fault(FaultKind::Malformed))
@@ -417,11 +417,11 @@ pub fn let_in(alloc: Global, names: &Names, raw: &RawLet) -> Result<Construction
     fresh(names, raw.new.items())?;
     let args = arguments_in(alloc, names, raw.shapes.items(), raw.args.items())?;
     let avoid = objects_used(alloc, names, raw.avoid.items())?;
-    let form = first_fitting(scope_of_names(names), args, avoid, raw.shapes.items())?;
-    if raw.new.len() != form.made().len() {
+    let construction = first_fitting(scope_of_names(names), args, avoid, raw.shapes.items())?;
+    if raw.new.len() != construction.made().len() {
         return Err(LineError::Fault(FaultKind::Malformed));
     }
-    Ok(form)
+    Ok(construction)
 }
 
 /// An object for each sort.

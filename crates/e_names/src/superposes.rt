@@ -37,7 +37,7 @@ pub fn placed_in(names: &Names, args: &[Name]) -> Result<Superpose, LineError>
 /// A superposition, and the literals that its block shows.
 #[derive(Drop)]
 pub struct Placement {
-    pub form: Superpose,
+    pub superposition: Superpose,
     pub shown: Items<Lit>,
 }
 
@@ -49,11 +49,14 @@ pub fn superpose_in(
     raw: &RawSuperpose,
 ) -> Result<Placement, LineError>
     requires { FewNames names.now }
-    ensures { Gives (λ p. (p.form, p.shown)) result (superpose_in names.now raw.now) }
+    ensures { Gives (λ p. (p.superposition, p.shown)) result (superpose_in names.now raw.now) }
 {
-    let form = placed_in(names, raw.args.items())?;
+    let superposition = placed_in(names, raw.args.items())?;
     fresh(names, raw.new.items())?;
     let mut shown = Items::empty(alloc);
     put_lits(alloc, names, raw.shown.items(), &mut shown)?;
-    Ok(Placement { form, shown })
+    Ok(Placement {
+        superposition,
+        shown,
+    })
 }

@@ -1,4 +1,4 @@
-//! The terms of sums, with the points that their names stand for.
+//! The terms of sums, with the points of their names.
 ghost use Rattle.std.specs.Prelude.{◌≡◌, List};
 ghost use Rattle.e_literal.specs.WellFormed.{same_kind};
 ghost use Rattle.e_line.specs.Reading.{Gives, each};
@@ -19,7 +19,7 @@ fn point(names: &Names, name: Name) -> Result<u16, LineError>
     number_of(names, Sort::Point, name)
 }
 
-/// A term with the points that its names stand for; the leftmost fault.
+/// A term with the points of its names; the leftmost fault.
 #[tactic(auto, unfolding(crate::specs::Scope::term_in))]
 pub fn term_in(names: &Names, term: &RawTerm) -> Result<Term, LineError>
     requires { FewNames names.now }

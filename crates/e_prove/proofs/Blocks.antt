@@ -141,26 +141,26 @@ claim_stopped before step shown inner x n t is ready k rest goal r =
 
 -- ---- a superposition
 
-pub superposed_stopped : (before : List StatementView) (step : Step) (form : Superpose) (names : List (List ℕ)) (shown : List Lit) (written certs : List Cert) (inner : Box Block Global) (x : StepState) (n : ℕ) (t : Stop) →
-    step ≡ SuperposedStep form names shown written inner → SuperposedReady before form names shown (script_of inner.value) x → Certifies form x certs →
-    StopsWithin before (script_of inner.value) (after_superposed form names x) (goal_of shown) (n + 1) t → StepStops before step x n t
-superposed_stopped before step form names shown written certs inner x n t is ready cs k rest goal r =
-    let same = ap (λ s. step_script s rest) is ∙ step_script-Superposed form names shown written inner rest in
-    let count = ap size same ∙ superposed_size form names shown written (script_of inner.value) rest in (
+pub superposed_stopped : (before : List StatementView) (step : Step) (superposition : Superpose) (names : List (List ℕ)) (shown : List Lit) (written certs : List Cert) (inner : Box Block Global) (x : StepState) (n : ℕ) (t : Stop) →
+    step ≡ SuperposedStep superposition names shown written inner → SuperposedReady before superposition names shown (script_of inner.value) x → Certifies superposition x certs →
+    StopsWithin before (script_of inner.value) (after_superposed superposition names x) (goal_of shown) (n + 1) t → StepStops before step x n t
+superposed_stopped before step superposition names shown written certs inner x n t is ready cs k rest goal r =
+    let same = ap (λ s. step_script s rest) is ∙ step_script-Superposed superposition names shown written inner rest in
+    let count = ap size same ∙ superposed_size superposition names shown written (script_of inner.value) rest in (
       subst (λ w. StopsWithin before w x goal n t) (sym same)
-          (superposed_stops before form names shown written certs (script_of inner.value) rest x goal n t ready.fits ready.over cs k),
+          (superposed_stops before superposition names shown written certs (script_of inner.value) rest x goal n t ready.fits ready.over cs k),
       before_more (n + 1 + size (script_of inner.value)) (n + size (step_script step rest) - size rest) t (omega (arith, count))
-          (stop_within before (script_of inner.value) (after_superposed form names x) (goal_of shown) (n + 1) t k),
+          (stop_within before (script_of inner.value) (after_superposed superposition names x) (goal_of shown) (n + 1) t k),
     )
 
-pub superposed_refused : (before : List StatementView) (step : Step) (form : Superpose) (names : List (List ℕ)) (shown : List Lit) (written : List Cert) (inner : Box Block Global) (x after : StepState) (n : ℕ) (h : StepStop) (t : Stop) →
-    step ≡ SuperposedStep form names shown written inner → StepStopsAmong x.context (superposing.needs_of_superposition form) h → UnlessNoMemory (after.names ≡ x.names) h → StopOf h n after.names t → StepStops before step x n t
-superposed_refused before step form names shown written inner x after n h t is k m e rest goal r =
-    let here = Superposed form names shown written (script_of inner.value) rest in
-    let same = ap (λ s. step_script s rest) is ∙ step_script-Superposed form names shown written inner rest in
-    let count = ap size same ∙ superposed_size form names shown written (script_of inner.value) rest in (
+pub superposed_refused : (before : List StatementView) (step : Step) (superposition : Superpose) (names : List (List ℕ)) (shown : List Lit) (written : List Cert) (inner : Box Block Global) (x after : StepState) (n : ℕ) (h : StepStop) (t : Stop) →
+    step ≡ SuperposedStep superposition names shown written inner → StepStopsAmong x.context (superposing.needs_of_superposition superposition) h → UnlessNoMemory (after.names ≡ x.names) h → StopOf h n after.names t → StepStops before step x n t
+superposed_refused before step superposition names shown written inner x after n h t is k m e rest goal r =
+    let here = Superposed superposition names shown written (script_of inner.value) rest in
+    let same = ap (λ s. step_script s rest) is ∙ step_script-Superposed superposition names shown written inner rest in
+    let count = ap size same ∙ superposed_size superposition names shown written (script_of inner.value) rest in (
       subst (λ w. StopsWithin before w x goal n t) (sym same)
-          (stops_first before here x goal n h t (superposed_step_stops before form names shown written (script_of inner.value) rest here x goal h k) (same_names h n x after t m e)),
+          (stops_first before here x goal n h t (superposed_step_stops before superposition names shown written (script_of inner.value) rest here x goal h k) (same_names h n x after t m e)),
       stop_before h n (n + size (step_script step rest) - size rest) after.names t (omega (arith, count)) e,
     )
 
@@ -214,9 +214,9 @@ pub hence_one : (lit : Lit) (cert : Option Cert) (rest : Script) → size (step_
 unfolding step_script size
 hence_one lit cert rest = refl
 
-pub make_one : (form : Construction) (names : List (List ℕ)) (certs : List Cert) (rest : Script) → size (step_script (MakeStep form names certs) rest) ≡ 1 + size rest
+pub make_one : (construction : Construction) (names : List (List ℕ)) (certs : List Cert) (rest : Script) → size (step_script (MakeStep construction names certs) rest) ≡ 1 + size rest
 unfolding step_script size
-make_one form names certs rest = refl
+make_one construction names certs rest = refl
 
 pub apply_one : (theorem : ℕ) (args : List (Option Obj)) (names : List (List ℕ)) (certs : List Cert) (rest : Script) → size (step_script (ApplyStep theorem args names certs) rest) ≡ 1 + size rest
 unfolding step_script size
@@ -225,7 +225,7 @@ apply_one theorem args names certs rest = refl
 pub line_is_one : (step : Step) (rest : Script)
     → ((by : By) × (step ≡ CiteStep by))
     ⊎ (((lit : Lit) × (cert : Option Cert) × (step ≡ HenceStep lit cert))
-    ⊎ (((form : Construction) × (names : List (List ℕ)) × (certs : List Cert) × (step ≡ MakeStep form names certs))
+    ⊎ (((construction : Construction) × (names : List (List ℕ)) × (certs : List Cert) × (step ≡ MakeStep construction names certs))
     ⊎ ((theorem : ℕ) × (args : List (Option Obj)) × (names : List (List ℕ)) × (certs : List Cert) × (step ≡ ApplyStep theorem args names certs))))
     → size (step_script step rest) ≡ 1 + size rest
 line_is_one step rest (inl e) = ap (λ s. size (step_script s rest)) e.1 ∙ cite_one e.0 rest

@@ -172,49 +172,49 @@ passed_claim before shown inner derived x n next over d count =
 -- ---- a superposition
 
 -- what its steps say of it, of its block and of what comes after it
-pub record SuperposedReady (before : List StatementView) (form : Superpose) (names : List (List ℕ)) (shown : List Lit) (inner : Script) (x : StepState) : Type 0 where
-  pub fits : superposing.fits_superposition form x.context.scope ≡ true
+pub record SuperposedReady (before : List StatementView) (superposition : Superpose) (names : List (List ℕ)) (shown : List Lit) (inner : Script) (x : StepState) : Type 0 where
+  pub fits : superposing.fits_superposition superposition x.context.scope ≡ true
   pub over : are_over x.context.scope shown ≡ true
-  pub needs : are_well_formed_in x.context.scope (superposing.needs_of_superposition form) ≡ true
-  pub block : IsReadyFor before inner (after_superposed form names x) (goal_of shown)
+  pub needs : are_well_formed_in x.context.scope (superposing.needs_of_superposition superposition) ≡ true
+  pub block : IsReadyFor before inner (after_superposed superposition names x) (goal_of shown)
   pub scope : is_small x.context.scope ≡ true
 
-pub superposed_ready : (before : List StatementView) (form : Superpose) (names : List (List ℕ)) (shown : List Lit) (certs : List Cert) (inner rest : Script) (x : StepState) (goal : Goal) →
-    IsReadyFor before (Superposed form names shown certs inner rest) x goal → SuperposedReady before form names shown inner x
+pub superposed_ready : (before : List StatementView) (superposition : Superpose) (names : List (List ℕ)) (shown : List Lit) (certs : List Cert) (inner rest : Script) (x : StepState) (goal : Goal) →
+    IsReadyFor before (Superposed superposition names shown certs inner rest) x goal → SuperposedReady before superposition names shown inner x
 unfolding placed_steps
-superposed_ready before form names shown certs inner rest x goal r =
+superposed_ready before superposition names shown certs inner rest x goal r =
     let s = x.context.scope in
     let facts = x.context.facts in
-    let here = Superposed form names shown certs inner rest in
+    let here = Superposed superposition names shown certs inner rest in
     let y = step_from_basis here here x.context goal in
     let t = grown s superposing.sorts_copied in
-    let given = joined_all facts (superposing.gives_of_superposition form s) in
+    let given = joined_all facts (superposing.gives_of_superposition superposition s) in
     let one = placed_steps before inner inner t given (goal_of shown) in
     let other = placed_steps before rest rest s (joined_all facts shown) goal in
     let form_fits = and_left (has_form before y) (list_all (has_form before) (one ++ other)) r.forms in
     record {
-      fits = and_left (superposing.fits_superposition form s) (are_over s shown) form_fits;
-      over = and_right (superposing.fits_superposition form s) (are_over s shown) form_fits;
+      fits = and_left (superposing.fits_superposition superposition s) (are_over s shown) form_fits;
+      over = and_right (superposing.fits_superposition superposition s) (are_over s shown) form_fits;
       needs = ((r.lits here).1 form_fits).0;
       block = record {
         forms = all_left (has_form before) one other (and_right (has_form before y) (list_all (has_form before) (one ++ other)) r.forms);
-        lits = λ w. lits_first before (placed_steps before inner w t given (goal_of shown)) other ((r.lits (Superposed form names shown certs w rest)).1 form_fits).1;
+        lits = λ w. lits_first before (placed_steps before inner w t given (goal_of shown)) other ((r.lits (Superposed superposition names shown certs w rest)).1 form_fits).1;
         scopes = all_left few_before one other (and_right (few_before y) (list_all few_before (one ++ other)) r.scopes);
         statements = r.statements;
       };
       scope = and_left (few_before y) (list_all few_before (one ++ other)) r.scopes;
     }
 
-pub superposed_rest : (before : List StatementView) (form : Superpose) (names : List (List ℕ)) (shown : List Lit) (certs : List Cert) (inner derived rest : Script) (x : StepState) (goal : Goal) →
-    IsDerivedFrom before inner (after_superposed form names x) (goal_of shown) derived → IsReadyFor before (Superposed form names shown certs inner rest) x goal → IsReadyFor before rest (after_block shown x) goal
+pub superposed_rest : (before : List StatementView) (superposition : Superpose) (names : List (List ℕ)) (shown : List Lit) (certs : List Cert) (inner derived rest : Script) (x : StepState) (goal : Goal) →
+    IsDerivedFrom before inner (after_superposed superposition names x) (goal_of shown) derived → IsReadyFor before (Superposed superposition names shown certs inner rest) x goal → IsReadyFor before rest (after_block shown x) goal
 unfolding placed_steps
-superposed_rest before form names shown certs inner derived rest x goal d r =
+superposed_rest before superposition names shown certs inner derived rest x goal d r =
     let s = x.context.scope in
     let facts = x.context.facts in
-    let here = Superposed form names shown certs inner rest in
+    let here = Superposed superposition names shown certs inner rest in
     let y = step_from_basis here here x.context goal in
     let t = grown s superposing.sorts_copied in
-    let given = joined_all facts (superposing.gives_of_superposition form s) in
+    let given = joined_all facts (superposing.gives_of_superposition superposition s) in
     let one = placed_steps before inner inner t given (goal_of shown) in
     let other = placed_steps before rest rest s (joined_all facts shown) goal in
     let form_fits = and_left (has_form before y) (list_all (has_form before) (one ++ other)) r.forms in
@@ -222,127 +222,127 @@ superposed_rest before form names shown certs inner derived rest x goal d r =
       forms = all_right (has_form before) one other (and_right (has_form before y) (list_all (has_form before) (one ++ other)) r.forms);
       lits = λ w.
           lits_second before (placed_steps before inner derived t given (goal_of shown)) (placed_steps before rest w s (joined_all facts shown) goal) d.licensed
-          ((r.lits (Superposed form names shown certs derived w)).1 form_fits).1;
+          ((r.lits (Superposed superposition names shown certs derived w)).1 form_fits).1;
       scopes = all_right few_before one other (and_right (few_before y) (list_all few_before (one ++ other)) r.scopes);
       statements = r.statements;
     }
 
 -- it is certified where its needs are, by certificates that name literals that are well formed
 abbrev pub Certifies : Superpose → StepState → List Cert → Type 0
-Certifies form x certs = IsTrue (certify_all x.context.scope x.context.facts (superposing.needs_of_superposition form) certs) × IsTrue (list_all (is_cert_of version.One) certs)
+Certifies superposition x certs = IsTrue (certify_all x.context.scope x.context.facts (superposing.needs_of_superposition superposition) certs) × IsTrue (list_all (is_cert_of version.One) certs)
 
-superposed_licensed : (before : List StatementView) (form : Superpose) (names : List (List ℕ)) (shown : List Lit) (written certs : List Cert) (inner rest f : Script) (x : StepState) (goal : Goal) →
-    superposing.fits_superposition form x.context.scope ≡ true → are_over x.context.scope shown ≡ true → Certifies form x certs →
-    Licensed before (step_from_basis (Superposed form names shown written inner rest) f x.context goal)
-superposed_licensed before form names shown written certs inner rest f x goal fit over c =
-    record { fits = and_from _ _ fit over; allowed = all_allowed_of_certified x.context.scope x.context.facts (superposing.needs_of_superposition form) certs c.0; others = tt }
+superposed_licensed : (before : List StatementView) (superposition : Superpose) (names : List (List ℕ)) (shown : List Lit) (written certs : List Cert) (inner rest f : Script) (x : StepState) (goal : Goal) →
+    superposing.fits_superposition superposition x.context.scope ≡ true → are_over x.context.scope shown ≡ true → Certifies superposition x certs →
+    Licensed before (step_from_basis (Superposed superposition names shown written inner rest) f x.context goal)
+superposed_licensed before superposition names shown written certs inner rest f x goal fit over c =
+    record { fits = and_from _ _ fit over; allowed = all_allowed_of_certified x.context.scope x.context.facts (superposing.needs_of_superposition superposition) certs c.0; others = tt }
 
-superposed_derives : (before : List StatementView) (form : Superpose) (names : List (List ℕ)) (shown : List Lit) (written certs : List Cert) (inner derived rest more : Script) (x : StepState) (goal : Goal) →
-    superposing.fits_superposition form x.context.scope ≡ true → are_over x.context.scope shown ≡ true → Certifies form x certs → IsDerivedFrom before inner (after_superposed form names x) (goal_of shown) derived →
-    IsDerivedFrom before rest (after_block shown x) goal more → IsDerivedFrom before (Superposed form names shown written inner rest) x goal (Superposed form names shown certs derived more)
+superposed_derives : (before : List StatementView) (superposition : Superpose) (names : List (List ℕ)) (shown : List Lit) (written certs : List Cert) (inner derived rest more : Script) (x : StepState) (goal : Goal) →
+    superposing.fits_superposition superposition x.context.scope ≡ true → are_over x.context.scope shown ≡ true → Certifies superposition x certs → IsDerivedFrom before inner (after_superposed superposition names x) (goal_of shown) derived →
+    IsDerivedFrom before rest (after_block shown x) goal more → IsDerivedFrom before (Superposed superposition names shown written inner rest) x goal (Superposed superposition names shown certs derived more)
 unfolding placed_steps erased filled_by has_certs_of
-superposed_derives before form names shown written certs inner derived rest more x goal fit over c d m =
+superposed_derives before superposition names shown written certs inner derived rest more x goal fit over c d m =
     let s = x.context.scope in
     let facts = x.context.facts in
     let t = grown s superposing.sorts_copied in
-    let given = joined_all facts (superposing.gives_of_superposition form s) in
+    let given = joined_all facts (superposing.gives_of_superposition superposition s) in
     record {
       licensed = (
-        superposed_licensed before form names shown written certs inner rest (Superposed form names shown certs derived more) x goal fit over c,
+        superposed_licensed before superposition names shown written certs inner rest (Superposed superposition names shown certs derived more) x goal fit over c,
         both_licensed before (placed_steps before inner derived t given (goal_of shown)) (placed_steps before rest more s (joined_all facts shown) goal) d.licensed m.licensed,
       );
       certified =
           and_from _ _ (and_from _ _ (and_from _ _ fit over) (and_from _ _ c.0 refl))
           (all_both (is_certified before) (placed_steps before derived derived t given (goal_of shown)) (placed_steps before more more s (joined_all facts shown) goal) d.certified m.certified);
-      erased = ap₂ (Superposed form names shown []) d.erased m.erased;
+      erased = ap₂ (Superposed superposition names shown []) d.erased m.erased;
       written = and_from _ _ c.1 (and_from _ _ d.written m.written);
     }
 
 -- what is found in its block, and after it
-pub superposed_reaches : (before : List StatementView) (form : Superpose) (names : List (List ℕ)) (shown : List Lit) (written certs : List Cert) (inner rest : Script) (x : StepState) (goal : Goal) (n : ℕ) (a : Arrival) (i : ℕ) (seen : Names) →
-    superposing.fits_superposition form x.context.scope ≡ true → are_over x.context.scope shown ≡ true → Certifies form x certs →
-    ReachesWithin before inner (after_superposed form names x) (goal_of shown) (n + 1) a i seen → ReachesWithin before (Superposed form names shown written inner rest) x goal n a i seen
+pub superposed_reaches : (before : List StatementView) (superposition : Superpose) (names : List (List ℕ)) (shown : List Lit) (written certs : List Cert) (inner rest : Script) (x : StepState) (goal : Goal) (n : ℕ) (a : Arrival) (i : ℕ) (seen : Names) →
+    superposing.fits_superposition superposition x.context.scope ≡ true → are_over x.context.scope shown ≡ true → Certifies superposition x certs →
+    ReachesWithin before inner (after_superposed superposition names x) (goal_of shown) (n + 1) a i seen → ReachesWithin before (Superposed superposition names shown written inner rest) x goal n a i seen
 unfolding placed_steps names_of_steps
-superposed_reaches before form names shown written certs inner rest x goal n a i seen fit over c k =
+superposed_reaches before superposition names shown written certs inner rest x goal n a i seen fit over c k =
     let s = x.context.scope in
     let facts = x.context.facts in
     let t = grown s superposing.sorts_copied in
-    let given = joined_all facts (superposing.gives_of_superposition form s) in
+    let given = joined_all facts (superposing.gives_of_superposition superposition s) in
     let one = placed_steps before inner k.filled t given (goal_of shown) in
     let other = placed_steps before rest rest s (joined_all facts shown) goal in
     let ns = names_of_steps before (named x.names superposing.sorts_copied names) inner in
     let ms = names_of_steps before x.names rest in
-    let f = Superposed form names shown certs k.filled rest in
+    let f = Superposed superposition names shown certs k.filled rest in
     record {
       filled = f;
       reached =
-          reached_after before (step_from_basis (Superposed form names shown written inner rest) f x.context goal) (one ++ other) x.names (ns ++ ms) n a i seen
-          (superposed_licensed before form names shown written certs inner rest f x goal fit over c) (reached_left before one other ns ms (n + 1) a i seen k.reached);
+          reached_after before (step_from_basis (Superposed superposition names shown written inner rest) f x.context goal) (one ++ other) x.names (ns ++ ms) n a i seen
+          (superposed_licensed before superposition names shown written certs inner rest f x goal fit over c) (reached_left before one other ns ms (n + 1) a i seen k.reached);
     }
 
-pub superposed_stops : (before : List StatementView) (form : Superpose) (names : List (List ℕ)) (shown : List Lit) (written certs : List Cert) (inner rest : Script) (x : StepState) (goal : Goal) (n : ℕ) (stop : Stop) →
-    superposing.fits_superposition form x.context.scope ≡ true → are_over x.context.scope shown ≡ true → Certifies form x certs →
-    StopsWithin before inner (after_superposed form names x) (goal_of shown) (n + 1) stop → StopsWithin before (Superposed form names shown written inner rest) x goal n stop
-superposed_stops before form names shown written certs inner rest x goal n stop fit over c k =
-    stops_by before inner (Superposed form names shown written inner rest) (after_superposed form names x) x (goal_of shown) goal (n + 1) n stop (λ a i seen h. superposed_reaches before form names shown written certs inner rest x goal n a i seen fit over c h) k
+pub superposed_stops : (before : List StatementView) (superposition : Superpose) (names : List (List ℕ)) (shown : List Lit) (written certs : List Cert) (inner rest : Script) (x : StepState) (goal : Goal) (n : ℕ) (stop : Stop) →
+    superposing.fits_superposition superposition x.context.scope ≡ true → are_over x.context.scope shown ≡ true → Certifies superposition x certs →
+    StopsWithin before inner (after_superposed superposition names x) (goal_of shown) (n + 1) stop → StopsWithin before (Superposed superposition names shown written inner rest) x goal n stop
+superposed_stops before superposition names shown written certs inner rest x goal n stop fit over c k =
+    stops_by before inner (Superposed superposition names shown written inner rest) (after_superposed superposition names x) x (goal_of shown) goal (n + 1) n stop (λ a i seen h. superposed_reaches before superposition names shown written certs inner rest x goal n a i seen fit over c h) k
 
-pub superposed_reaches_later : (before : List StatementView) (form : Superpose) (names : List (List ℕ)) (shown : List Lit) (written certs : List Cert) (inner derived rest : Script) (x : StepState) (goal : Goal) (n next : ℕ) (a : Arrival) (i : ℕ) (seen : Names) →
-    superposing.fits_superposition form x.context.scope ≡ true → are_over x.context.scope shown ≡ true → Certifies form x certs → IsDerivedFrom before inner (after_superposed form names x) (goal_of shown) derived →
-    next ≡ n + 1 + size inner → ReachesWithin before rest (after_block shown x) goal next a i seen → ReachesWithin before (Superposed form names shown written inner rest) x goal n a i seen
+pub superposed_reaches_later : (before : List StatementView) (superposition : Superpose) (names : List (List ℕ)) (shown : List Lit) (written certs : List Cert) (inner derived rest : Script) (x : StepState) (goal : Goal) (n next : ℕ) (a : Arrival) (i : ℕ) (seen : Names) →
+    superposing.fits_superposition superposition x.context.scope ≡ true → are_over x.context.scope shown ≡ true → Certifies superposition x certs → IsDerivedFrom before inner (after_superposed superposition names x) (goal_of shown) derived →
+    next ≡ n + 1 + size inner → ReachesWithin before rest (after_block shown x) goal next a i seen → ReachesWithin before (Superposed superposition names shown written inner rest) x goal n a i seen
 unfolding placed_steps names_of_steps
-superposed_reaches_later before form names shown written certs inner derived rest x goal n next a i seen fit over c d count k =
+superposed_reaches_later before superposition names shown written certs inner derived rest x goal n next a i seen fit over c d count k =
     let s = x.context.scope in
     let facts = x.context.facts in
     let t = grown s superposing.sorts_copied in
-    let given = joined_all facts (superposing.gives_of_superposition form s) in
+    let given = joined_all facts (superposing.gives_of_superposition superposition s) in
     let one = placed_steps before inner derived t given (goal_of shown) in
     let other = placed_steps before rest k.filled s (joined_all facts shown) goal in
     let inside = named x.names superposing.sorts_copied names in
     let ns = names_of_steps before inside inner in
     let ms = names_of_steps before x.names rest in
-    let f = Superposed form names shown certs derived k.filled in
+    let f = Superposed superposition names shown certs derived k.filled in
     record {
       filled = f;
       reached =
-          reached_after before (step_from_basis (Superposed form names shown written inner rest) f x.context goal) (one ++ other) x.names (ns ++ ms) n a i seen
-          (superposed_licensed before form names shown written certs inner rest f x goal fit over c)
+          reached_after before (step_from_basis (Superposed superposition names shown written inner rest) f x.context goal) (one ++ other) x.names (ns ++ ms) n a i seen
+          (superposed_licensed before superposition names shown written certs inner rest f x goal fit over c)
           (reached_right before one other ns ms (size inner) (n + 1) a i seen (lines_length before inner derived t given (goal_of shown)) (names_length before inside inner) d.licensed
           (subst (λ m. IsReachedIn before other ms m a i seen) count k.reached));
     }
 
-superposed_later : (before : List StatementView) (form : Superpose) (names : List (List ℕ)) (shown : List Lit) (written certs : List Cert) (inner derived rest : Script) (x : StepState) (goal : Goal) (n next : ℕ) (stop : Stop) →
-    superposing.fits_superposition form x.context.scope ≡ true → are_over x.context.scope shown ≡ true → Certifies form x certs → IsDerivedFrom before inner (after_superposed form names x) (goal_of shown) derived →
-    next ≡ n + 1 + size inner → StopsWithin before rest (after_block shown x) goal next stop → StopsWithin before (Superposed form names shown written inner rest) x goal n stop
-superposed_later before form names shown written certs inner derived rest x goal n next stop fit over c d count k =
-    stops_by before rest (Superposed form names shown written inner rest) (after_block shown x) x goal goal next n stop (λ a i seen h. superposed_reaches_later before form names shown written certs inner derived rest x goal n next a i seen fit over c d count h) k
+superposed_later : (before : List StatementView) (superposition : Superpose) (names : List (List ℕ)) (shown : List Lit) (written certs : List Cert) (inner derived rest : Script) (x : StepState) (goal : Goal) (n next : ℕ) (stop : Stop) →
+    superposing.fits_superposition superposition x.context.scope ≡ true → are_over x.context.scope shown ≡ true → Certifies superposition x certs → IsDerivedFrom before inner (after_superposed superposition names x) (goal_of shown) derived →
+    next ≡ n + 1 + size inner → StopsWithin before rest (after_block shown x) goal next stop → StopsWithin before (Superposed superposition names shown written inner rest) x goal n stop
+superposed_later before superposition names shown written certs inner derived rest x goal n next stop fit over c d count k =
+    stops_by before rest (Superposed superposition names shown written inner rest) (after_block shown x) x goal goal next n stop (λ a i seen h. superposed_reaches_later before superposition names shown written certs inner derived rest x goal n next a i seen fit over c d count h) k
 
-pub superposed_size : (form : Superpose) (names : List (List ℕ)) (shown : List Lit) (certs : List Cert) (inner rest : Script) → size (Superposed form names shown certs inner rest) ≡ 1 + size inner + size rest
+pub superposed_size : (superposition : Superpose) (names : List (List ℕ)) (shown : List Lit) (certs : List Cert) (inner rest : Script) → size (Superposed superposition names shown certs inner rest) ≡ 1 + size inner + size rest
 unfolding size
-superposed_size form names shown certs inner rest = refl
+superposed_size superposition names shown certs inner rest = refl
 
-pub passed_superposed : (before : List StatementView) (form : Superpose) (names : List (List ℕ)) (shown : List Lit) (written certs : List Cert) (inner derived : Script) (x : StepState) (n next : ℕ) →
-    superposing.fits_superposition form x.context.scope ≡ true → are_over x.context.scope shown ≡ true → Certifies form x certs → IsDerivedFrom before inner (after_superposed form names x) (goal_of shown) derived →
-    next ≡ n + 1 + size inner → IsPassed before (Superposed form names shown written inner) x n (Superposed form names shown certs derived) (after_block shown x) next
-passed_superposed before form names shown written certs inner derived x n next fit over c d count =
+pub passed_superposed : (before : List StatementView) (superposition : Superpose) (names : List (List ℕ)) (shown : List Lit) (written certs : List Cert) (inner derived : Script) (x : StepState) (n next : ℕ) →
+    superposing.fits_superposition superposition x.context.scope ≡ true → are_over x.context.scope shown ≡ true → Certifies superposition x certs → IsDerivedFrom before inner (after_superposed superposition names x) (goal_of shown) derived →
+    next ≡ n + 1 + size inner → IsPassed before (Superposed superposition names shown written inner) x n (Superposed superposition names shown certs derived) (after_block shown x) next
+passed_superposed before superposition names shown written certs inner derived x n next fit over c d count =
     record {
-      ready = λ rest goal r. superposed_rest before form names shown written inner derived rest x goal d r;
-      derives = λ rest more goal r m. superposed_derives before form names shown written certs inner derived rest more x goal fit over c d m;
-      stops = λ rest goal stop r k. superposed_later before form names shown written certs inner derived rest x goal n next stop fit over c d count k;
-      reaches = λ rest goal a i seen r k. superposed_reaches_later before form names shown written certs inner derived rest x goal n next a i seen fit over c d count k;
-      number = λ rest. let e = superposed_size form names shown written inner rest in omega (arith, e, count);
+      ready = λ rest goal r. superposed_rest before superposition names shown written inner derived rest x goal d r;
+      derives = λ rest more goal r m. superposed_derives before superposition names shown written certs inner derived rest more x goal fit over c d m;
+      stops = λ rest goal stop r k. superposed_later before superposition names shown written certs inner derived rest x goal n next stop fit over c d count k;
+      reaches = λ rest goal a i seen r k. superposed_reaches_later before superposition names shown written certs inner derived rest x goal n next a i seen fit over c d count k;
+      number = λ rest. let e = superposed_size superposition names shown written inner rest in omega (arith, e, count);
       kept = refl;
     }
 
 -- what stops at its needs
-pub superposed_step_stops : (before : List StatementView) (form : Superpose) (names : List (List ℕ)) (shown : List Lit) (written : List Cert) (inner rest f : Script) (x : StepState) (goal : Goal) (h : StepStop) → StepStopsAmong x.context (superposing.needs_of_superposition form) h →
-    StepStopsAt before (step_from_basis (Superposed form names shown written inner rest) f x.context goal) h
-superposed_step_stops before form names shown written inner rest f x goal (step_stop.Lacks (Literal l) values) k = k
-superposed_step_stops before form names shown written inner rest f x goal (step_stop.Lacks Match values) k = absurd k
-superposed_step_stops before form names shown written inner rest f x goal (step_stop.Lacks Contradiction values) k = absurd k
-superposed_step_stops before form names shown written inner rest f x goal (step_stop.TooWide (Literal l) width) k = k
-superposed_step_stops before form names shown written inner rest f x goal (step_stop.TooWide Match width) k = absurd k
-superposed_step_stops before form names shown written inner rest f x goal (step_stop.TooWide Contradiction width) k = absurd k
-superposed_step_stops before form names shown written inner rest f x goal step_stop.NoMemory k = tt
+pub superposed_step_stops : (before : List StatementView) (superposition : Superpose) (names : List (List ℕ)) (shown : List Lit) (written : List Cert) (inner rest f : Script) (x : StepState) (goal : Goal) (h : StepStop) → StepStopsAmong x.context (superposing.needs_of_superposition superposition) h →
+    StepStopsAt before (step_from_basis (Superposed superposition names shown written inner rest) f x.context goal) h
+superposed_step_stops before superposition names shown written inner rest f x goal (step_stop.Lacks (Literal l) values) k = k
+superposed_step_stops before superposition names shown written inner rest f x goal (step_stop.Lacks Match values) k = absurd k
+superposed_step_stops before superposition names shown written inner rest f x goal (step_stop.Lacks Contradiction values) k = absurd k
+superposed_step_stops before superposition names shown written inner rest f x goal (step_stop.TooWide (Literal l) width) k = k
+superposed_step_stops before superposition names shown written inner rest f x goal (step_stop.TooWide Match width) k = absurd k
+superposed_step_stops before superposition names shown written inner rest f x goal (step_stop.TooWide Contradiction width) k = absurd k
+superposed_step_stops before superposition names shown written inner rest f x goal step_stop.NoMemory k = tt
 
 -- ---- a split
 

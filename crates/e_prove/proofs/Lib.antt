@@ -12,5 +12,5 @@ pub mod Blocks
 pub mod StepsWithBlocks
 pub mod ReachedSteps
 pub mod Closes
-pub mod WholeProofs
+pub mod ProofsOfStatements
 pub mod RightStops

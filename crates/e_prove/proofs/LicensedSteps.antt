@@ -68,14 +68,14 @@ licensed_hence before lit derived written cert x after same h g gives = rw (same
 
 -- ---- a construction
 
-licensed_by_certs : (before : List StatementView) (form : Construction) (names : List (List ℕ)) (written certs : List Cert) (x : StepState) → IsTrue (certify_all x.context.scope x.context.facts (needs_of_construction form) certs) →
-    IsTrue (list_all (is_cert_of version.One) certs) → IsLicensedStep before (MakeStep form names written) x (MakeStep form names certs) (after_make form names x)
+licensed_by_certs : (before : List StatementView) (construction : Construction) (names : List (List ℕ)) (written certs : List Cert) (x : StepState) → IsTrue (certify_all x.context.scope x.context.facts (needs_of_construction construction) certs) →
+    IsTrue (list_all (is_cert_of version.One) certs) → IsLicensedStep before (MakeStep construction names written) x (MakeStep construction names certs) (after_make construction names x)
 unfolding placed_steps erased filled_by names_of_steps step_script has_certs_of
-licensed_by_certs before form names written certs x h g =
+licensed_by_certs before construction names written certs x h g =
     record {
-      licensed = λ rest more goal fit. record { fits = fit; allowed = all_allowed_of_certified x.context.scope x.context.facts (needs_of_construction form) certs h; others = tt };
+      licensed = λ rest more goal fit. record { fits = fit; allowed = all_allowed_of_certified x.context.scope x.context.facts (needs_of_construction construction) certs h; others = tt };
       certified = λ rest more goal fit. and_from _ _ fit (and_from _ _ h refl);
-      erased = λ rest more e. ap (Make form names []) e;
+      erased = λ rest more e. ap (Make construction names []) e;
       written = λ more k. and_from _ _ g k;
       next = λ rest more goal. refl;
       derived_next = λ more goal. refl;
@@ -83,8 +83,8 @@ licensed_by_certs before form names written certs x h g =
       kept = refl;
     }
 
-pub licensed_make : (before : List StatementView) (form derived : Construction) (names kept : List (List ℕ)) (written certs given : List Cert) (needed : List Lit) (x after : StepState) →
-    derived ≡ form → kept ≡ names → given ≡ certs → needed ≡ needs_of_construction form → IsTrue (certify_all x.context.scope x.context.facts needed certs) → IsTrue (list_all (is_cert_of version.One) certs) → after ≡ after_make form names x →
-    IsLicensedStep before (MakeStep form names written) x (MakeStep derived kept given) after
-licensed_make before form derived names kept written certs given needed x after same these those all h g gives =
-    rw (same, these, those, gives) (licensed_by_certs before form names written certs x (subst (λ ls. certify_all x.context.scope x.context.facts ls certs ≡ true) all h) g)
+pub licensed_make : (before : List StatementView) (construction derived : Construction) (names kept : List (List ℕ)) (written certs given : List Cert) (needed : List Lit) (x after : StepState) →
+    derived ≡ construction → kept ≡ names → given ≡ certs → needed ≡ needs_of_construction construction → IsTrue (certify_all x.context.scope x.context.facts needed certs) → IsTrue (list_all (is_cert_of version.One) certs) → after ≡ after_make construction names x →
+    IsLicensedStep before (MakeStep construction names written) x (MakeStep derived kept given) after
+licensed_make before construction derived names kept written certs given needed x after same these those all h g gives =
+    rw (same, these, those, gives) (licensed_by_certs before construction names written certs x (subst (λ ls. certify_all x.context.scope x.context.facts ls certs ≡ true) all h) g)

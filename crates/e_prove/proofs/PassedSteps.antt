@@ -143,10 +143,10 @@ size_more : (step : Step) (rest : Script) → size rest < size (step_script step
 unfolding step_script size
 size_more (steps.Cite by) rest = omega arith
 size_more (steps.Hence lit cert) rest = omega arith
-size_more (steps.Make form names certs) rest = omega arith
+size_more (steps.Make construction names certs) rest = omega arith
 size_more (steps.Apply theorem args names certs) rest = omega arith
 size_more (steps.Claim' shown p0 n0 row0 close0) rest = omega arith
-size_more (steps.Superposed' form names shown certs p0 n0 row0 close0) rest = omega arith
+size_more (steps.Superposed' superposition names shown certs p0 n0 row0 close0) rest = omega arith
 
 -- ---- what a step that stops is answered as
 
@@ -154,10 +154,10 @@ pub lines_begin : (before : List StatementView) (here f : Script) (s : Scope) (f
 unfolding placed_steps
 lines_begin before (Cite by rest) f s facts goal = (_, refl)
 lines_begin before (Hence lit cert rest) f s facts goal = (_, refl)
-lines_begin before (Make form names certs rest) f s facts goal = (_, refl)
+lines_begin before (Make construction names certs rest) f s facts goal = (_, refl)
 lines_begin before (Apply theorem args names certs rest) f s facts goal = (_, refl)
 lines_begin before (Claim shown inner rest) f s facts goal = (_, refl)
-lines_begin before (Superposed form names shown certs inner rest) f s facts goal = (_, refl)
+lines_begin before (Superposed superposition names shown certs inner rest) f s facts goal = (_, refl)
 lines_begin before (Qed objects certs) f s facts goal = (_, refl)
 lines_begin before (Contradiction against) f s facts goal = (_, refl)
 lines_begin before (Cases lit first second) f s facts goal = (_, refl)
@@ -166,10 +166,10 @@ names_begin : (before : List StatementView) (ns : Names) (here : Script) → (ms
 unfolding names_of_steps
 names_begin before ns (Cite by rest) = (_, refl)
 names_begin before ns (Hence lit cert rest) = (_, refl)
-names_begin before ns (Make form new certs rest) = (_, refl)
+names_begin before ns (Make construction new certs rest) = (_, refl)
 names_begin before ns (Apply theorem args new certs rest) = (_, refl)
 names_begin before ns (Claim shown inner rest) = (_, refl)
-names_begin before ns (Superposed form names shown certs inner rest) = (_, refl)
+names_begin before ns (Superposed superposition names shown certs inner rest) = (_, refl)
 names_begin before ns (Qed objects certs) = (_, refl)
 names_begin before ns (Contradiction against) = (_, refl)
 names_begin before ns (Cases lit first second) = (_, refl)

@@ -50,10 +50,10 @@ pub size_apart : (step : Step) (a b : Script) → size (step_script step a) + si
 unfolding step_script size
 size_apart (steps.Cite by) a b = omega arith
 size_apart (steps.Hence lit cert) a b = omega arith
-size_apart (steps.Make form names certs) a b = omega arith
+size_apart (steps.Make construction names certs) a b = omega arith
 size_apart (steps.Apply theorem args names certs) a b = omega arith
 size_apart (steps.Claim' shown p0 n0 row0 close0) a b = omega arith
-size_apart (steps.Superposed' form names shown certs p0 n0 row0 close0) a b = omega arith
+size_apart (steps.Superposed' superposition names shown certs p0 n0 row0 close0) a b = omega arith
 
 pub lines_fit : (step : Step) (rest : Script) (n : ℕ) → n + size (step_script step rest) < 2 ^ 32 → (other : Script) → size (step_script step other) < 2 ^ 32 + size other
 lines_fit step rest n few other = let same = size_apart step other rest in omega (arith, few, same)
@@ -65,9 +65,9 @@ one_line = Contradiction None
 pub claim_count : (shown : List Lit) (inner : Box Block Global) (rest : Script) → size (step_script (ClaimStep shown inner) rest) ≡ 1 + size (script_of inner.value) + size rest
 claim_count shown inner rest = ap size (step_script-Claim shown inner rest) ∙ claim_size shown (script_of inner.value) rest
 
-pub superposed_count : (form : Superpose) (names : List (List ℕ)) (shown : List Lit) (certs : List Cert) (inner : Box Block Global) (rest : Script) →
-    size (step_script (SuperposedStep form names shown certs inner) rest) ≡ 1 + size (script_of inner.value) + size rest
-superposed_count form names shown certs inner rest = ap size (step_script-Superposed form names shown certs inner rest) ∙ superposed_size form names shown certs (script_of inner.value) rest
+pub superposed_count : (superposition : Superpose) (names : List (List ℕ)) (shown : List Lit) (certs : List Cert) (inner : Box Block Global) (rest : Script) →
+    size (step_script (SuperposedStep superposition names shown certs inner) rest) ≡ 1 + size (script_of inner.value) + size rest
+superposed_count superposition names shown certs inner rest = ap size (step_script-Superposed superposition names shown certs inner rest) ∙ superposed_size superposition names shown certs (script_of inner.value) rest
 
 -- ---- what is reached after steps that are passed
 
@@ -120,12 +120,12 @@ claim_entered before step shown inner x z n m is ready k rest goal r =
     subst (λ w. ReachesStep before w x goal n m z) (sym (ap (λ s. step_script s rest) is ∙ step_script-Claim shown inner rest))
     (claim_reaches before shown (script_of inner.value) rest x goal n (Stands z.context.scope z.context.facts) m z.names ready.over k)
 
-pub superposed_entered : (before : List StatementView) (step : Step) (form : Superpose) (names : List (List ℕ)) (shown : List Lit) (written certs : List Cert) (inner : Box Block Global) (x z : StepState) (n m : ℕ) →
-    step ≡ SuperposedStep form names shown written inner → SuperposedReady before form names shown (script_of inner.value) x → Certifies form x certs →
-    ReachesStep before (script_of inner.value) (after_superposed form names x) (goal_of shown) (n + 1) m z → ReachesInStep before step x n m z
-superposed_entered before step form names shown written certs inner x z n m is ready cs k rest goal r =
-    subst (λ w. ReachesStep before w x goal n m z) (sym (ap (λ s. step_script s rest) is ∙ step_script-Superposed form names shown written inner rest))
-    (superposed_reaches before form names shown written certs (script_of inner.value) rest x goal n (Stands z.context.scope z.context.facts) m z.names ready.fits ready.over cs k)
+pub superposed_entered : (before : List StatementView) (step : Step) (superposition : Superpose) (names : List (List ℕ)) (shown : List Lit) (written certs : List Cert) (inner : Box Block Global) (x z : StepState) (n m : ℕ) →
+    step ≡ SuperposedStep superposition names shown written inner → SuperposedReady before superposition names shown (script_of inner.value) x → Certifies superposition x certs →
+    ReachesStep before (script_of inner.value) (after_superposed superposition names x) (goal_of shown) (n + 1) m z → ReachesInStep before step x n m z
+superposed_entered before step superposition names shown written certs inner x z n m is ready cs k rest goal r =
+    subst (λ w. ReachesStep before w x goal n m z) (sym (ap (λ s. step_script s rest) is ∙ step_script-Superposed superposition names shown written inner rest))
+    (superposed_reaches before superposition names shown written certs (script_of inner.value) rest x goal n (Stands z.context.scope z.context.facts) m z.names ready.fits ready.over cs k)
 
 pub split_entered_first : (before : List StatementView) (close : Close) (lit : Lit) (first second : Box Block Global) (x z : StepState) (goal : Goal) (n m : ℕ) → close ≡ CasesClose lit first second →
     SplitReady before lit (script_of first.value) x goal → ReachesStep before (script_of first.value) (after_literal lit x) goal (n + 1) m z → ReachesStep before (close_script close) x goal n m z

@@ -19,7 +19,7 @@ use Rattle.e_clause.specs.declared.cert.Cert.{Cert}
 use Rattle.e_clause.specs.LimitedFacts.{is_well_formed_in, are_well_formed_in, are_limited_facts}
 use Rattle.e_construct.specs.declared.construction.Construction.{Construction}
 use Rattle.e_construct.specs.declared.superpose.Superpose.{Superpose}
-use Rattle.e_construct.specs.Construct.{sorts_made, gives_of_construction, needs_of_construction as needs_of_form}
+use Rattle.e_construct.specs.Construct.{sorts_made, gives_of_construction, needs_of_construction}
 use Rattle.e_deriv.specs.declared.block.Block.{Block}
 use Rattle.e_deriv.specs.declared.block.Step.TheVariants.{Cite as CiteStep, Hence as HenceStep, Make as MakeStep, Apply as ApplyStep, Claim as ClaimStep, Superposed as SuperposedStep}
 use Rattle.e_deriv.specs.Script.{Script, Cite, Hence, Make, Apply, Claim, Superposed, script_of, step_script, size}
@@ -91,22 +91,22 @@ hence_good before lit cert x n r = hence_lits before lit cert r.rest x r.goal r.
 pub one_good : (s : Scope) (lit : Lit) → are_well_formed_in s (lit ∷ []) ≡ true → is_well_formed_in s lit ≡ true
 one_good s lit h = and_left (is_well_formed_in s lit) true h
 
-make_lits : (before : List StatementView) (form : Construction) (names : List (List ℕ)) (certs : List Cert) (rest : Script) (x : StepState) (goal : Goal) → IsReadyFor before (Make form names certs rest) x goal →
-    LineReady x.context.scope (needs_of_form form) (after_make form names x)
+make_lits : (before : List StatementView) (construction : Construction) (names : List (List ℕ)) (certs : List Cert) (rest : Script) (x : StepState) (goal : Goal) → IsReadyFor before (Make construction names certs rest) x goal →
+    LineReady x.context.scope (needs_of_construction construction) (after_make construction names x)
 unfolding placed_steps
-make_lits before form names certs rest x goal r =
+make_lits before construction names certs rest x goal r =
     let s = x.context.scope in
-    let here = Make form names certs rest in
+    let here = Make construction names certs rest in
     let both = (r.lits here).1 (form_first before here x goal r) in
-    record { needs = both.0; after = first_facts before rest rest (grown s (sorts_made form)) (joined_all x.context.facts (gives_of_construction form s)) goal both.1 }
+    record { needs = both.0; after = first_facts before rest rest (grown s (sorts_made construction)) (joined_all x.context.facts (gives_of_construction construction s)) goal both.1 }
 
-pub make_good : (before : List StatementView) (form : Construction) (names : List (List ℕ)) (certs : List Cert) (x : StepState) (n : ℕ) → IsReadyStep before (MakeStep form names certs) x n →
-    LineReady x.context.scope (needs_of_form form) (after_make form names x)
+pub make_good : (before : List StatementView) (construction : Construction) (names : List (List ℕ)) (certs : List Cert) (x : StepState) (n : ℕ) → IsReadyStep before (MakeStep construction names certs) x n →
+    LineReady x.context.scope (needs_of_construction construction) (after_make construction names x)
 unfolding step_script
-make_good before form names certs x n r = make_lits before form names certs r.rest x r.goal r.ready
+make_good before construction names certs x n r = make_lits before construction names certs r.rest x r.goal r.ready
 
-pub make_room : (before : List StatementView) (form : Construction) (names : List (List ℕ)) (certs : List Cert) (x : StepState) (n : ℕ) → IsReadyStep before (MakeStep form names certs) x n → HasRoomForMore x.context.scope
-make_room before form names certs x n r = room_of_small x.context.scope (first_scope before (step_script (MakeStep form names certs) r.rest) x r.goal r.ready)
+pub make_room : (before : List StatementView) (construction : Construction) (names : List (List ℕ)) (certs : List Cert) (x : StepState) (n : ℕ) → IsReadyStep before (MakeStep construction names certs) x n → HasRoomForMore x.context.scope
+make_room before construction names certs x n r = room_of_small x.context.scope (first_scope before (step_script (MakeStep construction names certs) r.rest) x r.goal r.ready)
 
 -- ---- an application
 
@@ -185,16 +185,16 @@ claim_parts before shown inner x n r =
 pub claim_lines : (before : List StatementView) (shown : List Lit) (inner : Box Block Global) (x : StepState) (n : ℕ) → IsReadyStep before (ClaimStep shown inner) x n → n + 1 + size (script_of inner.value) < 2 ^ 32
 claim_lines before shown inner x n r = claim_few shown (script_of inner.value) r.rest n (subst (λ d. n + size d < 2 ^ 32) (step_script-Claim shown inner r.rest) r.few)
 
-pub superposed_few : (form : Superpose) (names : List (List ℕ)) (shown : List Lit) (certs : List Cert) (inner rest : Script) (n : ℕ) → n + size (Superposed form names shown certs inner rest) < 2 ^ 32 → n + 1 + size inner < 2 ^ 32
+pub superposed_few : (superposition : Superpose) (names : List (List ℕ)) (shown : List Lit) (certs : List Cert) (inner rest : Script) (n : ℕ) → n + size (Superposed superposition names shown certs inner rest) < 2 ^ 32 → n + 1 + size inner < 2 ^ 32
 unfolding size
-superposed_few form names shown certs inner rest n h = omega (arith, h)
+superposed_few superposition names shown certs inner rest n h = omega (arith, h)
 
-pub superposed_parts : (before : List StatementView) (form : Superpose) (names : List (List ℕ)) (shown : List Lit) (certs : List Cert) (inner : Box Block Global) (x : StepState) (n : ℕ) →
-    IsReadyStep before (SuperposedStep form names shown certs inner) x n → SuperposedReady before form names shown (script_of inner.value) x
-superposed_parts before form names shown certs inner x n r =
-    superposed_ready before form names shown certs (script_of inner.value) r.rest x r.goal (subst (λ d. IsReadyFor before d x r.goal) (step_script-Superposed form names shown certs inner r.rest) r.ready)
+pub superposed_parts : (before : List StatementView) (superposition : Superpose) (names : List (List ℕ)) (shown : List Lit) (certs : List Cert) (inner : Box Block Global) (x : StepState) (n : ℕ) →
+    IsReadyStep before (SuperposedStep superposition names shown certs inner) x n → SuperposedReady before superposition names shown (script_of inner.value) x
+superposed_parts before superposition names shown certs inner x n r =
+    superposed_ready before superposition names shown certs (script_of inner.value) r.rest x r.goal (subst (λ d. IsReadyFor before d x r.goal) (step_script-Superposed superposition names shown certs inner r.rest) r.ready)
 
-pub superposed_lines : (before : List StatementView) (form : Superpose) (names : List (List ℕ)) (shown : List Lit) (certs : List Cert) (inner : Box Block Global) (x : StepState) (n : ℕ) →
-    IsReadyStep before (SuperposedStep form names shown certs inner) x n → n + 1 + size (script_of inner.value) < 2 ^ 32
-superposed_lines before form names shown certs inner x n r =
-    superposed_few form names shown certs (script_of inner.value) r.rest n (subst (λ d. n + size d < 2 ^ 32) (step_script-Superposed form names shown certs inner r.rest) r.few)
+pub superposed_lines : (before : List StatementView) (superposition : Superpose) (names : List (List ℕ)) (shown : List Lit) (certs : List Cert) (inner : Box Block Global) (x : StepState) (n : ℕ) →
+    IsReadyStep before (SuperposedStep superposition names shown certs inner) x n → n + 1 + size (script_of inner.value) < 2 ^ 32
+superposed_lines before superposition names shown certs inner x n r =
+    superposed_few superposition names shown certs (script_of inner.value) r.rest n (subst (λ d. n + size d < 2 ^ 32) (step_script-Superposed superposition names shown certs inner r.rest) r.few)

@@ -60,10 +60,10 @@ wide_at before (Apply theorem pattern names certs rest) s facts goal args Match 
     subst (λ b. MatchBool b (SomeIsWide before x) (SomeChoiceIsWide (theorem_at before theorem) s facts pattern)) (sym h.0) (wide_choice (theorem_at before theorem) s facts pattern w h.1)
 wide_at before (Cite by rest) s facts goal args (Literal l) w h = record { lit = l; is_one = h.0; is_wide = wide_lit s facts l w h.1 }
 wide_at before (Hence lit cert rest) s facts goal args (Literal l) w h = record { lit = l; is_one = h.0; is_wide = wide_lit s facts l w h.1 }
-wide_at before (Make form names certs rest) s facts goal args (Literal l) w h = record { lit = l; is_one = h.0; is_wide = wide_lit s facts l w h.1 }
+wide_at before (Make construction names certs rest) s facts goal args (Literal l) w h = record { lit = l; is_one = h.0; is_wide = wide_lit s facts l w h.1 }
 wide_at before (Qed objects certs) s facts goal args (Literal l) w h = record { lit = l; is_one = h.0; is_wide = wide_lit s facts l w h.1 }
 wide_at before (Claim shown inner rest) s facts goal args (Literal l) w h = record { lit = l; is_one = h.0; is_wide = wide_lit s facts l w h.1 }
-wide_at before (Superposed form names shown certs inner rest) s facts goal args (Literal l) w h = record { lit = l; is_one = h.0; is_wide = wide_lit s facts l w h.1 }
+wide_at before (Superposed superposition names shown certs inner rest) s facts goal args (Literal l) w h = record { lit = l; is_one = h.0; is_wide = wide_lit s facts l w h.1 }
 wide_at before (Cases lit first second) s facts goal args (Literal l) w h = record { lit = l; is_one = h.0; is_wide = wide_lit s facts l w h.1 }
 wide_at before here s facts goal args wanted w h = absurd h
 

@@ -41,15 +41,15 @@ all_named now before sorts new i done h =
     sym (none_named now (drop i sorts) (drop i new) none) ∙ h
 
 -- new objects come into scope, and then what is given joins the facts
-pub made_after : (form : Construction) (names : List (List ℕ)) (x mid after : StepState) (sorts : List Sort) (given : List Lit) → sorts ≡ sorts_made form →
-    given ≡ gives_of_construction form x.context.scope → mid.context ≡ record x.context { scope = grown x.context.scope sorts } → mid.names ≡ named x.names sorts names →
-    after ≡ record mid { context = record mid.context { facts = joined_all mid.context.facts given } } → after ≡ after_make form names x
-made_after form names x mid after sorts given a b c d e = rw (e, c, d, b, a) refl
+pub made_after : (construction : Construction) (names : List (List ℕ)) (x mid after : StepState) (sorts : List Sort) (given : List Lit) → sorts ≡ sorts_made construction →
+    given ≡ gives_of_construction construction x.context.scope → mid.context ≡ record x.context { scope = grown x.context.scope sorts } → mid.names ≡ named x.names sorts names →
+    after ≡ record mid { context = record mid.context { facts = joined_all mid.context.facts given } } → after ≡ after_make construction names x
+made_after construction names x mid after sorts given a b c d e = rw (e, c, d, b, a) refl
 
-pub superposed_after : (form : Superpose) (names : List (List ℕ)) (x mid after : StepState) (sorts : List Sort) (given : List Lit) → sorts ≡ superposing.sorts_copied →
-    given ≡ superposing.gives_of_superposition form x.context.scope → mid.context ≡ record x.context { scope = grown x.context.scope sorts } → mid.names ≡ named x.names sorts names →
-    after ≡ record mid { context = record mid.context { facts = joined_all mid.context.facts given } } → after ≡ after_superposed form names x
-superposed_after form names x mid after sorts given a b c d e = rw (e, c, d, b, a) refl
+pub superposed_after : (superposition : Superpose) (names : List (List ℕ)) (x mid after : StepState) (sorts : List Sort) (given : List Lit) → sorts ≡ superposing.sorts_copied →
+    given ≡ superposing.gives_of_superposition superposition x.context.scope → mid.context ≡ record x.context { scope = grown x.context.scope sorts } → mid.names ≡ named x.names sorts names →
+    after ≡ record mid { context = record mid.context { facts = joined_all mid.context.facts given } } → after ≡ after_superposed superposition names x
+superposed_after superposition names x mid after sorts given a b c d e = rw (e, c, d, b, a) refl
 
 pub applied_after : (t : StatementView) (args : List Obj) (names : List (List ℕ)) (x mid after : StepState) (sorts : List Sort) (given : List Lit) → sorts ≡ t.made →
     given ≡ gives_of_use t args x.context.scope → mid.context ≡ record x.context { scope = grown x.context.scope sorts } → mid.names ≡ named x.names sorts names →
@@ -118,16 +118,16 @@ good_left before x all left l rest same whole split h =
     (subst (λ facts. are_limited_facts before.scope facts ≡ true) (sym whole) h)))
 
 -- what a construction gives may join the facts once its objects are in scope
-pub good_given : (form : Construction) (x wider : Basis) (sorts : List Sort) (given : List Lit) → sorts ≡ sorts_made form → given ≡ gives_of_construction form x.scope →
-    wider ≡ record x { scope = grown x.scope sorts } → are_limited_facts (grown x.scope (sorts_made form)) (joined_all x.facts (gives_of_construction form x.scope)) ≡ true →
+pub good_given : (construction : Construction) (x wider : Basis) (sorts : List Sort) (given : List Lit) → sorts ≡ sorts_made construction → given ≡ gives_of_construction construction x.scope →
+    wider ≡ record x { scope = grown x.scope sorts } → are_limited_facts (grown x.scope (sorts_made construction)) (joined_all x.facts (gives_of_construction construction x.scope)) ≡ true →
     are_limited_facts wider.scope (joined_all wider.facts given) ≡ true
-good_given form x wider sorts given a b c h = rw (c, b, a) h
+good_given construction x wider sorts given a b c h = rw (c, b, a) h
 
 -- and what a superposition gives
-pub good_superposed : (form : Superpose) (x wider : Basis) (sorts : List Sort) (given : List Lit) → sorts ≡ superposing.sorts_copied → given ≡ superposing.gives_of_superposition form x.scope →
-    wider ≡ record x { scope = grown x.scope sorts } → are_limited_facts (grown x.scope superposing.sorts_copied) (joined_all x.facts (superposing.gives_of_superposition form x.scope)) ≡ true →
+pub good_superposed : (superposition : Superpose) (x wider : Basis) (sorts : List Sort) (given : List Lit) → sorts ≡ superposing.sorts_copied → given ≡ superposing.gives_of_superposition superposition x.scope →
+    wider ≡ record x { scope = grown x.scope sorts } → are_limited_facts (grown x.scope superposing.sorts_copied) (joined_all x.facts (superposing.gives_of_superposition superposition x.scope)) ≡ true →
     are_limited_facts wider.scope (joined_all wider.facts given) ≡ true
-good_superposed form x wider sorts given a b c h = rw (c, b, a) h
+good_superposed superposition x wider sorts given a b c h = rw (c, b, a) h
 
 -- what an application gives may join the facts once its objects are in scope
 pub good_applied : (t : StatementView) (args : List Obj) (x wider : Basis) (sorts : List Sort) (given : List Lit) → sorts ≡ t.made → given ≡ gives_of_use t args x.scope →

@@ -99,50 +99,50 @@ claim_is_stopped before shown inner x n t ready k rest goal r =
 
 -- ---- a superposition
 
-pub superposed_is : (s : Step) (form : Superpose) (names copies : List (List ℕ)) (shown seen : List Lit) (certs : List Cert) (inner : Box Block Global) (block : Block) → s ≡ SuperposedStep form names shown certs inner
-    → copies ≡ names → seen ≡ shown → block ≡ inner.value → (rest : Script) → step_script s rest ≡ Superposed form copies seen certs (script_of block) rest
-superposed_is s form names copies shown seen certs inner block is given same at rest =
-    ap (λ t. step_script t rest) is ∙ step_script-Superposed form names shown certs inner rest ∙ ap (λ ns. Superposed form ns shown certs (script_of inner.value) rest) (sym given)
-    ∙ ap (λ ls. Superposed form copies ls certs (script_of inner.value) rest) (sym same) ∙ ap (λ b. Superposed form copies seen certs (script_of b) rest) (sym at)
+pub superposed_is : (s : Step) (superposition : Superpose) (names copies : List (List ℕ)) (shown seen : List Lit) (certs : List Cert) (inner : Box Block Global) (block : Block) → s ≡ SuperposedStep superposition names shown certs inner
+    → copies ≡ names → seen ≡ shown → block ≡ inner.value → (rest : Script) → step_script s rest ≡ Superposed superposition copies seen certs (script_of block) rest
+superposed_is s superposition names copies shown seen certs inner block is given same at rest =
+    ap (λ t. step_script t rest) is ∙ step_script-Superposed superposition names shown certs inner rest ∙ ap (λ ns. Superposed superposition ns shown certs (script_of inner.value) rest) (sym given)
+    ∙ ap (λ ls. Superposed superposition copies ls certs (script_of inner.value) rest) (sym same) ∙ ap (λ b. Superposed superposition copies seen certs (script_of b) rest) (sym at)
 
-pub superposed_begins : (before : List StatementView) (form : Superpose) (names : List (List ℕ)) (shown : List Lit) (certs : List Cert) (inner : Script) (x : StepState) (n : ℕ) → AreReadySteps before (Superposed form names shown certs inner) x n
-    → SuperposedReady before form names shown inner x
-superposed_begins before form names shown certs inner x n r = superposed_ready before form names shown certs inner r.rest x r.goal r.ready
+pub superposed_begins : (before : List StatementView) (superposition : Superpose) (names : List (List ℕ)) (shown : List Lit) (certs : List Cert) (inner : Script) (x : StepState) (n : ℕ) → AreReadySteps before (Superposed superposition names shown certs inner) x n
+    → SuperposedReady before superposition names shown inner x
+superposed_begins before superposition names shown certs inner x n r = superposed_ready before superposition names shown certs inner r.rest x r.goal r.ready
 
-pub superposed_numbers : (before : List StatementView) (form : Superpose) (names : List (List ℕ)) (shown : List Lit) (certs : List Cert) (inner : Script) (x : StepState) (n : ℕ) → AreReadySteps before (Superposed form names shown certs inner) x n
+pub superposed_numbers : (before : List StatementView) (superposition : Superpose) (names : List (List ℕ)) (shown : List Lit) (certs : List Cert) (inner : Script) (x : StepState) (n : ℕ) → AreReadySteps before (Superposed superposition names shown certs inner) x n
     → n + 1 + size inner < 2 ^ 32
-superposed_numbers before form names shown certs inner x n r = superposed_few form names shown certs inner r.rest n r.few
+superposed_numbers before superposition names shown certs inner x n r = superposed_few superposition names shown certs inner r.rest n r.few
 
-pub superposed_ends : (before : List StatementView) (form : Superpose) (names : List (List ℕ)) (shown : List Lit) (certs : List Cert) (inner derived : Script) (x : StepState) (n : ℕ)
-    → IsDerivedFrom before inner (after_superposed form names x) (goal_of shown) derived → AreReadySteps before (Superposed form names shown certs inner) x n → are_limited_facts x.context.scope (joined_all x.context.facts shown) ≡ true
-superposed_ends before form names shown certs inner derived x n d r =
-    block_facts before r.rest (after_block shown x) r.goal (superposed_rest before form names shown certs inner derived r.rest x r.goal d r.ready)
+pub superposed_ends : (before : List StatementView) (superposition : Superpose) (names : List (List ℕ)) (shown : List Lit) (certs : List Cert) (inner derived : Script) (x : StepState) (n : ℕ)
+    → IsDerivedFrom before inner (after_superposed superposition names x) (goal_of shown) derived → AreReadySteps before (Superposed superposition names shown certs inner) x n → are_limited_facts x.context.scope (joined_all x.context.facts shown) ≡ true
+superposed_ends before superposition names shown certs inner derived x n d r =
+    block_facts before r.rest (after_block shown x) r.goal (superposed_rest before superposition names shown certs inner derived r.rest x r.goal d r.ready)
 
-pub superposed_is_passed : (before : List StatementView) (form : Superpose) (names : List (List ℕ)) (shown : List Lit) (certs : List Cert) (inner : Script) (x z after : StepState) (n : ℕ) (o : Names) (proved : ProvedBlock) (r : Result ProvedStep Stop)
-    → SuperposedReady before form names shown inner x → Certifies form x certs → IsDerivedFrom before inner (after_superposed form names x) (goal_of shown) (script_of proved.block) → proved.next ≡ n + 1 + size inner → o ≡ x.names → KeepsHeld (held_at x) z
-    → IfOk r (λ p. (rest : Script) → step_script p.step rest ≡ Superposed form names shown certs (script_of proved.block) rest) → IfOk r (λ p. p.next ≡ proved.next) → OnOk r (IsLeftWith o shown z after)
-    → IfOk r (λ p. (written : List Cert) → IsPassed before (Superposed form names shown written inner) x n (step_script p.step) after p.next)
-superposed_is_passed before form names shown certs inner x z after n o proved (Err t) ready cs d count e k a b c = tt
-superposed_is_passed before form names shown certs inner x z after n o proved (Ok p) ready cs d count e k a b c = λ written.
+pub superposed_is_passed : (before : List StatementView) (superposition : Superpose) (names : List (List ℕ)) (shown : List Lit) (certs : List Cert) (inner : Script) (x z after : StepState) (n : ℕ) (o : Names) (proved : ProvedBlock) (r : Result ProvedStep Stop)
+    → SuperposedReady before superposition names shown inner x → Certifies superposition x certs → IsDerivedFrom before inner (after_superposed superposition names x) (goal_of shown) (script_of proved.block) → proved.next ≡ n + 1 + size inner → o ≡ x.names → KeepsHeld (held_at x) z
+    → IfOk r (λ p. (rest : Script) → step_script p.step rest ≡ Superposed superposition names shown certs (script_of proved.block) rest) → IfOk r (λ p. p.next ≡ proved.next) → OnOk r (IsLeftWith o shown z after)
+    → IfOk r (λ p. (written : List Cert) → IsPassed before (Superposed superposition names shown written inner) x n (step_script p.step) after p.next)
+superposed_is_passed before superposition names shown certs inner x z after n o proved (Err t) ready cs d count e k a b c = tt
+superposed_is_passed before superposition names shown certs inner x z after n o proved (Ok p) ready cs d count e k a b c = λ written.
     let D = script_of proved.block in
-    let base = passed_superposed before form names shown written certs inner D x n proved.next ready.fits ready.over cs d count in
-    let here = subst (λ w. IsPassed before (Superposed form names shown written inner) x n (Superposed form names shown certs D) w proved.next) (sym (after_is o x z after shown shown e k refl c)) base in
-    passed_as before (Superposed form names shown written inner) (Superposed form names shown certs D) (Superposed form names shown written inner) (step_script p.step) x after n p.next (λ w. refl) (λ w. sym (a w))
-    (subst (λ m. IsPassed before (Superposed form names shown written inner) x n (Superposed form names shown certs D) after m) (sym b) here)
+    let base = passed_superposed before superposition names shown written certs inner D x n proved.next ready.fits ready.over cs d count in
+    let here = subst (λ w. IsPassed before (Superposed superposition names shown written inner) x n (Superposed superposition names shown certs D) w proved.next) (sym (after_is o x z after shown shown e k refl c)) base in
+    passed_as before (Superposed superposition names shown written inner) (Superposed superposition names shown certs D) (Superposed superposition names shown written inner) (step_script p.step) x after n p.next (λ w. refl) (λ w. sym (a w))
+    (subst (λ m. IsPassed before (Superposed superposition names shown written inner) x n (Superposed superposition names shown certs D) after m) (sym b) here)
 
-pub superposed_is_stopped : (before : List StatementView) (form : Superpose) (names : List (List ℕ)) (shown : List Lit) (certs : List Cert) (inner : Script) (x : StepState) (n : ℕ) (t : Stop) → SuperposedReady before form names shown inner x → Certifies form x certs
-    → StopsWithin before inner (after_superposed form names x) (goal_of shown) (n + 1) t → (written : List Cert) → StepsStop before (Superposed form names shown written inner) x n t
-superposed_is_stopped before form names shown certs inner x n t ready cs k written rest goal r =
-    let count = superposed_size form names shown written inner rest in (
-      superposed_stops before form names shown written certs inner rest x goal n t ready.fits ready.over cs k,
-      before_more (n + 1 + size inner) (n + size (Superposed form names shown written inner rest) - size rest) t (omega (arith, count)) (stop_within before inner (after_superposed form names x) (goal_of shown) (n + 1) t k),
+pub superposed_is_stopped : (before : List StatementView) (superposition : Superpose) (names : List (List ℕ)) (shown : List Lit) (certs : List Cert) (inner : Script) (x : StepState) (n : ℕ) (t : Stop) → SuperposedReady before superposition names shown inner x → Certifies superposition x certs
+    → StopsWithin before inner (after_superposed superposition names x) (goal_of shown) (n + 1) t → (written : List Cert) → StepsStop before (Superposed superposition names shown written inner) x n t
+superposed_is_stopped before superposition names shown certs inner x n t ready cs k written rest goal r =
+    let count = superposed_size superposition names shown written inner rest in (
+      superposed_stops before superposition names shown written certs inner rest x goal n t ready.fits ready.over cs k,
+      before_more (n + 1 + size inner) (n + size (Superposed superposition names shown written inner rest) - size rest) t (omega (arith, count)) (stop_within before inner (after_superposed superposition names x) (goal_of shown) (n + 1) t k),
     )
 
-pub superposed_is_refused : (before : List StatementView) (form : Superpose) (names : List (List ℕ)) (shown : List Lit) (inner : Script) (x after : StepState) (n : ℕ) (h : StepStop) (t : Stop) → StepStopsAmong x.context (superposing.needs_of_superposition form) h
-    → UnlessNoMemory (after.names ≡ x.names) h → StopOf h n after.names t → (written : List Cert) → StepsStop before (Superposed form names shown written inner) x n t
-superposed_is_refused before form names shown inner x after n h t k m e written rest goal r =
-    let here = Superposed form names shown written inner rest in
-    let count = superposed_size form names shown written inner rest in (
-      stops_first before here x goal n h t (superposed_step_stops before form names shown written inner rest here x goal h k) (same_names h n x after t m e),
+pub superposed_is_refused : (before : List StatementView) (superposition : Superpose) (names : List (List ℕ)) (shown : List Lit) (inner : Script) (x after : StepState) (n : ℕ) (h : StepStop) (t : Stop) → StepStopsAmong x.context (superposing.needs_of_superposition superposition) h
+    → UnlessNoMemory (after.names ≡ x.names) h → StopOf h n after.names t → (written : List Cert) → StepsStop before (Superposed superposition names shown written inner) x n t
+superposed_is_refused before superposition names shown inner x after n h t k m e written rest goal r =
+    let here = Superposed superposition names shown written inner rest in
+    let count = superposed_size superposition names shown written inner rest in (
+      stops_first before here x goal n h t (superposed_step_stops before superposition names shown written inner rest here x goal h k) (same_names h n x after t m e),
       stop_before h n (n + size here - size rest) after.names t (omega (arith, count)) e,
     )

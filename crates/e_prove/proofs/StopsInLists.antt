@@ -156,13 +156,13 @@ pub names_length : (before : List StatementView) (ns : Names) (d : Script) → l
 unfolding names_of_steps size
 names_length before ns (Cite by rest) = let h = names_length before ns rest in omega (arith, h)
 names_length before ns (Hence lit cert rest) = let h = names_length before ns rest in omega (arith, h)
-names_length before ns (Make form names certs rest) = let h = names_length before (named ns (sorts_made form) names) rest in omega (arith, h)
+names_length before ns (Make construction names certs rest) = let h = names_length before (named ns (sorts_made construction) names) rest in omega (arith, h)
 names_length before ns (Apply theorem args names certs rest) = let h = names_length before (named ns (theorem_at before theorem).made names) rest in omega (arith, h)
 names_length before ns (Claim shown inner rest) =
     let h = names_length before ns inner in
     let k = names_length before ns rest in
     omega (arith, h, k, length-append (names_of_steps before ns inner) (names_of_steps before ns rest))
-names_length before ns (Superposed form names shown certs inner rest) =
+names_length before ns (Superposed superposition names shown certs inner rest) =
     let ms = named ns superposing.sorts_copied names in
     let h = names_length before ms inner in
     let k = names_length before ns rest in
@@ -197,9 +197,9 @@ tests_again before p b (Cite by rest) f f' s facts facts' goal =
     both_same _ _ _ _ (b.same (Cite by rest) f f' s facts facts' goal) (tests_again before p b rest (rest_of f) (rest_of f') s (joined facts by.lit) (joined facts' by.lit) goal)
 tests_again before p b (Hence lit cert rest) f f' s facts facts' goal =
     both_same _ _ _ _ (b.same (Hence lit cert rest) f f' s facts facts' goal) (tests_again before p b rest (rest_of f) (rest_of f') s (joined facts lit) (joined facts' lit) goal)
-tests_again before p b (Make form names certs rest) f f' s facts facts' goal =
-    both_same _ _ _ _ (b.same (Make form names certs rest) f f' s facts facts' goal)
-    (tests_again before p b rest (rest_of f) (rest_of f') (grown s (sorts_made form)) (joined_all facts (gives_of_construction form s)) (joined_all facts' (gives_of_construction form s)) goal)
+tests_again before p b (Make construction names certs rest) f f' s facts facts' goal =
+    both_same _ _ _ _ (b.same (Make construction names certs rest) f f' s facts facts' goal)
+    (tests_again before p b rest (rest_of f) (rest_of f') (grown s (sorts_made construction)) (joined_all facts (gives_of_construction construction s)) (joined_all facts' (gives_of_construction construction s)) goal)
 tests_again before p b (Apply theorem args names certs rest) f f' s facts facts' goal =
     let t = theorem_at before theorem in
     both_same _ _ _ _ (b.same (Apply theorem args names certs rest) f f' s facts facts' goal)
@@ -210,10 +210,10 @@ tests_again before p b (Claim shown inner rest) f f' s facts facts' goal =
     (placed_steps before rest (rest_of f) s (joined_all facts shown) goal) (placed_steps before rest (rest_of f') s (joined_all facts' shown) goal)
     (tests_again before p b inner (inner_of f) (inner_of f') s facts facts' (goal_of shown))
     (tests_again before p b rest (rest_of f) (rest_of f') s (joined_all facts shown) (joined_all facts' shown) goal))
-tests_again before p b (Superposed form names shown certs inner rest) f f' s facts facts' goal =
+tests_again before p b (Superposed superposition names shown certs inner rest) f f' s facts facts' goal =
     let g = grown s superposing.sorts_copied in
-    let given = superposing.gives_of_superposition form s in
-    both_same _ _ _ _ (b.same (Superposed form names shown certs inner rest) f f' s facts facts' goal)
+    let given = superposing.gives_of_superposition superposition s in
+    both_same _ _ _ _ (b.same (Superposed superposition names shown certs inner rest) f f' s facts facts' goal)
     (both_lists p (placed_steps before inner (inner_of f) g (joined_all facts given) (goal_of shown)) (placed_steps before inner (inner_of f') g (joined_all facts' given) (goal_of shown))
     (placed_steps before rest (rest_of f) s (joined_all facts shown) goal) (placed_steps before rest (rest_of f') s (joined_all facts' shown) goal)
     (tests_again before p b inner (inner_of f) (inner_of f') g (joined_all facts given) (joined_all facts' given) (goal_of shown))
@@ -235,10 +235,10 @@ form_is_blind before = record { same = by_form }
     by_form : (here f f' : Script) (s : Scope) (facts facts' : List Lit) (goal : Goal) → has_form before (placed_step here f s facts goal) ≡ has_form before (placed_step here f' s facts' goal)
     by_form (Cite by rest) f f' s facts facts' goal = refl
     by_form (Hence lit cert rest) f f' s facts facts' goal = refl
-    by_form (Make form names certs rest) f f' s facts facts' goal = refl
+    by_form (Make construction names certs rest) f f' s facts facts' goal = refl
     by_form (Apply theorem args names certs rest) f f' s facts facts' goal = refl
     by_form (Claim shown inner rest) f f' s facts facts' goal = refl
-    by_form (Superposed form names shown certs inner rest) f f' s facts facts' goal = refl
+    by_form (Superposed superposition names shown certs inner rest) f f' s facts facts' goal = refl
     by_form (Qed objects certs) f f' s facts facts' goal = refl
     by_form (Contradiction against) f f' s facts facts' goal = refl
     by_form (Cases lit first second) f f' s facts facts' goal = refl

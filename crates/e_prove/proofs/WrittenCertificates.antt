@@ -5,7 +5,7 @@ use Rattle.std.specs.List.{list_all}
 use Rattle.std.proofs.lemmas.Bool.{and_from}
 use Rattle.e_literal.proofs.Booleans.{and_left, and_right}
 use Rattle.e_clause.specs.declared.cert.Cert.{Cert}
-use Rattle.e_book.specs.Fits.{has_good_literals}
+use Rattle.e_book.specs.Fits.{has_well_formed_literals}
 use Rattle.e_book.proofs.fit_theorems.WrittenScripts.{erased_literals, filled_literals, written_well}
 use Rattle.e_deriv.specs.declared.block.Block.{Block}
 use Rattle.e_deriv.specs.Script.{Script, script_of, erased}
@@ -18,15 +18,15 @@ use Rattle.e_deriv.proofs.Versions.{good_of_version}
 
 -- ---- certificates and blanks are no part of the literals
 
-same_literals : (script derived : Script) → erased derived ≡ filled_by (erased script) derived → has_good_literals derived ≡ has_good_literals script
+same_literals : (script derived : Script) → erased derived ≡ filled_by (erased script) derived → has_well_formed_literals derived ≡ has_well_formed_literals script
 same_literals script derived e =
-    sym (erased_literals derived) ∙ ap has_good_literals e ∙ filled_literals (erased script) derived ∙ erased_literals script
+    sym (erased_literals derived) ∙ ap has_well_formed_literals e ∙ filled_literals (erased script) derived ∙ erased_literals script
 
 -- ---- good literals and good certificates
 
 -- what is derived from a script with good literals, with good certificates, is written well
 pub each_written_well : {E : Type 0} (script : Script) (r : Result Block E) → IfOk r (λ d. erased (script_of d) ≡ filled_by (erased script) (script_of d)) → IfOk r (λ d. has_certs_of version.One (script_of d) ≡ true) →
-    IfOk r (λ d. has_good_literals script ≡ true → is_written_well (script_of d) ≡ true)
+    IfOk r (λ d. has_well_formed_literals script ≡ true → is_written_well (script_of d) ≡ true)
 each_written_well script (Ok d) e k = λ h. written_well (script_of d) (same_literals script (script_of d) e ∙ h) (good_of_version version.One (script_of d) k)
 each_written_well script (Err s) e k = tt
 

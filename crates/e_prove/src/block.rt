@@ -4,19 +4,19 @@ ghost use Rattle.e_clause.specs.declared.cert.Cert.{Cert as Certificate};
 ghost use Rattle.e_theorem.specs.Statements.{all_stated};
 ghost use Rattle.e_deriv.specs.Script.{Claim, Superposed, script_of};
 ghost use Rattle.e_deriv.specs.Script.{step_script, close_script, size};
-ghost use Rattle.e_prove.specs.inner.StepStates.{goal_view};
+ghost use Rattle.e_deriv.specs.Goal.{goal_view};
 ghost use Rattle.e_prove.specs.inner.PassedSteps.{AreReadySteps, IsReadyFor, IsReadyStep};
 ghost use Rattle.e_prove.specs.inner.PassedSteps.{IsDerivedFrom, IsPassed, KeepsHeld};
 ghost use Rattle.e_prove.specs.inner.PassedSteps.{StepsStop, StepStops, StopsWithin};
 
 use crate::application::{Application, apply};
-use crate::close::{Goal, contradiction, qed};
+use crate::close::{contradiction, qed};
 use crate::inner::{Head, claimed, split, superposed};
 use crate::step::{cite, hence, make, superpose};
 use crate::step_state::StepState;
 use crate::step_stop::{close_with_number, step_with_number, stop_at};
 use e_construct::Superpose;
-use e_deriv::{Block, Close, Step, Stop};
+use e_deriv::{Block, Close, Goal, Step, Stop};
 use e_literal::Lit;
 use e_text::Name;
 use e_theorem::Statement;
@@ -117,8 +117,12 @@ pub fn prove_step(
             let answered = hence(alloc, lit, state);
             step_with_number(alloc, answered, state, number)
         }
-        Step::Make { form, names, .. } => {
-            let answered = make(alloc, form, names.items(), state);
+        Step::Make {
+            construction,
+            names,
+            ..
+        } => {
+            let answered = make(alloc, construction, names.items(), state);
             step_with_number(alloc, answered, state, number)
         }
         Step::Apply {
@@ -140,18 +144,18 @@ pub fn prove_step(
             prove_claim(alloc, before, shown.items(), inner, state, number)
         }
         Step::Superposed {
-            form,
+            superposition,
             names,
             shown,
             inner,
             ..
         } => {
-            let superposition = Superposition {
-                form,
+            let parts = SuperposedParts {
+                superposition,
                 names: names.items(),
                 shown: shown.items(),
             };
-            prove_superposed(alloc, before, &superposition, inner, state, number)
+            prove_superposed(alloc, before, &parts, inner, state, number)
         }
     }
 }
@@ -187,8 +191,8 @@ fn prove_claim(
 
 /// A superposition without its certificates and its block.
 #[derive(Clone, Copy)]
-struct Superposition<'a> {
-    form: &'a Superpose,
+struct SuperposedParts<'a> {
+    superposition: &'a Superpose,
     names: &'a [Name],
     shown: &'a [Lit],
 }
@@ -198,25 +202,29 @@ struct Superposition<'a> {
 fn prove_superposed(
     alloc: Global,
     before: &[Statement],
-    superposition: &Superposition,
+    parts: &SuperposedParts,
     inner: &Block,
     state: &mut StepState,
     number: u32,
 ) -> Result<ProvedStep, Stop>
     requires { (certs : List Certificate) × AreReadySteps
-        (all_stated before.now) (Superposed superposition.now.form.now superposition.now.names.now
-        superposition.now.shown.now certs (script_of inner.now)) state.old number }
+        (all_stated before.now) (Superposed parts.now.superposition.now parts.now.names.now
+        parts.now.shown.now certs (script_of inner.now)) state.old number }
     ensures ok { IfOk result (λ p. (certs : List Certificate)
-        → IsPassed (all_stated before.now) (Superposed superposition.now.form.now
-        superposition.now.names.now superposition.now.shown.now certs (script_of inner.now))
+        → IsPassed (all_stated before.now) (Superposed parts.now.superposition.now
+        parts.now.names.now parts.now.shown.now certs (script_of inner.now))
         state.old number (step_script p.step) state.new p.next) }
     ensures err { IfErr result (λ s. (certs : List Certificate) → StepsStop
-        (all_stated before.now) (Superposed superposition.now.form.now superposition.now.names.now
-        superposition.now.shown.now certs (script_of inner.now)) state.old number s) }
+        (all_stated before.now) (Superposed parts.now.superposition.now parts.now.names.now
+        parts.now.shown.now certs (script_of inner.now)) state.old number s) }
 {
-    let Superposition { form, names, shown } = *superposition;
+    let SuperposedParts {
+        superposition,
+        names,
+        shown,
+    } = *parts;
     let outer = state.hold(alloc)?;
-    let certs = match superpose(alloc, form, names, state) {
+    let certs = match superpose(alloc, superposition, names, state) {
         Ok(certs) => certs,
         Err(step_stop) => {
             mem::drop(outer);
@@ -226,7 +234,11 @@ fn prove_superposed(
     let goal = Goal { made: &[], shown };
     match prove_block(alloc, before, inner, &goal, state, number + 1) {
         Ok(proved) => {
-            let head = Head { form, names, certs };
+            let head = Head {
+                superposition,
+                names,
+                certs,
+            };
             superposed(alloc, head, shown, proved, outer, state)
         }
         Err(stop) => {

@@ -5,25 +5,17 @@ ghost use Rattle.e_clause.specs.declared.cert.Against.{Against};
 ghost use Rattle.e_clause.specs.declared.cert.Cert.{Cert};
 ghost use Rattle.e_clause.specs.LimitedFacts.{are_well_formed_in};
 ghost use Rattle.e_deriv.specs.declared.block.Close.TheVariants.{Qed, Contradiction};
-ghost use Rattle.e_deriv.specs.Goal.{Goal as BlockGoal, are_for, goal_with as goal_at};
-ghost use Rattle.e_prove.specs.inner.StepStates.{goal_view};
+ghost use Rattle.e_deriv.specs.Goal.{Goal as BlockGoal, are_for, goal_with as goal_at, goal_view};
 ghost use Rattle.e_prove.specs.inner.StopsOfSteps.{contradiction_by};
 ghost use Rattle.e_prove.specs.inner.LicensedSteps.{IsLicensedClose, IsStopOfClose};
 
 use crate::licence::licences;
 use crate::step_stop::StepStop;
-use e_deriv::{Close, Wanted};
+use e_deriv::{Close, Goal, Wanted};
 use e_licence::{Context, Refuted};
 use e_literal::{Items, Lit, Map, Obj};
 use e_theorem::all_renamed;
 use std::alloc::{AllocError, Global};
-
-/// What a block has to show: literals, and the made objects in them.
-#[derive(Clone, Copy)]
-pub struct Goal<'a> {
-    pub made: &'a [Obj],
-    pub shown: &'a [Lit],
-}
 
 /// A qed: each literal of the goal is allowed, with these objects for its made ones.
 #[tactic(auto, unfolding(e_deriv::specs::Script::close_script))]

@@ -18,7 +18,7 @@ use std::mem;
 /// A superposition with its certificates, without its block.
 #[derive(Drop)]
 pub struct Head<'a> {
-    pub form: &'a Superpose,
+    pub superposition: &'a Superpose,
     pub names: &'a [Name],
     pub certs: Vec<Cert>,
 }
@@ -107,13 +107,17 @@ pub fn superposed(
     requires held { 0 < length state.old.context.held }
     requires good { CanJoinLast shown.now state.old }
     ensures step { IfOk result (λ p. (rest : Script)
-        → step_script p.step rest ≡ Superposed head.entry.form.now head.entry.names.now shown.now
-        head.entry.certs.items (script_of proved.block) rest) }
+        → step_script p.step rest ≡ Superposed head.entry.superposition.now head.entry.names.now
+        shown.now head.entry.certs.items (script_of proved.block) rest) }
     ensures next { IfOk result (λ p. p.next ≡ proved.next) }
     ensures after { OnOk result (IsLeftWith outer shown.now state.old state.new) }
     ensures err { IfErr result (λ s. s ≡ NoMemory) }
 {
-    let Head { form, names, certs } = head;
+    let Head {
+        superposition,
+        names,
+        certs,
+    } = head;
     let ProvedBlock { block, next } = proved;
     let names = match Vec::from_slice(alloc, names) {
         Ok(names) => Items::new(names),
@@ -127,7 +131,7 @@ pub fn superposed(
     match close_block(alloc, shown, block, outer, state) {
         Ok((shown, inner)) => {
             let step = Step::Superposed {
-                form: *form,
+                superposition: *superposition,
                 names,
                 shown,
                 certs: Items::new(certs),

@@ -6,11 +6,10 @@ ghost use Rattle.e_deriv.specs.Fitting.{IsFitting};
 ghost use Rattle.e_prove.specs.Places.{IsStepPlace};
 ghost use Rattle.e_prove.specs.Stops.{StopIs, HasNames, IsStopBefore};
 
-use crate::close::Goal;
 use crate::reach::reach;
 use crate::step_state::StepState;
 use e_book::Theorem;
-use e_deriv::{Names, Stop};
+use e_deriv::{Goal, Names, Stop};
 use e_licence::Context;
 use e_literal::next_objects;
 use e_theorem::Statement;

@@ -7,17 +7,16 @@ ghost use Rattle.e_deriv.specs.PlacedSteps.{proof_steps};
 ghost use Rattle.e_deriv.specs.Licensed.{AllLicensed};
 ghost use Rattle.e_deriv.specs.Fitting.{IsFitting};
 ghost use Rattle.e_deriv.specs.Certified.{Certified};
-ghost use Rattle.e_book.specs.Fits.{has_good_literals};
+ghost use Rattle.e_book.specs.Fits.{has_well_formed_literals};
 ghost use Rattle.e_prove.specs.Stops.{StopIs, HasNames};
 ghost use Rattle.e_deriv.specs.Written.{is_written_well};
 ghost use Rattle.e_clause.specs.declared.cert.Version.TheVariants as version;
 ghost use Rattle.e_deriv.specs.Versions.{has_certs_of};
 
 use crate::block::prove_block;
-use crate::close::Goal;
 use crate::step_state::StepState;
 use e_book::Theorem;
-use e_deriv::{Block, Names, Stop};
+use e_deriv::{Block, Goal, Names, Stop};
 use e_literal::next_objects;
 use e_theorem::Statement;
 use std::alloc::Global;
@@ -44,7 +43,8 @@ pub fn prove(alloc: Global, before: &[Statement], theorem: &Theorem) -> Result<B
     ensures least { IfOk
         result (λ d. AllLicensed (all_stated before.now) (proof_steps (all_stated before.now)
         (stated theorem.now.statement) (script_of theorem.now.block) (script_of d))) }
-    ensures written { IfOk result (λ d. IsTrue (has_good_literals (script_of theorem.now.block))
+    ensures written { IfOk result
+        (λ d. IsTrue (has_well_formed_literals (script_of theorem.now.block))
         → IsTrue (is_written_well (script_of d))) }
     ensures version { IfOk result (λ d. IsTrue (has_certs_of version.One (script_of d))) }
     ensures stop { IfErr result (StopIs (all_stated before.now) (stated theorem.now.statement)

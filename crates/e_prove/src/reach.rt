@@ -7,17 +7,17 @@ ghost use Rattle.e_theorem.specs.Statements.{all_stated};
 ghost use Rattle.e_deriv.specs.Script.{Script, script_of, step_script};
 ghost use Rattle.e_deriv.specs.Script.{close_script, size as script_size};
 ghost use Rattle.e_prove.specs.Stops.{IsStopBefore};
-ghost use Rattle.e_prove.specs.inner.StepStates.{after_literal, goal_view};
+ghost use Rattle.e_deriv.specs.Goal.{goal_view};
+ghost use Rattle.e_prove.specs.inner.StepStates.{after_literal};
 ghost use Rattle.e_prove.specs.inner.PassedSteps.{IsReadyFor, IsDerivedFrom, IsReadyStep};
 ghost use Rattle.e_prove.specs.inner.PassedSteps.{ReachesStep, ReachesInStep};
 ghost use Rattle.e_prove.specs.inner.PassedSteps.{IsFirstPassed, StopsWithin, StepStops};
 
 use crate::block::{prove_block, prove_step};
-use crate::close::Goal;
 use crate::step::superpose;
 use crate::step_state::StepState;
 use crate::step_stop::stop_at;
-use e_deriv::{Block, Close, Step, Stop, size};
+use e_deriv::{Block, Close, Goal, Step, Stop, size};
 use e_literal::Lit;
 use e_theorem::Statement;
 use std::alloc::Global;
@@ -116,13 +116,13 @@ fn enter_step(
             reach(alloc, before, inner, &goal, state, number + 1, target)
         }
         Step::Superposed {
-            form,
+            superposition,
             names,
             shown,
             inner,
             ..
         } => {
-            match superpose(alloc, form, names.items(), state) {
+            match superpose(alloc, superposition, names.items(), state) {
                 Ok(certs) => mem::drop(certs),
                 Err(step_stop) => return Err(stop_at(alloc, step_stop, state, number)),
             }

@@ -91,29 +91,29 @@ fn assumed(alloc: Global, lit: &Lit, state: &mut StepState) -> Result<Lit, Alloc
 #[tactic(auto, unfolding(e_deriv::specs::Script::step_script))]
 pub fn make(
     alloc: Global,
-    form: &Construction,
+    construction: &Construction,
     names: &[Name],
     state: &mut StepState,
 ) -> Result<Step, StepStop>
     requires room { HasRoomForMore state.old.context.scope }
-    requires needs { IsTrue
-        (are_well_formed_in state.old.context.scope (Construct.needs_of_construction form.now)) }
-    requires after { let after = after_make form.now names.now state.old
+    requires needs { IsTrue (are_well_formed_in state.old.context.scope
+        (Construct.needs_of_construction construction.now)) }
+    requires after { let after = after_make construction.now names.now state.old
         in IsTrue (are_limited_facts after.context.scope after.context.facts) }
     ensures ok { IfOk result (λ d. (before : List StatementView) (certs : List Certificate)
-        → IsLicensedStep before (Make form.now names.now certs) state.old d state.new) }
+        → IsLicensedStep before (Make construction.now names.now certs) state.old d state.new) }
     ensures err { IfErr result (λ h. (before : List StatementView) (certs : List Certificate)
-        → IsStopOfStep before (Make form.now names.now certs) state.old h) }
+        → IsStopOfStep before (Make construction.now names.now certs) state.old h) }
     ensures kept { IfErr result (UnlessNoMemory (state.new ≡ state.old)) }
 {
     let copied = Vec::from_slice(alloc, names)?;
-    let derived = copy_construction(alloc, form)?;
-    let needs = form.needs(alloc)?;
+    let derived = copy_construction(alloc, construction)?;
+    let needs = construction.needs(alloc)?;
     let certs = licences(alloc, &mut state.context, &needs)?;
     mem::drop(needs);
-    match state.make(alloc, form, names) {
+    match state.make(alloc, construction, names) {
         Ok(()) => Ok(Step::Make {
-            form: derived,
+            construction: derived,
             names: Items::new(copied),
             certs: Items::new(certs),
         }),
@@ -128,27 +128,28 @@ pub fn make(
 /// into scope, and what it gives are facts.
 pub fn superpose(
     alloc: Global,
-    form: &Superpose,
+    superposition: &Superpose,
     names: &[Name],
     state: &mut StepState,
 ) -> Result<Vec<Cert>, StepStop>
     requires room { HasRoomForMore state.old.context.scope }
     requires needs { IsTrue (are_well_formed_in state.old.context.scope
-        (Superposing.needs_of_superposition form.now)) }
-    requires after { let after = after_superposed form.now names.now state.old
+        (Superposing.needs_of_superposition superposition.now)) }
+    requires after { let after = after_superposed superposition.now names.now state.old
         in IsTrue (are_limited_facts after.context.scope after.context.facts) }
     ensures certs { IfOk result (λ cs. IsTrue (certify_all state.old.context.scope
-        state.old.context.facts (Superposing.needs_of_superposition form.now) cs.items)) }
+        state.old.context.facts (Superposing.needs_of_superposition superposition.now) cs.items)) }
     ensures written { IfOk result (λ cs. IsTrue (list_all (is_cert_of version.One) cs.items)) }
-    ensures after { OnOk result (state.new ≡ after_superposed form.now names.now state.old) }
+    ensures after { OnOk result
+        (state.new ≡ after_superposed superposition.now names.now state.old) }
     ensures err { IfErr result
-        (StepStopsAmong state.old.context (Superposing.needs_of_superposition form.now)) }
+        (StepStopsAmong state.old.context (Superposing.needs_of_superposition superposition.now)) }
     ensures kept { IfErr result (UnlessNoMemory (state.new ≡ state.old)) }
 {
-    let needs = form.needs(alloc)?;
+    let needs = superposition.needs(alloc)?;
     let certs = licences(alloc, &mut state.context, &needs)?;
     mem::drop(needs);
-    match state.superpose(alloc, form, names) {
+    match state.superpose(alloc, superposition, names) {
         Ok(()) => Ok(certs),
         Err(_) => {
             mem::drop(certs);

@@ -147,17 +147,17 @@ impl StepState {
     pub fn make(
         &mut self,
         alloc: Global,
-        form: &Construction,
+        construction: &Construction,
         names: &[Name],
     ) -> Result<(), AllocError>
         requires room { HasRoomForMore self.old.context.scope }
-        requires after { let after = after_make form.now names.now self.old
+        requires after { let after = after_make construction.now names.now self.old
             in IsTrue (are_limited_facts after.context.scope after.context.facts) }
-        ensures { OnOk result (self.new ≡ after_make form.now names.now self.old) }
+        ensures { OnOk result (self.new ≡ after_make construction.now names.now self.old) }
     {
         let scope = self.context.scope();
-        self.grow(form.made(), names)?;
-        let given = form.gives(alloc, scope)?;
+        self.grow(construction.made(), names)?;
+        let given = construction.gives(alloc, scope)?;
         self.join(given)
     }
 
@@ -166,17 +166,17 @@ impl StepState {
     pub fn superpose(
         &mut self,
         alloc: Global,
-        form: &Superpose,
+        superposition: &Superpose,
         names: &[Name],
     ) -> Result<(), AllocError>
         requires room { HasRoomForMore self.old.context.scope }
-        requires after { let after = after_superposed form.now names.now self.old
+        requires after { let after = after_superposed superposition.now names.now self.old
             in IsTrue (are_limited_facts after.context.scope after.context.facts) }
-        ensures { OnOk result (self.new ≡ after_superposed form.now names.now self.old) }
+        ensures { OnOk result (self.new ≡ after_superposed superposition.now names.now self.old) }
     {
         let scope = self.context.scope();
-        self.grow(form.made(), names)?;
-        let given = form.gives(alloc, scope)?;
+        self.grow(superposition.made(), names)?;
+        let given = superposition.gives(alloc, scope)?;
         self.join(given)
     }
 

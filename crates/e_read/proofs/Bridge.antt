@@ -141,9 +141,9 @@ plainly known last r (Ok l ∷ lines) rest t unended e =
         → Plainly known last r.parser t (Ok l ∷ lines) rest
     step_plainly known last r next l lines rest t bar s goes more =
         let d = s.parser in
-        let form = form_read l.bytes s.form s.spelled in
-        let said = not_skipped (tokens_of l.bytes) s.form form.0 in
-        let step = book_line known r.parser s.form d s.owed (tokens_of l.bytes) form.0 s.gone in
+        let form = form_read l.bytes s.raw_line s.spelled in
+        let said = not_skipped (tokens_of l.bytes) s.raw_line form.0 in
+        let step = book_line known r.parser s.raw_line d s.owed (tokens_of l.bytes) form.0 s.gone in
         let parser_is : next.parser ≡ Some d = ap (λ (x : BlockParser). x.parser) s.next_is in
         elim goes [
           | inl q ↦

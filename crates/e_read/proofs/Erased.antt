@@ -12,15 +12,15 @@ pub erased_filled : (s : Script) (ks : List StepCerts) → erased (script_with_c
 unfolding erased script_with_certs
 erased_filled (Cite by rest) ks = ap (λ (x : Script). Cite by x) (erased_filled rest ks)
 erased_filled (Hence lit cert rest) ks = ap (λ (x : Script). Hence lit None x) (erased_filled rest (after_next ks))
-erased_filled (Make form names certs rest) ks = ap (λ (x : Script). Make form names [] x) (erased_filled rest (after_next ks))
+erased_filled (Make construction names certs rest) ks = ap (λ (x : Script). Make construction names [] x) (erased_filled rest (after_next ks))
 erased_filled (Apply theorem args names certs rest) ks = ap (λ (x : Script). Apply theorem args names [] x) (erased_filled rest (after_next ks))
 erased_filled (Claim shown inner rest) ks =
     ap (λ (x : Script). Claim shown x (erased (script_with_certs rest (script_with_certs inner ks).1).0)) (erased_filled inner ks)
     ∙ ap (λ (x : Script). Claim shown (erased inner) x) (erased_filled rest (script_with_certs inner ks).1)
-erased_filled (Superposed form names shown certs inner rest) ks =
+erased_filled (Superposed superposition names shown certs inner rest) ks =
     let i = script_with_certs inner (after_next ks) in
-    ap (λ (x : Script). Superposed form names shown [] x (erased (script_with_certs rest i.1).0)) (erased_filled inner (after_next ks))
-    ∙ ap (λ (x : Script). Superposed form names shown [] (erased inner) x) (erased_filled rest i.1)
+    ap (λ (x : Script). Superposed superposition names shown [] x (erased (script_with_certs rest i.1).0)) (erased_filled inner (after_next ks))
+    ∙ ap (λ (x : Script). Superposed superposition names shown [] (erased inner) x) (erased_filled rest i.1)
 erased_filled (Qed objects certs) ks = refl
 erased_filled (Contradiction against) ks = refl
 erased_filled (Cases lit first second) ks =
@@ -37,18 +37,18 @@ unfolding erased is_plain
 erased_plain (Cite by rest) p = ap (λ (x : Script). Cite by x) (erased_plain rest p)
 erased_plain (Hence lit None rest) p = ap (λ (x : Script). Hence lit None x) (erased_plain rest p)
 erased_plain (Hence lit (Some cert) rest) p = absurd (no_cert p)
-erased_plain (Make form names [] rest) p = ap (λ (x : Script). Make form names [] x) (erased_plain rest (and_parts (list_all is_name names) (is_plain rest) p).1)
-erased_plain (Make form names (c ∷ cs) rest) p = absurd (no_cert p)
+erased_plain (Make construction names [] rest) p = ap (λ (x : Script). Make construction names [] x) (erased_plain rest (and_parts (list_all is_name names) (is_plain rest) p).1)
+erased_plain (Make construction names (c ∷ cs) rest) p = absurd (no_cert p)
 erased_plain (Apply theorem args names [] rest) p = ap (λ (x : Script). Apply theorem args names [] x) (erased_plain rest (and_parts (list_all is_name names) (is_plain rest) p).1)
 erased_plain (Apply theorem args names (c ∷ cs) rest) p = absurd (no_cert p)
 erased_plain (Claim shown inner rest) p =
     let q = and_parts (is_plain inner) (is_plain rest) (and_parts (ltb 0 (length shown)) (is_plain inner && is_plain rest) p).1 in
     ap (λ (x : Script). Claim shown x (erased rest)) (erased_plain inner q.0) ∙ ap (λ (x : Script). Claim shown inner x) (erased_plain rest q.1)
-erased_plain (Superposed form names shown [] inner rest) p =
+erased_plain (Superposed superposition names shown [] inner rest) p =
     let n = and_parts (list_all is_name names) (ltb 0 (length shown) && (is_plain inner && is_plain rest)) p in
     let q = and_parts (is_plain inner) (is_plain rest) (and_parts (ltb 0 (length shown)) (is_plain inner && is_plain rest) n.1).1 in
-    ap (λ (x : Script). Superposed form names shown [] x (erased rest)) (erased_plain inner q.0) ∙ ap (λ (x : Script). Superposed form names shown [] inner x) (erased_plain rest q.1)
-erased_plain (Superposed form names shown (c ∷ cs) inner rest) p = absurd (no_cert p)
+    ap (λ (x : Script). Superposed superposition names shown [] x (erased rest)) (erased_plain inner q.0) ∙ ap (λ (x : Script). Superposed superposition names shown [] inner x) (erased_plain rest q.1)
+erased_plain (Superposed superposition names shown (c ∷ cs) inner rest) p = absurd (no_cert p)
 erased_plain (Qed objects []) p = refl
 erased_plain (Qed objects (c ∷ cs)) p = absurd (no_cert p)
 erased_plain (Contradiction None) p = refl

@@ -40,7 +40,7 @@ module _ (v : Version) where
   filled_good (Hence lit cert rest) ks h =
       let r = filled_good rest (after_next ks) (after_good ks h) in
       (and_from _ _ (first_good (next_certs ks) (certs_good ks h)) r.0, r.1)
-  filled_good (Make form names certs rest) ks h =
+  filled_good (Make construction names certs rest) ks h =
       let r = filled_good rest (after_next ks) (after_good ks h) in
       (and_from _ _ (certs_good ks h) r.0, r.1)
   filled_good (Apply theorem args names certs rest) ks h =
@@ -50,7 +50,7 @@ module _ (v : Version) where
       let i = filled_good inner ks h in
       let r = filled_good rest (script_with_certs inner ks).1 i.1 in
       (and_from _ _ i.0 r.0, r.1)
-  filled_good (Superposed form names shown certs inner rest) ks h =
+  filled_good (Superposed superposition names shown certs inner rest) ks h =
       let i = filled_good inner (after_next ks) (after_good ks h) in
       let r = filled_good rest (script_with_certs inner (after_next ks)).1 i.1 in
       (and_from _ _ (certs_good ks h) (and_from _ _ i.0 r.0), r.1)

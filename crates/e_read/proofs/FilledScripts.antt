@@ -22,9 +22,9 @@ pub filled-Hence : (lit : Lit) (cert : Option Cert) (rest : Script) (ks : List S
 unfolding script_with_certs
 filled-Hence lit cert rest ks = refl
 
-pub filled-Make : (form : Construction) (names : List (List ℕ)) (certs : List Cert) (rest : Script) (ks : List StepCerts) → script_with_certs (Make form names certs rest) ks ≡ (Make form names (next_certs ks) (script_with_certs rest (after_next ks)).0, (script_with_certs rest (after_next ks)).1)
+pub filled-Make : (construction : Construction) (names : List (List ℕ)) (certs : List Cert) (rest : Script) (ks : List StepCerts) → script_with_certs (Make construction names certs rest) ks ≡ (Make construction names (next_certs ks) (script_with_certs rest (after_next ks)).0, (script_with_certs rest (after_next ks)).1)
 unfolding script_with_certs
-filled-Make form names certs rest ks = refl
+filled-Make construction names certs rest ks = refl
 
 pub filled-Apply : (theorem : ℕ) (args : List (Option Obj)) (names : List (List ℕ)) (certs : List Cert) (rest : Script) (ks : List StepCerts) → script_with_certs (Apply theorem args names certs rest) ks ≡ (Apply theorem args names (next_certs ks) (script_with_certs rest (after_next ks)).0, (script_with_certs rest (after_next ks)).1)
 unfolding script_with_certs
@@ -34,9 +34,9 @@ pub filled-Claim : (shown : List Lit) (inner : Script) (rest : Script) (ks : Lis
 unfolding script_with_certs
 filled-Claim shown inner rest ks = refl
 
-pub filled-Superposed : (form : Superpose) (names : List (List ℕ)) (shown : List Lit) (certs : List Cert) (inner : Script) (rest : Script) (ks : List StepCerts) → script_with_certs (Superposed form names shown certs inner rest) ks ≡ (Superposed form names shown (next_certs ks) (script_with_certs inner (after_next ks)).0 (script_with_certs rest (script_with_certs inner (after_next ks)).1).0, (script_with_certs rest (script_with_certs inner (after_next ks)).1).1)
+pub filled-Superposed : (superposition : Superpose) (names : List (List ℕ)) (shown : List Lit) (certs : List Cert) (inner : Script) (rest : Script) (ks : List StepCerts) → script_with_certs (Superposed superposition names shown certs inner rest) ks ≡ (Superposed superposition names shown (next_certs ks) (script_with_certs inner (after_next ks)).0 (script_with_certs rest (script_with_certs inner (after_next ks)).1).0, (script_with_certs rest (script_with_certs inner (after_next ks)).1).1)
 unfolding script_with_certs
-filled-Superposed form names shown certs inner rest ks = refl
+filled-Superposed superposition names shown certs inner rest ks = refl
 
 pub filled-Qed : (objects : List Obj) (certs : List Cert) (ks : List StepCerts) → script_with_certs (Qed objects certs) ks ≡ (Qed objects (next_certs ks), after_next ks)
 unfolding script_with_certs

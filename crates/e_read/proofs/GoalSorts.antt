@@ -28,7 +28,7 @@ claims_is (o ∷ os) = inside o.kind (has_claim os) (shown_around os) (claims_is
   where
     inside : (what : BlockKind) (b : Bool) (around : Option (List Lit)) → b ≡ claims around → (is_claim what || b) ≡ claims (shown_inside what around)
     inside (kind.Claim shown) b around e = refl
-    inside (kind.Superpose form names shown) b around e = refl
+    inside (kind.Superpose superposition names shown) b around e = refl
     inside (kind.First lit) b around e = e
     inside (kind.Second lit first) b around e = e
 

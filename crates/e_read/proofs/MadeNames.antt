@@ -80,7 +80,7 @@ by_resume d o os shown s = then d (counted_from d o.facts o.terms shown) _ (by_c
 
 by_inside : (d : TheoremParser) (o : OpenBlock) (os : List OpenBlock) (inner : Script) (close : CloseLine → Result TheoremParser FaultKind) (what : BlockKind) → ((c : CloseLine) → Same d.names d.made (close c)) → Same d.names d.made (closed_inside d o os inner close what)
 by_inside d o os inner close (kind.Claim shown) h = by_resume d o os shown (Claimed shown inner)
-by_inside d o os inner close (kind.Superpose form names shown) h = by_resume d o os shown (Copied form names shown [] inner)
+by_inside d o os inner close (kind.Superpose superposition names shown) h = by_resume d o os shown (Copied superposition names shown [] inner)
 by_inside d o os inner close (kind.First lit) h = (refl, refl)
 by_inside d o os inner close (kind.Second lit first) h = h (closes.Cases lit first inner)
 
@@ -118,8 +118,8 @@ by_hence d raw = from d (lit_in d.in_scope raw) _ (λ l. then d (with_step d (In
 by_let : (d : TheoremParser) (raw : RawLet) → Same d.names d.made (built d raw)
 unfolding built
 by_let d raw =
-    from d (let_in d.in_scope raw) _ (λ form. from d (few_objects (named d.in_scope (sorts_made form) raw.new)) _
-    (λ few. by_step (record d { in_scope = named d.in_scope (sorts_made form) raw.new }) (Made form raw.new []) (length (gives_of_construction form (scope_of_names d.in_scope)))))
+    from d (let_in d.in_scope raw) _ (λ construction. from d (few_objects (named d.in_scope (sorts_made construction) raw.new)) _
+    (λ few. by_step (record d { in_scope = named d.in_scope (sorts_made construction) raw.new }) (Made construction raw.new []) (length (gives_of_construction construction (scope_of_names d.in_scope)))))
 
 by_apply : (known : List TitledStatement) (d : TheoremParser) (raw : RawApply) → Same d.names d.made (applied known d raw)
 unfolding applied

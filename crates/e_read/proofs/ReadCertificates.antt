@@ -36,7 +36,7 @@ use Rattle.e_read.proofs.FilledCertificates.{filled_good}
 use Rattle.e_cert.proofs.FormsOfCertLines.{GoodDue, GoodOwed, strict_good, settled_good}
 use Rattle.e_clause.specs.declared.cert.Version.{Version}
 use Rattle.e_deriv.specs.Versions.{has_certs_of}
-use Rattle.e_deriv.specs.Written.{has_good_certs}
+use Rattle.e_deriv.specs.Written.{has_writable_certs}
 use Rattle.e_deriv.proofs.Versions.{good_of_version}
 use Rattle.e_cert.specs.CertLines.{cert_line_is_of}
 
@@ -52,7 +52,7 @@ module _ (v : Version) where
   due_good : (known : List TitledStatement) (d : TheoremParser) (f : RawLine) (new : Obligation) → due_of known d f ≡ Ok new → GoodDue v new
   unfolding due_of
   due_good known d (rawlines.Hence raw) new e = owes (lit_in d.in_scope raw) (λ l. l ∷ []) new e
-  due_good known d (rawlines.Let raw) new e = owes (let_in d.in_scope raw) (λ form. needs_of_construction form) new e
+  due_good known d (rawlines.Let raw) new e = owes (let_in d.in_scope raw) (λ construction. needs_of_construction construction) new e
   due_good known d (rawlines.Apply raw) new e = owes (needs_of_raw_apply known d raw) (λ ls. ls) new e
   due_good known d (rawlines.Superpose raw) new e = owes (superpose_in d.in_scope raw) (λ p. superposing.needs_of_superposition p.0) new e
   due_good known d (rawlines.Qed ns) new e = owes (needs_at_qed d ns) (λ ls. ls) new e
@@ -103,7 +103,7 @@ module _ (v : Version) where
           let good : GoodReading (record { version = r.version; parser = Some s.parser; owed = s.owed; kept = r.kept ++ option_to_list s.read }) = record {
             version = h.version;
             kept = all_both (are_certs_of_version v) r.kept (option_to_list s.read) h.kept (settled_good v r.owed s.read h.owed s.settled_is);
-            owed = gone_good known r.parser s.form s.parser s.owed s.gone;
+            owed = gone_good known r.parser s.raw_line s.parser s.owed s.gone;
           } in
           subst GoodReading (sym s.next_is) good
 
@@ -141,5 +141,5 @@ module _ (v : Version) where
   version_read known last lines rest t e = certs_read known last (at_start v) lines rest t start_good e
 
   -- so their literals are well formed
-  pub good_certs_read : (known : List TitledStatement) (last : ℕ) (lines rest : List (Result LineView LineFault)) (t : TheoremView) → piece_from known last (at_start v) lines ≡ derives t rest → has_good_certs t.script ≡ true
+  pub good_certs_read : (known : List TitledStatement) (last : ℕ) (lines rest : List (Result LineView LineFault)) (t : TheoremView) → piece_from known last (at_start v) lines ≡ derives t rest → has_writable_certs t.script ≡ true
   good_certs_read known last lines rest t e = good_of_version v t.script (version_read known last lines rest t e)

@@ -52,13 +52,13 @@ pub record Certified (r next : BlockParser) (line : List ℕ) (words : List (Lis
 
 -- any other line
 pub record Stepped (known : List TitledStatement) (r next : BlockParser) (line : List ℕ) : Type 0 where
-  pub form : RawLine
-  pub spelled : exact_line line ≡ Ok form
+  pub raw_line : RawLine
+  pub spelled : exact_line line ≡ Ok raw_line
   pub read : Option StepCerts
   pub settled_is : finish_certs r.owed ≡ Ok read
   pub parser : TheoremParser
   pub owed : Pending
-  pub gone : gone_on known r.parser form ≡ Ok (parser, owed)
+  pub gone : gone_on known r.parser raw_line ≡ Ok (parser, owed)
   pub next_is : next ≡ record { version = r.version; parser = Some parser; owed = owed; kept = r.kept ++ option_to_list read }
 
 certified_line : (r next : BlockParser) (line : List ℕ) (words : List (List ℕ)) → certified r line words ≡ Ok next → Certified r next line words
@@ -89,7 +89,7 @@ stepped_line known r next line e =
     let kept_is : with_kept k.0 ≡ s.0 = ok_is (with_kept k.0) s.0 k.2 in
     let x = bind_ok (gone_on known s.0.parser f.0) (λ x. Ok (end s.0 x)) next s.2 in
     record {
-      form = f.0;
+      raw_line = f.0;
       spelled = f.1;
       read = k.0;
       settled_is = k.1;

@@ -43,17 +43,19 @@ script_with_certs (Cite by rest) ks = let r = script_with_certs rest ks in (Cite
 script_with_certs (Hence lit cert rest) ks =
     let r = script_with_certs rest (after_next ks) in
     (Hence lit (first_cert (next_certs ks)) r.0, r.1)
-script_with_certs (Make form names certs rest) ks =
-    let r = script_with_certs rest (after_next ks) in (Make form names (next_certs ks) r.0, r.1)
+script_with_certs (Make construction names certs rest) ks =
+    let r = script_with_certs rest (after_next ks) in
+    (Make construction names (next_certs ks) r.0, r.1)
 script_with_certs (Apply theorem args names certs rest) ks =
     let r = script_with_certs rest (after_next ks) in
     (Apply theorem args names (next_certs ks) r.0, r.1)
 script_with_certs (Claim shown inner rest) ks =
     let i = script_with_certs inner ks in
     let r = script_with_certs rest i.1 in (Claim shown i.0 r.0, r.1)
-script_with_certs (Superposed form names shown certs inner rest) ks =
+script_with_certs (Superposed superposition names shown certs inner rest) ks =
     let i = script_with_certs inner (after_next ks) in
-    let r = script_with_certs rest i.1 in (Superposed form names shown (next_certs ks) i.0 r.0, r.1)
+    let r = script_with_certs rest i.1 in
+    (Superposed superposition names shown (next_certs ks) i.0 r.0, r.1)
 script_with_certs (Qed objects certs) ks = (Qed objects (next_certs ks), after_next ks)
 script_with_certs (Contradiction against) ks = (Contradiction (next_against ks), after_next ks)
 script_with_certs (Cases lit first second) ks =

@@ -30,7 +30,7 @@ use Rattle.e_cert.specs.declared.owed.Obligation.TheVariants as due
 -- block that it closes
 abbrev pub shown_inside : BlockKind → Option (List Lit) → Option (List Lit)
 shown_inside (kind.Claim shown) around = Some shown
-shown_inside (kind.Superpose form names shown) around = Some shown
+shown_inside (kind.Superpose superposition names shown) around = Some shown
 shown_inside (kind.First lit) around = around
 shown_inside (kind.Second lit first) around = around
 
@@ -75,10 +75,10 @@ needs_at_qed d ns =
 unfoldable pub due_of : List TitledStatement → TheoremParser → RawLine → Result Obligation FaultKind
 due_of known d (rawlines.Hence raw) = lit_in d.in_scope raw >>= λ l. Ok (one_each (l ∷ []))
 due_of known d (rawlines.Let raw) =
-    let_in d.in_scope raw >>= λ form. Ok (one_each (needs_of_construction form))
+    let_in d.in_scope raw >>= λ construction. Ok (one_each (needs_of_construction construction))
 due_of known d (rawlines.Apply raw) = needs_of_raw_apply known d raw >>= λ ls. Ok (one_each ls)
 due_of known d (rawlines.Superpose raw) =
     superpose_in d.in_scope raw >>= λ p. Ok (one_each (superposing.needs_of_superposition p.0))
 due_of known d (rawlines.Qed ns) = needs_at_qed d ns >>= λ ls. Ok (one_each ls)
 due_of known d rawlines.Contradiction = Ok (due.Contradiction None)
-due_of known d form = Ok due.Nothing
+due_of known d raw_line = Ok due.Nothing

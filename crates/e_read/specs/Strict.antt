@@ -16,4 +16,4 @@ ends_with (s ∷ t ∷ ss) sort = ends_with (t ∷ ss) sort
 abbrev pub is_apart : TheoremParser → RawLine → Bool
 is_apart d (rawlines.Declare sort ns) = not (ends_with d.declared sort)
 is_apart d (rawlines.Made sort ns) = not (ends_with d.made sort)
-is_apart d form = true
+is_apart d raw_line = true

@@ -91,11 +91,19 @@ fn fill_step(alloc: Global, step: &Step, queue: &mut CertQueue) -> Result<Step, 
             let cert = next_cert(alloc, queue);
             Ok(Step::Hence { lit, cert })
         }
-        Step::Make { form, names, .. } => {
+        Step::Make {
+            construction,
+            names,
+            ..
+        } => {
             let names = copy_names(alloc, names.items())?;
-            let form = copy_construction(alloc, form)?;
+            let construction = copy_construction(alloc, construction)?;
             let certs = next_certs(alloc, queue).into_items();
-            Ok(Step::Make { form, names, certs })
+            Ok(Step::Make {
+                construction,
+                names,
+                certs,
+            })
         }
         Step::Apply {
             theorem,
@@ -118,7 +126,7 @@ fn fill_step(alloc: Global, step: &Step, queue: &mut CertQueue) -> Result<Step, 
             claim(alloc, shown.items(), inner)
         }
         Step::Superposed {
-            form,
+            superposition,
             names,
             shown,
             inner,
@@ -126,7 +134,14 @@ fn fill_step(alloc: Global, step: &Step, queue: &mut CertQueue) -> Result<Step, 
         } => {
             let certs = next_certs(alloc, queue).into_items();
             match fill(alloc, inner, queue) {
-                Ok(inner) => superposition(alloc, form, names.items(), shown.items(), certs, inner),
+                Ok(inner) => superposition(
+                    alloc,
+                    superposition,
+                    names.items(),
+                    shown.items(),
+                    certs,
+                    inner,
+                ),
                 Err(error) => {
                     mem::drop(certs);
                     Err(error)

@@ -214,9 +214,9 @@ pub(crate) fn due_of(
             Ok(one_each(alloc, wanted))
         }
         RawLine::Let(raw) => {
-            let form = let_in(alloc, &parser.in_scope, raw)?;
-            let needs = form.needs(alloc);
-            mem::drop(form);
+            let construction = let_in(alloc, &parser.in_scope, raw)?;
+            let needs = construction.needs(alloc);
+            mem::drop(construction);
             Ok(one_each(alloc, Items::new(needs?)))
         }
         RawLine::Apply(raw) => {
@@ -225,7 +225,7 @@ pub(crate) fn due_of(
         }
         RawLine::Superpose(raw) => {
             let placement = superpose_in(alloc, &parser.in_scope, raw)?;
-            let needs = placement.form.needs(alloc);
+            let needs = placement.superposition.needs(alloc);
             mem::drop(placement);
             Ok(one_each(alloc, Items::new(needs?)))
         }

@@ -216,7 +216,7 @@ impl BlockParser {
         taken
     }
 
-    /// Nothing is owed any more, and the theorem goes on with this form.
+    /// Nothing is owed any more, and the theorem goes on with this raw line.
     #[tactic(auto, unfolding(crate::specs::Text::with_raw_line))]
     fn take_raw_line(
         &mut self,

@@ -6,8 +6,8 @@ pub mod CertLinesAgain
 pub mod CertLinesFormed
 pub mod OwedSpelled
 pub mod CertsPut
-pub mod CertsGood
+pub mod SpellableCertificates
 pub mod DueAgain
 pub mod Feeding
-pub mod KeptFormed
+pub mod FormsOfOwedCertificates
 pub mod VersionLines

@@ -3,7 +3,7 @@ pub mod Rooms
 pub mod LitRooms
 pub mod RuleRooms
 pub mod CertRooms
-pub mod FormRooms
+pub mod RawLineRooms
 pub mod HeadRooms
 pub mod ScriptRooms
 pub mod BlockRooms

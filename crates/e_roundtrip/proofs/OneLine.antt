@@ -3,7 +3,7 @@ pub mod NamesSpelled
 pub mod LitsRead
 pub mod LitsSpelled
 pub mod LinePieces
-pub mod FormsRead
+pub mod RawLinesRead
 pub mod RulesSpelled
-pub mod FormsSpelled
+pub mod RawLinesSpelled
 pub mod Groups

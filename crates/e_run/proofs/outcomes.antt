@@ -1,4 +1,4 @@
 -- The outcome of a book.
 pub mod Completeness
 pub mod OneOutcome
-pub mod WholeBook
+pub mod AcceptedBooks

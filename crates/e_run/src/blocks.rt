@@ -8,7 +8,7 @@ ghost use Rattle.e_deriv.specs.Fitting.{IsFitting};
 ghost use Rattle.e_names.specs.TitledStatements.{stated_by};
 ghost use Rattle.e_names.specs.Taken.{is_taken};
 ghost use Rattle.e_book.specs.TheoremViews.{entry_of};
-ghost use Rattle.e_book.specs.Fits.{has_good_literals};
+ghost use Rattle.e_book.specs.Fits.{has_well_formed_literals};
 ghost use Rattle.e_prove.specs.Stops.{StopIs, HasNames};
 ghost use Rattle.e_run.specs.Outcome.{and_theorem};
 ghost use Rattle.e_run.specs.Answers.{HasBlock};
@@ -60,7 +60,7 @@ impl From<AllocError> for RunError {
 pub fn block(alloc: Global, known: &Theorems, theorem: &Theorem) -> Result<Vec<u8>, Stop>
     requires fitting { IsFitting (stated_by known.now) (stated theorem.now.statement)
         (script_of theorem.now.block) }
-    requires good { IsTrue (has_good_literals (script_of theorem.now.block)) }
+    requires good { IsTrue (has_well_formed_literals (script_of theorem.now.block)) }
     ensures block { IfOk result (λ v. HasBlock known.now (entry_of theorem.now) v.items) }
     ensures stop { IfErr result (StopIs (stated_by known.now) (stated theorem.now.statement)
         (script_of theorem.now.block)) }

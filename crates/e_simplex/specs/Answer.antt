@@ -32,7 +32,7 @@ MayTake Not m = m ≡ pos 0
 -- one multiplier a row, as the row may be taken
 abbrev pub AreMultipliers : List Row → List ℤ → Type 0
 AreMultipliers [] [] = Unit {0}
-AreMultipliers (r ∷ rs) (m ∷ ms) = MayTake r.says m × AreMultipliers rs ms
+AreMultipliers (r ∷ rs) (m ∷ ms) = MayTake r.sense m × AreMultipliers rs ms
 AreMultipliers [] (m ∷ ms) = ⊥
 AreMultipliers (r ∷ rs) [] = ⊥
 
@@ -40,7 +40,7 @@ AreMultipliers (r ∷ rs) [] = ⊥
 abbrev pub TakesMore : List Row → List ℤ → Type 0
 TakesMore [] ms = ⊥
 TakesMore (r ∷ rs) [] = ⊥
-TakesMore (r ∷ rs) (m ∷ ms) = ((r.says ≡ More) × (pos 1 ≤ℤ m)) ⊎ TakesMore rs ms
+TakesMore (r ∷ rs) (m ∷ ms) = ((r.sense ≡ More) × (pos 1 ≤ℤ m)) ⊎ TakesMore rs ms
 
 -- the sum of the rows says that nothing positive is more than 0
 pub record Refutes (rows : List Row) (ms : List ℤ) : Type 0 where
@@ -53,19 +53,19 @@ pub record Refutes (rows : List Row) (ms : List ℤ) : Type 0 where
 -- the row at k says `not 0`
 abbrev pub IsNotAt : List Row → ℕ → Type 0
 IsNotAt [] k = ⊥
-IsNotAt (r ∷ rs) zero = r.says ≡ Not
+IsNotAt (r ∷ rs) zero = r.sense ≡ Not
 IsNotAt (r ∷ rs) (suc k) = IsNotAt rs k
 
 -- the row at k says that its form is more than 0
 abbrev pub as_more : List Row → ℕ → List Row
 as_more [] k = []
-as_more (r ∷ rs) zero = record { says = More; form = r.form } ∷ rs
+as_more (r ∷ rs) zero = record { sense = More; form = r.form } ∷ rs
 as_more (r ∷ rs) (suc k) = r ∷ as_more rs k
 
 -- the row at k says that its form is less than 0
 abbrev pub as_less : List Row → ℕ → List Row
 as_less [] k = []
-as_less (r ∷ rs) zero = record { says = More; form = negative r.form } ∷ rs
+as_less (r ∷ rs) zero = record { sense = More; form = negative r.form } ∷ rs
 as_less (r ∷ rs) (suc k) = r ∷ as_less rs k
 
 -- both signs of a row that says `not 0` are refuted

@@ -49,7 +49,7 @@ constraint_sense More = senses.More
 constraint_sense Not = senses.More
 
 abbrev pub named_constraint : List Term → Row → Constraint
-named_constraint ts r = record { sense = constraint_sense r.says; form = named_form ts r.form }
+named_constraint ts r = record { sense = constraint_sense r.sense; form = named_form ts r.form }
 
 -- whether a row is wanted: those that say `not 0`, or the others
 abbrev pub keeps : Bool → Sense → Bool
@@ -60,5 +60,5 @@ keeps b _ = not b
 abbrev pub named_constraints : Bool → List Term → List Row → List Constraint
 named_constraints b ts [] = []
 named_constraints b ts (r ∷ rs) =
-    cond (keeps b r.says) (named_constraint ts r ∷ named_constraints b ts rs)
+    cond (keeps b r.sense) (named_constraint ts r ∷ named_constraints b ts rs)
     (named_constraints b ts rs)

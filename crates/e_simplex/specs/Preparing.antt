@@ -3,7 +3,7 @@ use Rattle.std.specs.Prelude.{◌≡◌, ◌≤◌, ◌^◌, List}
 use Rattle.e_literal.specs.Minor.{IsWide}
 use Rattle.e_literal.specs.Width.{width}
 use Rattle.e_fraction.specs.declared.row.Row.{Row as GivenRow}
-use Rattle.e_fraction.specs.Views.{all_seen}
+use Rattle.e_fraction.specs.Views.{views_of_rows}
 use Rattle.e_simplex.specs.Answer.{IsRefuted}
 use Rattle.e_simplex.specs.declared.solved_rows.Prepared.{Prepared}
 use Rattle.e_simplex.specs.declared.solved_rows.Prepared.TheVariants.{SolvedRows, Absurd, TooWide}
@@ -11,5 +11,5 @@ use Rattle.e_simplex.specs.declared.solved_rows.Prepared.TheVariants.{SolvedRows
 -- the rows, solved; or multipliers that refute them; or the rows are wide, and so is their width
 abbrev pub IsPreparedRows : List GivenRow → Prepared → Type 0
 IsPreparedRows rows (SolvedRows s) = s ≡ rows
-IsPreparedRows rows (Absurd absurdity) = IsRefuted (all_seen rows) absurdity
-IsPreparedRows rows TooWide = IsWide (all_seen rows) × (2 ^ 63 ≤ width (all_seen rows))
+IsPreparedRows rows (Absurd absurdity) = IsRefuted (views_of_rows rows) absurdity
+IsPreparedRows rows TooWide = IsWide (views_of_rows rows) × (2 ^ 63 ≤ width (views_of_rows rows))

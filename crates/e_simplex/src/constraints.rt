@@ -1,4 +1,4 @@
-//! Rows over numbered columns: column 0 has the constants, and the others stand for terms.
+//! Rows over numbered columns: column 0 has the constants, and each other one is that of a term.
 
 ghost use Rattle.std.specs.Prelude.{◌≡◌, ℕ, ℤ, pos, List, ◌*◌, ◌<◌, ◌≤◌, ◌^◌, length};
 ghost use Rattle.std.specs.Prelude.{unsigned_abs, get_or, ◌*ℤ◌};

@@ -4,7 +4,7 @@ ghost use Rattle.std.specs.Prelude.{◌≡◌, ℕ, ◌+◌, ◌<◌, ◌≤◌,
 ghost use Rattle.e_literal.specs.Minor.{IsWide};
 ghost use Rattle.e_literal.specs.Solution.{HasSolution};
 ghost use Rattle.e_fraction.specs.Limits.{most_rows_of_system, all_small};
-ghost use Rattle.e_fraction.specs.Views.{all_seen};
+ghost use Rattle.e_fraction.specs.Views.{views_of_rows};
 ghost use Rattle.e_simplex.specs.Answer.{IsVerdict, IsRefuted, IsHolds, IsAbsurd};
 ghost use Rattle.e_simplex.specs.Naming.{AreOnce, AllNamed, named_constraints};
 ghost use Rattle.e_simplex.specs.Solved.{IsSolved, IsTableOutcome, columns_of, spare_columns};
@@ -56,8 +56,8 @@ fn named_values(alloc: Global, terms: &[Term], values: &[i128]) -> Result<Values
 /// What comes of rows whose constraints are refuted.
 pub fn refuted_once(alloc: Global, rows: &[Row], weights: &[i128]) -> Result<Absurdity, AllocError>
     requires few { length rows.now ≤ most_rows_of_system }
-    requires weights { AreWeightsFor (all_seen rows.now) weights.now }
-    ensures { IfOk result (IsRefuted (all_seen rows.now)) }
+    requires weights { AreWeightsFor (views_of_rows rows.now) weights.now }
+    ensures { IfOk result (IsRefuted (views_of_rows rows.now)) }
 {
     let multipliers = multipliers_of_rows(alloc, rows, weights, 0, 0)?;
     Ok(Absurdity::One(multipliers))
@@ -73,8 +73,8 @@ fn refuted_both(
     below: &[i128],
 ) -> Result<Absurdity, AllocError>
     requires few { length rows.now ≤ most_rows_of_system }
-    requires weights { AreWeightsForBoth (all_seen rows.now) k above.now below.now }
-    ensures { IfOk result (IsRefuted (all_seen rows.now)) }
+    requires weights { AreWeightsForBoth (views_of_rows rows.now) k above.now below.now }
+    ensures { IfOk result (IsRefuted (views_of_rows rows.now)) }
 {
     let row = place_of_not(rows, k);
     let last = above[above.len() - 1];
@@ -95,12 +95,12 @@ pub fn verdict_of_solved(
     requires few { length rows.now ≤ most_rows_of_system }
     requires coefficients { IsTrue (all_small rows.now) }
     requires once { AreOnce terms.now }
-    requires named { AllNamed terms.now (all_seen rows.now) }
+    requires named { AllNamed terms.now (views_of_rows rows.now) }
     requires room { length terms.now < columns_of solved.now }
     requires counted { columns_of solved.now ≤ 2 ^ 63 + spare_columns }
     requires solved { IsSolved (columns_of solved.now)
-        (named_constraints false terms.now (all_seen rows.now)) solved.now }
-    ensures { IfOk result (IsVerdict (all_seen rows.now)) }
+        (named_constraints false terms.now (views_of_rows rows.now)) solved.now }
+    ensures { IfOk result (IsVerdict (views_of_rows rows.now)) }
 {
     let forms = tried_constraints(alloc, terms, rows)?;
     match satisfy_all(alloc, solved, &forms)? {
@@ -126,10 +126,11 @@ pub fn verdict_of(
     requires few { length rows.now ≤ most_rows_of_system }
     requires coefficients { IsTrue (all_small rows.now) }
     requires once { AreOnce terms.now }
-    requires named { AllNamed terms.now (all_seen rows.now) }
+    requires named { AllNamed terms.now (views_of_rows rows.now) }
     requires outcome { (w : ℕ) × (length terms.now < w) × (w ≤ 2 ^ 63 + spare_columns)
-        × IsTableOutcome w (named_constraints false terms.now (all_seen rows.now)) outcome.now }
-    ensures { IfOk result (IsVerdict (all_seen rows.now)) }
+        × IsTableOutcome w
+        (named_constraints false terms.now (views_of_rows rows.now)) outcome.now }
+    ensures { IfOk result (IsVerdict (views_of_rows rows.now)) }
 {
     match outcome {
         Outcome::TooWide => Ok(Verdict::TooWide),
@@ -151,11 +152,11 @@ pub fn verdict_of(
 pub fn decide(alloc: Global, rows: &[Row]) -> Result<Verdict, AllocError>
     requires few { length rows.now ≤ most_rows_of_system }
     requires coefficients { IsTrue (all_small rows.now) }
-    ensures verdict { IfOk result (IsVerdict (all_seen rows.now)) }
-    ensures holds { IfOk result (λ v. ¬ IsWide (all_seen rows.now)
-        → HasSolution (all_seen rows.now) → IsHolds v) }
-    ensures absurd { IfOk result (λ v. ¬ IsWide (all_seen rows.now)
-        → ¬ HasSolution (all_seen rows.now) → IsAbsurd v) }
+    ensures verdict { IfOk result (IsVerdict (views_of_rows rows.now)) }
+    ensures holds { IfOk result (λ v. ¬ IsWide (views_of_rows rows.now)
+        → HasSolution (views_of_rows rows.now) → IsHolds v) }
+    ensures absurd { IfOk result (λ v. ¬ IsWide (views_of_rows rows.now)
+        → ¬ HasSolution (views_of_rows rows.now) → IsAbsurd v) }
 {
     let terms = terms_of(alloc, rows)?;
     let constraints = plain_constraints(alloc, &terms, rows)?;

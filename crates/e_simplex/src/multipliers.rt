@@ -3,7 +3,7 @@
 ghost use Rattle.std.specs.Prelude.{◌≡◌, ◌+◌, ◌<◌, ◌≤◌, ◌^◌, pos, suc, cond, IfOk, length};
 ghost use Rattle.std.specs.Prelude.{get_or, take};
 ghost use Rattle.e_fraction.specs.Limits.{most_rows_of_system};
-ghost use Rattle.e_fraction.specs.Views.{all_seen};
+ghost use Rattle.e_fraction.specs.Views.{views_of_rows};
 ghost use Rattle.e_simplex.specs.Answer.{IsNotAt};
 ghost use Rattle.e_simplex.specs.inner.RowMultipliers.{row_multipliers};
 ghost use Rattle.e_simplex.specs.inner.RowMultipliers.{multiplier_of_row, count_nots};
@@ -53,12 +53,12 @@ pub fn multipliers_of_rows(
 ) -> Result<Vec<i128>, AllocError>
     requires { length rows.now ≤ most_rows_of_system }
     ensures { IfOk result (λ v.
-        v.items ≡ row_multipliers (all_seen rows.now) weights.now 0 tried last) }
+        v.items ≡ row_multipliers (views_of_rows rows.now) weights.now 0 tried last) }
 {
     let mut all = Vec::with_capacity(alloc, rows.len())?;
     let mut seen = 0;
     for (i, row) in rows.iter().enumerate() {
-        let is_not = is_kept(true, row.kind);
+        let is_not = is_kept(true, row.sense);
         let weight = weight_at(weights, i - seen);
         all.push(multiplier(is_not, seen, tried, last, weight))?;
         seen = counted(is_not, seen);
@@ -69,13 +69,13 @@ pub fn multipliers_of_rows(
 /// The place of the row that has `k` rows that say `not 0` before it, and says that itself.
 pub fn place_of_not(rows: &[Row], k: usize) -> usize
     requires few { length rows.now ≤ most_rows_of_system }
-    requires here { k < count_nots (all_seen rows.now) }
-    ensures is_not { IsNotAt (all_seen rows.now) result }
-    ensures before { count_nots (all_seen (take result rows.now)) ≡ k }
+    requires here { k < count_nots (views_of_rows rows.now) }
+    ensures is_not { IsNotAt (views_of_rows rows.now) result }
+    ensures before { count_nots (views_of_rows (take result rows.now)) ≡ k }
 {
     let mut seen = 0;
     for (i, row) in rows.iter().enumerate() {
-        let is_not = is_kept(true, row.kind);
+        let is_not = is_kept(true, row.sense);
         if is_not && seen == k {
             return i;
         }

@@ -2,7 +2,7 @@
 
 ghost use Rattle.std.specs.Prelude.{◌≡◌, ◌<◌, ◌^◌, IfOk, IsTrue, length, true, false};
 ghost use Rattle.e_literal.specs.declared.object.Term.{Term};
-ghost use Rattle.e_fraction.specs.Views.{sense_of, all_seen};
+ghost use Rattle.e_fraction.specs.Views.{sense_of, views_of_rows};
 ghost use Rattle.e_fraction.specs.Limits.{has_small_coefficients, all_small};
 ghost use Rattle.e_simplex.specs.Constraints.{IsSmallConstraint, AllSmallConstraints};
 ghost use Rattle.e_simplex.specs.Naming.{place_of, IsIn, AreOnce, Continues, FormNamed, AllNamed};
@@ -48,7 +48,7 @@ fn with_terms(mut terms: Vec<Term>, row: &Row) -> Result<Vec<Term>, AllocError>
 pub fn terms_with(alloc: Global, terms: &[Term], rows: &[Row]) -> Result<Vec<Term>, AllocError>
     requires { AreOnce terms.now }
     ensures once { IfOk result (λ v. AreOnce v.items) }
-    ensures all { IfOk result (λ v. AllNamed v.items (all_seen rows.now)) }
+    ensures all { IfOk result (λ v. AllNamed v.items (views_of_rows rows.now)) }
     ensures continues { IfOk result (λ v. Continues terms.now v.items) }
 {
     let mut all = Vec::from_slice(alloc, terms)?;
@@ -61,15 +61,15 @@ pub fn terms_with(alloc: Global, terms: &[Term], rows: &[Row]) -> Result<Vec<Ter
 /// The terms of the rows, each once, in the order in which they come first.
 pub fn terms_of(alloc: Global, rows: &[Row]) -> Result<Vec<Term>, AllocError>
     ensures once { IfOk result (λ v. AreOnce v.items) }
-    ensures all { IfOk result (λ v. AllNamed v.items (all_seen rows.now)) }
+    ensures all { IfOk result (λ v. AllNamed v.items (views_of_rows rows.now)) }
 {
     terms_with(alloc, &[], rows)
 }
 
-fn sense(kind: RowSense) -> ConstraintSense
-    ensures { result ≡ constraint_sense (sense_of kind) }
+fn sense(of_row: RowSense) -> ConstraintSense
+    ensures { result ≡ constraint_sense (sense_of of_row) }
 {
-    match kind {
+    match of_row {
         RowSense::Zero => ConstraintSense::Zero,
         RowSense::AtLeast => ConstraintSense::AtLeast,
         RowSense::More | RowSense::Not => ConstraintSense::More,
@@ -77,12 +77,12 @@ fn sense(kind: RowSense) -> ConstraintSense
 }
 
 /// The constraint of a row. One with too many terms is out of memory.
-fn named_constraint(alloc: Global, row: &Row, terms: &[Term]) -> Result<Constraint, AllocError>
+fn constraint_of_row(alloc: Global, row: &Row, terms: &[Term]) -> Result<Constraint, AllocError>
     requires once { AreOnce terms.now }
     requires named { FormNamed terms.now row.now.form }
     requires coefficients { IsTrue (has_small_coefficients row.now.form) }
     ensures small { IfOk result IsSmallConstraint }
-    ensures sense { IfOk result (λ l. l.sense ≡ constraint_sense (sense_of row.now.kind)) }
+    ensures sense { IfOk result (λ l. l.sense ≡ constraint_sense (sense_of row.now.sense)) }
     ensures form { IfOk result (λ l. l.form ≡ named_form terms.now row.now.form) }
 {
     let summands = row.form.summands();
@@ -97,16 +97,16 @@ fn named_constraint(alloc: Global, row: &Row, terms: &[Term]) -> Result<Constrai
         })?;
     }
     Ok(Constraint {
-        sense: sense(row.kind),
+        sense: sense(row.sense),
         form: Items::new(form),
     })
 }
 
 /// Whether the row is wanted: one that says `not 0`, or another.
-pub fn is_kept(not: bool, kind: RowSense) -> bool
-    ensures { result ≡ keeps not (sense_of kind) }
+pub fn is_kept(not: bool, sense: RowSense) -> bool
+    ensures { result ≡ keeps not (sense_of sense) }
 {
-    match kind {
+    match sense {
         RowSense::Not => not,
         RowSense::Zero | RowSense::AtLeast | RowSense::More => !not,
     }
@@ -120,16 +120,16 @@ fn constraints_where(
     rows: &[Row],
 ) -> Result<Vec<Constraint>, AllocError>
     requires once { AreOnce terms.now }
-    requires named { AllNamed terms.now (all_seen rows.now) }
+    requires named { AllNamed terms.now (views_of_rows rows.now) }
     requires coefficients { IsTrue (all_small rows.now) }
     ensures value { IfOk result (λ v.
-        v.items ≡ named_constraints not terms.now (all_seen rows.now)) }
+        v.items ≡ named_constraints not terms.now (views_of_rows rows.now)) }
     ensures small { IfOk result (λ v. AllSmallConstraints v.items) }
 {
     let mut constraints = Vec::new(alloc);
     for row in rows {
-        if is_kept(not, row.kind) {
-            constraints.push(named_constraint(alloc, row, terms)?)?;
+        if is_kept(not, row.sense) {
+            constraints.push(constraint_of_row(alloc, row, terms)?)?;
         }
     }
     Ok(constraints)
@@ -142,10 +142,10 @@ pub fn plain_constraints(
     rows: &[Row],
 ) -> Result<Vec<Constraint>, AllocError>
     requires once { AreOnce terms.now }
-    requires named { AllNamed terms.now (all_seen rows.now) }
+    requires named { AllNamed terms.now (views_of_rows rows.now) }
     requires coefficients { IsTrue (all_small rows.now) }
     ensures value { IfOk result (λ v.
-        v.items ≡ named_constraints false terms.now (all_seen rows.now)) }
+        v.items ≡ named_constraints false terms.now (views_of_rows rows.now)) }
     ensures small { IfOk result (λ v. AllSmallConstraints v.items) }
 {
     constraints_where(alloc, false, terms, rows)
@@ -158,10 +158,10 @@ pub fn tried_constraints(
     rows: &[Row],
 ) -> Result<Vec<Constraint>, AllocError>
     requires once { AreOnce terms.now }
-    requires named { AllNamed terms.now (all_seen rows.now) }
+    requires named { AllNamed terms.now (views_of_rows rows.now) }
     requires coefficients { IsTrue (all_small rows.now) }
     ensures value { IfOk result (λ v.
-        v.items ≡ named_constraints true terms.now (all_seen rows.now)) }
+        v.items ≡ named_constraints true terms.now (views_of_rows rows.now)) }
     ensures small { IfOk result (λ v. AllSmallConstraints v.items) }
 {
     constraints_where(alloc, true, terms, rows)

@@ -4,7 +4,7 @@ ghost use Rattle.std.specs.Prelude.{◌≡◌, ℕ, ◌++◌, ◌+◌, ◌<◌, 
 ghost use Rattle.e_literal.specs.Minor.{IsWide};
 ghost use Rattle.e_literal.specs.Solution.{HasSolution};
 ghost use Rattle.e_fraction.specs.Limits.{most_rows_of_system, all_small};
-ghost use Rattle.e_fraction.specs.Views.{all_seen};
+ghost use Rattle.e_fraction.specs.Views.{views_of_rows};
 ghost use Rattle.e_simplex.specs.Answer.{AreValuesOf, IsVerdict, IsHolds, IsAbsurd};
 ghost use Rattle.e_simplex.specs.Naming.{AreOnce, AllNamed, named_constraints};
 ghost use Rattle.e_simplex.specs.Preparing.{IsPreparedRows};
@@ -60,7 +60,7 @@ fn copy_of_row(alloc: Global, row: &Row) -> Result<Row, AllocError>
     ensures { IfOk result (λ r. r ≡ row.now) }
 {
     Ok(Row {
-        kind: row.kind,
+        sense: row.sense,
         form: Signed::new(Vec::from_slice(alloc, row.form.summands())?),
     })
 }
@@ -100,11 +100,11 @@ fn with_values(
     requires few { length rows.items ≤ most_rows_of_system }
     requires coefficients { IsTrue (all_small rows.items) }
     requires once { AreOnce terms.items }
-    requires named { AllNamed terms.items (all_seen rows.items) }
+    requires named { AllNamed terms.items (views_of_rows rows.items) }
     requires room { length terms.items < columns_of solved }
     requires counted { columns_of solved ≤ 2 ^ 63 + spare_columns }
     requires solved { IsSolved (columns_of solved)
-        (named_constraints false terms.items (all_seen rows.items)) solved }
+        (named_constraints false terms.items (views_of_rows rows.items)) solved }
     ensures { IfOk result (IsPreparedRows rows.items) }
 {
     match verdict_of_solved(alloc, &rows, &terms, &solved)? {
@@ -152,7 +152,7 @@ fn decided_with(
     requires few { length (rows.now ++ more.now) ≤ most_rows_of_system }
     requires coefficients { IsTrue (all_small (rows.now ++ more.now)) }
     requires table { IsTableFor rows.now terms.now solved.now }
-    ensures { IfOk result (IsVerdict (all_seen (rows.now ++ more.now))) }
+    ensures { IfOk result (IsVerdict (views_of_rows (rows.now ++ more.now))) }
 {
     let terms = terms_with(alloc, terms, more)?;
     let all = rows_with(alloc, rows, more)?;
@@ -220,7 +220,7 @@ impl SolvedRows {
 
     /// Values that satisfy every row.
     pub fn values(&self) -> &Values
-        ensures { AreValuesOf (all_seen self.now) result.now }
+        ensures { AreValuesOf (views_of_rows self.now) result.now }
     {
         &self.values
     }
@@ -246,11 +246,11 @@ impl SolvedRows {
     pub fn decide_with(&self, alloc: Global, more: &[Row]) -> Result<Verdict, AllocError>
         requires few { length (self.now ++ more.now) ≤ most_rows_of_system }
         requires coefficients { IsTrue (all_small (self.now ++ more.now)) }
-        ensures verdict { IfOk result (IsVerdict (all_seen (self.now ++ more.now))) }
-        ensures holds { IfOk result (λ v. ¬ IsWide (all_seen (self.now ++ more.now))
-            → HasSolution (all_seen (self.now ++ more.now)) → IsHolds v) }
-        ensures absurd { IfOk result (λ v. ¬ IsWide (all_seen (self.now ++ more.now))
-            → ¬ HasSolution (all_seen (self.now ++ more.now)) → IsAbsurd v) }
+        ensures verdict { IfOk result (IsVerdict (views_of_rows (self.now ++ more.now))) }
+        ensures holds { IfOk result (λ v. ¬ IsWide (views_of_rows (self.now ++ more.now))
+            → HasSolution (views_of_rows (self.now ++ more.now)) → IsHolds v) }
+        ensures absurd { IfOk result (λ v. ¬ IsWide (views_of_rows (self.now ++ more.now))
+            → ¬ HasSolution (views_of_rows (self.now ++ more.now)) → IsAbsurd v) }
     {
         decided_with(alloc, &self.rows, &self.terms, &self.solved, more)
     }

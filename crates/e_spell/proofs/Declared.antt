@@ -11,7 +11,7 @@ use Rattle.e_deriv.specs.declared.names.Names.{Names}
 use Rattle.e_line.specs.declared.raw_line.RawLine.{RawLine}
 use Rattle.e_line.specs.Canonical.{line_of}
 use Rattle.e_names.specs.Canonical.{name_of_object}
-use Rattle.e_book.specs.Canonical.{Group, group, grouped_before, grouped, declare_form, made_form, text_of}
+use Rattle.e_book.specs.Canonical.{Group, group, grouped_before, grouped, declare_raw_line, made_raw_line, text_of}
 use Rattle.e_spell.specs.declared.declarations.Role.{Role}
 use Rattle.e_spell.specs.declared.declarations.Role.TheVariants.{Declared, Made}
 use Rattle.e_spell.specs.inner.Parts.{role_words, opening, objects_rest, objects_text}
@@ -98,16 +98,16 @@ groups_of role ns [] = refl
 groups_of role ns (o ∷ os) =
     ap (λ (x : List ℕ). (role_words role o.sort ++ 32 ∷ name_of_object ns o) ++ x) (rest_text role ns o.sort os) ∙ sym (before role o.sort (name_of_object ns o) (grouped ns os))
 
-declared_groups : (gs : List Group) → groups_text Declared gs ≡ text (map declare_form gs)
+declared_groups : (gs : List Group) → groups_text Declared gs ≡ text (map declare_raw_line gs)
 declared_groups [] = refl
-declared_groups (g ∷ gs) = ap (λ (x : List ℕ). group_text Declared g ++ x) (declared_groups gs) ∙ ap (λ (x : List ℕ). x ++ text (map declare_form gs)) (sym (append_assoc (role_words Declared g.sort) (spaced g.names) (10 ∷ [])))
+declared_groups (g ∷ gs) = ap (λ (x : List ℕ). group_text Declared g ++ x) (declared_groups gs) ∙ ap (λ (x : List ℕ). x ++ text (map declare_raw_line gs)) (sym (append_assoc (role_words Declared g.sort) (spaced g.names) (10 ∷ [])))
 
-made_groups : (gs : List Group) → groups_text Made gs ≡ text (map made_form gs)
+made_groups : (gs : List Group) → groups_text Made gs ≡ text (map made_raw_line gs)
 made_groups [] = refl
-made_groups (g ∷ gs) = ap (λ (x : List ℕ). group_text Made g ++ x) (made_groups gs) ∙ ap (λ (x : List ℕ). x ++ text (map made_form gs)) (sym (append_assoc (role_words Made g.sort) (spaced g.names) (10 ∷ [])))
+made_groups (g ∷ gs) = ap (λ (x : List ℕ). group_text Made g ++ x) (made_groups gs) ∙ ap (λ (x : List ℕ). x ++ text (map made_raw_line gs)) (sym (append_assoc (role_words Made g.sort) (spaced g.names) (10 ∷ [])))
 
-pub declared_text : (ns : Names) (os : List Obj) → objects_text Declared ns os ≡ text (map declare_form (grouped ns os))
+pub declared_text : (ns : Names) (os : List Obj) → objects_text Declared ns os ≡ text (map declare_raw_line (grouped ns os))
 declared_text ns os = groups_of Declared ns os ∙ declared_groups (grouped ns os)
 
-pub made_text : (ns : Names) (os : List Obj) → objects_text Made ns os ≡ text (map made_form (grouped ns os))
+pub made_text : (ns : Names) (os : List Obj) → objects_text Made ns os ≡ text (map made_raw_line (grouped ns os))
 made_text ns os = groups_of Made ns os ∙ made_groups (grouped ns os)

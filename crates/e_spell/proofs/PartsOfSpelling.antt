@@ -12,8 +12,8 @@ use Rattle.e_names.specs.TitledStatements.{TitledStatement}
 use Rattle.e_book.specs.TheoremViews.{TheoremView}
 use Rattle.e_text.specs.Tokens.{spaced}
 use Rattle.e_line.specs.Canonical.{line_of, lit_words}
-use Rattle.e_names.specs.Canonical.{raw_of, given_form, show_form, end_form}
-use Rattle.e_book.specs.Canonical.{grouped, declare_form, made_form, declared_objects, made_objects, given_forms, shown_forms, head_forms, names_of_proof, text_of}
+use Rattle.e_names.specs.Canonical.{raw_of, given_raw_line, show_raw_line, end_raw_line}
+use Rattle.e_book.specs.Canonical.{grouped, declare_raw_line, made_raw_line, declared_objects, made_objects, given_raw_lines, shown_raw_lines, head_raw_lines, names_of_proof, text_of}
 use Rattle.e_spell.specs.declared.declarations.Role.TheVariants.{Declared, Made}
 use Rattle.e_spell.specs.Spelling.{script_lines, spelled}
 use Rattle.e_spell.specs.inner.Parts.{lits_text, script_text, proof_text, objects_text, title_text, statement_text, head_text, theorem_text}
@@ -27,50 +27,50 @@ of_forms (f ∷ fs) gs = ap (λ (t : List ℕ). (line_of f ++ 10 ∷ []) ++ t) (
 one_literal : (word : List ℕ) (words : List (List ℕ)) → (word ++ spaced (words ++ [])) ++ 10 ∷ [] ≡ word ++ (spaced words ++ 10 ∷ [])
 one_literal word words = rw (append-nil words) (append_assoc word (spaced words) (10 ∷ []))
 
-given_text : (ns : Names) (ls : List Lit) → lits_text (codes "given") ns ls ≡ text (map (given_form ns) ls)
+given_text : (ns : Names) (ls : List Lit) → lits_text (codes "given") ns ls ≡ text (map (given_raw_line ns) ls)
 given_text ns [] = refl
 given_text ns (l ∷ ls) =
-    ap (λ (t : List ℕ). t ++ lits_text (codes "given") ns ls) (sym (one_literal (codes "given") (lit_words (raw_of ns l)))) ∙ ap (λ (t : List ℕ). (line_of (given_form ns l) ++ 10 ∷ []) ++ t) (given_text ns ls)
+    ap (λ (t : List ℕ). t ++ lits_text (codes "given") ns ls) (sym (one_literal (codes "given") (lit_words (raw_of ns l)))) ∙ ap (λ (t : List ℕ). (line_of (given_raw_line ns l) ++ 10 ∷ []) ++ t) (given_text ns ls)
 
-show_text : (ns : Names) (ls : List Lit) → lits_text (codes "show") ns ls ≡ text (map (show_form ns) ls)
+show_text : (ns : Names) (ls : List Lit) → lits_text (codes "show") ns ls ≡ text (map (show_raw_line ns) ls)
 show_text ns [] = refl
 show_text ns (l ∷ ls) =
-    ap (λ (t : List ℕ). t ++ lits_text (codes "show") ns ls) (sym (one_literal (codes "show") (lit_words (raw_of ns l)))) ∙ ap (λ (t : List ℕ). (line_of (show_form ns l) ++ 10 ∷ []) ++ t) (show_text ns ls)
+    ap (λ (t : List ℕ). t ++ lits_text (codes "show") ns ls) (sym (one_literal (codes "show") (lit_words (raw_of ns l)))) ∙ ap (λ (t : List ℕ). (line_of (show_raw_line ns l) ++ 10 ∷ []) ++ t) (show_text ns ls)
 
 title_line : (title : List ℕ) → title_text title ≡ line_of (rawlines.Theorem title) ++ 10 ∷ []
 title_line title = rw (append-nil title) (sym (append_assoc (codes "theorem") (32 ∷ title) (10 ∷ [])))
 
 -- what is given, and what is shown
-of_given : (ns : Names) (t : Statement) → objects_text Declared ns (declared_objects t) ++ lits_text (codes "given") ns t.given ≡ text (given_forms ns t)
+of_given : (ns : Names) (t : Statement) → objects_text Declared ns (declared_objects t) ++ lits_text (codes "given") ns t.given ≡ text (given_raw_lines ns t)
 of_given ns t =
-    ap (λ (x : List ℕ). x ++ lits_text (codes "given") ns t.given) (declared_text ns (declared_objects t)) ∙ ap (λ (x : List ℕ). text (map declare_form (grouped ns (declared_objects t))) ++ x) (given_text ns t.given)
-    ∙ sym (of_forms (map declare_form (grouped ns (declared_objects t))) (map (given_form ns) t.given))
+    ap (λ (x : List ℕ). x ++ lits_text (codes "given") ns t.given) (declared_text ns (declared_objects t)) ∙ ap (λ (x : List ℕ). text (map declare_raw_line (grouped ns (declared_objects t))) ++ x) (given_text ns t.given)
+    ∙ sym (of_forms (map declare_raw_line (grouped ns (declared_objects t))) (map (given_raw_line ns) t.given))
 
-of_shown : (ns : Names) (t : Statement) → objects_text Made ns (made_objects t) ++ lits_text (codes "show") ns t.shown ≡ text (shown_forms ns t)
+of_shown : (ns : Names) (t : Statement) → objects_text Made ns (made_objects t) ++ lits_text (codes "show") ns t.shown ≡ text (shown_raw_lines ns t)
 of_shown ns t =
-    ap (λ (x : List ℕ). x ++ lits_text (codes "show") ns t.shown) (made_text ns (made_objects t)) ∙ ap (λ (x : List ℕ). text (map made_form (grouped ns (made_objects t))) ++ x) (show_text ns t.shown)
-    ∙ sym (of_forms (map made_form (grouped ns (made_objects t))) (map (show_form ns) t.shown))
+    ap (λ (x : List ℕ). x ++ lits_text (codes "show") ns t.shown) (made_text ns (made_objects t)) ∙ ap (λ (x : List ℕ). text (map made_raw_line (grouped ns (made_objects t))) ++ x) (show_text ns t.shown)
+    ∙ sym (of_forms (map made_raw_line (grouped ns (made_objects t))) (map (show_raw_line ns) t.shown))
 
-of_statement : (ns : Names) (t : Statement) → statement_text ns t ++ (codes "proof" ++ 10 ∷ []) ≡ text (given_forms ns t ++ (shown_forms ns t ++ rawlines.Proof ∷ []))
+of_statement : (ns : Names) (t : Statement) → statement_text ns t ++ (codes "proof" ++ 10 ∷ []) ≡ text (given_raw_lines ns t ++ (shown_raw_lines ns t ++ rawlines.Proof ∷ []))
 of_statement ns t =
     let given = objects_text Declared ns (declared_objects t) in
     let lits = lits_text (codes "given") ns t.given in
     let shown = objects_text Made ns (made_objects t) ++ lits_text (codes "show") ns t.shown in
     let end = codes "proof" ++ 10 ∷ [] in
     ap (λ (x : List ℕ). x ++ end) (sym (append_assoc given lits shown)) ∙ append_assoc (given ++ lits) shown end ∙ ap (λ (x : List ℕ). x ++ (shown ++ end)) (of_given ns t)
-    ∙ ap (λ (x : List ℕ). text (given_forms ns t) ++ (x ++ end)) (of_shown ns t) ∙ ap (λ (x : List ℕ). text (given_forms ns t) ++ x) (sym (of_forms (shown_forms ns t) (rawlines.Proof ∷ [])))
-    ∙ sym (of_forms (given_forms ns t) (shown_forms ns t ++ rawlines.Proof ∷ []))
+    ∙ ap (λ (x : List ℕ). text (given_raw_lines ns t) ++ (x ++ end)) (of_shown ns t) ∙ ap (λ (x : List ℕ). text (given_raw_lines ns t) ++ x) (sym (of_forms (shown_raw_lines ns t) (rawlines.Proof ∷ [])))
+    ∙ sym (of_forms (given_raw_lines ns t) (shown_raw_lines ns t ++ rawlines.Proof ∷ []))
 
-of_head : (t : TheoremView) → head_text t.title t.names t.statement ≡ text (head_forms t)
+of_head : (t : TheoremView) → head_text t.title t.names t.statement ≡ text (head_raw_lines t)
 of_head t =
     ap (λ (x : List ℕ). x ++ (statement_text t.names t.statement ++ (codes "proof" ++ 10 ∷ []))) (title_line t.title)
     ∙ ap (λ (x : List ℕ). (line_of (rawlines.Theorem t.title) ++ 10 ∷ []) ++ x) (of_statement t.names t.statement)
 
-of_proof : (known : List TitledStatement) (ns : Names) (d : Script) → proof_text known ns d ≡ text_of (script_lines known ns d ++ line_of end_form ∷ [])
+of_proof : (known : List TitledStatement) (ns : Names) (d : Script) → proof_text known ns d ≡ text_of (script_lines known ns d ++ line_of end_raw_line ∷ [])
 unfolding script_text
-of_proof known ns d = sym (of_lines (script_lines known ns d) (line_of end_form ∷ []))
+of_proof known ns d = sym (of_lines (script_lines known ns d) (line_of end_raw_line ∷ []))
 
 pub spelled_parts : (known : List TitledStatement) (t : TheoremView) (d : Script) → theorem_text known t d ≡ spelled known t d
 spelled_parts known t d =
-    ap (λ (x : List ℕ). x ++ proof_text known (names_of_proof t) d) (of_head t) ∙ ap (λ (x : List ℕ). text (head_forms t) ++ x) (of_proof known (names_of_proof t) d)
-    ∙ sym (of_lines (map line_of (head_forms t)) (script_lines known (names_of_proof t) d ++ line_of end_form ∷ []))
+    ap (λ (x : List ℕ). x ++ proof_text known (names_of_proof t) d) (of_head t) ∙ ap (λ (x : List ℕ). text (head_raw_lines t) ++ x) (of_proof known (names_of_proof t) d)
+    ∙ sym (of_lines (map line_of (head_raw_lines t)) (script_lines known (names_of_proof t) d ++ line_of end_raw_line ∷ []))

@@ -16,8 +16,8 @@ use Rattle.e_deriv.specs.Parts.{filled_by}
 use Rattle.e_names.specs.TitledStatements.{TitledStatement, theorem_of}
 use Rattle.e_book.specs.TheoremViews.{TheoremView}
 use Rattle.e_line.specs.Canonical.{line_of}
-use Rattle.e_names.specs.Canonical.{by_form, hence_form, let_form, apply_form, claim_form, superpose_form, qed_form, contradiction_form, cases_form, else_form, end_form}
-use Rattle.e_book.specs.Canonical.{head_forms, script_forms, names_of_proof, forms_of}
+use Rattle.e_names.specs.Canonical.{by_raw_line, hence_raw_line, let_raw_line, apply_raw_line, claim_raw_line, superpose_raw_line, qed_raw_line, contradiction_raw_line, cases_raw_line, else_raw_line, end_raw_line}
+use Rattle.e_book.specs.Canonical.{head_raw_lines, script_raw_lines, names_of_proof, raw_lines_of}
 use Rattle.e_spell.specs.Certificates.{certs_lines}
 use Rattle.e_spell.specs.Spelling.{script_lines, spelled_lines}
 use Rattle.e_spell.specs.Laws.{is_plain_line, filled_entry}
@@ -64,39 +64,39 @@ both_stay : (xs ys : List (List ℕ)) (fs gs : List RawLine) → filter is_plain
 both_stay xs ys fs gs x y =
     filter-append is_plain_line xs ys ∙ ap (λ (l : List (List ℕ)). l ++ filter is_plain_line ys) x ∙ ap (λ (l : List (List ℕ)). map line_of fs ++ l) y ∙ sym (lines_append fs gs)
 
-script_stays : (known : List TitledStatement) (ns : Names) (d : Script) → filter is_plain_line (script_lines known ns d) ≡ map line_of (script_forms known ns (erased d))
-unfolding script_lines script_forms erased
-script_stays known ns (Cite by rest) = ap (λ (x : List (List ℕ)). line_of (by_form ns by) ∷ x) (script_stays known ns rest)
+script_stays : (known : List TitledStatement) (ns : Names) (d : Script) → filter is_plain_line (script_lines known ns d) ≡ map line_of (script_raw_lines known ns (erased d))
+unfolding script_lines script_raw_lines erased
+script_stays known ns (Cite by rest) = ap (λ (x : List (List ℕ)). line_of (by_raw_line ns by) ∷ x) (script_stays known ns rest)
 script_stays known ns (Hence lit cert rest) =
-    ap (λ (x : List (List ℕ)). line_of (hence_form ns lit) ∷ x) (certified_stay ns (option_to_list cert) (script_lines known ns rest) ∙ script_stays known ns rest)
-script_stays known ns (Make form names cs rest) =
-    let after = named ns (sorts_made form) names in
-    ap (λ (x : List (List ℕ)). line_of (let_form ns form names) ∷ x) (certified_stay ns cs (script_lines known after rest) ∙ script_stays known after rest)
+    ap (λ (x : List (List ℕ)). line_of (hence_raw_line ns lit) ∷ x) (certified_stay ns (option_to_list cert) (script_lines known ns rest) ∙ script_stays known ns rest)
+script_stays known ns (Make construction names cs rest) =
+    let after = named ns (sorts_made construction) names in
+    ap (λ (x : List (List ℕ)). line_of (let_raw_line ns construction names) ∷ x) (certified_stay ns cs (script_lines known after rest) ∙ script_stays known after rest)
 script_stays known ns (Apply theorem args names cs rest) =
     let after = named ns (theorem_of known theorem).made names in
-    ap (λ (x : List (List ℕ)). line_of (apply_form known ns theorem args names) ∷ x) (certified_stay ns cs (script_lines known after rest) ∙ script_stays known after rest)
+    ap (λ (x : List (List ℕ)). line_of (apply_raw_line known ns theorem args names) ∷ x) (certified_stay ns cs (script_lines known after rest) ∙ script_stays known after rest)
 script_stays known ns (Claim shown inner rest) =
-    ap (λ (x : List (List ℕ)). line_of (claim_form ns shown) ∷ x)
-    (both_stay (script_lines known ns inner) (script_lines known ns rest) (script_forms known ns (erased inner)) (script_forms known ns (erased rest)) (script_stays known ns inner) (script_stays known ns rest))
-script_stays known ns (Superposed form names shown cs inner rest) =
+    ap (λ (x : List (List ℕ)). line_of (claim_raw_line ns shown) ∷ x)
+    (both_stay (script_lines known ns inner) (script_lines known ns rest) (script_raw_lines known ns (erased inner)) (script_raw_lines known ns (erased rest)) (script_stays known ns inner) (script_stays known ns rest))
+script_stays known ns (Superposed superposition names shown cs inner rest) =
     let inside = named ns superposing.sorts_copied names in
-    ap (λ (x : List (List ℕ)). line_of (superpose_form ns form names shown) ∷ x)
+    ap (λ (x : List (List ℕ)). line_of (superpose_raw_line ns superposition names shown) ∷ x)
     (certified_stay ns cs (script_lines known inside inner ++ script_lines known ns rest)
-    ∙ both_stay (script_lines known inside inner) (script_lines known ns rest) (script_forms known inside (erased inner)) (script_forms known ns (erased rest)) (script_stays known inside inner) (script_stays known ns rest))
-script_stays known ns (Qed objects cs) = ap (λ (x : List (List ℕ)). line_of (qed_form ns objects) ∷ x) (certs_go ns cs)
-script_stays known ns (Contradiction a) = ap (λ (x : List (List ℕ)). line_of contradiction_form ∷ x) (contradiction_goes ns a)
+    ∙ both_stay (script_lines known inside inner) (script_lines known ns rest) (script_raw_lines known inside (erased inner)) (script_raw_lines known ns (erased rest)) (script_stays known inside inner) (script_stays known ns rest))
+script_stays known ns (Qed objects cs) = ap (λ (x : List (List ℕ)). line_of (qed_raw_line ns objects) ∷ x) (certs_go ns cs)
+script_stays known ns (Contradiction a) = ap (λ (x : List (List ℕ)). line_of contradiction_raw_line ∷ x) (contradiction_goes ns a)
 script_stays known ns (Cases lit first second) =
-    ap (λ (x : List (List ℕ)). line_of (cases_form ns lit) ∷ x)
-    (both_stay (script_lines known ns first) (line_of else_form ∷ script_lines known ns second) (script_forms known ns (erased first)) (else_form ∷ script_forms known ns (erased second)) (script_stays known ns first)
-    (ap (λ (x : List (List ℕ)). line_of else_form ∷ x) (script_stays known ns second)))
+    ap (λ (x : List (List ℕ)). line_of (cases_raw_line ns lit) ∷ x)
+    (both_stay (script_lines known ns first) (line_of else_raw_line ∷ script_lines known ns second) (script_raw_lines known ns (erased first)) (else_raw_line ∷ script_raw_lines known ns (erased second)) (script_stays known ns first)
+    (ap (λ (x : List (List ℕ)). line_of else_raw_line ∷ x) (script_stays known ns second)))
 
-pub plain_lines : (known : List TitledStatement) (t : TheoremView) (d : Script) → erased d ≡ filled_by t.script d → filter is_plain_line (spelled_lines known t d) ≡ map line_of (forms_of known (filled_entry t d))
+pub plain_lines : (known : List TitledStatement) (t : TheoremView) (d : Script) → erased d ≡ filled_by t.script d → filter is_plain_line (spelled_lines known t d) ≡ map line_of (raw_lines_of known (filled_entry t d))
 plain_lines known t d e =
-    let end = line_of end_form ∷ [] in
+    let end = line_of end_raw_line ∷ [] in
     let ns = names_of_proof t in
     let script = filled_by t.script d in
-    filter-append is_plain_line (map line_of (head_forms t)) (script_lines known ns d ++ end)
-    ∙ ap (λ (x : List (List ℕ)). x ++ filter is_plain_line (script_lines known ns d ++ end)) (forms_stay (head_forms t))
-    ∙ ap (λ (x : List (List ℕ)). map line_of (head_forms t) ++ x)
-    (filter-append is_plain_line (script_lines known ns d) end ∙ ap (λ (x : List (List ℕ)). x ++ end) (script_stays known ns d ∙ ap (λ (s : Script). map line_of (script_forms known ns s)) e) ∙ sym (lines_append (script_forms known ns script) (end_form ∷ [])))
-    ∙ sym (lines_append (head_forms t) (script_forms known ns script ++ end_form ∷ []))
+    filter-append is_plain_line (map line_of (head_raw_lines t)) (script_lines known ns d ++ end)
+    ∙ ap (λ (x : List (List ℕ)). x ++ filter is_plain_line (script_lines known ns d ++ end)) (forms_stay (head_raw_lines t))
+    ∙ ap (λ (x : List (List ℕ)). map line_of (head_raw_lines t) ++ x)
+    (filter-append is_plain_line (script_lines known ns d) end ∙ ap (λ (x : List (List ℕ)). x ++ end) (script_stays known ns d ∙ ap (λ (s : Script). map line_of (script_raw_lines known ns s)) e) ∙ sym (lines_append (script_raw_lines known ns script) (end_raw_line ∷ [])))
+    ∙ sym (lines_append (head_raw_lines t) (script_raw_lines known ns script ++ end_raw_line ∷ []))

@@ -17,11 +17,11 @@ use Rattle.e_deriv.proofs.Scripts.{scripts, plain_steps, step_script-plain}
 use Rattle.e_line.specs.declared.raw_line.RawLine.{RawLine}
 use Rattle.e_names.specs.TitledStatements.{TitledStatement, theorem_of}
 use Rattle.e_line.specs.Canonical.{line_of}
-use Rattle.e_names.specs.Canonical.{hence_form, let_form, apply_form, claim_form, superpose_form, cases_form, else_form, qed_form, contradiction_form}
+use Rattle.e_names.specs.Canonical.{hence_raw_line, let_raw_line, apply_raw_line, claim_raw_line, superpose_raw_line, cases_raw_line, else_raw_line, qed_raw_line, contradiction_raw_line}
 use Rattle.e_book.specs.Canonical.{text_of}
 use Rattle.e_spell.specs.Certificates.{certs_lines}
 use Rattle.e_spell.specs.Spelling.{script_lines}
-use Rattle.e_spell.specs.inner.Parts.{form_text, certs_text, superposition_text, script_text, step_text, steps_text, names_after_step, names_after, qed_text, contradicted_text, split_text}
+use Rattle.e_spell.specs.inner.Parts.{raw_line_text, certs_text, superposition_text, script_text, step_text, steps_text, names_after_step, names_after, qed_text, contradicted_text, split_text}
 use Rattle.e_spell.proofs.CertTexts.{of_certs, of_contradiction}
 
 pub of_lines : (xs ys : List (List ℕ)) → text_of (xs ++ ys) ≡ text_of xs ++ text_of ys
@@ -35,23 +35,23 @@ of_certified ns cs rest = of_lines (certs_lines ns cs) rest ∙ ap (λ (t : List
 -- ---- steps
 
 -- a line, its certificates, and what comes after them
-line_certified : (f : RawLine) (ns : Names) (cs : List Cert) (rest : List (List ℕ)) → text_of (line_of f ∷ (certs_lines ns cs ++ rest)) ≡ (form_text f ++ certs_text ns cs) ++ text_of rest
-line_certified f ns cs rest = ap (λ (t : List ℕ). form_text f ++ t) (of_certified ns cs rest) ∙ sym (append_assoc (form_text f) (certs_text ns cs) (text_of rest))
+line_certified : (f : RawLine) (ns : Names) (cs : List Cert) (rest : List (List ℕ)) → text_of (line_of f ∷ (certs_lines ns cs ++ rest)) ≡ (raw_line_text f ++ certs_text ns cs) ++ text_of rest
+line_certified f ns cs rest = ap (λ (t : List ℕ). raw_line_text f ++ t) (of_certified ns cs rest) ∙ sym (append_assoc (raw_line_text f) (certs_text ns cs) (text_of rest))
 
 before_text : (known : List TitledStatement) (ns : Names) (s : PlainStep) (rest : Script) → script_text known ns (before s rest) ≡ step_text known ns s ++ script_text known (names_after_step known ns s) rest
 unfolding script_text script_lines superposition_text
 before_text known ns (Cited by) rest = refl
-before_text known ns (Inferred lit cert) rest = line_certified (hence_form ns lit) ns (option_to_list cert) (script_lines known ns rest)
-before_text known ns (Made form names certs) rest = line_certified (let_form ns form names) ns certs (script_lines known (named ns (sorts_made form) names) rest)
+before_text known ns (Inferred lit cert) rest = line_certified (hence_raw_line ns lit) ns (option_to_list cert) (script_lines known ns rest)
+before_text known ns (Made construction names certs) rest = line_certified (let_raw_line ns construction names) ns certs (script_lines known (named ns (sorts_made construction) names) rest)
 before_text known ns (Applied theorem args names certs) rest =
-    line_certified (apply_form known ns theorem args names) ns certs (script_lines known (named ns (theorem_of known theorem).made names) rest)
+    line_certified (apply_raw_line known ns theorem args names) ns certs (script_lines known (named ns (theorem_of known theorem).made names) rest)
 before_text known ns (Claimed shown inner) rest =
-    let line = form_text (claim_form ns shown) in
+    let line = raw_line_text (claim_raw_line ns shown) in
     let inside = script_lines known ns inner in
     let after = script_lines known ns rest in
     ap (λ (t : List ℕ). line ++ t) (of_lines inside after) ∙ sym (append_assoc line (text_of inside) (text_of after))
-before_text known ns (Copied form names shown certs inner) rest =
-    let line = form_text (superpose_form ns form names shown) in
+before_text known ns (Copied superposition names shown certs inner) rest =
+    let line = raw_line_text (superpose_raw_line ns superposition names shown) in
     let inside = script_lines known (named ns superposing.sorts_copied names) inner in
     let after = script_lines known ns rest in
     ap (λ (t : List ℕ). line ++ t) (of_certified ns certs (inside ++ after) ∙ ap (λ (t : List ℕ). certs_text ns certs ++ t) (of_lines inside after) ∙ sym (append_assoc (certs_text ns certs) (text_of inside) (text_of after)))
@@ -74,15 +74,15 @@ pub ruleset blocks = (common_steps, of_steps)
 
 pub script_text-Qed : (known : List TitledStatement) (ns : Names) (objects : List Obj) (cs : List Cert) → script_text known ns (Qed objects cs) ≡ qed_text ns objects cs
 unfolding script_text script_lines
-script_text-Qed known ns objects cs = ap (λ (t : List ℕ). form_text (qed_form ns objects) ++ t) (of_certs ns cs)
+script_text-Qed known ns objects cs = ap (λ (t : List ℕ). raw_line_text (qed_raw_line ns objects) ++ t) (of_certs ns cs)
 
 pub script_text-Contradiction : (known : List TitledStatement) (ns : Names) (against : Option Against) → script_text known ns (Contradiction against) ≡ contradicted_text ns against
 unfolding script_text script_lines
-script_text-Contradiction known ns against = ap (λ (t : List ℕ). form_text contradiction_form ++ t) (of_contradiction ns against)
+script_text-Contradiction known ns against = ap (λ (t : List ℕ). raw_line_text contradiction_raw_line ++ t) (of_contradiction ns against)
 
 pub script_text-Cases : (known : List TitledStatement) (ns : Names) (lit : Lit) (first second : Script) → script_text known ns (Cases lit first second) ≡ split_text known ns lit first second
 unfolding script_text script_lines
 script_text-Cases known ns lit first second =
-    ap (λ (t : List ℕ). form_text (cases_form ns lit) ++ t) (of_lines (script_lines known ns first) (line_of else_form ∷ script_lines known ns second))
+    ap (λ (t : List ℕ). raw_line_text (cases_raw_line ns lit) ++ t) (of_lines (script_lines known ns first) (line_of else_raw_line ∷ script_lines known ns second))
 
 pub ruleset closes = (common_steps, scripts, script_text-Qed, script_text-Contradiction, script_text-Cases)

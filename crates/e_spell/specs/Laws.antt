@@ -5,7 +5,7 @@ use Rattle.e_deriv.specs.Parts.{filled_by}
 use Rattle.e_names.specs.TitledStatements.{TitledStatement}
 use Rattle.e_book.specs.TheoremViews.{TheoremView}
 use Rattle.e_line.specs.Canonical.{line_of}
-use Rattle.e_book.specs.Canonical.{forms_of}
+use Rattle.e_book.specs.Canonical.{raw_lines_of}
 use Rattle.e_spell.specs.Spelling.{spelled_lines}
 
 -- a certificate's line begins with `|`
@@ -24,4 +24,5 @@ abbrev pub LinesAreTheTheorem : Type 0
 LinesAreTheTheorem =
     (known : List TitledStatement) (t : TheoremView) (d : Script)
     → erased d ≡ filled_by t.script d →
-    filter is_plain_line (spelled_lines known t d) ≡ map line_of (forms_of known (filled_entry t d))
+    filter is_plain_line (spelled_lines known t d)
+    ≡ map line_of (raw_lines_of known (filled_entry t d))

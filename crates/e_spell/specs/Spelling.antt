@@ -18,10 +18,11 @@ use Rattle.e_names.specs.TitledStatements.{TitledStatement, theorem_of}
 use Rattle.e_book.specs.TheoremViews.{TheoremView}
 use Rattle.e_text.specs.Tokens.{joined_words}
 use Rattle.e_line.specs.Canonical.{line_of, lit_words}
-use Rattle.e_names.specs.Canonical.{raw_of, by_form, hence_form, let_form, apply_form, claim_form}
-use Rattle.e_names.specs.Canonical.{superpose_form, qed_form, contradiction_form, cases_form}
-use Rattle.e_names.specs.Canonical.{else_form, end_form}
-use Rattle.e_book.specs.Canonical.{head_forms, names_of_proof, text_of}
+use Rattle.e_names.specs.Canonical.{raw_of, by_raw_line, hence_raw_line, let_raw_line}
+use Rattle.e_names.specs.Canonical.{apply_raw_line, claim_raw_line, superpose_raw_line}
+use Rattle.e_names.specs.Canonical.{qed_raw_line, contradiction_raw_line, cases_raw_line}
+use Rattle.e_names.specs.Canonical.{else_raw_line, end_raw_line}
+use Rattle.e_book.specs.Canonical.{head_raw_lines, names_of_proof, text_of}
 use Rattle.e_spell.specs.Certificates.{named_term, certs_lines, contradiction_lines}
 
 -- each line of a derivation, and below it one certificate for each literal that it needs, or that
@@ -29,33 +30,34 @@ use Rattle.e_spell.specs.Certificates.{named_term, certs_lines, contradiction_li
 -- those of new objects come into scope after the certificates of the line that makes them, and
 -- those of an inner block are gone after it
 unfoldable pub script_lines : List TitledStatement → Names → Script → List (List ℕ)
-script_lines known ns (Cite by rest) = line_of (by_form ns by) ∷ script_lines known ns rest
+script_lines known ns (Cite by rest) = line_of (by_raw_line ns by) ∷ script_lines known ns rest
 script_lines known ns (Hence lit cert rest) =
-    line_of (hence_form ns lit)
+    line_of (hence_raw_line ns lit)
     ∷ (certs_lines ns (option_to_list cert) ++ script_lines known ns rest)
-script_lines known ns (Make form names certs rest) =
-    line_of (let_form ns form names)
-    ∷ (certs_lines ns certs ++ script_lines known (named ns (sorts_made form) names) rest)
+script_lines known ns (Make construction names certs rest) =
+    line_of (let_raw_line ns construction names)
+    ∷ (certs_lines ns certs ++ script_lines known (named ns (sorts_made construction) names) rest)
 script_lines known ns (Apply theorem args names certs rest) =
-    line_of (apply_form known ns theorem args names) ∷ (certs_lines ns certs
+    line_of (apply_raw_line known ns theorem args names) ∷ (certs_lines ns certs
     ++ script_lines known (named ns (theorem_of known theorem).made names) rest)
 script_lines known ns (Claim shown inner rest) =
-    line_of (claim_form ns shown) ∷ (script_lines known ns inner ++ script_lines known ns rest)
-script_lines known ns (Superposed form names shown certs inner rest) =
-    line_of (superpose_form ns form names shown)
+    line_of (claim_raw_line ns shown) ∷ (script_lines known ns inner ++ script_lines known ns rest)
+script_lines known ns (Superposed superposition names shown certs inner rest) =
+    line_of (superpose_raw_line ns superposition names shown)
     ∷ (certs_lines ns certs ++ (script_lines known (named ns superposing.sorts_copied names) inner
     ++ script_lines known ns rest))
-script_lines known ns (Qed objects certs) = line_of (qed_form ns objects) ∷ certs_lines ns certs
+script_lines known ns (Qed objects certs) = line_of (qed_raw_line ns objects) ∷ certs_lines ns certs
 script_lines known ns (Contradiction against) =
-    line_of contradiction_form ∷ contradiction_lines ns against
+    line_of contradiction_raw_line ∷ contradiction_lines ns against
 script_lines known ns (Cases lit first second) =
-    line_of (cases_form ns lit)
-    ∷ (script_lines known ns first ++ line_of else_form ∷ script_lines known ns second)
+    line_of (cases_raw_line ns lit)
+    ∷ (script_lines known ns first ++ line_of else_raw_line ∷ script_lines known ns second)
 
 -- the lines of a theorem after those that are known, with its derivation, in order
 abbrev pub spelled_lines : List TitledStatement → TheoremView → Script → List (List ℕ)
 spelled_lines known t d =
-    map line_of (head_forms t) ++ (script_lines known (names_of_proof t) d ++ line_of end_form ∷ [])
+    map line_of (head_raw_lines t)
+    ++ (script_lines known (names_of_proof t) d ++ line_of end_raw_line ∷ [])
 
 abbrev pub spelled : List TitledStatement → TheoremView → Script → List ℕ
 spelled known t d = text_of (spelled_lines known t d)

@@ -103,12 +103,12 @@ fn line(num: u16) -> Obj
 pub(crate) fn placed_names(
     alloc: Global,
     names: &Names,
-    form: Superpose,
+    superposition: Superpose,
 ) -> Result<Items<Name>, AllocError>
-    ensures { IfOk result (λ n. n ≡ placed_names names.now form) }
+    ensures { IfOk result (λ n. n ≡ placed_names names.now superposition) }
 {
-    let [a, b, c, d, g, h] = form.points;
-    let [k, l] = form.lines;
+    let [a, b, c, d, g, h] = superposition.points;
+    let [k, l] = superposition.lines;
     let objects = [
         point(a),
         point(b),

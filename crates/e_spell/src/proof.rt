@@ -3,8 +3,8 @@ ghost use Rattle.std.specs.Prelude.{◌≡◌, ◌++◌, map, OnOk};
 ghost use Rattle.std.specs.Option.{option_to_list};
 ghost use Rattle.e_deriv.specs.PlainStep.{plain_step};
 ghost use Rattle.e_deriv.specs.Script.{script_of, close_script};
-ghost use Rattle.e_names.specs.Canonical.{hence_form, let_form, apply_form};
-ghost use Rattle.e_spell.specs.inner.Parts.{form_text, certs_text, superposition_text};
+ghost use Rattle.e_names.specs.Canonical.{hence_raw_line, let_raw_line, apply_raw_line};
+ghost use Rattle.e_spell.specs.inner.Parts.{raw_line_text, certs_text, superposition_text};
 ghost use Rattle.e_spell.specs.inner.Parts.{qed_text, step_text, steps_text, names_after};
 ghost use Rattle.e_spell.specs.inner.Parts.{script_text, contradicted_text, proof_text};
 
@@ -32,7 +32,7 @@ fn put_hence(
     cert: &Option<Cert>,
 ) -> Result<(), AllocError>
     ensures { OnOk result
-        (out.new.items ≡ out.old.items ++ (form_text (hence_form names.now lit.now)
+        (out.new.items ≡ out.old.items ++ (raw_line_text (hence_raw_line names.now lit.now)
         ++ certs_text names.now (option_to_list cert.now))) }
 {
     put_literal_line(alloc, out, b"hence", names, lit)?;
@@ -45,14 +45,15 @@ fn put_made(
     alloc: Global,
     out: &mut Vec<u8>,
     names: &Names,
-    form: &Construction,
+    construction: &Construction,
     new: &[Name],
     certs: &[Cert],
 ) -> Result<(), AllocError>
     ensures { OnOk result (out.new.items ≡ out.old.items
-        ++ (form_text (let_form names.now form.now new.now) ++ certs_text names.now certs.now)) }
+        ++ (raw_line_text (let_raw_line names.now construction.now new.now)
+        ++ certs_text names.now certs.now)) }
 {
-    put_construction(alloc, out, names, form, new)?;
+    put_construction(alloc, out, names, construction, new)?;
     put_certs(alloc, out, names, certs)
 }
 
@@ -69,7 +70,7 @@ fn put_applied(
     certs: &[Cert],
 ) -> Result<(), AllocError>
     ensures { OnOk result (out.new.items ≡ out.old.items
-        ++ (form_text (apply_form known.now names.now theorem args.now new.now)
+        ++ (raw_line_text (apply_raw_line known.now names.now theorem args.now new.now)
         ++ certs_text names.now certs.now)) }
 {
     put_application(alloc, out, known, names, theorem, args, new)?;
@@ -82,15 +83,15 @@ fn put_superposed(
     alloc: Global,
     out: &mut Vec<u8>,
     names: &Names,
-    form: Superpose,
+    superposition: Superpose,
     new: &[Name],
     shown: &[Lit],
     certs: &[Cert],
 ) -> Result<(), AllocError>
-    ensures { OnOk result (out.new.items ≡ out.old.items ++ (superposition_text names.now form
-        new.now shown.now ++ certs_text names.now certs.now)) }
+    ensures { OnOk result (out.new.items ≡ out.old.items ++ (superposition_text names.now
+        superposition new.now shown.now ++ certs_text names.now certs.now)) }
 {
-    put_superposition(alloc, out, names, form, new, shown)?;
+    put_superposition(alloc, out, names, superposition, new, shown)?;
     put_certs(alloc, out, names, certs)
 }
 
@@ -112,10 +113,10 @@ fn put_step(
         Step::Cite(by) => put_citation(alloc, out, names, by),
         Step::Hence { lit, cert } => put_hence(alloc, out, names, lit, cert),
         Step::Make {
-            form,
+            construction,
             names: new,
             certs,
-        } => put_made(alloc, out, names, form, new.items(), certs.items()),
+        } => put_made(alloc, out, names, construction, new.items(), certs.items()),
         Step::Apply {
             theorem,
             args,
@@ -136,7 +137,7 @@ fn put_step(
             put_block(alloc, out, known, names, inner)
         }
         Step::Superposed {
-            form,
+            superposition,
             names: new,
             shown,
             certs,
@@ -146,12 +147,12 @@ fn put_step(
                 alloc,
                 out,
                 names,
-                *form,
+                *superposition,
                 new.items(),
                 shown.items(),
                 certs.items(),
             )?;
-            let inside = with_copies(alloc, names, *form, new.items())?;
+            let inside = with_copies(alloc, names, *superposition, new.items())?;
             let put = put_block(alloc, out, known, &inside, inner);
             mem::drop(inside);
             put

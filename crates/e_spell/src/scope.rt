@@ -48,13 +48,13 @@ fn name_all(names: &mut Names, sorts: &[Sort], new: &[Name]) -> Result<(), Alloc
 pub(crate) fn with_copies(
     alloc: Global,
     names: &Names,
-    form: Superpose,
+    superposition: Superpose,
     copies: &[Name],
 ) -> Result<Names, AllocError>
     ensures { IfOk result (λ n. n ≡ named names.now sorts_copied copies.now) }
 {
     let mut inside = names.copy(alloc)?;
-    match name_all(&mut inside, form.made(), copies) {
+    match name_all(&mut inside, superposition.made(), copies) {
         Ok(()) => Ok(inside),
         Err(error) => {
             mem::drop(inside);
@@ -89,10 +89,10 @@ pub(crate) fn name_new(known: &Theorems, names: &mut Names, step: &Step) -> Resu
     match step {
         Step::Cite(_) | Step::Hence { .. } | Step::Claim { .. } | Step::Superposed { .. } => Ok(()),
         Step::Make {
-            form,
+            construction,
             names: new,
             ..
-        } => name_all(names, form.made(), new.items()),
+        } => name_all(names, construction.made(), new.items()),
         Step::Apply {
             theorem,
             names: new,

@@ -3,8 +3,9 @@ ghost use Rattle.std.specs.Prelude.{◌≡◌, ◌++◌, OnOk};
 ghost use Rattle.e_line.specs.declared.raw_line.RawLine.TheVariants as rawlines;
 ghost use Rattle.e_names.specs.TitledStatements.{title_at};
 ghost use Rattle.e_line.specs.Canonical.{line_of};
-ghost use Rattle.e_names.specs.Canonical.{by_form, let_form, apply_form, claim_form, qed_form};
-ghost use Rattle.e_spell.specs.inner.Parts.{form_text, superposition_text};
+ghost use Rattle.e_names.specs.Canonical.{by_raw_line, let_raw_line, apply_raw_line};
+ghost use Rattle.e_names.specs.Canonical.{claim_raw_line, qed_raw_line};
+ghost use Rattle.e_spell.specs.inner.Parts.{raw_line_text, superposition_text};
 
 use crate::literals::{names_of_arguments, names_of_objects, placed_names};
 use crate::rules::rule_name;
@@ -25,7 +26,8 @@ pub(crate) fn put_citation(
     names: &Names,
     by: &By,
 ) -> Result<(), AllocError>
-    ensures { OnOk result (out.new.items ≡ out.old.items ++ form_text (by_form names.now by.now)) }
+    ensures { OnOk result
+        (out.new.items ≡ out.old.items ++ raw_line_text (by_raw_line names.now by.now)) }
 {
     let raw = raw_of(alloc, names, &by.lit)?;
     let args = match names_of_objects(alloc, names, by.args.items()) {
@@ -47,21 +49,21 @@ pub(crate) fn put_construction(
     alloc: Global,
     out: &mut Vec<u8>,
     names: &Names,
-    form: &Construction,
+    construction: &Construction,
     new: &[Name],
 ) -> Result<(), AllocError>
-    ensures { OnOk result
-        (out.new.items ≡ out.old.items ++ form_text (let_form names.now form.now new.now)) }
+    ensures { OnOk result (out.new.items ≡ out.old.items
+        ++ raw_line_text (let_raw_line names.now construction.now new.now)) }
 {
-    let args = names_of_objects(alloc, names, form.args.items())?;
-    let avoid = match names_of_objects(alloc, names, form.avoid.items()) {
+    let args = names_of_objects(alloc, names, construction.args.items())?;
+    let avoid = match names_of_objects(alloc, names, construction.avoid.items()) {
         Ok(avoid) => avoid,
         Err(error) => {
             mem::drop(args);
             return Err(error);
         }
     };
-    let shapes = slice::from_ref(&form.shape);
+    let shapes = slice::from_ref(&construction.shape);
     let put = put_let(out, shapes, new, args.items(), avoid.items());
     mem::drop(avoid);
     mem::drop(args);
@@ -99,7 +101,7 @@ pub(crate) fn put_application(
     new: &[Name],
 ) -> Result<(), AllocError>
     ensures { OnOk result (out.new.items ≡ out.old.items
-        ++ form_text (apply_form known.now names.now theorem args.now new.now)) }
+        ++ raw_line_text (apply_raw_line known.now names.now theorem args.now new.now)) }
 {
     let args = names_of_arguments(alloc, names, args)?;
     let put = put_by_title(out, known, theorem as usize, args.items(), new);
@@ -116,7 +118,7 @@ pub(crate) fn put_claim(
     shown: &[Lit],
 ) -> Result<(), AllocError>
     ensures { OnOk result
-        (out.new.items ≡ out.old.items ++ form_text (claim_form names.now shown.now)) }
+        (out.new.items ≡ out.old.items ++ raw_line_text (claim_raw_line names.now shown.now)) }
 {
     let raws = raw_lits(alloc, names, shown)?;
     let put = put_stated(out, b"claim", raws.items());
@@ -131,14 +133,14 @@ pub(crate) fn put_superposition(
     alloc: Global,
     out: &mut Vec<u8>,
     names: &Names,
-    form: Superpose,
+    superposition: Superpose,
     new: &[Name],
     shown: &[Lit],
 ) -> Result<(), AllocError>
-    ensures { OnOk result
-        (out.new.items ≡ out.old.items ++ superposition_text names.now form new.now shown.now) }
+    ensures { OnOk result (out.new.items ≡ out.old.items
+        ++ superposition_text names.now superposition new.now shown.now) }
 {
-    let args = placed_names(alloc, names, form)?;
+    let args = placed_names(alloc, names, superposition)?;
     let raws = match raw_lits(alloc, names, shown) {
         Ok(raws) => raws,
         Err(error) => {
@@ -161,7 +163,7 @@ pub(crate) fn put_conclusion(
     objects: &[Obj],
 ) -> Result<(), AllocError>
     ensures { OnOk result
-        (out.new.items ≡ out.old.items ++ form_text (qed_form names.now objects.now)) }
+        (out.new.items ≡ out.old.items ++ raw_line_text (qed_raw_line names.now objects.now)) }
 {
     let objects = names_of_objects(alloc, names, objects)?;
     let put = put_named(out, b"qed", objects.items());

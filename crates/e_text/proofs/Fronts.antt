@@ -7,7 +7,7 @@ use Rattle.std.proofs.lemmas.List.Sums.{position_or_len_is, fails_before_first, 
 use Rattle.e_text.specs.declared.line.LineFault.{LineFault}
 use Rattle.e_text.specs.Lines.{is_lf, Bounds, Spot, LineView, line_before_lf, lines_of, IsClosed, then_more, spot_after}
 use Rattle.e_text.proofs.FirstLine.{then_lines}
-use Rattle.e_text.proofs.WholeLines.{next_spot, lines_of-closed}
+use Rattle.e_text.proofs.LinesOfTexts.{next_spot, lines_of-closed}
 
 abbrev Rest : Type 0
 Rest = List (Result LineView LineFault)

@@ -11,7 +11,7 @@ use Rattle.e_text.specs.declared.line.LineEnd.TheVariants.{Lf, TextEnd}
 use Rattle.e_text.specs.declared.line.LineFault.{LineFault}
 use Rattle.e_text.specs.Lines.{is_lf, is_allowed, ends_in_cr, Bounds, Spot, LineView, checked, line_before_lf, ended, lines_of, lines_of_parts, end_bytes, HaveNoFault, AreShort, text_of_lines, lf_text, numbered}
 use Rattle.e_text.proofs.FirstLine.{then_lines, split_more, parts_of, seen-checked}
-use Rattle.e_text.proofs.WholeLines.{at_lf, next_spot, lines_of-closed, lines_of-open}
+use Rattle.e_text.proofs.LinesOfTexts.{at_lf, next_spot, lines_of-closed, lines_of-open}
 
 -- ---- put together
 

@@ -14,7 +14,7 @@ use Rattle.e_literal.specs.declared.map.Entry.{Entry}
 use Rattle.e_literal.specs.Literal.{obj, count_of, is_in_scope}
 use Rattle.e_literal.specs.Scopes.{same_sort, nothing, with_one, grown, next_objects, are_of_sorts}
 use Rattle.e_literal.specs.Rename.{same_obj, image_in, paired, renamed}
-use Rattle.e_literal.specs.Use.{StatementView, scope_of, nth_of_sort, image, are_arguments}
+use Rattle.e_literal.specs.Use.{StatementView, scope_of, nth_of_sort, image_in_use, are_arguments}
 use Rattle.e_literal.proofs.GrownScopes.{grown_bounds, counts_nothing, sorts_next}
 use Rattle.e_literal.proofs.WithImages.{image_in_second}
 use Rattle.e_literal.proofs.Sorts.{same_sort_is, sorts_of_objects}
@@ -168,7 +168,7 @@ abbrev pub made_image : StatementView → Scope → Obj → Option Obj
 made_image t s o =
     cond (nat_lt o.num (count_of (grown (scope_of t) t.made) o.sort)) (Some (obj o.sort (count_of s o.sort + (o.num - count_of (scope_of t) o.sort)))) None
 
-pub imaged : (t : StatementView) (args : List Obj) (s : Scope) (o : Obj) → are_arguments t s args ≡ true → image_in (paired (sources t) (targets t args s)) o ≡ image t args s o
+pub imaged : (t : StatementView) (args : List Obj) (s : Scope) (o : Obj) → are_arguments t s args ≡ true → image_in (paired (sources t) (targets t args s)) o ≡ image_in_use t args s o
 imaged t args s o fit =
     ap (λ es. image_in es o) (paired_after s nothing t.declared args (next_objects (scope_of t) t.made) (next_objects s t.made) fit) ∙
     elim (cases_lt o.num (count_of (scope_of t) o.sort)) [
@@ -207,8 +207,8 @@ pub same_images : (f g : Obj → Option Obj) (ls : List Lit) → ((o : Obj) → 
 same_images f g ls h = ap (λ (k : Obj → Option Obj). map (renamed k) ls) (λ i o. h o i)
 
 pub at_images : (r : List Lit) (m : List Entry) (ls : List Lit) (t : StatementView) (args : List Obj) (s : Scope) (lits : List Lit) → r ≡ map (renamed (image_in m)) ls → ls ≡ lits
-    → ((o : Obj) → image_in m o ≡ image t args s o) → r ≡ map (renamed (image t args s)) lits
-at_images r m ls t args s lits is same h = is ∙ ap (map (renamed (image_in m))) same ∙ same_images (image_in m) (image t args s) lits h
+    → ((o : Obj) → image_in m o ≡ image_in_use t args s o) → r ≡ map (renamed (image_in_use t args s)) lits
+at_images r m ls t args s lits is same h = is ∙ ap (map (renamed (image_in m))) same ∙ same_images (image_in m) (image_in_use t args s) lits h
 
 -- ---- numbers of 16 bits are enough
 
@@ -234,7 +234,7 @@ pub one_sort : (x y : List Obj) (t : StatementView) (args : List Obj) (s : Scope
 one_sort x y t args s is other fit = rw (is, other) (sorts_agree t args s fit)
 
 pub imaged_by : (m : List Entry) (x y : List Obj) (t : StatementView) (args : List Obj) (s : Scope) → m ≡ paired x y → x ≡ sources t → y ≡ targets t args s → are_arguments t s args ≡ true
-    → (o : Obj) → image_in m o ≡ image t args s o
+    → (o : Obj) → image_in m o ≡ image_in_use t args s o
 imaged_by m x y t args s pairs is other fit o = rw (pairs, is, other) (imaged t args s o fit)
 
 -- ---- sorts that are tested

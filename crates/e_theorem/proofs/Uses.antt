@@ -12,7 +12,7 @@ use Rattle.e_literal.specs.Literal.{obj, count_of, is_in_scope, objects_of_atom,
 use Rattle.e_literal.specs.WellFormed.{is_well_formed}
 use Rattle.e_literal.specs.Scopes.{same_sort, nothing, with_one, grown, next_objects, are_of_sorts}
 use Rattle.e_literal.specs.Rename.{same_obj, image_in, paired, renamed}
-use Rattle.e_literal.specs.Use.{StatementView, scope_of, image, are_arguments, needs_of_use, gives_of_use, nth_of_sort, is_statement}
+use Rattle.e_literal.specs.Use.{StatementView, scope_of, image_in_use, are_arguments, needs_of_use, gives_of_use, nth_of_sort, is_statement}
 use Rattle.e_literal.proofs.WithImages.{is_moved_in, renamed_scope, renamed_well_formed}
 use Rattle.e_literal.proofs.Sorts.{same_sort_is}
 use Rattle.e_literal.proofs.Booleans.{and_left, and_right}
@@ -61,7 +61,7 @@ nothing_below s Point n = omega arith
 nothing_below s Line n = omega arith
 nothing_below s Circle n = omega arith
 
-declared_image : (t : StatementView) (args : List Obj) (s : Scope) (o : Obj) → are_arguments t s args ≡ true → is_in_scope (scope_of t) o ≡ true → image t args s o ≡ declared_images t args o
+declared_image : (t : StatementView) (args : List Obj) (s : Scope) (o : Obj) → are_arguments t s args ≡ true → is_in_scope (scope_of t) o ≡ true → image_in_use t args s o ≡ declared_images t args o
 declared_image t args s o fit declared =
     sym (imaged t args s o fit)
     ∙ ap (λ es. image_in es o) (paired_after s nothing t.declared args (next_objects (scope_of t) t.made) (next_objects s t.made) fit)
@@ -74,16 +74,16 @@ is_given t l = is_well_formed l && all_in_scope (scope_of t) l
 pub given_all : (t : StatementView) → is_statement t ≡ true → list_all (is_given t) t.given ≡ true
 given_all t h = and_left (list_all (is_given t) t.given) _ h
 
-one_need : (t : StatementView) (args : List Obj) (s : Scope) (l : Lit) → are_arguments t s args ≡ true → is_given t l ≡ true → renamed (image t args s) l ≡ renamed (declared_images t args) l
+one_need : (t : StatementView) (args : List Obj) (s : Scope) (l : Lit) → are_arguments t s args ≡ true → is_given t l ≡ true → renamed (image_in_use t args s) l ≡ renamed (declared_images t args) l
 one_need t args s l fit given =
-    same_renamed (image t args s) (declared_images t args) (is_in_scope (scope_of t))
+    same_renamed (image_in_use t args s) (declared_images t args) (is_in_scope (scope_of t))
     (λ o h. ap (λ v. number_of v o.num) (declared_image t args s o fit h)) l (and_right (is_well_formed l) _ given)
 
 each_need : (t : StatementView) (args : List Obj) (s : Scope) (ls : List Lit) → are_arguments t s args ≡ true → list_all (is_given t) ls ≡ true
-    → map (renamed (image t args s)) ls ≡ map (renamed (declared_images t args)) ls
+    → map (renamed (image_in_use t args s)) ls ≡ map (renamed (declared_images t args)) ls
 each_need t args s [] fit given = refl
 each_need t args s (l ∷ ls) fit given =
-    ap (λ x. x ∷ map (renamed (image t args s)) ls) (one_need t args s l fit (and_left (is_given t l) _ given))
+    ap (λ x. x ∷ map (renamed (image_in_use t args s)) ls) (one_need t args s l fit (and_left (is_given t l) _ given))
     ∙ ap (λ xs. renamed (declared_images t args) l ∷ xs) (each_need t args s ls fit (and_right (is_given t l) _ given))
 
 -- what a use needs, by the images of the declared objects alone
@@ -129,13 +129,13 @@ same_growth s k [] x = omega arith
 same_growth s k (sort ∷ sorts) x = omega (arith, same_growth (with_one s sort) (with_one k sort) sorts x, counted s sort x, counted k sort x)
 
 made_is : (t : StatementView) (args : List Obj) (s : Scope) (o : Obj) → count_of (scope_of t) o.sort ≤ o.num → is_in_scope (grown (scope_of t) t.made) o ≡ true
-    → image t args s o ≡ Some (obj o.sort (count_of s o.sort + (o.num - count_of (scope_of t) o.sort)))
+    → image_in_use t args s o ≡ Some (obj o.sort (count_of s o.sort + (o.num - count_of (scope_of t) o.sort)))
 made_is t args s o more all =
     ap (λ b. cond b (nth_of_sort o.sort o.num args) (made_image t s o)) (le-ltb o.num (count_of (scope_of t) o.sort) more)
     ∙ ap (λ b. cond b (Some (obj o.sort (count_of s o.sort + (o.num - count_of (scope_of t) o.sort)))) None) all
 
 shown_lands : (t : StatementView) (args : List Obj) (s : Scope) (o : Obj) → are_arguments t s args ≡ true → is_in_scope (grown (scope_of t) t.made) o ≡ true
-    → is_moved_in (grown s t.made) (image t args s) o ≡ true
+    → is_moved_in (grown s t.made) (image_in_use t args s) o ≡ true
 shown_lands t args s o fit all =
     elim (cases_lt o.num (count_of (scope_of t) o.sort)) [
       | inl less ↦
@@ -152,9 +152,9 @@ shown_lands t args s o fit all =
 abbrev is_shown : StatementView → Lit → Bool
 is_shown t l = is_well_formed l && all_in_scope (grown (scope_of t) t.made) l
 
-one_gift : (t : StatementView) (args : List Obj) (s : Scope) (l : Lit) → are_arguments t s args ≡ true → is_shown t l ≡ true → is_well_formed_in (grown s t.made) (renamed (image t args s) l) ≡ true
+one_gift : (t : StatementView) (args : List Obj) (s : Scope) (l : Lit) → are_arguments t s args ≡ true → is_shown t l ≡ true → is_well_formed_in (grown s t.made) (renamed (image_in_use t args s) l) ≡ true
 one_gift t args s l fit shown =
-    let f = image t args s in
+    let f = image_in_use t args s in
     ap (λ b. b && is_well_formed (renamed f l))
     (renamed_scope (grown s t.made) f l
     ∙ every (is_in_scope (grown (scope_of t) t.made)) (is_moved_in (grown s t.made) f) (λ o h. shown_lands t args s o fit h)
@@ -162,10 +162,10 @@ one_gift t args s l fit shown =
     ∙ renamed_well_formed f l ∙ and_left (is_well_formed l) _ shown
 
 each_gift : (t : StatementView) (args : List Obj) (s : Scope) (ls : List Lit) → are_arguments t s args ≡ true → list_all (is_shown t) ls ≡ true
-    → are_well_formed_in (grown s t.made) (map (renamed (image t args s)) ls) ≡ true
+    → are_well_formed_in (grown s t.made) (map (renamed (image_in_use t args s)) ls) ≡ true
 each_gift t args s [] fit shown = refl
 each_gift t args s (l ∷ ls) fit shown =
-    ap (λ b. b && are_well_formed_in (grown s t.made) (map (renamed (image t args s)) ls)) (one_gift t args s l fit (and_left (is_shown t l) _ shown))
+    ap (λ b. b && are_well_formed_in (grown s t.made) (map (renamed (image_in_use t args s)) ls)) (one_gift t args s l fit (and_left (is_shown t l) _ shown))
     ∙ each_gift t args s ls fit (and_right (is_shown t l) _ shown)
 
 pub gives_good : (t : StatementView) (args : List Obj) (s : Scope) → is_statement t ≡ true → are_arguments t s args ≡ true → are_well_formed_in (grown s t.made) (gives_of_use t args s) ≡ true

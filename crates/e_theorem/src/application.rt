@@ -6,7 +6,8 @@ ghost use Rattle.std.specs.Prelude.{IfErr, length, take, map as map_list};
 ghost use Rattle.e_literal.specs.declared.object.Obj.{Obj as Object};
 ghost use Rattle.e_literal.specs.Rename.{image_in, renamed as at_images};
 ghost use Rattle.e_literal.specs.Scopes;
-ghost use Rattle.e_literal.specs.Use.{are_arguments, image, needs_of_use, gives_of_use, scope_of};
+ghost use Rattle.e_literal.specs.Use.{are_arguments, image_in_use, needs_of_use, gives_of_use};
+ghost use Rattle.e_literal.specs.Use.{scope_of};
 ghost use Rattle.e_theorem.specs.Statements.{stated};
 ghost use Rattle.e_theorem.specs.Faults.{UseFaultIs};
 ghost use Rattle.e_theorem.specs.Notions.{as_stated, expanded};
@@ -128,7 +129,7 @@ fn images_declared(
     requires fit { IsTrue (are_arguments (as_stated notion.now) scope args.now) }
     requires few { length notion.now.declared < 2 ^ 16 }
     ensures { IfOk result
-        (λ m. (o : Object) → image_in m o ≡ image (as_stated notion.now) args.now scope o) }
+        (λ m. (o : Object) → image_in m o ≡ image_in_use (as_stated notion.now) args.now scope o) }
 {
     let sources = next_objects(alloc, NOTHING, notion.declared.items())?;
     let images = Map::paired(alloc, &sources, args)?;
@@ -148,7 +149,7 @@ fn images(
     requires lines { scope.lines + length statement.now.made < 2 ^ 16 }
     requires circles { scope.circles + length statement.now.made < 2 ^ 16 }
     ensures { IfOk result
-        (λ m. (o : Object) → image_in m o ≡ image (stated statement.now) args.now scope o) }
+        (λ m. (o : Object) → image_in m o ≡ image_in_use (stated statement.now) args.now scope o) }
 {
     let sources = objects(alloc, statement)?;
     let mut targets = Vec::from_slice(alloc, args)?;

@@ -248,7 +248,7 @@ impl<'a> Task for InstanceSearch<'a> {
         alloc: Global,
         part: &[u16],
     ) -> Result<Verdict<Option<TransferCert>>, AllocError> {
-        let row = self.rule.row();
+        let row = self.rule.table_row();
         let args = arguments(alloc, row, &self.plan.positions, part)?;
         if let Some(at) = self.areas {
             if self.has_free_area(row, part, args.items(), at) {

@@ -132,7 +132,7 @@ fn search_rule(
         (RuleSearchIs query.now.strength query.now.scope query.now.facts.now query.now.goal.now
         (NoneOf query.now.strength query.now.scope query.now.facts.now query.now.goal.now rule)) }
 {
-    let row = rule.row();
+    let row = rule.table_row();
     for place in 0..clause_len(row) {
         match search_place(alloc, query, rule, row, preferred, place)? {
             Verdict::No => {}

@@ -6,4 +6,4 @@ pub mod Starting
 pub mod StepParts
 pub mod StepSizes
 pub mod TrimmedScripts
-pub mod WholeScripts
+pub mod CertifiedDerivations

@@ -9,10 +9,11 @@ use Rattle.e_deriv.specs.Script.{Qed, Contradiction, Cases}
 unfoldable pub places_of : Script → List ℕ
 places_of (Cite by rest) = places_of rest
 places_of (Hence lit cert rest) = places_of rest
-places_of (Make form names certs rest) = places_of rest
+places_of (Make construction names certs rest) = places_of rest
 places_of (Apply theorem args names certs rest) = theorem ∷ places_of rest
 places_of (Claim shown inner rest) = places_of inner ++ places_of rest
-places_of (Superposed form names shown certs inner rest) = places_of inner ++ places_of rest
+places_of (Superposed superposition names shown certs inner rest) =
+    places_of inner ++ places_of rest
 places_of (Qed objects certs) = []
 places_of (Contradiction against) = []
 places_of (Cases lit first second) = places_of first ++ places_of second

@@ -156,11 +156,11 @@ of_beside _ facts = no_wants
 abbrev pub named_on : Script → List Obj
 named_on (Cite by rest) = by.args ++ objects_of_atom by.lit.atom
 named_on (Hence lit cert rest) = objects_of_atom lit.atom
-named_on (Make form names certs rest) = form.args ++ form.avoid
+named_on (Make construction names certs rest) = construction.args ++ construction.avoid
 named_on (Apply theorem args names certs rest) = args_of (Apply theorem args names certs rest)
 named_on (Claim shown inner rest) = objects_of_lits shown
-named_on (Superposed form names shown certs inner rest) =
-    superposing.objects_of form ++ objects_of_lits shown
+named_on (Superposed superposition names shown certs inner rest) =
+    superposing.objects_of superposition ++ objects_of_lits shown
 named_on (Qed objects certs) = objects
 named_on (Contradiction against) = []
 named_on (Cases lit first second) = objects_of_atom lit.atom

@@ -44,16 +44,16 @@ use Rattle.e_trim.specs.Looked.{Wants, no_wants, both, of_step}
 abbrev pub joins_at : List StatementView → Script → Scope → List Lit
 joins_at before (Cite by rest) s = by.lit ∷ []
 joins_at before (Hence lit cert rest) s = lit ∷ []
-joins_at before (Make form names certs rest) s = gives_of_construction form s
+joins_at before (Make construction names certs rest) s = gives_of_construction construction s
 joins_at before (Apply theorem args names certs rest) s =
     gives_of_use (theorem_at before theorem) (args_of (Apply theorem args names certs rest)) s
 joins_at before (Claim shown inner rest) s = shown
-joins_at before (Superposed form names shown certs inner rest) s = shown
+joins_at before (Superposed superposition names shown certs inner rest) s = shown
 joins_at before _ s = []
 
 -- the sorts of the objects that the step makes and that live on
 abbrev pub makes_at : List StatementView → Script → List Sort
-makes_at before (Make form names certs rest) = sorts_made form
+makes_at before (Make construction names certs rest) = sorts_made construction
 makes_at before (Apply theorem args names certs rest) = (theorem_at before theorem).made
 makes_at before _ = []
 
@@ -99,10 +99,10 @@ wants before (Cite by rest) s facts goal =
 wants before (Hence lit cert rest) s facts goal =
     wants_with_step before (Hence lit cert rest) s facts goal no_wants
     (wants before rest s (joined facts lit) goal)
-wants before (Make form names certs rest) s facts goal =
-    wants_with_step before (Make form names certs rest) s facts goal no_wants
-    (wants before rest (grown s (sorts_made form))
-    (joined_all facts (gives_of_construction form s)) goal)
+wants before (Make construction names certs rest) s facts goal =
+    wants_with_step before (Make construction names certs rest) s facts goal no_wants
+    (wants before rest (grown s (sorts_made construction))
+    (joined_all facts (gives_of_construction construction s)) goal)
 wants before (Apply theorem args names certs rest) s facts goal =
     let here = Apply theorem args names certs rest in
     wants_with_step before here s facts goal no_wants
@@ -112,10 +112,10 @@ wants before (Claim shown inner rest) s facts goal =
     wants_with_step before (Claim shown inner rest) s facts goal
     (wants_outside s facts (wants before inner s facts (goal_of shown)))
     (wants before rest s (joined_all facts shown) goal)
-wants before (Superposed form names shown certs inner rest) s facts goal =
-    wants_with_step before (Superposed form names shown certs inner rest) s facts goal
+wants before (Superposed superposition names shown certs inner rest) s facts goal =
+    wants_with_step before (Superposed superposition names shown certs inner rest) s facts goal
     (wants_outside s facts (wants before inner (grown s superposing.sorts_copied)
-    (joined_all facts (superposing.gives_of_superposition form s)) (goal_of shown)))
+    (joined_all facts (superposing.gives_of_superposition superposition s)) (goal_of shown)))
     (wants before rest s (joined_all facts shown) goal)
 wants before (Qed objects certs) s facts goal =
     of_step before (as_step (Qed objects certs) s facts goal)
@@ -186,18 +186,18 @@ by_at kept by =
     record { rule = by.rule; args = map (obj_at kept) by.args; lit = lit_among_kept kept by.lit }
 
 abbrev pub construction_among_kept : List Obj → Construction → Construction
-construction_among_kept kept form =
+construction_among_kept kept construction =
     record {
-      shape = form.shape;
-      args = map (obj_at kept) form.args;
-      avoid = map (obj_at kept) form.avoid;
+      shape = construction.shape;
+      args = map (obj_at kept) construction.args;
+      avoid = map (obj_at kept) construction.avoid;
     }
 
 abbrev pub superpose_at : List Obj → Superpose → Superpose
-superpose_at kept form =
-    record form {
-      points = map (kept_before kept Point) form.points;
-      lines = map (kept_before kept ALine) form.lines;
+superpose_at kept superposition =
+    record superposition {
+      points = map (kept_before kept Point) superposition.points;
+      lines = map (kept_before kept ALine) superposition.lines;
     }
 
 abbrev pub args_at : List Obj → List (Option Obj) → List (Option Obj)
@@ -217,12 +217,13 @@ trimmed_from before kept (Hence lit cert rest) s facts goal =
     let more = trimmed_from before kept rest s (joined facts lit) goal in
     if is_kept before (Hence lit cert rest) s facts (wants before rest s (joined facts lit) goal)
     then Hence (lit_among_kept kept lit) (option_map (cert_at kept) cert) more else more
-trimmed_from before kept (Make form names certs rest) s facts goal =
-    let after = joined_all facts (gives_of_construction form s) in
-    let wide = grown s (sorts_made form) in
-    if is_kept before (Make form names certs rest) s facts (wants before rest wide after goal)
-    then Make (construction_among_kept kept form) names (map (cert_at kept) certs)
-    (trimmed_from before (kept ++ next_objects s (sorts_made form)) rest wide after goal)
+trimmed_from before kept (Make construction names certs rest) s facts goal =
+    let after = joined_all facts (gives_of_construction construction s) in
+    let wide = grown s (sorts_made construction) in
+    if is_kept before (Make construction names certs rest) s facts
+    (wants before rest wide after goal)
+    then Make (construction_among_kept kept construction) names (map (cert_at kept) certs)
+    (trimmed_from before (kept ++ next_objects s (sorts_made construction)) rest wide after goal)
     else trimmed_from before kept rest wide after goal
 trimmed_from before kept (Apply theorem args names certs rest) s facts goal =
     let here = Apply theorem args names certs rest in
@@ -238,12 +239,12 @@ trimmed_from before kept (Claim shown inner rest) s facts goal =
     (joined_all facts shown) goal)
     then Claim (map (lit_among_kept kept) shown)
     (trimmed_from before kept inner s facts (goal_of shown)) more else more
-trimmed_from before kept (Superposed form names shown certs inner rest) s facts goal =
+trimmed_from before kept (Superposed superposition names shown certs inner rest) s facts goal =
     let more = trimmed_from before kept rest s (joined_all facts shown) goal in
-    let opened = joined_all facts (superposing.gives_of_superposition form s) in
-    if is_kept before (Superposed form names shown certs inner rest) s facts (wants before rest s
-    (joined_all facts shown) goal)
-    then Superposed (superpose_at kept form) names (map (lit_among_kept kept) shown)
+    let opened = joined_all facts (superposing.gives_of_superposition superposition s) in
+    if is_kept before (Superposed superposition names shown certs inner rest) s facts
+    (wants before rest s (joined_all facts shown) goal)
+    then Superposed (superpose_at kept superposition) names (map (lit_among_kept kept) shown)
     (map (cert_at kept) certs)
     (trimmed_from before (kept ++ next_objects s superposing.sorts_copied) inner
     (grown s superposing.sorts_copied) opened (goal_of shown)) more

@@ -119,9 +119,11 @@ fn build_step(
     match step {
         Step::Cite(by) => Ok(Step::Cite(new_by(alloc, kept, by)?)),
         Step::Hence { lit, cert } => new_hence(alloc, kept, lit, cert),
-        Step::Make { form, names, certs } => {
-            new_make(alloc, kept, form, names.items(), certs.items())
-        }
+        Step::Make {
+            construction,
+            names,
+            certs,
+        } => { new_make(alloc, kept, construction, names.items(), certs.items()) }
         Step::Apply {
             theorem,
             args,
@@ -140,19 +142,19 @@ fn build_step(
             new_claim(alloc, kept, shown.items(), inner)
         }
         Step::Superposed {
-            form,
+            superposition,
             names,
             shown,
             certs,
             inner,
         } => {
-            let copies = form.made();
+            let copies = superposition.made();
             let inside = with_next(alloc, kept, scope, copies)?;
             let inner = build_block(alloc, before, inner, grown(scope, copies), &inside, flags)?;
             new_superposition(
                 alloc,
                 kept,
-                form,
+                superposition,
                 names.items(),
                 shown.items(),
                 certs.items(),

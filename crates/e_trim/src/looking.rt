@@ -11,13 +11,14 @@ ghost use Rattle.e_trim.specs.Looked.{both};
 ghost use Rattle.e_trim.specs.Trimmed.{wants_outside, wants};
 ghost use Rattle.e_trim.specs.inner.Flags.{flags_of};
 ghost use Rattle.e_trim.specs.inner.StepState.{IsReady, IsReadyToTrim, StepAdds, FlagsAdded};
-ghost use Rattle.e_trim.specs.inner.StepState.{StepWants, StepFlags, KeepsFacts, goal_view};
+ghost use Rattle.e_deriv.specs.Goal.{goal_view};
+ghost use Rattle.e_trim.specs.inner.StepState.{StepWants, StepFlags, KeepsFacts};
 
-use crate::step_state::{Goal, StepState};
+use crate::step_state::StepState;
 use crate::steps::{is_kept, look_close, look_step, pass};
 use crate::wanted::Wanted;
 use e_construct::Superpose;
-use e_deriv::{Block, Close, Step};
+use e_deriv::{Block, Close, Goal, Step};
 use e_literal::{Lit, Sort, copy, negate};
 use e_theorem::Statement;
 use std::alloc::{AllocError, Global};
@@ -123,7 +124,7 @@ fn look_at_step(
             out.append(inside)
         }
         Step::Superposed {
-            form,
+            superposition,
             shown,
             inner,
             ..
@@ -132,8 +133,8 @@ fn look_at_step(
                 made: &[],
                 shown: shown.items(),
             };
-            let given = form.gives(alloc, state.scope)?;
-            let made = form.made();
+            let given = superposition.gives(alloc, state.scope)?;
+            let made = superposition.made();
             let inside = look_inside(alloc, before, inner, &goal, state, flags, made, &given);
             mem::drop(given);
             out.append(inside?)

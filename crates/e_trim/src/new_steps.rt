@@ -53,20 +53,24 @@ pub fn new_hence(
 pub fn new_make(
     alloc: Global,
     kept: &[Obj],
-    form: &Construction,
+    construction: &Construction,
     names: &[Name],
     certs: &[Cert],
 ) -> Result<Step, AllocError>
     requires { length kept.now < 2 ^ 16 }
-    ensures { IfOk result (λ s. s ≡ Make (Trimmed.construction_among_kept kept.now form.now)
+    ensures { IfOk result (λ s. s ≡ Make (Trimmed.construction_among_kept kept.now construction.now)
         names.now (map (Trimmed.cert_at kept.now) certs.now)) }
 {
     let names = copy_names(alloc, names)?;
-    let form = new_construction(alloc, kept, form)?;
+    let construction = new_construction(alloc, kept, construction)?;
     match new_certs(alloc, kept, certs) {
-        Ok(certs) => Ok(Step::Make { form, names, certs }),
+        Ok(certs) => Ok(Step::Make {
+            construction,
+            names,
+            certs,
+        }),
         Err(error) => {
-            mem::drop(form);
+            mem::drop(construction);
             Err(error)
         }
     }
@@ -159,7 +163,7 @@ fn new_head(
 pub fn new_superposition(
     alloc: Global,
     kept: &[Obj],
-    form: &Superpose,
+    superposition: &Superpose,
     names: &[Name],
     shown: &[Lit],
     certs: &[Cert],
@@ -167,7 +171,7 @@ pub fn new_superposition(
 ) -> Result<Step, AllocError>
     requires { length kept.now < 2 ^ 16 }
     ensures { IfOk result (λ s. (rest : Script) → step_script s rest
-        ≡ Superposed (Trimmed.superpose_at kept.now form.now) names.now
+        ≡ Superposed (Trimmed.superpose_at kept.now superposition.now) names.now
         (map (Trimmed.lit_among_kept kept.now) shown.now)
         (map (Trimmed.cert_at kept.now) certs.now) (script_of inner) rest) }
 {
@@ -180,7 +184,7 @@ pub fn new_superposition(
                 certs,
             },
         ) => Ok(Step::Superposed {
-            form: new_superpose(kept, form),
+            superposition: new_superpose(kept, superposition),
             names,
             shown,
             certs,

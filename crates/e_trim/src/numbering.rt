@@ -346,25 +346,25 @@ pub fn new_by(alloc: Global, kept: &[Obj], by: &By) -> Result<By, AllocError>
 pub fn new_construction(
     alloc: Global,
     kept: &[Obj],
-    form: &Construction,
+    construction: &Construction,
 ) -> Result<Construction, AllocError>
     requires { length kept.now < 2 ^ 16 }
-    ensures { IfOk result (λ f. f ≡ Trimmed.construction_among_kept kept.now form.now) }
+    ensures { IfOk result (λ f. f ≡ Trimmed.construction_among_kept kept.now construction.now) }
 {
     Ok(Construction {
-        shape: form.shape,
-        args: new_objects(alloc, kept, form.args.items())?,
-        avoid: new_objects(alloc, kept, form.avoid.items())?,
+        shape: construction.shape,
+        args: new_objects(alloc, kept, construction.args.items())?,
+        avoid: new_objects(alloc, kept, construction.avoid.items())?,
     })
 }
 
 /// The superposition over the kept objects.
-pub fn new_superpose(kept: &[Obj], form: &Superpose) -> Superpose
+pub fn new_superpose(kept: &[Obj], superposition: &Superpose) -> Superpose
     requires { length kept.now < 2 ^ 16 }
-    ensures { result ≡ Trimmed.superpose_at kept.now form.now }
+    ensures { result ≡ Trimmed.superpose_at kept.now superposition.now }
 {
-    let [a, b, c, d, g, h] = form.points;
-    let [k, l] = form.lines;
+    let [a, b, c, d, g, h] = superposition.points;
+    let [k, l] = superposition.lines;
     Superpose {
         points: [
             point(kept, a),

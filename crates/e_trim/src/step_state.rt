@@ -6,7 +6,7 @@ ghost use Rattle.e_deriv.specs.Fitting.{is_small};
 ghost use Rattle.e_trim.specs.inner.StepState.{checkpoint_of, restored, opened};
 
 use e_facts::Facts;
-use e_literal::{Lit, Obj, Scope, Sort, copy, grown};
+use e_literal::{Lit, Scope, Sort, copy, grown};
 use std::alloc::{AllocError, Global};
 
 /// The scope and the facts before a step.
@@ -21,13 +21,6 @@ pub struct StepState {
 pub struct Checkpoint {
     pub scope: Scope,
     pub facts: usize,
-}
-
-/// What a block has to show: literals, and the made objects in them.
-#[derive(Clone, Copy)]
-pub struct Goal<'a> {
-    pub made: &'a [Obj],
-    pub shown: &'a [Lit],
 }
 
 impl StepState {

@@ -7,7 +7,7 @@ ghost use Rattle.e_construct.specs.Superposing;
 ghost use Rattle.e_theorem.specs.Statements.{all_stated};
 ghost use Rattle.e_deriv.specs.Fitting.{is_small, is_small_statement};
 ghost use Rattle.e_deriv.specs.Goal as goals;
-ghost use Rattle.e_deriv.specs.Goal.{Goal as BlockGoal};
+ghost use Rattle.e_deriv.specs.Goal.{Goal as BlockGoal, goal_view};
 ghost use Rattle.e_deriv.specs.PlacedSteps.{theorem_at};
 ghost use Rattle.e_deriv.specs.Parts.{written};
 ghost use Rattle.e_deriv.specs.Script as scripts;
@@ -16,15 +16,15 @@ ghost use Rattle.e_trim.specs.Looked.{both, needed, of_step};
 ghost use Rattle.e_trim.specs.Trimmed;
 ghost use Rattle.e_trim.specs.Trimmed.{joins_at, makes_at, as_step};
 ghost use Rattle.e_trim.specs.declared.step_state.StepState as states;
-ghost use Rattle.e_trim.specs.inner.StepState.{StepFits, IsApplied, CloseFits, goal_view, passed};
+ghost use Rattle.e_trim.specs.inner.StepState.{StepFits, IsApplied, CloseFits, passed};
 
 use crate::instances::negated_others;
 use crate::looked::{look_against, look_cert, look_certs};
-use crate::step_state::{Goal, StepState};
+use crate::step_state::StepState;
 use crate::wanted::{Wanted, line, point};
 use e_clause::{By, Cert};
 use e_construct::{Construction, Superpose};
-use e_deriv::{Close, Step, copy_lits};
+use e_deriv::{Close, Goal, Step, copy_lits};
 use e_literal::{Items, Lit, Map, Obj, Scope, Sort, copy, next_objects};
 use e_theorem::{Applied, Statement, UseFault, all_renamed, use_of};
 use std::alloc::{AllocError, Global};
@@ -37,7 +37,7 @@ pub fn makes<'a>(before: &'a [Statement], step: &'a Step) -> &'a [Sort]
         → result.now ≡ makes_at (all_stated before.now) (step_script step.now rest) }
 {
     match step {
-        Step::Make { form, .. } => form.made(),
+        Step::Make { construction, .. } => construction.made(),
         Step::Apply { theorem, .. } => match before.get(*theorem as usize) {
             Some(statement) => statement.made.items(),
             None => &[],
@@ -111,7 +111,7 @@ pub fn joins(
     match step {
         Step::Cite(by) => one(alloc, &by.lit),
         Step::Hence { lit, .. } => one(alloc, lit),
-        Step::Make { form, .. } => Ok(Items::new(form.gives(alloc, scope)?)),
+        Step::Make { construction, .. } => Ok(Items::new(construction.gives(alloc, scope)?)),
         Step::Apply { theorem, args, .. } => {
             let Applied { needs, gives } = use_at(alloc, before, *theorem, args.items(), scope)?;
             mem::drop(needs);
@@ -213,18 +213,18 @@ fn look_hence(
 
 fn look_make(
     alloc: Global,
-    form: &Construction,
+    construction: &Construction,
     certs: &[Cert],
     state: &StepState,
     out: &mut Wanted,
 ) -> Result<(), AllocError>
     ensures { OnOk result ((before : List StatementView) (names : List (List ℕ)) (rest : Script)
-        (goal : BlockGoal) → out.new ≡ both out.old (of_step before (as_step
-        (scripts.Make form.now names certs.now rest) state.now.scope state.now.facts goal))) }
+        (goal : BlockGoal) → out.new ≡ both out.old (of_step before (as_step (scripts.Make
+        construction.now names certs.now rest) state.now.scope state.now.facts goal))) }
 {
-    out.need(form.args.items())?;
-    out.need(form.avoid.items())?;
-    let needs = form.needs(alloc)?;
+    out.need(construction.args.items())?;
+    out.need(construction.avoid.items())?;
+    let needs = construction.needs(alloc)?;
     look_certs(alloc, &state.facts, &needs, certs, out)
 }
 
@@ -255,29 +255,30 @@ fn look_apply(
 
 fn look_superpose(
     alloc: Global,
-    form: &Superpose,
+    superposition: &Superpose,
     shown: &[Lit],
     certs: &[Cert],
     state: &StepState,
     out: &mut Wanted,
 ) -> Result<(), AllocError>
     ensures { OnOk result ((before : List StatementView) (names : List (List ℕ))
-        (inner rest : Script) (goal : BlockGoal) → out.new ≡ both out.old
-        (of_step before (as_step (scripts.Superposed form.now names shown.now certs.now inner rest)
+        (inner rest : Script) (goal : BlockGoal) → out.new ≡ both out.old (of_step before
+        (as_step (scripts.Superposed superposition.now names shown.now certs.now inner rest)
         state.now.scope state.now.facts goal))) }
 {
-    need_superposed(form, out)?;
+    need_superposed(superposition, out)?;
     out.need_objects_of_all(shown)?;
-    let needs = form.needs(alloc)?;
+    let needs = superposition.needs(alloc)?;
     look_certs(alloc, &state.facts, &needs, certs, out)
 }
 
 /// The points and the lines of the superposition are needed.
-fn need_superposed(form: &Superpose, out: &mut Wanted) -> Result<(), AllocError>
-    ensures { OnOk result (out.new ≡ both out.old (needed (Superposing.objects_of form.now))) }
+fn need_superposed(superposition: &Superpose, out: &mut Wanted) -> Result<(), AllocError>
+    ensures { OnOk result
+        (out.new ≡ both out.old (needed (Superposing.objects_of superposition.now))) }
 {
-    let [a, b, c, d, g, h] = form.points;
-    let [k, l] = form.lines;
+    let [a, b, c, d, g, h] = superposition.points;
+    let [k, l] = superposition.lines;
     out.need(&[
         point(a),
         point(b),
@@ -308,7 +309,11 @@ pub fn look_step(
     match step {
         Step::Cite(by) => look_cite(alloc, by, out),
         Step::Hence { lit, cert } => look_hence(alloc, lit, cert, state, out),
-        Step::Make { form, certs, .. } => look_make(alloc, form, certs.items(), state, out),
+        Step::Make {
+            construction,
+            certs,
+            ..
+        } => look_make(alloc, construction, certs.items(), state, out),
         Step::Apply {
             theorem,
             args,
@@ -320,11 +325,18 @@ pub fn look_step(
         }
         Step::Claim { shown, .. } => out.need_objects_of_all(shown.items()),
         Step::Superposed {
-            form,
+            superposition,
             shown,
             certs,
             ..
-        } => look_superpose(alloc, form, shown.items(), certs.items(), state, out),
+        } => look_superpose(
+            alloc,
+            superposition,
+            shown.items(),
+            certs.items(),
+            state,
+            out,
+        ),
     }
 }
 

@@ -7,4 +7,4 @@ pub mod CertifiedLines
 pub mod QedGoals
 pub mod PassedLines
 pub mod InnerBlocks
-pub mod WholeDerivations
+pub mod DerivationsOfStatements

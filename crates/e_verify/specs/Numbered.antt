@@ -153,11 +153,12 @@ with_places before (Cite by rest) s facts goal =
 with_places before (Hence lit cert rest) s facts goal =
     Hence lit (option_map (cert_with_places facts lit) cert)
     (with_places before rest s (joined facts lit) goal)
-with_places before (Make form names certs rest) s facts goal =
-    Make form names
-    (certs_with_places facts (needs_of before (Make form names certs rest) s facts goal) certs)
-    (with_places before rest (grown s (sorts_made form))
-    (joined_all facts (gives_of_construction form s)) goal)
+with_places before (Make construction names certs rest) s facts goal =
+    Make construction names
+    (certs_with_places facts
+    (needs_of before (Make construction names certs rest) s facts goal) certs)
+    (with_places before rest (grown s (sorts_made construction))
+    (joined_all facts (gives_of_construction construction s)) goal)
 with_places before (Apply theorem args names certs rest) s facts goal =
     Apply theorem args names (certs_with_places facts
     (needs_of before (Apply theorem args names certs rest) s facts goal) certs)
@@ -167,11 +168,11 @@ with_places before (Apply theorem args names certs rest) s facts goal =
 with_places before (Claim shown inner rest) s facts goal =
     Claim shown (with_places before inner s facts (goal_of shown))
     (with_places before rest s (joined_all facts shown) goal)
-with_places before (Superposed form names shown certs inner rest) s facts goal =
-    Superposed form names shown
-    (certs_with_places facts (superposing.needs_of_superposition form) certs)
+with_places before (Superposed superposition names shown certs inner rest) s facts goal =
+    Superposed superposition names shown
+    (certs_with_places facts (superposing.needs_of_superposition superposition) certs)
     (with_places before inner (grown s superposing.sorts_copied)
-    (joined_all facts (superposing.gives_of_superposition form s)) (goal_of shown))
+    (joined_all facts (superposing.gives_of_superposition superposition s)) (goal_of shown))
     (with_places before rest s (joined_all facts shown) goal)
 with_places before (Qed objects certs) s facts goal =
     Qed objects (certs_with_places facts (needs_of before (Qed objects certs) s facts goal) certs)

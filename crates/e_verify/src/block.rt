@@ -10,16 +10,16 @@ ghost use Rattle.e_verify.specs.declared.reject.Reject.TheVariants.{Bad as IsBad
 ghost use Rattle.e_verify.specs.Checking.{AreCheckable, IsCheckable, IsCheckableStep};
 ghost use Rattle.e_verify.specs.Checking.{AreVerified, KeepsFirstFacts, StepsReject};
 ghost use Rattle.e_verify.specs.Checking.{RejectIs, StepRejects, verdict_at};
-ghost use Rattle.e_verify.specs.inner.StepStates.{block_goal};
+ghost use Rattle.e_deriv.specs.Goal.{goal_view};
 
 use crate::closes::{contradiction, qed};
 use crate::reject::Reject;
 use crate::scope::are_over;
-use crate::step_state::{Goal, StepState};
+use crate::step_state::StepState;
 use crate::steps::{apply, cite, hence, make, superpose};
 use e_clause::Cert;
 use e_construct::Superpose;
-use e_deriv::{Block, Close, Step};
+use e_deriv::{Block, Close, Goal, Step};
 use e_literal::{Lit, in_scope};
 use e_theorem::Statement;
 use std::alloc::Global;
@@ -36,13 +36,13 @@ pub fn verify_block(
     first: u32,
 ) -> Result<u32, Reject>
     requires ready { IsCheckable (all_stated before.now) (script_of block.now) state.old
-        (block_goal goal.now) first }
+        (goal_view goal.now) first }
     requires statements { IsTrue (list_all is_small_statement (all_stated before.now)) }
     ensures ok { IfOk result (λ next. verdict_at (all_stated before.now) (script_of block.now)
-        state.old (block_goal goal.now) first ≡ Ok next) }
+        state.old (goal_view goal.now) first ≡ Ok next) }
     ensures kept { OnOk result (KeepsFirstFacts state.old state.new) }
     ensures err { IfErr result (RejectIs (verdict_at (all_stated before.now) (script_of block.now)
-        state.old (block_goal goal.now) first)) }
+        state.old (goal_view goal.now) first)) }
 {
     let mut number = first;
     for step in &block.steps {
@@ -69,9 +69,11 @@ fn verify_step(
     match step {
         Step::Cite(by) => verdict_of(cite(alloc, by, state)?, number),
         Step::Hence { lit, cert } => verdict_of(hence(alloc, lit, cert, state)?, number),
-        Step::Make { form, certs, .. } => {
-            verdict_of(make(alloc, form, certs.items(), state)?, number)
-        }
+        Step::Make {
+            construction,
+            certs,
+            ..
+        } => verdict_of(make(alloc, construction, certs.items(), state)?, number),
         Step::Apply {
             theorem,
             args,
@@ -88,18 +90,18 @@ fn verify_step(
             verify_claim(alloc, before, shown.items(), inner, state, number)
         }
         Step::Superposed {
-            form,
+            superposition,
             shown,
             certs,
             inner,
             ..
         } => {
-            let superposition = Superposition {
-                form,
+            let parts = SuperposedParts {
+                superposition,
                 shown: shown.items(),
                 certs: certs.items(),
             };
-            verify_superposed(alloc, before, &superposition, inner, state, number)
+            verify_superposed(alloc, before, &parts, inner, state, number)
         }
     }
 }
@@ -135,8 +137,8 @@ fn verify_claim(
 
 /// A superposition without its names and its block.
 #[derive(Clone, Copy)]
-struct Superposition<'a> {
-    form: &'a Superpose,
+struct SuperposedParts<'a> {
+    superposition: &'a Superpose,
     shown: &'a [Lit],
     certs: &'a [Cert],
 }
@@ -146,25 +148,29 @@ struct Superposition<'a> {
 fn verify_superposed(
     alloc: Global,
     before: &[Statement],
-    superposition: &Superposition,
+    parts: &SuperposedParts,
     inner: &Block,
     state: &mut StepState,
     number: u32,
 ) -> Result<u32, Reject>
     requires ready { (names : List (List ℕ)) × AreCheckable (all_stated before.now)
-        (Superposed superposition.now.form.now names superposition.now.shown.now
-        superposition.now.certs.now (script_of inner.now)) state.old number }
+        (Superposed parts.now.superposition.now names parts.now.shown.now
+        parts.now.certs.now (script_of inner.now)) state.old number }
     requires statements { IsTrue (list_all is_small_statement (all_stated before.now)) }
     ensures ok { IfOk result (λ next. (names : List (List ℕ)) → AreVerified (all_stated before.now)
-        (Superposed superposition.now.form.now names superposition.now.shown.now
-        superposition.now.certs.now (script_of inner.now)) state.old number state.new next) }
+        (Superposed parts.now.superposition.now names parts.now.shown.now
+        parts.now.certs.now (script_of inner.now)) state.old number state.new next) }
     ensures err { IfErr result (λ e. (names : List (List ℕ)) → StepsReject (all_stated before.now)
-        (Superposed superposition.now.form.now names superposition.now.shown.now
-        superposition.now.certs.now (script_of inner.now)) state.old number e) }
+        (Superposed parts.now.superposition.now names parts.now.shown.now
+        parts.now.certs.now (script_of inner.now)) state.old number e) }
 {
-    let Superposition { form, shown, certs } = *superposition;
+    let SuperposedParts {
+        superposition,
+        shown,
+        certs,
+    } = *parts;
     let outer = state.checkpoint();
-    if !superpose(alloc, form, shown, certs, state)? {
+    if !superpose(alloc, superposition, shown, certs, state)? {
         return Err(Reject::Bad { step: number });
     }
     let goal = Goal { made: &[], shown };
@@ -185,13 +191,13 @@ fn verify_close(
     number: u32,
 ) -> Result<u32, Reject>
     requires ready { IsCheckable (all_stated before.now) (close_script close.now) state.old
-        (block_goal goal.now) number }
+        (goal_view goal.now) number }
     requires statements { IsTrue (list_all is_small_statement (all_stated before.now)) }
     ensures ok { IfOk result (λ next. verdict_at (all_stated before.now) (close_script close.now)
-        state.old (block_goal goal.now) number ≡ Ok next) }
+        state.old (goal_view goal.now) number ≡ Ok next) }
     ensures kept { OnOk result (KeepsFirstFacts state.old state.new) }
     ensures err { IfErr result (RejectIs (verdict_at (all_stated before.now)
-        (close_script close.now) state.old (block_goal goal.now) number)) }
+        (close_script close.now) state.old (goal_view goal.now) number)) }
 {
     match close {
         Close::Qed { objects, certs } => {

@@ -6,15 +6,15 @@ ghost use Rattle.std.specs.Option.{option_map_or};
 ghost use Rattle.e_literal.specs.Use.{StatementView};
 ghost use Rattle.e_literal.specs.WellFormed.{is_well_formed};
 ghost use Rattle.e_deriv.specs.Certified.{is_certified};
-ghost use Rattle.e_deriv.specs.Goal.{Goal as BlockGoal, goal_with as goal_at};
+ghost use Rattle.e_deriv.specs.Goal.{Goal as BlockGoal, goal_with as goal_at, goal_view};
 ghost use Rattle.e_deriv.specs.Script.{Qed, Contradiction};
 ghost use Rattle.e_verify.specs.Checking.{step_in_state};
-ghost use Rattle.e_verify.specs.inner.StepStates.{block_goal};
 ghost use Rattle.e_clause.specs.Written.{is_writable_cert, is_writable_against};
 
 use crate::certificate::{certifies_against, certify_all};
-use crate::step_state::{Goal, StepState};
+use crate::step_state::StepState;
 use e_clause::{Against, Cert};
+use e_deriv::Goal;
 use e_literal::{Lit, Map, Obj, have_sorts_of};
 use e_theorem::all_renamed;
 use std::alloc::{AllocError, Global};
@@ -31,7 +31,7 @@ pub fn qed(
     requires shown { IsTrue (list_all is_well_formed goal.now.shown.now) }
     requires certs { IsTrue (list_all is_writable_cert certs.now) }
     ensures { IfOk result (λ b. (before : List StatementView) → b ≡ is_certified before
-        (step_in_state (Qed objects.now certs.now) state.now (block_goal goal.now))) }
+        (step_in_state (Qed objects.now certs.now) state.now (goal_view goal.now))) }
 {
     if !have_sorts_of(state.scope, goal.made, objects) {
         return Ok(false);
@@ -60,7 +60,7 @@ pub fn contradiction(
 /// The literals of the goal with these objects for its made ones.
 pub(crate) fn goal_with(alloc: Global, goal: &Goal, objects: &[Obj]) -> Result<Vec<Lit>, AllocError>
     requires one_sort { map (λ o. o.sort) goal.now.made.now ≡ map (λ o. o.sort) objects.now }
-    ensures { IfOk result (λ lits. lits.items ≡ goal_at (block_goal goal.now) objects.now) }
+    ensures { IfOk result (λ lits. lits.items ≡ goal_at (goal_view goal.now) objects.now) }
 {
     let images = Map::paired(alloc, goal.made, objects)?;
     all_renamed(alloc, goal.shown, &images)

@@ -4,7 +4,7 @@ ghost use Rattle.std.specs.Prelude.{◌≡◌, IfOk, OnOk};
 ghost use Rattle.e_literal.specs.Facts.{joined_all};
 ghost use Rattle.e_deriv.specs.Script.{Script, Claim, Superposed, Cases};
 ghost use Rattle.e_deriv.specs.Script.{script_of, step_script, close_script};
-ghost use Rattle.e_verify.specs.inner.StepStates.{restored, with_facts};
+ghost use Rattle.e_verify.specs.inner.StepStates.{state_restored, state_with_facts};
 
 use crate::step_state::{Checkpoint, StepState};
 use e_clause::Cert;
@@ -18,7 +18,7 @@ use std::mem;
 /// A superposition with its certificates, without its block.
 #[derive(Drop)]
 pub struct Head<'a> {
-    pub form: &'a Superpose,
+    pub superposition: &'a Superpose,
     pub names: &'a [Name],
     pub certs: Items<Cert>,
 }
@@ -31,8 +31,8 @@ fn show_after(
     state: &mut StepState,
 ) -> Result<Items<Lit>, AllocError>
     ensures shown { IfOk result (λ ls. ls ≡ shown.now) }
-    ensures after { OnOk result (state.new ≡ with_facts
-        (joined_all (restored outer state.old).facts shown.now) (restored outer state.old)) }
+    ensures after { OnOk result (state.new ≡ state_with_facts (joined_all
+        (state_restored outer state.old).facts shown.now) (state_restored outer state.old)) }
 {
     state.restore(outer);
     state.assume_all(alloc, shown)?;
@@ -49,8 +49,8 @@ fn close_block(
 ) -> Result<(Items<Lit>, Box<Block>), AllocError>
     ensures shown { IfOk result (λ p. p.0 ≡ shown.now) }
     ensures block { IfOk result (λ p. p.1.value ≡ block) }
-    ensures after { OnOk result (state.new ≡ with_facts
-        (joined_all (restored outer state.old).facts shown.now) (restored outer state.old)) }
+    ensures after { OnOk result (state.new ≡ state_with_facts (joined_all
+        (state_restored outer state.old).facts shown.now) (state_restored outer state.old)) }
 {
     let inner = Box::new(alloc, block)?;
     match show_after(alloc, shown, outer, state) {
@@ -73,8 +73,8 @@ pub fn claimed(
 ) -> Result<Step, AllocError>
     ensures step { IfOk result (λ s. (rest : Script)
         → step_script s rest ≡ Claim shown.now (script_of block) rest) }
-    ensures after { OnOk result (state.new ≡ with_facts
-        (joined_all (restored outer state.old).facts shown.now) (restored outer state.old)) }
+    ensures after { OnOk result (state.new ≡ state_with_facts (joined_all
+        (state_restored outer state.old).facts shown.now) (state_restored outer state.old)) }
 {
     let (shown, inner) = close_block(alloc, shown, block, outer, state)?;
     Ok(Step::Claim { shown, inner })
@@ -91,12 +91,16 @@ pub fn superposed(
     state: &mut StepState,
 ) -> Result<Step, AllocError>
     ensures step { IfOk result (λ s. (rest : Script)
-        → step_script s rest ≡ Superposed head.entry.form.now head.entry.names.now shown.now
-        head.entry.certs (script_of block) rest) }
-    ensures after { OnOk result (state.new ≡ with_facts
-        (joined_all (restored outer state.old).facts shown.now) (restored outer state.old)) }
+        → step_script s rest ≡ Superposed head.entry.superposition.now head.entry.names.now
+        shown.now head.entry.certs (script_of block) rest) }
+    ensures after { OnOk result (state.new ≡ state_with_facts (joined_all
+        (state_restored outer state.old).facts shown.now) (state_restored outer state.old)) }
 {
-    let Head { form, names, certs } = head;
+    let Head {
+        superposition,
+        names,
+        certs,
+    } = head;
     let names = match Vec::from_slice(alloc, names) {
         Ok(names) => Items::new(names),
         Err(error) => {
@@ -107,7 +111,7 @@ pub fn superposed(
     };
     match close_block(alloc, shown, block, outer, state) {
         Ok((shown, inner)) => Ok(Step::Superposed {
-            form: *form,
+            superposition: *superposition,
             names,
             shown,
             certs,

@@ -113,11 +113,11 @@ fn differing<'a>(
 fn if_not<'a>(row: Option<Comparison<'a>>) -> Option<Comparison<'a>>
     requires { IfSome row (λ c. IsTrue (is_short c)) }
     ensures row { option_map comparison_view result ≡ option_and_then
-        (λ r. if says_differ r.says then Some r else None) (option_map comparison_view row.entry) }
+        (λ r. if says_differ r.sense then Some r else None) (option_map comparison_view row.entry) }
     ensures small { IfSome result (λ c. IsTrue (is_short c)) }
 {
     match row {
-        Some(row) if row.says == RowSense::Not => Some(row),
+        Some(row) if row.sense == RowSense::Not => Some(row),
         _ => None,
     }
 }
@@ -129,7 +129,7 @@ fn above_row<'a>(row: Comparison<'a>) -> Row<'a>
     ensures small { IsTrue (is_small_row result) }
 {
     Row::Sums {
-        says: RowSense::More,
+        sense: RowSense::More,
         plus: row.plus,
         minus: row.minus,
         turned: false,
@@ -143,7 +143,7 @@ fn below_row<'a>(row: Comparison<'a>) -> Row<'a>
     ensures small { IsTrue (is_small_row result) }
 {
     Row::Sums {
-        says: RowSense::More,
+        sense: RowSense::More,
         plus: row.plus,
         minus: row.minus,
         turned: true,

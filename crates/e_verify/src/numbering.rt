@@ -22,19 +22,21 @@ ghost use Rattle.e_verify.specs.Numbered.{derivation_with_places};
 ghost use Rattle.e_verify.specs.Verdicts.{IsVerifiable};
 ghost use Rattle.e_verify.specs.Checking.{KeepsFirstFacts};
 ghost use Rattle.e_verify.specs.inner.Numbering.{HaveFew, IsNumberedStep, places_at};
-ghost use Rattle.e_verify.specs.inner.StepStates.{state_after_make, state_after_use, with_facts};
-ghost use Rattle.e_verify.specs.inner.StepStates.{state_after_superposed, block_goal};
+ghost use Rattle.e_verify.specs.inner.StepStates.{state_after_make, state_after_use};
+ghost use Rattle.e_verify.specs.inner.StepStates.{state_with_facts};
+ghost use Rattle.e_deriv.specs.Goal.{goal_view};
+ghost use Rattle.e_verify.specs.inner.StepStates.{state_after_superposed};
 
 use crate::closes::goal_with;
 use crate::ending::{Head, claimed, split, superposed};
 use crate::facts::Facts;
 use crate::places::{placed_against, placed_cert, placed_certs};
-use crate::step_state::{Goal, StepState};
+use crate::step_state::StepState;
 use crate::steps::all_written;
 use crate::verifier::begin;
 use e_clause::{Against, By, Cert};
 use e_construct::{Construction, Superpose};
-use e_deriv::{Block, Close, Step, copy_by, copy_construction};
+use e_deriv::{Block, Close, Goal, Step, copy_by, copy_construction};
 use e_literal::{Items, Lit, NOTHING, Obj, Scope, copy, grown, have_sorts_of, next_objects};
 use e_text::Name;
 use e_theorem::{Applied, Statement, UseFault, use_of};
@@ -90,9 +92,9 @@ fn number_block(
 ) -> Result<Block, AllocError>
     requires { IsTrue (list_all is_small_statement (all_stated before.now)) }
     ensures same { IfOk result (λ b. script_of b
-        ≡ places_at (all_stated before.now) (script_of block.now) state.old (block_goal goal.now)) }
+        ≡ places_at (all_stated before.now) (script_of block.now) state.old (goal_view goal.now)) }
     ensures few { OnOk result
-        (HaveFew (all_stated before.now) (script_of block.now) state.old (block_goal goal.now)) }
+        (HaveFew (all_stated before.now) (script_of block.now) state.old (goal_view goal.now)) }
     ensures kept { OnOk result (KeepsFirstFacts state.old state.new) }
 {
     let mut steps = Vec::new(alloc);
@@ -133,9 +135,11 @@ fn number_step(
     match step {
         Step::Cite(by) => cite(alloc, by, state),
         Step::Hence { lit, cert } => hence(alloc, lit, cert, state),
-        Step::Make { form, names, certs } => {
-            make(alloc, form, names.items(), certs.items(), state)
-        }
+        Step::Make {
+            construction,
+            names,
+            certs,
+        } => make(alloc, construction, names.items(), certs.items(), state),
         Step::Apply {
             theorem,
             args,
@@ -152,19 +156,19 @@ fn number_step(
         }
         Step::Claim { shown, inner } => number_claim(alloc, before, shown.items(), inner, state),
         Step::Superposed {
-            form,
+            superposition,
             names,
             shown,
             certs,
             inner,
         } => {
-            let superposition = Superposition {
-                form,
+            let parts = SuperposedParts {
+                superposition,
                 names: names.items(),
                 shown: shown.items(),
                 certs: certs.items(),
             };
-            number_superposed(alloc, before, &superposition, inner, state)
+            number_superposed(alloc, before, &parts, inner, state)
         }
     }
 }
@@ -192,8 +196,8 @@ fn number_claim(
 
 /// A superposition without its block.
 #[derive(Clone, Copy)]
-struct Superposition<'a> {
-    form: &'a Superpose,
+struct SuperposedParts<'a> {
+    superposition: &'a Superpose,
     names: &'a [Name],
     shown: &'a [Lit],
     certs: &'a [Cert],
@@ -204,31 +208,35 @@ struct Superposition<'a> {
 fn number_superposed(
     alloc: Global,
     before: &[Statement],
-    superposition: &Superposition,
+    parts: &SuperposedParts,
     inner: &Block,
     state: &mut StepState,
 ) -> Result<Step, AllocError>
     requires { IsTrue (list_all is_small_statement (all_stated before.now)) }
     ensures { IfOk result (λ s. IsNumberedStep
-        (all_stated before.now) (Superposed superposition.now.form.now superposition.now.names.now
-        superposition.now.shown.now superposition.now.certs.now (script_of inner.now)) state.old
+        (all_stated before.now) (Superposed parts.now.superposition.now parts.now.names.now
+        parts.now.shown.now parts.now.certs.now (script_of inner.now)) state.old
         (step_script s) state.new) }
 {
-    let Superposition {
-        form,
+    let SuperposedParts {
+        superposition,
         names,
         shown,
         certs,
-    } = *superposition;
+    } = *parts;
     let outer = state.checkpoint();
-    let certs = match superpose(alloc, form, certs, state) {
+    let certs = match superpose(alloc, superposition, certs, state) {
         Ok(certs) => certs,
         Err(_) => return Err(AllocError),
     };
     let goal = Goal { made: &[], shown };
     match number_block(alloc, before, inner, &goal, state) {
         Ok(numbered) => {
-            let head = Head { form, names, certs };
+            let head = Head {
+                superposition,
+                names,
+                certs,
+            };
             superposed(alloc, head, shown, numbered, outer, state)
         }
         Err(_) => {
@@ -249,9 +257,9 @@ fn number_close(
 ) -> Result<Close, AllocError>
     requires { IsTrue (list_all is_small_statement (all_stated before.now)) }
     ensures same { IfOk result (λ c. close_script c ≡ places_at (all_stated before.now)
-        (close_script close.now) state.old (block_goal goal.now)) }
+        (close_script close.now) state.old (goal_view goal.now)) }
     ensures few { OnOk result
-        (HaveFew (all_stated before.now) (close_script close.now) state.old (block_goal goal.now)) }
+        (HaveFew (all_stated before.now) (close_script close.now) state.old (goal_view goal.now)) }
     ensures kept { OnOk result (KeepsFirstFacts state.old state.new) }
 {
     if state.facts.len() >= PLACES {
@@ -320,7 +328,7 @@ fn hence(
 fn assumed(alloc: Global, lit: &Lit, state: &mut StepState) -> Result<Lit, AllocError>
     ensures lit { IfOk result (λ l. l ≡ lit.now) }
     ensures after { OnOk result
-        (state.new ≡ with_facts (joined state.old.facts lit.now) state.old) }
+        (state.new ≡ state_with_facts (joined state.old.facts lit.now) state.old) }
 {
     state.assume(alloc, lit)?;
     copy(alloc, lit)
@@ -345,24 +353,28 @@ fn placed_option(
 #[tactic(auto, using(crate::proofs::placing::NumberedSteps::placing))]
 fn make(
     alloc: Global,
-    form: &Construction,
+    construction: &Construction,
     names: &[Name],
     certs: &[Cert],
     state: &mut StepState,
 ) -> Result<Step, AllocError>
     ensures { IfOk result (λ s. (before : List StatementView) → IsNumberedStep before
-        (Make form.now names.now certs.now) state.old (step_script s) state.new) }
+        (Make construction.now names.now certs.now) state.old (step_script s) state.new) }
 {
-    if !has_room(state.scope) || !form.fits(state.scope) {
+    if !has_room(state.scope) || !construction.fits(state.scope) {
         return Err(AllocError);
     }
     let names = Items::new(Vec::from_slice(alloc, names)?);
-    let needs = form.needs(alloc)?;
+    let needs = construction.needs(alloc)?;
     let placed = placed_certs(alloc, &state.facts, &needs, certs);
     mem::drop(needs);
     let certs = placed?;
-    match made(alloc, form, state) {
-        Ok(form) => Ok(Step::Make { form, names, certs }),
+    match made(alloc, construction, state) {
+        Ok(construction) => Ok(Step::Make {
+            construction,
+            names,
+            certs,
+        }),
         Err(error) => {
             mem::drop(certs);
             Err(error)
@@ -373,15 +385,15 @@ fn make(
 /// What the construction makes is in scope, and what it gives are facts; hands out an equal one.
 fn made(
     alloc: Global,
-    form: &Construction,
+    construction: &Construction,
     state: &mut StepState,
 ) -> Result<Construction, AllocError>
     requires { IsTrue (is_small state.old.scope) }
-    ensures form { IfOk result (λ f. f ≡ form.now) }
-    ensures after { OnOk result (state.new ≡ state_after_make form.now state.old) }
+    ensures construction { IfOk result (λ f. f ≡ construction.now) }
+    ensures after { OnOk result (state.new ≡ state_after_make construction.now state.old) }
 {
-    state.make(alloc, form)?;
-    copy_construction(alloc, form)
+    state.make(alloc, construction)?;
+    copy_construction(alloc, construction)
 }
 
 /// An application, as it is written.
@@ -467,22 +479,22 @@ fn take_use(
 /// facts.
 fn superpose(
     alloc: Global,
-    form: &Superpose,
+    superposition: &Superpose,
     certs: &[Cert],
     state: &mut StepState,
 ) -> Result<Items<Cert>, AllocError>
     ensures certs { IfOk result (λ cs. cs ≡ Numbered.certs_with_places state.old.facts
-        (superposing.needs_of_superposition form.now) certs.now) }
-    ensures after { OnOk result (state.new ≡ state_after_superposed form.now state.old) }
+        (superposing.needs_of_superposition superposition.now) certs.now) }
+    ensures after { OnOk result (state.new ≡ state_after_superposed superposition.now state.old) }
 {
     if !has_room(state.scope) {
         return Err(AllocError);
     }
-    let needs = form.needs(alloc)?;
+    let needs = superposition.needs(alloc)?;
     let placed = placed_certs(alloc, &state.facts, &needs, certs);
     mem::drop(needs);
     let certs = placed?;
-    match state.superpose(alloc, form) {
+    match state.superpose(alloc, superposition) {
         Ok(()) => Ok(certs),
         Err(error) => {
             mem::drop(certs);
@@ -500,7 +512,7 @@ fn qed(
     state: &StepState,
 ) -> Result<Close, AllocError>
     ensures { IfOk result (λ c. (before : List StatementView) → close_script c
-        ≡ places_at before (Qed objects.now certs.now) state.now (block_goal goal.now)) }
+        ≡ places_at before (Qed objects.now certs.now) state.now (goal_view goal.now)) }
 {
     if !have_sorts_of(state.scope, goal.made, objects) {
         return Err(AllocError);

@@ -31,7 +31,7 @@ pub enum RowSense {
 pub enum Row<'a> {
     /// The form is the one sum less the other, or minus that.
     Sums {
-        says: RowSense,
+        sense: RowSense,
         plus: &'a [Mono],
         minus: &'a [Mono],
         turned: bool,
@@ -49,7 +49,7 @@ pub enum Row<'a> {
 /// The row of a literal: what it says of the one sum less the other.
 #[derive(Clone, Copy)]
 pub struct Comparison<'a> {
-    pub says: RowSense,
+    pub sense: RowSense,
     pub plus: &'a [Mono],
     pub minus: &'a [Mono],
 }
@@ -66,11 +66,11 @@ pub struct RowScope<'a> {
 
 impl<'a> Row<'a> {
     /// What it says of its form.
-    pub fn says(&self) -> RowSense
-        ensures { sense_view result ≡ (row_view self.now).says }
+    pub fn sense(&self) -> RowSense
+        ensures { sense_view result ≡ (row_view self.now).sense }
     {
         match self {
-            Row::Sums { says, .. } => *says,
+            Row::Sums { sense, .. } => *sense,
             Row::Pos(_) | Row::Right => RowSense::More,
             Row::Top(_) | Row::Least(_) => RowSense::AtLeast,
         }
@@ -144,19 +144,19 @@ fn row_of<'a>(atom: &'a Atom, neg: bool) -> Option<Comparison<'a>>
 {
     match atom {
         Atom::MagEq(x, y) => Some(Comparison {
-            says: if neg { RowSense::Not } else { RowSense::Zero },
+            sense: if neg { RowSense::Not } else { RowSense::Zero },
             plus: x.items(),
             minus: y.items(),
         }),
         Atom::MagLt(x, y) => Some(if neg {
             Comparison {
-                says: RowSense::AtLeast,
+                sense: RowSense::AtLeast,
                 plus: x.items(),
                 minus: y.items(),
             }
         } else {
             Comparison {
-                says: RowSense::More,
+                sense: RowSense::More,
                 plus: y.items(),
                 minus: x.items(),
             }
@@ -173,12 +173,12 @@ fn unless_not<'a>(row: Option<Comparison<'a>>) -> Option<Row<'a>>
     ensures small { IfSome result (λ r. IsTrue (is_small_row r)) }
 {
     match row {
-        Some(Comparison { says, plus, minus }) => {
-            if says == RowSense::Not {
+        Some(Comparison { sense, plus, minus }) => {
+            if sense == RowSense::Not {
                 return None;
             }
             Some(Row::Sums {
-                says,
+                sense,
                 plus,
                 minus,
                 turned: false,

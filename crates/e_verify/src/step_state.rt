@@ -5,13 +5,13 @@ ghost use Rattle.e_literal.specs.Literal.{negation};
 ghost use Rattle.e_literal.specs.Facts.{joined, joined_all};
 ghost use Rattle.e_theorem.specs.Statements.{stated};
 ghost use Rattle.e_deriv.specs.Fitting.{is_small, is_small_statement};
-ghost use Rattle.e_verify.specs.inner.StepStates.{checkpoint_of, restored, with_facts};
-ghost use Rattle.e_verify.specs.inner.StepStates.{state_after_make, state_after_superposed};
-ghost use Rattle.e_verify.specs.inner.StepStates.{state_after_use};
+ghost use Rattle.e_verify.specs.inner.StepStates.{checkpoint_of_state, state_restored};
+ghost use Rattle.e_verify.specs.inner.StepStates.{state_with_facts, state_after_make};
+ghost use Rattle.e_verify.specs.inner.StepStates.{state_after_superposed, state_after_use};
 
 use crate::facts::Facts;
 use e_construct::{Construction, Superpose};
-use e_literal::{Lit, Obj, Scope, copy, grown, negate};
+use e_literal::{Lit, Scope, copy, grown, negate};
 use e_theorem::Statement;
 use std::alloc::{AllocError, Global};
 
@@ -29,17 +29,10 @@ pub struct Checkpoint {
     pub facts: usize,
 }
 
-/// What a block has to show: literals, and the made objects in them.
-#[derive(Clone, Copy)]
-pub struct Goal<'a> {
-    pub made: &'a [Obj],
-    pub shown: &'a [Lit],
-}
-
 impl StepState {
     /// Where an inner block is entered, for [`StepState::restore`] after it.
     pub fn checkpoint(&self) -> Checkpoint
-        ensures { result ≡ checkpoint_of self.now }
+        ensures { result ≡ checkpoint_of_state self.now }
     {
         Checkpoint {
             scope: self.scope,
@@ -49,7 +42,7 @@ impl StepState {
 
     /// What held where an inner block was entered holds again: its objects and facts are gone.
     pub fn restore(&mut self, outer: Checkpoint)
-        ensures { self.new ≡ restored outer self.old }
+        ensures { self.new ≡ state_restored outer self.old }
     {
         self.scope = outer.scope;
         self.facts.back_to(outer.facts);
@@ -57,7 +50,8 @@ impl StepState {
 
     /// The literal is a fact.
     pub fn assume(&mut self, alloc: Global, lit: &Lit) -> Result<(), AllocError>
-        ensures { OnOk result (self.new ≡ with_facts (joined self.old.facts lit.now) self.old) }
+        ensures { OnOk result
+            (self.new ≡ state_with_facts (joined self.old.facts lit.now) self.old) }
     {
         self.facts.add(copy(alloc, lit)?)
     }
@@ -65,32 +59,32 @@ impl StepState {
     /// The negation of the literal is a fact.
     pub fn assume_not(&mut self, alloc: Global, lit: &Lit) -> Result<(), AllocError>
         ensures { OnOk result
-            (self.new ≡ with_facts (joined self.old.facts (negation lit.now)) self.old) }
+            (self.new ≡ state_with_facts (joined self.old.facts (negation lit.now)) self.old) }
     {
         self.facts.add(negate(copy(alloc, lit)?))
     }
 
     /// What a construction makes comes into scope, and what it gives are facts.
-    pub fn make(&mut self, alloc: Global, form: &Construction) -> Result<(), AllocError>
+    pub fn make(&mut self, alloc: Global, construction: &Construction) -> Result<(), AllocError>
         requires { IsTrue (is_small self.old.scope) }
-        ensures { OnOk result (self.new ≡ state_after_make form.now self.old) }
+        ensures { OnOk result (self.new ≡ state_after_make construction.now self.old) }
     {
         let scope = self.scope;
-        let given = form.gives(alloc, scope)?;
+        let given = construction.gives(alloc, scope)?;
         self.facts.join(given)?;
-        self.scope = grown(scope, form.made());
+        self.scope = grown(scope, construction.made());
         Ok(())
     }
 
     /// The copied points of a superposition come into scope, and what it gives are facts.
-    pub fn superpose(&mut self, alloc: Global, form: &Superpose) -> Result<(), AllocError>
+    pub fn superpose(&mut self, alloc: Global, superposition: &Superpose) -> Result<(), AllocError>
         requires { IsTrue (is_small self.old.scope) }
-        ensures { OnOk result (self.new ≡ state_after_superposed form.now self.old) }
+        ensures { OnOk result (self.new ≡ state_after_superposed superposition.now self.old) }
     {
         let scope = self.scope;
-        let given = form.gives(alloc, scope)?;
+        let given = superposition.gives(alloc, scope)?;
         self.facts.join(given)?;
-        self.scope = grown(scope, form.made());
+        self.scope = grown(scope, superposition.made());
         Ok(())
     }
 
@@ -114,7 +108,7 @@ impl StepState {
     /// The literals are facts.
     pub fn assume_all(&mut self, alloc: Global, lits: &[Lit]) -> Result<(), AllocError>
         ensures { OnOk result
-            (self.new ≡ with_facts (joined_all self.old.facts lits.now) self.old) }
+            (self.new ≡ state_with_facts (joined_all self.old.facts lits.now) self.old) }
     {
         join_copies(alloc, &mut self.facts, lits)
     }

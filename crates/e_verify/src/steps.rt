@@ -91,7 +91,7 @@ pub fn hence(
 /// Whether a construction is certified; then its objects are in scope, and what it gives are facts.
 pub fn make(
     alloc: Global,
-    form: &Construction,
+    construction: &Construction,
     certs: &[Cert],
     state: &mut StepState,
 ) -> Result<bool, AllocError>
@@ -99,19 +99,19 @@ pub fn make(
     requires scope { IsTrue (is_small state.old.scope) }
     requires certs { IsTrue (list_all is_writable_cert certs.now) }
     ensures { IfOk result (λ b. (before : List StatementView) (names : List (List ℕ))
-        → IsChecked before (Make form.now names certs.now) state.old state.new b) }
+        → IsChecked before (Make construction.now names certs.now) state.old state.new b) }
 {
     let scope = state.scope;
-    if !form.fits(scope) {
+    if !construction.fits(scope) {
         return Ok(false);
     }
-    let needs = form.needs(alloc)?;
+    let needs = construction.needs(alloc)?;
     let certified = certify_all(alloc, scope, &state.facts, &needs, certs);
     mem::drop(needs);
     if !certified? {
         return Ok(false);
     }
-    state.make(alloc, form)?;
+    state.make(alloc, construction)?;
     Ok(true)
 }
 
@@ -180,7 +180,7 @@ fn take_use(
 /// facts.
 pub fn superpose(
     alloc: Global,
-    form: &Superpose,
+    superposition: &Superpose,
     shown: &[Lit],
     certs: &[Cert],
     state: &mut StepState,
@@ -189,22 +189,22 @@ pub fn superpose(
     requires scope { IsTrue (is_small state.old.scope) }
     requires certs { IsTrue (list_all is_writable_cert certs.now) }
     ensures test { IfOk result (λ b. (before : List StatementView) (names : List (List ℕ))
-        (inner rest : Script) (goal : Goal) → b ≡ is_certified before
-        (step_in_state (Superposed form.now names shown.now certs.now inner rest) state.old goal)) }
+        (inner rest : Script) (goal : Goal) → b ≡ is_certified before (step_in_state
+        (Superposed superposition.now names shown.now certs.now inner rest) state.old goal)) }
     ensures after { IfOk result (λ b. IsTrue b
-        → state.new ≡ state_after_superposed form.now state.old) }
+        → state.new ≡ state_after_superposed superposition.now state.old) }
 {
     let scope = state.scope;
-    if !form.fits(scope) || !are_over(scope, shown) {
+    if !superposition.fits(scope) || !are_over(scope, shown) {
         return Ok(false);
     }
-    let needs = form.needs(alloc)?;
+    let needs = superposition.needs(alloc)?;
     let certified = certify_all(alloc, scope, &state.facts, &needs, certs);
     mem::drop(needs);
     if !certified? {
         return Ok(false);
     }
-    state.superpose(alloc, form)?;
+    state.superpose(alloc, superposition)?;
     Ok(true)
 }
 

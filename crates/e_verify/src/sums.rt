@@ -34,10 +34,10 @@ pub fn refutes(
         let Some(row) = row_named(row_scope, name) else {
             return Ok(false);
         };
-        if !allows_sign(row.says(), *multiplier) {
+        if !allows_sign(row.sense(), *multiplier) {
             return Ok(false);
         }
-        let is_strict = is_strict(row.says(), *multiplier);
+        let is_strict = is_strict(row.sense(), *multiplier);
         strict = strict || is_strict;
         add_row(&mut totals, row, *multiplier)?;
     }
@@ -64,18 +64,18 @@ fn is_bounded_multiplier(n: i128) -> bool
     n != 0 && n.unsigned_abs() <= 0x1_0000_0000_0000_0000_0000
 }
 
-fn allows_sign(says: RowSense, multiplier: i128) -> bool
-    ensures { result ≡ Absurd.allows_multiplier (sense_view says) multiplier }
+fn allows_sign(sense: RowSense, multiplier: i128) -> bool
+    ensures { result ≡ Absurd.allows_multiplier (sense_view sense) multiplier }
 {
-    match says {
+    match sense {
         RowSense::Zero => true,
         RowSense::AtLeast | RowSense::More => 0 <= multiplier,
         RowSense::Not => false,
     }
 }
 
-fn is_strict(says: RowSense, multiplier: i128) -> bool
-    ensures { result ≡ Absurd.is_strict (sense_view says) multiplier }
+fn is_strict(sense: RowSense, multiplier: i128) -> bool
+    ensures { result ≡ Absurd.is_strict (sense_view sense) multiplier }
 {
-    says == RowSense::More && 1 <= multiplier
+    sense == RowSense::More && 1 <= multiplier
 }

@@ -163,8 +163,8 @@ fn what_follows(rt: HostRuntime) -> Result<(), Fail> {
 }
 
 // Whether the row says this of a form with these coefficients of `ab`, `cd` and `ef`.
-fn says(row: &Row, kind: RowSense, ab: i64, cd: i64, ef: i64) -> bool {
-    row.kind == kind
+fn says(row: &Row, sense: RowSense, ab: i64, cd: i64, ef: i64) -> bool {
+    row.sense == sense
         && row.form.coefficient(term("ab")) == ab
         && row.form.coefficient(term("cd")) == cd
         && row.form.coefficient(term("ef")) == ef

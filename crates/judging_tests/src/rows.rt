@@ -26,7 +26,7 @@ fn coefficient(form: &str, letter: u8) -> i64 {
     sum
 }
 
-fn kind(text: &str) -> RowSense {
+fn sense(text: &str) -> RowSense {
     match text.bytes().next() {
         Some(b'=') => RowSense::Zero,
         Some(b'+') => RowSense::AtLeast,
@@ -45,13 +45,13 @@ fn row(rt: &impl Abort, alloc: Global, text: &str) -> Result<Row, AllocError> {
     }
     assert!(rt; are_distinct(&summands));
     Ok(Row {
-        kind: kind(text),
+        sense: sense(text),
         form: Signed::new(summands),
     })
 }
 
 /// Rows with a space between two: each is `=`, `+`, `>` or `!`, for 0, at least 0, more than 0 or
-/// not 0, and a sum of letters, each of which stands for a term.
+/// not 0, and a sum of letters, each of which is a term.
 pub fn rows(rt: &impl Abort, alloc: Global, text: &str) -> Result<Vec<Row>, AllocError> {
     let mut rows = Vec::new(alloc);
     for word in text.split(' ') {

@@ -32,7 +32,7 @@ fn put_quotients(out: &mut Answer) {
     out.show(&cross(0x4000_0000_0000_0000_0000_0000_0000_0000, 4, 0, 0, 1));
 }
 
-fn kind(word: &str) -> RowSense {
+fn sense(word: &str) -> RowSense {
     match word {
         "zero" => RowSense::Zero,
         "at-least" => RowSense::AtLeast,
@@ -42,19 +42,19 @@ fn kind(word: &str) -> RowSense {
 }
 
 // The row of these summands; the form is 0 where a term comes twice.
-fn row(alloc: Global, kind: RowSense, summands: &[(i64, Term)]) -> Result<Row, AllocError> {
+fn row(alloc: Global, sense: RowSense, summands: &[(i64, Term)]) -> Result<Row, AllocError> {
     let mut form = Signed::empty(alloc);
     if are_distinct(summands) {
         form = Signed::new(Vec::from_slice(alloc, summands)?);
     }
-    Ok(Row { kind, form })
+    Ok(Row { sense, form })
 }
 
-// The rows of this kind with the forms x - y and y - x.
-fn opposite_rows(alloc: Global, kind: RowSense) -> Result<Vec<Row>, AllocError> {
+// The rows of this sense with the forms x - y and y - x.
+fn opposite_rows(alloc: Global, sense: RowSense) -> Result<Vec<Row>, AllocError> {
     let mut rows = Vec::new(alloc);
-    rows.push(row(alloc, kind, &[(1, X), (-1, Y)])?)?;
-    rows.push(row(alloc, kind, &[(1, Y), (-1, X)])?)?;
+    rows.push(row(alloc, sense, &[(1, X), (-1, Y)])?)?;
+    rows.push(row(alloc, sense, &[(1, Y), (-1, X)])?)?;
     Ok(rows)
 }
 
@@ -66,7 +66,7 @@ fn multiplier(word: &str) -> i128 {
 fn put_sum(alloc: Global, out: &mut Answer, on: &str) -> Result<(), AllocError> {
     let (word, on) = two(on, " ");
     let (first, second) = two(on, " ");
-    let rows = opposite_rows(alloc, kind(word))?;
+    let rows = opposite_rows(alloc, sense(word))?;
     let multipliers = [multiplier(first), multiplier(second)];
     if rows.len() == 2 && have_small_coefficients(&rows) && are_small_multipliers(&multipliers) {
         out.show(&check_sum(&rows, &multipliers));
@@ -74,7 +74,7 @@ fn put_sum(alloc: Global, out: &mut Answer, on: &str) -> Result<(), AllocError> 
     Ok(())
 }
 
-// The width of nine rows of this kind with one summand each: eight with the coefficient 128, and
+// The width of nine rows of this sense with one summand each: eight with the coefficient 128, and
 // the last with this one.
 fn put_width(alloc: Global, out: &mut Answer, on: &str) -> Result<(), AllocError> {
     let (word, last) = two(on, " ");
@@ -82,7 +82,7 @@ fn put_width(alloc: Global, out: &mut Answer, on: &str) -> Result<(), AllocError
     let mut rows = Vec::new(alloc);
     for i in 1..10u16 {
         let coefficient = if i == 9 { last } else { 128 };
-        rows.push(row(alloc, kind(word), &[(coefficient, Term::Seg(0, i))])?)?;
+        rows.push(row(alloc, sense(word), &[(coefficient, Term::Seg(0, i))])?)?;
     }
     out.show(&width(&rows));
     Ok(())

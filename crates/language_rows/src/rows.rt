@@ -34,7 +34,7 @@ pub fn bytes_of(alloc: Global, text: &str) -> Result<Vec<u8>, AllocError> {
     Ok(bytes)
 }
 
-/// The number that a letter stands for, from `a` for 0.
+/// The number of a letter, from `a` for 0.
 fn letter(letters: &str, place: usize) -> u16 {
     match letters.as_bytes().get(place) {
         Some(letter) => u16::from(letter.saturating_sub(b'a')),

@@ -1,5 +1,5 @@
-//! The first proposition of the Elements: on each line that joins two points stands an equilateral
-//! triangle.
+//! The first proposition of the Elements: on each line that joins two points there is an
+//! equilateral triangle.
 
 use crate::answer::Answer;
 use crate::literals::literals;

@@ -40,10 +40,10 @@ fn hidden(term: u16) -> u64 {
     1 + u64::from(term).wrapping_mul(37) % 23
 }
 
-/// The difference of two terms, as a row of this kind.
+/// The difference of two terms, as a row of this sense.
 fn difference(
     alloc: Global,
-    kind: RowSense,
+    sense: RowSense,
     first: u16,
     second: u16,
 ) -> Result<Option<Row>, AllocError> {
@@ -52,7 +52,7 @@ fn difference(
         return Ok(None);
     }
     Ok(Some(Row {
-        kind,
+        sense,
         form: Signed::new(summands),
     }))
 }
@@ -63,12 +63,12 @@ fn true_row(alloc: Global, a: u16, b: u16, strict: bool) -> Result<Option<Row>, 
     if x == y {
         difference(alloc, RowSense::Zero, a, b)
     } else if x > y {
-        let kind = if strict {
+        let sense = if strict {
             RowSense::More
         } else {
             RowSense::AtLeast
         };
-        difference(alloc, kind, a, b)
+        difference(alloc, sense, a, b)
     } else {
         difference(alloc, RowSense::Not, a, b)
     }

@@ -35,7 +35,7 @@ fn part<'a>(row: &'a str, number: usize) -> &'a str {
     row.split(" => ").nth(number).unwrap_or("")
 }
 
-/// The calls that a part of a row stands for.
+/// The calls of a part of a row.
 fn calls_of(part: &str, piece: usize) -> Calls {
     let (fail, by) = part.split_once(" by ").unwrap_or((part, ""));
     Calls {

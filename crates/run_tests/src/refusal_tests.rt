@@ -4,7 +4,7 @@ use crate::runs::{answer, part};
 use std::alloc::{AllocError, Global};
 use std::test::Fail;
 
-/// Books, the answer without the numbers of its values, and how the values stand to each other by
+/// Books, the answer without the numbers of its values, and how the values compare, by
 /// their places.
 fn refusals() -> &'static str {
     "\

@@ -32,7 +32,7 @@ use Rattle.e_book.specs.ParserViews.{entry_of_parser}
 use Rattle.e_book.specs.TheoremViews.{TheoremView}
 use Rattle.e_names.specs.Canonical.{raw_of}
 use Rattle.e_line.specs.Canonical.{sum_words, sums_words, signed_words, lit_words, lits_words, raw_line_words, line_of as written_line}
-use Rattle.e_book.specs.Canonical.{script_forms, names_of_proof, forms_of}
+use Rattle.e_book.specs.Canonical.{script_raw_lines, names_of_proof, raw_lines_of}
 use Rattle.e_line.specs.HasSpelling.{AreNames}
 use Rattle.e_book.specs.HasSpelling.{HasSpelling}
 use Rattle.e_book.specs.Laws.{Shows}
@@ -195,7 +195,7 @@ first_read known last t e l after b good free h go =
     let next = begun_taken known t e good free h in
     rw (words, not_skipped (rawlines.Theorem t), next, go) refl
 
-canonical_items : (known : Known) (last : ℕ) (t : TheoremView) (all rest : Rest) → HasSpelling known.theorems t → defines known.notions t.title ≡ false → Shows all (map written_line (forms_of known.theorems t)) rest
+canonical_items : (known : Known) (last : ℕ) (t : TheoremView) (all rest : Rest) → HasSpelling known.theorems t → defines known.notions t.title ≡ false → Shows all (map written_line (raw_lines_of known.theorems t)) rest
     → item_from known last None all ≡ found (OfTheorem t) rest
 canonical_items known last t [] rest h free sh = absurd sh
 canonical_items known last t (Err x ∷ all) rest h free sh = absurd sh
@@ -205,17 +205,17 @@ canonical_items known last t (Ok l ∷ all) rest h free sh =
     let proof = run_proof_lines before t h o in
     let d = shut_parser t proof.last in
     let first = begun t.title in
-    let script = script_forms before (names_of_proof t) t.script in
+    let script = script_raw_lines before (names_of_proof t) t.script in
     let front = stating_forms t ++ script in
     let runs : Runs before (Some first) front (Some d) =
     runs_append before (Some first) (Some (proving (started t) (begins t))) (Some d) (stating_forms t) script (run_statement before t h o) (proof.runs d (closed_last t proof.last) refl) in
-    let whole : forms_of before t ≡ rawlines.Theorem t.title ∷ (front ++ rawlines.End ∷ []) = ap (λ (fs : List RawLine). rawlines.Theorem t.title ∷ fs) (sym (append_assoc (stating_forms t) script (rawlines.End ∷ []))) in
+    let whole : raw_lines_of before t ≡ rawlines.Theorem t.title ∷ (front ++ rawlines.End ∷ []) = ap (λ (fs : List RawLine). rawlines.Theorem t.title ∷ fs) (sym (append_assoc (stating_forms t) script (rawlines.End ∷ []))) in
     let shown : Shows (Ok l ∷ all) (map written_line (rawlines.Theorem t.title ∷ (front ++ rawlines.End ∷ []))) rest = subst (λ (fs : List RawLine). Shows (Ok l ∷ all) (map written_line fs) rest) whole sh in
     let left = reads_runs known last first d front (rawlines.End ∷ []) all rest runs shown.1 in
     first_read known last t.title first l all shown.0 h.title free (title_begins before t.title h.fits.new h.few_theorems) refl
     ∙ left.same ∙ end_read known last t proof.last left.ahead rest (ap (λ (s : Script). record t { script = s }) (same_script t.script h.script)) left.shown
 
 -- as the grammar reads them
-pub canonical_grammar : (known : Known) (last : ℕ) (t : TheoremView) (lines rest : Rest) → are_notions known.notions ≡ true → HasSpelling known.theorems t → defines known.notions t.title ≡ false → Shows lines (map written_line (forms_of known.theorems t)) rest
+pub canonical_grammar : (known : Known) (last : ℕ) (t : TheoremView) (lines rest : Rest) → are_notions known.notions ≡ true → HasSpelling known.theorems t → defines known.notions t.title ≡ false → Shows lines (map written_line (raw_lines_of known.theorems t)) rest
     → grammar.item_from known last None lines ≡ Ok (Some (OfTheorem t, rest))
 canonical_grammar known last t lines rest all h free sh = sym (items_read_alike known last lines all) ∙ canonical_items known last t lines rest h free sh

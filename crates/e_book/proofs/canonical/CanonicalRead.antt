@@ -31,8 +31,8 @@ use Rattle.e_book.specs.Fits.{few_facts, few_terms}
 use Rattle.e_book.specs.Book.{line_step, is_done, read_from}
 use Rattle.e_line.specs.Limits.{count_monomials}
 use Rattle.e_line.specs.Canonical.{raw_line_words, line_of}
-use Rattle.e_names.specs.Canonical.{given_form, show_form}
-use Rattle.e_book.specs.Canonical.{declare_form, made_form, grouped, declared_objects, made_objects, given_forms, shown_forms, head_forms, script_forms, names_of_proof, forms_of}
+use Rattle.e_names.specs.Canonical.{given_raw_line, show_raw_line}
+use Rattle.e_book.specs.Canonical.{declare_raw_line, made_raw_line, grouped, declared_objects, made_objects, given_raw_lines, shown_raw_lines, head_raw_lines, script_raw_lines, names_of_proof, raw_lines_of}
 use Rattle.e_book.specs.HasSpelling.{HasSpelling}
 use Rattle.e_book.specs.Laws.{Shows}
 use Rattle.e_line.proofs.read_again.Respelled.{GoodForm, as_read, form_again}
@@ -51,7 +51,7 @@ use Rattle.e_book.proofs.canonical.ScriptRead.{Taken, run_script}
 -- ---- the statement
 
 -- given literals are spelled with the names of the declared objects alone
-given_forms_of : (s : Scope) (ns : Names) (ls : List Lit) → list_all (all_in_scope s) ls ≡ true → map (given_form (first_names s ns)) ls ≡ map (given_form ns) ls
+given_forms_of : (s : Scope) (ns : Names) (ls : List Lit) → list_all (all_in_scope s) ls ≡ true → map (given_raw_line (first_names s ns)) ls ≡ map (given_raw_line ns) ls
 given_forms_of s ns [] h = refl
 given_forms_of s ns (l ∷ ls) h =
     let p = and_parts (all_in_scope s l) (list_all (all_in_scope s) ls) h in
@@ -70,7 +70,7 @@ run_proof known t = (proving (started t) (begins t), tt, refl, refl, refl)
 
 -- the lines after the title
 abbrev pub stating_forms : TheoremView → List RawLine
-stating_forms t = given_forms t.names t.statement ++ (shown_forms t.names t.statement ++ rawlines.Proof ∷ [])
+stating_forms t = given_raw_lines t.names t.statement ++ (shown_raw_lines t.names t.statement ++ rawlines.Proof ∷ [])
 
 -- the lines of the statement lead from the title to the parser that begins the proof
 pub run_statement : (known : List TitledStatement) (t : TheoremView) → HasSpelling known t → InOrder t.names → Runs known (Some (begun t.title)) (stating_forms t) (Some (proving (started t) (begins t)))
@@ -86,25 +86,25 @@ run_statement known t h o =
     let given : Option TheoremParser = Some (given_parser t.title dn st.declared st.given) in
     let made : Option TheoremParser = Some (making t.title st.declared st.given ns st.made) in
     let f4 : List RawLine = rawlines.Proof ∷ [] in
-    let f3 : List RawLine = map made_form (grouped ns (made_objects st)) ++ map (show_form ns) st.shown in
+    let f3 : List RawLine = map made_raw_line (grouped ns (made_objects st)) ++ map (show_raw_line ns) st.shown in
     let f2 : List RawLine = f3 ++ f4 in
-    let f1 : List RawLine = map declare_form (grouped ns (declared_objects st)) ++ map (given_form ns) st.given in
-    let run_declared : Runs known titled (map declare_form (grouped ns (declared_objects st))) declared =
+    let f1 : List RawLine = map declare_raw_line (grouped ns (declared_objects st)) ++ map (given_raw_line ns) st.given in
+    let run_declared : Runs known titled (map declare_raw_line (grouped ns (declared_objects st))) declared =
     run_from known rawlines.Declare (declaring t.title) (declared_lines known t.title) ns nothing [] st.declared st.made o few h.fits.scope in
     let plain : Plain dn st.given = record { within = subst (λ (z : Scope). list_all (all_in_scope z) st.given ≡ true) (sym (declared_scope (stated st) ns h.fits.scope)) h.fits.given; good = h.fits.good_given } in
-    let run_given : Runs known declared (map (given_form ns) st.given) given =
+    let run_given : Runs known declared (map (given_raw_line ns) st.given) given =
     subst (λ (fs : List RawLine). Runs known declared fs given) (given_forms_of s ns st.given h.fits.given)
     (run_all_given known t.title dn st.declared st.given (first_in_order s ns o) plain h.fits.given_facts h.fits.given_terms) in
     let whole : first_names (grown s st.made) ns ≡ ns = ap (λ (z : Scope). first_names z ns) h.fits.scope ∙ all_first ns in
-    let run_made : Runs known given (map made_form (grouped ns (made_objects st))) made =
-    subst (λ (m : Names). Runs known given (map made_form (grouped ns (made_objects st))) (Some (making t.title st.declared st.given m st.made))) whole
+    let run_made : Runs known given (map made_raw_line (grouped ns (made_objects st))) made =
+    subst (λ (m : Names). Runs known given (map made_raw_line (grouped ns (made_objects st))) (Some (making t.title st.declared st.given m st.made))) whole
     (run_from known rawlines.Made (making t.title st.declared st.given) (made_lines known t.title st.declared st.given) ns s [] st.made [] o few h.fits.scope) in
-    let run_shown : Runs known made (map (show_form ns) st.shown) (Some (started t)) = run_all_shown known t.title ns st.declared st.given st.made st.shown o (record { within = h.fits.shown; good = h.fits.good_shown }) h.some_shown in
-    let stating : Runs known titled f1 given = runs_append known titled declared given (map declare_form (grouped ns (declared_objects st))) (map (given_form ns) st.given) run_declared run_given in
-    let showing : Runs known given f3 (Some (started t)) = runs_append known given made (Some (started t)) (map made_form (grouped ns (made_objects st))) (map (show_form ns) st.shown) run_made run_shown in
+    let run_shown : Runs known made (map (show_raw_line ns) st.shown) (Some (started t)) = run_all_shown known t.title ns st.declared st.given st.made st.shown o (record { within = h.fits.shown; good = h.fits.good_shown }) h.some_shown in
+    let stating : Runs known titled f1 given = runs_append known titled declared given (map declare_raw_line (grouped ns (declared_objects st))) (map (given_raw_line ns) st.given) run_declared run_given in
+    let showing : Runs known given f3 (Some (started t)) = runs_append known given made (Some (started t)) (map made_raw_line (grouped ns (made_objects st))) (map (show_raw_line ns) st.shown) run_made run_shown in
     runs_append known titled given end f1 f2 stating (runs_append known given (Some (started t)) end f3 f4 showing (run_proof known t))
 
-run_head : (known : List TitledStatement) (t : TheoremView) → HasSpelling known t → InOrder t.names → Runs known None (head_forms t) (Some (proving (started t) (begins t)))
+run_head : (known : List TitledStatement) (t : TheoremView) → HasSpelling known t → InOrder t.names → Runs known None (head_raw_lines t) (Some (proving (started t) (begins t)))
 run_head known t h o =
     runs_append known None (Some (begun t.title)) (Some (proving (started t) (begins t))) (rawlines.Theorem t.title ∷ []) (stating_forms t) (run_title known t.title h.title h.fits.new h.few_theorems) (run_statement known t h o)
 
@@ -134,7 +134,7 @@ run_proof_lines known t h o =
 
 -- all lines but the last
 abbrev front : List TitledStatement → TheoremView → List RawLine
-front known t = head_forms t ++ script_forms known (names_of_proof t) t.script
+front known t = head_raw_lines t ++ script_raw_lines known (names_of_proof t) t.script
 
 -- ---- the lines
 
@@ -192,15 +192,15 @@ end_read known number t last (Ok l ∷ all) rest same sh =
     one_read known number (Some d) l all rawlines.End (record d { section = Done }) sh.0 tt (step_end known t last)
     ∙ ap (λ (s : Script). answered (record t { script = s }) all) same ∙ ap (λ (ls : List (Result LineView LineFault)). answered t ls) sh.1
 
-pub canonical_lines_read : (known : List TitledStatement) (last : ℕ) (t : TheoremView) (all rest : List (Result LineView LineFault)) → HasSpelling known t → Shows all (map line_of (forms_of known t)) rest
+pub canonical_lines_read : (known : List TitledStatement) (last : ℕ) (t : TheoremView) (all rest : List (Result LineView LineFault)) → HasSpelling known t → Shows all (map line_of (raw_lines_of known t)) rest
     → read_from known last None all ≡ Ok (Some (t, rest))
 canonical_lines_read known last t all rest h sh =
     let o = in_order t.names h.point_names h.line_names h.circle_names h.fits.differ in
     let proof = run_proof_lines known t h o in
     let d = shut_parser t proof.last in
     let runs : Runs known None (front known t) (Some d) =
-    runs_append known None (Some (proving (started t) (begins t))) (Some d) (head_forms t) (script_forms known (names_of_proof t) t.script) (run_head known t h o) (proof.runs d (closed_last t proof.last) refl) in
-    let whole : forms_of known t ≡ front known t ++ rawlines.End ∷ [] = sym (append_assoc (head_forms t) (script_forms known (names_of_proof t) t.script) (rawlines.End ∷ [])) in
+    runs_append known None (Some (proving (started t) (begins t))) (Some d) (head_raw_lines t) (script_raw_lines known (names_of_proof t) t.script) (run_head known t h o) (proof.runs d (closed_last t proof.last) refl) in
+    let whole : raw_lines_of known t ≡ front known t ++ rawlines.End ∷ [] = sym (append_assoc (head_raw_lines t) (script_raw_lines known (names_of_proof t) t.script) (rawlines.End ∷ [])) in
     let shown : Shows all (map line_of (front known t ++ rawlines.End ∷ [])) rest = subst (λ (fs : List RawLine). Shows all (map line_of fs) rest) whole sh in
     let l = reads_runs known last None (Some d) (front known t) (rawlines.End ∷ []) all rest runs shown in
     l.same ∙ end_read known last t proof.last l.ahead rest (same_script t.script h.script) l.shown

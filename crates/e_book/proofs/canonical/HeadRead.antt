@@ -19,7 +19,7 @@ use Rattle.e_names.specs.TitledStatements.{TitledStatement, is_known}
 use Rattle.e_line.specs.LineLimits.{count_monos}
 use Rattle.e_book.specs.Steps.{with_terms, allowed, declared, stepped, step, begin, begun, no_names}
 use Rattle.e_book.specs.Book.{is_done}
-use Rattle.e_names.specs.Canonical.{raw_of, given_form, show_form}
+use Rattle.e_names.specs.Canonical.{raw_of, given_raw_line, show_raw_line}
 use Rattle.e_line.specs.HasSpelling.{AreNames}
 use Rattle.e_line.proofs.read_again.Respelled.{GoodForm}
 use Rattle.e_names.proofs.resolution.Lookups.{InOrder}
@@ -86,8 +86,8 @@ stating_more t ns sorts given l =
     (ap (λ (n : ℕ). count_monomials given + n) (count_again ns l) ∙ sym (count_more given l))
 
 step_given : (known : List TitledStatement) (t : List ℕ) (ns : Names) (sorts : List Sort) (given : List Lit) (place : Section) (l : Lit) → InOrder ns → PlainLit ns l → length given + 1 ≤ most_facts → count_monomials given + monomials l.atom ≤ most_terms
-    → allowed place (given_form ns l) ≡ true
-    → step known (stating t ns sorts given [] [] (length given) (count_monomials given) place) (given_form ns l) ≡ Ok (stating t ns sorts (given ++ l ∷ []) [] [] (length (given ++ l ∷ [])) (count_monomials (given ++ l ∷ [])) Giving)
+    → allowed place (given_raw_line ns l) ≡ true
+    → step known (stating t ns sorts given [] [] (length given) (count_monomials given) place) (given_raw_line ns l) ≡ Ok (stating t ns sorts (given ++ l ∷ []) [] [] (length (given ++ l ∷ [])) (count_monomials (given ++ l ∷ [])) Giving)
 unfolding step stepped with_terms
 step_given known t ns sorts given place l o p few short a =
     let room : ltb most_facts (length given + length (raw_of ns l ∷ [])) ≡ false = le-ltb _ _ (omega (arith, few)) in
@@ -98,7 +98,7 @@ abbrev giving : List ℕ → Names → List Sort → List Lit → TheoremParser
 giving t ns sorts given = stating t ns sorts given [] [] (length given) (count_monomials given) Giving
 
 run_given : (known : List TitledStatement) (t : List ℕ) (ns : Names) (sorts : List Sort) (given more : List Lit) → InOrder ns → Plain ns more → length given + length more ≤ most_facts → count_monomials given + count_monomials more ≤ most_terms
-    → Runs known (Some (giving t ns sorts given)) (map (given_form ns) more) (Some (giving t ns sorts (given ++ more)))
+    → Runs known (Some (giving t ns sorts given)) (map (given_raw_line ns) more) (Some (giving t ns sorts (given ++ more)))
 run_given known t ns sorts given [] o p few short = ap (λ (g : List Lit). Some (giving t ns sorts g)) (sym (append-nil given))
 run_given known t ns sorts given (l ∷ more) o p few short =
     let q = plain_first ns l more p in (
@@ -106,7 +106,7 @@ run_given known t ns sorts given (l ∷ more) o p few short =
       lit_named ns l o q.0.within q.0.good,
       step_given known t ns sorts given Giving l o q.0 (omega (arith, few)) (omega (arith, short, count_first l more)) refl,
       refl,
-      subst (λ (g : List Lit). Runs known (Some (giving t ns sorts (given ++ l ∷ []))) (map (given_form ns) more) (Some (giving t ns sorts g))) (append_assoc given (l ∷ []) more)
+      subst (λ (g : List Lit). Runs known (Some (giving t ns sorts (given ++ l ∷ []))) (map (given_raw_line ns) more) (Some (giving t ns sorts g))) (append_assoc given (l ∷ []) more)
           (run_given known t ns sorts (given ++ l ∷ []) more o q.1 (omega (arith, few, length-append given (l ∷ []))) (omega (arith, short, count_first l more, count_more given l))),
     )
 
@@ -119,7 +119,7 @@ abbrev pub given_parser : List ℕ → Names → List Sort → List Lit → Theo
 given_parser t ns sorts given = stating t ns sorts given [] [] (length given) (count_monomials given) (after_given given)
 
 pub run_all_given : (known : List TitledStatement) (t : List ℕ) (ns : Names) (sorts : List Sort) (given : List Lit) → InOrder ns → Plain ns given → length given ≤ most_facts → count_monomials given ≤ most_terms
-    → Runs known (Some (declaring t ns sorts)) (map (given_form ns) given) (Some (given_parser t ns sorts given))
+    → Runs known (Some (declaring t ns sorts)) (map (given_raw_line ns) given) (Some (given_parser t ns sorts given))
 run_all_given known t ns sorts [] o p few short = refl
 run_all_given known t ns sorts (l ∷ more) o p few short =
     let q = plain_first ns l more p in (
@@ -193,13 +193,13 @@ made_lines known t sorts given = record {
 abbrev pub showing : List ℕ → Names → List Sort → List Lit → List Sort → List Lit → TheoremParser
 showing t ns sorts given made shown = stating t ns sorts given made shown (length given) (count_monomials given) Showing
 
-step_show : (known : List TitledStatement) (t : List ℕ) (ns : Names) (sorts : List Sort) (given : List Lit) (made : List Sort) (shown : List Lit) (place : Section) (l : Lit) → InOrder ns → PlainLit ns l → allowed place (show_form ns l) ≡ true
-    → step known (stating t ns sorts given made shown (length given) (count_monomials given) place) (show_form ns l) ≡ Ok (showing t ns sorts given made (shown ++ l ∷ []))
+step_show : (known : List TitledStatement) (t : List ℕ) (ns : Names) (sorts : List Sort) (given : List Lit) (made : List Sort) (shown : List Lit) (place : Section) (l : Lit) → InOrder ns → PlainLit ns l → allowed place (show_raw_line ns l) ≡ true
+    → step known (stating t ns sorts given made shown (length given) (count_monomials given) place) (show_raw_line ns l) ≡ Ok (showing t ns sorts given made (shown ++ l ∷ []))
 unfolding step stepped
 step_show known t ns sorts given made shown place l o p a = rw (a, lit_number_again ns l o p.within p.good, few_again ns l p.good) refl
 
 run_shown : (known : List TitledStatement) (t : List ℕ) (ns : Names) (sorts : List Sort) (given : List Lit) (made : List Sort) (shown more : List Lit) → InOrder ns → Plain ns more
-    → Runs known (Some (showing t ns sorts given made shown)) (map (show_form ns) more) (Some (showing t ns sorts given made (shown ++ more)))
+    → Runs known (Some (showing t ns sorts given made shown)) (map (show_raw_line ns) more) (Some (showing t ns sorts given made (shown ++ more)))
 run_shown known t ns sorts given made shown [] o p = ap (λ (g : List Lit). Some (showing t ns sorts given made g)) (sym (append-nil shown))
 run_shown known t ns sorts given made shown (l ∷ more) o p =
     let q = plain_first ns l more p in (
@@ -207,17 +207,17 @@ run_shown known t ns sorts given made shown (l ∷ more) o p =
       lit_named ns l o q.0.within q.0.good,
       step_show known t ns sorts given made shown Showing l o q.0 refl,
       refl,
-      subst (λ (g : List Lit). Runs known (Some (showing t ns sorts given made (shown ++ l ∷ []))) (map (show_form ns) more) (Some (showing t ns sorts given made g))) (append_assoc shown (l ∷ []) more)
+      subst (λ (g : List Lit). Runs known (Some (showing t ns sorts given made (shown ++ l ∷ []))) (map (show_raw_line ns) more) (Some (showing t ns sorts given made g))) (append_assoc shown (l ∷ []) more)
           (run_shown known t ns sorts given made (shown ++ l ∷ []) more o q.1),
     )
 
-may_show : (ns : Names) (given : List Lit) (made : List Sort) (l : Lit) → allowed (after_made given made) (show_form ns l) ≡ true
+may_show : (ns : Names) (given : List Lit) (made : List Sort) (l : Lit) → allowed (after_made given made) (show_raw_line ns l) ≡ true
 may_show ns [] [] l = refl
 may_show ns (g ∷ given) [] l = refl
 may_show ns given (s ∷ made) l = refl
 
 pub run_all_shown : (known : List TitledStatement) (t : List ℕ) (ns : Names) (sorts : List Sort) (given : List Lit) (made : List Sort) (shown : List Lit) → InOrder ns → Plain ns shown → 0 < length shown
-    → Runs known (Some (making t sorts given ns made)) (map (show_form ns) shown) (Some (showing t ns sorts given made shown))
+    → Runs known (Some (making t sorts given ns made)) (map (show_raw_line ns) shown) (Some (showing t ns sorts given made shown))
 run_all_shown known t ns sorts given made [] o p some = absurd (omega (arith, some))
 run_all_shown known t ns sorts given made (l ∷ more) o p some =
     let q = plain_first ns l more p in (

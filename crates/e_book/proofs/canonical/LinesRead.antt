@@ -36,7 +36,7 @@ use Rattle.e_book.specs.LineLimits.{few_objects}
 use Rattle.e_book.specs.Steps.{with_step, with_terms, built, used_by, applied, deeper, claimed, superposed, split, counted_from, resumed, closed, shut, stepped, step}
 use Rattle.e_book.specs.ParserViews.{script_of_close}
 use Rattle.e_names.specs.Fits.{is_diagram_lit}
-use Rattle.e_names.specs.Canonical.{raw_of, name_of_object, by_form, hence_form, let_form, apply_form, claim_form, superpose_form, cases_form, else_form, qed_form, contradiction_form}
+use Rattle.e_names.specs.Canonical.{raw_of, name_of_object, by_raw_line, hence_raw_line, let_raw_line, apply_raw_line, claim_raw_line, superpose_raw_line, cases_raw_line, else_raw_line, qed_raw_line, contradiction_raw_line}
 use Rattle.e_line.proofs.read_again.Respelled.{as_read}
 use Rattle.e_names.proofs.resolution.Lookups.{InOrder, object_again}
 use Rattle.e_names.proofs.resolution.LitLookups.{lit_number_again}
@@ -88,9 +88,9 @@ applied_after i t theorem args names =
 
 -- in the block of a superposition
 abbrev pub copied : Inside → Superpose → List (List ℕ) → List Lit → Inside
-copied i form names shown =
-    let given = superposing.gives_of_superposition form (scope_of_names i.in_scope) in
-    record (written (deep i (kind.Superpose form names shown) (length given)) (count_monomials given)) { in_scope = named i.in_scope superposing.sorts_copied names }
+copied i superposition names shown =
+    let given = superposing.gives_of_superposition superposition (scope_of_names i.in_scope) in
+    record (written (deep i (kind.Superpose superposition names shown) (length given)) (count_monomials given)) { in_scope = named i.in_scope superposing.sorts_copied names }
 
 -- after an inner block that shows these literals, whose last line has this number
 abbrev pub resume : Inside → ℕ → PlainStep → List Lit → Inside
@@ -104,7 +104,7 @@ second i lines lit first =
 -- ---- lines of the open block
 
 pub step_cite : (known : List TitledStatement) (d : TheoremParser) (i : Inside) (b : By) → InOrder i.in_scope → is_citation (scope_of_names i.in_scope) b ≡ true → is_diagram_lit b.lit ≡ true → i.lines + 1 ≤ most_steps → i.facts + 1 ≤ most_facts
-    → step known (proving d i) (by_form i.in_scope b) ≡ Ok (proving d (after_step i (Cited b) 1))
+    → step known (proving d i) (by_raw_line i.in_scope b) ≡ Ok (proving d (after_step i (Cited b) 1))
 unfolding step stepped with_step
 step_cite known d i b o h p few most =
     let room : ltb most_steps (i.lines + 1) ≡ false = le-ltb _ _ few in
@@ -112,7 +112,7 @@ step_cite known d i b o h p few most =
     rw (by_number_again i.in_scope b o h p, room, place) refl
 
 pub step_hence : (known : List TitledStatement) (d : TheoremParser) (i : Inside) (l : Lit) → InOrder i.in_scope → PlainLit i.in_scope l → i.lines + 1 ≤ most_steps → i.facts + 1 ≤ most_facts → i.terms + monomials l.atom ≤ most_terms
-    → step known (proving d i) (hence_form i.in_scope l) ≡ Ok (proving d (written (after_step i (Inferred l None) 1) (monomials l.atom)))
+    → step known (proving d i) (hence_raw_line i.in_scope l) ≡ Ok (proving d (written (after_step i (Inferred l None) 1) (monomials l.atom)))
 unfolding step stepped with_step with_terms
 step_hence known d i l o p few most short =
     let room : ltb most_steps (i.lines + 1) ≡ false = le-ltb _ _ few in
@@ -120,20 +120,20 @@ step_hence known d i l o p few most short =
     let more : ltb most_terms (i.terms + count_monos (raw_of i.in_scope l ∷ [])) ≡ false = le-ltb _ _ (omega (arith, short, count_again i.in_scope l)) in
     rw (lit_number_again i.in_scope l o p.within p.good, room, place, few_again i.in_scope l p.good, more) (ap (λ (n : ℕ). Ok (proving d (written (after_step i (Inferred l None) 1) n))) (count_again i.in_scope l))
 
-pub step_let : (known : List TitledStatement) (d : TheoremParser) (i : Inside) (form : Construction) (names : List (List ℕ)) → InOrder i.in_scope → GoodLet i.in_scope form names → few_objects (named i.in_scope (sorts_made form) names) ≡ Ok tt
-    → i.lines + 1 ≤ most_steps → i.facts + length (gives_of_construction form (scope_of_names i.in_scope)) ≤ most_facts
-    → step known (proving d i) (as_read (let_form i.in_scope form names))
-    ≡ Ok (proving d (record (after_step i (Made form names []) (length (gives_of_construction form (scope_of_names i.in_scope)))) { in_scope = named i.in_scope (sorts_made form) names }))
+pub step_let : (known : List TitledStatement) (d : TheoremParser) (i : Inside) (construction : Construction) (names : List (List ℕ)) → InOrder i.in_scope → GoodLet i.in_scope construction names → few_objects (named i.in_scope (sorts_made construction) names) ≡ Ok tt
+    → i.lines + 1 ≤ most_steps → i.facts + length (gives_of_construction construction (scope_of_names i.in_scope)) ≤ most_facts
+    → step known (proving d i) (as_read (let_raw_line i.in_scope construction names))
+    ≡ Ok (proving d (record (after_step i (Made construction names []) (length (gives_of_construction construction (scope_of_names i.in_scope)))) { in_scope = named i.in_scope (sorts_made construction) names }))
 unfolding step stepped built with_step
-step_let known d i form names o h fit few most =
+step_let known d i construction names o h fit few most =
     let room : ltb most_steps (i.lines + 1) ≡ false = le-ltb _ _ few in
-    let place : ltb most_facts (i.facts + length (gives_of_construction form (scope_of_names i.in_scope))) ≡ false = le-ltb _ _ most in
-    rw (let_number_again i.in_scope form names o h, fit, room, place) refl
+    let place : ltb most_facts (i.facts + length (gives_of_construction construction (scope_of_names i.in_scope))) ≡ false = le-ltb _ _ most in
+    rw (let_number_again i.in_scope construction names o h, fit, room, place) refl
 
 pub step_apply : (known : List TitledStatement) (d : TheoremParser) (i : Inside) (theorem : ℕ) (args : List (Option Obj)) (names : List (List ℕ)) → InOrder i.in_scope → GoodApply known i.in_scope theorem args names
     → few_objects (named i.in_scope (theorem_of known theorem).made names) ≡ Ok tt → i.lines + 1 ≤ most_steps → i.facts + length (theorem_of known theorem).shown ≤ most_facts
     → i.terms + count_monomials (theorem_of known theorem).shown ≤ most_terms → count_blanks args ≤ most_blanks
-    → step known (proving d i) (apply_form known i.in_scope theorem args names) ≡ Ok (proving d (applied_after i (theorem_of known theorem) theorem args names))
+    → step known (proving d i) (apply_raw_line known i.in_scope theorem args names) ≡ Ok (proving d (applied_after i (theorem_of known theorem) theorem args names))
 unfolding step stepped applied used_by with_step
 step_apply known d i theorem args names o g fit few most short written =
     let t = theorem_of known theorem in
@@ -155,31 +155,31 @@ deeper_again d i o given few shallow most =
     rw (room, deep, place) refl
 
 pub step_claim : (known : List TitledStatement) (d : TheoremParser) (i : Inside) (shown : List Lit) → InOrder i.in_scope → Plain i.in_scope shown → i.lines + 1 ≤ most_steps → length i.blocks + 2 ≤ most_depth → i.facts + 0 ≤ most_facts
-    → step known (proving d i) (claim_form i.in_scope shown) ≡ Ok (proving d (deep i (kind.Claim shown) 0))
+    → step known (proving d i) (claim_raw_line i.in_scope shown) ≡ Ok (proving d (deep i (kind.Claim shown) 0))
 unfolding step stepped claimed
 step_claim known d i shown o p few shallow most =
     rw (lits_number_again i.in_scope shown o p, deeper_again d i (kind.Claim shown) 0 few shallow most, all_few_again i.in_scope shown p.good) refl
 
-pub step_superpose : (known : List TitledStatement) (d : TheoremParser) (i : Inside) (form : Superpose) (names : List (List ℕ)) (shown : List Lit) → GoodSuperpose i.in_scope form names shown → few_objects (named i.in_scope superposing.sorts_copied names) ≡ Ok tt
+pub step_superpose : (known : List TitledStatement) (d : TheoremParser) (i : Inside) (superposition : Superpose) (names : List (List ℕ)) (shown : List Lit) → GoodSuperpose i.in_scope superposition names shown → few_objects (named i.in_scope superposing.sorts_copied names) ≡ Ok tt
     → i.lines + 1 ≤ most_steps → length i.blocks + 2 ≤ most_depth
-    → i.facts + length (superposing.gives_of_superposition form (scope_of_names i.in_scope)) ≤ most_facts → i.terms + count_monomials (superposing.gives_of_superposition form (scope_of_names i.in_scope)) ≤ most_terms
-    → step known (proving d i) (superpose_form i.in_scope form names shown)
-    ≡ Ok (proving d (copied i form names shown))
+    → i.facts + length (superposing.gives_of_superposition superposition (scope_of_names i.in_scope)) ≤ most_facts → i.terms + count_monomials (superposing.gives_of_superposition superposition (scope_of_names i.in_scope)) ≤ most_terms
+    → step known (proving d i) (superpose_raw_line i.in_scope superposition names shown)
+    ≡ Ok (proving d (copied i superposition names shown))
 unfolding step stepped superposed
-step_superpose known d i form names shown g fit few shallow most short =
-    let given = superposing.gives_of_superposition form (scope_of_names i.in_scope) in
+step_superpose known d i superposition names shown g fit few shallow most short =
+    let given = superposing.gives_of_superposition superposition (scope_of_names i.in_scope) in
     let more : ltb most_terms (i.terms + count_monomials given) ≡ false = le-ltb _ _ short in
-    rw (superpose_number_again i.in_scope form names shown g, fit, deeper_again d i (kind.Superpose form names shown) (length given) few shallow most, all_few_again i.in_scope shown g.plain.good, more) refl
+    rw (superpose_number_again i.in_scope superposition names shown g, fit, deeper_again d i (kind.Superpose superposition names shown) (length given) few shallow most, all_few_again i.in_scope shown g.plain.good, more) refl
 
 pub step_cases : (known : List TitledStatement) (d : TheoremParser) (i : Inside) (l : Lit) → InOrder i.in_scope → PlainLit i.in_scope l → i.lines + 1 ≤ most_steps → length i.blocks + 2 ≤ most_depth → i.facts + 1 ≤ most_facts → i.terms + monomials l.atom ≤ most_terms
-    → step known (proving d i) (cases_form i.in_scope l) ≡ Ok (proving d (written (deep i (kind.First l) 1) (monomials l.atom)))
+    → step known (proving d i) (cases_raw_line i.in_scope l) ≡ Ok (proving d (written (deep i (kind.First l) 1) (monomials l.atom)))
 unfolding step stepped split with_terms
 step_cases known d i l o p few shallow most short =
     let more : ltb most_terms (i.terms + count_monos (raw_of i.in_scope l ∷ [])) ≡ false = le-ltb _ _ (omega (arith, short, count_again i.in_scope l)) in
     rw (lit_number_again i.in_scope l o p.within p.good, deeper_again d i (kind.First l) 1 few shallow most, few_again i.in_scope l p.good, more)
     (ap (λ (n : ℕ). Ok (proving d (written (deep i (kind.First l) 1) n))) (count_again i.in_scope l))
 
-pub step_else : (known : List TitledStatement) (d : TheoremParser) (i : Inside) → step known (splitting d i) else_form ≡ Ok (proving d i)
+pub step_else : (known : List TitledStatement) (d : TheoremParser) (i : Inside) → step known (splitting d i) else_raw_line ≡ Ok (proving d i)
 unfolding step stepped
 step_else known d i = refl
 
@@ -202,13 +202,13 @@ qed_read ns sorts os o h =
     rw count (objects_read ns sorts os o h)
 
 pub step_qed : (known : List TitledStatement) (d : TheoremParser) (i : Inside) (os : List Obj) → InOrder i.in_scope → are_of_sorts (scope_of_names i.in_scope) (made_in i.blocks d.made) os ≡ true → i.lines + 1 ≤ most_steps
-    → step known (proving d i) (qed_form i.in_scope os) ≡ closed (proving d (record i { lines = i.lines + 1 })) i.blocks i.steps (closes.Qed os)
+    → step known (proving d i) (qed_raw_line i.in_scope os) ≡ closed (proving d (record i { lines = i.lines + 1 })) i.blocks i.steps (closes.Qed os)
 unfolding step stepped shut
 step_qed known d i os o h few =
     let room : ltb most_steps (i.lines + 1) ≡ false = le-ltb _ _ few in
     rw (qed_read i.in_scope (made_in i.blocks d.made) os o h, room) refl
 
-pub step_contradiction : (known : List TitledStatement) (d : TheoremParser) (i : Inside) → i.lines + 1 ≤ most_steps → step known (proving d i) contradiction_form ≡ closed (proving d (record i { lines = i.lines + 1 })) i.blocks i.steps closes.Contradiction
+pub step_contradiction : (known : List TitledStatement) (d : TheoremParser) (i : Inside) → i.lines + 1 ≤ most_steps → step known (proving d i) contradiction_raw_line ≡ closed (proving d (record i { lines = i.lines + 1 })) i.blocks i.steps closes.Contradiction
 unfolding step stepped shut
 step_contradiction known d i few =
     let room : ltb most_steps (i.lines + 1) ≡ false = le-ltb _ _ few in
@@ -234,13 +234,13 @@ unfolding closed
 claim_closed d i last shown steps close inner e most short =
     ap (λ (x : Script). resumed (proving d last) (outer i (kind.Claim shown)) i.blocks shown (Claimed shown x)) e ∙ resumed_again d i last (kind.Claim shown) (Claimed shown inner) shown most short
 
-pub superpose_closed : (d : TheoremParser) (i last : Inside) (form : Superpose) (names : List (List ℕ)) (shown : List Lit) (steps : List PlainStep) (close : CloseLine) (inner : Script) → Closes steps close inner
+pub superpose_closed : (d : TheoremParser) (i last : Inside) (superposition : Superpose) (names : List (List ℕ)) (shown : List Lit) (steps : List PlainStep) (close : CloseLine) (inner : Script) → Closes steps close inner
     → i.facts + length shown ≤ most_facts → i.terms + count_monomials shown ≤ most_terms
-    → closed (proving d last) (outer i (kind.Superpose form names shown) ∷ i.blocks) steps close ≡ Ok (proving d (resume i last.lines (Copied form names shown [] inner) shown))
+    → closed (proving d last) (outer i (kind.Superpose superposition names shown) ∷ i.blocks) steps close ≡ Ok (proving d (resume i last.lines (Copied superposition names shown [] inner) shown))
 unfolding closed
-superpose_closed d i last form names shown steps close inner e most short =
-    let o = kind.Superpose form names shown in
-    ap (λ (x : Script). resumed (proving d last) (outer i o) i.blocks shown (Copied form names shown [] x)) e ∙ resumed_again d i last o (Copied form names shown [] inner) shown most short
+superpose_closed d i last superposition names shown steps close inner e most short =
+    let o = kind.Superpose superposition names shown in
+    ap (λ (x : Script). resumed (proving d last) (outer i o) i.blocks shown (Copied superposition names shown [] x)) e ∙ resumed_again d i last o (Copied superposition names shown [] inner) shown most short
 
 pub first_closed : (d : TheoremParser) (i last : Inside) (lit : Lit) (steps : List PlainStep) (close : CloseLine) (inner : Script) → Closes steps close inner
     → closed (proving d last) (outer i (kind.First lit) ∷ i.blocks) steps close ≡ Ok (splitting d (second i last.lines lit inner))

@@ -14,10 +14,10 @@ use Rattle.e_book.proofs.canonical.LinesRead.{Closes}
 abbrev pub steps_of : Script → List PlainStep
 steps_of (Cite by rest) = Cited by ∷ steps_of rest
 steps_of (Hence lit cert rest) = Inferred lit cert ∷ steps_of rest
-steps_of (Make form names certs rest) = Made form names certs ∷ steps_of rest
+steps_of (Make construction names certs rest) = Made construction names certs ∷ steps_of rest
 steps_of (Apply theorem args names certs rest) = Applied theorem args names certs ∷ steps_of rest
 steps_of (Claim shown inner rest) = Claimed shown inner ∷ steps_of rest
-steps_of (Superposed form names shown certs inner rest) = Copied form names shown certs inner ∷ steps_of rest
+steps_of (Superposed superposition names shown certs inner rest) = Copied superposition names shown certs inner ∷ steps_of rest
 steps_of (Qed objects certs) = []
 steps_of (Contradiction against) = []
 steps_of (Cases lit first second) = []
@@ -25,10 +25,10 @@ steps_of (Cases lit first second) = []
 abbrev pub close_of : Script → CloseLine
 close_of (Cite by rest) = close_of rest
 close_of (Hence lit cert rest) = close_of rest
-close_of (Make form names certs rest) = close_of rest
+close_of (Make construction names certs rest) = close_of rest
 close_of (Apply theorem args names certs rest) = close_of rest
 close_of (Claim shown inner rest) = close_of rest
-close_of (Superposed form names shown certs inner rest) = close_of rest
+close_of (Superposed superposition names shown certs inner rest) = close_of rest
 close_of (Qed objects certs) = closes.Qed objects
 close_of (Contradiction against) = closes.Contradiction
 close_of (Cases lit first second) = closes.Cases lit first second
@@ -42,18 +42,18 @@ unfolding is_plain
 same_script (Cite by rest) p = ap (λ (s : Script). Cite by s) (same_script rest p)
 same_script (Hence lit None rest) p = ap (λ (s : Script). Hence lit None s) (same_script rest p)
 same_script (Hence lit (Some cert) rest) p = absurd (no_cert p)
-same_script (Make form names [] rest) p = ap (λ (s : Script). Make form names [] s) (same_script rest (and_parts (list_all is_name names) (is_plain rest) p).1)
-same_script (Make form names (c ∷ cs) rest) p = absurd (no_cert p)
+same_script (Make construction names [] rest) p = ap (λ (s : Script). Make construction names [] s) (same_script rest (and_parts (list_all is_name names) (is_plain rest) p).1)
+same_script (Make construction names (c ∷ cs) rest) p = absurd (no_cert p)
 same_script (Apply theorem args names [] rest) p = ap (λ (s : Script). Apply theorem args names [] s) (same_script rest (and_parts (list_all is_name names) (is_plain rest) p).1)
 same_script (Apply theorem args names (c ∷ cs) rest) p = absurd (no_cert p)
 same_script (Claim shown inner rest) p =
     let q = and_parts (ltb 0 (length shown)) (is_plain inner && is_plain rest) p in
     ap (λ (s : Script). Claim shown inner s) (same_script rest (and_parts (is_plain inner) (is_plain rest) q.1).1)
-same_script (Superposed form names shown [] inner rest) p =
+same_script (Superposed superposition names shown [] inner rest) p =
     let n = and_parts (list_all is_name names) (ltb 0 (length shown) && (is_plain inner && is_plain rest)) p in
     let q = and_parts (ltb 0 (length shown)) (is_plain inner && is_plain rest) n.1 in
-    ap (λ (s : Script). Superposed form names shown [] inner s) (same_script rest (and_parts (is_plain inner) (is_plain rest) q.1).1)
-same_script (Superposed form names shown (c ∷ cs) inner rest) p = absurd (no_cert p)
+    ap (λ (s : Script). Superposed superposition names shown [] inner s) (same_script rest (and_parts (is_plain inner) (is_plain rest) q.1).1)
+same_script (Superposed superposition names shown (c ∷ cs) inner rest) p = absurd (no_cert p)
 same_script (Qed os []) p = refl
 same_script (Qed os (c ∷ cs)) p = absurd (no_cert p)
 same_script (Contradiction None) p = refl

@@ -18,7 +18,7 @@ use Rattle.e_theorem.specs.Pattern.{is_pattern}
 use Rattle.e_clause.specs.declared.cert.By.{By}
 use Rattle.e_construct.specs.declared.construction.Construction.{Construction}
 use Rattle.e_construct.specs.declared.superpose.Superpose.{Superpose}
-use Rattle.e_construct.specs.Construct.{sorts_of, sorts_made, gives_of_construction, fits_construction as fits_form}
+use Rattle.e_construct.specs.Construct.{sorts_of, sorts_made, gives_of_construction, fits_construction}
 use Rattle.e_construct.specs.Superposing as superposing
 use Rattle.e_deriv.specs.PlainStep.{PlainStep, Cited, Inferred, Made, Applied, Claimed, Copied}
 use Rattle.e_deriv.specs.Naming.{named}
@@ -40,9 +40,9 @@ use Rattle.e_book.specs.LineLimits.{few_objects}
 use Rattle.e_book.specs.Steps.{closed}
 use Rattle.e_book.specs.Book.{is_done}
 use Rattle.e_names.specs.Fits.{is_diagram_lit}
-use Rattle.e_book.specs.Fits.{NewNamesFit, few_facts, few_terms, few_blanks, has_good_literals}
-use Rattle.e_names.specs.Canonical.{else_form}
-use Rattle.e_book.specs.Canonical.{script_forms}
+use Rattle.e_book.specs.Fits.{NewNamesFit, few_facts, few_terms, few_blanks, has_well_formed_literals}
+use Rattle.e_names.specs.Canonical.{else_raw_line}
+use Rattle.e_book.specs.Canonical.{script_raw_lines}
 use Rattle.e_line.specs.HasSpelling.{AreNames}
 use Rattle.e_names.specs.HasSpelling.{is_named_by_title}
 use Rattle.e_book.specs.HasSpelling.{is_plain, names_theorems}
@@ -81,7 +81,7 @@ pub record Ready (known : List TitledStatement) (d : TheoremParser) (i : Inside)
   pub new_names : NewNamesFit (stated_by known) i.in_scope script
   pub few : i.lines + size script ≤ most_steps
   pub shallow : length i.blocks + depth script ≤ most_depth
-  pub good : has_good_literals script ≡ true
+  pub good : has_well_formed_literals script ≡ true
   pub theorems : names_theorems known script ≡ true
   pub blanks : few_blanks script ≡ true
   pub facts : few_facts (stated_by known) i.facts (scope_of_names i.in_scope) script ≡ true
@@ -92,7 +92,7 @@ pub record Taken (known : List TitledStatement) (d : TheoremParser) (i : Inside)
   pub last : Inside
   pub lines : last.lines ≡ i.lines + size script
   pub runs : (e : TheoremParser) → closed (proving d last) i.blocks (i.steps ++ steps_of script) (close_of script) ≡ Ok e → is_done e ≡ false
-      → Runs known (Some (proving d i)) (script_forms known i.in_scope script) (Some e)
+      → Runs known (Some (proving d i)) (script_raw_lines known i.in_scope script) (Some e)
 
 -- one more step, and what comes after it
 pub one_more : (d : TheoremParser) (last i : Inside) (s : PlainStep) (rest : Script) (e : TheoremParser) → closed (proving d last) i.blocks (i.steps ++ s ∷ steps_of rest) (close_of rest) ≡ Ok e
@@ -105,7 +105,7 @@ no_more d last i close e h = ap (λ (l : List PlainStep). closed (proving d last
 -- ---- steps without a block inside
 
 pub cite_ready : (known : List TitledStatement) (d : TheoremParser) (i : Inside) (b : By) (rest : Script) (given : List Lit) (goal : Goal) → Ready known d i (Cite b rest) given goal → Ready known d (after_step i (Cited b) 1) rest (joined given b.lit) goal
-unfolding is_plain placed_steps NewNamesFit size depth has_good_literals few_facts few_terms names_theorems few_blanks
+unfolding is_plain placed_steps NewNamesFit size depth has_well_formed_literals few_facts few_terms names_theorems few_blanks
 cite_ready known d i b rest given goal r =
     let s = scope_of_names i.in_scope in
     record {
@@ -116,7 +116,7 @@ cite_ready known d i b rest given goal r =
       new_names = r.new_names;
       few = omega (arith, r.few);
       shallow = r.shallow;
-      good = (and_parts (is_diagram_lit b.lit) (has_good_literals rest) r.good).1;
+      good = (and_parts (is_diagram_lit b.lit) (has_well_formed_literals rest) r.good).1;
       theorems = r.theorems;
       blanks = r.blanks;
       facts = (and_parts (leb (i.facts + 1) most_facts) (few_facts (stated_by known) (i.facts + 1) s rest) r.facts).1;
@@ -124,11 +124,11 @@ cite_ready known d i b rest given goal r =
     }
 
 cite_taken : (known : List TitledStatement) (d : TheoremParser) (i : Inside) (b : By) (rest : Script) (given : List Lit) (goal : Goal) → Ready known d i (Cite b rest) given goal → Taken known d (after_step i (Cited b) 1) rest → Taken known d i (Cite b rest)
-unfolding script_forms placed_steps size has_good_literals few_facts
+unfolding script_raw_lines placed_steps size has_well_formed_literals few_facts
 cite_taken known d i b rest given goal r t =
     let s = scope_of_names i.in_scope in
     let fit = (and_parts (is_citation s b) (list_all (line_fits (stated_by known)) (placed_steps (stated_by known) rest rest s (joined given b.lit) goal)) r.fitting).0 in
-    let good = (and_parts (is_diagram_lit b.lit) (has_good_literals rest) r.good).0 in
+    let good = (and_parts (is_diagram_lit b.lit) (has_well_formed_literals rest) r.good).0 in
     let most = leb-true _ _ (and_parts (leb (i.facts + 1) most_facts) (few_facts (stated_by known) (i.facts + 1) s rest) r.facts).0 in
     record {
       last = t.last;
@@ -146,7 +146,7 @@ abbrev pub inferred : Inside → Lit → Inside
 inferred i l = written (after_step i (Inferred l None) 1) (monomials l.atom)
 
 pub hence_ready : (known : List TitledStatement) (d : TheoremParser) (i : Inside) (l : Lit) (rest : Script) (given : List Lit) (goal : Goal) → Ready known d i (Hence l None rest) given goal → Ready known d (inferred i l) rest (joined given l) goal
-unfolding is_plain placed_steps NewNamesFit size depth has_good_literals few_facts few_terms names_theorems few_blanks
+unfolding is_plain placed_steps NewNamesFit size depth has_well_formed_literals few_facts few_terms names_theorems few_blanks
 hence_ready known d i l rest given goal r =
     let s = scope_of_names i.in_scope in
     let n = i.terms + monomials l.atom in
@@ -158,7 +158,7 @@ hence_ready known d i l rest given goal r =
       new_names = r.new_names;
       few = omega (arith, r.few);
       shallow = r.shallow;
-      good = (and_parts (is_well_formed l) (has_good_literals rest) r.good).1;
+      good = (and_parts (is_well_formed l) (has_well_formed_literals rest) r.good).1;
       theorems = r.theorems;
       blanks = r.blanks;
       facts = (and_parts (leb (i.facts + 1) most_facts) (few_facts (stated_by known) (i.facts + 1) s rest) r.facts).1;
@@ -166,12 +166,12 @@ hence_ready known d i l rest given goal r =
     }
 
 hence_taken : (known : List TitledStatement) (d : TheoremParser) (i : Inside) (l : Lit) (rest : Script) (given : List Lit) (goal : Goal) → Ready known d i (Hence l None rest) given goal → Taken known d (inferred i l) rest → Taken known d i (Hence l None rest)
-unfolding script_forms placed_steps size has_good_literals few_facts few_terms names_theorems few_blanks
+unfolding script_raw_lines placed_steps size has_well_formed_literals few_facts few_terms names_theorems few_blanks
 hence_taken known d i l rest given goal r t =
     let s = scope_of_names i.in_scope in
     let n = i.terms + monomials l.atom in
     let fit = (and_parts (all_in_scope s l) (list_all (line_fits (stated_by known)) (placed_steps (stated_by known) rest rest s (joined given l) goal)) r.fitting).0 in
-    let good = (and_parts (is_well_formed l) (has_good_literals rest) r.good).0 in
+    let good = (and_parts (is_well_formed l) (has_well_formed_literals rest) r.good).0 in
     let most = leb-true _ _ (and_parts (leb (i.facts + 1) most_facts) (few_facts (stated_by known) (i.facts + 1) s rest) r.facts).0 in
     let short = leb-true _ _ (and_parts (leb n most_terms) (few_terms (stated_by known) n s rest) r.terms).0 in
     record {
@@ -187,63 +187,63 @@ hence_taken known d i l rest given goal r t =
     }
 
 abbrev pub gifts : Inside → Construction → ℕ
-gifts i form = length (gives_of_construction form (scope_of_names i.in_scope))
+gifts i construction = length (gives_of_construction construction (scope_of_names i.in_scope))
 
 abbrev pub constructed : Inside → Construction → List (List ℕ) → Inside
-constructed i form names = record (after_step i (Made form names []) (gifts i form)) { in_scope = named i.in_scope (sorts_made form) names }
+constructed i construction names = record (after_step i (Made construction names []) (gifts i construction)) { in_scope = named i.in_scope (sorts_made construction) names }
 
-pub make_good : (known : List TitledStatement) (d : TheoremParser) (i : Inside) (form : Construction) (names : List (List ℕ)) (rest : Script) (given : List Lit) (goal : Goal) → Ready known d i (Make form names [] rest) given goal → GoodLet i.in_scope form names
+pub make_good : (known : List TitledStatement) (d : TheoremParser) (i : Inside) (construction : Construction) (names : List (List ℕ)) (rest : Script) (given : List Lit) (goal : Goal) → Ready known d i (Make construction names [] rest) given goal → GoodLet i.in_scope construction names
 unfolding placed_steps NewNamesFit
-make_good known d i form names rest given goal r =
+make_good known d i construction names rest given goal r =
     let s = scope_of_names i.in_scope in
     record {
-      fits = (and_parts (fits_form form s) (list_all (line_fits (stated_by known)) (placed_steps (stated_by known) rest rest (grown s (sorts_made form)) (joined_all given (gives_of_construction form s)) goal)) r.fitting).0;
+      fits = (and_parts (fits_construction construction s) (list_all (line_fits (stated_by known)) (placed_steps (stated_by known) rest rest (grown s (sorts_made construction)) (joined_all given (gives_of_construction construction s)) goal)) r.fitting).0;
       free = r.new_names.0;
       count = r.new_names.1;
     }
 
-pub make_ready : (known : List TitledStatement) (d : TheoremParser) (i : Inside) (form : Construction) (names : List (List ℕ)) (rest : Script) (given : List Lit) (goal : Goal) → Ready known d i (Make form names [] rest) given goal
-    → Ready known d (constructed i form names) rest (joined_all given (gives_of_construction form (scope_of_names i.in_scope))) goal
-unfolding is_plain placed_steps NewNamesFit size depth has_good_literals few_facts few_terms names_theorems few_blanks
-make_ready known d i form names rest given goal r =
+pub make_ready : (known : List TitledStatement) (d : TheoremParser) (i : Inside) (construction : Construction) (names : List (List ℕ)) (rest : Script) (given : List Lit) (goal : Goal) → Ready known d i (Make construction names [] rest) given goal
+    → Ready known d (constructed i construction names) rest (joined_all given (gives_of_construction construction (scope_of_names i.in_scope))) goal
+unfolding is_plain placed_steps NewNamesFit size depth has_well_formed_literals few_facts few_terms names_theorems few_blanks
+make_ready known d i construction names rest given goal r =
     let s = scope_of_names i.in_scope in
-    let after = named i.in_scope (sorts_made form) names in
-    let facts = joined_all given (gives_of_construction form s) in
-    let n = i.facts + gifts i form in
-    let scope : grown s (sorts_made form) ≡ scope_of_names after = named_scope i.in_scope (sorts_made form) names r.new_names.1 in
+    let after = named i.in_scope (sorts_made construction) names in
+    let facts = joined_all given (gives_of_construction construction s) in
+    let n = i.facts + gifts i construction in
+    let scope : grown s (sorts_made construction) ≡ scope_of_names after = named_scope i.in_scope (sorts_made construction) names r.new_names.1 in
     let p = and_parts (list_all is_name names) (is_plain rest) r.plain in
     record {
-      order = named_in_order i.in_scope (sorts_made form) names r.order (list_names names p.0) r.new_names.0;
+      order = named_in_order i.in_scope (sorts_made construction) names r.order (list_names names p.0) r.new_names.0;
       goal_sorts = r.goal_sorts;
       plain = p.1;
-      fitting = subst (λ (z : Scope). list_all (line_fits (stated_by known)) (placed_steps (stated_by known) rest rest z facts goal) ≡ true) scope (and_parts (fits_form form s) (list_all (line_fits (stated_by known)) (placed_steps (stated_by known) rest rest (grown s (sorts_made form)) facts goal)) r.fitting).1;
+      fitting = subst (λ (z : Scope). list_all (line_fits (stated_by known)) (placed_steps (stated_by known) rest rest z facts goal) ≡ true) scope (and_parts (fits_construction construction s) (list_all (line_fits (stated_by known)) (placed_steps (stated_by known) rest rest (grown s (sorts_made construction)) facts goal)) r.fitting).1;
       new_names = r.new_names.3;
       few = omega (arith, r.few);
       shallow = r.shallow;
       good = r.good;
       theorems = r.theorems;
       blanks = r.blanks;
-      facts = subst (λ (z : Scope). few_facts (stated_by known) n z rest ≡ true) scope (and_parts (leb n most_facts) (few_facts (stated_by known) n (grown s (sorts_made form)) rest) r.facts).1;
+      facts = subst (λ (z : Scope). few_facts (stated_by known) n z rest ≡ true) scope (and_parts (leb n most_facts) (few_facts (stated_by known) n (grown s (sorts_made construction)) rest) r.facts).1;
       terms = subst (λ (z : Scope). few_terms (stated_by known) i.terms z rest ≡ true) scope r.terms;
     }
 
-make_taken : (known : List TitledStatement) (d : TheoremParser) (i : Inside) (form : Construction) (names : List (List ℕ)) (rest : Script) (given : List Lit) (goal : Goal) → Ready known d i (Make form names [] rest) given goal
-    → Taken known d (constructed i form names) rest → Taken known d i (Make form names [] rest)
-unfolding script_forms is_plain NewNamesFit size few_facts
-make_taken known d i form names rest given goal r t =
+make_taken : (known : List TitledStatement) (d : TheoremParser) (i : Inside) (construction : Construction) (names : List (List ℕ)) (rest : Script) (given : List Lit) (goal : Goal) → Ready known d i (Make construction names [] rest) given goal
+    → Taken known d (constructed i construction names) rest → Taken known d i (Make construction names [] rest)
+unfolding script_raw_lines is_plain NewNamesFit size few_facts
+make_taken known d i construction names rest given goal r t =
     let s = scope_of_names i.in_scope in
-    let n = i.facts + gifts i form in
-    let good = make_good known d i form names rest given goal r in
-    let most = leb-true _ _ (and_parts (leb n most_facts) (few_facts (stated_by known) n (grown s (sorts_made form)) rest) r.facts).0 in
+    let n = i.facts + gifts i construction in
+    let good = make_good known d i construction names rest given goal r in
+    let most = leb-true _ _ (and_parts (leb n most_facts) (few_facts (stated_by known) n (grown s (sorts_made construction)) rest) r.facts).0 in
     record {
       last = t.last;
       lines = omega (arith, t.lines);
       runs = λ e h done. (
-        proving d (constructed i form names),
-        let_named i.in_scope form names r.order good (list_names names (and_parts (list_all is_name names) (is_plain rest) r.plain).0),
-        step_let known d i form names r.order good r.new_names.2 (omega (arith, r.few, at_least rest)) most,
+        proving d (constructed i construction names),
+        let_named i.in_scope construction names r.order good (list_names names (and_parts (list_all is_name names) (is_plain rest) r.plain).0),
+        step_let known d i construction names r.order good r.new_names.2 (omega (arith, r.few, at_least rest)) most,
         refl,
-        t.runs e (one_more d t.last i (Made form names []) rest e h) done,
+        t.runs e (one_more d t.last i (Made construction names []) rest e h) done,
       );
     }
 
@@ -259,7 +259,7 @@ pub record ApplyParts (known : List TitledStatement) (d : TheoremParser) (i : In
 
 pub apply_parts : (known : List TitledStatement) (d : TheoremParser) (i : Inside) (theorem : ℕ) (args : List (Option Obj)) (names : List (List ℕ)) (rest : Script) (given : List Lit) (goal : Goal) → Ready known d i (Apply theorem args names [] rest) given goal
     → ApplyParts known d i theorem args names rest given goal
-unfolding is_plain placed_steps NewNamesFit size depth has_good_literals few_facts few_terms names_theorems few_blanks
+unfolding is_plain placed_steps NewNamesFit size depth has_well_formed_literals few_facts few_terms names_theorems few_blanks
 apply_parts known d i theorem args names rest given goal r =
     let before = stated_by known in
     let s = scope_of_names i.in_scope in
@@ -301,7 +301,7 @@ apply_parts known d i theorem args names rest given goal r =
 
 apply_taken : (known : List TitledStatement) (d : TheoremParser) (i : Inside) (theorem : ℕ) (args : List (Option Obj)) (names : List (List ℕ)) (rest : Script) (given : List Lit) (goal : Goal) → Ready known d i (Apply theorem args names [] rest) given goal
     → Taken known d (applied_after i (theorem_of known theorem) theorem args names) rest → Taken known d i (Apply theorem args names [] rest)
-unfolding script_forms size
+unfolding script_raw_lines size
 apply_taken known d i theorem args names rest given goal r t =
     let p = apply_parts known d i theorem args names rest given goal r in
     let after = applied_after i (theorem_of known theorem) theorem args names in
@@ -326,10 +326,10 @@ pub record ClaimParts (known : List TitledStatement) (i : Inside) (shown : List 
   pub plain : Plain i.in_scope shown
   pub fit_inner : list_all (line_fits (stated_by known)) (placed_steps (stated_by known) inner inner (scope_of_names i.in_scope) given (goal_of shown)) ≡ true
   pub fit_rest : list_all (line_fits (stated_by known)) (placed_steps (stated_by known) rest rest (scope_of_names i.in_scope) (joined_all given shown) goal) ≡ true
-  pub good_inner : has_good_literals inner ≡ true
+  pub good_inner : has_well_formed_literals inner ≡ true
   pub theorems_inner : names_theorems known inner ≡ true
   pub blanks_inner : few_blanks inner ≡ true
-  pub good_rest : has_good_literals rest ≡ true
+  pub good_rest : has_well_formed_literals rest ≡ true
   pub theorems_rest : names_theorems known rest ≡ true
   pub blanks_rest : few_blanks rest ≡ true
   pub facts_inner : few_facts (stated_by known) i.facts (scope_of_names i.in_scope) inner ≡ true
@@ -340,7 +340,7 @@ pub record ClaimParts (known : List TitledStatement) (i : Inside) (shown : List 
   pub terms_rest : few_terms (stated_by known) (i.terms + count_monomials shown) (scope_of_names i.in_scope) rest ≡ true
 
 pub claim_parts : (known : List TitledStatement) (d : TheoremParser) (i : Inside) (shown : List Lit) (inner rest : Script) (given : List Lit) (goal : Goal) → Ready known d i (Claim shown inner rest) given goal → ClaimParts known i shown inner rest given goal
-unfolding is_plain placed_steps has_good_literals few_facts few_terms names_theorems few_blanks
+unfolding is_plain placed_steps has_well_formed_literals few_facts few_terms names_theorems few_blanks
 claim_parts known d i shown inner rest given goal r =
     let s = scope_of_names i.in_scope in
     let facts = i.facts + length shown in
@@ -351,8 +351,8 @@ claim_parts known d i shown inner rest given goal r =
     let pp = and_parts (is_plain inner) (is_plain rest) p.1 in
     let f = and_parts (are_over s shown) (list_all (line_fits (stated_by known)) (inside ++ after)) r.fitting in
     let ff = both_fit known inside after f.1 in
-    let g = and_parts (list_all is_well_formed shown) (has_good_literals inner && has_good_literals rest) r.good in
-    let gg = and_parts (has_good_literals inner) (has_good_literals rest) g.1 in
+    let g = and_parts (list_all is_well_formed shown) (has_well_formed_literals inner && has_well_formed_literals rest) r.good in
+    let gg = and_parts (has_well_formed_literals inner) (has_well_formed_literals rest) g.1 in
     let th = and_parts (names_theorems known inner) (names_theorems known rest) r.theorems in
     let bl = and_parts (few_blanks inner) (few_blanks rest) r.blanks in
     let n = and_parts (few_facts (stated_by known) i.facts s inner) (leb facts most_facts && few_facts (stated_by known) facts s rest) r.facts in
@@ -425,7 +425,7 @@ claim_rest known d i n shown inner rest given goal e r =
 
 claim_taken : (known : List TitledStatement) (d : TheoremParser) (i : Inside) (shown : List Lit) (inner rest : Script) (given : List Lit) (goal : Goal) → Ready known d i (Claim shown inner rest) given goal
     → (t : Taken known d (deep i (kind.Claim shown) 0) inner) → Taken known d (resume i t.last.lines (Claimed shown inner) shown) rest → Taken known d i (Claim shown inner rest)
-unfolding script_forms size depth
+unfolding script_raw_lines size depth
 claim_taken known d i shown inner rest given goal r t u =
     let p = claim_parts known d i shown inner rest given goal r in
     let begins = deep i (kind.Claim shown) 0 in
@@ -439,7 +439,7 @@ claim_taken known d i shown inner rest given goal r t u =
         lits_named i.in_scope shown r.order p.plain p.some,
         step_claim known d i shown r.order p.plain (omega (arith, r.few, at_least rest)) (omega (arith, r.shallow, deep_at_least inner)) few,
         refl,
-        runs_append known (Some (proving d begins)) (Some (proving d after)) (Some e) (script_forms known i.in_scope inner) (script_forms known i.in_scope rest)
+        runs_append known (Some (proving d begins)) (Some (proving d after)) (Some e) (script_raw_lines known i.in_scope inner) (script_raw_lines known i.in_scope rest)
             (t.runs (proving d after) (claim_closed d i t.last shown (steps_of inner) (close_of inner) inner (same_script inner p.plain_inner) p.facts p.terms) refl)
             (u.runs e (one_more d u.last i (Claimed shown inner) rest e h) done),
       );
@@ -447,35 +447,35 @@ claim_taken known d i shown inner rest given goal r t u =
 
 -- ---- a superposition
 
-pub record CopyParts (known : List TitledStatement) (i : Inside) (form : Superpose) (names : List (List ℕ)) (shown : List Lit) (inner rest : Script) (given : List Lit) (goal : Goal) : Type 0 where
-  pub good : GoodSuperpose i.in_scope form names shown
+pub record CopyParts (known : List TitledStatement) (i : Inside) (superposition : Superpose) (names : List (List ℕ)) (shown : List Lit) (inner rest : Script) (given : List Lit) (goal : Goal) : Type 0 where
+  pub good : GoodSuperpose i.in_scope superposition names shown
   pub few : few_objects (named i.in_scope superposing.sorts_copied names) ≡ Ok tt
   pub plain_inner : is_plain inner ≡ true
   pub plain_rest : is_plain rest ≡ true
-  pub fit_inner : list_all (line_fits (stated_by known)) (placed_steps (stated_by known) inner inner (scope_of_names (named i.in_scope superposing.sorts_copied names)) (joined_all given (superposing.gives_of_superposition form (scope_of_names i.in_scope))) (goal_of shown)) ≡ true
+  pub fit_inner : list_all (line_fits (stated_by known)) (placed_steps (stated_by known) inner inner (scope_of_names (named i.in_scope superposing.sorts_copied names)) (joined_all given (superposing.gives_of_superposition superposition (scope_of_names i.in_scope))) (goal_of shown)) ≡ true
   pub fit_rest : list_all (line_fits (stated_by known)) (placed_steps (stated_by known) rest rest (scope_of_names i.in_scope) (joined_all given shown) goal) ≡ true
-  pub good_inner : has_good_literals inner ≡ true
+  pub good_inner : has_well_formed_literals inner ≡ true
   pub theorems_inner : names_theorems known inner ≡ true
   pub blanks_inner : few_blanks inner ≡ true
-  pub good_rest : has_good_literals rest ≡ true
+  pub good_rest : has_well_formed_literals rest ≡ true
   pub theorems_rest : names_theorems known rest ≡ true
   pub blanks_rest : few_blanks rest ≡ true
-  pub facts_first : (copied i form names shown).facts ≤ most_facts
-  pub facts_inner : few_facts (stated_by known) (copied i form names shown).facts (scope_of_names (named i.in_scope superposing.sorts_copied names)) inner ≡ true
+  pub facts_first : (copied i superposition names shown).facts ≤ most_facts
+  pub facts_inner : few_facts (stated_by known) (copied i superposition names shown).facts (scope_of_names (named i.in_scope superposing.sorts_copied names)) inner ≡ true
   pub facts : i.facts + length shown ≤ most_facts
   pub facts_rest : few_facts (stated_by known) (i.facts + length shown) (scope_of_names i.in_scope) rest ≡ true
-  pub terms_first : (copied i form names shown).terms ≤ most_terms
-  pub terms_inner : few_terms (stated_by known) (copied i form names shown).terms (scope_of_names (named i.in_scope superposing.sorts_copied names)) inner ≡ true
+  pub terms_first : (copied i superposition names shown).terms ≤ most_terms
+  pub terms_inner : few_terms (stated_by known) (copied i superposition names shown).terms (scope_of_names (named i.in_scope superposing.sorts_copied names)) inner ≡ true
   pub terms : i.terms + count_monomials shown ≤ most_terms
   pub terms_rest : few_terms (stated_by known) (i.terms + count_monomials shown) (scope_of_names i.in_scope) rest ≡ true
 
-pub copy_parts : (known : List TitledStatement) (d : TheoremParser) (i : Inside) (form : Superpose) (names : List (List ℕ)) (shown : List Lit) (inner rest : Script) (given : List Lit) (goal : Goal) → Ready known d i (Superposed form names shown [] inner rest) given goal
-    → CopyParts known i form names shown inner rest given goal
-unfolding is_plain placed_steps NewNamesFit has_good_literals few_facts few_terms names_theorems few_blanks
-copy_parts known d i form names shown inner rest given goal r =
+pub copy_parts : (known : List TitledStatement) (d : TheoremParser) (i : Inside) (superposition : Superpose) (names : List (List ℕ)) (shown : List Lit) (inner rest : Script) (given : List Lit) (goal : Goal) → Ready known d i (Superposed superposition names shown [] inner rest) given goal
+    → CopyParts known i superposition names shown inner rest given goal
+unfolding is_plain placed_steps NewNamesFit has_well_formed_literals few_facts few_terms names_theorems few_blanks
+copy_parts known d i superposition names shown inner rest given goal r =
     let s = scope_of_names i.in_scope in
     let t = grown s superposing.sorts_copied in
-    let gives = superposing.gives_of_superposition form s in
+    let gives = superposing.gives_of_superposition superposition s in
     let begun = joined_all given gives in
     let scope : t ≡ scope_of_names (named i.in_scope superposing.sorts_copied names) = named_scope i.in_scope superposing.sorts_copied names r.new_names.1 in
     let n = i.facts + length gives in
@@ -487,11 +487,11 @@ copy_parts known d i form names shown inner rest given goal r =
     let p = and_parts (list_all is_name names) (ltb 0 (length shown) && (is_plain inner && is_plain rest)) r.plain in
     let q = and_parts (ltb 0 (length shown)) (is_plain inner && is_plain rest) p.1 in
     let pp = and_parts (is_plain inner) (is_plain rest) q.1 in
-    let f = and_parts (superposing.fits_superposition form s && are_over s shown) (list_all (line_fits (stated_by known)) (inside ++ after)) r.fitting in
-    let fs = and_parts (superposing.fits_superposition form s) (are_over s shown) f.0 in
+    let f = and_parts (superposing.fits_superposition superposition s && are_over s shown) (list_all (line_fits (stated_by known)) (inside ++ after)) r.fitting in
+    let fs = and_parts (superposing.fits_superposition superposition s) (are_over s shown) f.0 in
     let ff = both_fit known inside after f.1 in
-    let g = and_parts (list_all is_well_formed shown) (has_good_literals inner && has_good_literals rest) r.good in
-    let gg = and_parts (has_good_literals inner) (has_good_literals rest) g.1 in
+    let g = and_parts (list_all is_well_formed shown) (has_well_formed_literals inner && has_well_formed_literals rest) r.good in
+    let gg = and_parts (has_well_formed_literals inner) (has_well_formed_literals rest) g.1 in
     let th = and_parts (names_theorems known inner) (names_theorems known rest) r.theorems in
     let bl = and_parts (few_blanks inner) (few_blanks rest) r.blanks in
     let a = and_parts (leb n most_facts) (few_facts (stated_by known) n t inner && (leb facts most_facts && few_facts (stated_by known) facts s rest)) r.facts in
@@ -523,11 +523,11 @@ copy_parts known d i form names shown inner rest given goal r =
       terms_rest = bb.1;
     }
 
-pub copy_inner : (known : List TitledStatement) (d : TheoremParser) (i : Inside) (form : Superpose) (names : List (List ℕ)) (shown : List Lit) (inner rest : Script) (given : List Lit) (goal : Goal) → Ready known d i (Superposed form names shown [] inner rest) given goal
-    → Ready known d (copied i form names shown) inner (joined_all given (superposing.gives_of_superposition form (scope_of_names i.in_scope))) (goal_of shown)
+pub copy_inner : (known : List TitledStatement) (d : TheoremParser) (i : Inside) (superposition : Superpose) (names : List (List ℕ)) (shown : List Lit) (inner rest : Script) (given : List Lit) (goal : Goal) → Ready known d i (Superposed superposition names shown [] inner rest) given goal
+    → Ready known d (copied i superposition names shown) inner (joined_all given (superposing.gives_of_superposition superposition (scope_of_names i.in_scope))) (goal_of shown)
 unfolding NewNamesFit size depth
-copy_inner known d i form names shown inner rest given goal r =
-    let p = copy_parts known d i form names shown inner rest given goal r in
+copy_inner known d i superposition names shown inner rest given goal r =
+    let p = copy_parts known d i superposition names shown inner rest given goal r in
     record {
       order = named_in_order i.in_scope superposing.sorts_copied names r.order p.good.named p.good.free;
       goal_sorts = refl;
@@ -543,11 +543,11 @@ copy_inner known d i form names shown inner rest given goal r =
       terms = p.terms_inner;
     }
 
-pub copy_rest : (known : List TitledStatement) (d : TheoremParser) (i : Inside) (n : ℕ) (form : Superpose) (names : List (List ℕ)) (shown : List Lit) (inner rest : Script) (given : List Lit) (goal : Goal) → n ≡ i.lines + 1 + size inner
-    → Ready known d i (Superposed form names shown [] inner rest) given goal → Ready known d (resume i n (Copied form names shown [] inner) shown) rest (joined_all given shown) goal
+pub copy_rest : (known : List TitledStatement) (d : TheoremParser) (i : Inside) (n : ℕ) (superposition : Superpose) (names : List (List ℕ)) (shown : List Lit) (inner rest : Script) (given : List Lit) (goal : Goal) → n ≡ i.lines + 1 + size inner
+    → Ready known d i (Superposed superposition names shown [] inner rest) given goal → Ready known d (resume i n (Copied superposition names shown [] inner) shown) rest (joined_all given shown) goal
 unfolding NewNamesFit size depth
-copy_rest known d i n form names shown inner rest given goal e r =
-    let p = copy_parts known d i form names shown inner rest given goal r in
+copy_rest known d i n superposition names shown inner rest given goal e r =
+    let p = copy_parts known d i superposition names shown inner rest given goal r in
     record {
       order = r.order;
       goal_sorts = r.goal_sorts;
@@ -563,24 +563,24 @@ copy_rest known d i n form names shown inner rest given goal e r =
       terms = p.terms_rest;
     }
 
-copy_taken : (known : List TitledStatement) (d : TheoremParser) (i : Inside) (form : Superpose) (names : List (List ℕ)) (shown : List Lit) (inner rest : Script) (given : List Lit) (goal : Goal) → Ready known d i (Superposed form names shown [] inner rest) given goal
-    → (t : Taken known d (copied i form names shown) inner) → Taken known d (resume i t.last.lines (Copied form names shown [] inner) shown) rest → Taken known d i (Superposed form names shown [] inner rest)
-unfolding script_forms size depth
-copy_taken known d i form names shown inner rest given goal r t u =
-    let p = copy_parts known d i form names shown inner rest given goal r in
-    let begins = copied i form names shown in
-    let after = resume i t.last.lines (Copied form names shown [] inner) shown in
+copy_taken : (known : List TitledStatement) (d : TheoremParser) (i : Inside) (superposition : Superpose) (names : List (List ℕ)) (shown : List Lit) (inner rest : Script) (given : List Lit) (goal : Goal) → Ready known d i (Superposed superposition names shown [] inner rest) given goal
+    → (t : Taken known d (copied i superposition names shown) inner) → Taken known d (resume i t.last.lines (Copied superposition names shown [] inner) shown) rest → Taken known d i (Superposed superposition names shown [] inner rest)
+unfolding script_raw_lines size depth
+copy_taken known d i superposition names shown inner rest given goal r t u =
+    let p = copy_parts known d i superposition names shown inner rest given goal r in
+    let begins = copied i superposition names shown in
+    let after = resume i t.last.lines (Copied superposition names shown [] inner) shown in
     record {
       last = u.last;
       lines = omega (arith, t.lines, u.lines);
       runs = λ e h done. (
         proving d begins,
-        superpose_named i.in_scope form names shown p.good,
-        step_superpose known d i form names shown p.good p.few (omega (arith, r.few, at_least rest)) (omega (arith, r.shallow, deep_at_least inner)) p.facts_first p.terms_first,
+        superpose_named i.in_scope superposition names shown p.good,
+        step_superpose known d i superposition names shown p.good p.few (omega (arith, r.few, at_least rest)) (omega (arith, r.shallow, deep_at_least inner)) p.facts_first p.terms_first,
         refl,
-        runs_append known (Some (proving d begins)) (Some (proving d after)) (Some e) (script_forms known begins.in_scope inner) (script_forms known i.in_scope rest)
-            (t.runs (proving d after) (superpose_closed d i t.last form names shown (steps_of inner) (close_of inner) inner (same_script inner p.plain_inner) p.facts p.terms) refl)
-            (u.runs e (one_more d u.last i (Copied form names shown [] inner) rest e h) done),
+        runs_append known (Some (proving d begins)) (Some (proving d after)) (Some e) (script_raw_lines known begins.in_scope inner) (script_raw_lines known i.in_scope rest)
+            (t.runs (proving d after) (superpose_closed d i t.last superposition names shown (steps_of inner) (close_of inner) inner (same_script inner p.plain_inner) p.facts p.terms) refl)
+            (u.runs e (one_more d u.last i (Copied superposition names shown [] inner) rest e h) done),
       );
     }
 
@@ -595,10 +595,10 @@ pub record CasesParts (known : List TitledStatement) (i : Inside) (l : Lit) (one
   pub plain : PlainLit i.in_scope l
   pub fit_first : list_all (line_fits (stated_by known)) (placed_steps (stated_by known) one one (scope_of_names i.in_scope) (joined given l) goal) ≡ true
   pub fit_second : list_all (line_fits (stated_by known)) (placed_steps (stated_by known) two two (scope_of_names i.in_scope) (joined given (negation l)) goal) ≡ true
-  pub good_first : has_good_literals one ≡ true
+  pub good_first : has_well_formed_literals one ≡ true
   pub theorems_first : names_theorems known one ≡ true
   pub blanks_first : few_blanks one ≡ true
-  pub good_second : has_good_literals two ≡ true
+  pub good_second : has_well_formed_literals two ≡ true
   pub theorems_second : names_theorems known two ≡ true
   pub blanks_second : few_blanks two ≡ true
   pub facts : i.facts + 1 ≤ most_facts
@@ -609,7 +609,7 @@ pub record CasesParts (known : List TitledStatement) (i : Inside) (l : Lit) (one
   pub terms_second : few_terms (stated_by known) (i.terms + monomials l.atom) (scope_of_names i.in_scope) two ≡ true
 
 pub cases_parts : (known : List TitledStatement) (d : TheoremParser) (i : Inside) (l : Lit) (one two : Script) (given : List Lit) (goal : Goal) → Ready known d i (Cases l one two) given goal → CasesParts known i l one two given goal
-unfolding is_plain placed_steps has_good_literals few_facts few_terms names_theorems few_blanks
+unfolding is_plain placed_steps has_well_formed_literals few_facts few_terms names_theorems few_blanks
 cases_parts known d i l one two given goal r =
     let s = scope_of_names i.in_scope in
     let n = i.facts + 1 in
@@ -619,8 +619,8 @@ cases_parts known d i l one two given goal r =
     let p = and_parts (is_plain one) (is_plain two) r.plain in
     let f = and_parts (all_in_scope s l) (list_all (line_fits (stated_by known)) (in_one ++ in_two)) r.fitting in
     let ff = both_fit known in_one in_two f.1 in
-    let g = and_parts (is_well_formed l) (has_good_literals one && has_good_literals two) r.good in
-    let gg = and_parts (has_good_literals one) (has_good_literals two) g.1 in
+    let g = and_parts (is_well_formed l) (has_well_formed_literals one && has_well_formed_literals two) r.good in
+    let gg = and_parts (has_well_formed_literals one) (has_well_formed_literals two) g.1 in
     let th = and_parts (names_theorems known one) (names_theorems known two) r.theorems in
     let bl = and_parts (few_blanks one) (few_blanks two) r.blanks in
     let a = and_parts (leb n most_facts) (few_facts (stated_by known) n s one && few_facts (stated_by known) n s two) r.facts in
@@ -688,7 +688,7 @@ cases_second known d i n l one two given goal e r =
 
 cases_taken : (known : List TitledStatement) (d : TheoremParser) (i : Inside) (l : Lit) (one two : Script) (given : List Lit) (goal : Goal) → Ready known d i (Cases l one two) given goal
     → (t : Taken known d (opens i l) one) → Taken known d (second i t.last.lines l one) two → Taken known d i (Cases l one two)
-unfolding script_forms size depth
+unfolding script_raw_lines size depth
 cases_taken known d i l one two given goal r t u =
     let p = cases_parts known d i l one two given goal r in
     let between = second i t.last.lines l one in
@@ -700,7 +700,7 @@ cases_taken known d i l one two given goal r t u =
         lit_named i.in_scope l r.order p.plain.within p.plain.good,
         step_cases known d i l r.order p.plain (omega (arith, r.few, at_least one)) (omega (arith, r.shallow, deep_at_least one)) p.facts p.terms,
         refl,
-        runs_append known (Some (proving d (opens i l))) (Some (splitting d between)) (Some e) (script_forms known i.in_scope one) (else_form ∷ script_forms known i.in_scope two)
+        runs_append known (Some (proving d (opens i l))) (Some (splitting d between)) (Some e) (script_raw_lines known i.in_scope one) (else_raw_line ∷ script_raw_lines known i.in_scope two)
             (t.runs (splitting d between) (first_closed d i t.last l (steps_of one) (close_of one) one (same_script one p.plain_first)) refl) (
               proving d between,
               tt,
@@ -717,7 +717,7 @@ abbrev pub one_line : Inside → Inside
 one_line i = record i { lines = i.lines + 1 }
 
 qed_taken : (known : List TitledStatement) (d : TheoremParser) (i : Inside) (os : List Obj) (given : List Lit) (goal : Goal) → Ready known d i (Qed os []) given goal → Taken known d i (Qed os [])
-unfolding script_forms placed_steps size
+unfolding script_raw_lines placed_steps size
 qed_taken known d i os given goal r =
     let s = scope_of_names i.in_scope in
     let q = (and_parts (are_of_sorts s (sorts_of goal.made) os) true r.fitting).0 in
@@ -735,7 +735,7 @@ qed_taken known d i os given goal r =
     }
 
 contradiction_taken : (known : List TitledStatement) (d : TheoremParser) (i : Inside) (given : List Lit) (goal : Goal) → Ready known d i (Contradiction None) given goal → Taken known d i (Contradiction None)
-unfolding script_forms size
+unfolding script_raw_lines size
 contradiction_taken known d i given goal r = record {
   last = one_line i;
   lines = refl;
@@ -749,9 +749,9 @@ unfolding is_plain
 run_script known d i (Cite b rest) given goal r = cite_taken known d i b rest given goal r (run_script known d (after_step i (Cited b) 1) rest (joined given b.lit) goal (cite_ready known d i b rest given goal r))
 run_script known d i (Hence l None rest) given goal r = hence_taken known d i l rest given goal r (run_script known d (inferred i l) rest (joined given l) goal (hence_ready known d i l rest given goal r))
 run_script known d i (Hence l (Some cert) rest) given goal r = absurd (no_cert r.plain)
-run_script known d i (Make form names [] rest) given goal r =
-    make_taken known d i form names rest given goal r (run_script known d (constructed i form names) rest (joined_all given (gives_of_construction form (scope_of_names i.in_scope))) goal (make_ready known d i form names rest given goal r))
-run_script known d i (Make form names (c ∷ cs) rest) given goal r = absurd (no_cert r.plain)
+run_script known d i (Make construction names [] rest) given goal r =
+    make_taken known d i construction names rest given goal r (run_script known d (constructed i construction names) rest (joined_all given (gives_of_construction construction (scope_of_names i.in_scope))) goal (make_ready known d i construction names rest given goal r))
+run_script known d i (Make construction names (c ∷ cs) rest) given goal r = absurd (no_cert r.plain)
 run_script known d i (Apply theorem args names [] rest) given goal r =
     let p = apply_parts known d i theorem args names rest given goal r in
     let t = theorem_of known theorem in
@@ -761,11 +761,11 @@ run_script known d i (Claim shown inner rest) given goal r =
     let t = run_script known d (deep i (kind.Claim shown) 0) inner given (goal_of shown) (claim_inner known d i shown inner rest given goal r) in
     let u = run_script known d (resume i t.last.lines (Claimed shown inner) shown) rest (joined_all given shown) goal (claim_rest known d i t.last.lines shown inner rest given goal t.lines r) in
     claim_taken known d i shown inner rest given goal r t u
-run_script known d i (Superposed form names shown [] inner rest) given goal r =
-    let t = run_script known d (copied i form names shown) inner (joined_all given (superposing.gives_of_superposition form (scope_of_names i.in_scope))) (goal_of shown) (copy_inner known d i form names shown inner rest given goal r) in
-    let u = run_script known d (resume i t.last.lines (Copied form names shown [] inner) shown) rest (joined_all given shown) goal (copy_rest known d i t.last.lines form names shown inner rest given goal t.lines r) in
-    copy_taken known d i form names shown inner rest given goal r t u
-run_script known d i (Superposed form names shown (c ∷ cs) inner rest) given goal r = absurd (no_cert r.plain)
+run_script known d i (Superposed superposition names shown [] inner rest) given goal r =
+    let t = run_script known d (copied i superposition names shown) inner (joined_all given (superposing.gives_of_superposition superposition (scope_of_names i.in_scope))) (goal_of shown) (copy_inner known d i superposition names shown inner rest given goal r) in
+    let u = run_script known d (resume i t.last.lines (Copied superposition names shown [] inner) shown) rest (joined_all given shown) goal (copy_rest known d i t.last.lines superposition names shown inner rest given goal t.lines r) in
+    copy_taken known d i superposition names shown inner rest given goal r t u
+run_script known d i (Superposed superposition names shown (c ∷ cs) inner rest) given goal r = absurd (no_cert r.plain)
 run_script known d i (Qed os []) given goal r = qed_taken known d i os given goal r
 run_script known d i (Qed os (c ∷ cs)) given goal r = absurd (no_cert r.plain)
 run_script known d i (Contradiction None) given goal r = contradiction_taken known d i given goal r

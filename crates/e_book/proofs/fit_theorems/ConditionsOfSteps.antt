@@ -21,7 +21,7 @@ use Rattle.e_literal.specs.Scopes.{grown, next_objects, are_of_sorts}
 use Rattle.e_literal.specs.WellFormed.{is_well_formed}
 use Rattle.e_literal.specs.Facts.{has, joined, joined_all}
 use Rattle.e_literal.specs.Rename.{mono_at, atom_at, number_at, renamed, image_in, paired}
-use Rattle.e_literal.specs.Use.{StatementView, is_statement, are_arguments, image, gives_of_use}
+use Rattle.e_literal.specs.Use.{StatementView, is_statement, are_arguments, image_in_use, gives_of_use}
 use Rattle.e_literal.proofs.WithImages.{is_moved_in}
 use Rattle.e_literal.proofs.GrownScopes.{sorts_next}
 use Rattle.e_literal.proofs.Booleans.{all_both}
@@ -30,7 +30,7 @@ use Rattle.e_clause.specs.Instance.{Inst}
 use Rattle.e_clause.specs.RuleKinds.{is_diagram_rule}
 use Rattle.e_clause.specs.Assignment.{terms_of_atom, terms_of_lits}
 use Rattle.e_clause.specs.LimitedFacts.{is_well_formed_in, are_well_formed_in, are_limited_facts}
-use Rattle.e_construct.specs.Construct.{sorts_made, gives_of_construction, fits_construction as fits_form}
+use Rattle.e_construct.specs.Construct.{sorts_made, gives_of_construction, fits_construction}
 use Rattle.e_construct.specs.Superposing as superposing
 use Rattle.e_construct.proofs.Moving.{is_plain, moved_lit, Within, in_more, every, grows}
 use Rattle.e_construct.proofs.Given.{needs_good, gives_good, gives_plain, superposition_needs_good, superposition_gives}
@@ -45,7 +45,7 @@ use Rattle.e_deriv.specs.Steps.{are_over, is_citation}
 use Rattle.e_deriv.specs.Fitting.{LitsFit}
 use Rattle.e_line.specs.Limits.{most_terms, monomials, count_monomials}
 use Rattle.e_names.specs.Fits.{is_diagram_lit}
-use Rattle.e_book.specs.Fits.{has_good_literals, few_terms}
+use Rattle.e_book.specs.Fits.{has_well_formed_literals, few_terms}
 use Rattle.e_book.proofs.fit_theorems.FittingScripts.{line_fits}
 use Rattle.e_names.proofs.literals.ShortLits.{count_first}
 use Rattle.e_names.proofs.resolution.LitLookups.{diagram_is_well_formed}
@@ -193,17 +193,17 @@ good_gifts bs k s args facts n states lt fit g =
     let given = gives_of_use t args s in
     let start : GoodFacts u facts n = record { good = good_more s u (grows s t.made) facts g.good; few = g.few } in
     let next = all_joined u facts given n start (gives_of_use_good t args s (stated_at bs k states lt) fit) in
-    record { good = next.good; few = omega (arith, next.few, moved_count (image t args s) t.shown) }
+    record { good = next.good; few = omega (arith, next.few, moved_count (image_in_use t args s) t.shown) }
 
 -- Where the forms of the lines fit, the literals do, whatever the blanks are filled with. The forms are those of the script with
 -- other fillings and other facts, which do not matter to them.
 pub lines_good : (bs : List StatementView) → list_all is_statement bs ≡ true → (before : Scope) (sorts : List Sort) (shown : List Lit) → GoodGoal before sorts shown → (script g f : Script) (s : Scope) (other facts : List Lit) (n : ℕ)
-    → GoodFacts s facts n → Within before s → n ≤ most_terms → few_terms bs n s script ≡ true → has_good_literals script ≡ true
+    → GoodFacts s facts n → Within before s → n ≤ most_terms → few_terms bs n s script ≡ true → has_well_formed_literals script ≡ true
     → list_all (line_fits bs) (placed_steps bs script g s other (goal_for before sorts shown)) ≡ true → LitsFit bs (placed_steps bs script f s facts (goal_for before sorts shown))
-unfolding placed_steps has_good_literals few_terms
+unfolding placed_steps has_well_formed_literals few_terms
 lines_good bs states before sorts shown goal (Cite by rest) g f s other facts n good w le few h fit =
     let p = and_parts (is_citation s by) (list_all (line_fits bs) (placed_steps bs rest (rest_of g) s (joined other by.lit) (goal_for before sorts shown))) fit in
-    let q = and_parts (is_diagram_lit by.lit) (has_good_literals rest) h in
+    let q = and_parts (is_diagram_lit by.lit) (has_well_formed_literals rest) h in
     let lit : is_well_formed_in s by.lit ≡ true = rw (cited_in_scope s by p.0, diagram_is_well_formed by.lit q.0) refl in
     let next = good_joined s facts by.lit n good lit in
     let same : GoodFacts s (joined facts by.lit) n = record { good = next.good; few = omega (arith, next.few, no_monomials by.lit.atom q.0) } in
@@ -211,7 +211,7 @@ lines_good bs states before sorts shown goal (Cite by rest) g f s other facts n 
 lines_good bs states before sorts shown goal (Hence lit cert rest) g f s other facts n good w le few h fit =
     let m = n + monomials lit.atom in
     let p = and_parts (all_in_scope s lit) (list_all (line_fits bs) (placed_steps bs rest (rest_of g) s (joined other lit) (goal_for before sorts shown))) fit in
-    let q = and_parts (is_well_formed lit) (has_good_literals rest) h in
+    let q = and_parts (is_well_formed lit) (has_well_formed_literals rest) h in
     let r = room m (few_terms bs m s rest) few in
     let here : is_well_formed_in s lit ≡ true = rw (p.0, q.0) refl in (
       facts_fit s facts n good le,
@@ -220,18 +220,18 @@ lines_good bs states before sorts shown goal (Hence lit cert rest) g f s other f
         lines_good bs states before sorts shown goal rest (rest_of g) (rest_of f) s (joined other lit) (joined facts lit) m (good_joined s facts lit n good here) w r.0 r.1 q.1 p.1,
       ),
     )
-lines_good bs states before sorts shown goal (Make form names certs rest) g f s other facts n good w le few h fit =
-    let t = grown s (sorts_made form) in
-    let more = joined_all facts (gives_of_construction form s) in
-    let p = and_parts (fits_form form s) (list_all (line_fits bs) (placed_steps bs rest (rest_of g) t (joined_all other (gives_of_construction form s)) (goal_for before sorts shown))) fit in
-    let larger : Within s t = grows s (sorts_made form) in
+lines_good bs states before sorts shown goal (Make construction names certs rest) g f s other facts n good w le few h fit =
+    let t = grown s (sorts_made construction) in
+    let more = joined_all facts (gives_of_construction construction s) in
+    let p = and_parts (fits_construction construction s) (list_all (line_fits bs) (placed_steps bs rest (rest_of g) t (joined_all other (gives_of_construction construction s)) (goal_for before sorts shown))) fit in
+    let larger : Within s t = grows s (sorts_made construction) in
     let start : GoodFacts t facts n = record { good = good_more s t larger facts good.good; few = good.few } in
-    let next = all_joined t facts (gives_of_construction form s) n start (gives_good form s p.0) in
-    let same : GoodFacts t more n = record { good = next.good; few = omega (arith, next.few, plain_count (gives_of_construction form s) (gives_plain form s p.0)) } in (
+    let next = all_joined t facts (gives_of_construction construction s) n start (gives_good construction s p.0) in
+    let same : GoodFacts t more n = record { good = next.good; few = omega (arith, next.few, plain_count (gives_of_construction construction s) (gives_plain construction s p.0)) } in (
       facts_fit s facts n good le,
       λ is. (
-        needs_good form s p.0,
-        lines_good bs states before sorts shown goal rest (rest_of g) (rest_of f) t (joined_all other (gives_of_construction form s)) more n same (λ sort. omega (arith, w sort, larger sort)) le few h p.1,
+        needs_good construction s p.0,
+        lines_good bs states before sorts shown goal rest (rest_of g) (rest_of f) t (joined_all other (gives_of_construction construction s)) more n same (λ sort. omega (arith, w sort, larger sort)) le few h p.1,
       ),
     )
 lines_good bs states before sorts shown goal (Apply theorem pattern names certs rest) g f s other facts n good w le few h fit =
@@ -257,8 +257,8 @@ lines_good bs states before sorts shown goal (Claim claimed inner rest) g f s ot
     let after = placed_steps bs rest (rest_of g) s (joined_all other claimed) (goal_for before sorts shown) in
     let p = and_parts (are_over s claimed) (list_all (line_fits bs) (inside ++ after)) fit in
     let q = parted (line_fits bs) inside after p.1 in
-    let l = and_parts (list_all is_well_formed claimed) (has_good_literals inner && has_good_literals rest) h in
-    let k = and_parts (has_good_literals inner) (has_good_literals rest) l.1 in
+    let l = and_parts (list_all is_well_formed claimed) (has_well_formed_literals inner && has_well_formed_literals rest) h in
+    let k = and_parts (has_well_formed_literals inner) (has_well_formed_literals rest) l.1 in
     let r = and_parts (few_terms bs n s inner) (leb m most_terms && few_terms bs m s rest) few in
     let v = room m (few_terms bs m s rest) r.1 in
     let next = all_joined s facts claimed n good (two_good s claimed p.0 l.0) in
@@ -271,29 +271,29 @@ lines_good bs states before sorts shown goal (Claim claimed inner rest) g f s ot
             (lines_good bs states before sorts shown goal rest (rest_of g) (rest_of f) s (joined_all other claimed) (joined_all facts claimed) m next w v.0 v.1 k.1 q.1),
       ),
     )
-lines_good bs states before sorts shown goal (Superposed form names copied certs inner rest) g f s other facts n good w le few h fit =
+lines_good bs states before sorts shown goal (Superposed superposition names copied certs inner rest) g f s other facts n good w le few h fit =
     let t = grown s superposing.sorts_copied in
-    let given = superposing.gives_of_superposition form s in
+    let given = superposing.gives_of_superposition superposition s in
     let i = n + count_monomials given in
     let m = n + count_monomials copied in
     let inside = placed_steps bs inner (inner_of g) t (joined_all other given) (goal_for s [] copied) in
     let after = placed_steps bs rest (rest_of g) s (joined_all other copied) (goal_for before sorts shown) in
-    let p = and_parts (superposing.fits_superposition form s && are_over s copied) (list_all (line_fits bs) (inside ++ after)) fit in
-    let o = and_parts (superposing.fits_superposition form s) (are_over s copied) p.0 in
+    let p = and_parts (superposing.fits_superposition superposition s && are_over s copied) (list_all (line_fits bs) (inside ++ after)) fit in
+    let o = and_parts (superposing.fits_superposition superposition s) (are_over s copied) p.0 in
     let q = parted (line_fits bs) inside after p.1 in
-    let l = and_parts (list_all is_well_formed copied) (has_good_literals inner && has_good_literals rest) h in
-    let k = and_parts (has_good_literals inner) (has_good_literals rest) l.1 in
+    let l = and_parts (list_all is_well_formed copied) (has_well_formed_literals inner && has_well_formed_literals rest) h in
+    let k = and_parts (has_well_formed_literals inner) (has_well_formed_literals rest) l.1 in
     let a = room i (few_terms bs i t inner && (leb m most_terms && few_terms bs m s rest)) few in
     let r = and_parts (few_terms bs i t inner) (leb m most_terms && few_terms bs m s rest) a.1 in
     let v = room m (few_terms bs m s rest) r.1 in
     let larger : Within s t = grows s superposing.sorts_copied in
     let start : GoodFacts t facts n = record { good = good_more s t larger facts good.good; few = good.few } in
-    let first = all_joined t facts given n start (superposition_gives form s o.0) in
+    let first = all_joined t facts given n start (superposition_gives superposition s o.0) in
     let next = all_joined s facts copied n good (two_good s copied o.1 l.0) in
     let own : GoodGoal s [] copied = record { within = o.1; good = l.0 } in (
       facts_fit s facts n good le,
       λ is. (
-        superposition_needs_good form s o.0,
+        superposition_needs_good superposition s o.0,
         both_parts bs (placed_steps bs inner (inner_of f) t (joined_all facts given) (goal_for s [] copied)) (placed_steps bs rest (rest_of f) s (joined_all facts copied) (goal_for before sorts shown))
             (lines_good bs states s [] copied own inner (inner_of g) (inner_of f) t (joined_all other given) (joined_all facts given) i first larger a.0 r.0 k.0 q.0)
             (lines_good bs states before sorts shown goal rest (rest_of g) (rest_of f) s (joined_all other copied) (joined_all facts copied) m next w v.0 v.1 k.1 q.1),
@@ -310,8 +310,8 @@ lines_good bs states before sorts shown goal (Cases lit first second) g f s othe
     let two = placed_steps bs second (rest_of g) s (joined other (negation lit)) (goal_for before sorts shown) in
     let p = and_parts (all_in_scope s lit) (list_all (line_fits bs) (one ++ two)) fit in
     let q = parted (line_fits bs) one two p.1 in
-    let l = and_parts (is_well_formed lit) (has_good_literals first && has_good_literals second) h in
-    let k = and_parts (has_good_literals first) (has_good_literals second) l.1 in
+    let l = and_parts (is_well_formed lit) (has_well_formed_literals first && has_well_formed_literals second) h in
+    let k = and_parts (has_well_formed_literals first) (has_well_formed_literals second) l.1 in
     let a = room m (few_terms bs m s first && few_terms bs m s second) few in
     let r = and_parts (few_terms bs m s first) (few_terms bs m s second) a.1 in
     let here : is_well_formed_in s lit ≡ true = rw (p.0, l.0) refl in (

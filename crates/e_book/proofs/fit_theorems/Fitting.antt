@@ -60,11 +60,11 @@ small_scopes : (bs : List StatementView) (script f : Script) (ns : Names) (facts
 unfolding placed_steps NewNamesFit
 small_scopes bs (Cite by rest) f ns facts goal few fit = and_from _ _ (few_is_small ns few) (small_scopes bs rest (rest_of f) ns (joined facts by.lit) goal few fit)
 small_scopes bs (Hence lit cert rest) f ns facts goal few fit = and_from _ _ (few_is_small ns few) (small_scopes bs rest (rest_of f) ns (joined facts lit) goal few fit)
-small_scopes bs (Make form names certs rest) f ns facts goal few fit =
+small_scopes bs (Make construction names certs rest) f ns facts goal few fit =
     let s = scope_of_names ns in
-    let after = named ns (sorts_made form) names in
-    let more = joined_all facts (gives_of_construction form s) in
-    let scopes : grown s (sorts_made form) ≡ scope_of_names after = named_scope ns (sorts_made form) names fit.1 in
+    let after = named ns (sorts_made construction) names in
+    let more = joined_all facts (gives_of_construction construction s) in
+    let scopes : grown s (sorts_made construction) ≡ scope_of_names after = named_scope ns (sorts_made construction) names fit.1 in
     and_from _ _ (few_is_small ns few)
     (subst (λ (z : Scope). list_all is_small_line (placed_steps bs rest (rest_of f) z more goal) ≡ true) (sym scopes) (small_scopes bs rest (rest_of f) after more goal (few_named after fit.2) fit.3))
 small_scopes bs (Apply theorem args names certs rest) f ns facts goal few fit =
@@ -79,10 +79,10 @@ small_scopes bs (Claim shown inner rest) f ns facts goal few fit =
     and_from _ _ (few_is_small ns few)
     (all_both is_small_line (placed_steps bs inner (inner_of f) (scope_of_names ns) facts (goal_of shown)) _ (small_scopes bs inner (inner_of f) ns facts (goal_of shown) few fit.0)
     (small_scopes bs rest (rest_of f) ns (joined_all facts shown) goal few fit.1))
-small_scopes bs (Superposed form names shown certs inner rest) f ns facts goal few fit =
+small_scopes bs (Superposed superposition names shown certs inner rest) f ns facts goal few fit =
     let s = scope_of_names ns in
     let after = named ns superposing.sorts_copied names in
-    let more = joined_all facts (superposing.gives_of_superposition form s) in
+    let more = joined_all facts (superposing.gives_of_superposition superposition s) in
     let scopes : grown s superposing.sorts_copied ≡ scope_of_names after = named_scope ns superposing.sorts_copied names fit.1 in
     let inside : list_all is_small_line (placed_steps bs inner (inner_of f) (grown s superposing.sorts_copied) more (goal_of shown)) ≡ true =
     subst (λ (z : Scope). list_all is_small_line (placed_steps bs inner (inner_of f) z more (goal_of shown)) ≡ true) (sym scopes) (small_scopes bs inner (inner_of f) after more (goal_of shown) (few_named after fit.2) fit.3) in

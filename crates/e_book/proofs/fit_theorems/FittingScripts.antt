@@ -34,7 +34,7 @@ use Rattle.e_names.specs.Scope.{scope_of_names, fresh}
 use Rattle.e_names.specs.Applies.{count_blanks}
 use Rattle.e_book.specs.LineLimits.{few_objects}
 use Rattle.e_names.specs.Fits.{is_diagram_lit}
-use Rattle.e_book.specs.Fits.{NewNamesFit, few_facts, few_terms, few_blanks, has_good_literals}
+use Rattle.e_book.specs.Fits.{NewNamesFit, few_facts, few_terms, few_blanks, has_well_formed_literals}
 use Rattle.e_names.proofs.read_lines.Building.{GoodLet, named_scope}
 
 -- where a line stands: the earlier theorems, the names in scope, and how many literals are facts and how many monomials they have, repeats counted
@@ -56,8 +56,8 @@ with_facts at ls = spot at.before at.names (at.facts + length ls) (at.terms + co
 
 -- where the first line of a superposition's block stands
 abbrev pub with_copies : Spot → Superpose → List (List ℕ) → Spot
-with_copies at form names =
-    let given = superposing.gives_of_superposition form (scope_at at) in
+with_copies at superposition names =
+    let given = superposing.gives_of_superposition superposition (scope_at at) in
     spot at.before (named at.names superposing.sorts_copied names) (at.facts + length given) (at.terms + count_monomials given)
 
 -- where the first line of either block of a split stands
@@ -82,7 +82,7 @@ Makes goal sorts = map (λ (o : Obj). o.sort) goal.made ≡ sorts
 pub record ScriptFits (at : Spot) (sorts : List Sort) (level : ℕ) (script : Script) : Type 0 where
   pub forms : (filled : Script) (known : List Lit) (goal : Goal) → Makes goal sorts → list_all (line_fits at.before) (placed_steps at.before script filled (scope_at at) known goal) ≡ true
   pub new_names : NewNamesFit at.before at.names script
-  pub literals : has_good_literals script ≡ true
+  pub literals : has_well_formed_literals script ≡ true
   pub facts : few_facts at.before at.facts (scope_at at) script ≡ true
   pub terms : few_terms at.before at.terms (scope_at at) script ≡ true
   pub blanks : few_blanks script ≡ true
@@ -94,13 +94,13 @@ pub record ShownFit (at : Spot) (shown : List Lit) : Type 0 where
   pub good : list_all is_well_formed shown ≡ true
 
 -- a superposition: it fits, its new names are free, one for each copied point, and within the limits
-pub record CopyFits (at : Spot) (form : Superpose) (names : List (List ℕ)) : Type 0 where
-  pub fits : superposing.fits_superposition form (scope_at at) ≡ true
+pub record CopyFits (at : Spot) (superposition : Superpose) (names : List (List ℕ)) : Type 0 where
+  pub fits : superposing.fits_superposition superposition (scope_at at) ≡ true
   pub free : fresh at.names [] names ≡ Ok tt
   pub count : length names ≡ length superposing.sorts_copied
   pub objects : few_objects (named at.names superposing.sorts_copied names) ≡ Ok tt
-  pub facts : (with_copies at form names).facts ≤ most_facts
-  pub terms : (with_copies at form names).terms ≤ most_terms
+  pub facts : (with_copies at superposition names).facts ≤ most_facts
+  pub terms : (with_copies at superposition names).terms ≤ most_terms
 
 -- a use of an earlier theorem: it has one, objects or blanks for its declared objects, a new free name for each made one, and is
 -- within the limits
@@ -133,7 +133,7 @@ max_within k a b most h i = let m : max a b ≤ most - k = max-le (omega (arith,
 
 pub fits_cited : (at : Spot) (sorts : List Sort) (level : ℕ) (by : By) (rest : Script) → is_citation (scope_at at) by ≡ true → is_diagram_lit by.lit ≡ true → at.facts + 1 ≤ most_facts
     → ScriptFits (spot at.before at.names (at.facts + 1) at.terms) sorts level rest → ScriptFits at sorts level (Cite by rest)
-unfolding placed_steps NewNamesFit has_good_literals few_facts few_terms few_blanks depth
+unfolding placed_steps NewNamesFit has_well_formed_literals few_facts few_terms few_blanks depth
 fits_cited at sorts level by rest cited plain le r = record {
   forms = λ f known goal m. and_from _ _ cited (r.forms (rest_of f) (joined known by.lit) goal m);
   new_names = r.new_names;
@@ -146,7 +146,7 @@ fits_cited at sorts level by rest cited plain le r = record {
 
 pub fits_inferred : (at : Spot) (sorts : List Sort) (level : ℕ) (lit : Lit) (rest : Script) → all_in_scope (scope_at at) lit ≡ true → is_well_formed lit ≡ true → at.facts + 1 ≤ most_facts
     → at.terms + monomials lit.atom ≤ most_terms → ScriptFits (with_lit at lit) sorts level rest → ScriptFits at sorts level (Hence lit None rest)
-unfolding placed_steps NewNamesFit has_good_literals few_facts few_terms few_blanks depth
+unfolding placed_steps NewNamesFit has_well_formed_literals few_facts few_terms few_blanks depth
 fits_inferred at sorts level lit rest over good le lt r = record {
   forms = λ f known goal m. and_from _ _ over (r.forms (rest_of f) (joined known lit) goal m);
   new_names = r.new_names;
@@ -157,16 +157,16 @@ fits_inferred at sorts level lit rest over good le lt r = record {
   shallow = r.shallow;
 }
 
-pub fits_made : (at : Spot) (sorts : List Sort) (level : ℕ) (form : Construction) (names : List (List ℕ)) (certs : List Cert) (rest : Script) → GoodLet at.names form names
-    → few_objects (named at.names (sorts_made form) names) ≡ Ok tt → at.facts + length (gives_of_construction form (scope_at at)) ≤ most_facts
-    → ScriptFits (spot at.before (named at.names (sorts_made form) names) (at.facts + length (gives_of_construction form (scope_at at))) at.terms) sorts level rest → ScriptFits at sorts level (Make form names certs rest)
-unfolding placed_steps NewNamesFit has_good_literals few_facts few_terms few_blanks depth
-fits_made at sorts level form names certs rest g objects le r =
+pub fits_made : (at : Spot) (sorts : List Sort) (level : ℕ) (construction : Construction) (names : List (List ℕ)) (certs : List Cert) (rest : Script) → GoodLet at.names construction names
+    → few_objects (named at.names (sorts_made construction) names) ≡ Ok tt → at.facts + length (gives_of_construction construction (scope_at at)) ≤ most_facts
+    → ScriptFits (spot at.before (named at.names (sorts_made construction) names) (at.facts + length (gives_of_construction construction (scope_at at))) at.terms) sorts level rest → ScriptFits at sorts level (Make construction names certs rest)
+unfolding placed_steps NewNamesFit has_well_formed_literals few_facts few_terms few_blanks depth
+fits_made at sorts level construction names certs rest g objects le r =
     let s = scope_at at in
-    let n = at.facts + length (gives_of_construction form s) in
-    let scopes : grown s (sorts_made form) ≡ scope_of_names (named at.names (sorts_made form) names) = named_scope at.names (sorts_made form) names g.count in
+    let n = at.facts + length (gives_of_construction construction s) in
+    let scopes : grown s (sorts_made construction) ≡ scope_of_names (named at.names (sorts_made construction) names) = named_scope at.names (sorts_made construction) names g.count in
     record {
-      forms = λ f known goal m. let more = joined_all known (gives_of_construction form s) in
+      forms = λ f known goal m. let more = joined_all known (gives_of_construction construction s) in
           and_from _ _ g.fits (subst (λ (z : Scope). list_all (line_fits at.before) (placed_steps at.before rest (rest_of f) z more goal) ≡ true) (sym scopes) (r.forms (rest_of f) more goal m));
       new_names = (g.free, g.count, objects, r.new_names);
       literals = r.literals;
@@ -178,7 +178,7 @@ fits_made at sorts level form names certs rest g objects le r =
 
 pub fits_applied : (at : Spot) (sorts : List Sort) (level : ℕ) (theorem : ℕ) (args : List (Option Obj)) (names : List (List ℕ)) (certs : List Cert) (rest : Script) → UseFits at theorem args names
     → ScriptFits (with_use at theorem names) sorts level rest → ScriptFits at sorts level (Apply theorem args names certs rest)
-unfolding placed_steps NewNamesFit has_good_literals few_facts few_terms few_blanks depth
+unfolding placed_steps NewNamesFit has_well_formed_literals few_facts few_terms few_blanks depth
 fits_applied at sorts level theorem args names certs rest u r =
     let s = scope_at at in
     let t = theorem_at at.before theorem in
@@ -196,7 +196,7 @@ fits_applied at sorts level theorem args names certs rest u r =
 
 pub fits_claimed : (at : Spot) (sorts : List Sort) (level : ℕ) (shown : List Lit) (inner rest : Script) → ShownFit at shown → ScriptFits at [] (level + 1) inner
     → at.facts + length shown ≤ most_facts → at.terms + count_monomials shown ≤ most_terms → ScriptFits (with_facts at shown) sorts level rest → ScriptFits at sorts level (Claim shown inner rest)
-unfolding placed_steps NewNamesFit has_good_literals few_facts few_terms few_blanks depth
+unfolding placed_steps NewNamesFit has_well_formed_literals few_facts few_terms few_blanks depth
 fits_claimed at sorts level shown inner rest s i le lt r = record {
   forms = λ f known goal m. and_from _ _ s.over (all_both (line_fits at.before) (placed_steps at.before inner (inner_of f) (scope_at at) known (goal_of shown)) _ (i.forms (inner_of f) known (goal_of shown) refl) (r.forms (rest_of f) (joined_all known shown) goal m));
   new_names = (i.new_names, r.new_names);
@@ -207,13 +207,13 @@ fits_claimed at sorts level shown inner rest s i le lt r = record {
   shallow = max_within level (1 + depth inner) (depth rest) most_depth (omega (arith, i.shallow)) r.shallow;
 }
 
-pub fits_copied : (at : Spot) (sorts : List Sort) (level : ℕ) (form : Superpose) (names : List (List ℕ)) (shown : List Lit) (certs : List Cert) (inner rest : Script) → CopyFits at form names
-    → ShownFit at shown → ScriptFits (with_copies at form names) [] (level + 1) inner → at.facts + length shown ≤ most_facts → at.terms + count_monomials shown ≤ most_terms
-    → ScriptFits (with_facts at shown) sorts level rest → ScriptFits at sorts level (Superposed form names shown certs inner rest)
-unfolding placed_steps NewNamesFit has_good_literals few_facts few_terms few_blanks depth
-fits_copied at sorts level form names shown certs inner rest c s i le lt r =
+pub fits_copied : (at : Spot) (sorts : List Sort) (level : ℕ) (superposition : Superpose) (names : List (List ℕ)) (shown : List Lit) (certs : List Cert) (inner rest : Script) → CopyFits at superposition names
+    → ShownFit at shown → ScriptFits (with_copies at superposition names) [] (level + 1) inner → at.facts + length shown ≤ most_facts → at.terms + count_monomials shown ≤ most_terms
+    → ScriptFits (with_facts at shown) sorts level rest → ScriptFits at sorts level (Superposed superposition names shown certs inner rest)
+unfolding placed_steps NewNamesFit has_well_formed_literals few_facts few_terms few_blanks depth
+fits_copied at sorts level superposition names shown certs inner rest c s i le lt r =
     let scope = scope_at at in
-    let given = superposing.gives_of_superposition form scope in
+    let given = superposing.gives_of_superposition superposition scope in
     let n = at.facts + length given in
     let t = at.terms + count_monomials given in
     let scopes : grown scope superposing.sorts_copied ≡ scope_of_names (named at.names superposing.sorts_copied names) = named_scope at.names superposing.sorts_copied names c.count in
@@ -233,7 +233,7 @@ fits_copied at sorts level form names shown certs inner rest c s i le lt r =
 -- ---- closes
 
 pub fits_qed : (at : Spot) (sorts : List Sort) (level : ℕ) (objects : List Obj) → are_of_sorts (scope_at at) sorts objects ≡ true → level + 1 ≤ most_depth → ScriptFits at sorts level (Qed objects [])
-unfolding placed_steps NewNamesFit has_good_literals few_facts few_terms few_blanks depth
+unfolding placed_steps NewNamesFit has_well_formed_literals few_facts few_terms few_blanks depth
 fits_qed at sorts level objects h le = record {
   forms = λ f known goal m. and_from _ _ (subst (λ (l : List Sort). are_of_sorts (scope_at at) l objects ≡ true) (sym m) h) refl;
   new_names = tt;
@@ -245,7 +245,7 @@ fits_qed at sorts level objects h le = record {
 }
 
 pub fits_contradiction : (at : Spot) (sorts : List Sort) (level : ℕ) → level + 1 ≤ most_depth → ScriptFits at sorts level (Contradiction None)
-unfolding placed_steps NewNamesFit has_good_literals few_facts few_terms few_blanks depth
+unfolding placed_steps NewNamesFit has_well_formed_literals few_facts few_terms few_blanks depth
 fits_contradiction at sorts level le = record {
   forms = λ f known goal m. refl;
   new_names = tt;
@@ -258,7 +258,7 @@ fits_contradiction at sorts level le = record {
 
 pub fits_split : (at : Spot) (sorts : List Sort) (level : ℕ) (lit : Lit) (first second : Script) → SplitFits at lit → ScriptFits (with_lit at lit) sorts (level + 1) first
     → ScriptFits (with_lit at lit) sorts (level + 1) second → ScriptFits at sorts level (Cases lit first second)
-unfolding placed_steps NewNamesFit has_good_literals few_facts few_terms few_blanks depth
+unfolding placed_steps NewNamesFit has_well_formed_literals few_facts few_terms few_blanks depth
 fits_split at sorts level lit first second s a b = record {
   forms = λ f known goal m. and_from _ _ s.over
       (all_both (line_fits at.before) (placed_steps at.before first (inner_of f) (scope_at at) (joined known lit) goal) _ (a.forms (inner_of f) (joined known lit) goal m) (b.forms (rest_of f) (joined known (negation lit)) goal m));

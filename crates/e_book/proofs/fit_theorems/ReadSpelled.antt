@@ -60,7 +60,7 @@ use Rattle.e_book.proofs.parsers.Answered.{within_ok, passes, untaken, put_ok, a
 use Rattle.e_line.proofs.base.Bound.{bind_ok, ok_is, read_ok, each_length}
 use Rattle.e_book.proofs.parsers.ParserFits.{Good}
 use Rattle.e_book.proofs.parsers.ParserInvariants.{reading_fits, fits_read, no_title}
-use Rattle.e_names.proofs.read_lines.LiteralsOfForms.{Said, form_said}
+use Rattle.e_names.proofs.read_lines.LiteralsOfRawLines.{Said, form_said}
 use Rattle.e_book.proofs.parsers.KeptSums.{terms_added}
 use Rattle.e_names.proofs.read_lines.Uses.{GoodUse, use_fits, found_title}
 
@@ -90,13 +90,13 @@ abbrev is_plain_step : List TitledStatement → PlainStep → Bool
 is_plain_step known (Cited by) = true
 is_plain_step known (Inferred lit None) = true
 is_plain_step known (Inferred lit (Some cert)) = false
-is_plain_step known (Made form names []) = list_all is_name names
-is_plain_step known (Made form names (c ∷ cs)) = false
+is_plain_step known (Made construction names []) = list_all is_name names
+is_plain_step known (Made construction names (c ∷ cs)) = false
 is_plain_step known (Applied theorem args names []) = list_all is_name names && is_named_by_title known theorem
 is_plain_step known (Applied theorem args names (c ∷ cs)) = false
 is_plain_step known (Claimed shown inner) = ltb 0 (length shown) && is_said known inner
-is_plain_step known (Copied form names shown [] inner) = list_all is_name names && (ltb 0 (length shown) && is_said known inner)
-is_plain_step known (Copied form names shown (c ∷ cs) inner) = false
+is_plain_step known (Copied superposition names shown [] inner) = list_all is_name names && (ltb 0 (length shown) && is_said known inner)
+is_plain_step known (Copied superposition names shown (c ∷ cs) inner) = false
 
 abbrev is_plain_close : List TitledStatement → CloseLine → Bool
 is_plain_close known (closes.Qed objects) = true
@@ -105,7 +105,7 @@ is_plain_close known (closes.Cases lit first second) = is_said known first && is
 
 abbrev is_plain_kind : List TitledStatement → BlockKind → Bool
 is_plain_kind known (kind.Claim shown) = ltb 0 (length shown)
-is_plain_kind known (kind.Superpose form names shown) = list_all is_name names && ltb 0 (length shown)
+is_plain_kind known (kind.Superpose superposition names shown) = list_all is_name names && ltb 0 (length shown)
 is_plain_kind known (kind.First lit) = true
 is_plain_kind known (kind.Second lit first) = is_said known first
 
@@ -140,11 +140,11 @@ plain_steps known [] close h k = plain_close known close k
 plain_steps known (Cited by ∷ ss) close h k = plain_steps known ss close h k
 plain_steps known (Inferred lit None ∷ ss) close h k = plain_steps known ss close h k
 plain_steps known (Inferred lit (Some cert) ∷ ss) close h k = absurd cc
-plain_steps known (Made form names [] ∷ ss) close h k =
+plain_steps known (Made construction names [] ∷ ss) close h k =
     let p = and_parts (list_all is_name names) (list_all (is_plain_step known) ss) h in
     let r = plain_steps known ss close p.1 k in
     (rw (p.0, r.0) refl, r.1)
-plain_steps known (Made form names (c ∷ cs) ∷ ss) close h k = absurd cc
+plain_steps known (Made construction names (c ∷ cs) ∷ ss) close h k = absurd cc
 plain_steps known (Applied theorem args names [] ∷ ss) close h k =
     let p = and_parts (list_all is_name names && is_named_by_title known theorem) (list_all (is_plain_step known) ss) h in
     let q = and_parts (list_all is_name names) (is_named_by_title known theorem) p.0 in
@@ -157,14 +157,14 @@ plain_steps known (Claimed shown inner ∷ ss) close h k =
     let i = and_parts (is_plain inner) (names_theorems known inner) q.1 in
     let r = plain_steps known ss close p.1 k in
     (and_from _ _ q.0 (and_from _ _ i.0 r.0), and_from _ _ i.1 r.1)
-plain_steps known (Copied form names shown [] inner ∷ ss) close h k =
+plain_steps known (Copied superposition names shown [] inner ∷ ss) close h k =
     let p = and_parts (list_all is_name names && (ltb 0 (length shown) && is_said known inner)) (list_all (is_plain_step known) ss) h in
     let n = and_parts (list_all is_name names) (ltb 0 (length shown) && is_said known inner) p.0 in
     let q = and_parts (ltb 0 (length shown)) (is_said known inner) n.1 in
     let i = and_parts (is_plain inner) (names_theorems known inner) q.1 in
     let r = plain_steps known ss close p.1 k in
     (and_from _ _ n.0 (and_from _ _ q.0 (and_from _ _ i.0 r.0)), and_from _ _ i.1 r.1)
-plain_steps known (Copied form names shown (c ∷ cs) inner ∷ ss) close h k = absurd cc
+plain_steps known (Copied superposition names shown (c ∷ cs) inner ∷ ss) close h k = absurd cc
 
 plain_script : (known : List TitledStatement) (ss : List PlainStep) (close : CloseLine) → list_all (is_plain_step known) ss ≡ true → is_plain_close known close ≡ true → is_said known (all_before ss (script_of_close close)) ≡ true
 unfolding Sayable
@@ -276,9 +276,9 @@ names_listed (n ∷ ns) h = rw (h.0, names_listed ns h.1) refl
 spelled_built : (known : List TitledStatement) (d e : TheoremParser) (l : RawLet) → Spelled known d → AreNames l.new → built d l ≡ Ok e → Spelled known e
 unfolding built
 spelled_built known d e l g said h =
-    let after : Construction → Names = λ form. named d.in_scope (sorts_made form) l.new in
-    let then : Construction → Result TheoremParser FaultKind = λ form. with_step (record d { in_scope = after form }) (Made form l.new []) (length (gives_of_construction form (scope_of_names d.in_scope))) in
-    let f = bind_ok (let_in d.in_scope l) (λ form. few_objects (after form) >>= λ few. then form) e h in
+    let after : Construction → Names = λ construction. named d.in_scope (sorts_made construction) l.new in
+    let then : Construction → Result TheoremParser FaultKind = λ construction. with_step (record d { in_scope = after construction }) (Made construction l.new []) (length (gives_of_construction construction (scope_of_names d.in_scope))) in
+    let f = bind_ok (let_in d.in_scope l) (λ construction. few_objects (after construction) >>= λ few. then construction) e h in
     let w = bind_ok (few_objects (after f.0)) (λ few. then f.0) e f.2 in
     spelled_step known (record d { in_scope = after f.0 }) e (Made f.0 l.new []) (length (gives_of_construction f.0 (scope_of_names d.in_scope))) (moved known d d.section (after f.0) d.lines d.facts d.terms g g.some) (names_listed l.new said) w.2
 
@@ -377,7 +377,7 @@ pair_of form ls = (form, ls)
 shown_length : (ns : Names) (raw : RawSuperpose) (p : Superpose × List Lit) → superpose_in ns raw ≡ Ok p → length p.1 ≡ length raw.shown
 unfolding superpose_in
 shown_length ns raw p e =
-    let f = bind_ok (placed_in ns raw.args) (λ form. fresh ns [] raw.new >>= λ free. lits_in ns raw.shown >>= λ ls. read_ok (pair_of form ls)) p e in
+    let f = bind_ok (placed_in ns raw.args) (λ superposition. fresh ns [] raw.new >>= λ free. lits_in ns raw.shown >>= λ ls. read_ok (pair_of superposition ls)) p e in
     let w = bind_ok (fresh ns [] raw.new) (λ free. lits_in ns raw.shown >>= λ ls. read_ok (pair_of f.0 ls)) p f.2 in
     let l = bind_ok (lits_in ns raw.shown) (λ ls. read_ok (pair_of f.0 ls)) p w.2 in
     subst (λ (x : Superpose × List Lit). length x.1 ≡ length raw.shown) (ok_is (pair_of f.0 l.0) p l.2) (each_length (lit_in ns) raw.shown l.0 l.1)
@@ -448,9 +448,9 @@ spelled_inside : (known : List TitledStatement) (d e : TheoremParser) (o : OpenB
     → is_said known inner ≡ true → ((close : CloseLine) → is_plain_close known close ≡ true → closed d os o.steps close ≡ Ok e → Spelled known e)
     → closed_inside d o os inner (λ c. closed d os o.steps c) by ≡ Ok e → Spelled known e
 spelled_inside known d e o os inner (kind.Claim shown) g inside p around q again h = spelled_resumed known d e o os shown (Claimed shown inner) g inside around (rw (p, q) refl) h
-spelled_inside known d e o os inner (kind.Superpose form names shown) g inside p around q again h =
+spelled_inside known d e o os inner (kind.Superpose superposition names shown) g inside p around q again h =
     let n = and_parts (list_all is_name names) (ltb 0 (length shown)) p in
-    spelled_resumed known d e o os shown (Copied form names shown [] inner) g inside around (rw (n.0, n.1, q) refl) h
+    spelled_resumed known d e o os shown (Copied superposition names shown [] inner) g inside around (rw (n.0, n.1, q) refl) h
 spelled_inside known d e o os inner (kind.First lit) g inside p around q again h =
     subst (λ (y : TheoremParser). Spelled known y) (ok_is (at_second d o os lit inner) e h)
     (record { few = g.few; title = g.title; naming = g.naming; some = g.some; blocks = record { inside = refl; around = rw (inside, q, around) refl; shut = g.shut } })

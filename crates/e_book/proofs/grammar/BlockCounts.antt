@@ -37,10 +37,10 @@ unfolding size
 size_counted [] rest = omega arith
 size_counted (Cited by ∷ ss) rest = let h = size_counted ss rest in omega (arith, h)
 size_counted (Inferred lit cert ∷ ss) rest = let h = size_counted ss rest in omega (arith, h)
-size_counted (Made form names certs ∷ ss) rest = let h = size_counted ss rest in omega (arith, h)
+size_counted (Made construction names certs ∷ ss) rest = let h = size_counted ss rest in omega (arith, h)
 size_counted (Applied theorem args names certs ∷ ss) rest = let h = size_counted ss rest in omega (arith, h)
 size_counted (Claimed shown inner ∷ ss) rest = let h = size_counted ss rest in omega (arith, h)
-size_counted (Copied form names shown certs inner ∷ ss) rest = let h = size_counted ss rest in omega (arith, h)
+size_counted (Copied superposition names shown certs inner ∷ ss) rest = let h = size_counted ss rest in omega (arith, h)
 
 pub around_length : (os : List OpenBlock) → length (around_of os) ≡ length os
 around_length [] = refl
@@ -49,7 +49,7 @@ around_length (o ∷ os) = let h = around_length os in omega (arith, h)
 -- the made objects of the goal of a block inside
 goal_by : (op : BlockKind) (b : Bool) (x made : List Sort) → x ≡ cond b [] made → cond (has_goal (opener_of op)) [] x ≡ cond (is_claim op || b) [] made
 goal_by (kind.Claim shown) b x made e = refl
-goal_by (kind.Superpose form names shown) b x made e = refl
+goal_by (kind.Superpose superposition names shown) b x made e = refl
 goal_by (kind.First lit) b x made e = e
 goal_by (kind.Second lit first) b x made e = e
 

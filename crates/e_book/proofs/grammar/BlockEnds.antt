@@ -136,8 +136,8 @@ inside_alike : (known : List TitledStatement) (d : TheoremParser) (k : ℕ) (o :
 inside_alike known d k o os inner again after f (kind.Claim shown) silent at names counted few room sums blocks deep lines next =
     let s = Claimed shown inner in
     resumed_alike known d k o os shown s f silent at names counted few blocks (omega (arith, deep)) (omega (arith, lines, lines_more o.steps s)) refl refl
-inside_alike known d k o os inner again after f (kind.Superpose form made shown) silent at names counted few room sums blocks deep lines next =
-    let s = Copied form made shown [] inner in
+inside_alike known d k o os inner again after f (kind.Superpose superposition made shown) silent at names counted few room sums blocks deep lines next =
+    let s = Copied superposition made shown [] inner in
     resumed_alike known d k o os shown s f silent at names counted few blocks (omega (arith, deep)) (omega (arith, lines, lines_more o.steps s)) refl refl
 inside_alike known d k o os inner again after f (kind.First lit) silent at names counted few room sums blocks deep lines next =
     first_alike known d k o os lit inner f silent names counted few room sums blocks deep lines

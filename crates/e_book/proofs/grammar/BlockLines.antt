@@ -45,7 +45,7 @@ use Rattle.e_names.proofs.literals.ShortLits.{count_first}
 use Rattle.e_names.proofs.read_lines.WellRead.{no_monomials}
 use Rattle.e_book.proofs.parsers.KeptSums.{one_count}
 use Rattle.e_book.proofs.fit_theorems.ConditionsOfSteps.{plain_count}
-use Rattle.e_names.proofs.read_lines.LiteralsOfForms.{by_plain}
+use Rattle.e_names.proofs.read_lines.LiteralsOfRawLines.{by_plain}
 use Rattle.e_names.proofs.read_lines.Building.{let_fits}
 use Rattle.e_book.proofs.grammar.ParserState.{opener_of, around_of, head_of, Counted, context_in, OuterTied, BlockOf, Alike, tied_there}
 use Rattle.e_book.proofs.grammar.LimitTests.{blank_tests, literal_tests, fact_tests, depth_tests, step_tests, all_tests, kept, then_limits, test, test_in, pass_le, pass_objects, test_objects, test_monos, pass_literals, pass_terms, pass_rest, both}
@@ -153,17 +153,17 @@ hence_alike known d r t at few =
 
 -- ---- constructions
 
-made_alike : (known : List TitledStatement) (d : TheoremParser) (raw : RawLet) (form : Construction) → BlockOf known d → d.section ≡ places.Proving → FewNamed d.names → let_in d.in_scope raw ≡ Ok form
-    → Alike known (few_objects (named d.in_scope (sorts_made form) raw.new) >>= λ few. with_step (record d { in_scope = named d.in_scope (sorts_made form) raw.new }) (Made form raw.new []) (length (gives_of_construction form (scope_of_names d.in_scope))))
-    (then_limits known (rawlines.Let raw) (Proving (head_of d) (around_of d.blocks) (d.steps ++ Made form raw.new [] ∷ [])))
-made_alike known d raw form t at few e =
-    let s = Made form raw.new [] in
+made_alike : (known : List TitledStatement) (d : TheoremParser) (raw : RawLet) (construction : Construction) → BlockOf known d → d.section ≡ places.Proving → FewNamed d.names → let_in d.in_scope raw ≡ Ok construction
+    → Alike known (few_objects (named d.in_scope (sorts_made construction) raw.new) >>= λ few. with_step (record d { in_scope = named d.in_scope (sorts_made construction) raw.new }) (Made construction raw.new []) (length (gives_of_construction construction (scope_of_names d.in_scope))))
+    (then_limits known (rawlines.Let raw) (Proving (head_of d) (around_of d.blocks) (d.steps ++ Made construction raw.new [] ∷ [])))
+made_alike known d raw construction t at few e =
+    let s = Made construction raw.new [] in
     let n = Proving (head_of d) (around_of d.blocks) (d.steps ++ s ∷ []) in
-    let after = named d.in_scope (sorts_made form) raw.new in
-    let given = gives_of_construction form (scope_of_names d.in_scope) in
+    let after = named d.in_scope (sorts_made construction) raw.new in
+    let given = gives_of_construction construction (scope_of_names d.in_scope) in
     let x : TheoremParser = record d { in_scope = after } in
     let next : Result TheoremParser FaultKind = with_step x s (length given) in
-    let none = plain_count given (gives_plain form (scope_of_names d.in_scope) (let_fits d.in_scope raw form e).fits) in
+    let none = plain_count given (gives_plain construction (scope_of_names d.in_scope) (let_fits d.in_scope raw construction e).fits) in
     let sum : d.terms + count_monomials given ≡ d.terms = omega (arith, none) in
     let c = counted_more known (head_of d) d.blocks d.steps s d.in_scope after d.facts (d.facts + length given) d.terms d.terms t.counted refl refl sum in
     step_limits known d (few_objects after >>= λ few. next) s (rawlines.Let raw) after (d.facts + length given) d.terms t refl c
@@ -177,9 +177,9 @@ pub let_alike : (known : List TitledStatement) (d : TheoremParser) (raw : RawLet
 unfolding built
 let_alike known d raw t at few =
     both known (let_in d.in_scope raw)
-    (λ form. few_objects (named d.in_scope (sorts_made form) raw.new) >>= λ few. with_step (record d { in_scope = named d.in_scope (sorts_made form) raw.new }) (Made form raw.new []) (length (gives_of_construction form (scope_of_names d.in_scope))))
-    (λ form. one_more_step (head_of d) (around_of d.blocks) d.steps (Made form raw.new [])) (then_limits known (rawlines.Let raw))
-    (λ form e. made_alike known d raw form t at few e)
+    (λ construction. few_objects (named d.in_scope (sorts_made construction) raw.new) >>= λ few. with_step (record d { in_scope = named d.in_scope (sorts_made construction) raw.new }) (Made construction raw.new []) (length (gives_of_construction construction (scope_of_names d.in_scope))))
+    (λ construction. one_more_step (head_of d) (around_of d.blocks) d.steps (Made construction raw.new [])) (then_limits known (rawlines.Let raw))
+    (λ construction e. made_alike known d raw construction t at few e)
 
 -- ---- uses of earlier theorems
 
@@ -323,15 +323,15 @@ claim_alike known d raws t at few =
     (pass_terms known (read_ok (interrupted d op 0)) n d.terms 0 t.few_terms (omega arith)
     (inner_ends known d op d.in_scope (d.facts + 0) d.terms t at few refl (omega (arith, t.few_facts)) (omega (arith, t.few_terms)) c t.few a k w t.few_terms))))))
 
-copies_alike : (known : List TitledStatement) (d : TheoremParser) (raw : RawSuperpose) (form : Superpose) (shown : List Lit) → BlockOf known d → d.section ≡ places.Proving → FewNamed d.names
+copies_alike : (known : List TitledStatement) (d : TheoremParser) (raw : RawSuperpose) (superposition : Superpose) (shown : List Lit) → BlockOf known d → d.section ≡ places.Proving → FewNamed d.names
     → Alike known
-    (few_objects (named d.in_scope superposing.sorts_copied raw.new) >>= λ objects. deeper d (kind.Superpose form raw.new shown) (length (superposing.gives_of_superposition form (scope_of_names d.in_scope))) >>= λ e. few_monos raw.shown >>= λ few.
-    terms_after e.terms (superposing.gives_of_superposition form (scope_of_names d.in_scope)) >>= λ n. read_ok (record e { in_scope = named d.in_scope superposing.sorts_copied raw.new; terms = n }))
-    (then_limits known (rawlines.Superpose raw) (Proving (head_of d) (around_of (outer_of d (kind.Superpose form raw.new shown) ∷ d.blocks)) []))
-copies_alike known d raw form shown t at few =
-    let op = kind.Superpose form raw.new shown in
+    (few_objects (named d.in_scope superposing.sorts_copied raw.new) >>= λ objects. deeper d (kind.Superpose superposition raw.new shown) (length (superposing.gives_of_superposition superposition (scope_of_names d.in_scope))) >>= λ e. few_monos raw.shown >>= λ few.
+    terms_after e.terms (superposing.gives_of_superposition superposition (scope_of_names d.in_scope)) >>= λ n. read_ok (record e { in_scope = named d.in_scope superposing.sorts_copied raw.new; terms = n }))
+    (then_limits known (rawlines.Superpose raw) (Proving (head_of d) (around_of (outer_of d (kind.Superpose superposition raw.new shown) ∷ d.blocks)) []))
+copies_alike known d raw superposition shown t at few =
+    let op = kind.Superpose superposition raw.new shown in
     let n = Proving (head_of d) (around_of (outer_of d op ∷ d.blocks)) [] in
-    let given = superposing.gives_of_superposition form (scope_of_names d.in_scope) in
+    let given = superposing.gives_of_superposition superposition (scope_of_names d.in_scope) in
     let after = named d.in_scope superposing.sorts_copied raw.new in
     let at_block = context_in known (head_of d) d.blocks d.steps in
     let k = d.facts + length given in
@@ -343,7 +343,7 @@ copies_alike known d raw form shown t at few =
     let renamed : Counted after k m (record { names = named d.in_scope superposing.sorts_copied raw.new; facts = at_block.facts ++ given }) =
     counted_with at_block d.in_scope after after given d.facts k d.terms m t.counted refl refl refl in
     let c : Counted after k m (context_in known (head_of d) (outer_of d op ∷ d.blocks) []) =
-    subst (λ (ns : Names). Counted after k m (record { names = named ns superposing.sorts_copied raw.new; facts = at_block.facts ++ superposing.gives_of_superposition form (scope_of_names ns) })) t.counted.names renamed in
+    subst (λ (ns : Names). Counted after k m (record { names = named ns superposing.sorts_copied raw.new; facts = at_block.facts ++ superposing.gives_of_superposition superposition (scope_of_names ns) })) t.counted.names renamed in
     inner_limits known d (few_objects after >>= λ objects. next) op (rawlines.Superpose raw) after k m t refl c
     (test_objects known next n raw.shown after (d.lines + 1) (length d.blocks + 2) k m 0
     (λ objects. inner_then known d op (length given) then n raw.shown m 0

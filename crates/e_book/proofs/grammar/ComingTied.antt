@@ -32,7 +32,7 @@ use Rattle.e_names.specs.Scope.{right_count, fresh, lits_in}
 use Rattle.e_names.specs.Superposes.{placed_in, superpose_in}
 use Rattle.e_names.specs.Canonical.{raw_of}
 use Rattle.e_book.specs.Steps.{allowed, declares, shows, begun, begin, stepped, step}
-use Rattle.e_line.specs.Items.{book_line_of, listing_form, is_show}
+use Rattle.e_line.specs.Items.{book_line_of, listing_raw_line, is_show}
 use Rattle.e_names.specs.Meanings.{items_in}
 use Rattle.e_book.specs.Open.{Head, Open, Stating, Proving, BySuperposition}
 use Rattle.e_book.specs.Counts.{context_at, limits_kept, all_kept}
@@ -297,17 +297,17 @@ copied (Ok x) (Err k) f = refl
 copied (Err j) q f = refl
 
 ready_proving : (known : List TitledStatement) (d : TheoremParser) (args new : List (List ℕ)) → BlockOf known d
-    → SameFault (placed_in d.in_scope args >>= λ form. fresh d.in_scope [] new) (next known (Proving (head_of d) (around_of d.blocks) d.steps) (listing_form (listings.Superpose args new) []))
+    → SameFault (placed_in d.in_scope args >>= λ superposition. fresh d.in_scope [] new) (next known (Proving (head_of d) (around_of d.blocks) d.steps) (listing_raw_line (listings.Superpose args new) []))
 unfolding superpose_in
 ready_proving known d args new b =
-    subst (λ (ns : Names). SameFault (placed_in d.in_scope args >>= λ form. fresh d.in_scope [] new) (goes_on_there known ns (head_of d) (around_of d.blocks) d.steps (listing_form (listings.Superpose args new) []))) b.counted.names
+    subst (λ (ns : Names). SameFault (placed_in d.in_scope args >>= λ superposition. fresh d.in_scope [] new) (goes_on_there known ns (head_of d) (around_of d.blocks) d.steps (listing_raw_line (listings.Superpose args new) []))) b.counted.names
     (copied (placed_in d.in_scope args) (fresh d.in_scope [] new) (λ p. Proving (head_of d) (record { steps = d.steps; opener = BySuperposition p.0 new p.1 } ∷ around_of d.blocks) []))
 
 abbrev given_none : TheoremParser → Open
 given_none d = Stating (record (head_of d) { statement = record (statement_of_parser d) { given = d.given ++ [] } })
 
 ready_at : (known : List TitledStatement) (p : Section) (d : TheoremParser) (line : Listing) → Body known p d
-    → SameFault (right_count (allowed p (listing_form line [])) >>= λ right. head_names d.in_scope line) (next known (open_there d p) (listing_form line []))
+    → SameFault (right_count (allowed p (listing_raw_line line [])) >>= λ right. head_names d.in_scope line) (next known (open_there d p) (listing_raw_line line []))
 ready_at known places.Declaring d listings.Given b = placed true (none_made (statement_of_parser d)) (given_none d) (may_give places.Declaring d [] tt b.0)
 ready_at known places.Giving d listings.Given b = placed true (none_made (statement_of_parser d)) (given_none d) (may_give places.Giving d [] tt b.0)
 ready_at known places.Making d listings.Given b = placed false (none_made (statement_of_parser d)) (given_none d) (may_give places.Making d [] tt b.0)
@@ -348,7 +348,7 @@ IsOver places.Closed = Unit {0}
 IsOver places.Done = Unit {0}
 IsOver p = ⊥
 
-over : (p : Section) (line : Listing) → IsOver p → allowed p (listing_form line []) ≡ true → ⊥
+over : (p : Section) (line : Listing) → IsOver p → allowed p (listing_raw_line line []) ≡ true → ⊥
 over places.Splitting listings.Given o may = absurd cc
 over places.Splitting listings.Show o may = absurd cc
 over places.Splitting listings.Claim o may = absurd cc
@@ -364,7 +364,7 @@ over places.Done (listings.Superpose args new) o may = absurd cc
 over p line o may = o
 
 -- where such a line may come, the names are those before the line
-names_at : (known : List TitledStatement) (p : Section) (d : TheoremParser) (line : Listing) → Body known p d → allowed p (listing_form line []) ≡ true → names_at_place p d.names d.in_scope ≡ (context_at known (open_there d p)).names
+names_at : (known : List TitledStatement) (p : Section) (d : TheoremParser) (line : Listing) → Body known p d → allowed p (listing_raw_line line []) ≡ true → names_at_place p d.names d.in_scope ≡ (context_at known (open_there d p)).names
 names_at known places.Declaring d line b may = refl
 names_at known places.Giving d line b may = refl
 names_at known places.Making d line b may = refl
@@ -375,7 +375,7 @@ names_at known places.Closed d line b may = absurd (over places.Closed line tt m
 names_at known places.Done d line b may = absurd (over places.Done line tt may)
 
 abbrev put_out : Known → Listing → List RawItem → Names → Result (RawLine × ℕ) FaultKind
-put_out known line is ns = items_in known.notions ns 0 is >>= λ p. Ok (listing_form line (map (raw_of ns) p.0), p.1)
+put_out known line is ns = items_in known.notions ns 0 is >>= λ p. Ok (listing_raw_line line (map (raw_of ns) p.0), p.1)
 
 -- where it may not come, neither looks further
 after_place : {A : Type 0} (b : Bool) (r : Result (Unit {0}) FaultKind) (q : Result A FaultKind) (x y : Result (RawLine × ℕ) FaultKind) → SameFault (right_count b >>= λ right. r) q → (b ≡ true → x ≡ y) → ((right_count b >>= λ right. r) >>= λ ready. x) ≡ (q >>= λ there. y)
@@ -385,8 +385,8 @@ after_place false r (Err k) x y s e = ap (λ (z : FaultKind). fault z) s
 
 written_at : (known : Known) (p : Section) (d : TheoremParser) (line : Listing) (is : List RawItem) → d.section ≡ p → Body known.theorems p d → line_written_out known.notions d line is ≡ written_out known (open_there d p) line is
 written_at known p d line is at b =
-    subst (λ (q : Section). ((right_count (allowed q (listing_form line [])) >>= λ right. head_names d.in_scope line) >>= λ ready. put_out known line is (names_at_place q d.names d.in_scope)) ≡ written_out known (open_there d p) line is) (sym at)
-    (after_place (allowed p (listing_form line [])) (head_names d.in_scope line) (next known.theorems (open_there d p) (listing_form line [])) (put_out known line is (names_at_place p d.names d.in_scope))
+    subst (λ (q : Section). ((right_count (allowed q (listing_raw_line line [])) >>= λ right. head_names d.in_scope line) >>= λ ready. put_out known line is (names_at_place q d.names d.in_scope)) ≡ written_out known (open_there d p) line is) (sym at)
+    (after_place (allowed p (listing_raw_line line [])) (head_names d.in_scope line) (next known.theorems (open_there d p) (listing_raw_line line [])) (put_out known line is (names_at_place p d.names d.in_scope))
     (put_out known line is (context_at known.theorems (open_there d p)).names) (ready_at known.theorems p d line b) (λ may. ap (put_out known line is) (names_at known.theorems p d line b may)))
 
 written_alike : (known : Known) (d : TheoremParser) (line : Listing) (is : List RawItem) → Tied known.theorems d → line_written_out known.notions d line is ≡ written_out known (open_of d) line is
@@ -396,7 +396,7 @@ written_alike known d line is t = written_at known d.section d line is refl t.bo
 
 -- a line with the names of these objects, and how many literals are of notions
 abbrev out : Listing → Names → List Lit × ℕ → RawLine × ℕ
-out line ns p = (listing_form line (map (raw_of ns) p.0), p.1)
+out line ns p = (listing_raw_line line (map (raw_of ns) p.0), p.1)
 
 record Out (known : Known) (ns : Names) (line : Listing) (is : List RawItem) (w : RawLine × ℕ) : Type 0 where
   meanings : List Lit × ℕ
@@ -406,11 +406,11 @@ record Out (known : Known) (ns : Names) (line : Listing) (is : List RawItem) (w 
 was_out : (known : Known) (o : Open) (line : Listing) (is : List RawItem) (w : RawLine × ℕ) → written_out known o line is ≡ Ok w → Out known (context_at known.theorems o).names line is w
 was_out known o line is w e =
     let ns = (context_at known.theorems o).names in
-    let t = bind_ok (next known.theorems o (listing_form line [])) (λ there. items_in known.notions ns 0 is >>= λ p. read_ok (out line ns p)) w e in
+    let t = bind_ok (next known.theorems o (listing_raw_line line [])) (λ there. items_in known.notions ns 0 is >>= λ p. read_ok (out line ns p)) w e in
     let p = bind_ok (items_in known.notions ns 0 is) (λ p. read_ok (out line ns p)) w t.2 in
     record { meanings = p.0; read = p.1; are = ok_is (out line ns p.0) w p.2 }
 
-has : (line : Listing) (raws : List RawLit) → 0 < length raws → HasItems (listing_form line raws)
+has : (line : Listing) (raws : List RawLit) → 0 < length raws → HasItems (listing_raw_line line raws)
 has listings.Given raws h = h
 has listings.Show raws h = h
 has listings.Claim raws h = tt
@@ -423,7 +423,7 @@ out_has known o line is w all some e =
     let x = was_out known o line is w e in
     subst (λ (y : RawLine × ℕ). HasItems y.0) x.are (has line (map (raw_of ns) x.meanings.0) (items_some known.notions ns is x.meanings all some x.read))
 
-shown : (line : Listing) (raws : List RawLit) → is_show line ≡ true → listing_form line raws ≡ rawlines.Show raws
+shown : (line : Listing) (raws : List RawLit) → is_show line ≡ true → listing_raw_line line raws ≡ rawlines.Show raws
 shown listings.Show raws s = refl
 shown listings.Given raws s = absurd cc
 shown listings.Claim raws s = absurd cc

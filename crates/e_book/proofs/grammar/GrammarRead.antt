@@ -26,7 +26,7 @@ use Rattle.e_book.specs.Open.{Open, Stating, Proving}
 use Rattle.e_book.specs.Grammar.{Rest, empty_head, begins, goes_on, next, line_after, line_read, theorem_ended, or_more, is_skipped, put_at}
 use Rattle.e_book.specs.Grammar as grammar
 use Rattle.e_line.specs.Canonical.{line_of}
-use Rattle.e_book.specs.Canonical.{forms_of}
+use Rattle.e_book.specs.Canonical.{raw_lines_of}
 use Rattle.e_book.specs.HasSpelling.{HasSpelling}
 use Rattle.e_book.specs.Laws.{Shows}
 use Rattle.e_book.specs.Book.{line_step, is_last, is_done}
@@ -34,8 +34,8 @@ use Rattle.e_book.specs.Book as book
 use Rattle.e_line.proofs.base.Bound.{bind_ok, ok_is, read_ok}
 use Rattle.e_book.proofs.canonical.CanonicalRead.{canonical_lines_read}
 use Rattle.e_book.proofs.fit_theorems.ReadSpelled.{read_is_spelled}
-use Rattle.e_line.proofs.read_lines.FormsByWord.{OfEachForm, form_by_word}
-use Rattle.e_names.proofs.read_lines.LiteralsOfForms.{some_lits_said}
+use Rattle.e_line.proofs.read_lines.RawLinesByWord.{OfEachForm, form_by_word}
+use Rattle.e_names.proofs.read_lines.LiteralsOfRawLines.{some_lits_said}
 use Rattle.e_line.proofs.read_lines.SumsOfLiterals.{diagram_said}
 use Rattle.e_book.proofs.grammar.ParserState.{around_of, head_of, open_there, open_of, BlockOf, UnprovedOf, Stands, Body, Tied, Alike, tied_there}
 use Rattle.e_book.proofs.grammar.LimitTests.{kept, then_limits, test, both_read}
@@ -270,7 +270,7 @@ grammar_read known last lines = read_alike known last None lines tt
 
 -- ---- what is known of what the parser reads, of what the grammar reads
 
-pub canonical_grammar : (known : List TitledStatement) (last : ℕ) (t : TheoremView) (lines rest : Rest) → HasSpelling known t → Shows lines (map line_of (forms_of known t)) rest → grammar.read_from known last None lines ≡ whole t rest
+pub canonical_grammar : (known : List TitledStatement) (last : ℕ) (t : TheoremView) (lines rest : Rest) → HasSpelling known t → Shows lines (map line_of (raw_lines_of known t)) rest → grammar.read_from known last None lines ≡ whole t rest
 canonical_grammar known last t lines rest h s = sym (grammar_read known last lines) ∙ canonical_lines_read known last t lines rest h s
 
 pub spelled_grammar : (known : List TitledStatement) (last : ℕ) (t : TheoremView) (lines rest : Rest) → grammar.read_from known last None lines ≡ whole t rest → HasSpelling known t

@@ -48,14 +48,14 @@ emptied d o os shown s = sym (resumed_alike d d.blocks [] o os shown s)
 inside_alike : (d : TheoremParser) (xs : List OpenBlock) (ss : List PlainStep) (o : OpenBlock) (os : List OpenBlock) (inner : Script) (again : CloseLine → Result TheoremParser FaultKind) (what : BlockKind)
     → closed_inside (record d { blocks = xs; steps = ss }) o os inner again what ≡ closed_inside d o os inner again what
 inside_alike d xs ss o os inner again (kind.Claim shown) = resumed_alike d xs ss o os shown (Claimed shown inner)
-inside_alike d xs ss o os inner again (kind.Superpose form names shown) = resumed_alike d xs ss o os shown (Copied form names shown [] inner)
+inside_alike d xs ss o os inner again (kind.Superpose superposition names shown) = resumed_alike d xs ss o os shown (Copied superposition names shown [] inner)
 inside_alike d xs ss o os inner again (kind.First lit) = refl
 inside_alike d xs ss o os inner again (kind.Second lit first) = refl
 
 again_alike : (d : TheoremParser) (xs : List OpenBlock) (ss : List PlainStep) (o : OpenBlock) (os : List OpenBlock) (inner : Script) (f g : CloseLine → Result TheoremParser FaultKind) (what : BlockKind)
     → ((c : CloseLine) → f c ≡ g c) → closed_inside (record d { blocks = xs; steps = ss }) o os inner f what ≡ closed_inside d o os inner g what
 again_alike d xs ss o os inner f g (kind.Claim shown) same = resumed_alike d xs ss o os shown (Claimed shown inner)
-again_alike d xs ss o os inner f g (kind.Superpose form names shown) same = resumed_alike d xs ss o os shown (Copied form names shown [] inner)
+again_alike d xs ss o os inner f g (kind.Superpose superposition names shown) same = resumed_alike d xs ss o os shown (Copied superposition names shown [] inner)
 again_alike d xs ss o os inner f g (kind.First lit) same = refl
 again_alike d xs ss o os inner f g (kind.Second lit first) same = same (closes.Cases lit first inner)
 

@@ -25,7 +25,7 @@ use Rattle.e_line.proofs.base.Bound.{read_ok}
 
 abbrev pub opener_of : BlockKind → Opener
 opener_of (kind.Claim shown) = ByClaim shown
-opener_of (kind.Superpose form names shown) = BySuperposition form names shown
+opener_of (kind.Superpose superposition names shown) = BySuperposition superposition names shown
 opener_of (kind.First lit) = ByCase lit
 opener_of (kind.Second lit first) = ByElse lit first
 

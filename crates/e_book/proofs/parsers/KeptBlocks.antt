@@ -45,7 +45,7 @@ use Rattle.e_book.proofs.parsers.Answered.{within_ok}
 use Rattle.e_line.proofs.base.Bound.{bind_ok, ok_is, read_ok}
 use Rattle.e_names.proofs.read_lines.InScope.{lit_in_scope, each_all}
 use Rattle.e_line.proofs.read_lines.SumsOfLiterals.{LitsSaid}
-use Rattle.e_names.proofs.read_lines.LiteralsOfForms.{Said, by_plain}
+use Rattle.e_names.proofs.read_lines.LiteralsOfRawLines.{Said, by_plain}
 use Rattle.e_names.proofs.read_lines.WellRead.{good_lits}
 use Rattle.e_names.proofs.literals.FewSums.{FewMonos, few_ok, one_lit}
 use Rattle.e_book.proofs.parsers.KeptSums.{terms_added, terms_within, one_count}
@@ -315,12 +315,12 @@ closes_inside known d e o os inner again (kind.Claim shown) head at steps shows 
     let b = open_again (start known d) d.made os o (here known x) d.lines s steps around (omega (arith, deep)) (omega (arith, n))
     (λ rest f. fits_claimed (spot_of (stated_by known) o) (made_in os d.made) (level os) shown inner rest shows fit r.facts r.terms f) in
     subst (λ (y : TheoremParser). Good known y) r.is (record { head = head; body = still_open known x at b })
-closes_inside known d e o os inner again (kind.Superpose form names shown) head at steps copies around fit n deep next h =
-    let s = Copied form names shown [] inner in
+closes_inside known d e o os inner again (kind.Superpose superposition names shown) head at steps copies around fit n deep next h =
+    let s = Copied superposition names shown [] inner in
     let r = goes_on d e o os shown s h in
     let x : TheoremParser = record d { facts = o.facts + length shown; terms = o.terms + count_monomials shown; steps = o.steps ++ s ∷ []; in_scope = o.in_scope; blocks = os } in
     let b = open_again (start known d) d.made os o (here known x) d.lines s steps around (omega (arith, deep)) (omega (arith, n))
-    (λ rest f. fits_copied (spot_of (stated_by known) o) (made_in os d.made) (level os) form names shown [] inner rest copies.0 copies.1 fit r.facts r.terms f) in
+    (λ rest f. fits_copied (spot_of (stated_by known) o) (made_in os d.made) (level os) superposition names shown [] inner rest copies.0 copies.1 fit r.facts r.terms f) in
     subst (λ (y : TheoremParser). Good known y) r.is (record { head = head; body = still_open known x at b })
 closes_inside known d e o os inner again (kind.First lit) head at steps splits around fit n deep next h =
     let o2 : OpenBlock = record o { kind = kind.Second lit inner } in

@@ -18,14 +18,14 @@ StepsFit from sorts level ss to = (rest : Script) → ScriptFits to sorts level 
 -- where the first line of an inner block stands
 abbrev pub begun_by : Spot → BlockKind → Spot
 begun_by at (kind.Claim shown) = at
-begun_by at (kind.Superpose form names shown) = with_copies at form names
+begun_by at (kind.Superpose superposition names shown) = with_copies at superposition names
 begun_by at (kind.First lit) = with_lit at lit
 begun_by at (kind.Second lit first) = with_lit at lit
 
 -- what began an inner block fits where it stands, and so does a first block that is closed
 abbrev pub KindFits : Spot → List Sort → ℕ → BlockKind → Type 0
 KindFits at sorts level (kind.Claim shown) = ShownFit at shown
-KindFits at sorts level (kind.Superpose form names shown) = CopyFits at form names × ShownFit at shown
+KindFits at sorts level (kind.Superpose superposition names shown) = CopyFits at superposition names × ShownFit at shown
 KindFits at sorts level (kind.First lit) = SplitFits at lit
 KindFits at sorts level (kind.Second lit first) = SplitFits at lit × ScriptFits (with_lit at lit) sorts (level + 1) first
 
@@ -55,10 +55,10 @@ BlocksFit start sorts (o ∷ os) = OuterFits start sorts os o × BlocksFit start
 abbrev pub lines_of : PlainStep → ℕ
 lines_of (Cited by) = 1
 lines_of (Inferred lit cert) = 1
-lines_of (Made form names certs) = 1
+lines_of (Made construction names certs) = 1
 lines_of (Applied theorem args names certs) = 1
 lines_of (Claimed shown inner) = 1 + size inner
-lines_of (Copied form names shown certs inner) = 1 + size inner
+lines_of (Copied superposition names shown certs inner) = 1 + size inner
 
 abbrev pub count_lines : List PlainStep → ℕ
 count_lines [] = 0
@@ -67,7 +67,7 @@ count_lines (s ∷ ss) = lines_of s + count_lines ss
 -- the lines of a first block that is closed
 abbrev pub lines_first : BlockKind → ℕ
 lines_first (kind.Claim shown) = 0
-lines_first (kind.Superpose form names shown) = 0
+lines_first (kind.Superpose superposition names shown) = 0
 lines_first (kind.First lit) = 0
 lines_first (kind.Second lit first) = size first
 
@@ -102,10 +102,10 @@ unfolding size
 size_is [] rest = omega arith
 size_is (Cited by ∷ ss) rest = let h = size_is ss rest in omega (arith, h)
 size_is (Inferred lit cert ∷ ss) rest = let h = size_is ss rest in omega (arith, h)
-size_is (Made form names certs ∷ ss) rest = let h = size_is ss rest in omega (arith, h)
+size_is (Made construction names certs ∷ ss) rest = let h = size_is ss rest in omega (arith, h)
 size_is (Applied theorem args names certs ∷ ss) rest = let h = size_is ss rest in omega (arith, h)
 size_is (Claimed shown inner ∷ ss) rest = let h = size_is ss rest in omega (arith, h)
-size_is (Copied form names shown certs inner ∷ ss) rest = let h = size_is ss rest in omega (arith, h)
+size_is (Copied superposition names shown certs inner ∷ ss) rest = let h = size_is ss rest in omega (arith, h)
 
 pub steps_more : (from mid to : Spot) (sorts : List Sort) (k : ℕ) (ss : List PlainStep) (s : PlainStep) → StepsFit from sorts k ss mid
     → ((rest : Script) → ScriptFits to sorts k rest → ScriptFits mid sorts k (before s rest)) → StepsFit from sorts k (ss ++ s ∷ []) to

@@ -48,7 +48,7 @@ use Rattle.e_book.specs.Grammar.{is_skipped, put_at}
 use Rattle.e_book.specs.Book.{line_step, is_last, is_done, read_from}
 use Rattle.e_book.proofs.parsers.Answered.{within_ok, passes, untaken, put_ok, answered, pair, first_is, skip_or, Answer}
 use Rattle.e_line.proofs.base.Bound.{bind_ok, ok_is, read_ok, each_length}
-use Rattle.e_names.proofs.read_lines.LiteralsOfForms.{Said, form_said}
+use Rattle.e_names.proofs.read_lines.LiteralsOfRawLines.{Said, form_said}
 use Rattle.e_names.proofs.read_lines.WellRead.{good_lits, lits_count}
 use Rattle.e_names.proofs.literals.FewSums.{few_ok}
 use Rattle.e_book.proofs.parsers.KeptSums.{terms_added, monomials-append}

@@ -20,7 +20,7 @@ use Rattle.e_names.specs.Titled.{are_notions}
 use Rattle.e_book.specs.Grammar.{is_skipped, put_at, BookFails}
 use Rattle.e_book.specs.Definitions.{BookItem, HasWellFormedView, view_of}
 use Rattle.e_book.specs.inner.Machine.{line_step, is_done, item_of_coming, at_end, item_from, IsBegun, TakesWords, TakesLine, ReadsOn, end_of}
-use Rattle.e_book.proofs.parsers.ComingKept.{read_is_well_formed}
+use Rattle.e_book.proofs.parsers.ComingInvariants.{read_is_well_formed}
 
 abbrev Rest : Type 0
 Rest = List (Result LineView LineFault)

@@ -34,7 +34,7 @@ use Rattle.e_book.specs.Steps.{allowed, declares, shows, begun, begin, FitsScope
 use Rattle.e_book.specs.Steps as steps
 use Rattle.e_book.specs.Book.{is_last}
 use Rattle.e_book.specs.ParserViews.{entry_of_parser}
-use Rattle.e_line.specs.Items.{book_line_of, listing_form, is_show}
+use Rattle.e_line.specs.Items.{book_line_of, listing_raw_line, is_show}
 use Rattle.e_names.specs.Meanings.{items_in}
 use Rattle.e_book.specs.Grammar.{Rest, is_skipped, put_at, BookFails}
 use Rattle.e_book.specs.Definitions.{BookItem, OfTheorem, OfNotion, Answer, has_notion_title}
@@ -52,20 +52,21 @@ names_there d = names_at_place d.section d.names d.in_scope
 
 -- the names before the literals, from left to right
 abbrev pub head_names : Names → Listing → Result (Unit {0}) FaultKind
-head_names ns (listings.Superpose args new) = placed_in ns args >>= λ form. fresh ns [] new
+head_names ns (listings.Superpose args new) = placed_in ns args >>= λ superposition. fresh ns [] new
 head_names ns line = Ok tt
 
 -- a line that takes literals may come here
 abbrev pub is_ready : TheoremParser → Listing → Result (Unit {0}) FaultKind
 is_ready d line =
-    right_count (allowed d.section (listing_form line [])) >>= λ right. head_names d.in_scope line
+    right_count (allowed d.section (listing_raw_line line []))
+    >>= λ right. head_names d.in_scope line
 
 -- the line with its items written out, and how many literals are of notions
 abbrev pub line_written_out : List Titled → TheoremParser → Listing → List RawItem
     → Result (RawLine × ℕ) FaultKind
 line_written_out notions d line is =
     is_ready d line >>= λ ready. items_in notions (names_there d) 0 is
-    >>= λ p. Ok (listing_form line (map (raw_of (names_there d)) p.0), p.1)
+    >>= λ p. Ok (listing_raw_line line (map (raw_of (names_there d)) p.0), p.1)
 
 -- ---- the first line
 
@@ -111,7 +112,7 @@ goes_on known c f =
     if c.defines then (defines_on c.parser f >>= λ d. Ok (with_parser c d)) else
     (steps.step known.theorems c.parser f >>= λ d. Ok (with_parser c d))
 
--- it is taken as it is written out, and then the limit of what items stand for
+-- it is taken as it is written out, and then the limit of what items mean
 unfoldable pub lists : Known → Coming → Listing → List RawItem → Result Coming FaultKind
 lists known c line is = do
   right ← right_count (not c.defines || is_show line)

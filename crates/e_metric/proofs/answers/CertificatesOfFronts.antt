@@ -144,7 +144,7 @@ module _ (facts more : List Lit) (wanted : Option Lit) where
         by (Some ws) e k = ap (λ q. option_map_or is_absurd q false) (same_rows xs ws e) ∙ k
 
   same_differing : (n : RowName) (r : Row) → differing facts None n ≡ Some r → differing (facts ++ more) wanted n ≡ Some r
-  same_differing (Fact l) r h = fact_stays (option_and_then (λ (q : Row). cond (says_differ q.says) (Some q) None)) (λ q e. none-some q e) l r h
+  same_differing (Fact l) r h = fact_stays (option_and_then (λ (q : Row). cond (says_differ q.sense) (Some q) None)) (λ q e. none-some q e) l r h
   same_differing Goal r h = absurd (none-some r h)
   same_differing (Pos t) r h = h
   same_differing (Top t) r h = h
@@ -152,7 +152,7 @@ module _ (facts more : List Lit) (wanted : Option Lit) where
   same_differing (Least t) r h = h
   same_differing Above r h = h
   same_differing Below r h = h
-  same_differing (FactAt k) r h = at_stays (option_and_then (λ (q : Row). cond (says_differ q.says) (Some q) None)) (λ q e. none-some q e) k r h
+  same_differing (FactAt k) r h = at_stays (option_and_then (λ (q : Row). cond (says_differ q.sense) (Some q) None)) (λ q e. none-some q e) k r h
 
   sums_wider : (s : Sums) → sums_refute facts None s ≡ true → sums_refute (facts ++ more) wanted s ≡ true
   sums_wider (One sum) h = sum_wider None None sum h

@@ -23,7 +23,7 @@ use Rattle.e_clause.specs.Wide.{HasWidth}
 use Rattle.e_clause.proofs.Named.{Each}
 use Rattle.e_fraction.specs.declared.row.Row.{Row as GivenRow}
 use Rattle.e_fraction.specs.Limits.{has_small_coefficients, all_small}
-use Rattle.e_fraction.specs.Views.{all_seen}
+use Rattle.e_fraction.specs.Views.{views_of_rows}
 use Rattle.e_fraction.proofs.Wideness.{wide_rows_width}
 use Rattle.e_literal.specs.Rows.{Row}
 use Rattle.e_simplex.specs.declared.decision.Absurdity.{Absurdity}
@@ -51,11 +51,11 @@ small : (ps : List (RowName × GivenRow)) → AllLimited ps → all_small (rows_
 small [] h = refl
 small (p ∷ ps) h = and_from (has_small_coefficients p.1.form) (all_small (rows_given ps)) h.0.small (small ps h.1)
 
-satisfy_each : (v : Term → ℕ) (ns : List NamedRow) → Satisfy v (map row_of ns) → Each (λ n. IsSo n.row.says (form_value n.row.form v)) ns
+satisfy_each : (v : Term → ℕ) (ns : List NamedRow) → Satisfy v (map row_of ns) → Each (λ n. IsSo n.row.sense (form_value n.row.form v)) ns
 satisfy_each v [] h = tt
 satisfy_each v (n ∷ ns) h = (h.0, satisfy_each v ns h.1)
 
-each_satisfy : (v : Term → ℕ) (ns : List NamedRow) → Each (λ n. IsSo n.row.says (form_value n.row.form v)) ns → Satisfy v (map row_of ns)
+each_satisfy : (v : Term → ℕ) (ns : List NamedRow) → Each (λ n. IsSo n.row.sense (form_value n.row.form v)) ns → Satisfy v (map row_of ns)
 each_satisfy v [] h = tt
 each_satisfy v (n ∷ ns) h = (h.0, each_satisfy v ns h.1)
 
@@ -68,11 +68,11 @@ module _ (which : Kind) (facts : List Lit) (wanted : Option Lit) where
   -- ---- rows that are those of the system, in some order
 
   pub satisfied : (ns : List NamedRow) → AreReordered ns (system which facts wanted) → (ps : List (RowName × GivenRow)) → AreRows ns ps → (rows : List GivenRow) → rows ≡ rows_given ps
-      → (v : Term → ℕ) → Satisfy v (all_seen rows) → Satisfy v (rows_of_system which facts wanted)
+      → (v : Term → ℕ) → Satisfy v (views_of_rows rows) → Satisfy v (rows_of_system which facts wanted)
   satisfied ns order ps are rows rows_are v h =
       each_satisfy v (system which facts wanted)
-      (back_reordered ns (system which facts wanted) order (λ n. IsSo n.row.says (form_value n.row.form v))
-      (satisfy_each v ns (satisfy_alike (all_seen (rows_given ps)) (map row_of ns) v (rows_alike ns ps are) (subst (λ rs. Satisfy v (all_seen rs)) rows_are h))))
+      (back_reordered ns (system which facts wanted) order (λ n. IsSo n.row.sense (form_value n.row.form v))
+      (satisfy_each v ns (satisfy_alike (views_of_rows (rows_given ps)) (map row_of ns) v (rows_alike ns ps are) (subst (λ rs. Satisfy v (views_of_rows rs)) rows_are h))))
 
   module _ (ns : List NamedRow) (order : AreReordered ns (system which facts wanted)) (ps : List (RowName × GivenRow)) (are : AreRows ns ps) (limited : AllLimited ps)
       (good : list_all is_well_formed facts ≡ true) (few : length (terms_of_lits facts) ≤ 1100) (good_wanted : is_well_formed_metric wanted ≡ true) (rows : List GivenRow) (rows_are : rows ≡ rows_given ps) where
@@ -87,26 +87,26 @@ module _ (which : Kind) (facts : List Lit) (wanted : Option Lit) where
 
     -- ---- the three answers
 
-    pub solved : (v : Term → ℕ) → Satisfy v (all_seen rows) → Satisfy v (rows_of_system which facts wanted)
+    pub solved : (v : Term → ℕ) → Satisfy v (views_of_rows rows) → Satisfy v (rows_of_system which facts wanted)
     solved v h = satisfied ns order ps are rows rows_are v h
 
-    pub has_width : (w : ℕ) → w ≡ width (rows_of_system which facts wanted) → IsWide (all_seen rows) → HasWidth (rows_of_system which facts wanted) w
+    pub has_width : (w : ℕ) → w ≡ width (rows_of_system which facts wanted) → IsWide (views_of_rows rows) → HasWidth (rows_of_system which facts wanted) w
     has_width w e h =
-        (let wide : IsWide (rows_of_system which facts wanted) = wide_reordered ns (system which facts wanted) order (wide_alike (all_seen (rows_given ps)) (map row_of ns) (rows_alike ns ps are) (subst (λ rs. IsWide (all_seen rs)) rows_are h)) in
+        (let wide : IsWide (rows_of_system which facts wanted) = wide_reordered ns (system which facts wanted) order (wide_alike (views_of_rows (rows_given ps)) (map row_of ns) (rows_alike ns ps are) (subst (λ rs. IsWide (views_of_rows rs)) rows_are h)) in
         record { is_wide = wide; is_width = e; is_large = omega (arith, e, wide_rows_width (rows_of_system which facts wanted) wide) })
 
     pub refuted : (names : List RowName) (terms : List Term) (a : Absurdity) (sums : Sums) → names ≡ names_given ps → terms ≡ with_listed (distinct_terms which facts wanted) (Right ∷ [])
-        → IsAbsurdity (all_seen rows) a → sums ≡ certificate_sums names rows terms a → IsMetricCertificate facts wanted (record { sums = sums })
+        → IsAbsurdity (views_of_rows rows) a → sums ≡ certificate_sums names rows terms a → IsMetricCertificate facts wanted (record { sums = sums })
     refuted names terms a sums n t h e =
         (let sums_are : sums ≡ certificate_sums (names_given ps) (rows_given ps) (with_listed (distinct_terms which facts wanted) (Right ∷ [])) a =
         e ∙ ap (λ ns. certificate_sums ns rows terms a) n ∙ ap (λ rs. certificate_sums (names_given ps) rs terms a) rows_are ∙ ap (λ ts. certificate_sums (names_given ps) (rows_given ps) ts a) t in
         record {
-          refutes = ap (sums_refute facts wanted) sums_are ∙ certified which facts wanted ns order ps are together a (subst (λ rs. IsAbsurdity (all_seen rs) a) rows_are h);
+          refutes = ap (sums_refute facts wanted) sums_are ∙ certified which facts wanted ns order ps are together a (subst (λ rs. IsAbsurdity (views_of_rows rs) a) rows_are h);
           scoped = λ s k g. ap (are_sums_in s) sums_are ∙ in_scope s facts wanted k g which ns order (names_given ps) (rows_given ps) a (names_are ns ps are);
           written = ap (are_sums_of version.One) sums_are ∙ written_well which facts wanted ns order (names_given ps) (rows_given ps) (with_listed (distinct_terms which facts wanted) (Right ∷ [])) a (names_are ns ps are) good;
         })
 
   -- the width of the rows in their order
-  pub system_width : (ps : List (RowName × GivenRow)) → AreRows (system which facts wanted) ps → (rows : List GivenRow) → rows ≡ rows_given ps → width (all_seen rows) ≡ width (rows_of_system which facts wanted)
+  pub system_width : (ps : List (RowName × GivenRow)) → AreRows (system which facts wanted) ps → (rows : List GivenRow) → rows ≡ rows_given ps → width (views_of_rows rows) ≡ width (rows_of_system which facts wanted)
   system_width ps are rows e =
-      ap (λ rs. width (all_seen rs)) e ∙ width_alike (all_seen (rows_given ps)) (rows_of_system which facts wanted) (rows_alike (system which facts wanted) ps are)
+      ap (λ rs. width (views_of_rows rs)) e ∙ width_alike (views_of_rows (rows_given ps)) (rows_of_system which facts wanted) (rows_alike (system which facts wanted) ps are)

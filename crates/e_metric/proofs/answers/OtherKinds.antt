@@ -14,7 +14,7 @@ use Rattle.e_clause.specs.declared.cert.RowName.TheVariants.{Fact, Goal}
 use Rattle.e_clause.specs.Assignment.{terms_of_lits}
 use Rattle.e_clause.specs.System.{NamedRow, of_kind, against_goal, rows_named, rows_of_term, rows_of_kind, rows_of_system}
 use Rattle.e_clause.specs.Wide.{HasWidth}
-use Rattle.e_fraction.specs.Views.{all_seen}
+use Rattle.e_fraction.specs.Views.{views_of_rows}
 use Rattle.e_simplex.specs.Answer.{assigned, AreValuesOf}
 use Rattle.e_metric.specs.declared.consequence.Metric.TheVariants.{Yes, No, TooWide}
 use Rattle.e_metric.specs.declared.solved_system.SolvedSystem.{SolvedSystem}
@@ -33,11 +33,11 @@ same_system which facts wanted e =
     ap (λ negated_at. map row_of (rows_named (λ l. Fact l) (of_kind which facts)
     ++ (rows_named (λ l. Goal) negated_at ++ (flat_map (rows_of_term facts) (first_terms [] (terms_of_lits (of_kind which facts) ++ terms_of_lits negated_at)) ++ rows_of_kind which)))) (sym e)
 
-pub solved_alone : (g : SolvedSystem) (values : List (Term × ℕ)) → AreValuesOf (all_seen g.solved_rows) values → IsAnswerAlone (kind_system.Solved g) (No values)
+pub solved_alone : (g : SolvedSystem) (values : List (Term × ℕ)) → AreValuesOf (views_of_rows g.solved_rows) values → IsAnswerAlone (kind_system.Solved g) (No values)
 solved_alone g values h which facts wanted solved_system e =
     subst (Satisfy (assigned values)) (same_system which facts wanted e)
     (satisfied which facts None solved_system.rows solved_system.order solved_system.named.pairs solved_system.named.are g.rows.items solved_system.named.rows_are (assigned values)
-    (subst (λ rs. Satisfy (assigned values) (all_seen rs)) solved_system.solved_rows h.satisfy))
+    (subst (λ rs. Satisfy (assigned values) (views_of_rows rs)) solved_system.solved_rows h.satisfy))
 
 pub absurd_alone : (m : MetricCert) → IsAnswerAlone (kind_system.Absurd m) (Yes m)
 absurd_alone m which facts wanted h e = certified_wider facts wanted m h

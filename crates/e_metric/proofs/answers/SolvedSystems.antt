@@ -21,7 +21,7 @@ use Rattle.e_clause.specs.System.{NamedRow, system, rows_of_system}
 use Rattle.e_clause.specs.Wide.{HasWidth}
 use Rattle.e_fraction.specs.declared.row.Row.{Row as GivenRow}
 use Rattle.e_fraction.specs.Limits.{all_small}
-use Rattle.e_fraction.specs.Views.{seen, all_seen}
+use Rattle.e_fraction.specs.Views.{view_of_row, views_of_rows}
 use Rattle.e_simplex.specs.declared.decision.Absurdity.{Absurdity}
 use Rattle.e_simplex.specs.Answer.{assigned, AreValuesOf, IsAbsurdity}
 use Rattle.e_simplex.specs.Naming.{place_of, IsIn, FormNamed, AllNamed}
@@ -77,14 +77,14 @@ module _ (which : Kind) (facts : List Lit) (wanted : Option Lit) (ns : List Name
   pub small_named : all_small rows ≡ true
   small_named = KindAnswers.small_rows which facts wanted ns order named.pairs named.are named.limited good few good_wanted rows named.rows_are
 
-  pub solved_named : (v : Term → ℕ) → Satisfy v (all_seen rows) → Satisfy v (rows_of_system which facts wanted)
+  pub solved_named : (v : Term → ℕ) → Satisfy v (views_of_rows rows) → Satisfy v (rows_of_system which facts wanted)
   solved_named = KindAnswers.solved which facts wanted ns order named.pairs named.are named.limited good few good_wanted rows named.rows_are
 
-  pub wide_named : (w : ℕ) → w ≡ width (rows_of_system which facts wanted) → IsWide (all_seen rows) → HasWidth (rows_of_system which facts wanted) w
+  pub wide_named : (w : ℕ) → w ≡ width (rows_of_system which facts wanted) → IsWide (views_of_rows rows) → HasWidth (rows_of_system which facts wanted) w
   wide_named = KindAnswers.has_width which facts wanted ns order named.pairs named.are named.limited good few good_wanted rows named.rows_are
 
   pub refuted_named : (terms : List Term) (a : Absurdity) (sums : Sums) → terms ≡ with_listed (distinct_terms which facts wanted) (Right ∷ [])
-      → IsAbsurdity (all_seen rows) a → sums ≡ certificate_sums names rows terms a → IsMetricCertificate facts wanted (record { sums = sums })
+      → IsAbsurdity (views_of_rows rows) a → sums ≡ certificate_sums names rows terms a → IsMetricCertificate facts wanted (record { sums = sums })
   refuted_named terms a sums t h e = KindAnswers.refuted which facts wanted ns order named.pairs named.are named.limited good few good_wanted rows named.rows_are names terms a sums named.names_are t h e
 
 -- ---- values, and those of more terms
@@ -107,15 +107,15 @@ form_more ps qs (f ∷ fs) h = ap₂ {A = ℕ} {B = ℤ} (λ n z. f.0 *ℤ pos n
 
 satisfy_more : (ps qs : List (Term × ℕ)) (rs : List Row) → AllNamed (map (λ (p : Term × ℕ). p.0) ps) rs → Satisfy (assigned ps) rs → Satisfy (assigned (ps ++ qs)) rs
 satisfy_more ps qs [] h s = tt
-satisfy_more ps qs (r ∷ rs) h s = (subst (IsSo r.says) (sym (form_more ps qs r.form h.0)) s.0, satisfy_more ps qs rs h.1 s.1)
+satisfy_more ps qs (r ∷ rs) h s = (subst (IsSo r.sense) (sym (form_more ps qs r.form h.0)) s.0, satisfy_more ps qs rs h.1 s.1)
 
 satisfy_append : (v : Term → ℕ) (rs ss : List Row) → Satisfy v rs → Satisfy v ss → Satisfy v (rs ++ ss)
 satisfy_append v [] ss h k = k
 satisfy_append v (r ∷ rs) ss h k = (h.0, satisfy_append v rs ss h.1 k)
 
 -- one row more of those that are left
-pub one_so : (v : Term → ℕ) (rows : List GivenRow) (i : ℕ) (r : GivenRow) → i < length rows → r ≡ get_or rows i r → IsSo (seen r).says (form_value (seen r).form v) → Satisfy v (all_seen (drop (i + 1) rows)) → Satisfy v (all_seen (drop i rows))
-one_so v rows i r l e h s = subst (λ rs. Satisfy v (all_seen rs)) (sym (at rows i r r l e ∙ ap (λ n. r ∷ drop n rows) (one_more i))) (h, s)
+pub one_so : (v : Term → ℕ) (rows : List GivenRow) (i : ℕ) (r : GivenRow) → i < length rows → r ≡ get_or rows i r → IsSo (view_of_row r).sense (form_value (view_of_row r).form v) → Satisfy v (views_of_rows (drop (i + 1) rows)) → Satisfy v (views_of_rows (drop i rows))
+one_so v rows i r l e h s = subst (λ rs. Satisfy v (views_of_rows rs)) (sym (at rows i r r l e ∙ ap (λ n. r ∷ drop n rows) (one_more i))) (h, s)
   where
     one_more : (n : ℕ) → suc n ≡ n + 1
     one_more n = omega arith
@@ -144,10 +144,10 @@ module _ (which : Kind) (facts : List Lit) (wanted : Option Lit) (g : SolvedSyst
   pub small_together : all_small both ≡ true
   small_together = small_named which facts wanted t.all t.order (g.names.items ++ names) both named_both good few good_wanted
 
-  pub solved_together : (v : Term → ℕ) → Satisfy v (all_seen both) → Satisfy v (rows_of_system which facts wanted)
+  pub solved_together : (v : Term → ℕ) → Satisfy v (views_of_rows both) → Satisfy v (rows_of_system which facts wanted)
   solved_together = solved_named which facts wanted t.all t.order (g.names.items ++ names) both named_both good few good_wanted
 
-  pub width_together : (w : ℕ) → w ≡ width (rows_of_system which facts wanted) → IsWide (all_seen both) → HasWidth (rows_of_system which facts wanted) w
+  pub width_together : (w : ℕ) → w ≡ width (rows_of_system which facts wanted) → IsWide (views_of_rows both) → HasWidth (rows_of_system which facts wanted) w
   width_together = wide_named which facts wanted t.all t.order (g.names.items ++ names) both named_both good few good_wanted
 
   -- the copies that the certificate is made of
@@ -165,18 +165,18 @@ module _ (which : Kind) (facts : List Lit) (wanted : Option Lit) (g : SolvedSyst
   )
 
   pub refuted_together : (all : List RowName) (rs : List GivenRow) (terms : List Term) (a : Absurdity) (sums : Sums) → all ≡ g.names.items ++ names → rs ≡ g.rows.items ++ rows
-      → terms ≡ with_listed (distinct_terms which facts wanted) (Right ∷ []) → IsAbsurdity (all_seen both) a → sums ≡ certificate_sums all rs terms a → IsMetricCertificate facts wanted (record { sums = sums })
+      → terms ≡ with_listed (distinct_terms which facts wanted) (Right ∷ []) → IsAbsurdity (views_of_rows both) a → sums ≡ certificate_sums all rs terms a → IsMetricCertificate facts wanted (record { sums = sums })
   refuted_together all rs terms a sums n r same h e =
       refuted_named which facts wanted t.all t.order (g.names.items ++ names) both named_both good few good_wanted terms a sums same h
       (e ∙ ap₂ {A = List RowName} {B = List GivenRow} (λ x y. certificate_sums x y terms a) n (same_rows rs r))
 
   -- the values of the kept rows, and those of more terms, solve the system where they solve the rows after them
-  pub false_already : (values fresh : List (Term × ℕ)) (vs : List (Term × ℕ)) → vs ≡ values ++ fresh → AreValuesOf (all_seen g.solved_rows) values → Satisfy (assigned vs) (all_seen rows)
+  pub false_already : (values fresh : List (Term × ℕ)) (vs : List (Term × ℕ)) → vs ≡ values ++ fresh → AreValuesOf (views_of_rows g.solved_rows) values → Satisfy (assigned vs) (views_of_rows rows)
       → Satisfy (assigned vs) (rows_of_system which facts wanted)
   false_already values fresh vs e h s =
       solved_together (assigned vs)
-      (subst (Satisfy (assigned vs)) (sym (map-append seen g.solved_rows rows))
-      (satisfy_append (assigned vs) (all_seen g.solved_rows) (all_seen rows) (subst (λ v. Satisfy (assigned v) (all_seen g.solved_rows)) (sym e) (satisfy_more values fresh (all_seen g.solved_rows) h.all h.satisfy)) s))
+      (subst (Satisfy (assigned vs)) (sym (map-append view_of_row g.solved_rows rows))
+      (satisfy_append (assigned vs) (views_of_rows g.solved_rows) (views_of_rows rows) (subst (λ v. Satisfy (assigned v) (views_of_rows g.solved_rows)) (sym e) (satisfy_more values fresh (views_of_rows g.solved_rows) h.all h.satisfy)) s))
 
 -- ---- the rows of a goal
 

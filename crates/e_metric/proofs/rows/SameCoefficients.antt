@@ -18,7 +18,7 @@ use Rattle.e_literal.proofs.Booleans.{or_not_left, or_not_right}
 use Rattle.e_fraction.proofs.Wideness.{light}
 
 pub record IsAlike (a b : Row) : Type 0 where
-  pub says : a.says ≡ b.says
+  pub sense : a.sense ≡ b.sense
   pub coefficients : (t : Term) → coefficient a.form t ≡ coefficient b.form t
 
 abbrev pub Alike : List Row → List Row → Type 0
@@ -33,7 +33,7 @@ satisfy_alike [] [] v h s = tt
 satisfy_alike [] (q ∷ ss) v h s = absurd h
 satisfy_alike (r ∷ rs) [] v h s = absurd h
 satisfy_alike (r ∷ rs) (q ∷ ss) v h s = (
-  subst (λ z. IsSo q.says z) (form_value_same r.form q.form v h.0.coefficients) (subst (λ k. IsSo k (form_value r.form v)) h.0.says s.0),
+  subst (λ z. IsSo q.sense z) (form_value_same r.form q.form v h.0.coefficients) (subst (λ k. IsSo k (form_value r.form v)) h.0.sense s.0),
   satisfy_alike rs ss v h.1 s.1,
 )
 
@@ -53,7 +53,7 @@ entry_alike : (c : SignedRow) (q : Row) → IsAlike c.row q → entry c ≡ entr
 entry_alike c q h = fun_ext (λ x. by x)
   where
     by : (x : Column) → entry c x ≡ entry (record { row = q; down = c.down }) x
-    by Constants = ap (λ s. constant s c.down) h.says
+    by Constants = ap (λ s. constant s c.down) h.sense
     by (Of t) = h.coefficients t
 
 is_none : (cs : List SignedRow) → map row_of cs ≡ [] → cs ≡ []
@@ -225,14 +225,14 @@ size_alike (r ∷ rs) (q ∷ ss) t h =
 weight_alike : (rs ss : List Row) (t : Term) → Alike rs ss → weight rs t ≡ weight ss t
 weight_alike rs ss t h = ap (max 1) (size_alike rs ss t h)
 
-count_alike : (rs ss : List Row) → Alike rs ss → count_by (λ (r : Row). has_constant r.says) rs ≡ count_by (λ (r : Row). has_constant r.says) ss
+count_alike : (rs ss : List Row) → Alike rs ss → count_by (λ (r : Row). has_constant r.sense) rs ≡ count_by (λ (r : Row). has_constant r.sense) ss
 count_alike [] [] h = refl
 count_alike [] (q ∷ ss) h = absurd h
 count_alike (r ∷ rs) [] h = absurd h
 count_alike (r ∷ rs) (q ∷ ss) h =
-    sum_by-cons (λ (x : Row). cond (has_constant x.says) 1 0) r rs
-    ∙ ap₂ {A = ℕ} {B = ℕ} (λ a b. a + b) (ap (λ s. cond (has_constant s) 1 0) h.0.says) (count_alike rs ss h.1)
-    ∙ sym (sum_by-cons (λ (x : Row). cond (has_constant x.says) 1 0) q ss)
+    sum_by-cons (λ (x : Row). cond (has_constant x.sense) 1 0) r rs
+    ∙ ap₂ {A = ℕ} {B = ℕ} (λ a b. a + b) (ap (λ s. cond (has_constant s) 1 0) h.0.sense) (count_alike rs ss h.1)
+    ∙ sym (sum_by-cons (λ (x : Row). cond (has_constant x.sense) 1 0) q ss)
 
 -- ---- terms that occur in no row have weight 1
 

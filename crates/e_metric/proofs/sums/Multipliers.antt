@@ -9,7 +9,7 @@ use Rattle.e_literal.specs.Rows.{Row}
 use Rattle.e_literal.proofs.Arith.{sums}
 use Rattle.e_fraction.specs.declared.row.Row.{Row as GivenRow}
 use Rattle.e_fraction.specs.Limits.{all_small, small_multipliers}
-use Rattle.e_fraction.specs.Views.{seen, all_seen}
+use Rattle.e_fraction.specs.Views.{view_of_row, views_of_rows}
 use Rattle.e_simplex.specs.Answer.{AreMultipliers, Refutes, IsNotAt, as_more, as_less, RefutesBoth}
 use Rattle.e_metric.specs.inner.Certificate.{negated_place, IsWeighable}
 use Rattle.e_metric.proofs.sums.SystemCertificates.{length_more, length_less, left_given, left_more, left_less}
@@ -55,10 +55,10 @@ set_twice (x ∷ xs) (suc i) a b = ap (λ ys. x ∷ ys) (set_twice xs i a b)
 -- ---- multipliers
 
 module _ (rows : List GivenRow) (few : length rows ≤ 4096) (small : all_small rows ≡ true) where
-  pub one_length : (ms : List ℤ) → Refutes (all_seen rows) ms → length ms ≡ length rows
-  one_length ms h = taken_length (all_seen rows) ms h.taken ∙ length-map rows seen
+  pub one_length : (ms : List ℤ) → Refutes (views_of_rows rows) ms → length ms ≡ length rows
+  one_length ms h = taken_length (views_of_rows rows) ms h.taken ∙ length-map rows view_of_row
 
-  pub one_weighable : (ms : List ℤ) → Refutes (all_seen rows) ms → IsWeighable rows ms
+  pub one_weighable : (ms : List ℤ) → Refutes (views_of_rows rows) ms → IsWeighable rows ms
   one_weighable ms h = record {
     lengths = one_length ms h;
     few = few;
@@ -67,15 +67,15 @@ module _ (rows : List GivenRow) (few : length rows ≤ 4096) (small : all_small 
     left = λ t. subst (λ z. unsigned_abs z ≤ 2 ^ 80) (sym (left_given rows ms t)) (h.small_sums t);
   }
 
-  module _ (k : ℕ) (above below : List ℤ) (h : RefutesBoth (all_seen rows) k above below) where
+  module _ (k : ℕ) (above below : List ℤ) (h : RefutesBoth (views_of_rows rows) k above below) where
     pub both_here : k < length rows
-    both_here = omega (arith, not_below (all_seen rows) k h.is_not, length-map rows seen)
+    both_here = omega (arith, not_below (views_of_rows rows) k h.is_not, length-map rows view_of_row)
 
     pub above_length : length above ≡ length rows
-    above_length = taken_length (as_more (all_seen rows) k) above h.above_refutes.taken ∙ length_more (all_seen rows) k ∙ length-map rows seen
+    above_length = taken_length (as_more (views_of_rows rows) k) above h.above_refutes.taken ∙ length_more (views_of_rows rows) k ∙ length-map rows view_of_row
 
     pub below_length : length below ≡ length rows
-    below_length = taken_length (as_less (all_seen rows) k) below h.below_refutes.taken ∙ length_less (all_seen rows) k ∙ length-map rows seen
+    below_length = taken_length (as_less (views_of_rows rows) k) below h.below_refutes.taken ∙ length_less (views_of_rows rows) k ∙ length-map rows view_of_row
 
     pub below_small : unsigned_abs (get_or below k (pos 0)) ≤ 2 ^ 80
     below_small = h.below_refutes.small k (omega (arith, both_here, below_length))
@@ -86,7 +86,7 @@ module _ (rows : List GivenRow) (few : length rows ≤ 4096) (small : all_small 
       few = few;
       coefficients = small;
       good = good_given above h.above_refutes.small;
-      left = λ t. subst (λ z. unsigned_abs z ≤ 2 ^ 80) (sym (left_given rows above t ∙ left_more (all_seen rows) above k t)) (h.above_refutes.small_sums t);
+      left = λ t. subst (λ z. unsigned_abs z ≤ 2 ^ 80) (sym (left_given rows above t ∙ left_more (views_of_rows rows) above k t)) (h.above_refutes.small_sums t);
     }
 
     pub below_weighable : IsWeighable rows (negated_place below k)
@@ -95,5 +95,5 @@ module _ (rows : List GivenRow) (few : length rows ≤ 4096) (small : all_small 
       few = few;
       coefficients = small;
       good = good_negated below k h.below_refutes.small;
-      left = λ t. subst (λ z. unsigned_abs z ≤ 2 ^ 80) (sym (left_given rows (negated_place below k) t ∙ left_less (all_seen rows) below k t)) (h.below_refutes.small_sums t);
+      left = λ t. subst (λ z. unsigned_abs z ≤ 2 ^ 80) (sym (left_given rows (negated_place below k) t ∙ left_less (views_of_rows rows) below k t)) (h.below_refutes.small_sums t);
     }

@@ -144,14 +144,14 @@ least_good left (t ∷ ts) h = by (int_lt (left (canonical t)) (pos 0)) refl (le
         (good_of (neg_ℤ (left (canonical t))) (λ z. omega (arith, sums, k, z)) (omega (arith, sums, abs_is (neg_ℤ (left (canonical t))), abs_is (left (canonical t)), h (canonical t)))) ih)
     by false e ih = ih
 
-least_signs : (left : Term → ℤ) (ts : List Term) → list_all (λ (w : Weighed). allows_multiplier w.row.says w.multiplier) (least_rows left ts) ≡ true
+least_signs : (left : Term → ℤ) (ts : List Term) → list_all (λ (w : Weighed). allows_multiplier w.row.sense w.multiplier) (least_rows left ts) ≡ true
 least_signs left [] = refl
 least_signs left (t ∷ ts) = by (int_lt (left (canonical t)) (pos 0)) refl (least_signs left ts)
   where
-    by : (b : Bool) → int_lt (left (canonical t)) (pos 0) ≡ b → list_all (λ (w : Weighed). allows_multiplier w.row.says w.multiplier) (least_rows left ts) ≡ true
-        → list_all (λ (w : Weighed). allows_multiplier w.row.says w.multiplier) (cond b (one_least left t ∷ least_rows left ts) (least_rows left ts)) ≡ true
+    by : (b : Bool) → int_lt (left (canonical t)) (pos 0) ≡ b → list_all (λ (w : Weighed). allows_multiplier w.row.sense w.multiplier) (least_rows left ts) ≡ true
+        → list_all (λ (w : Weighed). allows_multiplier w.row.sense w.multiplier) (cond b (one_least left t ∷ least_rows left ts) (least_rows left ts)) ≡ true
     by true e ih = (let k = below_is (left (canonical t)) e in
-        and_from (int_le (pos 0) (neg_ℤ (left (canonical t)))) (list_all (λ (w : Weighed). allows_multiplier w.row.says w.multiplier) (least_rows left ts))
+        and_from (int_le (pos 0) (neg_ℤ (left (canonical t)))) (list_all (λ (w : Weighed). allows_multiplier w.row.sense w.multiplier) (least_rows left ts))
         (at_least_is (neg_ℤ (left (canonical t))) (omega (arith, sums, k))) ih)
     by false e ih = ih
 
@@ -205,27 +205,27 @@ one_sign AtLeast m n h = at_least_is m h
 one_sign More m n h = at_least_is m h
 one_sign Not m n h = absurd (n h)
 
-kept_signs : (rs : List Row) (ms : List ℤ) → AreMultipliers rs ms → list_all (λ (w : Weighed). allows_multiplier w.row.says w.multiplier) (kept_rows rs ms) ≡ true
+kept_signs : (rs : List Row) (ms : List ℤ) → AreMultipliers rs ms → list_all (λ (w : Weighed). allows_multiplier w.row.sense w.multiplier) (kept_rows rs ms) ≡ true
 kept_signs [] ms h = refl
 kept_signs (r ∷ rs) [] h = refl
 kept_signs (r ∷ rs) (m ∷ ms) h = by (int_eq m (pos 0)) refl (kept_signs rs ms h.1)
   where
-    by : (b : Bool) → int_eq m (pos 0) ≡ b → list_all (λ (w : Weighed). allows_multiplier w.row.says w.multiplier) (kept_rows rs ms) ≡ true
-        → list_all (λ (w : Weighed). allows_multiplier w.row.says w.multiplier) (cond b (kept_rows rs ms) (record { multiplier = m; row = r } ∷ kept_rows rs ms)) ≡ true
+    by : (b : Bool) → int_eq m (pos 0) ≡ b → list_all (λ (w : Weighed). allows_multiplier w.row.sense w.multiplier) (kept_rows rs ms) ≡ true
+        → list_all (λ (w : Weighed). allows_multiplier w.row.sense w.multiplier) (cond b (kept_rows rs ms) (record { multiplier = m; row = r } ∷ kept_rows rs ms)) ≡ true
     by true e ih = ih
-    by false e ih = and_from (allows_multiplier r.says m) (list_all (λ (w : Weighed). allows_multiplier w.row.says w.multiplier) (kept_rows rs ms)) (one_sign r.says m (not_zero m e) h.0) ih
+    by false e ih = and_from (allows_multiplier r.sense m) (list_all (λ (w : Weighed). allows_multiplier w.row.sense w.multiplier) (kept_rows rs ms)) (one_sign r.sense m (not_zero m e) h.0) ih
 
-kept_strict : (rs : List Row) (ms : List ℤ) → TakesMore rs ms → list_any (λ (w : Weighed). is_strict w.row.says w.multiplier) (kept_rows rs ms) ≡ true
+kept_strict : (rs : List Row) (ms : List ℤ) → TakesMore rs ms → list_any (λ (w : Weighed). is_strict w.row.sense w.multiplier) (kept_rows rs ms) ≡ true
 kept_strict [] ms h = absurd h
 kept_strict (r ∷ rs) [] h = absurd h
 kept_strict (r ∷ rs) (m ∷ ms) h = by (int_eq m (pos 0)) refl h (λ k. kept_strict rs ms k)
   where
-    by : (b : Bool) → int_eq m (pos 0) ≡ b → ((r.says ≡ More) × (pos 1 ≤ℤ m)) ⊎ TakesMore rs ms → (TakesMore rs ms → list_any (λ (w : Weighed). is_strict w.row.says w.multiplier) (kept_rows rs ms) ≡ true)
-        → list_any (λ (w : Weighed). is_strict w.row.says w.multiplier) (cond b (kept_rows rs ms) (record { multiplier = m; row = r } ∷ kept_rows rs ms)) ≡ true
+    by : (b : Bool) → int_eq m (pos 0) ≡ b → ((r.sense ≡ More) × (pos 1 ≤ℤ m)) ⊎ TakesMore rs ms → (TakesMore rs ms → list_any (λ (w : Weighed). is_strict w.row.sense w.multiplier) (kept_rows rs ms) ≡ true)
+        → list_any (λ (w : Weighed). is_strict w.row.sense w.multiplier) (cond b (kept_rows rs ms) (record { multiplier = m; row = r } ∷ kept_rows rs ms)) ≡ true
     by true e (inl k) ih = absurd (omega (arith, sums, zero_is m e, k.1))
     by true e (inr k) ih = ih k
-    by false e (inl k) ih = or_left (is_strict r.says m) (list_any (λ (w : Weighed). is_strict w.row.says w.multiplier) (kept_rows rs ms)) (ap (λ s. is_strict s m) k.0 ∙ one_is m k.1)
-    by false e (inr k) ih = or_right (is_strict r.says m) (list_any (λ (w : Weighed). is_strict w.row.says w.multiplier) (kept_rows rs ms)) (ih k)
+    by false e (inl k) ih = or_left (is_strict r.sense m) (list_any (λ (w : Weighed). is_strict w.row.sense w.multiplier) (kept_rows rs ms)) (ap (λ s. is_strict s m) k.0 ∙ one_is m k.1)
+    by false e (inr k) ih = or_right (is_strict r.sense m) (list_any (λ (w : Weighed). is_strict w.row.sense w.multiplier) (kept_rows rs ms)) (ih k)
 
 kept_some : (ns : List RowName) (rs : List Row) (ms : List ℤ) → length ns ≡ length rs → TakesMore rs ms → 1 ≤ length (named_multipliers ns ms)
 kept_some ns [] ms l h = absurd h
@@ -233,7 +233,7 @@ kept_some ns (r ∷ rs) [] l h = absurd h
 kept_some [] (r ∷ rs) (m ∷ ms) l h = absurd (omega (arith, l))
 kept_some (n ∷ ns) (r ∷ rs) (m ∷ ms) l h = by (int_eq m (pos 0)) refl h (λ k. kept_some ns rs ms (omega (arith, l)) k)
   where
-    by : (b : Bool) → int_eq m (pos 0) ≡ b → ((r.says ≡ More) × (pos 1 ≤ℤ m)) ⊎ TakesMore rs ms → (TakesMore rs ms → 1 ≤ length (named_multipliers ns ms)) → 1 ≤ length (cond b (named_multipliers ns ms) ((m, n) ∷ named_multipliers ns ms))
+    by : (b : Bool) → int_eq m (pos 0) ≡ b → ((r.sense ≡ More) × (pos 1 ≤ℤ m)) ⊎ TakesMore rs ms → (TakesMore rs ms → 1 ≤ length (named_multipliers ns ms)) → 1 ≤ length (cond b (named_multipliers ns ms) ((m, n) ∷ named_multipliers ns ms))
     by true e (inl k) ih = absurd (omega (arith, sums, zero_is m e, k.1))
     by true e (inr k) ih = ih k
     by false e k ih = omega arith
@@ -291,9 +291,9 @@ pub sum_refutes : (p : Place) (names : List RowName) (rows : List Row) (ms : Lis
 sum_refutes p names rows ms left terms h =
     and_from (is_limited_sum (named_multipliers names ms ++ leasts left terms)) (option_map_or is_absurd (weighed_rows p (named_multipliers names ms ++ leasts left terms)) false) size
     (ap (λ (o : Option (List Weighed)). option_map_or is_absurd o false) (weighed_append p (named_multipliers names ms) (leasts left terms) (kept_rows rows ms) (least_rows left terms) (kept_named p names rows ms h.named) (least_named p left terms h.steps))
-    ∙ and_from (list_all (λ t. int_eq (total ws t) (pos 0)) (terms_of_rows (map (λ (w : Weighed). w.row) ws))) (list_all (λ (w : Weighed). allows_multiplier w.row.says w.multiplier) ws && list_any (λ (w : Weighed). is_strict w.row.says w.multiplier) ws)
+    ∙ and_from (list_all (λ t. int_eq (total ws t) (pos 0)) (terms_of_rows (map (λ (w : Weighed). w.row) ws))) (list_all (λ (w : Weighed). allows_multiplier w.row.sense w.multiplier) ws && list_any (λ (w : Weighed). is_strict w.row.sense w.multiplier) ws)
     (all_hold (λ t. int_eq (total ws t) (pos 0)) (terms_of_rows (map (λ (w : Weighed). w.row) ws)) (λ t. is_zero (total ws t) (cancels t)))
-    (and_from (list_all (λ (w : Weighed). allows_multiplier w.row.says w.multiplier) ws) (list_any (λ (w : Weighed). is_strict w.row.says w.multiplier) ws) signs strict))
+    (and_from (list_all (λ (w : Weighed). allows_multiplier w.row.sense w.multiplier) ws) (list_any (λ (w : Weighed). is_strict w.row.sense w.multiplier) ws) signs strict))
   where
     ws : List Weighed
     ws = kept_rows rows ms ++ least_rows left terms
@@ -321,14 +321,14 @@ sum_refutes p names rows ms left terms h =
         by true e = omega (arith, sums, h.left_is t)
         by false e = omega (arith, sums, h.covers t e)
 
-    signs : list_all (λ (w : Weighed). allows_multiplier w.row.says w.multiplier) (kept_rows rows ms ++ least_rows left terms) ≡ true
+    signs : list_all (λ (w : Weighed). allows_multiplier w.row.sense w.multiplier) (kept_rows rows ms ++ least_rows left terms) ≡ true
     signs =
-        list_all-append (λ (w : Weighed). allows_multiplier w.row.says w.multiplier) (kept_rows rows ms) (least_rows left terms)
-        ∙ and_from (list_all (λ (w : Weighed). allows_multiplier w.row.says w.multiplier) (kept_rows rows ms)) (list_all (λ (w : Weighed). allows_multiplier w.row.says w.multiplier) (least_rows left terms))
+        list_all-append (λ (w : Weighed). allows_multiplier w.row.sense w.multiplier) (kept_rows rows ms) (least_rows left terms)
+        ∙ and_from (list_all (λ (w : Weighed). allows_multiplier w.row.sense w.multiplier) (kept_rows rows ms)) (list_all (λ (w : Weighed). allows_multiplier w.row.sense w.multiplier) (least_rows left terms))
         (kept_signs rows ms h.refutes.taken) (least_signs left terms)
 
-    strict : list_any (λ (w : Weighed). is_strict w.row.says w.multiplier) (kept_rows rows ms ++ least_rows left terms) ≡ true
+    strict : list_any (λ (w : Weighed). is_strict w.row.sense w.multiplier) (kept_rows rows ms ++ least_rows left terms) ≡ true
     strict =
-        list_any-append (λ (w : Weighed). is_strict w.row.says w.multiplier) (kept_rows rows ms) (least_rows left terms)
-        ∙ or_left (list_any (λ (w : Weighed). is_strict w.row.says w.multiplier) (kept_rows rows ms)) (list_any (λ (w : Weighed). is_strict w.row.says w.multiplier) (least_rows left terms))
+        list_any-append (λ (w : Weighed). is_strict w.row.sense w.multiplier) (kept_rows rows ms) (least_rows left terms)
+        ∙ or_left (list_any (λ (w : Weighed). is_strict w.row.sense w.multiplier) (kept_rows rows ms)) (list_any (λ (w : Weighed). is_strict w.row.sense w.multiplier) (least_rows left terms))
         (kept_strict rows ms h.refutes.more)

@@ -28,7 +28,7 @@ use Rattle.e_clause.specs.MetricCertificate.{differing, above_row, below_row, bo
 use Rattle.e_clause.proofs.Named.{Each, IsNamed, system_named, HasNot, Misses, system_misses}
 use Rattle.e_clause.proofs.Solved.{terms_of_system, system_among, first_among}
 use Rattle.e_fraction.specs.declared.row.Row.{Row as GivenRow}
-use Rattle.e_fraction.specs.Views.{all_seen, weighed}
+use Rattle.e_fraction.specs.Views.{views_of_rows, weighed}
 use Rattle.e_simplex.specs.declared.decision.Absurdity.{Absurdity}
 use Rattle.e_simplex.specs.declared.decision.Absurdity.TheVariants.{One, Two}
 use Rattle.e_simplex.specs.Answer.{each_weighed, MayTake, AreMultipliers, TakesMore, Refutes, IsNotAt, as_more, as_less, RefutesBoth, IsAbsurdity}
@@ -61,11 +61,11 @@ names_are [] (p ∷ ps) h = absurd h
 names_are (n ∷ ns) [] h = absurd h
 names_are (n ∷ ns) (p ∷ ps) h = ap₂ {A = RowName} {B = List RowName} (λ x xs. x ∷ xs) h.0 (names_are ns ps h.2)
 
-pub rows_alike : (ns : List NamedRow) (ps : List (RowName × GivenRow)) → AreRows ns ps → Alike (all_seen (rows_given ps)) (map row_of ns)
+pub rows_alike : (ns : List NamedRow) (ps : List (RowName × GivenRow)) → AreRows ns ps → Alike (views_of_rows (rows_given ps)) (map row_of ns)
 rows_alike [] [] h = tt
 rows_alike [] (p ∷ ps) h = absurd h
 rows_alike (n ∷ ns) [] h = absurd h
-rows_alike (n ∷ ns) (p ∷ ps) h = (record { says = h.1.says; coefficients = h.1.coefficients }, rows_alike ns ps h.2)
+rows_alike (n ∷ ns) (p ∷ ps) h = (record { sense = h.1.sense; coefficients = h.1.coefficients }, rows_alike ns ps h.2)
 
 pub length_rows : (ns : List NamedRow) (ps : List (RowName × GivenRow)) → AreRows ns ps → length ns ≡ length ps
 length_rows [] [] h = refl
@@ -80,14 +80,14 @@ taken_alike [] [] ms h t = t
 taken_alike [] (q ∷ ss) ms h t = absurd h
 taken_alike (r ∷ rs) [] ms h t = absurd h
 taken_alike (r ∷ rs) (q ∷ ss) [] h t = absurd t
-taken_alike (r ∷ rs) (q ∷ ss) (m ∷ ms) h t = (subst (λ s. MayTake s m) h.0.says t.0, taken_alike rs ss ms h.1 t.1)
+taken_alike (r ∷ rs) (q ∷ ss) (m ∷ ms) h t = (subst (λ s. MayTake s m) h.0.sense t.0, taken_alike rs ss ms h.1 t.1)
 
 more_alike : (rs ss : List Row) (ms : List ℤ) → Alike rs ss → TakesMore rs ms → TakesMore ss ms
 more_alike [] [] ms h t = t
 more_alike [] (q ∷ ss) ms h t = absurd h
 more_alike (r ∷ rs) [] ms h t = absurd h
 more_alike (r ∷ rs) (q ∷ ss) [] h t = absurd t
-more_alike (r ∷ rs) (q ∷ ss) (m ∷ ms) h (inl t) = inl (sym h.0.says ∙ t.0, t.1)
+more_alike (r ∷ rs) (q ∷ ss) (m ∷ ms) h (inl t) = inl (sym h.0.sense ∙ t.0, t.1)
 more_alike (r ∷ rs) (q ∷ ss) (m ∷ ms) h (inr t) = inr (more_alike rs ss ms h.1 t)
 
 total_alike : (rs ss : List Row) (ms : List ℤ) (u : Term) → Alike rs ss → total (each_weighed rs ms) u ≡ total (each_weighed ss ms) u
@@ -110,7 +110,7 @@ more_of_alike : (rs ss : List Row) (k : ℕ) → Alike rs ss → Alike (as_more 
 more_of_alike [] [] k h = tt
 more_of_alike [] (q ∷ ss) k h = absurd h
 more_of_alike (r ∷ rs) [] k h = absurd h
-more_of_alike (r ∷ rs) (q ∷ ss) zero h = (record { says = refl; coefficients = h.0.coefficients }, h.1)
+more_of_alike (r ∷ rs) (q ∷ ss) zero h = (record { sense = refl; coefficients = h.0.coefficients }, h.1)
 more_of_alike (r ∷ rs) (q ∷ ss) (suc k) h = (h.0, more_of_alike rs ss k h.1)
 
 less_of_alike : (rs ss : List Row) (k : ℕ) → Alike rs ss → Alike (as_less rs k) (as_less ss k)
@@ -118,19 +118,19 @@ less_of_alike [] [] k h = tt
 less_of_alike [] (q ∷ ss) k h = absurd h
 less_of_alike (r ∷ rs) [] k h = absurd h
 less_of_alike (r ∷ rs) (q ∷ ss) zero h =
-    (record { says = refl; coefficients = λ t. coefficient_negative r.form t ∙ ap neg_ℤ (h.0.coefficients t) ∙ sym (coefficient_negative q.form t) }, h.1)
+    (record { sense = refl; coefficients = λ t. coefficient_negative r.form t ∙ ap neg_ℤ (h.0.coefficients t) ∙ sym (coefficient_negative q.form t) }, h.1)
 less_of_alike (r ∷ rs) (q ∷ ss) (suc k) h = (h.0, less_of_alike rs ss k h.1)
 
 not_alike : (rs ss : List Row) (k : ℕ) → Alike rs ss → IsNotAt rs k → IsNotAt ss k
 not_alike [] [] k h n = n
 not_alike [] (q ∷ ss) k h n = absurd h
 not_alike (r ∷ rs) [] k h n = absurd h
-not_alike (r ∷ rs) (q ∷ ss) zero h n = sym h.0.says ∙ n
+not_alike (r ∷ rs) (q ∷ ss) zero h n = sym h.0.sense ∙ n
 not_alike (r ∷ rs) (q ∷ ss) (suc k) h n = not_alike rs ss k h.1 n
 
 -- ---- what is left of a term
 
-pub left_given : (gs : List GivenRow) (ms : List ℤ) (u : Term) → total (weighed gs ms) u ≡ total (each_weighed (all_seen gs) ms) u
+pub left_given : (gs : List GivenRow) (ms : List ℤ) (u : Term) → total (weighed gs ms) u ≡ total (each_weighed (views_of_rows gs) ms) u
 left_given [] ms u = refl
 left_given (g ∷ gs) [] u = refl
 left_given (g ∷ gs) (m ∷ ms) u = ap (λ z. m *ℤ coefficient g.form u +ℤ z) (left_given gs ms u)
@@ -168,10 +168,10 @@ length_set (y ∷ ys) (suc k) x = ap suc (length_set ys k x)
 
 -- ---- names
 
-unless : (r : Row) (m : ℤ) → MayTake r.says m → (m ≢ pos 0) → unless_not (Some r) ≡ Some r
-unless r m h n = by r.says refl h
+unless : (r : Row) (m : ℤ) → MayTake r.sense m → (m ≢ pos 0) → unless_not (Some r) ≡ Some r
+unless r m h n = by r.sense refl h
   where
-    by : (s : Sense) → r.says ≡ s → MayTake s m → cond (says_differ r.says) None (Some r) ≡ Some r
+    by : (s : Sense) → r.sense ≡ s → MayTake s m → cond (says_differ r.sense) None (Some r) ≡ Some r
     by Zero e k = ap (λ x. cond (says_differ x) None (Some r)) e
     by AtLeast e k = ap (λ x. cond (says_differ x) None (Some r)) e
     by More e k = ap (λ x. cond (says_differ x) None (Some r)) e
@@ -192,7 +192,7 @@ RowAt (n ∷ ns) (suc k) m = RowAt ns k m
 pub record TheNot (ns : List NamedRow) (k : ℕ) : Type 0 where
   pub row : NamedRow
   pub here : RowAt ns k row
-  pub is_not : row.row.says ≡ Not
+  pub is_not : row.row.sense ≡ Not
   pub name : get_or (map name_of ns) k Goal ≡ row.name
 
 the_not : (ns : List NamedRow) (k : ℕ) → IsNotAt (map row_of ns) k → TheNot ns k
@@ -302,7 +302,7 @@ module _ (which : Kind) (facts : List Lit) (wanted : Option Lit) where
     abbrev rows : List Row
     rows = map row_of ns
 
-    alike : Alike (all_seen (rows_given pairs)) rows
+    alike : Alike (views_of_rows (rows_given pairs)) rows
     alike = rows_alike ns pairs are
 
     abbrev place : Option Row → Option Row → Place
@@ -314,56 +314,56 @@ module _ (which : Kind) (facts : List Lit) (wanted : Option Lit) where
     few_names : length (map name_of ns) + length summed ≤ 4096
     few_names = omega (arith, length-map ns name_of, length_rows ns pairs are, few)
 
-    one_sum : (ms : List ℤ) → Refutes (all_seen (rows_given pairs)) ms → refutes (place None None) (certificate_sum (map name_of ns) (rows_given pairs) ms ms summed) ≡ true
+    one_sum : (ms : List ℤ) → Refutes (views_of_rows (rows_given pairs)) ms → refutes (place None None) (certificate_sum (map name_of ns) (rows_given pairs) ms ms summed) ≡ true
     one_sum ms r =
-        (let rr = refutes_alike (all_seen (rows_given pairs)) rows ms alike r in
+        (let rr = refutes_alike (views_of_rows (rows_given pairs)) rows ms alike r in
         sum_refutes (place None None) (map name_of ns) rows ms (total (weighed (rows_given pairs) ms)) summed (record {
           refutes = rr;
           named = named_taken (place None None) ns ms (all_named (place None None) refl refl) rr.taken;
           as_many = length_names;
           few = few_names;
-          left_is = λ u. left_given (rows_given pairs) ms u ∙ total_alike (all_seen (rows_given pairs)) rows ms u alike;
+          left_is = λ u. left_given (rows_given pairs) ms u ∙ total_alike (views_of_rows (rows_given pairs)) rows ms u alike;
           once = subst Once (sym summed_is) (first_once [] (written ++ Right ∷ []));
           steps = steps (place None None) refl refl;
           covers = λ u h. none_total u rows ms (covered u h);
         }))
 
-    above_sum : (k : ℕ) (ms : List ℤ) (q : NamedRow) → RowAt ns k q → Refutes (as_more (all_seen (rows_given pairs)) k) ms
+    above_sum : (k : ℕ) (ms : List ℤ) (q : NamedRow) → RowAt ns k q → Refutes (as_more (views_of_rows (rows_given pairs)) k) ms
         → refutes (place (Some (above_row q.row)) None) (certificate_sum (set (map name_of ns) k Above) (rows_given pairs) ms ms summed) ≡ true
     above_sum k ms q here r =
         (let p = place (Some (above_row q.row)) None in
-        let rr = refutes_alike (as_more (all_seen (rows_given pairs)) k) (as_more rows k) ms (more_of_alike (all_seen (rows_given pairs)) rows k alike) r in
+        let rr = refutes_alike (as_more (views_of_rows (rows_given pairs)) k) (as_more rows k) ms (more_of_alike (views_of_rows (rows_given pairs)) rows k alike) r in
         sum_refutes p (set (map name_of ns) k Above) (as_more rows k) ms (total (weighed (rows_given pairs) ms)) summed (record {
           refutes = rr;
           named = named_above p ns ms k q (all_named p refl refl) here refl rr.taken;
           as_many = length_set (map name_of ns) k Above ∙ length_names ∙ sym (length_more rows k);
           few = omega (arith, length_set (map name_of ns) k Above, few_names);
-          left_is = λ u. left_given (rows_given pairs) ms u ∙ total_alike (all_seen (rows_given pairs)) rows ms u alike ∙ left_more rows ms k u;
+          left_is = λ u. left_given (rows_given pairs) ms u ∙ total_alike (views_of_rows (rows_given pairs)) rows ms u alike ∙ left_more rows ms k u;
           once = subst Once (sym summed_is) (first_once [] (written ++ Right ∷ []));
           steps = steps p refl refl;
           covers = λ u h. none_total u (as_more rows k) ms (none_more u rows k (covered u h));
         }))
 
-    below_sum : (k : ℕ) (ms : List ℤ) (q : NamedRow) → RowAt ns k q → Refutes (as_less (all_seen (rows_given pairs)) k) ms
+    below_sum : (k : ℕ) (ms : List ℤ) (q : NamedRow) → RowAt ns k q → Refutes (as_less (views_of_rows (rows_given pairs)) k) ms
         → refutes (place None (Some (below_row q.row))) (certificate_sum (set (map name_of ns) k Below) (rows_given pairs) ms (negated_place ms k) summed) ≡ true
     below_sum k ms q here r =
         (let p = place None (Some (below_row q.row)) in
-        let rr = refutes_alike (as_less (all_seen (rows_given pairs)) k) (as_less rows k) ms (less_of_alike (all_seen (rows_given pairs)) rows k alike) r in
+        let rr = refutes_alike (as_less (views_of_rows (rows_given pairs)) k) (as_less rows k) ms (less_of_alike (views_of_rows (rows_given pairs)) rows k alike) r in
         sum_refutes p (set (map name_of ns) k Below) (as_less rows k) ms (total (weighed (rows_given pairs) (negated_place ms k))) summed (record {
           refutes = rr;
           named = named_below p ns ms k q (all_named p refl refl) here refl rr.taken;
           as_many = length_set (map name_of ns) k Below ∙ length_names ∙ sym (length_less rows k);
           few = omega (arith, length_set (map name_of ns) k Below, few_names);
-          left_is = λ u. left_given (rows_given pairs) (negated_place ms k) u ∙ total_alike (all_seen (rows_given pairs)) rows (negated_place ms k) u alike ∙ left_less rows ms k u;
+          left_is = λ u. left_given (rows_given pairs) (negated_place ms k) u ∙ total_alike (views_of_rows (rows_given pairs)) rows (negated_place ms k) u alike ∙ left_less rows ms k u;
           once = subst Once (sym summed_is) (first_once [] (written ++ Right ∷ []));
           steps = steps p refl refl;
           covers = λ u h. none_total u (as_less rows k) ms (none_less u rows k (covered u h));
         }))
 
-    two_sums : (k : ℕ) (above below : List ℤ) → RefutesBoth (all_seen (rows_given pairs)) k above below
+    two_sums : (k : ℕ) (above below : List ℤ) → RefutesBoth (views_of_rows (rows_given pairs)) k above below
         → sums_refute facts wanted (TwoSums (get_or (map name_of ns) k Goal) (certificate_sum (set (map name_of ns) k Above) (rows_given pairs) above above summed) (certificate_sum (set (map name_of ns) k Below) (rows_given pairs) below (negated_place below k) summed)) ≡ true
     two_sums k above below h =
-        (let w = the_not ns k (not_alike (all_seen (rows_given pairs)) rows k alike h.is_not) in
+        (let w = the_not ns k (not_alike (views_of_rows (rows_given pairs)) rows k alike h.is_not) in
         let first = certificate_sum (set (map name_of ns) k Above) (rows_given pairs) above above summed in
         let second = certificate_sum (set (map name_of ns) k Below) (rows_given pairs) below (negated_place below k) summed in
         let named = each_at (IsNamed (place None None)) ns k w.row (all_named (place None None) refl refl) w.here in
@@ -372,7 +372,7 @@ module _ (which : Kind) (facts : List Lit) (wanted : Option Lit) where
         (above_sum k above w.row w.here h.above_refutes) (below_sum k below w.row w.here h.below_refutes))
 
     -- what the multipliers make is a certificate
-    pub certified : (a : Absurdity) → IsAbsurdity (all_seen (rows_given pairs)) a → sums_refute facts wanted (certificate_sums (names_given pairs) (rows_given pairs) summed a) ≡ true
+    pub certified : (a : Absurdity) → IsAbsurdity (views_of_rows (rows_given pairs)) a → sums_refute facts wanted (certificate_sums (names_given pairs) (rows_given pairs) summed a) ≡ true
     certified (One ms) h = subst (λ (xs : List RowName). sums_refute facts wanted (certificate_sums xs (rows_given pairs) summed (One ms)) ≡ true) (sym (names_are ns pairs are)) (one_sum ms.items h)
     certified (Two k above below) h =
         subst (λ (xs : List RowName). sums_refute facts wanted (certificate_sums xs (rows_given pairs) summed (Two k above below)) ≡ true) (sym (names_are ns pairs are)) (two_sums k above.items below.items h)

@@ -31,12 +31,12 @@ use Rattle.e_names.proofs.read_lines.Citations.{object_scope, object_sort, count
 
 -- ---- a construction that is read
 
-chosen : (b : Bool) (c form : Construction) (rest : Result Construction FaultKind) → cond b (read_ok c) rest ≡ Ok form → ((b ≡ true) × (c ≡ form)) ⊎ (rest ≡ Ok form)
-chosen true c form rest e = inl (refl, ok_is c form e)
-chosen false c form rest e = inr e
+chosen : (b : Bool) (c construction : Construction) (rest : Result Construction FaultKind) → cond b (read_ok c) rest ≡ Ok construction → ((b ≡ true) × (c ≡ construction)) ⊎ (rest ≡ Ok construction)
+chosen true c construction rest e = inl (refl, ok_is c construction e)
+chosen false c construction rest e = inr e
 
-first_fits : (s : Scope) (args avoid : List Obj) (shapes : List Shape) (form : Construction) → first_fitting s args avoid shapes ≡ Ok form → fits_construction form s ≡ true
-first_fits s args avoid [] form e = absurd cc
+first_fits : (s : Scope) (args avoid : List Obj) (shapes : List Shape) (construction : Construction) → first_fitting s args avoid shapes ≡ Ok construction → fits_construction construction s ≡ true
+first_fits s args avoid [] construction e = absurd cc
 first_fits s args avoid (x ∷ shapes) form e =
     let c = construction x args avoid in
     elim (chosen (fits_construction c s) c form (first_fitting s args avoid shapes) e) [
@@ -45,22 +45,22 @@ first_fits s args avoid (x ∷ shapes) form e =
     ]
 
 -- it fits, its new names are free, and there is one for each object that it makes
-pub record GoodLet (ns : Names) (form : Construction) (new : List (List ℕ)) : Type 0 where
-  pub fits : fits_construction form (scope_of_names ns) ≡ true
+pub record GoodLet (ns : Names) (construction : Construction) (new : List (List ℕ)) : Type 0 where
+  pub fits : fits_construction construction (scope_of_names ns) ≡ true
   pub free : fresh ns [] new ≡ Ok tt
-  pub count : length new ≡ length (sorts_made form)
+  pub count : length new ≡ length (sorts_made construction)
 
-pub let_fits : (ns : Names) (l : RawLet) (form : Construction) → let_in ns l ≡ Ok form → GoodLet ns form l.new
+pub let_fits : (ns : Names) (l : RawLet) (construction : Construction) → let_in ns l ≡ Ok construction → GoodLet ns construction l.new
 unfolding let_in
-let_fits ns l form e =
+let_fits ns l construction e =
     let s = scope_of_names ns in
     let count : Construction → Result Construction FaultKind = λ f. right_count (eqb (length l.new) (length (sorts_made f))) >>= λ right. read_ok f in
-    let a = bind_ok (fresh ns [] l.new) (λ free. arguments_in ns l.shapes [] l.args >>= λ args. each (used ns) l.avoid >>= λ avoid. first_fitting s args avoid l.shapes >>= count) form e in
-    let b = bind_ok (arguments_in ns l.shapes [] l.args) (λ args. each (used ns) l.avoid >>= λ avoid. first_fitting s args avoid l.shapes >>= count) form a.2 in
-    let c = bind_ok (each (used ns) l.avoid) (λ avoid. first_fitting s b.0 avoid l.shapes >>= count) form b.2 in
-    let d = bind_ok (first_fitting s b.0 c.0 l.shapes) count form c.2 in
-    let r = bind_ok (right_count (eqb (length l.new) (length (sorts_made d.0)))) (λ right. read_ok d.0) form d.2 in
-    subst (λ (f : Construction). GoodLet ns f l.new) (ok_is d.0 form r.2) (record {
+    let a = bind_ok (fresh ns [] l.new) (λ free. arguments_in ns l.shapes [] l.args >>= λ args. each (used ns) l.avoid >>= λ avoid. first_fitting s args avoid l.shapes >>= count) construction e in
+    let b = bind_ok (arguments_in ns l.shapes [] l.args) (λ args. each (used ns) l.avoid >>= λ avoid. first_fitting s args avoid l.shapes >>= count) construction a.2 in
+    let c = bind_ok (each (used ns) l.avoid) (λ avoid. first_fitting s b.0 avoid l.shapes >>= count) construction b.2 in
+    let d = bind_ok (first_fitting s b.0 c.0 l.shapes) count construction c.2 in
+    let r = bind_ok (right_count (eqb (length l.new) (length (sorts_made d.0)))) (λ right. read_ok d.0) construction d.2 in
+    subst (λ (f : Construction). GoodLet ns f l.new) (ok_is d.0 construction r.2) (record {
       fits = first_fits s b.0 c.0 l.shapes d.0 d.1;
       free = a.1;
       count = eqb-true (length l.new) (length (sorts_made d.0)) (counted _ r.0 r.1);
@@ -69,7 +69,7 @@ let_fits ns l form e =
 -- ---- a superposition that is read
 
 -- the points and lines that a superposition places, each after its name
-pub record EachAfterName (ns : Names) (a b c k d g h l : List ℕ) (form : Superpose) : Type 0 where
+pub record EachAfterName (ns : Names) (a b c k d g h l : List ℕ) (superposition : Superpose) : Type 0 where
   pub na : ℕ
   pub nb : ℕ
   pub nc : ℕ
@@ -86,19 +86,19 @@ pub record EachAfterName (ns : Names) (a b c k d g h l : List ℕ) (form : Super
   pub g_is : number_of_name ns Point g ≡ Ok ng
   pub h_is : number_of_name ns Point h ≡ Ok nh
   pub l_is : number_of_name ns Line l ≡ Ok nl
-  pub form_is : superpose na nb nc nd ng nh nk nl ≡ form
+  pub form_is : superpose na nb nc nd ng nh nk nl ≡ superposition
 
-pub placed_after : (ns : Names) (a b c k d g h l : List ℕ) (form : Superpose) → placed_in ns (a ∷ b ∷ c ∷ k ∷ d ∷ g ∷ h ∷ l ∷ []) ≡ Ok form → EachAfterName ns a b c k d g h l form
+pub placed_after : (ns : Names) (a b c k d g h l : List ℕ) (superposition : Superpose) → placed_in ns (a ∷ b ∷ c ∷ k ∷ d ∷ g ∷ h ∷ l ∷ []) ≡ Ok superposition → EachAfterName ns a b c k d g h l superposition
 unfolding placed_in
-placed_after ns a b c k d g h l form e =
-    let na = bind_ok (number_of_name ns Point a) (λ na. number_of_name ns Point b >>= λ nb. number_of_name ns Point c >>= λ nc. number_of_name ns Line k >>= λ nk. number_of_name ns Point d >>= λ nd. number_of_name ns Point g >>= λ ng. number_of_name ns Point h >>= λ nh. number_of_name ns Line l >>= λ nl. read_ok (superpose na nb nc nd ng nh nk nl)) form e in
-    let nb = bind_ok (number_of_name ns Point b) (λ nb. number_of_name ns Point c >>= λ nc. number_of_name ns Line k >>= λ nk. number_of_name ns Point d >>= λ nd. number_of_name ns Point g >>= λ ng. number_of_name ns Point h >>= λ nh. number_of_name ns Line l >>= λ nl. read_ok (superpose na.0 nb nc nd ng nh nk nl)) form na.2 in
-    let nc = bind_ok (number_of_name ns Point c) (λ nc. number_of_name ns Line k >>= λ nk. number_of_name ns Point d >>= λ nd. number_of_name ns Point g >>= λ ng. number_of_name ns Point h >>= λ nh. number_of_name ns Line l >>= λ nl. read_ok (superpose na.0 nb.0 nc nd ng nh nk nl)) form nb.2 in
-    let nk = bind_ok (number_of_name ns Line k) (λ nk. number_of_name ns Point d >>= λ nd. number_of_name ns Point g >>= λ ng. number_of_name ns Point h >>= λ nh. number_of_name ns Line l >>= λ nl. read_ok (superpose na.0 nb.0 nc.0 nd ng nh nk nl)) form nc.2 in
-    let nd = bind_ok (number_of_name ns Point d) (λ nd. number_of_name ns Point g >>= λ ng. number_of_name ns Point h >>= λ nh. number_of_name ns Line l >>= λ nl. read_ok (superpose na.0 nb.0 nc.0 nd ng nh nk.0 nl)) form nk.2 in
-    let ng = bind_ok (number_of_name ns Point g) (λ ng. number_of_name ns Point h >>= λ nh. number_of_name ns Line l >>= λ nl. read_ok (superpose na.0 nb.0 nc.0 nd.0 ng nh nk.0 nl)) form nd.2 in
-    let nh = bind_ok (number_of_name ns Point h) (λ nh. number_of_name ns Line l >>= λ nl. read_ok (superpose na.0 nb.0 nc.0 nd.0 ng.0 nh nk.0 nl)) form ng.2 in
-    let nl = bind_ok (number_of_name ns Line l) (λ nl. read_ok (superpose na.0 nb.0 nc.0 nd.0 ng.0 nh.0 nk.0 nl)) form nh.2 in
+placed_after ns a b c k d g h l superposition e =
+    let na = bind_ok (number_of_name ns Point a) (λ na. number_of_name ns Point b >>= λ nb. number_of_name ns Point c >>= λ nc. number_of_name ns Line k >>= λ nk. number_of_name ns Point d >>= λ nd. number_of_name ns Point g >>= λ ng. number_of_name ns Point h >>= λ nh. number_of_name ns Line l >>= λ nl. read_ok (superpose na nb nc nd ng nh nk nl)) superposition e in
+    let nb = bind_ok (number_of_name ns Point b) (λ nb. number_of_name ns Point c >>= λ nc. number_of_name ns Line k >>= λ nk. number_of_name ns Point d >>= λ nd. number_of_name ns Point g >>= λ ng. number_of_name ns Point h >>= λ nh. number_of_name ns Line l >>= λ nl. read_ok (superpose na.0 nb nc nd ng nh nk nl)) superposition na.2 in
+    let nc = bind_ok (number_of_name ns Point c) (λ nc. number_of_name ns Line k >>= λ nk. number_of_name ns Point d >>= λ nd. number_of_name ns Point g >>= λ ng. number_of_name ns Point h >>= λ nh. number_of_name ns Line l >>= λ nl. read_ok (superpose na.0 nb.0 nc nd ng nh nk nl)) superposition nb.2 in
+    let nk = bind_ok (number_of_name ns Line k) (λ nk. number_of_name ns Point d >>= λ nd. number_of_name ns Point g >>= λ ng. number_of_name ns Point h >>= λ nh. number_of_name ns Line l >>= λ nl. read_ok (superpose na.0 nb.0 nc.0 nd ng nh nk nl)) superposition nc.2 in
+    let nd = bind_ok (number_of_name ns Point d) (λ nd. number_of_name ns Point g >>= λ ng. number_of_name ns Point h >>= λ nh. number_of_name ns Line l >>= λ nl. read_ok (superpose na.0 nb.0 nc.0 nd ng nh nk.0 nl)) superposition nk.2 in
+    let ng = bind_ok (number_of_name ns Point g) (λ ng. number_of_name ns Point h >>= λ nh. number_of_name ns Line l >>= λ nl. read_ok (superpose na.0 nb.0 nc.0 nd.0 ng nh nk.0 nl)) superposition nd.2 in
+    let nh = bind_ok (number_of_name ns Point h) (λ nh. number_of_name ns Line l >>= λ nl. read_ok (superpose na.0 nb.0 nc.0 nd.0 ng.0 nh nk.0 nl)) superposition ng.2 in
+    let nl = bind_ok (number_of_name ns Line l) (λ nl. read_ok (superpose na.0 nb.0 nc.0 nd.0 ng.0 nh.0 nk.0 nl)) superposition nh.2 in
     record {
       na = na.0;
       nb = nb.0;
@@ -116,23 +116,23 @@ placed_after ns a b c k d g h l form e =
       g_is = ng.1;
       h_is = nh.1;
       l_is = nl.1;
-      form_is = ok_is (superpose na.0 nb.0 nc.0 nd.0 ng.0 nh.0 nk.0 nl.0) form nl.2;
+      form_is = ok_is (superpose na.0 nb.0 nc.0 nd.0 ng.0 nh.0 nk.0 nl.0) superposition nl.2;
     }
 
-placed_fits : (ns : Names) (args : List (List ℕ)) (form : Superpose) → placed_in ns args ≡ Ok form → superposing.fits_superposition form (scope_of_names ns) ≡ true
+placed_fits : (ns : Names) (args : List (List ℕ)) (superposition : Superpose) → placed_in ns args ≡ Ok superposition → superposing.fits_superposition superposition (scope_of_names ns) ≡ true
 unfolding placed_in
-placed_fits ns (a ∷ b ∷ c ∷ k ∷ d ∷ g ∷ h ∷ l ∷ []) form e =
-    let p = placed_after ns a b c k d g h l form e in
+placed_fits ns (a ∷ b ∷ c ∷ k ∷ d ∷ g ∷ h ∷ l ∷ []) superposition e =
+    let p = placed_after ns a b c k d g h l superposition e in
     let point : (name : List ℕ) (n : ℕ) → number_of_name ns Point name ≡ Ok n → ltb n (length ns.points) ≡ true = λ name n i. number_in_scope ns Point name n i in
     let line : (name : List ℕ) (n : ℕ) → number_of_name ns Line name ≡ Ok n → ltb n (length ns.lines) ≡ true = λ name n i. number_in_scope ns Line name n i in
     subst (λ (x : Superpose). superposing.fits_superposition x (scope_of_names ns) ≡ true) p.form_is
     (and_from _ _ (point a p.na p.a_is) (and_from _ _ (point b p.nb p.b_is) (and_from _ _ (point c p.nc p.c_is) (and_from _ _ (point d p.nd p.d_is)
     (and_from _ _ (point g p.ng p.g_is) (and_from _ _ (point h p.nh p.h_is) (and_from _ _ (line k p.nk p.k_is) (and_from _ _ (line l p.nl p.l_is) refl))))))))
-placed_fits ns args form e = absurd cc
+placed_fits ns args superposition e = absurd cc
 
 -- it fits, its new names are free, and its literals have the names of objects around it
-pub record GoodCopy (ns : Names) (raw : RawSuperpose) (form : Superpose) (shown : List Lit) : Type 0 where
-  pub fits : superposing.fits_superposition form (scope_of_names ns) ≡ true
+pub record GoodCopy (ns : Names) (raw : RawSuperpose) (superposition : Superpose) (shown : List Lit) : Type 0 where
+  pub fits : superposing.fits_superposition superposition (scope_of_names ns) ≡ true
   pub free : fresh ns [] raw.new ≡ Ok tt
   pub lits : lits_in ns raw.shown ≡ Ok shown
 

@@ -24,7 +24,7 @@ use Rattle.e_names.specs.Canonical.{raw_mono, raw_sum, raw_signed, raw_of}
 use Rattle.e_line.proofs.base.Bound.{bind_ok, ok_is, read_ok, each_length}
 use Rattle.e_names.proofs.read_lines.InScope.{mono_read, sums_read}
 use Rattle.e_line.proofs.read_lines.SumsOfLiterals.{SumSaid, SidesSaid, AtomSaid}
-use Rattle.e_names.proofs.read_lines.LiteralsOfForms.{Plain, atom_plain}
+use Rattle.e_names.proofs.read_lines.LiteralsOfRawLines.{Plain, atom_plain}
 
 -- ---- a literal that was read
 

@@ -33,7 +33,7 @@ use Rattle.e_line.proofs.base.Bound.{bind_ok, ok_is, read_ok, each_length}
 use Rattle.e_names.proofs.read_lines.InScope.{mono_read, sums_read}
 use Rattle.e_line.proofs.read_lines.SumsOfLiterals.{SumSaid, SidesSaid, AtomSaid, LitsSaid}
 use Rattle.e_names.proofs.literals.ComparedSums.{is_bounded_mono, AreBounded, GoodSums, sums_good, turned}
-use Rattle.e_names.proofs.read_lines.LiteralsOfForms.{atom_plain}
+use Rattle.e_names.proofs.read_lines.LiteralsOfRawLines.{atom_plain}
 use Rattle.e_names.proofs.literals.ShortLits.{count_first}
 use Rattle.e_names.proofs.literals.Diagrams.{good_diagram}
 

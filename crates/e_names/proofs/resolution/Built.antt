@@ -155,32 +155,32 @@ may_have_after s sh names (o ∷ os) h = by_avoids (shape_row sh).avoids h where
 
 -- the line of a construction, as it is written
 abbrev pub raw_let : Names → Construction → List (List ℕ) → RawLet
-raw_let ns form names = record { shapes = form.shape ∷ []; new = names; args = map (name_of_object ns) form.args; avoid = map (name_of_object ns) form.avoid }
+raw_let ns construction names = record { shapes = construction.shape ∷ []; new = names; args = map (name_of_object ns) construction.args; avoid = map (name_of_object ns) construction.avoid }
 
-pub let_number_again : (ns : Names) (form : Construction) (names : List (List ℕ)) → InOrder ns → GoodLet ns form names → let_in ns (as_read (raw_let ns form names)) ≡ Ok form
+pub let_number_again : (ns : Names) (construction : Construction) (names : List (List ℕ)) → InOrder ns → GoodLet ns construction names → let_in ns (as_read (raw_let ns construction names)) ≡ Ok construction
 unfolding let_in
-let_number_again ns form names o h =
+let_number_again ns construction names o h =
     let s = scope_of_names ns in
-    let p = and_parts (are_of_sorts s (sorts_of (shape_row form.shape).args) form.args) (avoids_well s (shape_row form.shape).avoids form.avoid) h.fits in
-    let args = arguments_read ns form.shape [] form.args o (of_sorts_in_scope s (sorts_of (shape_row form.shape).args) form.args p.0) (of_sorts_begin s (sorts_of (shape_row form.shape).args) form.args p.0) in
-    let avoid = avoided_read ns form.avoid o (avoided_in_scope s (shape_row form.shape).avoids form.avoid p.1) in
-    let first = first_read form.shape s form.args form.avoid h.fits in
-    let count : eqb (length names) (length (sorts_made form)) ≡ true = eq-eqb _ _ h.count in
+    let p = and_parts (are_of_sorts s (sorts_of (shape_row construction.shape).args) construction.args) (avoids_well s (shape_row construction.shape).avoids construction.avoid) h.fits in
+    let args = arguments_read ns construction.shape [] construction.args o (of_sorts_in_scope s (sorts_of (shape_row construction.shape).args) construction.args p.0) (of_sorts_begin s (sorts_of (shape_row construction.shape).args) construction.args p.0) in
+    let avoid = avoided_read ns construction.avoid o (avoided_in_scope s (shape_row construction.shape).avoids construction.avoid p.1) in
+    let first = first_read construction.shape s construction.args construction.avoid h.fits in
+    let count : eqb (length names) (length (sorts_made construction)) ≡ true = eq-eqb _ _ h.count in
     rw (h.free, args, avoid, first, count) refl
 
-pub let_named : (ns : Names) (form : Construction) (names : List (List ℕ)) → InOrder ns → GoodLet ns form names → AreNames names → LetNamed (raw_let ns form names)
-let_named ns form names o h a =
+pub let_named : (ns : Names) (construction : Construction) (names : List (List ℕ)) → InOrder ns → GoodLet ns construction names → AreNames names → LetNamed (raw_let ns construction names)
+let_named ns construction names o h a =
     let s = scope_of_names ns in
-    let p = and_parts (are_of_sorts s (sorts_of (shape_row form.shape).args) form.args) (avoids_well s (shape_row form.shape).avoids form.avoid) h.fits in
+    let p = and_parts (are_of_sorts s (sorts_of (shape_row construction.shape).args) construction.args) (avoids_well s (shape_row construction.shape).avoids construction.avoid) h.fits in
     record {
-      shape = form.shape;
+      shape = construction.shape;
       alone = refl;
       names = record {
         new_names = a;
-        argument_names = objects_named ns form.args o (of_sorts_in_scope s (sorts_of (shape_row form.shape).args) form.args p.0);
-        made = h.count ∙ length-map (shape_row form.shape).made (λ o. o.sort) ∙ sym (names_all_objects form.shape).0;
-        arguments = length-map form.args (name_of_object ns) ∙ of_sorts_length s (sorts_of (shape_row form.shape).args) form.args p.0 ∙ length-map (shape_row form.shape).args (λ o. o.sort) ∙ sym (names_all_objects form.shape).1;
+        argument_names = objects_named ns construction.args o (of_sorts_in_scope s (sorts_of (shape_row construction.shape).args) construction.args p.0);
+        made = h.count ∙ length-map (shape_row construction.shape).made (λ o. o.sort) ∙ sym (names_all_objects construction.shape).0;
+        arguments = length-map construction.args (name_of_object ns) ∙ of_sorts_length s (sorts_of (shape_row construction.shape).args) construction.args p.0 ∙ length-map (shape_row construction.shape).args (λ o. o.sort) ∙ sym (names_all_objects construction.shape).1;
       };
-      avoided = objects_named ns form.avoid o (avoided_in_scope s (shape_row form.shape).avoids form.avoid p.1);
-      may = may_have_after s form.shape (name_of_object ns) form.avoid p.1;
+      avoided = objects_named ns construction.avoid o (avoided_in_scope s (shape_row construction.shape).avoids construction.avoid p.1);
+      may = may_have_after s construction.shape (name_of_object ns) construction.avoid p.1;
     }

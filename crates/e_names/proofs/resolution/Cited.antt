@@ -21,7 +21,7 @@ use Rattle.e_clause.specs.RuleKinds.{is_diagram_rule}
 use Rattle.e_deriv.specs.declared.names.Names.{Names}
 use Rattle.e_deriv.specs.Steps.{is_citation}
 use Rattle.e_names.specs.Scope.{objects_as, args_in, by_in, known_rule, variables_of, scope_of_names}
-use Rattle.e_names.specs.Canonical.{name_of_object, raw_of, rule_name, by_form}
+use Rattle.e_names.specs.Canonical.{name_of_object, raw_of, rule_name, by_raw_line}
 use Rattle.e_names.specs.Fits.{is_diagram_lit}
 use Rattle.e_line.proofs.read_again.Respelled.{GoodForm}
 use Rattle.e_names.proofs.resolution.Lookups.{InOrder, objects_again, objects_named}
@@ -129,7 +129,7 @@ by_number_again ns b s h d =
     let count : eqb (length (map (name_of_object ns) b.args)) (c.row.points + c.row.lines + c.row.circles) ≡ true = ap (λ n. eqb n (c.row.points + c.row.lines + c.row.circles)) (length-map b.args (name_of_object ns)) ∙ c.fitting.count in
     rw (rule_again ns b c, sig_again ns b c, count, args_again ns c.row b.args s c.fitting c.within, lit_number_again ns b.lit s c.lit (diagram_is_well_formed b.lit d)) refl
 
-pub by_good : (ns : Names) (b : By) → InOrder ns → is_citation (scope_of_names ns) b ≡ true → is_diagram_lit b.lit ≡ true → GoodForm (by_form ns b)
+pub by_good : (ns : Names) (b : By) → InOrder ns → is_citation (scope_of_names ns) b ≡ true → is_diagram_lit b.lit ≡ true → GoodForm (by_raw_line ns b)
 by_good ns b s h d =
     let c = cited ns b h in
     (ap is_title (rule_name_is b.rule c.row c.at) ∙ title_again b.rule c.row c.at, objects_named ns b.args s c.within, lit_named ns b.lit s c.lit (diagram_is_well_formed b.lit d), diagram_is_raw ns b.lit d)

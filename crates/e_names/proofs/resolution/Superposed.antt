@@ -66,7 +66,7 @@ two_lines s [] (k ∷ l ∷ m ∷ ls) h =
     none e = absurd cc
 
 -- a superposition that fits, by its points and lines
-record Eight (s : Scope) (form : Superpose) : Type 0 where
+record Eight (s : Scope) (superposition : Superpose) : Type 0 where
   a : ℕ
   b : ℕ
   c : ℕ
@@ -75,7 +75,7 @@ record Eight (s : Scope) (form : Superpose) : Type 0 where
   h : ℕ
   k : ℕ
   l : ℕ
-  is : superpose a b c d g h k l ≡ form
+  is : superpose a b c d g h k l ≡ superposition
   in_a : is_in_scope s (obj Point a) ≡ true
   in_b : is_in_scope s (obj Point b) ≡ true
   in_c : is_in_scope s (obj Point c) ≡ true
@@ -91,21 +91,21 @@ whole ps ls = record { points = ps; lines = ls }
 cons : (n : ℕ) (xs ys : List ℕ) → xs ≡ ys → n ∷ xs ≡ n ∷ ys
 cons n xs ys e = ap (λ (zs : List ℕ). n ∷ zs) e
 
-eight : (s : Scope) (form : Superpose) → fits_superposition form s ≡ true → Eight s form
-eight s form fit =
-    let a = first_point s (Point ∷ Point ∷ Point ∷ Point ∷ Point ∷ Line ∷ Line ∷ []) form.points form.lines fit in
-    let b = first_point s (Point ∷ Point ∷ Point ∷ Point ∷ Line ∷ Line ∷ []) a.more form.lines a.others in
-    let c = first_point s (Point ∷ Point ∷ Point ∷ Line ∷ Line ∷ []) b.more form.lines b.others in
-    let d = first_point s (Point ∷ Point ∷ Line ∷ Line ∷ []) c.more form.lines c.others in
-    let g = first_point s (Point ∷ Line ∷ Line ∷ []) d.more form.lines d.others in
-    let h = first_point s (Line ∷ Line ∷ []) g.more form.lines g.others in
-    let kl = two_lines s h.more form.lines h.others in
+eight : (s : Scope) (superposition : Superpose) → fits_superposition superposition s ≡ true → Eight s superposition
+eight s superposition fit =
+    let a = first_point s (Point ∷ Point ∷ Point ∷ Point ∷ Point ∷ Line ∷ Line ∷ []) superposition.points superposition.lines fit in
+    let b = first_point s (Point ∷ Point ∷ Point ∷ Point ∷ Line ∷ Line ∷ []) a.more superposition.lines a.others in
+    let c = first_point s (Point ∷ Point ∷ Point ∷ Line ∷ Line ∷ []) b.more superposition.lines b.others in
+    let d = first_point s (Point ∷ Point ∷ Line ∷ Line ∷ []) c.more superposition.lines c.others in
+    let g = first_point s (Point ∷ Line ∷ Line ∷ []) d.more superposition.lines d.others in
+    let h = first_point s (Line ∷ Line ∷ []) g.more superposition.lines g.others in
+    let kl = two_lines s h.more superposition.lines h.others in
     let h-is : g.more ≡ h.n ∷ [] = h.is ∙ cons h.n _ _ kl.no_point in
     let g-is : d.more ≡ g.n ∷ h.n ∷ [] = g.is ∙ cons g.n _ _ h-is in
     let d-is : c.more ≡ d.n ∷ g.n ∷ h.n ∷ [] = d.is ∙ cons d.n _ _ g-is in
     let c-is : b.more ≡ c.n ∷ d.n ∷ g.n ∷ h.n ∷ [] = c.is ∙ cons c.n _ _ d-is in
     let b-is : a.more ≡ b.n ∷ c.n ∷ d.n ∷ g.n ∷ h.n ∷ [] = b.is ∙ cons b.n _ _ c-is in
-    let a-is : form.points ≡ a.n ∷ b.n ∷ c.n ∷ d.n ∷ g.n ∷ h.n ∷ [] = a.is ∙ cons a.n _ _ b-is in
+    let a-is : superposition.points ≡ a.n ∷ b.n ∷ c.n ∷ d.n ∷ g.n ∷ h.n ∷ [] = a.is ∙ cons a.n _ _ b-is in
     record {
       a = a.n;
       b = b.n;
@@ -129,12 +129,12 @@ eight s form fit =
 -- ---- the line
 
 abbrev pub raw_superpose : Names → Superpose → List (List ℕ) → List Lit → RawSuperpose
-raw_superpose ns form names shown = record { args = placed_names ns form; new = names; shown = map (raw_of ns) shown }
+raw_superpose ns superposition names shown = record { args = placed_names ns superposition; new = names; shown = map (raw_of ns) shown }
 
-placed_again : (ns : Names) (form : Superpose) → InOrder ns → fits_superposition form (scope_of_names ns) ≡ true → placed_in ns (placed_names ns form) ≡ Ok form
+placed_again : (ns : Names) (superposition : Superpose) → InOrder ns → fits_superposition superposition (scope_of_names ns) ≡ true → placed_in ns (placed_names ns superposition) ≡ Ok superposition
 unfolding placed_in
-placed_again ns form o fit =
-    let e = eight (scope_of_names ns) form fit in
+placed_again ns superposition o fit =
+    let e = eight (scope_of_names ns) superposition fit in
     subst (λ (x : Superpose). placed_in ns (placed_names ns x) ≡ Ok x) e.is
     (rw (
       number_again ns Point e.a o e.in_a,
@@ -147,9 +147,9 @@ placed_again ns form o fit =
       number_again ns Line e.l o e.in_l,
     ) refl)
 
-placed_named : (ns : Names) (form : Superpose) → InOrder ns → fits_superposition form (scope_of_names ns) ≡ true → AreNames (placed_names ns form)
-placed_named ns form o fit =
-    let e = eight (scope_of_names ns) form fit in
+placed_named : (ns : Names) (superposition : Superpose) → InOrder ns → fits_superposition superposition (scope_of_names ns) ≡ true → AreNames (placed_names ns superposition)
+placed_named ns superposition o fit =
+    let e = eight (scope_of_names ns) superposition fit in
     subst (λ (x : Superpose). AreNames (placed_names ns x)) e.is (
       named_at ns Point e.a o e.in_a,
       (
@@ -174,23 +174,23 @@ placed_named ns form o fit =
     )
 
 -- what is known of a superposition where these names are in scope
-pub record GoodSuperpose (ns : Names) (form : Superpose) (names : List (List ℕ)) (shown : List Lit) : Type 0 where
+pub record GoodSuperpose (ns : Names) (superposition : Superpose) (names : List (List ℕ)) (shown : List Lit) : Type 0 where
   pub order : InOrder ns
-  pub fits : fits_superposition form (scope_of_names ns) ≡ true
+  pub fits : fits_superposition superposition (scope_of_names ns) ≡ true
   pub free : fresh ns [] names ≡ Ok tt
   pub named : AreNames names
   pub count : length names ≡ length sorts_copied
   pub plain : Plain ns shown
   pub some : 0 < length shown
 
-pub superpose_number_again : (ns : Names) (form : Superpose) (names : List (List ℕ)) (shown : List Lit) → GoodSuperpose ns form names shown → superpose_in ns (raw_superpose ns form names shown) ≡ Ok (form, shown)
+pub superpose_number_again : (ns : Names) (superposition : Superpose) (names : List (List ℕ)) (shown : List Lit) → GoodSuperpose ns superposition names shown → superpose_in ns (raw_superpose ns superposition names shown) ≡ Ok (superposition, shown)
 unfolding superpose_in
-superpose_number_again ns form names shown g = rw (placed_again ns form g.order g.fits, g.free, lits_number_again ns shown g.order g.plain) refl
+superpose_number_again ns superposition names shown g = rw (placed_again ns superposition g.order g.fits, g.free, lits_number_again ns shown g.order g.plain) refl
 
-pub superpose_named : (ns : Names) (form : Superpose) (names : List (List ℕ)) (shown : List Lit) → GoodSuperpose ns form names shown → SuperposeNamed (raw_superpose ns form names shown)
-superpose_named ns form names shown g = record {
+pub superpose_named : (ns : Names) (superposition : Superpose) (names : List (List ℕ)) (shown : List Lit) → GoodSuperpose ns superposition names shown → SuperposeNamed (raw_superpose ns superposition names shown)
+superpose_named ns superposition names shown g = record {
   new_names = g.named;
-  argument_names = placed_named ns form g.order g.fits;
+  argument_names = placed_named ns superposition g.order g.fits;
   made = g.count;
   arguments = refl;
   shown = lits_named ns shown g.order g.plain g.some;

@@ -1,4 +1,4 @@
--- What items stand for, put after what was there with the names of its objects.
+-- What items mean, put after what was there with the names of its objects.
 use Rattle.std.specs.Prelude.{◌≡◌, ℕ, ◌++◌, List, map, Result, Ok, Err}
 use Rattle.e_literal.specs.declared.literal.Lit.{Lit}
 use Rattle.e_deriv.specs.declared.names.Names.{Names}

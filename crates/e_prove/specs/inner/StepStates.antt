@@ -12,11 +12,10 @@ use Rattle.e_construct.specs.Construct.{sorts_made, gives_of_construction}
 use Rattle.e_construct.specs.declared.superpose.Superpose.{Superpose}
 use Rattle.e_construct.specs.Superposing as superposing
 use Rattle.e_deriv.specs.declared.names.Names.{Names}
-use Rattle.e_deriv.specs.Goal.{Goal, facts_of_statement}
+use Rattle.e_deriv.specs.Goal.{facts_of_statement}
 use Rattle.e_deriv.specs.Naming.{named, declared_names}
 use Rattle.e_licence.specs.Contexts.{State, state_of}
 use Rattle.e_prove.specs.declared.step_state.StepState.{StepState}
-use Rattle.e_prove.specs.declared.close.Goal.{Goal as CodeGoal}
 
 -- before the first step of a statement's proof, where these are the names of its declared and made
 -- objects
@@ -33,13 +32,13 @@ after_literal l x = record x { context = record x.context { facts = joined x.con
 
 -- after a construction, whose new objects have these names
 abbrev pub after_make : Construction → List (List ℕ) → StepState → StepState
-after_make form names x =
+after_make construction names x =
     record {
       context = record x.context {
-        scope = grown x.context.scope (sorts_made form);
-        facts = joined_all x.context.facts (gives_of_construction form x.context.scope);
+        scope = grown x.context.scope (sorts_made construction);
+        facts = joined_all x.context.facts (gives_of_construction construction x.context.scope);
       };
-      names = named x.names (sorts_made form) names;
+      names = named x.names (sorts_made construction) names;
     }
 
 -- after an application of the statement at these arguments, whose new objects have these names
@@ -55,12 +54,12 @@ after_apply t args names x =
 
 -- after a superposition, whose copied points have these names: what its block begins with
 abbrev pub after_superposed : Superpose → List (List ℕ) → StepState → StepState
-after_superposed form names x =
+after_superposed superposition names x =
     record {
       context = record x.context {
         scope = grown x.context.scope superposing.sorts_copied;
         facts = joined_all x.context.facts
-            (superposing.gives_of_superposition form x.context.scope);
+            (superposing.gives_of_superposition superposition x.context.scope);
       };
       names = named x.names superposing.sorts_copied names;
     }
@@ -107,7 +106,3 @@ pub record HasRoomForMore (s : Scope) : Type 0 where
   pub points : s.points + 2 < 2 ^ 16
   pub lines : s.lines + 2 < 2 ^ 16
   pub circles : s.circles + 2 < 2 ^ 16
-
--- the goal that the code writes
-abbrev pub goal_view : CodeGoal → Goal
-goal_view g = record { made = g.made.now; shown = g.shown.now }

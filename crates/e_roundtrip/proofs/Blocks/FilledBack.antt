@@ -16,10 +16,10 @@ kept_against (Some a) = OfContradiction a
 unfoldable pub kepts : Script → List StepCerts
 kepts (Cite by rest) = kepts rest
 kepts (Hence lit cert rest) = Certs (option_to_list cert) ∷ kepts rest
-kepts (Make form names certs rest) = Certs certs ∷ kepts rest
+kepts (Make construction names certs rest) = Certs certs ∷ kepts rest
 kepts (Apply theorem args names certs rest) = Certs certs ∷ kepts rest
 kepts (Claim shown inner rest) = kepts inner ++ kepts rest
-kepts (Superposed form names shown certs inner rest) = Certs certs ∷ (kepts inner ++ kepts rest)
+kepts (Superposed superposition names shown certs inner rest) = Certs certs ∷ (kepts inner ++ kepts rest)
 kepts (Qed objects certs) = Certs certs ∷ []
 kepts (Contradiction against) = kept_against against ∷ []
 kepts (Cases lit first second) = kepts first ++ kepts second
@@ -29,10 +29,10 @@ unfolding erased script_with_certs kepts
 filled_back (Cite by rest) ks = rw (filled_back rest ks) refl
 filled_back (Hence lit None rest) ks = rw (filled_back rest ks) refl
 filled_back (Hence lit (Some cert) rest) ks = rw (filled_back rest ks) refl
-filled_back (Make form names certs rest) ks = rw (filled_back rest ks) refl
+filled_back (Make construction names certs rest) ks = rw (filled_back rest ks) refl
 filled_back (Apply theorem args names certs rest) ks = rw (filled_back rest ks) refl
 filled_back (Claim shown inner rest) ks = rw (append_assoc (kepts inner) (kepts rest) ks, filled_back inner (kepts rest ++ ks), filled_back rest ks) refl
-filled_back (Superposed form names shown certs inner rest) ks = rw (append_assoc (kepts inner) (kepts rest) ks, filled_back inner (kepts rest ++ ks), filled_back rest ks) refl
+filled_back (Superposed superposition names shown certs inner rest) ks = rw (append_assoc (kepts inner) (kepts rest) ks, filled_back inner (kepts rest ++ ks), filled_back rest ks) refl
 filled_back (Qed objects certs) ks = refl
 filled_back (Contradiction None) ks = refl
 filled_back (Contradiction (Some against)) ks = refl

@@ -50,7 +50,7 @@ use Rattle.e_line.specs.LineLimits.{few_monos}
 use Rattle.e_book.specs.LineLimits.{few_objects}
 use Rattle.e_book.specs.Steps.{with_step, terms_after_raw, terms_after, with_terms, built, used_by, applied, outer_of, interrupted, deeper, claimed, superposed, split, shut, stepped}
 use Rattle.e_line.specs.Canonical.{line_of}
-use Rattle.e_names.specs.Canonical.{by_form, hence_form, let_form, apply_form, claim_form, superpose_form, cases_form, qed_form, contradiction_form}
+use Rattle.e_names.specs.Canonical.{by_raw_line, hence_raw_line, let_raw_line, apply_raw_line, claim_raw_line, superpose_raw_line, cases_raw_line, qed_raw_line, contradiction_raw_line}
 use Rattle.e_line.proofs.base.Bound.{bind_ok, ok_is, read_ok}
 use Rattle.e_names.proofs.read_lines.InScope.{lit_in_scope}
 use Rattle.e_names.proofs.read_lines.Citations.{by_fits}
@@ -65,12 +65,12 @@ use Rattle.e_line.specs.Strict.{is_direct, are_direct}
 use Rattle.e_read.specs.Needs.{shown_inside, shown_around, goal_or, open_goal, one_each, needs_in, needs_of_raw_apply, needs_at_qed, due_of}
 use Rattle.e_spell.specs.Certificates.{certs_lines, contradiction_lines}
 use Rattle.e_roundtrip.specs.Formed.{certs_formed, against_formed}
-use Rattle.e_roundtrip.proofs.Certificates.KeptFormed.{KeptIsFormed}
+use Rattle.e_roundtrip.proofs.Certificates.FormsOfOwedCertificates.{KeptIsFormed}
 use Rattle.e_roundtrip.proofs.Formed.FormedLines.{MadeFormed, UseFormed, CopyFormed, fills_written, needed_read}
 use Rattle.e_roundtrip.proofs.OneLine.LitsRead.{Signed, AllSigned}
 use Rattle.e_roundtrip.proofs.OneLine.LinePieces.{OneLine}
-use Rattle.e_roundtrip.proofs.OneLine.FormsRead.{Read}
-use Rattle.e_roundtrip.proofs.OneLine.FormsSpelled.{hence_spelled, cases_spelled, claim_spelled, by_spelled, let_spelled, apply_spelled, superpose_spelled, qed_spelled}
+use Rattle.e_roundtrip.proofs.OneLine.RawLinesRead.{Read}
+use Rattle.e_roundtrip.proofs.OneLine.RawLinesSpelled.{hence_spelled, cases_spelled, claim_spelled, by_spelled, let_spelled, apply_spelled, superpose_spelled, qed_spelled}
 use Rattle.e_roundtrip.proofs.Certificates.OwedSpelled.{kept_text, due_at_first}
 use Rattle.e_roundtrip.proofs.Blocks.SpelledSteps.{steps_as, script_as, cited_said, inferred_said, made_said, applied_said, qed_said, contradiction_said}
 use Rattle.e_roundtrip.proofs.Blocks.SpelledBlocks.{Start, goal_inside, Opening, BlocksSaid, BodySaid, Goes, start_of, head_of, blocks_more, blocks_open, shut_goes}
@@ -144,7 +144,7 @@ unfolding stepped due_of
 takes_by known d e r ns l owes ks ls p b s o h =
     let by = bind_ok (by_in d.in_scope r ns l) (λ b. with_step d (Cited b) 1) e h in
     let line = ap (λ (f : RawLine). line_of f ∷ []) (by_spelled d.in_scope r ns l by.0 s by.1) in
-    let said = steps_as known d.in_scope (Cited by.0 ∷ []) [] [] d.in_scope (line_of (by_form d.in_scope by.0) ∷ []) (line_of (rawlines.By r ns l) ∷ []) refl line (cited_said known d.in_scope by.0 (by_fits d.in_scope r ns l by.0 by.1)) in
+    let said = steps_as known d.in_scope (Cited by.0 ∷ []) [] [] d.in_scope (line_of (by_raw_line d.in_scope by.0) ∷ []) (line_of (rawlines.By r ns l) ∷ []) refl line (cited_said known d.in_scope by.0 (by_fits d.in_scope r ns l by.0 by.1)) in
     let blocks = blocks_more known (start_of d) d.blocks d.steps (Cited by.0 ∷ []) ks [] d.in_scope d.in_scope ls (line_of (rawlines.By r ns l) ∷ []) b said in
     let goes = step_goes known d d e (Cited by.0) 1 (ks ++ []) (ls ++ line_of (rawlines.By r ns l) ∷ []) refl p blocks by.2 in
     subst (λ (x : Obligation). Takes known d e (rawlines.By r ns l) x ks ls) (ok_is due.Nothing owes o)
@@ -162,7 +162,7 @@ takes_hence known d e r owes ks ls p b dir s o h =
     subst (λ (y : Obligation). Takes known d e (rawlines.Hence r) y ks ls) (ok_is (one_each (w.0 ∷ [])) owes w.2)
     (owing_certs known d e (rawlines.Hence r) (w.0 ∷ []) ks ls (λ cs c.
     let formed = subst (λ (y : Lit). certs_formed (scope_of_names ns) (y ∷ []) cs ≡ true) (ok_is w.0 l.0 (sym w.1 ∙ l.1)) c in
-    let said = steps_as known ns (Inferred l.0 None ∷ []) (kept.Certs cs ∷ []) (kept.Certs cs ∷ []) ns (line_of (hence_form ns l.0) ∷ certs_lines ns cs) (line_of (rawlines.Hence r) ∷ certs_lines ns cs) refl
+    let said = steps_as known ns (Inferred l.0 None ∷ []) (kept.Certs cs ∷ []) (kept.Certs cs ∷ []) ns (line_of (hence_raw_line ns l.0) ∷ certs_lines ns cs) (line_of (rawlines.Hence r) ∷ certs_lines ns cs) refl
     (ap (λ (f : RawLine). line_of f ∷ certs_lines ns cs) line) (inferred_said known ns l.0 cs (lit_in_scope ns r l.0 l.1) formed) in
     let blocks = blocks_more known (start_of d) d.blocks d.steps (Inferred l.0 None ∷ []) ks (kept.Certs cs ∷ []) ns ns ls (line_of (rawlines.Hence r) ∷ certs_lines ns cs) b said in
     terms_go known d x.0 e (r ∷ []) (ks ++ kept.Certs cs ∷ []) (ls ++ line_of (rawlines.Hence r) ∷ certs_lines ns cs)
@@ -184,7 +184,7 @@ built_goes known d e l read cs ks ls r c p b s h =
     let formed : MadeFormed ns form.0 l.new cs =
     record { fits = good.fits; count = good.count; certs = subst (λ (x : Construction). certs_formed (scope_of_names ns) (needs_of_construction x) cs ≡ true) (ok_is read form.0 (sym r ∙ form.1)) c } in
     let lines = line_of (rawlines.Let l) ∷ certs_lines ns cs in
-    let said = steps_as known ns (Made form.0 l.new [] ∷ []) (kept.Certs cs ∷ []) (kept.Certs cs ∷ []) (after form.0) (line_of (let_form ns form.0 l.new) ∷ certs_lines ns cs) lines refl
+    let said = steps_as known ns (Made form.0 l.new [] ∷ []) (kept.Certs cs ∷ []) (kept.Certs cs ∷ []) (after form.0) (line_of (let_raw_line ns form.0 l.new) ∷ certs_lines ns cs) lines refl
     (ap (λ (x : List ℕ). x ∷ certs_lines ns cs) (let_spelled ns l form.0 s form.1)) (made_said known ns form.0 l.new cs formed) in
     let blocks = blocks_more known (start_of d) d.blocks d.steps (Made form.0 l.new [] ∷ []) ks (kept.Certs cs ∷ []) ns (after form.0) ls lines b said in
     step_goes known d (at_names d (after form.0)) e (Made form.0 l.new []) (length (gives_of_construction form.0 (scope_of_names ns))) (ks ++ kept.Certs cs ∷ []) (ls ++ lines) refl p blocks few.2
@@ -193,7 +193,7 @@ pub takes_let : (known : List TitledStatement) (d e : TheoremParser) (l : RawLet
     → due_of known d (rawlines.Let l) ≡ Ok owes → stepped known d (rawlines.Let l) ≡ Ok e → Takes known d e (rawlines.Let l) owes ks ls
 unfolding stepped due_of
 takes_let known d e l owes ks ls p b s o h =
-    let w = bind_ok (let_in d.in_scope l) (λ form. read_ok (one_each (needs_of_construction form))) owes o in
+    let w = bind_ok (let_in d.in_scope l) (λ construction. read_ok (one_each (needs_of_construction construction))) owes o in
     subst (λ (y : Obligation). Takes known d e (rawlines.Let l) y ks ls) (ok_is (one_each (needs_of_construction w.0)) owes w.2)
     (owing_certs known d e (rawlines.Let l) (needs_of_construction w.0) ks ls (λ cs c. built_goes known d e l w.0 cs ks ls w.1 c p b s h))
 
@@ -231,7 +231,7 @@ applied_goes known d e raw wanted cs ks ls u c p b h =
     } in
     let after = named ns t.made raw.new in
     let lines = line_of (rawlines.Apply raw) ∷ certs_lines ns cs in
-    let said = steps_as known ns (Applied a.0.0 a.0.1 raw.new [] ∷ []) (kept.Certs cs ∷ []) (kept.Certs cs ∷ []) after (line_of (apply_form known ns a.0.0 a.0.1 raw.new) ∷ certs_lines ns cs) lines refl
+    let said = steps_as known ns (Applied a.0.0 a.0.1 raw.new [] ∷ []) (kept.Certs cs ∷ []) (kept.Certs cs ∷ []) after (line_of (apply_raw_line known ns a.0.0 a.0.1 raw.new) ∷ certs_lines ns cs) lines refl
     (ap (λ (f : RawLine). line_of f ∷ certs_lines ns cs) (apply_spelled known ns raw a.0 a.1)) (applied_said known ns a.0.0 a.0.1 raw.new cs formed) in
     used_goes known d e (theorem_of known a.0.0) a.0.0 a.0.1 raw.new (ks ++ kept.Certs cs ∷ []) (ls ++ lines) p
     (blocks_more known (start_of d) d.blocks d.steps (Applied a.0.0 a.0.1 raw.new [] ∷ []) ks (kept.Certs cs ∷ []) ns after ls lines b said) a.2
@@ -271,9 +271,9 @@ claimed_goes known d e raws ks ls p b dir s h =
     let x = bind_ok (deeper d (kind.Claim shown.0) 0) (λ x. few_monos raws >>= λ few. read_ok x) e shown.2 in
     let few = bind_ok (few_monos raws) (λ few. read_ok x.0) e x.2 in
     let line = ap (λ (f : RawLine). line_of f ∷ []) (claim_spelled d.in_scope raws shown.0 dir s shown.1) in
-    let goes = inner_goes known d (kind.Claim shown.0) 0 d.in_scope d.terms ks [] ls (line_of (claim_form d.in_scope shown.0) ∷ []) p b (refl, refl, refl, lits_within d.in_scope raws shown.0 shown.1) in
+    let goes = inner_goes known d (kind.Claim shown.0) 0 d.in_scope d.terms ks [] ls (line_of (claim_raw_line d.in_scope shown.0) ∷ []) p b (refl, refl, refl, lits_within d.in_scope raws shown.0 shown.1) in
     subst (λ (y : TheoremParser). Goes known d y ks (ls ++ line_of (rawlines.Claim raws) ∷ [])) (deeper_is d x.0 (kind.Claim shown.0) 0 x.1 ∙ ok_is x.0 e few.2)
-    (goes_as known d (interrupted d (kind.Claim shown.0) 0) (ks ++ []) ks (ls ++ line_of (claim_form d.in_scope shown.0) ∷ []) (ls ++ line_of (rawlines.Claim raws) ∷ []) (append-nil ks) (ap (λ (l : List (List ℕ)). ls ++ l) line) goes)
+    (goes_as known d (interrupted d (kind.Claim shown.0) 0) (ks ++ []) ks (ls ++ line_of (claim_raw_line d.in_scope shown.0) ∷ []) (ls ++ line_of (rawlines.Claim raws) ∷ []) (append-nil ks) (ap (λ (l : List (List ℕ)). ls ++ l) line) goes)
 
 pub takes_claim : (known : List TitledStatement) (d e : TheoremParser) (raws : List RawLit) (owes : Obligation) (ks : List StepCerts) (ls : List (List ℕ)) → d.section ≡ Proving → BodySaid known Proving d ks ls → are_direct raws ≡ true → AllSigned raws
     → due_of known d (rawlines.Claim raws) ≡ Ok owes → stepped known d (rawlines.Claim raws) ≡ Ok e → Takes known d e (rawlines.Claim raws) owes ks ls
@@ -288,7 +288,7 @@ unfolding superposed
 superposed_goes known d e raw read cs ks ls r c two p b dir s h =
     let ns = d.in_scope in
     let after = named ns superposing.sorts_copied raw.new in
-    let given : Superpose → List Lit = λ form. superposing.gives_of_superposition form (scope_of_names ns) in
+    let given : Superpose → List Lit = λ superposition. superposing.gives_of_superposition superposition (scope_of_names ns) in
     let at_end : TheoremParser → ℕ → TheoremParser = λ x n. record x { in_scope = after; terms = n } in
     let rest : Superpose × List Lit → Result TheoremParser FaultKind = λ q. few_objects after >>= λ objects. deeper d (kind.Superpose q.0 raw.new q.1) (length (given q.0)) >>= λ x. few_monos raw.shown >>= λ few. terms_after x.terms (given q.0) >>= λ n. read_ok (at_end x n) in
     let q = bind_ok (superpose_in ns raw) rest e h in
@@ -305,7 +305,7 @@ superposed_goes known d e raw read cs ks ls r c two p b dir s h =
     let few = bind_ok (few_monos raw.shown) (λ few. terms_after x.0.terms (given q.0.0) >>= λ n. read_ok (at_end x.0 n)) e x.2 in
     let n = bind_ok (terms_after x.0.terms (given q.0.0)) (λ n. read_ok (at_end x.0 n)) e few.2 in
     let line = ap (λ (f : RawLine). line_of f ∷ certs_lines ns cs) (superpose_spelled ns raw q.0 dir s q.1) in
-    let lines = line_of (superpose_form ns q.0.0 raw.new q.0.1) ∷ certs_lines ns cs in
+    let lines = line_of (superpose_raw_line ns q.0.0 raw.new q.0.1) ∷ certs_lines ns cs in
     let goes = inner_goes known d op (length (given q.0.0)) after n.0 ks (kept.Certs cs ∷ []) ls lines p b (cs, refl, refl, refl, formed) in
     subst (λ (y : TheoremParser). Goes known d y (ks ++ kept.Certs cs ∷ []) (ls ++ line_of (rawlines.Superpose raw) ∷ certs_lines ns cs))
     (ap (λ (y : TheoremParser). at_end y n.0) (deeper_is d x.0 op (length (given q.0.0)) x.1) ∙ ok_is (at_end x.0 n.0) e n.2)
@@ -326,10 +326,10 @@ split_goes known d e r ks ls p b dir s h =
     let l = bind_ok (lit_in d.in_scope r) (λ l. deeper d (kind.First l) 1 >>= λ x. with_terms x (r ∷ [])) e h in
     let x = bind_ok (deeper d (kind.First l.0) 1) (λ x. with_terms x (r ∷ [])) e l.2 in
     let line = ap (λ (f : RawLine). line_of f ∷ []) (cases_spelled d.in_scope r l.0 dir s l.1) in
-    let goes = inner_goes known d (kind.First l.0) 1 d.in_scope d.terms ks [] ls (line_of (cases_form d.in_scope l.0) ∷ []) p b (refl, refl, refl, lit_in_scope d.in_scope r l.0 l.1) in
+    let goes = inner_goes known d (kind.First l.0) 1 d.in_scope d.terms ks [] ls (line_of (cases_raw_line d.in_scope l.0) ∷ []) p b (refl, refl, refl, lit_in_scope d.in_scope r l.0 l.1) in
     terms_go known d x.0 e (r ∷ []) ks (ls ++ line_of (rawlines.Cases r) ∷ [])
     (subst (λ (y : TheoremParser). Goes known d y ks (ls ++ line_of (rawlines.Cases r) ∷ [])) (deeper_is d x.0 (kind.First l.0) 1 x.1)
-    (goes_as known d (interrupted d (kind.First l.0) 1) (ks ++ []) ks (ls ++ line_of (cases_form d.in_scope l.0) ∷ []) (ls ++ line_of (rawlines.Cases r) ∷ []) (append-nil ks) (ap (λ (l : List (List ℕ)). ls ++ l) line) goes)) x.2
+    (goes_as known d (interrupted d (kind.First l.0) 1) (ks ++ []) ks (ls ++ line_of (cases_raw_line d.in_scope l.0) ∷ []) (ls ++ line_of (rawlines.Cases r) ∷ []) (append-nil ks) (ap (λ (l : List (List ℕ)). ls ++ l) line) goes)) x.2
 
 pub takes_cases : (known : List TitledStatement) (d e : TheoremParser) (r : RawLit) (owes : Obligation) (ks : List StepCerts) (ls : List (List ℕ)) → d.section ≡ Proving → BodySaid known Proving d ks ls → is_direct r ≡ true → Signed r
     → due_of known d (rawlines.Cases r) ≡ Ok owes → stepped known d (rawlines.Cases r) ≡ Ok e → Takes known d e (rawlines.Cases r) owes ks ls
@@ -354,7 +354,7 @@ sorts_of os = map (λ (o : Obj). o.sort) os
 
 sorts_by : (op : BlockKind) (around : Option (List Lit)) (goal : Goal) (made : List Sort) (b : Bool) → sorts_of (goal_or around goal).made ≡ cond b [] made → sorts_of (goal_or (shown_inside op around) goal).made ≡ cond (is_claim op || b) [] made
 sorts_by (kind.Claim shown) around goal made b e = refl
-sorts_by (kind.Superpose form names shown) around goal made b e = refl
+sorts_by (kind.Superpose superposition names shown) around goal made b e = refl
 sorts_by (kind.First lit) around goal made b e = e
 sorts_by (kind.Second lit first) around goal made b e = e
 
@@ -379,7 +379,7 @@ takes_qed known d e ns owes ks ls p b o h =
     subst (λ (y : Obligation). Takes known d e (rawlines.Qed ns) y ks ls) (ok_is (one_each w.0) owes w.2)
     (owing_certs known d e (rawlines.Qed ns) w.0 ks ls (λ cs c.
     let formed = subst (λ (l : List Lit). certs_formed s l cs ≡ true) owed c in
-    let said = script_as known d.in_scope goal (script_of_close (closes.Qed os.0)) (kept.Certs cs ∷ []) (kept.Certs cs ∷ []) (line_of (qed_form d.in_scope os.0) ∷ certs_lines d.in_scope cs) (line_of (rawlines.Qed ns) ∷ certs_lines d.in_scope cs) refl
+    let said = script_as known d.in_scope goal (script_of_close (closes.Qed os.0)) (kept.Certs cs ∷ []) (kept.Certs cs ∷ []) (line_of (qed_raw_line d.in_scope os.0) ∷ certs_lines d.in_scope cs) (line_of (rawlines.Qed ns) ∷ certs_lines d.in_scope cs) refl
     (ap (λ (f : RawLine). line_of f ∷ certs_lines d.in_scope cs) line) (qed_said known d.in_scope goal os.0 cs fit formed) in
     shut_goes known d e (closes.Qed os.0) ks (kept.Certs cs ∷ []) ls (line_of (rawlines.Qed ns) ∷ certs_lines d.in_scope cs) p b said os.2))
 
@@ -389,4 +389,4 @@ unfolding stepped due_of
 takes_contradiction known d e owes ks ls p b o h =
     subst (λ (y : Obligation). Takes known d e rawlines.Contradiction y ks ls) (ok_is (due.Contradiction None) owes o)
     (owing_against known d e rawlines.Contradiction ks ls (λ a c.
-    shut_goes known d e closes.Contradiction ks (kept.Against a ∷ []) ls (line_of contradiction_form ∷ contradiction_lines d.in_scope (Some a)) p b (contradiction_said known d.in_scope (open_goal d) a c) h))
+    shut_goes known d e closes.Contradiction ks (kept.Against a ∷ []) ls (line_of contradiction_raw_line ∷ contradiction_lines d.in_scope (Some a)) p b (contradiction_said known d.in_scope (open_goal d) a c) h))

@@ -30,7 +30,7 @@ use Rattle.e_names.specs.Superposes.{superpose_in}
 use Rattle.e_book.specs.Book.{is_last}
 use Rattle.e_book.specs.Steps.{allowed, stepped, step}
 use Rattle.e_line.specs.Canonical.{line_of}
-use Rattle.e_book.specs.Canonical.{head_forms}
+use Rattle.e_book.specs.Canonical.{head_raw_lines}
 use Rattle.e_book.proofs.parsers.Answered.{passes}
 use Rattle.e_line.proofs.base.Bound.{bind_ok, ok_is, read_ok}
 use Rattle.e_book.proofs.parsers.ParserInvariants.{no_title}
@@ -42,8 +42,8 @@ use Rattle.e_line.specs.Strict.{are_direct, is_strict_line}
 use Rattle.e_read.specs.Strict.{is_apart}
 use Rattle.e_read.specs.Needs.{one_each, needs_of_raw_apply, needs_at_qed, due_of}
 use Rattle.e_roundtrip.specs.Formed.{certs_formed}
-use Rattle.e_roundtrip.proofs.Certificates.KeptFormed.{DueFormed, KeptIsFormed}
-use Rattle.e_roundtrip.proofs.OneLine.FormsRead.{Read}
+use Rattle.e_roundtrip.proofs.Certificates.FormsOfOwedCertificates.{DueFormed, KeptIsFormed}
+use Rattle.e_roundtrip.proofs.OneLine.RawLinesRead.{Read}
 use Rattle.e_roundtrip.proofs.Certificates.OwedSpelled.{owed_text, kept_text, due_at_first, FitsDue}
 use Rattle.e_roundtrip.proofs.Blocks.SpelledBlocks.{BodySaid, head_of}
 use Rattle.e_roundtrip.proofs.Blocks.LinesOfProofs.{Takes, takes_by, takes_hence, takes_let, takes_apply, takes_claim, takes_superpose, takes_cases, takes_else, takes_qed, takes_contradiction}
@@ -69,7 +69,7 @@ nothing_left known d e f ks ls h = record { said = λ k a. by_kept k a; last = �
 pub head_left : (known : List TitledStatement) (d e : TheoremParser) (f : RawLine) (owes : Obligation) (ks : List StepCerts) (ls : List (List ℕ)) → read_ok due.Nothing ≡ Ok owes → Puts known e f ks ls → Leaves known d e f owes ks ls
 head_left known d e f owes ks ls o h = subst (λ (x : Obligation). Leaves known d e f x ks ls) (ok_is due.Nothing owes o) (nothing_left known d e f ks ls h)
 
-in_proof : (known : List TitledStatement) (p : Section) (e : TheoremParser) (ks : List StepCerts) (ls said : List (List ℕ)) → ls ≡ map line_of (head_forms (head_of e)) ++ said → BodySaid known p e ks said → ParserSaid known p e ks ls
+in_proof : (known : List TitledStatement) (p : Section) (e : TheoremParser) (ks : List StepCerts) (ls said : List (List ℕ)) → ls ≡ map line_of (head_raw_lines (head_of e)) ++ said → BodySaid known p e ks said → ParserSaid known p e ks ls
 in_proof known Declaring e ks ls said h b = absurd b
 in_proof known Giving e ks ls said h b = absurd b
 in_proof known Making e ks ls said h b = absurd b
@@ -102,11 +102,11 @@ proof_left known d e f owes p ks ls i t =
     record {
       said = λ k a.
           let g = t k a in
-          let head = map line_of (head_forms (head_of d)) in
+          let head = map line_of (head_raw_lines (head_of d)) in
           let text = kept_text d.in_scope k in
           in_proof known e.section e (ks ++ option_to_list k) ((ls ++ line_of f ∷ []) ++ text) ((i.said ++ line_of f ∷ []) ++ text)
           (ap (λ (l : List (List ℕ)). (l ++ line_of f ∷ []) ++ text) i.lines ∙ after_head head i.said (line_of f ∷ []) text
-          ∙ ap (λ (x : TheoremView). map line_of (head_forms x) ++ ((i.said ++ line_of f ∷ []) ++ text)) (sym g.head)) g.body;
+          ∙ ap (λ (x : TheoremView). map line_of (head_raw_lines x) ++ ((i.said ++ line_of f ∷ []) ++ text)) (sym g.head)) g.body;
       last = λ l. absurd (no_last (sym (t one.0 one.1).unfinished ∙ l));
     }
   where
@@ -174,7 +174,7 @@ puts_end known d e ks ls i h =
     subst (λ (y : TheoremParser). Puts known y rawlines.End ks ls) (ok_is (at_place d Done) e h)
     (record {
       said = i.said ++ line_of rawlines.End ∷ [];
-      lines = ap (λ (l : List (List ℕ)). l ++ line_of rawlines.End ∷ []) i.lines ∙ append_assoc (map line_of (head_forms (head_of d))) i.said (line_of rawlines.End ∷ []);
+      lines = ap (λ (l : List (List ℕ)). l ++ line_of rawlines.End ∷ []) i.lines ∙ append_assoc (map line_of (head_raw_lines (head_of d))) i.said (line_of rawlines.End ∷ []);
       body = (i.said, i.body, refl);
     })
 
@@ -246,7 +246,7 @@ each_at_first ns wanted owes o = subst (λ (x : Obligation). AtFirst ns x) (ok_i
 pub due_at_start : (known : List TitledStatement) (d : TheoremParser) (f : RawLine) (owes : Obligation) (ns : Names) → due_of known d f ≡ Ok owes → AtFirst ns owes
 unfolding due_of
 due_at_start known d (rawlines.Hence raw) owes ns o = let w = bind_ok (lit_in d.in_scope raw) (λ l. read_ok (one_each (l ∷ []))) owes o in each_at_first ns (w.0 ∷ []) owes w.2
-due_at_start known d (rawlines.Let raw) owes ns o = let w = bind_ok (let_in d.in_scope raw) (λ form. read_ok (one_each (needs_of_construction form))) owes o in each_at_first ns (needs_of_construction w.0) owes w.2
+due_at_start known d (rawlines.Let raw) owes ns o = let w = bind_ok (let_in d.in_scope raw) (λ construction. read_ok (one_each (needs_of_construction construction))) owes o in each_at_first ns (needs_of_construction w.0) owes w.2
 due_at_start known d (rawlines.Apply raw) owes ns o = let w = bind_ok (needs_of_raw_apply known d raw) (λ ls. read_ok (one_each ls)) owes o in each_at_first ns w.0 owes w.2
 due_at_start known d (rawlines.Superpose raw) owes ns o =
     let w = bind_ok (superpose_in d.in_scope raw) (λ p. read_ok (one_each (superposing.needs_of_superposition p.0))) owes o in each_at_first ns (superposing.needs_of_superposition w.0.0) owes w.2

@@ -34,9 +34,9 @@ use Rattle.e_book.specs.Blocks.{made_in}
 use Rattle.e_names.specs.TitledStatements.{TitledStatement, stated_by, theorem_of}
 use Rattle.e_names.specs.Scope.{scope_of_names}
 use Rattle.e_names.specs.Fits.{is_diagram_lit}
-use Rattle.e_book.specs.Fits.{few_facts, few_terms, has_good_literals, NewNamesFit}
+use Rattle.e_book.specs.Fits.{few_facts, few_terms, has_well_formed_literals, NewNamesFit}
 use Rattle.e_line.specs.Canonical.{line_of}
-use Rattle.e_names.specs.Canonical.{by_form, hence_form, let_form, apply_form, claim_form, superpose_form, qed_form, contradiction_form, cases_form, else_form}
+use Rattle.e_names.specs.Canonical.{by_raw_line, hence_raw_line, let_raw_line, apply_raw_line, claim_raw_line, superpose_raw_line, qed_raw_line, contradiction_raw_line, cases_raw_line, else_raw_line}
 use Rattle.e_book.specs.HasSpelling.{is_plain}
 use Rattle.e_names.proofs.resolution.Lookups.{objects_named}
 use Rattle.e_names.proofs.resolution.LitLookups.{lit_named}
@@ -58,7 +58,7 @@ use Rattle.e_roundtrip.specs.Formed.{certs_formed, is_formed}
 use Rattle.e_roundtrip.proofs.Blocks.FilledBack.{kepts}
 use Rattle.e_roundtrip.proofs.Certificates.RowsAgain.{lit_direct}
 use Rattle.e_roundtrip.proofs.Certificates.CertsPut.{certs_kept, nothing_kept, against_kept}
-use Rattle.e_roundtrip.proofs.Certificates.CertsGood.{good_certs, good_against}
+use Rattle.e_roundtrip.proofs.Certificates.SpellableCertificates.{good_certs, good_against}
 use Rattle.e_roundtrip.proofs.Blocks.LinesTaken.{along_append}
 use Rattle.e_book.proofs.canonical.ScriptRead.{list_names, one_more, no_more, cite_ready, inferred, hence_ready, gifts, constructed, make_good, make_ready, apply_parts, claim_parts, claim_inner, claim_rest, copy_parts, copy_inner, copy_rest, opens, cases_parts, cases_first, cases_second, one_line}
 use Rattle.e_roundtrip.proofs.Certificates.DueAgain.{all_direct, all_written, hence_due, let_due, apply_due, superpose_due, qed_due}
@@ -78,18 +78,18 @@ cite_next known d i b rest given goal s =
     }
 
 cite_along : (known : List TitledStatement) (d : TheoremParser) (i : Inside) (b : By) (rest : Script) (given : List Lit) (goal : Goal) → Stood known d i (Cite b rest) given goal → Spelled known d (after_step i (Cited b) 1) rest → Spelled known d i (Cite b rest)
-unfolding erased script_lines kepts placed_steps size has_good_literals few_facts due_of
+unfolding erased script_lines kepts placed_steps size has_well_formed_literals few_facts due_of
 cite_along known d i b rest given goal s t =
     let r = s.ready in
     let sc = scope_of_names i.in_scope in
     let fit = (and_parts (is_citation sc b) (list_all (line_fits (stated_by known)) (placed_steps (stated_by known) (erased rest) (erased rest) sc (joined given b.lit) goal)) r.fitting).0 in
-    let good = (and_parts (is_diagram_lit b.lit) (has_good_literals (erased rest)) r.good).0 in
+    let good = (and_parts (is_diagram_lit b.lit) (has_well_formed_literals (erased rest)) r.good).0 in
     let most = leb-true _ _ (and_parts (leb (i.facts + 1) most_facts) (few_facts (stated_by known) (i.facts + 1) sc (erased rest)) r.facts).0 in
     record {
       last = t.last;
       lines = omega (arith, t.lines);
       along = λ e h done.
-          then_along known (proving d i) (proving d (after_step i (Cited b) 1)) e (by_form i.in_scope b) due.Nothing [] None (script_lines known i.in_scope rest) (kepts rest) (record {
+          then_along known (proving d i) (proving d (after_step i (Cited b) 1)) e (by_raw_line i.in_scope b) due.Nothing [] None (script_lines known i.in_scope rest) (kepts rest) (record {
             good = by_good i.in_scope b r.order fit good;
             strict = refl;
             apart = refl;
@@ -115,7 +115,7 @@ hence_next known d i l c rest given goal s =
 
 hence_along : (known : List TitledStatement) (d : TheoremParser) (i : Inside) (l : Lit) (c : Cert) (rest : Script) (given : List Lit) (goal : Goal) → Stood known d i (Hence l (Some c) rest) given goal → Spelled known d (inferred i l) rest
     → Spelled known d i (Hence l (Some c) rest)
-unfolding erased script_lines kepts placed_steps size has_good_literals few_facts few_terms
+unfolding erased script_lines kepts placed_steps size has_well_formed_literals few_facts few_terms
 hence_along known d i l c rest given goal s t =
     let before = stated_by known in
     let r = s.ready in
@@ -123,7 +123,7 @@ hence_along known d i l c rest given goal s t =
     let n = i.terms + monomials l.atom in
     let here = placed_step (Hence l (Some c) rest) (Hence l (Some c) rest) sc given goal in
     let one = one_formed before here (first_of (is_formed before) here (placed_steps before rest rest sc (joined given l) goal) s.formed).0 in
-    let good = (and_parts (is_well_formed l) (has_good_literals (erased rest)) r.good).0 in
+    let good = (and_parts (is_well_formed l) (has_well_formed_literals (erased rest)) r.good).0 in
     let plain : PlainLit i.in_scope l = record { within = one.fitting; good = good } in
     let most = leb-true _ _ (and_parts (leb (i.facts + 1) most_facts) (few_facts before (i.facts + 1) sc (erased rest)) r.facts).0 in
     let short = leb-true _ _ (and_parts (leb n most_terms) (few_terms before n sc (erased rest)) r.terms).0 in
@@ -131,7 +131,7 @@ hence_along known d i l c rest given goal s t =
       last = t.last;
       lines = omega (arith, t.lines);
       along = λ e h done.
-          then_along known (proving d i) (proving d (inferred i l)) e (hence_form i.in_scope l) (one_each (l ∷ [])) (flat_map (cert_lines i.in_scope) (c ∷ [])) (Some (kept.Certs (c ∷ []))) (script_lines known i.in_scope rest) (kepts rest) (record {
+          then_along known (proving d i) (proving d (inferred i l)) e (hence_raw_line i.in_scope l) (one_each (l ∷ [])) (flat_map (cert_lines i.in_scope) (c ∷ [])) (Some (kept.Certs (c ∷ []))) (script_lines known i.in_scope rest) (kepts rest) (record {
             good = lit_named i.in_scope l r.order one.fitting good;
             strict = lit_direct i.in_scope l;
             apart = refl;
@@ -144,47 +144,47 @@ hence_along known d i l c rest given goal s t =
 
 -- ---- constructions
 
-pub make_next : (known : List TitledStatement) (d : TheoremParser) (i : Inside) (form : Construction) (names : List (List ℕ)) (certs : List Cert) (rest : Script) (given : List Lit) (goal : Goal) → Stood known d i (Make form names certs rest) given goal
-    → Stood known d (constructed i form names) rest (joined_all given (gives_of_construction form (scope_of_names i.in_scope))) goal
+pub make_next : (known : List TitledStatement) (d : TheoremParser) (i : Inside) (construction : Construction) (names : List (List ℕ)) (certs : List Cert) (rest : Script) (given : List Lit) (goal : Goal) → Stood known d i (Make construction names certs rest) given goal
+    → Stood known d (constructed i construction names) rest (joined_all given (gives_of_construction construction (scope_of_names i.in_scope))) goal
 unfolding erased placed_steps NewNamesFit
-make_next known d i form names certs rest given goal s =
+make_next known d i construction names certs rest given goal s =
     let before = stated_by known in
     let sc = scope_of_names i.in_scope in
-    let facts = joined_all given (gives_of_construction form sc) in
-    let scope : grown sc (sorts_made form) ≡ scope_of_names (named i.in_scope (sorts_made form) names) = named_scope i.in_scope (sorts_made form) names s.ready.new_names.1 in
-    let here = placed_step (Make form names certs rest) (Make form names certs rest) sc given goal in
+    let facts = joined_all given (gives_of_construction construction sc) in
+    let scope : grown sc (sorts_made construction) ≡ scope_of_names (named i.in_scope (sorts_made construction) names) = named_scope i.in_scope (sorts_made construction) names s.ready.new_names.1 in
+    let here = placed_step (Make construction names certs rest) (Make construction names certs rest) sc given goal in
     record {
-      ready = make_ready known d i form names (erased rest) given goal s.ready;
+      ready = make_ready known d i construction names (erased rest) given goal s.ready;
       goal_is = s.goal_is;
-      formed = subst (λ (z : Scope). list_all (is_formed before) (placed_steps before rest rest z facts goal) ≡ true) scope (first_of (is_formed before) here (placed_steps before rest rest (grown sc (sorts_made form)) facts goal) s.formed).1;
+      formed = subst (λ (z : Scope). list_all (is_formed before) (placed_steps before rest rest z facts goal) ≡ true) scope (first_of (is_formed before) here (placed_steps before rest rest (grown sc (sorts_made construction)) facts goal) s.formed).1;
     }
 
-make_along : (known : List TitledStatement) (d : TheoremParser) (i : Inside) (form : Construction) (names : List (List ℕ)) (certs : List Cert) (rest : Script) (given : List Lit) (goal : Goal) → Stood known d i (Make form names certs rest) given goal
-    → Spelled known d (constructed i form names) rest → Spelled known d i (Make form names certs rest)
+make_along : (known : List TitledStatement) (d : TheoremParser) (i : Inside) (construction : Construction) (names : List (List ℕ)) (certs : List Cert) (rest : Script) (given : List Lit) (goal : Goal) → Stood known d i (Make construction names certs rest) given goal
+    → Spelled known d (constructed i construction names) rest → Spelled known d i (Make construction names certs rest)
 unfolding erased script_lines kepts placed_steps is_plain NewNamesFit size few_facts
-make_along known d i form names certs rest given goal s t =
+make_along known d i construction names certs rest given goal s t =
     let before = stated_by known in
     let r = s.ready in
     let sc = scope_of_names i.in_scope in
-    let n = i.facts + gifts i form in
-    let here = placed_step (Make form names certs rest) (Make form names certs rest) sc given goal in
-    let one = one_formed before here (first_of (is_formed before) here (placed_steps before rest rest (grown sc (sorts_made form)) (joined_all given (gives_of_construction form sc)) goal) s.formed).0 in
-    let good = make_good known d i form names (erased rest) given goal r in
-    let most = leb-true _ _ (and_parts (leb n most_facts) (few_facts before n (grown sc (sorts_made form)) (erased rest)) r.facts).0 in
+    let n = i.facts + gifts i construction in
+    let here = placed_step (Make construction names certs rest) (Make construction names certs rest) sc given goal in
+    let one = one_formed before here (first_of (is_formed before) here (placed_steps before rest rest (grown sc (sorts_made construction)) (joined_all given (gives_of_construction construction sc)) goal) s.formed).0 in
+    let good = make_good known d i construction names (erased rest) given goal r in
+    let most = leb-true _ _ (and_parts (leb n most_facts) (few_facts before n (grown sc (sorts_made construction)) (erased rest)) r.facts).0 in
     record {
       last = t.last;
       lines = omega (arith, t.lines);
       along = λ e h done.
-          then_along known (proving d i) (proving d (constructed i form names)) e (let_form i.in_scope form names) (one_each (needs_of_construction form)) (flat_map (cert_lines i.in_scope) certs) (Some (kept.Certs certs))
-          (script_lines known (named i.in_scope (sorts_made form) names) rest) (kepts rest) (record {
-            good = let_named i.in_scope form names r.order good (list_names names (and_parts (list_all _ names) (is_plain (erased rest)) r.plain).0);
+          then_along known (proving d i) (proving d (constructed i construction names)) e (let_raw_line i.in_scope construction names) (one_each (needs_of_construction construction)) (flat_map (cert_lines i.in_scope) certs) (Some (kept.Certs certs))
+          (script_lines known (named i.in_scope (sorts_made construction) names) rest) (kepts rest) (record {
+            good = let_named i.in_scope construction names r.order good (list_names names (and_parts (list_all _ names) (is_plain (erased rest)) r.plain).0);
             strict = refl;
             apart = refl;
-            owes = let_due known (proving d i) form names r.order good;
-            steps = step_let known d i form names r.order good r.new_names.2 (omega (arith, r.few, at_least (erased rest))) most;
+            owes = let_due known (proving d i) construction names r.order good;
+            steps = step_let known d i construction names r.order good r.new_names.2 (omega (arith, r.few, at_least (erased rest))) most;
             going = refl;
-            keeps = certs_kept i.in_scope (needs_of_construction form) certs r.order (good_certs i.in_scope (needs_of_construction form) certs one.certs);
-          }) (t.along e (one_more d t.last i (Made form names []) (erased rest) e h) done);
+            keeps = certs_kept i.in_scope (needs_of_construction construction) certs r.order (good_certs i.in_scope (needs_of_construction construction) certs one.certs);
+          }) (t.along e (one_more d t.last i (Made construction names []) (erased rest) e h) done);
     }
 
 -- ---- uses of earlier theorems
@@ -225,7 +225,7 @@ apply_along known d i theorem args names certs rest given goal s u =
       last = u.last;
       lines = omega (arith, u.lines);
       along = λ e h done.
-          then_along known (proving d i) (proving d after) e (apply_form known i.in_scope theorem args names) (one_each wanted) (flat_map (cert_lines i.in_scope) certs) (Some (kept.Certs certs)) (script_lines known after.in_scope rest) (kepts rest) (record {
+          then_along known (proving d i) (proving d after) e (apply_raw_line known i.in_scope theorem args names) (one_each wanted) (flat_map (cert_lines i.in_scope) certs) (Some (kept.Certs certs)) (script_lines known after.in_scope rest) (kepts rest) (record {
             good = apply_named known i.in_scope theorem args names r.order p.good p.named;
             strict = all_written i.in_scope args one.beside;
             apart = refl;
@@ -280,7 +280,7 @@ claim_along known d i shown inner rest given goal s t u =
       last = u.last;
       lines = omega (arith, t.lines, u.lines);
       along = λ e h done.
-          then_along known (proving d i) (proving d begins) e (claim_form i.in_scope shown) due.Nothing [] None (script_lines known i.in_scope inner ++ script_lines known i.in_scope rest) (kepts inner ++ kepts rest) (record {
+          then_along known (proving d i) (proving d begins) e (claim_raw_line i.in_scope shown) due.Nothing [] None (script_lines known i.in_scope inner ++ script_lines known i.in_scope rest) (kepts inner ++ kepts rest) (record {
             good = lits_named i.in_scope shown r.order p.plain p.some;
             strict = all_direct i.in_scope shown;
             apart = refl;
@@ -295,72 +295,72 @@ claim_along known d i shown inner rest given goal s t u =
 
 -- ---- superpositions
 
-pub copy_formed : (known : List TitledStatement) (d : TheoremParser) (i : Inside) (form : Superpose) (names : List (List ℕ)) (shown : List Lit) (certs : List Cert) (inner rest : Script) (given : List Lit) (goal : Goal)
-    → Stood known d i (Superposed form names shown certs inner rest) given goal
-    → (list_all (is_formed (stated_by known)) (placed_steps (stated_by known) inner inner (grown (scope_of_names i.in_scope) superposing.sorts_copied) (joined_all given (superposing.gives_of_superposition form (scope_of_names i.in_scope))) (goal_of shown)) ≡ true)
+pub copy_formed : (known : List TitledStatement) (d : TheoremParser) (i : Inside) (superposition : Superpose) (names : List (List ℕ)) (shown : List Lit) (certs : List Cert) (inner rest : Script) (given : List Lit) (goal : Goal)
+    → Stood known d i (Superposed superposition names shown certs inner rest) given goal
+    → (list_all (is_formed (stated_by known)) (placed_steps (stated_by known) inner inner (grown (scope_of_names i.in_scope) superposing.sorts_copied) (joined_all given (superposing.gives_of_superposition superposition (scope_of_names i.in_scope))) (goal_of shown)) ≡ true)
     × (list_all (is_formed (stated_by known)) (placed_steps (stated_by known) rest rest (scope_of_names i.in_scope) (joined_all given shown) goal) ≡ true)
-    × (certs_formed (scope_of_names i.in_scope) (superposing.needs_of_superposition form) certs ≡ true)
+    × (certs_formed (scope_of_names i.in_scope) (superposing.needs_of_superposition superposition) certs ≡ true)
 unfolding placed_steps
-copy_formed known d i form names shown certs inner rest given goal s =
+copy_formed known d i superposition names shown certs inner rest given goal s =
     let before = stated_by known in
     let sc = scope_of_names i.in_scope in
-    let here = placed_step (Superposed form names shown certs inner rest) (Superposed form names shown certs inner rest) sc given goal in
-    let inside = placed_steps before inner inner (grown sc superposing.sorts_copied) (joined_all given (superposing.gives_of_superposition form sc)) (goal_of shown) in
+    let here = placed_step (Superposed superposition names shown certs inner rest) (Superposed superposition names shown certs inner rest) sc given goal in
+    let inside = placed_steps before inner inner (grown sc superposing.sorts_copied) (joined_all given (superposing.gives_of_superposition superposition sc)) (goal_of shown) in
     let after = placed_steps before rest rest sc (joined_all given shown) goal in
     let a = first_of (is_formed before) here (inside ++ after) s.formed in
     let b = both_of (is_formed before) inside after a.1 in
     (b.0, b.1, (one_formed before here a.0).certs)
 
-pub copy_inside : (known : List TitledStatement) (d : TheoremParser) (i : Inside) (form : Superpose) (names : List (List ℕ)) (shown : List Lit) (certs : List Cert) (inner rest : Script) (given : List Lit) (goal : Goal)
-    → Stood known d i (Superposed form names shown certs inner rest) given goal
-    → Stood known d (copied i form names shown) inner (joined_all given (superposing.gives_of_superposition form (scope_of_names i.in_scope))) (goal_of shown)
+pub copy_inside : (known : List TitledStatement) (d : TheoremParser) (i : Inside) (superposition : Superpose) (names : List (List ℕ)) (shown : List Lit) (certs : List Cert) (inner rest : Script) (given : List Lit) (goal : Goal)
+    → Stood known d i (Superposed superposition names shown certs inner rest) given goal
+    → Stood known d (copied i superposition names shown) inner (joined_all given (superposing.gives_of_superposition superposition (scope_of_names i.in_scope))) (goal_of shown)
 unfolding erased NewNamesFit
-copy_inside known d i form names shown certs inner rest given goal s =
+copy_inside known d i superposition names shown certs inner rest given goal s =
     let before = stated_by known in
     let sc = scope_of_names i.in_scope in
     let scope : grown sc superposing.sorts_copied ≡ scope_of_names (named i.in_scope superposing.sorts_copied names) = named_scope i.in_scope superposing.sorts_copied names s.ready.new_names.1 in
     record {
-      ready = copy_inner known d i form names shown (erased inner) (erased rest) given goal s.ready;
+      ready = copy_inner known d i superposition names shown (erased inner) (erased rest) given goal s.ready;
       goal_is = refl;
-      formed = subst (λ (z : Scope). list_all (is_formed before) (placed_steps before inner inner z (joined_all given (superposing.gives_of_superposition form sc)) (goal_of shown)) ≡ true) scope (copy_formed known d i form names shown certs inner rest given goal s).0;
+      formed = subst (λ (z : Scope). list_all (is_formed before) (placed_steps before inner inner z (joined_all given (superposing.gives_of_superposition superposition sc)) (goal_of shown)) ≡ true) scope (copy_formed known d i superposition names shown certs inner rest given goal s).0;
     }
 
-pub copy_next : (known : List TitledStatement) (d : TheoremParser) (i : Inside) (n : ℕ) (form : Superpose) (names : List (List ℕ)) (shown : List Lit) (certs : List Cert) (inner rest : Script) (given : List Lit) (goal : Goal) → n ≡ i.lines + 1 + size (erased inner)
-    → Stood known d i (Superposed form names shown certs inner rest) given goal → Stood known d (resume i n (Copied form names shown [] (erased inner)) shown) rest (joined_all given shown) goal
+pub copy_next : (known : List TitledStatement) (d : TheoremParser) (i : Inside) (n : ℕ) (superposition : Superpose) (names : List (List ℕ)) (shown : List Lit) (certs : List Cert) (inner rest : Script) (given : List Lit) (goal : Goal) → n ≡ i.lines + 1 + size (erased inner)
+    → Stood known d i (Superposed superposition names shown certs inner rest) given goal → Stood known d (resume i n (Copied superposition names shown [] (erased inner)) shown) rest (joined_all given shown) goal
 unfolding erased
-copy_next known d i n form names shown certs inner rest given goal count s = record {
-  ready = copy_rest known d i n form names shown (erased inner) (erased rest) given goal count s.ready;
+copy_next known d i n superposition names shown certs inner rest given goal count s = record {
+  ready = copy_rest known d i n superposition names shown (erased inner) (erased rest) given goal count s.ready;
   goal_is = s.goal_is;
-  formed = (copy_formed known d i form names shown certs inner rest given goal s).1;
+  formed = (copy_formed known d i superposition names shown certs inner rest given goal s).1;
 }
 
-copy_along : (known : List TitledStatement) (d : TheoremParser) (i : Inside) (form : Superpose) (names : List (List ℕ)) (shown : List Lit) (certs : List Cert) (inner rest : Script) (given : List Lit) (goal : Goal)
-    → Stood known d i (Superposed form names shown certs inner rest) given goal
-    → (t : Spelled known d (copied i form names shown) inner) → Spelled known d (resume i t.last.lines (Copied form names shown [] (erased inner)) shown) rest → Spelled known d i (Superposed form names shown certs inner rest)
+copy_along : (known : List TitledStatement) (d : TheoremParser) (i : Inside) (superposition : Superpose) (names : List (List ℕ)) (shown : List Lit) (certs : List Cert) (inner rest : Script) (given : List Lit) (goal : Goal)
+    → Stood known d i (Superposed superposition names shown certs inner rest) given goal
+    → (t : Spelled known d (copied i superposition names shown) inner) → Spelled known d (resume i t.last.lines (Copied superposition names shown [] (erased inner)) shown) rest → Spelled known d i (Superposed superposition names shown certs inner rest)
 unfolding erased script_lines kepts size depth
-copy_along known d i form names shown certs inner rest given goal s t u =
+copy_along known d i superposition names shown certs inner rest given goal s t u =
     let r = s.ready in
-    let p = copy_parts known d i form names shown (erased inner) (erased rest) given goal r in
-    let begins = copied i form names shown in
-    let after = resume i t.last.lines (Copied form names shown [] (erased inner)) shown in
-    let wanted = superposing.needs_of_superposition form in
-    let c = (copy_formed known d i form names shown certs inner rest given goal s).2 in
+    let p = copy_parts known d i superposition names shown (erased inner) (erased rest) given goal r in
+    let begins = copied i superposition names shown in
+    let after = resume i t.last.lines (Copied superposition names shown [] (erased inner)) shown in
+    let wanted = superposing.needs_of_superposition superposition in
+    let c = (copy_formed known d i superposition names shown certs inner rest given goal s).2 in
     record {
       last = u.last;
       lines = omega (arith, t.lines, u.lines);
       along = λ e h done.
-          then_along known (proving d i) (proving d begins) e (superpose_form i.in_scope form names shown) (one_each wanted) (flat_map (cert_lines i.in_scope) certs) (Some (kept.Certs certs))
+          then_along known (proving d i) (proving d begins) e (superpose_raw_line i.in_scope superposition names shown) (one_each wanted) (flat_map (cert_lines i.in_scope) certs) (Some (kept.Certs certs))
           (script_lines known begins.in_scope inner ++ script_lines known i.in_scope rest) (kepts inner ++ kepts rest) (record {
-            good = superpose_named i.in_scope form names shown p.good;
+            good = superpose_named i.in_scope superposition names shown p.good;
             strict = all_direct i.in_scope shown;
             apart = refl;
-            owes = superpose_due known (proving d i) form names shown p.good;
-            steps = step_superpose known d i form names shown p.good p.few (omega (arith, r.few, at_least (erased rest))) (omega (arith, r.shallow, deep_at_least (erased inner))) p.facts_first p.terms_first;
+            owes = superpose_due known (proving d i) superposition names shown p.good;
+            steps = step_superpose known d i superposition names shown p.good p.few (omega (arith, r.few, at_least (erased rest))) (omega (arith, r.shallow, deep_at_least (erased inner))) p.facts_first p.terms_first;
             going = refl;
             keeps = certs_kept i.in_scope wanted certs r.order (good_certs i.in_scope wanted certs c);
           }) (along_append known (proving d begins) (proving d after) e (script_lines known begins.in_scope inner) (script_lines known i.in_scope rest) (kepts inner) (kepts rest)
-          (t.along (proving d after) (superpose_closed d i t.last form names shown (steps_of (erased inner)) (close_of (erased inner)) (erased inner) (same_script (erased inner) p.plain_inner) p.facts p.terms) refl)
-          (u.along e (one_more d u.last i (Copied form names shown [] (erased inner)) (erased rest) e h) done));
+          (t.along (proving d after) (superpose_closed d i t.last superposition names shown (steps_of (erased inner)) (close_of (erased inner)) (erased inner) (same_script (erased inner) p.plain_inner) p.facts p.terms) refl)
+          (u.along e (one_more d u.last i (Copied superposition names shown [] (erased inner)) (erased rest) e h) done));
     }
 
 -- ---- splits
@@ -406,7 +406,7 @@ cases_along known d i l one two given goal s t u =
       lines = omega (arith, t.lines, u.lines);
       along = λ e h done.
           let last = second_closed d i u.last l (erased one) (steps_of (erased two)) (close_of (erased two)) (erased two) (same_script (erased two) p.plain_second) ∙ no_more d u.last i (closes.Cases l (erased one) (erased two)) e h in
-          let after_else = then_along known (splitting d between) (proving d between) e else_form due.Nothing [] None (script_lines known ns two) (kepts two) (record {
+          let after_else = then_along known (splitting d between) (proving d between) e else_raw_line due.Nothing [] None (script_lines known ns two) (kepts two) (record {
             good = tt;
             strict = refl;
             apart = refl;
@@ -415,7 +415,7 @@ cases_along known d i l one two given goal s t u =
             going = refl;
             keeps = nothing_kept ns;
           }) (u.along e last done) in
-          then_along known (proving d i) (proving d (opens i l)) e (cases_form ns l) due.Nothing [] None (script_lines known ns one ++ line_of else_form ∷ script_lines known ns two) (kepts one ++ kepts two) (record {
+          then_along known (proving d i) (proving d (opens i l)) e (cases_raw_line ns l) due.Nothing [] None (script_lines known ns one ++ line_of else_raw_line ∷ script_lines known ns two) (kepts one ++ kepts two) (record {
             good = lit_named ns l r.order p.plain.within p.plain.good;
             strict = lit_direct ns l;
             apart = refl;
@@ -423,7 +423,7 @@ cases_along known d i l one two given goal s t u =
             steps = step_cases known d i l r.order p.plain (omega (arith, r.few, at_least (erased one))) (omega (arith, r.shallow, deep_at_least (erased one))) p.facts p.terms;
             going = refl;
             keeps = nothing_kept ns;
-          }) (along_append known (proving d (opens i l)) (splitting d between) e (script_lines known ns one) (line_of else_form ∷ script_lines known ns two) (kepts one) (kepts two)
+          }) (along_append known (proving d (opens i l)) (splitting d between) e (script_lines known ns one) (line_of else_raw_line ∷ script_lines known ns two) (kepts one) (kepts two)
           (t.along (splitting d between) (first_closed d i t.last l (steps_of (erased one)) (close_of (erased one)) (erased one) (same_script (erased one) p.plain_first)) refl) after_else);
     }
 
@@ -444,7 +444,7 @@ qed_along known d i os certs given goal s =
       last = one_line i;
       lines = refl;
       along = λ e c done.
-          goes_along known (proving d i) e (qed_form ns os) (one_each wanted) (flat_map (cert_lines ns) certs) (Some (kept.Certs certs)) (record {
+          goes_along known (proving d i) e (qed_raw_line ns os) (one_each wanted) (flat_map (cert_lines ns) certs) (Some (kept.Certs certs)) (record {
             good = objects_named ns os r.order (of_sorts_in_scope sc (made_in i.blocks d.made) os h);
             strict = refl;
             apart = refl;
@@ -467,7 +467,7 @@ contradiction_along known d i a given goal s =
       last = one_line i;
       lines = refl;
       along = λ e c done.
-          goes_along known (proving d i) e contradiction_form (due.Contradiction None) (against_lines ns a) (Some (kept.Against a)) (record {
+          goes_along known (proving d i) e contradiction_raw_line (due.Contradiction None) (against_lines ns a) (Some (kept.Against a)) (record {
             good = tt;
             strict = refl;
             apart = refl;
@@ -504,9 +504,9 @@ script_spelled known d i (Cite b rest) given goal s =
 script_spelled known d i (Hence l None rest) given goal s = absurd (no_hence known d i l rest given goal s)
 script_spelled known d i (Hence l (Some c) rest) given goal s =
     hence_along known d i l c rest given goal s (script_spelled known d (inferred i l) rest (joined given l) goal (hence_next known d i l c rest given goal s))
-script_spelled known d i (Make form names certs rest) given goal s =
-    make_along known d i form names certs rest given goal s
-    (script_spelled known d (constructed i form names) rest (joined_all given (gives_of_construction form (scope_of_names i.in_scope))) goal (make_next known d i form names certs rest given goal s))
+script_spelled known d i (Make construction names certs rest) given goal s =
+    make_along known d i construction names certs rest given goal s
+    (script_spelled known d (constructed i construction names) rest (joined_all given (gives_of_construction construction (scope_of_names i.in_scope))) goal (make_next known d i construction names certs rest given goal s))
 script_spelled known d i (Apply theorem args names certs rest) given goal s =
     let t = theorem_of known theorem in
     apply_along known d i theorem args names certs rest given goal s
@@ -515,10 +515,10 @@ script_spelled known d i (Claim shown inner rest) given goal s =
     let t = script_spelled known d (deep i (kind.Claim shown) 0) inner given (goal_of shown) (claim_inside known d i shown inner rest given goal s) in
     let u = script_spelled known d (resume i t.last.lines (Claimed shown (erased inner)) shown) rest (joined_all given shown) goal (claim_next known d i t.last.lines shown inner rest given goal t.lines s) in
     claim_along known d i shown inner rest given goal s t u
-script_spelled known d i (Superposed form names shown certs inner rest) given goal s =
-    let t = script_spelled known d (copied i form names shown) inner (joined_all given (superposing.gives_of_superposition form (scope_of_names i.in_scope))) (goal_of shown) (copy_inside known d i form names shown certs inner rest given goal s) in
-    let u = script_spelled known d (resume i t.last.lines (Copied form names shown [] (erased inner)) shown) rest (joined_all given shown) goal (copy_next known d i t.last.lines form names shown certs inner rest given goal t.lines s) in
-    copy_along known d i form names shown certs inner rest given goal s t u
+script_spelled known d i (Superposed superposition names shown certs inner rest) given goal s =
+    let t = script_spelled known d (copied i superposition names shown) inner (joined_all given (superposing.gives_of_superposition superposition (scope_of_names i.in_scope))) (goal_of shown) (copy_inside known d i superposition names shown certs inner rest given goal s) in
+    let u = script_spelled known d (resume i t.last.lines (Copied superposition names shown [] (erased inner)) shown) rest (joined_all given shown) goal (copy_next known d i t.last.lines superposition names shown certs inner rest given goal t.lines s) in
+    copy_along known d i superposition names shown certs inner rest given goal s t u
 script_spelled known d i (Qed os certs) given goal s = qed_along known d i os certs given goal s
 script_spelled known d i (Contradiction None) given goal s = absurd (no_contradiction known d i given goal s)
 script_spelled known d i (Contradiction (Some a)) given goal s = contradiction_along known d i a given goal s

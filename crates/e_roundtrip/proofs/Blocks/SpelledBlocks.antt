@@ -32,7 +32,7 @@ use Rattle.e_book.specs.TheoremViews.{TheoremView}
 use Rattle.e_book.specs.Book.{is_last}
 use Rattle.e_book.specs.Steps.{terms_after, counted_from, resumed, closed_inside, closed, shut}
 use Rattle.e_line.specs.Canonical.{line_of}
-use Rattle.e_names.specs.Canonical.{claim_form, superpose_form, cases_form, else_form, end_form}
+use Rattle.e_names.specs.Canonical.{claim_raw_line, superpose_raw_line, cases_raw_line, else_raw_line, end_raw_line}
 use Rattle.e_line.proofs.base.Bound.{bind_ok, ok_is, read_ok}
 use Rattle.e_cert.specs.declared.kept.StepCerts.{StepCerts}
 use Rattle.e_cert.specs.declared.kept.StepCerts.TheVariants.{Certs}
@@ -46,12 +46,12 @@ use Rattle.e_roundtrip.proofs.Blocks.SpelledSteps.{StepsSaid, ScriptSaid, no_ste
 -- the lines that open an inner block, the certificates among them, and the names that the block begins with, where the block around
 -- it has this goal; and those lines have their form
 abbrev pub Opening : List TitledStatement → Goal → Names → BlockKind → List StepCerts → Names → List (List ℕ) → Type 0
-Opening known goal ns (kind.Claim shown) ks start ls = (ks ≡ []) × (start ≡ ns) × (ls ≡ line_of (claim_form ns shown) ∷ []) × (are_over (scope_of_names ns) shown ≡ true)
-Opening known goal ns (kind.Superpose form names shown) ks start ls =
-    (cs : List Cert) × (ks ≡ Certs cs ∷ []) × (start ≡ named ns superposing.sorts_copied names) × (ls ≡ line_of (superpose_form ns form names shown) ∷ certs_lines ns cs) × CopyFormed ns form names shown cs
-Opening known goal ns (kind.First lit) ks start ls = (ks ≡ []) × (start ≡ ns) × (ls ≡ line_of (cases_form ns lit) ∷ []) × (all_in_scope (scope_of_names ns) lit ≡ true)
+Opening known goal ns (kind.Claim shown) ks start ls = (ks ≡ []) × (start ≡ ns) × (ls ≡ line_of (claim_raw_line ns shown) ∷ []) × (are_over (scope_of_names ns) shown ≡ true)
+Opening known goal ns (kind.Superpose superposition names shown) ks start ls =
+    (cs : List Cert) × (ks ≡ Certs cs ∷ []) × (start ≡ named ns superposing.sorts_copied names) × (ls ≡ line_of (superpose_raw_line ns superposition names shown) ∷ certs_lines ns cs) × CopyFormed ns superposition names shown cs
+Opening known goal ns (kind.First lit) ks start ls = (ks ≡ []) × (start ≡ ns) × (ls ≡ line_of (cases_raw_line ns lit) ∷ []) × (all_in_scope (scope_of_names ns) lit ≡ true)
 Opening known goal ns (kind.Second lit first) ks start ls =
-    (ms : List (List ℕ)) × ScriptSaid known ns goal first ks ms × (start ≡ ns) × (ls ≡ line_of (cases_form ns lit) ∷ (ms ++ line_of else_form ∷ [])) × (all_in_scope (scope_of_names ns) lit ≡ true)
+    (ms : List (List ℕ)) × ScriptSaid known ns goal first ks ms × (start ≡ ns) × (ls ≡ line_of (cases_raw_line ns lit) ∷ (ms ++ line_of else_raw_line ∷ [])) × (all_in_scope (scope_of_names ns) lit ≡ true)
 
 -- the names that a proof begins with, and its goal
 pub record Start : Type 0 where
@@ -138,9 +138,9 @@ start_of d = let t = stated (statement_of_parser d) in record { names = declared
 -- at the place of else its line belongs to what is said
 abbrev BodyAt : List TitledStatement → Section → Start → List OpenBlock → List PlainStep → Names → CloseLine → List StepCerts → List (List ℕ) → Type 0
 BodyAt known Proving first os steps ns close ks ls = BlocksSaid known first os steps ks ns ls
-BodyAt known Splitting first os steps ns close ks ls = BlocksSaid known first os steps ks ns (ls ++ line_of else_form ∷ [])
+BodyAt known Splitting first os steps ns close ks ls = BlocksSaid known first os steps ks ns (ls ++ line_of else_raw_line ∷ [])
 BodyAt known Closed first os steps ns close ks ls = ScriptSaid known first.names first.goal (all_before steps (script_of_close close)) ks ls
-BodyAt known Done first os steps ns close ks ls = (ms : List (List ℕ)) × ScriptSaid known first.names first.goal (all_before steps (script_of_close close)) ks ms × (ls ≡ ms ++ line_of end_form ∷ [])
+BodyAt known Done first os steps ns close ks ls = (ms : List (List ℕ)) × ScriptSaid known first.names first.goal (all_before steps (script_of_close close)) ks ms × (ls ≡ ms ++ line_of end_raw_line ∷ [])
 BodyAt known p first os steps ns close ks ls = ⊥
 
 abbrev pub BodySaid : List TitledStatement → Section → TheoremParser → List StepCerts → List (List ℕ) → Type 0
@@ -162,30 +162,30 @@ pub record Goes (known : List TitledStatement) (d e : TheoremParser) (ks : List 
 claim_ends : (known : List TitledStatement) (goal : Goal) (ns start : Names) (shown : List Lit) (inner : Script) (js ks : List StepCerts) (ls ms : List (List ℕ)) → Opening known goal ns (kind.Claim shown) js start ls → ScriptSaid known start (goal_of shown) inner ks ms
     → StepsSaid known ns (Claimed shown inner ∷ []) (js ++ ks) ns (ls ++ ms)
 claim_ends known goal ns start shown inner js ks ls ms o s =
-    steps_as known ns (Claimed shown inner ∷ []) ks (js ++ ks) ns (line_of (claim_form ns shown) ∷ ms) (ls ++ ms)
+    steps_as known ns (Claimed shown inner ∷ []) ks (js ++ ks) ns (line_of (claim_raw_line ns shown) ∷ ms) (ls ++ ms)
     (ap (λ (k : List StepCerts). k ++ ks) (sym o.0)) (ap (λ (l : List (List ℕ)). l ++ ms) (sym o.2))
     (claimed_said known ns shown inner ks ms o.3 (subst (λ (n : Names). ScriptSaid known n (goal_of shown) inner ks ms) o.1 s))
 
-copy_ends : (known : List TitledStatement) (goal : Goal) (ns start : Names) (form : Superpose) (names : List (List ℕ)) (shown : List Lit) (inner : Script) (js ks : List StepCerts) (ls ms : List (List ℕ)) → Opening known goal ns (kind.Superpose form names shown) js start ls
-    → ScriptSaid known start (goal_of shown) inner ks ms → StepsSaid known ns (Copied form names shown [] inner ∷ []) (js ++ ks) ns (ls ++ ms)
-copy_ends known goal ns start form names shown inner js ks ls ms o s =
-    steps_as known ns (Copied form names shown [] inner ∷ []) (Certs o.0 ∷ ks) (js ++ ks) ns (line_of (superpose_form ns form names shown) ∷ (certs_lines ns o.0 ++ ms)) (ls ++ ms)
+copy_ends : (known : List TitledStatement) (goal : Goal) (ns start : Names) (superposition : Superpose) (names : List (List ℕ)) (shown : List Lit) (inner : Script) (js ks : List StepCerts) (ls ms : List (List ℕ)) → Opening known goal ns (kind.Superpose superposition names shown) js start ls
+    → ScriptSaid known start (goal_of shown) inner ks ms → StepsSaid known ns (Copied superposition names shown [] inner ∷ []) (js ++ ks) ns (ls ++ ms)
+copy_ends known goal ns start superposition names shown inner js ks ls ms o s =
+    steps_as known ns (Copied superposition names shown [] inner ∷ []) (Certs o.0 ∷ ks) (js ++ ks) ns (line_of (superpose_raw_line ns superposition names shown) ∷ (certs_lines ns o.0 ++ ms)) (ls ++ ms)
     (ap (λ (k : List StepCerts). k ++ ks) (sym o.1)) (ap (λ (l : List (List ℕ)). l ++ ms) (sym o.3))
-    (copied_said known ns form names shown o.0 inner ks ms o.4 (subst (λ (n : Names). ScriptSaid known n (goal_of shown) inner ks ms) o.2 s))
+    (copied_said known ns superposition names shown o.0 inner ks ms o.4 (subst (λ (n : Names). ScriptSaid known n (goal_of shown) inner ks ms) o.2 s))
 
 -- after the first block of a split the second one begins
 first_ends : (known : List TitledStatement) (goal : Goal) (ns start : Names) (lit : Lit) (inner : Script) (js ks : List StepCerts) (ls ms : List (List ℕ)) → Opening known goal ns (kind.First lit) js start ls → ScriptSaid known start goal inner ks ms
-    → Opening known goal ns (kind.Second lit inner) (js ++ ks) ns ((ls ++ ms) ++ line_of else_form ∷ [])
+    → Opening known goal ns (kind.Second lit inner) (js ++ ks) ns ((ls ++ ms) ++ line_of else_raw_line ∷ [])
 first_ends known goal ns start lit inner js ks ls ms o s =
-    (ms, script_as known ns goal inner ks (js ++ ks) ms ms (ap (λ (k : List StepCerts). k ++ ks) (sym o.0)) refl (subst (λ (n : Names). ScriptSaid known n goal inner ks ms) o.1 s), refl, ap (λ (l : List (List ℕ)). (l ++ ms) ++ line_of else_form ∷ []) o.2, o.3)
+    (ms, script_as known ns goal inner ks (js ++ ks) ms ms (ap (λ (k : List StepCerts). k ++ ks) (sym o.0)) refl (subst (λ (n : Names). ScriptSaid known n goal inner ks ms) o.1 s), refl, ap (λ (l : List (List ℕ)). (l ++ ms) ++ line_of else_raw_line ∷ []) o.2, o.3)
 
 -- after the second one the split is a close
 second_ends : (known : List TitledStatement) (goal : Goal) (ns start : Names) (lit : Lit) (first inner : Script) (js ks : List StepCerts) (ls ms : List (List ℕ)) → Opening known goal ns (kind.Second lit first) js start ls → ScriptSaid known start goal inner ks ms
     → ScriptSaid known ns goal (script_of_close (closes.Cases lit first inner)) (js ++ ks) (ls ++ ms)
 second_ends known goal ns start lit first inner js ks ls ms o s =
-    let line = line_of (cases_form ns lit) in
-    script_as known ns goal (script_of_close (closes.Cases lit first inner)) (js ++ ks) (js ++ ks) (line ∷ (o.0 ++ line_of else_form ∷ ms)) (ls ++ ms) refl
-    (sym (ap (λ (l : List (List ℕ)). l ++ ms) o.3 ∙ ap (λ (l : List (List ℕ)). line ∷ l) (append_assoc o.0 (line_of else_form ∷ []) ms)))
+    let line = line_of (cases_raw_line ns lit) in
+    script_as known ns goal (script_of_close (closes.Cases lit first inner)) (js ++ ks) (js ++ ks) (line ∷ (o.0 ++ line_of else_raw_line ∷ ms)) (ls ++ ms) refl
+    (sym (ap (λ (l : List (List ℕ)). l ++ ms) o.3 ∙ ap (λ (l : List (List ℕ)). line ∷ l) (append_assoc o.0 (line_of else_raw_line ∷ []) ms)))
     (cases_said known ns goal lit first inner js ks o.0 ms o.4 o.1 (subst (λ (n : Names). ScriptSaid known n goal inner ks ms) o.2 s))
 
 abbrev counted : TheoremParser → ℕ → ℕ → TheoremParser
@@ -219,12 +219,12 @@ inside_ends : (known : List TitledStatement) (d e : TheoremParser) (o : OpenBloc
 inside_ends known d e o os inner (kind.Claim shown) again ka ko ki start la lo li p a b s more h =
     resumes known d e o os shown (Claimed shown inner) (ka ++ (ko ++ ki)) (la ++ (lo ++ li)) p
     (blocks_more known (start_of d) os o.steps (Claimed shown inner ∷ []) ka (ko ++ ki) o.in_scope o.in_scope la (lo ++ li) a (claim_ends known (goal_inside (start_of d) os) o.in_scope start shown inner ko ki lo li b s)) h
-inside_ends known d e o os inner (kind.Superpose form names shown) again ka ko ki start la lo li p a b s more h =
-    resumes known d e o os shown (Copied form names shown [] inner) (ka ++ (ko ++ ki)) (la ++ (lo ++ li)) p
-    (blocks_more known (start_of d) os o.steps (Copied form names shown [] inner ∷ []) ka (ko ++ ki) o.in_scope o.in_scope la (lo ++ li) a (copy_ends known (goal_inside (start_of d) os) o.in_scope start form names shown inner ko ki lo li b s)) h
+inside_ends known d e o os inner (kind.Superpose superposition names shown) again ka ko ki start la lo li p a b s more h =
+    resumes known d e o os shown (Copied superposition names shown [] inner) (ka ++ (ko ++ ki)) (la ++ (lo ++ li)) p
+    (blocks_more known (start_of d) os o.steps (Copied superposition names shown [] inner ∷ []) ka (ko ++ ki) o.in_scope o.in_scope la (lo ++ li) a (copy_ends known (goal_inside (start_of d) os) o.in_scope start superposition names shown inner ko ki lo li b s)) h
 inside_ends known d e o os inner (kind.First lit) again ka ko ki start la lo li p a b s more h =
     let o' : OpenBlock = record o { kind = kind.Second lit inner } in
-    let else_line = line_of else_form ∷ [] in
+    let else_line = line_of else_raw_line ∷ [] in
     let blocks = blocks_open known (start_of d) os o' ka (ko ++ ki) o.in_scope la ((lo ++ li) ++ else_line) a (first_ends known (goal_inside (start_of d) os) o.in_scope start lit inner ko ki lo li b s) in
     subst (λ (y : TheoremParser). Goes known d y (ka ++ (ko ++ ki)) (la ++ (lo ++ li))) (ok_is (at_second d o os lit inner) e h)
     (record { head = refl; body = blocks_as known (start_of d) (o' ∷ os) [] (ka ++ (ko ++ ki)) (ka ++ (ko ++ ki)) o.in_scope (la ++ ((lo ++ li) ++ else_line)) ((la ++ (lo ++ li)) ++ else_line) refl (sym (append_assoc la (lo ++ li) else_line)) blocks; unfinished = refl })

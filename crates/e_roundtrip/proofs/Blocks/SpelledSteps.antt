@@ -20,7 +20,7 @@ use Rattle.e_deriv.specs.PlainStep.{PlainStep, Cited, Inferred, Made, Applied, C
 use Rattle.e_names.specs.Scope.{scope_of_names}
 use Rattle.e_names.specs.TitledStatements.{TitledStatement, theorem_of}
 use Rattle.e_line.specs.Canonical.{line_of}
-use Rattle.e_names.specs.Canonical.{by_form, hence_form, let_form, apply_form, claim_form, superpose_form, cases_form, else_form, qed_form, contradiction_form}
+use Rattle.e_names.specs.Canonical.{by_raw_line, hence_raw_line, let_raw_line, apply_raw_line, claim_raw_line, superpose_raw_line, cases_raw_line, else_raw_line, qed_raw_line, contradiction_raw_line}
 use Rattle.e_cert.specs.declared.kept.StepCerts.{StepCerts}
 use Rattle.e_cert.specs.declared.kept.StepCerts.TheVariants.{Certs, Against}
 use Rattle.e_cert.specs.Owed.{first_cert}
@@ -88,7 +88,7 @@ steps_closed known ns mid goal xs close ks js ls ms a b =
 
 -- ---- each step
 
-pub cited_said : (known : List TitledStatement) (ns : Names) (by : By) → is_citation (scope_of_names ns) by ≡ true → StepsSaid known ns (Cited by ∷ []) [] ns (line_of (by_form ns by) ∷ [])
+pub cited_said : (known : List TitledStatement) (ns : Names) (by : By) → is_citation (scope_of_names ns) by ≡ true → StepsSaid known ns (Cited by ∷ []) [] ns (line_of (by_raw_line ns by) ∷ [])
 unfolding script_with_certs script_lines
 cited_said known ns by w = record { spelled = λ rest more. refl; left = λ rest more. refl; formed = λ goal rest more h. cited_formed known ns goal by (script_with_certs rest more).0 w h }
 
@@ -98,22 +98,22 @@ one_cert (c ∷ []) le = refl
 one_cert (c ∷ d ∷ cs) le = absurd (omega (arith, le))
 
 pub inferred_said : (known : List TitledStatement) (ns : Names) (lit : Lit) (cs : List Cert) → all_in_scope (scope_of_names ns) lit ≡ true → certs_formed (scope_of_names ns) (lit ∷ []) cs ≡ true
-    → StepsSaid known ns (Inferred lit None ∷ []) (Certs cs ∷ []) ns (line_of (hence_form ns lit) ∷ certs_lines ns cs)
+    → StepsSaid known ns (Inferred lit None ∷ []) (Certs cs ∷ []) ns (line_of (hence_raw_line ns lit) ∷ certs_lines ns cs)
 unfolding script_with_certs script_lines
 inferred_said known ns lit cs w c =
     record {
-      spelled = λ rest more. ap (λ (l : List Cert). line_of (hence_form ns lit) ∷ (certs_lines ns l ++ script_lines known ns (script_with_certs rest more).0)) (one_cert cs (one_each_formed (scope_of_names ns) lit cs c));
+      spelled = λ rest more. ap (λ (l : List Cert). line_of (hence_raw_line ns lit) ∷ (certs_lines ns l ++ script_lines known ns (script_with_certs rest more).0)) (one_cert cs (one_each_formed (scope_of_names ns) lit cs c));
       left = λ rest more. refl;
       formed = λ goal rest more h. inferred_formed known ns goal lit cs (script_with_certs rest more).0 w c h;
     }
 
-pub made_said : (known : List TitledStatement) (ns : Names) (form : Construction) (names : List (List ℕ)) (cs : List Cert) → MadeFormed ns form names cs
-    → StepsSaid known ns (Made form names [] ∷ []) (Certs cs ∷ []) (named ns (sorts_made form) names) (line_of (let_form ns form names) ∷ certs_lines ns cs)
+pub made_said : (known : List TitledStatement) (ns : Names) (construction : Construction) (names : List (List ℕ)) (cs : List Cert) → MadeFormed ns construction names cs
+    → StepsSaid known ns (Made construction names [] ∷ []) (Certs cs ∷ []) (named ns (sorts_made construction) names) (line_of (let_raw_line ns construction names) ∷ certs_lines ns cs)
 unfolding script_with_certs script_lines
-made_said known ns form names cs m = record { spelled = λ rest more. refl; left = λ rest more. refl; formed = λ goal rest more h. made_formed known ns goal form names cs (script_with_certs rest more).0 m h }
+made_said known ns construction names cs m = record { spelled = λ rest more. refl; left = λ rest more. refl; formed = λ goal rest more h. made_formed known ns goal construction names cs (script_with_certs rest more).0 m h }
 
 pub applied_said : (known : List TitledStatement) (ns : Names) (theorem : ℕ) (args : List (Option Obj)) (names : List (List ℕ)) (cs : List Cert) → UseFormed known ns theorem args names cs
-    → StepsSaid known ns (Applied theorem args names [] ∷ []) (Certs cs ∷ []) (named ns (theorem_of known theorem).made names) (line_of (apply_form known ns theorem args names) ∷ certs_lines ns cs)
+    → StepsSaid known ns (Applied theorem args names [] ∷ []) (Certs cs ∷ []) (named ns (theorem_of known theorem).made names) (line_of (apply_raw_line known ns theorem args names) ∷ certs_lines ns cs)
 unfolding script_with_certs script_lines
 applied_said known ns theorem args names cs u = record { spelled = λ rest more. refl; left = λ rest more. refl; formed = λ goal rest more h. applied_formed known ns goal theorem args names cs (script_with_certs rest more).0 u h }
 
@@ -122,54 +122,54 @@ two_blocks : (known : List TitledStatement) (ns : Names) (rest : Script) (a b : 
 two_blocks known ns rest a b js ks p q = ap (λ (l : List (List ℕ)). l ++ script_lines known ns (script_with_certs rest js).0) p ∙ ap (λ (k : List StepCerts). b ++ script_lines known ns (script_with_certs rest k).0) q
 
 pub claimed_said : (known : List TitledStatement) (ns : Names) (shown : List Lit) (inner : Script) (ks : List StepCerts) (ls : List (List ℕ)) → are_over (scope_of_names ns) shown ≡ true → ScriptSaid known ns (goal_of shown) inner ks ls
-    → StepsSaid known ns (Claimed shown inner ∷ []) ks ns (line_of (claim_form ns shown) ∷ ls)
+    → StepsSaid known ns (Claimed shown inner ∷ []) ks ns (line_of (claim_raw_line ns shown) ∷ ls)
 unfolding script_with_certs script_lines
 claimed_said known ns shown inner ks ls w s =
     record {
-      spelled = λ rest more. ap (λ (l : List (List ℕ)). line_of (claim_form ns shown) ∷ l) (two_blocks known ns rest (script_lines known ns (script_with_certs inner (ks ++ more)).0) ls (script_with_certs inner (ks ++ more)).1 more (s.spelled more) (s.left more));
+      spelled = λ rest more. ap (λ (l : List (List ℕ)). line_of (claim_raw_line ns shown) ∷ l) (two_blocks known ns rest (script_lines known ns (script_with_certs inner (ks ++ more)).0) ls (script_with_certs inner (ks ++ more)).1 more (s.spelled more) (s.left more));
       left = λ rest more. ap (λ (k : List StepCerts). (script_with_certs rest k).1) (s.left more);
       formed = λ goal rest more h.
           claimed_formed known ns goal shown (script_with_certs inner (ks ++ more)).0 (script_with_certs rest (script_with_certs inner (ks ++ more)).1).0 w (s.formed more)
           (subst (λ (k : List StepCerts). FormedHere known ns goal (script_with_certs rest k).0) (sym (s.left more)) h);
     }
 
-pub copied_said : (known : List TitledStatement) (ns : Names) (form : Superpose) (names : List (List ℕ)) (shown : List Lit) (cs : List Cert) (inner : Script) (ks : List StepCerts) (ls : List (List ℕ)) → CopyFormed ns form names shown cs → ScriptSaid known (named ns superposing.sorts_copied names) (goal_of shown) inner ks ls
-    → StepsSaid known ns (Copied form names shown [] inner ∷ []) (Certs cs ∷ ks) ns (line_of (superpose_form ns form names shown) ∷ (certs_lines ns cs ++ ls))
+pub copied_said : (known : List TitledStatement) (ns : Names) (superposition : Superpose) (names : List (List ℕ)) (shown : List Lit) (cs : List Cert) (inner : Script) (ks : List StepCerts) (ls : List (List ℕ)) → CopyFormed ns superposition names shown cs → ScriptSaid known (named ns superposing.sorts_copied names) (goal_of shown) inner ks ls
+    → StepsSaid known ns (Copied superposition names shown [] inner ∷ []) (Certs cs ∷ ks) ns (line_of (superpose_raw_line ns superposition names shown) ∷ (certs_lines ns cs ++ ls))
 unfolding script_with_certs script_lines
-copied_said known ns form names shown cs inner ks ls c s =
+copied_said known ns superposition names shown cs inner ks ls c s =
     let start = named ns superposing.sorts_copied names in
     record {
       spelled = λ rest more.
-          ap (λ (l : List (List ℕ)). line_of (superpose_form ns form names shown) ∷ (certs_lines ns cs ++ l))
+          ap (λ (l : List (List ℕ)). line_of (superpose_raw_line ns superposition names shown) ∷ (certs_lines ns cs ++ l))
           (two_blocks known ns rest (script_lines known start (script_with_certs inner (ks ++ more)).0) ls (script_with_certs inner (ks ++ more)).1 more (s.spelled more) (s.left more))
-          ∙ ap (λ (l : List (List ℕ)). line_of (superpose_form ns form names shown) ∷ l) (sym (append_assoc (certs_lines ns cs) ls (script_lines known ns (script_with_certs rest more).0)));
+          ∙ ap (λ (l : List (List ℕ)). line_of (superpose_raw_line ns superposition names shown) ∷ l) (sym (append_assoc (certs_lines ns cs) ls (script_lines known ns (script_with_certs rest more).0)));
       left = λ rest more. ap (λ (k : List StepCerts). (script_with_certs rest k).1) (s.left more);
       formed = λ goal rest more h.
-          copied_formed known ns goal form names shown cs (script_with_certs inner (ks ++ more)).0 (script_with_certs rest (script_with_certs inner (ks ++ more)).1).0 c (s.formed more)
+          copied_formed known ns goal superposition names shown cs (script_with_certs inner (ks ++ more)).0 (script_with_certs rest (script_with_certs inner (ks ++ more)).1).0 c (s.formed more)
           (subst (λ (k : List StepCerts). FormedHere known ns goal (script_with_certs rest k).0) (sym (s.left more)) h);
     }
 
 -- ---- each close
 
 pub qed_said : (known : List TitledStatement) (ns : Names) (goal : Goal) (objects : List Obj) (cs : List Cert) → are_for goal (scope_of_names ns) objects ≡ true → certs_formed (scope_of_names ns) (goal_with goal objects) cs ≡ true
-    → ScriptSaid known ns goal (Qed objects []) (Certs cs ∷ []) (line_of (qed_form ns objects) ∷ certs_lines ns cs)
+    → ScriptSaid known ns goal (Qed objects []) (Certs cs ∷ []) (line_of (qed_raw_line ns objects) ∷ certs_lines ns cs)
 unfolding script_with_certs script_lines
 qed_said known ns goal objects cs w c = record { spelled = λ more. refl; left = λ more. refl; formed = λ more. qed_formed known ns goal objects cs w c }
 
-pub contradiction_said : (known : List TitledStatement) (ns : Names) (goal : Goal) (a : Contradicts) → against_formed (scope_of_names ns) a ≡ true → ScriptSaid known ns goal (Contradiction None) (Against a ∷ []) (line_of contradiction_form ∷ contradiction_lines ns (Some a))
+pub contradiction_said : (known : List TitledStatement) (ns : Names) (goal : Goal) (a : Contradicts) → against_formed (scope_of_names ns) a ≡ true → ScriptSaid known ns goal (Contradiction None) (Against a ∷ []) (line_of contradiction_raw_line ∷ contradiction_lines ns (Some a))
 unfolding script_with_certs script_lines
 contradiction_said known ns goal a c = record { spelled = λ more. refl; left = λ more. refl; formed = λ more. contradiction_formed known ns goal a c }
 
 pub cases_said : (known : List TitledStatement) (ns : Names) (goal : Goal) (lit : Lit) (first second : Script) (js ks : List StepCerts) (ls ms : List (List ℕ)) → all_in_scope (scope_of_names ns) lit ≡ true
-    → ScriptSaid known ns goal first js ls → ScriptSaid known ns goal second ks ms → ScriptSaid known ns goal (Cases lit first second) (js ++ ks) (line_of (cases_form ns lit) ∷ (ls ++ line_of else_form ∷ ms))
+    → ScriptSaid known ns goal first js ls → ScriptSaid known ns goal second ks ms → ScriptSaid known ns goal (Cases lit first second) (js ++ ks) (line_of (cases_raw_line ns lit) ∷ (ls ++ line_of else_raw_line ∷ ms))
 unfolding script_with_certs script_lines
 cases_said known ns goal lit first second js ks ls ms w a b =
     let later : (more : List StepCerts) → (script_with_certs first ((js ++ ks) ++ more)).1 ≡ ks ++ more = λ more. ap (λ (k : List StepCerts). (script_with_certs first k).1) (append_assoc js ks more) ∙ a.left (ks ++ more) in
     record {
       spelled = λ more.
-          ap (λ (l : List (List ℕ)). line_of (cases_form ns lit) ∷ (l ++ line_of else_form ∷ script_lines known ns (script_with_certs second (script_with_certs first ((js ++ ks) ++ more)).1).0))
+          ap (λ (l : List (List ℕ)). line_of (cases_raw_line ns lit) ∷ (l ++ line_of else_raw_line ∷ script_lines known ns (script_with_certs second (script_with_certs first ((js ++ ks) ++ more)).1).0))
           (ap (λ (k : List StepCerts). script_lines known ns (script_with_certs first k).0) (append_assoc js ks more) ∙ a.spelled (ks ++ more))
-          ∙ ap (λ (l : List (List ℕ)). line_of (cases_form ns lit) ∷ (ls ++ line_of else_form ∷ l)) (ap (λ (k : List StepCerts). script_lines known ns (script_with_certs second k).0) (later more) ∙ b.spelled more);
+          ∙ ap (λ (l : List (List ℕ)). line_of (cases_raw_line ns lit) ∷ (ls ++ line_of else_raw_line ∷ l)) (ap (λ (k : List StepCerts). script_lines known ns (script_with_certs second k).0) (later more) ∙ b.spelled more);
       left = λ more. ap (λ (k : List StepCerts). (script_with_certs second k).1) (later more) ∙ b.left more;
       formed = λ more.
           cases_formed known ns goal lit (script_with_certs first ((js ++ ks) ++ more)).0 (script_with_certs second (script_with_certs first ((js ++ ks) ++ more)).1).0 w

@@ -35,7 +35,7 @@ use Rattle.e_line.proofs.base.Bound.{bind_ok, ok_is, read_ok}
 use Rattle.e_names.proofs.read_lines.InScope.{lit_in_scope}
 use Rattle.e_line.proofs.base.Choices.{either, passed}
 use Rattle.e_names.proofs.read_lines.Citations.{good_args}
-use Rattle.e_names.proofs.read_lines.LiteralsOfForms.{lit_plain}
+use Rattle.e_names.proofs.read_lines.LiteralsOfRawLines.{lit_plain}
 use Rattle.e_cert.specs.declared.cert_line.CertLine.{CertLine}
 use Rattle.e_cert.specs.declared.cert_line.CertLine.TheVariants as certlines
 use Rattle.e_cert.specs.declared.owed.OpenSums.{OpenSums}
@@ -53,7 +53,7 @@ use Rattle.e_cert.proofs.FormsOfCertLines.{CertLineSaid, strict_said}
 use Rattle.e_roundtrip.specs.Formed.{against_formed}
 use Rattle.e_roundtrip.proofs.Certificates.CertLinesRead.{CertLineSigned, cert_line_signed}
 use Rattle.e_roundtrip.proofs.Certificates.OwedSpelled.{due_at_first}
-use Rattle.e_roundtrip.proofs.Certificates.KeptFormed.{row_formed, difference_put, OpenFormed, row_put_formed, sum_begun_formed, differs_put_formed, sums_ended_formed, TransferFormed, DueFormed, transfer_put_formed, part_put_formed, metric_put_formed, KeptIsFormed, kept_formed}
+use Rattle.e_roundtrip.proofs.Certificates.FormsOfOwedCertificates.{row_formed, difference_put, OpenFormed, row_put_formed, sum_begun_formed, differs_put_formed, sums_ended_formed, TransferFormed, DueFormed, transfer_put_formed, part_put_formed, metric_put_formed, KeptIsFormed, kept_formed}
 
 -- ---- multipliers
 

@@ -21,7 +21,7 @@ use Rattle.e_line.specs.Reading.{each, or_malformed}
 use Rattle.e_names.specs.TitledStatements.{TitledStatement, theorem_of}
 use Rattle.e_book.specs.Blocks.{made_in}
 use Rattle.e_names.specs.Scope.{scope_of_names, qed_in}
-use Rattle.e_names.specs.Canonical.{raw_of, name_of_object, argument_name, hence_form, let_form, apply_form, superpose_form, qed_form}
+use Rattle.e_names.specs.Canonical.{raw_of, name_of_object, argument_name, hence_raw_line, let_raw_line, apply_raw_line, superpose_raw_line, qed_raw_line}
 use Rattle.e_line.proofs.read_again.Respelled.{as_read}
 use Rattle.e_names.proofs.resolution.Lookups.{InOrder}
 use Rattle.e_names.proofs.resolution.LitLookups.{lit_number_again}
@@ -47,13 +47,13 @@ all_written ns (Some o ∷ args) h = all_written ns args h
 
 -- ---- what is due
 
-pub hence_due : (known : List TitledStatement) (d : TheoremParser) (l : Lit) → InOrder d.in_scope → PlainLit d.in_scope l → due_of known d (hence_form d.in_scope l) ≡ Ok (one_each (l ∷ []))
+pub hence_due : (known : List TitledStatement) (d : TheoremParser) (l : Lit) → InOrder d.in_scope → PlainLit d.in_scope l → due_of known d (hence_raw_line d.in_scope l) ≡ Ok (one_each (l ∷ []))
 unfolding due_of
 hence_due known d l o p = rw (lit_number_again d.in_scope l o p.within p.good) refl
 
-pub let_due : (known : List TitledStatement) (d : TheoremParser) (form : Construction) (names : List (List ℕ)) → InOrder d.in_scope → GoodLet d.in_scope form names → due_of known d (as_read (let_form d.in_scope form names)) ≡ Ok (one_each (needs_of_construction form))
+pub let_due : (known : List TitledStatement) (d : TheoremParser) (construction : Construction) (names : List (List ℕ)) → InOrder d.in_scope → GoodLet d.in_scope construction names → due_of known d (as_read (let_raw_line d.in_scope construction names)) ≡ Ok (one_each (needs_of_construction construction))
 unfolding due_of
-let_due known d form names o g = rw (let_number_again d.in_scope form names o g) refl
+let_due known d construction names o g = rw (let_number_again d.in_scope construction names o g) refl
 
 each_written : (args : List (Option Obj)) → has_no_blank args ≡ true → each or_malformed args ≡ Ok (written args)
 each_written [] h = refl
@@ -65,17 +65,17 @@ needed s t args h fit = rw (each_written args h, fit) refl
 
 pub apply_due : (known : List TitledStatement) (d : TheoremParser) (theorem : ℕ) (args : List (Option Obj)) (names : List (List ℕ)) → InOrder d.in_scope → GoodApply known d.in_scope theorem args names → has_no_blank args ≡ true
     → are_arguments (theorem_of known theorem) (scope_of_names d.in_scope) (written args) ≡ true
-    → due_of known d (apply_form known d.in_scope theorem args names) ≡ Ok (one_each (needs_of_use (theorem_of known theorem) (written args) (scope_of_names d.in_scope)))
+    → due_of known d (apply_raw_line known d.in_scope theorem args names) ≡ Ok (one_each (needs_of_use (theorem_of known theorem) (written args) (scope_of_names d.in_scope)))
 unfolding due_of needs_of_line
 apply_due known d theorem args names o g full fit = rw (apply_number_again known d.in_scope theorem args names o g, needed (scope_of_names d.in_scope) (theorem_of known theorem) args full fit) refl
 
-pub superpose_due : (known : List TitledStatement) (d : TheoremParser) (form : Superpose) (names : List (List ℕ)) (shown : List Lit) → GoodSuperpose d.in_scope form names shown
-    → due_of known d (superpose_form d.in_scope form names shown) ≡ Ok (one_each (superposing.needs_of_superposition form))
+pub superpose_due : (known : List TitledStatement) (d : TheoremParser) (superposition : Superpose) (names : List (List ℕ)) (shown : List Lit) → GoodSuperpose d.in_scope superposition names shown
+    → due_of known d (superpose_raw_line d.in_scope superposition names shown) ≡ Ok (one_each (superposing.needs_of_superposition superposition))
 unfolding due_of
-superpose_due known d form names shown g = rw (superpose_number_again d.in_scope form names shown g) refl
+superpose_due known d superposition names shown g = rw (superpose_number_again d.in_scope superposition names shown g) refl
 
 pub qed_due : (known : List TitledStatement) (d : TheoremParser) (goal : Goal) (os : List Obj) → InOrder d.in_scope → are_of_sorts (scope_of_names d.in_scope) (made_in d.blocks d.made) os ≡ true → open_goal d ≡ goal
-    → due_of known d (qed_form d.in_scope os) ≡ Ok (one_each (goal_with goal os))
+    → due_of known d (qed_raw_line d.in_scope os) ≡ Ok (one_each (goal_with goal os))
 unfolding due_of needs_at_qed qed_in
 qed_due known d goal os o h is =
     let ns = d.in_scope in

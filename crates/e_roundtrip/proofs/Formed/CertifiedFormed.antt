@@ -169,12 +169,12 @@ formed_lines before (Hence lit (Some c) rest) s facts goal h w =
     let p = first_of (is_certified before) x after h in
     let g = hence_written lit (Some c) rest w in
     then_lines before x after (line_is before x (one_certified before x p.0) (rw g.1 refl) refl) (formed_lines before rest s (joined facts lit) goal p.1 g.2)
-formed_lines before (Make form names certs rest) s facts goal h w =
-    let x = placed_step (Make form names certs rest) (Make form names certs rest) s facts goal in
-    let after = placed_steps before rest rest (grown s (sorts_made form)) (joined_all facts (gives_of_construction form s)) goal in
+formed_lines before (Make construction names certs rest) s facts goal h w =
+    let x = placed_step (Make construction names certs rest) (Make construction names certs rest) s facts goal in
+    let after = placed_steps before rest rest (grown s (sorts_made construction)) (joined_all facts (gives_of_construction construction s)) goal in
     let p = first_of (is_certified before) x after h in
-    let g = make_written form names certs rest w in
-    then_lines before x after (line_is before x (one_certified before x p.0) g.0 refl) (formed_lines before rest (grown s (sorts_made form)) (joined_all facts (gives_of_construction form s)) goal p.1 g.1)
+    let g = make_written construction names certs rest w in
+    then_lines before x after (line_is before x (one_certified before x p.0) g.0 refl) (formed_lines before rest (grown s (sorts_made construction)) (joined_all facts (gives_of_construction construction s)) goal p.1 g.1)
 formed_lines before (Apply theorem args names certs rest) s facts goal h w =
     let x = placed_step (Apply theorem args names certs rest) (Apply theorem args names certs rest) s facts goal in
     let t = theorem_at before theorem in
@@ -193,14 +193,14 @@ formed_lines before (Claim shown inner rest) s facts goal h w =
     let g = claim_written shown inner rest w in
     then_lines before x (inside ++ after) (line_is before x (one_certified before x p.0) refl refl)
     (all_both (is_formed before) inside after (formed_lines before inner s facts (goal_of shown) q.0 g.1) (formed_lines before rest s (joined_all facts shown) goal q.1 g.2))
-formed_lines before (Superposed form names shown certs inner rest) s facts goal h w =
-    let x = placed_step (Superposed form names shown certs inner rest) (Superposed form names shown certs inner rest) s facts goal in
-    let given = joined_all facts (superposing.gives_of_superposition form s) in
+formed_lines before (Superposed superposition names shown certs inner rest) s facts goal h w =
+    let x = placed_step (Superposed superposition names shown certs inner rest) (Superposed superposition names shown certs inner rest) s facts goal in
+    let given = joined_all facts (superposing.gives_of_superposition superposition s) in
     let inside = placed_steps before inner inner (grown s superposing.sorts_copied) given (goal_of shown) in
     let after = placed_steps before rest rest s (joined_all facts shown) goal in
     let p = first_of (is_certified before) x (inside ++ after) h in
     let q = both_of (is_certified before) inside after p.1 in
-    let g = superposed_written form names shown certs inner rest w in
+    let g = superposed_written superposition names shown certs inner rest w in
     then_lines before x (inside ++ after) (line_is before x (one_certified before x p.0) g.1 refl)
     (all_both (is_formed before) inside after (formed_lines before inner (grown s superposing.sorts_copied) given (goal_of shown) q.0 g.2) (formed_lines before rest s (joined_all facts shown) goal q.1 g.3))
 formed_lines before (Qed objects certs) s facts goal h w =

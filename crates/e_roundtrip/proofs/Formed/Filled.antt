@@ -35,10 +35,10 @@ pub filled_size : (s f : Script) → size (filled_by s f) ≡ size s
 unfolding size filled_by
 filled_size (Cite by rest) f = ap (λ n. 1 + n) (filled_size rest (rest_of f))
 filled_size (Hence lit cert rest) f = ap (λ n. 1 + n) (filled_size rest (rest_of f))
-filled_size (Make form names certs rest) f = ap (λ n. 1 + n) (filled_size rest (rest_of f))
+filled_size (Make construction names certs rest) f = ap (λ n. 1 + n) (filled_size rest (rest_of f))
 filled_size (Apply theorem args names certs rest) f = ap (λ n. 1 + n) (filled_size rest (rest_of f))
 filled_size (Claim shown inner rest) f = rw (filled_size inner (inner_of f), filled_size rest (rest_of f)) refl
-filled_size (Superposed form names shown certs inner rest) f = rw (filled_size inner (inner_of f), filled_size rest (rest_of f)) refl
+filled_size (Superposed superposition names shown certs inner rest) f = rw (filled_size inner (inner_of f), filled_size rest (rest_of f)) refl
 filled_size (Qed objects certs) f = refl
 filled_size (Contradiction against) f = refl
 filled_size (Cases lit first second) f = rw (filled_size first (inner_of f), filled_size second (rest_of f)) refl
@@ -47,10 +47,10 @@ pub filled_depth : (s f : Script) → depth (filled_by s f) ≡ depth s
 unfolding depth filled_by
 filled_depth (Cite by rest) f = filled_depth rest (rest_of f)
 filled_depth (Hence lit cert rest) f = filled_depth rest (rest_of f)
-filled_depth (Make form names certs rest) f = filled_depth rest (rest_of f)
+filled_depth (Make construction names certs rest) f = filled_depth rest (rest_of f)
 filled_depth (Apply theorem args names certs rest) f = filled_depth rest (rest_of f)
 filled_depth (Claim shown inner rest) f = rw (filled_depth inner (inner_of f), filled_depth rest (rest_of f)) refl
-filled_depth (Superposed form names shown certs inner rest) f = rw (filled_depth inner (inner_of f), filled_depth rest (rest_of f)) refl
+filled_depth (Superposed superposition names shown certs inner rest) f = rw (filled_depth inner (inner_of f), filled_depth rest (rest_of f)) refl
 filled_depth (Qed objects certs) f = refl
 filled_depth (Contradiction against) f = refl
 filled_depth (Cases lit first second) f = rw (filled_depth first (inner_of f), filled_depth second (rest_of f)) refl
@@ -61,17 +61,17 @@ pub filled_facts : (before : List StatementView) (n : ℕ) (sc : Scope) (s f : S
 unfolding few_facts filled_by
 filled_facts before n sc (Cite by rest) f = then_same (leb (n + 1) most_facts) _ _ (filled_facts before (n + 1) sc rest (rest_of f))
 filled_facts before n sc (Hence lit cert rest) f = then_same (leb (n + 1) most_facts) _ _ (filled_facts before (n + 1) sc rest (rest_of f))
-filled_facts before n sc (Make form names certs rest) f =
-    let more = n + length (gives_of_construction form sc) in
-    then_same (leb more most_facts) _ _ (filled_facts before more (grown sc (sorts_made form)) rest (rest_of f))
+filled_facts before n sc (Make construction names certs rest) f =
+    let more = n + length (gives_of_construction construction sc) in
+    then_same (leb more most_facts) _ _ (filled_facts before more (grown sc (sorts_made construction)) rest (rest_of f))
 filled_facts before n sc (Apply theorem args names certs rest) f =
     let more = n + length (theorem_at before theorem).shown in
     then_same (leb more most_facts) _ _ (filled_facts before more (grown sc (theorem_at before theorem).made) rest (rest_of f))
 filled_facts before n sc (Claim shown inner rest) f =
     let more = n + length shown in
     both_same _ _ _ _ (filled_facts before n sc inner (inner_of f)) (then_same (leb more most_facts) _ _ (filled_facts before more sc rest (rest_of f)))
-filled_facts before n sc (Superposed form names shown certs inner rest) f =
-    let given = n + length (superposing.gives_of_superposition form sc) in
+filled_facts before n sc (Superposed superposition names shown certs inner rest) f =
+    let given = n + length (superposing.gives_of_superposition superposition sc) in
     let more = n + length shown in
     then_same (leb given most_facts) _ _
     (both_same _ _ _ _ (filled_facts before given (grown sc superposing.sorts_copied) inner (inner_of f)) (then_same (leb more most_facts) _ _ (filled_facts before more sc rest (rest_of f))))
@@ -86,15 +86,15 @@ filled_terms before n sc (Cite by rest) f = filled_terms before n sc rest (rest_
 filled_terms before n sc (Hence lit cert rest) f =
     let more = n + monomials lit.atom in
     then_same (leb more most_terms) _ _ (filled_terms before more sc rest (rest_of f))
-filled_terms before n sc (Make form names certs rest) f = filled_terms before n (grown sc (sorts_made form)) rest (rest_of f)
+filled_terms before n sc (Make construction names certs rest) f = filled_terms before n (grown sc (sorts_made construction)) rest (rest_of f)
 filled_terms before n sc (Apply theorem args names certs rest) f =
     let more = n + count_monomials (theorem_at before theorem).shown in
     then_same (leb more most_terms) _ _ (filled_terms before more (grown sc (theorem_at before theorem).made) rest (rest_of f))
 filled_terms before n sc (Claim shown inner rest) f =
     let more = n + count_monomials shown in
     both_same _ _ _ _ (filled_terms before n sc inner (inner_of f)) (then_same (leb more most_terms) _ _ (filled_terms before more sc rest (rest_of f)))
-filled_terms before n sc (Superposed form names shown certs inner rest) f =
-    let given = n + count_monomials (superposing.gives_of_superposition form sc) in
+filled_terms before n sc (Superposed superposition names shown certs inner rest) f =
+    let given = n + count_monomials (superposing.gives_of_superposition superposition sc) in
     let more = n + count_monomials shown in
     then_same (leb given most_terms) _ _
     (both_same _ _ _ _ (filled_terms before given (grown sc superposing.sorts_copied) inner (inner_of f)) (then_same (leb more most_terms) _ _ (filled_terms before more sc rest (rest_of f))))
@@ -110,12 +110,12 @@ pub filled_new_names : (before : List StatementView) (ns : Names) (s f : Script)
 unfolding NewNamesFit filled_by
 filled_new_names before ns (Cite by rest) f h = filled_new_names before ns rest (rest_of f) h
 filled_new_names before ns (Hence lit cert rest) f h = filled_new_names before ns rest (rest_of f) h
-filled_new_names before ns (Make form names certs rest) f h = (h.0, h.1, h.2, filled_new_names before (named ns (sorts_made form) names) rest (rest_of f) h.3)
+filled_new_names before ns (Make construction names certs rest) f h = (h.0, h.1, h.2, filled_new_names before (named ns (sorts_made construction) names) rest (rest_of f) h.3)
 filled_new_names before ns (Apply theorem args names certs rest) f h =
     (h.0, h.1, h.2, filled_new_names before (named ns (theorem_at before theorem).made names) rest (rest_of f) h.3)
 filled_new_names before ns (Claim shown inner rest) f h =
     (filled_new_names before ns inner (inner_of f) h.0, filled_new_names before ns rest (rest_of f) h.1)
-filled_new_names before ns (Superposed form names shown certs inner rest) f h =
+filled_new_names before ns (Superposed superposition names shown certs inner rest) f h =
     (h.0, h.1, h.2, filled_new_names before (named ns superposing.sorts_copied names) inner (inner_of f) h.3, filled_new_names before ns rest (rest_of f) h.4)
 filled_new_names before ns (Qed objects certs) f h = h
 filled_new_names before ns (Contradiction against) f h = h
@@ -126,10 +126,10 @@ pub filled_theorems : (known : List TitledStatement) (s f : Script) → names_th
 unfolding names_theorems filled_by
 filled_theorems known (Cite by rest) f = filled_theorems known rest (rest_of f)
 filled_theorems known (Hence lit cert rest) f = filled_theorems known rest (rest_of f)
-filled_theorems known (Make form names certs rest) f = filled_theorems known rest (rest_of f)
+filled_theorems known (Make construction names certs rest) f = filled_theorems known rest (rest_of f)
 filled_theorems known (Apply theorem args names certs rest) f = then_same (is_named_by_title known theorem) _ _ (filled_theorems known rest (rest_of f))
 filled_theorems known (Claim shown inner rest) f = both_same _ _ _ _ (filled_theorems known inner (inner_of f)) (filled_theorems known rest (rest_of f))
-filled_theorems known (Superposed form names shown certs inner rest) f =
+filled_theorems known (Superposed superposition names shown certs inner rest) f =
     both_same _ _ _ _ (filled_theorems known inner (inner_of f)) (filled_theorems known rest (rest_of f))
 filled_theorems known (Qed objects certs) f = refl
 filled_theorems known (Contradiction against) f = refl
@@ -142,15 +142,15 @@ unfolding is_plain filled_by
 filled_plain (Cite by rest) f = filled_plain rest (rest_of f)
 filled_plain (Hence lit None rest) f = filled_plain rest (rest_of f)
 filled_plain (Hence lit (Some cert) rest) f = refl
-filled_plain (Make form names [] rest) f = then_same (list_all is_name names) _ _ (filled_plain rest (rest_of f))
-filled_plain (Make form names (c ∷ certs) rest) f = refl
+filled_plain (Make construction names [] rest) f = then_same (list_all is_name names) _ _ (filled_plain rest (rest_of f))
+filled_plain (Make construction names (c ∷ certs) rest) f = refl
 filled_plain (Apply theorem args names [] rest) f = then_same (list_all is_name names) _ _ (filled_plain rest (rest_of f))
 filled_plain (Apply theorem args names (c ∷ certs) rest) f = refl
 filled_plain (Claim shown inner rest) f =
     then_same _ _ _ (both_same _ _ _ _ (filled_plain inner (inner_of f)) (filled_plain rest (rest_of f)))
-filled_plain (Superposed form names shown [] inner rest) f =
+filled_plain (Superposed superposition names shown [] inner rest) f =
     then_same (list_all is_name names) _ _ (then_same _ _ _ (both_same _ _ _ _ (filled_plain inner (inner_of f)) (filled_plain rest (rest_of f))))
-filled_plain (Superposed form names shown (c ∷ certs) inner rest) f = refl
+filled_plain (Superposed superposition names shown (c ∷ certs) inner rest) f = refl
 filled_plain (Qed objects []) f = refl
 filled_plain (Qed objects (c ∷ certs)) f = refl
 filled_plain (Contradiction None) f = refl
@@ -170,10 +170,10 @@ pub filled_blanks : (s f : Script) → few_blanks (filled_by s f) ≡ true
 unfolding few_blanks filled_by
 filled_blanks (Cite by rest) f = filled_blanks rest (rest_of f)
 filled_blanks (Hence lit cert rest) f = filled_blanks rest (rest_of f)
-filled_blanks (Make form names certs rest) f = filled_blanks rest (rest_of f)
+filled_blanks (Make construction names certs rest) f = filled_blanks rest (rest_of f)
 filled_blanks (Apply theorem args names certs rest) f = and_from _ _ (within_blanks (args_of f)) (filled_blanks rest (rest_of f))
 filled_blanks (Claim shown inner rest) f = and_from _ _ (filled_blanks inner (inner_of f)) (filled_blanks rest (rest_of f))
-filled_blanks (Superposed form names shown certs inner rest) f = and_from _ _ (filled_blanks inner (inner_of f)) (filled_blanks rest (rest_of f))
+filled_blanks (Superposed superposition names shown certs inner rest) f = and_from _ _ (filled_blanks inner (inner_of f)) (filled_blanks rest (rest_of f))
 filled_blanks (Qed objects certs) f = refl
 filled_blanks (Contradiction against) f = refl
 filled_blanks (Cases lit first second) f = and_from _ _ (filled_blanks first (inner_of f)) (filled_blanks second (rest_of f))

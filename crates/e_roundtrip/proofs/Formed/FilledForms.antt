@@ -59,11 +59,11 @@ forms_of_certified before (Hence lit cert rest) f s facts others goal h =
     let x = placed_step (Hence lit cert rest) (Hence lit cert rest) s facts goal in
     let p = first_of (is_certified before) x (placed_steps before rest rest s (joined facts lit) goal) h in
     and_from _ _ (one_certified before x p.0).fitting (forms_of_certified before rest (rest_of f) s (joined facts lit) (joined others lit) goal p.1)
-forms_of_certified before (Make form names certs rest) f s facts others goal h =
-    let x = placed_step (Make form names certs rest) (Make form names certs rest) s facts goal in
-    let g = gives_of_construction form s in
-    let p = first_of (is_certified before) x (placed_steps before rest rest (grown s (sorts_made form)) (joined_all facts g) goal) h in
-    and_from _ _ (one_certified before x p.0).fitting (forms_of_certified before rest (rest_of f) (grown s (sorts_made form)) (joined_all facts g) (joined_all others g) goal p.1)
+forms_of_certified before (Make construction names certs rest) f s facts others goal h =
+    let x = placed_step (Make construction names certs rest) (Make construction names certs rest) s facts goal in
+    let g = gives_of_construction construction s in
+    let p = first_of (is_certified before) x (placed_steps before rest rest (grown s (sorts_made construction)) (joined_all facts g) goal) h in
+    and_from _ _ (one_certified before x p.0).fitting (forms_of_certified before rest (rest_of f) (grown s (sorts_made construction)) (joined_all facts g) (joined_all others g) goal p.1)
 forms_of_certified before (Apply theorem args names certs rest) f s facts others goal h =
     let x = placed_step (Apply theorem args names certs rest) (Apply theorem args names certs rest) s facts goal in
     let t = theorem_at before theorem in
@@ -82,10 +82,10 @@ forms_of_certified before (Claim shown inner rest) f s facts others goal h =
     (all_both (line_fits before) (placed_steps before (erased inner) (inner_of f) s others (goal_of shown)) (placed_steps before (erased rest) (rest_of f) s (joined_all others shown) goal)
     (forms_of_certified before inner (inner_of f) s facts others (goal_of shown) q.0)
     (forms_of_certified before rest (rest_of f) s (joined_all facts shown) (joined_all others shown) goal q.1))
-forms_of_certified before (Superposed form names shown certs inner rest) f s facts others goal h =
-    let x = placed_step (Superposed form names shown certs inner rest) (Superposed form names shown certs inner rest) s facts goal in
+forms_of_certified before (Superposed superposition names shown certs inner rest) f s facts others goal h =
+    let x = placed_step (Superposed superposition names shown certs inner rest) (Superposed superposition names shown certs inner rest) s facts goal in
     let within = grown s superposing.sorts_copied in
-    let g = superposing.gives_of_superposition form s in
+    let g = superposing.gives_of_superposition superposition s in
     let inside = placed_steps before inner inner within (joined_all facts g) (goal_of shown) in
     let later = placed_steps before rest rest s (joined_all facts shown) goal in
     let p = first_of (is_certified before) x (inside ++ later) h in

@@ -10,7 +10,7 @@ use Rattle.e_deriv.specs.Certified.{Certified}
 use Rattle.e_line.specs.Limits.{most_steps, most_depth, count_monomials}
 use Rattle.e_names.specs.TitledStatements.{TitledStatement, stated_by}
 use Rattle.e_book.specs.TheoremViews.{TheoremView}
-use Rattle.e_book.specs.Fits.{Fits, NewNamesFit, few_facts, few_terms, few_blanks, has_good_literals}
+use Rattle.e_book.specs.Fits.{Fits, NewNamesFit, few_facts, few_terms, few_blanks, has_well_formed_literals}
 use Rattle.e_book.specs.HasSpelling.{is_plain, names_theorems}
 use Rattle.e_book.proofs.fit_theorems.WrittenScripts.{filled_literals}
 use Rattle.e_read.proofs.Erased.{erased_plain}
@@ -43,7 +43,7 @@ filled_fits known t d h e c =
       shown = h.shown;
       good_given = h.good_given;
       good_shown = h.good_shown;
-      good_script = ap has_good_literals e ∙ filled_literals s d ∙ h.good_script;
+      good_script = ap has_well_formed_literals e ∙ filled_literals s d ∙ h.good_script;
       script = forms_of_certified before d (erased d) sc (facts_of_statement st) (facts_of_statement st) (goal_of_statement st) c;
       new_names = subst (λ (x : Script). NewNamesFit before ns x) back (filled_new_names before ns s d h.new_names);
       steps = subst (λ (k : ℕ). k ≤ most_steps) (sym (ap size e ∙ filled_size s d)) h.steps;

@@ -14,7 +14,7 @@ use Rattle.e_literal.proofs.Booleans.{all_both}
 use Rattle.e_literal.proofs.Sorts.{same_obj_self}
 use Rattle.e_construct.specs.declared.construction.Construction.{Construction}
 use Rattle.e_construct.specs.declared.superpose.Superpose.{Superpose}
-use Rattle.e_construct.specs.Construct.{sorts_made, gives_of_construction, fits_construction as fits_form, needs_of_construction as needs_of_form}
+use Rattle.e_construct.specs.Construct.{sorts_made, gives_of_construction, fits_construction, needs_of_construction}
 use Rattle.e_construct.specs.Superposing as superposing
 use Rattle.e_clause.specs.declared.cert.By.{By}
 use Rattle.e_clause.specs.declared.cert.Cert.{Cert}
@@ -77,21 +77,21 @@ inferred_formed known ns goal lit (d ∷ e ∷ cs) x w c h facts =
     let p = and_parts (cert_formed (scope_of_names ns) lit d) (certs_formed (scope_of_names ns) [] (e ∷ cs)) c in absurd (true≢false (sym p.1))
 
 -- a construction, with its certificates: it fits, and has one new name for each object that it makes
-pub record MadeFormed (ns : Names) (form : Construction) (names : List (List ℕ)) (cs : List Cert) : Type 0 where
-  pub fits : fits_form form (scope_of_names ns) ≡ true
-  pub count : length names ≡ length (sorts_made form)
-  pub certs : certs_formed (scope_of_names ns) (needs_of_form form) cs ≡ true
+pub record MadeFormed (ns : Names) (construction : Construction) (names : List (List ℕ)) (cs : List Cert) : Type 0 where
+  pub fits : fits_construction construction (scope_of_names ns) ≡ true
+  pub count : length names ≡ length (sorts_made construction)
+  pub certs : certs_formed (scope_of_names ns) (needs_of_construction construction) cs ≡ true
 
-pub made_formed : (known : List TitledStatement) (ns : Names) (goal : Goal) (form : Construction) (names : List (List ℕ)) (cs : List Cert) (x : Script) → MadeFormed ns form names cs → FormedHere known (named ns (sorts_made form) names) goal x
-    → FormedHere known ns goal (Make form names cs x)
+pub made_formed : (known : List TitledStatement) (ns : Names) (goal : Goal) (construction : Construction) (names : List (List ℕ)) (cs : List Cert) (x : Script) → MadeFormed ns construction names cs → FormedHere known (named ns (sorts_made construction) names) goal x
+    → FormedHere known ns goal (Make construction names cs x)
 unfolding placed_steps
-made_formed known ns goal form names cs x m h facts =
+made_formed known ns goal construction names cs x m h facts =
     let before = stated_by known in
     let s = scope_of_names ns in
-    let more = joined_all facts (gives_of_construction form s) in
-    let l = placed_step (Make form names cs x) (Make form names cs x) s facts goal in
-    let after = subst (λ (z : Scope). list_all (is_formed before) (placed_steps before x x z more goal) ≡ true) (sym (named_scope ns (sorts_made form) names m.count)) (h more) in
-    then_lines before l (placed_steps before x x (grown s (sorts_made form)) more goal) (one_formed before l m.fits m.certs refl) after
+    let more = joined_all facts (gives_of_construction construction s) in
+    let l = placed_step (Make construction names cs x) (Make construction names cs x) s facts goal in
+    let after = subst (λ (z : Scope). list_all (is_formed before) (placed_steps before x x z more goal) ≡ true) (sym (named_scope ns (sorts_made construction) names m.count)) (h more) in
+    then_lines before l (placed_steps before x x (grown s (sorts_made construction)) more goal) (one_formed before l m.fits m.certs refl) after
 
 -- a use of an earlier theorem, with its certificates: it fits without blanks, and has one new name for each made object
 pub record UseFormed (known : List TitledStatement) (ns : Names) (theorem : ℕ) (args : List (Option Obj)) (names : List (List ℕ)) (cs : List Cert) : Type 0 where
@@ -124,24 +124,24 @@ claimed_formed known ns goal shown inner x w i h facts =
     then_lines before l (inside ++ after) (one_formed before l w refl refl) (all_both (is_formed before) inside after (i facts) (h (joined_all facts shown)))
 
 -- a superposition, with its certificates: it fits, what it shows is over the objects before it, and each copied point has a new name
-pub record CopyFormed (ns : Names) (form : Superpose) (names : List (List ℕ)) (shown : List Lit) (cs : List Cert) : Type 0 where
-  pub fits : superposing.fits_superposition form (scope_of_names ns) ≡ true
+pub record CopyFormed (ns : Names) (superposition : Superpose) (names : List (List ℕ)) (shown : List Lit) (cs : List Cert) : Type 0 where
+  pub fits : superposing.fits_superposition superposition (scope_of_names ns) ≡ true
   pub over : are_over (scope_of_names ns) shown ≡ true
   pub count : length names ≡ length superposing.sorts_copied
-  pub certs : certs_formed (scope_of_names ns) (superposing.needs_of_superposition form) cs ≡ true
+  pub certs : certs_formed (scope_of_names ns) (superposing.needs_of_superposition superposition) cs ≡ true
 
-pub copied_formed : (known : List TitledStatement) (ns : Names) (goal : Goal) (form : Superpose) (names : List (List ℕ)) (shown : List Lit) (cs : List Cert) (inner x : Script) → CopyFormed ns form names shown cs
-    → FormedHere known (named ns superposing.sorts_copied names) (goal_of shown) inner → FormedHere known ns goal x → FormedHere known ns goal (Superposed form names shown cs inner x)
+pub copied_formed : (known : List TitledStatement) (ns : Names) (goal : Goal) (superposition : Superpose) (names : List (List ℕ)) (shown : List Lit) (cs : List Cert) (inner x : Script) → CopyFormed ns superposition names shown cs
+    → FormedHere known (named ns superposing.sorts_copied names) (goal_of shown) inner → FormedHere known ns goal x → FormedHere known ns goal (Superposed superposition names shown cs inner x)
 unfolding placed_steps
-copied_formed known ns goal form names shown cs inner x c i h facts =
+copied_formed known ns goal superposition names shown cs inner x c i h facts =
     let before = stated_by known in
     let s = scope_of_names ns in
-    let given = joined_all facts (superposing.gives_of_superposition form s) in
-    let l = placed_step (Superposed form names shown cs inner x) (Superposed form names shown cs inner x) s facts goal in
+    let given = joined_all facts (superposing.gives_of_superposition superposition s) in
+    let l = placed_step (Superposed superposition names shown cs inner x) (Superposed superposition names shown cs inner x) s facts goal in
     let inside = placed_steps before inner inner (grown s superposing.sorts_copied) given (goal_of shown) in
     let after = placed_steps before x x s (joined_all facts shown) goal in
     let within = subst (λ (z : Scope). list_all (is_formed before) (placed_steps before inner inner z given (goal_of shown)) ≡ true) (sym (named_scope ns superposing.sorts_copied names c.count)) (i given) in
-    then_lines before l (inside ++ after) (one_formed before l (and_from (superposing.fits_superposition form s) (are_over s shown) c.fits c.over) c.certs refl)
+    then_lines before l (inside ++ after) (one_formed before l (and_from (superposing.fits_superposition superposition s) (are_over s shown) c.fits c.over) c.certs refl)
     (all_both (is_formed before) inside after within (h (joined_all facts shown)))
 
 -- ---- closes

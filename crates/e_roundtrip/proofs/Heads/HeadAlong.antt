@@ -22,8 +22,8 @@ use Rattle.e_line.specs.LineLimits.{few_monos}
 use Rattle.e_book.specs.Steps.{terms_after_raw, with_terms, allowed, declared, declares, supposes, makes, shows, proof_begun, stepped, step}
 use Rattle.e_book.specs.Book.{is_done}
 use Rattle.e_line.specs.Canonical.{line_of}
-use Rattle.e_names.specs.Canonical.{name_of_object, given_form, show_form}
-use Rattle.e_book.specs.Canonical.{Group, group, grouped_before, grouped, declare_form, made_form, declared_objects, made_objects, given_forms, shown_forms}
+use Rattle.e_names.specs.Canonical.{name_of_object, given_raw_line, show_raw_line}
+use Rattle.e_book.specs.Canonical.{Group, group, grouped_before, grouped, declare_raw_line, made_raw_line, declared_objects, made_objects, given_raw_lines, shown_raw_lines}
 use Rattle.e_line.proofs.read_again.Respelled.{GoodForm, as_read}
 use Rattle.e_book.proofs.canonical.Declared.{Runs}
 use Rattle.e_line.proofs.base.Bound.{bind_ok, ok_is}
@@ -198,21 +198,21 @@ fresh_after : (ss : List Sort) (names : List (List ℕ)) (sort : Sort) (gs : Lis
 fresh_after ss names sort [] n b = tt
 fresh_after ss names sort (g ∷ gs) n b = last_is ss names sort g.sort n ∙ b
 
-declared_heads : (ds ms : List Sort) (gs : List Group) (more : List RawLine) → Fresh ds gs → Differ gs → ((es : List Sort) → Heads es ms more) → Heads ds ms (map declare_form gs ++ more)
+declared_heads : (ds ms : List Sort) (gs : List Group) (more : List RawLine) → Fresh ds gs → Differ gs → ((es : List Sort) → Heads es ms more) → Heads ds ms (map declare_raw_line gs ++ more)
 declared_heads ds ms [] more f h rest = rest ds
 declared_heads ds ms (g ∷ gs) more f h rest = (f, declared_heads (ds ++ replicate (length g.names) g.sort) ms gs more (fresh_after ds g.names g.sort gs h.0 h.1) h.2 rest)
 
-made_heads : (ds ms : List Sort) (gs : List Group) (more : List RawLine) → Fresh ms gs → Differ gs → ((es : List Sort) → Heads ds es more) → Heads ds ms (map made_form gs ++ more)
+made_heads : (ds ms : List Sort) (gs : List Group) (more : List RawLine) → Fresh ms gs → Differ gs → ((es : List Sort) → Heads ds es more) → Heads ds ms (map made_raw_line gs ++ more)
 made_heads ds ms [] more f h rest = rest ms
 made_heads ds ms (g ∷ gs) more f h rest = (f, made_heads ds (ms ++ replicate (length g.names) g.sort) gs more (fresh_after ms g.names g.sort gs h.0 h.1) h.2 rest)
 
 -- ---- the whole
 
-given_heads : (ds ms : List Sort) (ns : Names) (ls : List Lit) (more : List RawLine) → Heads ds ms more → Heads ds ms (map (given_form ns) ls ++ more)
+given_heads : (ds ms : List Sort) (ns : Names) (ls : List Lit) (more : List RawLine) → Heads ds ms more → Heads ds ms (map (given_raw_line ns) ls ++ more)
 given_heads ds ms ns [] more h = h
 given_heads ds ms ns (l ∷ ls) more h = (rw (lit_direct ns l) refl, given_heads ds ms ns ls more h)
 
-shown_heads : (ds ms : List Sort) (ns : Names) (ls : List Lit) (more : List RawLine) → Heads ds ms more → Heads ds ms (map (show_form ns) ls ++ more)
+shown_heads : (ds ms : List Sort) (ns : Names) (ls : List Lit) (more : List RawLine) → Heads ds ms more → Heads ds ms (map (show_raw_line ns) ls ++ more)
 shown_heads ds ms ns [] more h = h
 shown_heads ds ms ns (l ∷ ls) more h = (rw (lit_direct ns l) refl, shown_heads ds ms ns ls more h)
 
@@ -220,18 +220,18 @@ first_fresh : (gs : List Group) → Fresh [] gs
 first_fresh [] = tt
 first_fresh (g ∷ gs) = refl
 
-shown_part : (ds : List Sort) (ns : Names) (t : Statement) → Heads ds [] (shown_forms ns t ++ rawlines.Proof ∷ [])
+shown_part : (ds : List Sort) (ns : Names) (t : Statement) → Heads ds [] (shown_raw_lines ns t ++ rawlines.Proof ∷ [])
 shown_part ds ns t =
     let gs = grouped ns (made_objects t) in
-    let shown = map (show_form ns) t.shown in
-    subst (λ (fs : List RawLine). Heads ds [] fs) (sym (append_assoc (map made_form gs) shown (rawlines.Proof ∷ [])))
+    let shown = map (show_raw_line ns) t.shown in
+    subst (λ (fs : List RawLine). Heads ds [] fs) (sym (append_assoc (map made_raw_line gs) shown (rawlines.Proof ∷ [])))
     (made_heads ds [] gs (shown ++ rawlines.Proof ∷ []) (first_fresh gs) (groups_differ ns (made_objects t)) (λ ms. shown_heads ds ms ns t.shown (rawlines.Proof ∷ []) tt))
 
 -- all lines of a statement after its title
-pub statement_heads : (ns : Names) (t : Statement) → Heads [] [] (given_forms ns t ++ (shown_forms ns t ++ rawlines.Proof ∷ []))
+pub statement_heads : (ns : Names) (t : Statement) → Heads [] [] (given_raw_lines ns t ++ (shown_raw_lines ns t ++ rawlines.Proof ∷ []))
 statement_heads ns t =
     let gs = grouped ns (declared_objects t) in
-    let given = map (given_form ns) t.given in
-    let more = shown_forms ns t ++ rawlines.Proof ∷ [] in
-    subst (λ (fs : List RawLine). Heads [] [] fs) (sym (append_assoc (map declare_form gs) given more))
+    let given = map (given_raw_line ns) t.given in
+    let more = shown_raw_lines ns t ++ rawlines.Proof ∷ [] in
+    subst (λ (fs : List RawLine). Heads [] [] fs) (sym (append_assoc (map declare_raw_line gs) given more))
     (declared_heads [] [] gs (given ++ more) (first_fresh gs) (groups_differ ns (declared_objects t)) (λ ds. given_heads ds [] ns t.given more (shown_part ds ns t)))

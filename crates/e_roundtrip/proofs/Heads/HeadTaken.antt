@@ -23,8 +23,8 @@ use Rattle.e_names.specs.Scope.{fresh, lit_in, lits_in}
 use Rattle.e_line.specs.LineLimits.{few_monos}
 use Rattle.e_book.specs.Steps.{allowed, declared, terms_after_raw, with_terms, stepped, begun, begin}
 use Rattle.e_line.specs.Canonical.{line_of}
-use Rattle.e_names.specs.Canonical.{given_form, show_form}
-use Rattle.e_book.specs.Canonical.{head_forms, given_forms, shown_forms}
+use Rattle.e_names.specs.Canonical.{given_raw_line, show_raw_line}
+use Rattle.e_book.specs.Canonical.{head_raw_lines, given_raw_lines, shown_raw_lines}
 use Rattle.e_book.specs.ParserViews.{statement_of_parser}
 use Rattle.e_book.proofs.parsers.Answered.{untaken}
 use Rattle.e_line.proofs.base.Bound.{bind_ok, ok_is, read_ok}
@@ -61,7 +61,7 @@ pub record InHead (p : Section) (d : TheoremParser) (ks : List StepCerts) (ls : 
 -- a head, and a proof after it
 pub record InProof (known : List TitledStatement) (p : Section) (d : TheoremParser) (ks : List StepCerts) (ls : List (List ℕ)) : Type 0 where
   pub said : List (List ℕ)
-  pub lines : ls ≡ map line_of (head_forms (head_of d)) ++ said
+  pub lines : ls ≡ map line_of (head_raw_lines (head_of d)) ++ said
   pub body : BodySaid known p d ks said
 
 -- these certificates are kept for the lines so far, and with them these lines spell what the parser holds
@@ -172,8 +172,8 @@ record OneLit (ns : Names) (front : List Lit) (raws : List RawLit) (all : List L
   lit : Lit
   raws_are : raws ≡ raw ∷ []
   all_are : all ≡ front ++ lit ∷ []
-  named : (more : Names) → Keeps ns more → given_form more lit ≡ rawlines.Given raws
-  shown : (more : Names) → Keeps ns more → show_form more lit ≡ rawlines.Show raws
+  named : (more : Names) → Keeps ns more → given_raw_line more lit ≡ rawlines.Given raws
+  shown : (more : Names) → Keeps ns more → show_raw_line more lit ≡ rawlines.Show raws
 
 one_lit : (ns : Names) (front : List Lit) (raws : List RawLit) (all : List Lit) → (eqb (length raws) 1) ≡ true → are_direct raws ≡ true → AllSigned raws → with_front front (lits_in ns raws) ≡ Ok all → OneLit ns front raws all
 one_lit ns front [] all n d s e = absurd cc
@@ -265,14 +265,14 @@ unfolding stepped
 puts_proof known d e ks ls a g h =
     let i = at_proof known d.section d ks ls a g in
     let title = rawlines.Theorem d.title in
-    let given = given_forms d.names (statement_of_parser d) in
-    let shown = shown_forms d.names (statement_of_parser d) in
-    let whole : head_forms (head_of d) ≡ i.said ++ rawlines.Proof ∷ [] =
+    let given = given_raw_lines d.names (statement_of_parser d) in
+    let shown = shown_raw_lines d.names (statement_of_parser d) in
+    let whole : head_raw_lines (head_of d) ≡ i.said ++ rawlines.Proof ∷ [] =
     ap (λ (l : List RawLine). title ∷ l) (sym (append_assoc given shown (rawlines.Proof ∷ []))) ∙ ap (λ (l : List RawLine). l ++ rawlines.Proof ∷ []) (i.head.forms d.names (keeps_all d.names)) in
     subst (λ (y : TheoremParser). Puts known y rawlines.Proof ks ls) (ok_is (proving d) e h)
     (record {
       said = [];
-      lines = one_line i.said rawlines.Proof ls i.lines ∙ ap (map line_of) (sym whole) ∙ sym (append-nil (map line_of (head_forms (head_of d))));
+      lines = one_line i.said rawlines.Proof ls i.lines ∙ ap (map line_of) (sym whole) ∙ sym (append-nil (map line_of (head_raw_lines (head_of d))));
       body = none_said known (start_of d) d.blocks d.steps ks i.blocks i.steps i.kept;
     })
 

@@ -13,8 +13,8 @@ use Rattle.e_deriv.specs.Naming.{names_of_sort, with_names}
 use Rattle.e_line.specs.declared.raw_line.RawLine.{RawLine}
 use Rattle.e_line.specs.declared.raw_line.RawLine.TheVariants as rawlines
 use Rattle.e_names.specs.Scope.{scope_of_names}
-use Rattle.e_names.specs.Canonical.{given_form, show_form}
-use Rattle.e_book.specs.Canonical.{group, grouped, declare_form, made_form}
+use Rattle.e_names.specs.Canonical.{given_raw_line, show_raw_line}
+use Rattle.e_book.specs.Canonical.{group, grouped, declare_raw_line, made_raw_line}
 use Rattle.e_read.specs.Strict.{ends_with}
 use Rattle.e_roundtrip.proofs.OneLine.NamesSpelled.{Keeps}
 use Rattle.e_roundtrip.proofs.OneLine.Groups.{more_groups, count_is, scope_more, keeps_before, keeps_new}
@@ -22,16 +22,16 @@ use Rattle.e_roundtrip.proofs.OneLine.Groups.{more_groups, count_is, scope_more,
 -- ---- the forms of a head
 
 abbrev declared_part : Names → List Sort → List RawLine
-declared_part ns declared = map declare_form (grouped ns (next_objects nothing declared))
+declared_part ns declared = map declare_raw_line (grouped ns (next_objects nothing declared))
 
 abbrev given_part : Names → List Lit → List RawLine
-given_part ns ls = map (given_form ns) ls
+given_part ns ls = map (given_raw_line ns) ls
 
 abbrev made_part : Names → List Sort → List Sort → List RawLine
-made_part ns declared made = map made_form (grouped ns (next_objects (grown nothing declared) made))
+made_part ns declared made = map made_raw_line (grouped ns (next_objects (grown nothing declared) made))
 
 abbrev shown_part : Names → List Lit → List RawLine
-shown_part ns ls = map (show_form ns) ls
+shown_part ns ls = map (show_raw_line ns) ls
 
 -- up to the word proof
 abbrev pub head_parts : Names → List ℕ → List Sort → List Lit → List Sort → List Lit → List RawLine
@@ -90,7 +90,7 @@ declared_said ns title declared given made shown said sort new g m s h lt a =
     let scope : scope_of_names ns ≡ grown nothing declared = a.scope ∙ ap (grown (grown nothing declared)) m in
     let line : (more : Names) → Keeps now more → head_parts more title (declared ++ xs) given made shown ≡ said ++ rawlines.Declare sort new ∷ [] = λ more k.
     let part : declared_part more (declared ++ xs) ≡ declared_part more declared ++ rawlines.Declare sort new ∷ [] =
-    ap (map declare_form) (more_groups more nothing declared sort (names_of_sort ns sort) new h lt (count_said ns (grown nothing declared) sort scope) (keeps_new ns more sort new k)) ∙ map-append declare_form (grouped more (next_objects nothing declared)) (group sort new ∷ []) in
+    ap (map declare_raw_line) (more_groups more nothing declared sort (names_of_sort ns sort) new h lt (count_said ns (grown nothing declared) sort scope) (keeps_new ns more sort new k)) ∙ map-append declare_raw_line (grouped more (next_objects nothing declared)) (group sort new ∷ []) in
     bare_head more title (declared ++ xs) given made shown g m s ∙ ap (λ (l : List RawLine). rawlines.Theorem title ∷ ((l ++ []) ++ [])) part ∙ at_declared (rawlines.Theorem title) (rawlines.Declare sort new) (declared_part more declared)
     ∙ ap (λ (l : List RawLine). l ++ rawlines.Declare sort new ∷ []) (sym (bare_head more title declared given made shown g m s) ∙ a.forms more (keeps_before ns more sort new k)) in
     record {
@@ -100,13 +100,13 @@ declared_said ns title declared given made shown said sort new g m s h lt a =
 
 -- a given literal
 pub given_said : (ns : Names) (title : List ℕ) (declared : List Sort) (given : List Lit) (made : List Sort) (shown : List Lit) (said : List RawLine) (l : Lit) (line : RawLine)
-    → made ≡ [] → shown ≡ [] → ((more : Names) → Keeps ns more → given_form more l ≡ line) → HeadSaid ns title declared given made shown said → HeadSaid ns title declared (given ++ l ∷ []) made shown (said ++ line ∷ [])
+    → made ≡ [] → shown ≡ [] → ((more : Names) → Keeps ns more → given_raw_line more l ≡ line) → HeadSaid ns title declared given made shown said → HeadSaid ns title declared (given ++ l ∷ []) made shown (said ++ line ∷ [])
 given_said ns title declared given made shown said l line m s named a =
     record {
       scope = a.scope;
       forms = λ more k.
-          no_goal more title declared (given ++ l ∷ []) made shown m s ∙ ap (λ (x : List RawLine). rawlines.Theorem title ∷ ((declared_part more declared ++ x) ++ [])) (map-append (given_form more) given (l ∷ []))
-          ∙ at_given (rawlines.Theorem title) (given_form more l) (declared_part more declared) (given_part more given)
+          no_goal more title declared (given ++ l ∷ []) made shown m s ∙ ap (λ (x : List RawLine). rawlines.Theorem title ∷ ((declared_part more declared ++ x) ++ [])) (map-append (given_raw_line more) given (l ∷ []))
+          ∙ at_given (rawlines.Theorem title) (given_raw_line more l) (declared_part more declared) (given_part more given)
           ∙ ap (λ (x : RawLine). head_parts more title declared given [] [] ++ x ∷ []) (named more k)
           ∙ ap (λ (x : List RawLine). x ++ line ∷ []) (sym (no_goal more title declared given made shown m s) ∙ a.forms more k);
     }
@@ -122,7 +122,7 @@ made_said ns title declared given made shown said sort new s h lt a =
     let line : (more : Names) → Keeps now more → head_parts more title declared given (made ++ xs) shown ≡ said ++ rawlines.Made sort new ∷ [] = λ more k.
     let front = declared_part more declared ++ given_part more given in
     let part : made_part more declared (made ++ xs) ≡ made_part more declared made ++ rawlines.Made sort new ∷ [] =
-    ap (map made_form) (more_groups more from made sort (names_of_sort ns sort) new h lt (count_said ns (grown from made) sort a.scope) (keeps_new ns more sort new k)) ∙ map-append made_form (grouped more (next_objects from made)) (group sort new ∷ []) in
+    ap (map made_raw_line) (more_groups more from made sort (names_of_sort ns sort) new h lt (count_said ns (grown from made) sort a.scope) (keeps_new ns more sort new k)) ∙ map-append made_raw_line (grouped more (next_objects from made)) (group sort new ∷ []) in
     none_shown more title declared given (made ++ xs) shown s ∙ ap (λ (l : List RawLine). rawlines.Theorem title ∷ (front ++ (l ++ []))) part ∙ at_made (rawlines.Theorem title) (rawlines.Made sort new) front (made_part more declared made)
     ∙ ap (λ (l : List RawLine). l ++ rawlines.Made sort new ∷ []) (sym (none_shown more title declared given made shown s) ∙ a.forms more (keeps_before ns more sort new k)) in
     record {
@@ -132,14 +132,14 @@ made_said ns title declared given made shown said sort new s h lt a =
 
 -- a shown literal
 pub shown_said : (ns : Names) (title : List ℕ) (declared : List Sort) (given : List Lit) (made : List Sort) (shown : List Lit) (said : List RawLine) (l : Lit) (line : RawLine)
-    → ((more : Names) → Keeps ns more → show_form more l ≡ line) → HeadSaid ns title declared given made shown said → HeadSaid ns title declared given made (shown ++ l ∷ []) (said ++ line ∷ [])
+    → ((more : Names) → Keeps ns more → show_raw_line more l ≡ line) → HeadSaid ns title declared given made shown said → HeadSaid ns title declared given made (shown ++ l ∷ []) (said ++ line ∷ [])
 shown_said ns title declared given made shown said l line named a =
     record {
       scope = a.scope;
       forms = λ more k.
           let front = declared_part more declared ++ given_part more given in
-          ap (λ (x : List RawLine). rawlines.Theorem title ∷ (front ++ (made_part more declared made ++ x))) (map-append (show_form more) shown (l ∷ []))
-          ∙ at_shown (rawlines.Theorem title) (show_form more l) front (made_part more declared made) (shown_part more shown)
+          ap (λ (x : List RawLine). rawlines.Theorem title ∷ (front ++ (made_part more declared made ++ x))) (map-append (show_raw_line more) shown (l ∷ []))
+          ∙ at_shown (rawlines.Theorem title) (show_raw_line more l) front (made_part more declared made) (shown_part more shown)
           ∙ ap (λ (x : RawLine). head_parts more title declared given made shown ++ x ∷ []) (named more k)
           ∙ ap (λ (x : List RawLine). x ++ line ∷ []) (a.forms more k);
     }

@@ -9,8 +9,8 @@ use Rattle.e_deriv.specs.Goal.{goal_of_statement, facts_of_statement}
 use Rattle.e_names.specs.TitledStatements.{TitledStatement}
 use Rattle.e_book.specs.TheoremViews.{TheoremView}
 use Rattle.e_line.specs.Canonical.{line_of}
-use Rattle.e_names.specs.Canonical.{end_form}
-use Rattle.e_book.specs.Canonical.{head_forms, names_of_proof}
+use Rattle.e_names.specs.Canonical.{end_raw_line}
+use Rattle.e_book.specs.Canonical.{head_raw_lines, names_of_proof}
 use Rattle.e_names.proofs.resolution.Lookups.{in_order}
 use Rattle.e_book.proofs.canonical.CanonicalRead.{started, begins}
 use Rattle.e_spell.specs.Spelling.{script_lines, spelled_lines}
@@ -19,7 +19,7 @@ use Rattle.e_roundtrip.proofs.Texts.SpelledIsRead.{stood}
 use Rattle.e_judgement.specs.Judged.{with_theorem}
 use Rattle.e_roundtrip.specs.Written.{AllCanBeSpelled}
 use Rattle.e_roundtrip.proofs.Lengths.Rooms.{short_append}
-use Rattle.e_roundtrip.proofs.Lengths.FormRooms.{short_end}
+use Rattle.e_roundtrip.proofs.Lengths.RawLineRooms.{short_end}
 use Rattle.e_roundtrip.proofs.Lengths.HeadRooms.{IsFew, few_objects, length_next, short_head}
 use Rattle.e_roundtrip.proofs.Lengths.ScriptRooms.{AllFew, short_script}
 
@@ -31,8 +31,8 @@ short_block v known t d k c =
     let o = in_order t.names h.point_names h.line_names h.circle_names h.fits.differ in
     let few = few_objects known (record t { script = erased d }) h in
     let script = script_lines known (names_of_proof t) d in
-    let last = line_of end_form ∷ [] in
-    short_append (map line_of (head_forms t)) (script ++ last) (short_head known (record t { script = erased d }) h) (short_append script last
+    let last = line_of end_raw_line ∷ [] in
+    short_append (map line_of (head_raw_lines t)) (script ++ last) (short_head known (record t { script = erased d }) h) (short_append script last
     (short_script known (started t) (begins t) d (facts_of_statement st) (goal_of_statement st) k (omega (arith, few, length_next (scope_of st) st.made)) (stood v known t d c o)) (short_end, tt))
 
 -- one more statement with few objects

@@ -21,13 +21,13 @@ use Rattle.e_line.specs.declared.raw_line.RawLine.TheVariants as rawlines
 use Rattle.e_names.specs.TitledStatements.{TitledStatement}
 use Rattle.e_book.specs.TheoremViews.{TheoremView}
 use Rattle.e_line.specs.Canonical.{lit_words, sort_word, line_of}
-use Rattle.e_names.specs.Canonical.{raw_of, name_of_object, given_form, show_form}
-use Rattle.e_book.specs.Canonical.{Group, group, grouped_before, grouped, declare_form, made_form, declared_objects, made_objects, given_forms, shown_forms, head_forms}
+use Rattle.e_names.specs.Canonical.{raw_of, name_of_object, given_raw_line, show_raw_line}
+use Rattle.e_book.specs.Canonical.{Group, group, grouped_before, grouped, declare_raw_line, made_raw_line, declared_objects, made_objects, given_raw_lines, shown_raw_lines, head_raw_lines}
 use Rattle.e_book.specs.HasSpelling.{HasSpelling}
 use Rattle.e_names.proofs.resolution.Lookups.{InOrder, in_order}
 use Rattle.e_roundtrip.proofs.Lengths.Rooms.{is_short, short_title, Room, room_none, room_word, room_append, room_line, IsShortLine}
 use Rattle.e_roundtrip.proofs.Lengths.LitRooms.{short_object, room_one}
-use Rattle.e_roundtrip.proofs.Lengths.FormRooms.{AllWords, room_words}
+use Rattle.e_roundtrip.proofs.Lengths.RawLineRooms.{AllWords, room_words}
 
 -- ---- how many objects
 
@@ -88,13 +88,13 @@ short_sort sorts.Circle = refl
 -- ---- lines
 
 -- a line of declared objects
-short_declare : (n : ℕ) (g : Group) → n ≤ 80 → IsGroup n g → IsShortLine (line_of (declare_form g))
+short_declare : (n : ℕ) (g : Group) → n ≤ 80 → IsGroup n g → IsShortLine (line_of (declare_raw_line g))
 short_declare n g le h =
     let k = 17 * length g.names in
     room_line (16 + 1 + k) _ (omega (arith, le, h.few)) (room_word 16 k (sort_word g.sort) g.names (short_sort g.sort) (room_words g.names h.words))
 
 -- a line of made objects
-short_made : (n : ℕ) (g : Group) → n ≤ 80 → IsGroup n g → IsShortLine (line_of (made_form g))
+short_made : (n : ℕ) (g : Group) → n ≤ 80 → IsGroup n g → IsShortLine (line_of (made_raw_line g))
 short_made n g le h =
     let k = 17 * length g.names in
     room_line (4 + 1 + (16 + 1 + k)) _ (omega (arith, le, h.few)) (room_word 4 (16 + 1 + k) (codes "made") _ refl (room_word 16 k (sort_word g.sort) g.names (short_sort g.sort) (room_words g.names h.words)))
@@ -113,24 +113,24 @@ forms_append [] gs h k = k
 forms_append (f ∷ fs) gs h k = (h.0, forms_append fs gs h.1 k)
 
 -- all lines of declared objects
-all_declare : (n : ℕ) (gs : List Group) → n ≤ 80 → AreGroups n gs → AreShortForms (map declare_form gs)
+all_declare : (n : ℕ) (gs : List Group) → n ≤ 80 → AreGroups n gs → AreShortForms (map declare_raw_line gs)
 all_declare n [] le h = tt
 all_declare n (g ∷ gs) le h = (short_declare n g le h.0, all_declare n gs le h.1)
 
 -- all lines of made objects
-all_made : (n : ℕ) (gs : List Group) → n ≤ 80 → AreGroups n gs → AreShortForms (map made_form gs)
+all_made : (n : ℕ) (gs : List Group) → n ≤ 80 → AreGroups n gs → AreShortForms (map made_raw_line gs)
 all_made n [] le h = tt
 all_made n (g ∷ gs) le h = (short_made n g le h.0, all_made n gs le h.1)
 
 -- all lines of given literals
-all_given : (ns : Names) (ls : List Lit) → InOrder ns → list_all is_well_formed ls ≡ true → AreShortForms (map (given_form ns) ls)
+all_given : (ns : Names) (ls : List Lit) → InOrder ns → list_all is_well_formed ls ≡ true → AreShortForms (map (given_raw_line ns) ls)
 all_given ns [] o g = tt
 all_given ns (l ∷ ls) o g =
     let p = and_parts (is_well_formed l) (list_all is_well_formed ls) g in
     (room_line 2194 _ (omega arith) (lit_line (codes "given") ns l refl o p.0), all_given ns ls o p.1)
 
 -- all lines of shown literals
-all_shown : (ns : Names) (ls : List Lit) → InOrder ns → list_all is_well_formed ls ≡ true → AreShortForms (map (show_form ns) ls)
+all_shown : (ns : Names) (ls : List Lit) → InOrder ns → list_all is_well_formed ls ≡ true → AreShortForms (map (show_raw_line ns) ls)
 all_shown ns [] o g = tt
 all_shown ns (l ∷ ls) o g =
     let p = and_parts (is_well_formed l) (list_all is_well_formed ls) g in
@@ -139,7 +139,7 @@ all_shown ns (l ∷ ls) o g =
 -- ---- the whole
 
 -- the lines from the title to the word proof
-pub short_head : (known : List TitledStatement) (t : TheoremView) → HasSpelling known t → AreShort 262144 (map line_of (head_forms t))
+pub short_head : (known : List TitledStatement) (t : TheoremView) → HasSpelling known t → AreShort 262144 (map line_of (head_raw_lines t))
 short_head known t h =
     let ns = t.names in
     let st = t.statement in
@@ -148,11 +148,11 @@ short_head known t h =
     let declared = declared_objects st in
     let made = made_objects st in
     let proof : List RawLine = rawlines.Proof ∷ [] in
-    let given = forms_append (map declare_form (grouped ns declared)) (map (given_form ns) st.given)
+    let given = forms_append (map declare_raw_line (grouped ns declared)) (map (given_raw_line ns) st.given)
     (all_declare (length declared) (grouped ns declared) (omega (arith, few, length_next nothing st.declared)) (groups_of ns declared o)) (all_given ns st.given o h.fits.good_given) in
-    let shown = forms_append (map made_form (grouped ns made)) (map (show_form ns) st.shown)
+    let shown = forms_append (map made_raw_line (grouped ns made)) (map (show_raw_line ns) st.shown)
     (all_made (length made) (grouped ns made) (omega (arith, few, length_next (scope_of (stated st)) st.made)) (groups_of ns made o)) (all_shown ns st.shown o h.fits.good_shown) in
     let last : AreShortForms proof = (room_line 6 _ (omega arith) (room_word 5 0 (codes "proof") [] refl room_none), tt) in (
       room_line 33 _ (omega arith) (room_word 7 25 (codes "theorem") _ refl (room_word 24 0 t.title [] (short_title t.title h.title) room_none)),
-      forms_append (given_forms ns st) (shown_forms ns st ++ proof) given (forms_append (shown_forms ns st) proof shown last),
+      forms_append (given_raw_lines ns st) (shown_raw_lines ns st ++ proof) given (forms_append (shown_raw_lines ns st) proof shown last),
     )

@@ -37,9 +37,9 @@ use Rattle.e_line.specs.Limits.{most_facts}
 use Rattle.e_names.specs.TitledStatements.{TitledStatement, stated_by, theorem_of, title_at}
 use Rattle.e_names.specs.Scope.{scope_of_names}
 use Rattle.e_names.specs.Fits.{is_diagram_lit}
-use Rattle.e_book.specs.Fits.{few_facts, has_good_literals, NewNamesFit}
+use Rattle.e_book.specs.Fits.{few_facts, has_well_formed_literals, NewNamesFit}
 use Rattle.e_line.specs.Canonical.{line_of}
-use Rattle.e_names.specs.Canonical.{else_form}
+use Rattle.e_names.specs.Canonical.{else_raw_line}
 use Rattle.e_names.specs.HasSpelling.{is_named_by_title}
 use Rattle.e_book.specs.HasSpelling.{is_plain, names_theorems}
 use Rattle.e_names.proofs.resolution.LitLookups.{diagram_is_well_formed}
@@ -47,14 +47,14 @@ use Rattle.e_names.proofs.resolution.Built.{of_sorts_length}
 use Rattle.e_book.proofs.canonical.LinesRead.{Inside, after_step, deep, copied, resume, second, applied_after}
 use Rattle.e_spell.specs.Certificates.{certs_lines}
 use Rattle.e_spell.specs.Spelling.{script_lines}
-use Rattle.e_roundtrip.proofs.Certificates.CertsGood.{good_certs, good_against}
+use Rattle.e_roundtrip.proofs.Certificates.SpellableCertificates.{good_certs, good_against}
 use Rattle.e_book.proofs.canonical.ScriptRead.{list_names, inferred, constructed, apply_parts, claim_parts, copy_parts, opens, cases_parts}
 use Rattle.e_roundtrip.proofs.Formed.PlacedScripts.{Stood, first_of, one_formed}
 use Rattle.e_roundtrip.proofs.Blocks.ScriptAlong.{cite_next, hence_next, make_next, apply_next, claim_inside, claim_next, copy_formed, copy_inside, copy_next, cases_one, cases_two, no_hence, no_contradiction}
 use Rattle.e_roundtrip.proofs.Lengths.Rooms.{short_append}
 use Rattle.e_roundtrip.proofs.Lengths.RuleRooms.{few_cited}
 use Rattle.e_roundtrip.proofs.Lengths.CertRooms.{short_certs, short_against}
-use Rattle.e_roundtrip.proofs.Lengths.FormRooms.{short_by, short_hence, avoided_give, short_let, short_apply, short_claim, short_superpose, short_qed, short_contradiction, short_cases, short_else}
+use Rattle.e_roundtrip.proofs.Lengths.RawLineRooms.{short_by, short_hence, avoided_give, short_let, short_apply, short_claim, short_superpose, short_qed, short_contradiction, short_cases, short_else}
 use Rattle.e_roundtrip.proofs.Lengths.HeadRooms.{IsFew}
 
 -- ---- what is known
@@ -91,7 +91,7 @@ as_many (Some x ∷ xs) (o ∷ os) h = ap suc (as_many xs os (and_parts (same_ob
 
 -- a citation
 cite_short : (known : List TitledStatement) (d : TheoremParser) (i : Inside) (b : By) (rest : Script) (given : List Lit) (goal : Goal) → Stood known d i (Cite b rest) given goal → AreShortLines known i rest → AreShortLines known i (Cite b rest)
-unfolding erased script_lines placed_steps has_good_literals
+unfolding erased script_lines placed_steps has_well_formed_literals
 cite_short known d i b rest given goal s more =
     let before = stated_by known in
     let sc = scope_of_names i.in_scope in
@@ -100,38 +100,38 @@ cite_short known d i b rest given goal s more =
     let p = and_parts (is_diagram_rule b.rule) (list_all (is_in_scope sc) b.args && (all_in_scope sc b.lit && is_some (Inst b.rule b.args))) one.fitting in
     let q = and_parts (list_all (is_in_scope sc) b.args) (all_in_scope sc b.lit && is_some (Inst b.rule b.args)) p.1 in
     let r = and_parts (all_in_scope sc b.lit) (is_some (Inst b.rule b.args)) q.1 in
-    let good = (and_parts (is_diagram_lit b.lit) (has_good_literals (erased rest)) s.ready.good).0 in
+    let good = (and_parts (is_diagram_lit b.lit) (has_well_formed_literals (erased rest)) s.ready.good).0 in
     (short_by i.in_scope b s.ready.order (diagram_is_well_formed b.lit good) (few_cited b.rule b.args r.1), more)
 
 -- an inference with its certificate
 hence_short : (known : List TitledStatement) (d : TheoremParser) (i : Inside) (l : Lit) (c : Cert) (rest : Script) (given : List Lit) (goal : Goal) → Stood known d i (Hence l (Some c) rest) given goal → AreShortLines known i rest → AreShortLines known i (Hence l (Some c) rest)
-unfolding erased script_lines placed_steps has_good_literals
+unfolding erased script_lines placed_steps has_well_formed_literals
 hence_short known d i l c rest given goal s more =
     let before = stated_by known in
     let ns = i.in_scope in
     let sc = scope_of_names ns in
     let here = placed_step (Hence l (Some c) rest) (Hence l (Some c) rest) sc given goal in
     let one = one_formed before here (first_of (is_formed before) here (placed_steps before rest rest sc (joined given l) goal) s.formed).0 in
-    let good = (and_parts (is_well_formed l) (has_good_literals (erased rest)) s.ready.good).0 in
+    let good = (and_parts (is_well_formed l) (has_well_formed_literals (erased rest)) s.ready.good).0 in
     let certs = short_certs ns (l ∷ []) (c ∷ []) s.ready.order (good_certs ns (l ∷ []) (c ∷ []) one.certs) in
     (short_hence ns l s.ready.order good, short_append (certs_lines ns (c ∷ [])) (script_lines known ns rest) certs more)
 
 -- a construction: what it avoids is bounded by the facts that it gives
-make_short : (known : List TitledStatement) (d : TheoremParser) (i : Inside) (form : Construction) (names : List (List ℕ)) (certs : List Cert) (rest : Script) (given : List Lit) (goal : Goal) → Stood known d i (Make form names certs rest) given goal
-    → AreShortLines known (constructed i form names) rest → AreShortLines known i (Make form names certs rest)
+make_short : (known : List TitledStatement) (d : TheoremParser) (i : Inside) (construction : Construction) (names : List (List ℕ)) (certs : List Cert) (rest : Script) (given : List Lit) (goal : Goal) → Stood known d i (Make construction names certs rest) given goal
+    → AreShortLines known (constructed i construction names) rest → AreShortLines known i (Make construction names certs rest)
 unfolding erased script_lines placed_steps is_plain few_facts
-make_short known d i form names certs rest given goal s more =
+make_short known d i construction names certs rest given goal s more =
     let before = stated_by known in
     let r = s.ready in
     let ns = i.in_scope in
     let sc = scope_of_names ns in
-    let n = i.facts + length (gives_of_construction form sc) in
-    let here = placed_step (Make form names certs rest) (Make form names certs rest) sc given goal in
-    let one = one_formed before here (first_of (is_formed before) here (placed_steps before rest rest (grown sc (sorts_made form)) (joined_all given (gives_of_construction form sc)) goal) s.formed).0 in
-    let most = leb-true _ _ (and_parts (leb n most_facts) (few_facts before n (grown sc (sorts_made form)) (erased rest)) r.facts).0 in
+    let n = i.facts + length (gives_of_construction construction sc) in
+    let here = placed_step (Make construction names certs rest) (Make construction names certs rest) sc given goal in
+    let one = one_formed before here (first_of (is_formed before) here (placed_steps before rest rest (grown sc (sorts_made construction)) (joined_all given (gives_of_construction construction sc)) goal) s.formed).0 in
+    let most = leb-true _ _ (and_parts (leb n most_facts) (few_facts before n (grown sc (sorts_made construction)) (erased rest)) r.facts).0 in
     let words = list_names names (and_parts (list_all _ names) (is_plain (erased rest)) r.plain).0 in
-    let own = short_certs ns (needs_of_construction form) certs r.order (good_certs ns (needs_of_construction form) certs one.certs) in
-    (short_let ns form names r.order words (omega (arith, most, avoided_give form sc)), short_append (certs_lines ns certs) (script_lines known (named ns (sorts_made form) names) rest) own more)
+    let own = short_certs ns (needs_of_construction construction) certs r.order (good_certs ns (needs_of_construction construction) certs one.certs) in
+    (short_let ns construction names r.order words (omega (arith, most, avoided_give construction sc)), short_append (certs_lines ns certs) (script_lines known (named ns (sorts_made construction) names) rest) own more)
 
 -- the use of an earlier theorem
 apply_short : (known : List TitledStatement) (d : TheoremParser) (i : Inside) (theorem : ℕ) (args : List (Option Obj)) (names : List (List ℕ)) (certs : List Cert) (rest : Script) (given : List Lit) (goal : Goal) → AllFew known
@@ -167,18 +167,18 @@ claim_short known d i shown inner rest given goal s inside more =
     (short_claim ns shown s.ready.order p.plain.good (omega (arith, p.facts)) (omega (arith, p.terms)), short_append (script_lines known ns inner) (script_lines known ns rest) inside more)
 
 -- a superposition
-copy_short : (known : List TitledStatement) (d : TheoremParser) (i : Inside) (form : Superpose) (names : List (List ℕ)) (shown : List Lit) (certs : List Cert) (inner rest : Script) (given : List Lit) (goal : Goal)
-    → Stood known d i (Superposed form names shown certs inner rest) given goal → AreShortLines known (copied i form names shown) inner → AreShortLines known i rest → AreShortLines known i (Superposed form names shown certs inner rest)
+copy_short : (known : List TitledStatement) (d : TheoremParser) (i : Inside) (superposition : Superpose) (names : List (List ℕ)) (shown : List Lit) (certs : List Cert) (inner rest : Script) (given : List Lit) (goal : Goal)
+    → Stood known d i (Superposed superposition names shown certs inner rest) given goal → AreShortLines known (copied i superposition names shown) inner → AreShortLines known i rest → AreShortLines known i (Superposed superposition names shown certs inner rest)
 unfolding erased script_lines
-copy_short known d i form names shown certs inner rest given goal s inside more =
+copy_short known d i superposition names shown certs inner rest given goal s inside more =
     let ns = i.in_scope in
-    let p = copy_parts known d i form names shown (erased inner) (erased rest) given goal s.ready in
-    let wanted = superposing.needs_of_superposition form in
-    let c = (copy_formed known d i form names shown certs inner rest given goal s).2 in
+    let p = copy_parts known d i superposition names shown (erased inner) (erased rest) given goal s.ready in
+    let wanted = superposing.needs_of_superposition superposition in
+    let c = (copy_formed known d i superposition names shown certs inner rest given goal s).2 in
     let own = short_certs ns wanted certs s.ready.order (good_certs ns wanted certs c) in
     let first = script_lines known (named ns superposing.sorts_copied names) inner in
     let last = script_lines known ns rest in (
-      short_superpose ns form names shown s.ready.order p.good.named p.good.plain.good (omega (arith, p.facts)) (omega (arith, p.terms)),
+      short_superpose ns superposition names shown s.ready.order p.good.named p.good.plain.good (omega (arith, p.facts)) (omega (arith, p.terms)),
       short_append (certs_lines ns certs) (first ++ last) own (short_append first last inside more),
     )
 
@@ -214,7 +214,7 @@ unfolding erased script_lines
 cases_short known d i l one two given goal s first second =
     let ns = i.in_scope in
     let p = cases_parts known d i l (erased one) (erased two) given goal s.ready in
-    (short_cases ns l s.ready.order p.plain.good, short_append (script_lines known ns one) (line_of else_form ∷ script_lines known ns two) first (short_else, second))
+    (short_cases ns l s.ready.order p.plain.good, short_append (script_lines known ns one) (line_of else_raw_line ∷ script_lines known ns two) first (short_else, second))
 
 -- ---- all lines
 
@@ -225,9 +225,9 @@ short_script known d i (Cite b rest) given goal k m s =
 short_script known d i (Hence l None rest) given goal k m s = absurd (no_hence known d i l rest given goal s)
 short_script known d i (Hence l (Some c) rest) given goal k m s =
     hence_short known d i l c rest given goal s (short_script known d (inferred i l) rest (joined given l) goal k m (hence_next known d i l c rest given goal s))
-short_script known d i (Make form names certs rest) given goal k m s =
-    make_short known d i form names certs rest given goal s
-    (short_script known d (constructed i form names) rest (joined_all given (gives_of_construction form (scope_of_names i.in_scope))) goal k m (make_next known d i form names certs rest given goal s))
+short_script known d i (Make construction names certs rest) given goal k m s =
+    make_short known d i construction names certs rest given goal s
+    (short_script known d (constructed i construction names) rest (joined_all given (gives_of_construction construction (scope_of_names i.in_scope))) goal k m (make_next known d i construction names certs rest given goal s))
 short_script known d i (Apply theorem args names certs rest) given goal k m s =
     let t = theorem_of known theorem in
     apply_short known d i theorem args names certs rest given goal k s
@@ -237,11 +237,11 @@ short_script known d i (Claim shown inner rest) given goal k m s =
     claim_short known d i shown inner rest given goal s
     (short_script known d (deep i (kind.Claim shown) 0) inner given (goal_of shown) k (omega arith) (claim_inside known d i shown inner rest given goal s))
     (short_script known d (resume i n (Claimed shown (erased inner)) shown) rest (joined_all given shown) goal k m (claim_next known d i n shown inner rest given goal refl s))
-short_script known d i (Superposed form names shown certs inner rest) given goal k m s =
+short_script known d i (Superposed superposition names shown certs inner rest) given goal k m s =
     let n = i.lines + 1 + size (erased inner) in
-    copy_short known d i form names shown certs inner rest given goal s
-    (short_script known d (copied i form names shown) inner (joined_all given (superposing.gives_of_superposition form (scope_of_names i.in_scope))) (goal_of shown) k (omega arith) (copy_inside known d i form names shown certs inner rest given goal s))
-    (short_script known d (resume i n (Copied form names shown [] (erased inner)) shown) rest (joined_all given shown) goal k m (copy_next known d i n form names shown certs inner rest given goal refl s))
+    copy_short known d i superposition names shown certs inner rest given goal s
+    (short_script known d (copied i superposition names shown) inner (joined_all given (superposing.gives_of_superposition superposition (scope_of_names i.in_scope))) (goal_of shown) k (omega arith) (copy_inside known d i superposition names shown certs inner rest given goal s))
+    (short_script known d (resume i n (Copied superposition names shown [] (erased inner)) shown) rest (joined_all given shown) goal k m (copy_next known d i n superposition names shown certs inner rest given goal refl s))
 short_script known d i (Qed os certs) given goal k m s = qed_short known d i os certs given goal s m
 short_script known d i (Contradiction None) given goal k m s = absurd (no_contradiction known d i given goal s)
 short_script known d i (Contradiction (Some a)) given goal k m s = contradiction_short known d i a given goal s

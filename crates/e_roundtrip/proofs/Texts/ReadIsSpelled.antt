@@ -29,8 +29,8 @@ use Rattle.e_book.specs.TheoremViews.{TheoremView}
 use Rattle.e_book.specs.Book.{is_last, is_done}
 use Rattle.e_book.specs.Steps.{begin, step}
 use Rattle.e_line.specs.Canonical.{line_of}
-use Rattle.e_names.specs.Canonical.{end_form}
-use Rattle.e_book.specs.Canonical.{head_forms, names_of_proof}
+use Rattle.e_names.specs.Canonical.{end_raw_line}
+use Rattle.e_book.specs.Canonical.{head_raw_lines, names_of_proof}
 use Rattle.e_line.proofs.base.Bound.{bind_ok, ok_is, read_ok}
 use Rattle.e_names.proofs.read_lines.Building.{declared_scope}
 use Rattle.e_line.proofs.base.Choices.{passed}
@@ -54,9 +54,9 @@ use Rattle.e_spell.specs.Spelling.{script_lines, spelled_lines}
 use Rattle.e_roundtrip.specs.Formed.{is_formed}
 use Rattle.e_roundtrip.specs.Spelled.{ShowsEnded, CanBeSpelled}
 use Rattle.e_roundtrip.proofs.Formed.FormedLines.{FormedHere}
-use Rattle.e_roundtrip.proofs.Certificates.KeptFormed.{DueFormed, KeptIsFormed}
+use Rattle.e_roundtrip.proofs.Certificates.FormsOfOwedCertificates.{DueFormed, KeptIsFormed}
 use Rattle.e_roundtrip.proofs.Certificates.CertLinesFormed.{OwedFormed, strict_formed, settled_formed}
-use Rattle.e_roundtrip.proofs.OneLine.FormsRead.{Read, form_facts}
+use Rattle.e_roundtrip.proofs.OneLine.RawLinesRead.{Read, form_facts}
 use Rattle.e_roundtrip.proofs.Certificates.CertLinesRead.{strict_cert_line_read}
 use Rattle.e_roundtrip.proofs.Certificates.OwedSpelled.{owed_text, kept_text, due_at_first, FitsDue, after_cert_line_spelled, settled_spelled}
 use Rattle.e_roundtrip.proofs.Heads.HeadTaken.{InProof, ParserSaid, puts_begun}
@@ -177,15 +177,15 @@ gone_said known (Some d) e f o ks done s r st g =
 
 stepped_said : (known : List TitledStatement) (r next : BlockParser) (line : List ℕ) (done : List (List ℕ)) → SaidSoFar known r.parser r.owed r.kept done → (s : Stepped known r next line) → StepSaid known s.parser s.owed (r.kept ++ option_to_list s.read) (done ++ line ∷ [])
 stepped_said known r next line done so s =
-    let f = form_read line s.form s.spelled in
-    let b = and_parts (is_strict_line s.form) (bytes_eq line (line_of s.form)) f.1 in
-    let is : line ≡ line_of s.form = (bytes_eq-Decides line (line_of s.form)).0 b.1 in
+    let f = form_read line s.raw_line s.spelled in
+    let b = and_parts (is_strict_line s.raw_line) (bytes_eq line (line_of s.raw_line)) f.1 in
+    let is : line ≡ line_of s.raw_line = (bytes_eq-Decides line (line_of s.raw_line)).0 b.1 in
     let text = settled_spelled r.owed s.read so.fits s.settled_is in
     let state = so.said s.read (settled_formed r.owed s.read so.formed s.settled_is) in
     let all : so.before ++ kept_text r.owed.names s.read ≡ done = ap (λ (l : List (List ℕ)). so.before ++ l) (sym text) ∙ sym so.all in
     let ks = r.kept ++ option_to_list s.read in
     let here = subst (λ (l : List (List ℕ)). StateSaid known r.parser ks l) all state in
-    subst (λ (l : List ℕ). StepSaid known s.parser s.owed ks (done ++ l ∷ [])) (sym is) (gone_said known r.parser s.parser s.form s.owed ks done here (form_facts (tokens_of line) s.form f.0) b.0 s.gone)
+    subst (λ (l : List ℕ). StepSaid known s.parser s.owed ks (done ++ l ∷ [])) (sym is) (gone_said known r.parser s.parser s.raw_line s.owed ks done here (form_facts (tokens_of line) s.raw_line f.0) b.0 s.gone)
 
 -- ---- the last line
 
@@ -199,8 +199,8 @@ all_said known d o ks done s l =
     let so = subst (λ (x : Pending). SaidSoFar known (Some d) x ks done) (s.last l) s.so_far in
     let i = at_done known d.section d (ks ++ []) (so.before ++ []) l (so.said None tt) in
     let t = derived d ks in
-    let head = map line_of (head_forms t) in
-    let end = line_of end_form ∷ [] in
+    let head = map line_of (head_raw_lines t) in
+    let end = line_of end_raw_line ∷ [] in
     let script : script_lines known (names_of_proof t) (script_with_certs (entry_of_parser d).script ks).0 ≡ i.body.0 =
     ap (λ (x : List StepCerts). script_lines known (names_of_proof t) (script_with_certs (entry_of_parser d).script x).0) (sym (append-nil ks) ∙ sym (append-nil (ks ++ []))) ∙ i.body.1.spelled [] in
     so.all ∙ i.lines ∙ ap (λ (l : List (List ℕ)). head ++ l) i.body.2 ∙ ap (λ (l : List (List ℕ)). head ++ (l ++ end)) (sym script)

@@ -26,7 +26,7 @@ use Rattle.e_line.specs.Limits.{count_monomials}
 use Rattle.e_book.specs.Fits.{few_facts, few_terms}
 use Rattle.e_book.specs.Book.{is_done}
 use Rattle.e_line.specs.Canonical.{line_of}
-use Rattle.e_names.specs.Canonical.{end_form}
+use Rattle.e_names.specs.Canonical.{end_raw_line}
 use Rattle.e_book.specs.Canonical.{names_of_proof}
 use Rattle.e_book.specs.HasSpelling.{HasSpelling}
 use Rattle.e_book.proofs.canonical.LineWords.{words_again}
@@ -140,11 +140,11 @@ kepts_of : (v : Version) (d : Script) → has_certs_of v d ≡ true → AreOfVer
 unfolding has_certs_of kepts
 kepts_of v (Cite by rest) h = kepts_of v rest h
 kepts_of v (Hence lit cert rest) h = let p = and_parts (option_map_or (is_cert_of v) cert true) (has_certs_of v rest) h in and_from _ _ (kept_if_any v cert p.0) (kepts_of v rest p.1)
-kepts_of v (Make form names certs rest) h = let p = and_parts (list_all (is_cert_of v) certs) (has_certs_of v rest) h in and_from _ _ p.0 (kepts_of v rest p.1)
+kepts_of v (Make construction names certs rest) h = let p = and_parts (list_all (is_cert_of v) certs) (has_certs_of v rest) h in and_from _ _ p.0 (kepts_of v rest p.1)
 kepts_of v (Apply theorem args names certs rest) h = let p = and_parts (list_all (is_cert_of v) certs) (has_certs_of v rest) h in and_from _ _ p.0 (kepts_of v rest p.1)
 kepts_of v (Claim shown inner rest) h =
     let p = and_parts (has_certs_of v inner) (has_certs_of v rest) h in all_both (are_certs_of_version v) (kepts inner) (kepts rest) (kepts_of v inner p.0) (kepts_of v rest p.1)
-kepts_of v (Superposed form names shown certs inner rest) h =
+kepts_of v (Superposed superposition names shown certs inner rest) h =
     let p = and_parts (list_all (is_cert_of v) certs) (has_certs_of v inner && has_certs_of v rest) h in
     let q = and_parts (has_certs_of v inner) (has_certs_of v rest) p.1 in
     and_from _ _ p.0 (all_both (are_certs_of_version v) (kepts inner) (kepts rest) (kepts_of v inner q.0) (kepts_of v rest q.1))
@@ -266,5 +266,5 @@ pub spelled_is_read : SpelledIsRead
 spelled_is_read v known last t d lines rest c sh =
     let a = map line_of (stating_forms t) in
     let b = script_lines known (names_of_proof t) d in
-    let end = line_of end_form ∷ [] in
+    let end = line_of end_raw_line ∷ [] in
     whole_read v known last t d lines rest c (subst (λ (x : List (List ℕ)). ShowsEnded lines (line_of (rawlines.Theorem t.title) ∷ x) rest) (sym (append_assoc a b end)) sh)

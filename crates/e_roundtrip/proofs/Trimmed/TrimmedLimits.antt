@@ -40,7 +40,7 @@ use Rattle.e_deriv.specs.Versions.{has_certs_of}
 use Rattle.e_line.specs.Limits.{most_facts, most_terms, most_blanks, monomials, count_monomials}
 use Rattle.e_names.specs.Applies.{count_blanks}
 use Rattle.e_names.specs.Fits.{is_diagram_atom, is_diagram_lit}
-use Rattle.e_book.specs.Fits.{has_good_literals, few_facts, few_terms, few_blanks}
+use Rattle.e_book.specs.Fits.{has_well_formed_literals, few_facts, few_terms, few_blanks}
 use Rattle.e_names.proofs.literals.ShortLits.{count_first}
 use Rattle.e_roundtrip.proofs.Formed.Filled.{both_same}
 use Rattle.e_trim.specs.Trimmed.{obj_at, image_among_kept, lit_among_kept, row_name_among_kept, sum_at, sums_at, part_at, cert_at, against_at, construction_among_kept, superpose_at, args_at, joins_at, is_kept, wants, trimmed_from}
@@ -90,9 +90,9 @@ avoided_count [] s z os ps e = refl
 avoided_count (x ∷ xs) s z os ps e = length-map os _ ∙ e ∙ sym (length-map ps _)
 
 -- a construction gives as many literals
-gives_count : (kept : List Obj) (form : Construction) (s z : Scope) → length (gives_of_construction (construction_among_kept kept form) s) ≡ length (gives_of_construction form z)
-gives_count kept form s z =
-    same_sum _ _ _ _ (length-map _ _ ∙ sym (length-map _ _)) (avoided_count (sorts_made form) s z (map (obj_at kept) form.avoid) form.avoid (length-map form.avoid (obj_at kept)))
+gives_count : (kept : List Obj) (construction : Construction) (s z : Scope) → length (gives_of_construction (construction_among_kept kept construction) s) ≡ length (gives_of_construction construction z)
+gives_count kept construction s z =
+    same_sum _ _ _ _ (length-map _ _ ∙ sym (length-map _ _)) (avoided_count (sorts_made construction) s z (map (obj_at kept) construction.avoid) construction.avoid (length-map construction.avoid (obj_at kept)))
 
 blanks_stay : (kept : List Obj) (args : List (Option Obj)) → count_blanks (args_at kept args) ≡ count_blanks args
 blanks_stay kept [] = refl
@@ -101,46 +101,46 @@ blanks_stay kept (Some o ∷ args) = blanks_stay kept args
 
 -- ---- literals
 
-pub literals_left : (before : List StatementView) (d : Script) (kept : List Obj) (s : Scope) (facts : List Lit) (goal : Goal) → has_good_literals d ≡ true → has_good_literals (erased (trimmed_from before kept d s facts goal)) ≡ true
-unfolding trimmed_from erased has_good_literals
+pub literals_left : (before : List StatementView) (d : Script) (kept : List Obj) (s : Scope) (facts : List Lit) (goal : Goal) → has_well_formed_literals d ≡ true → has_well_formed_literals (erased (trimmed_from before kept d s facts goal)) ≡ true
+unfolding trimmed_from erased has_well_formed_literals
 literals_left before (Cite by rest) kept s facts goal h =
-    let p = and_parts _ (has_good_literals rest) h in
+    let p = and_parts _ (has_well_formed_literals rest) h in
     let r = literals_left before rest kept s (joined facts by.lit) goal p.1 in
-    either (λ x. has_good_literals (erased x)) (is_kept before (Cite by rest) s facts (wants before rest s (joined facts by.lit) goal)) _ _ (and_from _ _ (lit_diagram kept by.lit ∙ p.0) r) r
+    either (λ x. has_well_formed_literals (erased x)) (is_kept before (Cite by rest) s facts (wants before rest s (joined facts by.lit) goal)) _ _ (and_from _ _ (lit_diagram kept by.lit ∙ p.0) r) r
 literals_left before (Hence lit cert rest) kept s facts goal h =
-    let p = and_parts (is_well_formed lit) (has_good_literals rest) h in
+    let p = and_parts (is_well_formed lit) (has_well_formed_literals rest) h in
     let r = literals_left before rest kept s (joined facts lit) goal p.1 in
-    either (λ x. has_good_literals (erased x)) (is_kept before (Hence lit cert rest) s facts (wants before rest s (joined facts lit) goal)) _ _ (and_from _ _ (renamed_well_formed (image_among_kept kept) lit ∙ p.0) r) r
-literals_left before (Make form names certs rest) kept s facts goal h =
-    let after = joined_all facts (gives_of_construction form s) in
-    either (λ x. has_good_literals (erased x)) (is_kept before (Make form names certs rest) s facts (wants before rest (grown s (sorts_made form)) after goal)) _ _
-    (literals_left before rest (kept ++ next_objects s (sorts_made form)) (grown s (sorts_made form)) after goal h)
-    (literals_left before rest kept (grown s (sorts_made form)) after goal h)
+    either (λ x. has_well_formed_literals (erased x)) (is_kept before (Hence lit cert rest) s facts (wants before rest s (joined facts lit) goal)) _ _ (and_from _ _ (renamed_well_formed (image_among_kept kept) lit ∙ p.0) r) r
+literals_left before (Make construction names certs rest) kept s facts goal h =
+    let after = joined_all facts (gives_of_construction construction s) in
+    either (λ x. has_well_formed_literals (erased x)) (is_kept before (Make construction names certs rest) s facts (wants before rest (grown s (sorts_made construction)) after goal)) _ _
+    (literals_left before rest (kept ++ next_objects s (sorts_made construction)) (grown s (sorts_made construction)) after goal h)
+    (literals_left before rest kept (grown s (sorts_made construction)) after goal h)
 literals_left before (Apply theorem args names certs rest) kept s facts goal h =
     let here = Apply theorem args names certs rest in
     let new = (theorem_at before theorem).made in
     let after = joined_all facts (joins_at before here s) in
-    either (λ x. has_good_literals (erased x)) (is_kept before here s facts (wants before rest (grown s new) after goal)) _ _
+    either (λ x. has_well_formed_literals (erased x)) (is_kept before here s facts (wants before rest (grown s new) after goal)) _ _
     (literals_left before rest (kept ++ next_objects s new) (grown s new) after goal h)
     (literals_left before rest kept (grown s new) after goal h)
 literals_left before (Claim shown inner rest) kept s facts goal h =
-    let p = and_parts (list_all is_well_formed shown) (has_good_literals inner && has_good_literals rest) h in
-    let q = and_parts (has_good_literals inner) (has_good_literals rest) p.1 in
+    let p = and_parts (list_all is_well_formed shown) (has_well_formed_literals inner && has_well_formed_literals rest) h in
+    let q = and_parts (has_well_formed_literals inner) (has_well_formed_literals rest) p.1 in
     let r = literals_left before rest kept s (joined_all facts shown) goal q.1 in
-    either (λ x. has_good_literals (erased x)) (is_kept before (Claim shown inner rest) s facts (wants before rest s (joined_all facts shown) goal)) _ _
+    either (λ x. has_well_formed_literals (erased x)) (is_kept before (Claim shown inner rest) s facts (wants before rest s (joined_all facts shown) goal)) _ _
     (and_from _ _ (well_stay kept shown ∙ p.0) (and_from _ _ (literals_left before inner kept s facts (goal_of shown) q.0) r)) r
-literals_left before (Superposed form names shown certs inner rest) kept s facts goal h =
-    let p = and_parts (list_all is_well_formed shown) (has_good_literals inner && has_good_literals rest) h in
-    let q = and_parts (has_good_literals inner) (has_good_literals rest) p.1 in
+literals_left before (Superposed superposition names shown certs inner rest) kept s facts goal h =
+    let p = and_parts (list_all is_well_formed shown) (has_well_formed_literals inner && has_well_formed_literals rest) h in
+    let q = and_parts (has_well_formed_literals inner) (has_well_formed_literals rest) p.1 in
     let r = literals_left before rest kept s (joined_all facts shown) goal q.1 in
-    let kind = joined_all facts (superposing.gives_of_superposition form s) in
-    either (λ x. has_good_literals (erased x)) (is_kept before (Superposed form names shown certs inner rest) s facts (wants before rest s (joined_all facts shown) goal)) _ _
+    let kind = joined_all facts (superposing.gives_of_superposition superposition s) in
+    either (λ x. has_well_formed_literals (erased x)) (is_kept before (Superposed superposition names shown certs inner rest) s facts (wants before rest s (joined_all facts shown) goal)) _ _
     (and_from _ _ (well_stay kept shown ∙ p.0) (and_from _ _ (literals_left before inner (kept ++ next_objects s superposing.sorts_copied) (grown s superposing.sorts_copied) kind (goal_of shown) q.0) r)) r
 literals_left before (Qed objects certs) kept s facts goal h = refl
 literals_left before (Contradiction against) kept s facts goal h = refl
 literals_left before (Cases lit first second) kept s facts goal h =
-    let p = and_parts (is_well_formed lit) (has_good_literals first && has_good_literals second) h in
-    let q = and_parts (has_good_literals first) (has_good_literals second) p.1 in
+    let p = and_parts (is_well_formed lit) (has_well_formed_literals first && has_well_formed_literals second) h in
+    let q = and_parts (has_well_formed_literals first) (has_well_formed_literals second) p.1 in
     and_from _ _ (renamed_well_formed (image_among_kept kept) lit ∙ p.0)
     (and_from _ _ (literals_left before first kept s (joined facts lit) goal q.0) (literals_left before second kept s (joined facts (negation lit)) goal q.1))
 
@@ -159,16 +159,16 @@ facts_left before (Hence lit cert rest) kept s facts goal m n y z le h =
     either (λ x. few_facts before m y (erased x)) (is_kept before (Hence lit cert rest) s facts (wants before rest s (joined facts lit) goal)) _ _
     (and_from _ _ (still_few (m + 1) (n + 1) most_facts (omega (arith, le)) p.0) (facts_left before rest kept s (joined facts lit) goal (m + 1) (n + 1) y z (omega (arith, le)) p.1))
     (facts_left before rest kept s (joined facts lit) goal m (n + 1) y z (omega (arith, le)) p.1)
-facts_left before (Make form names certs rest) kept s facts goal m n y z le h =
-    let after = joined_all facts (gives_of_construction form s) in
-    let wide = grown s (sorts_made form) in
-    let many = n + length (gives_of_construction form z) in
-    let few = m + length (gives_of_construction (construction_among_kept kept form) y) in
-    let e = gives_count kept form y z in
-    let p = and_parts (leb many most_facts) (few_facts before many (grown z (sorts_made form)) (erased rest)) h in
-    either (λ x. few_facts before m y (erased x)) (is_kept before (Make form names certs rest) s facts (wants before rest wide after goal)) _ _
-    (and_from _ _ (still_few few many most_facts (omega (arith, le, e)) p.0) (facts_left before rest (kept ++ next_objects s (sorts_made form)) wide after goal few many (grown y (sorts_made form)) (grown z (sorts_made form)) (omega (arith, le, e)) p.1))
-    (facts_left before rest kept wide after goal m many y (grown z (sorts_made form)) (omega (arith, le)) p.1)
+facts_left before (Make construction names certs rest) kept s facts goal m n y z le h =
+    let after = joined_all facts (gives_of_construction construction s) in
+    let wide = grown s (sorts_made construction) in
+    let many = n + length (gives_of_construction construction z) in
+    let few = m + length (gives_of_construction (construction_among_kept kept construction) y) in
+    let e = gives_count kept construction y z in
+    let p = and_parts (leb many most_facts) (few_facts before many (grown z (sorts_made construction)) (erased rest)) h in
+    either (λ x. few_facts before m y (erased x)) (is_kept before (Make construction names certs rest) s facts (wants before rest wide after goal)) _ _
+    (and_from _ _ (still_few few many most_facts (omega (arith, le, e)) p.0) (facts_left before rest (kept ++ next_objects s (sorts_made construction)) wide after goal few many (grown y (sorts_made construction)) (grown z (sorts_made construction)) (omega (arith, le, e)) p.1))
+    (facts_left before rest kept wide after goal m many y (grown z (sorts_made construction)) (omega (arith, le)) p.1)
 facts_left before (Apply theorem args names certs rest) kept s facts goal m n y z le h =
     let here = Apply theorem args names certs rest in
     let t = theorem_at before theorem in
@@ -189,18 +189,18 @@ facts_left before (Claim shown inner rest) kept s facts goal m n y z le h =
     (and_from _ _ (facts_left before inner kept s facts (goal_of shown) m n y z le p.0)
     (and_from _ _ (still_few few many most_facts (omega (arith, le, e)) q.0) (facts_left before rest kept s (joined_all facts shown) goal few many y z (omega (arith, le, e)) q.1)))
     (facts_left before rest kept s (joined_all facts shown) goal m many y z (omega (arith, le)) q.1)
-facts_left before (Superposed form names shown certs inner rest) kept s facts goal m n y z le h =
-    let kind = joined_all facts (superposing.gives_of_superposition form s) in
-    let given = n + length (superposing.gives_of_superposition form z) in
-    let less = m + length (superposing.gives_of_superposition (superpose_at kept form) y) in
-    let same : length (superposing.gives_of_superposition (superpose_at kept form) y) ≡ length (superposing.gives_of_superposition form z) = refl in
+facts_left before (Superposed superposition names shown certs inner rest) kept s facts goal m n y z le h =
+    let kind = joined_all facts (superposing.gives_of_superposition superposition s) in
+    let given = n + length (superposing.gives_of_superposition superposition z) in
+    let less = m + length (superposing.gives_of_superposition (superpose_at kept superposition) y) in
+    let same : length (superposing.gives_of_superposition (superpose_at kept superposition) y) ≡ length (superposing.gives_of_superposition superposition z) = refl in
     let many = n + length shown in
     let few = m + length (map (lit_among_kept kept) shown) in
     let e = length-map shown (lit_among_kept kept) in
     let o = and_parts (leb given most_facts) (few_facts before given (grown z superposing.sorts_copied) (erased inner) && (leb many most_facts && few_facts before many z (erased rest))) h in
     let p = and_parts (few_facts before given (grown z superposing.sorts_copied) (erased inner)) (leb many most_facts && few_facts before many z (erased rest)) o.1 in
     let q = and_parts (leb many most_facts) (few_facts before many z (erased rest)) p.1 in
-    either (λ x. few_facts before m y (erased x)) (is_kept before (Superposed form names shown certs inner rest) s facts (wants before rest s (joined_all facts shown) goal)) _ _
+    either (λ x. few_facts before m y (erased x)) (is_kept before (Superposed superposition names shown certs inner rest) s facts (wants before rest s (joined_all facts shown) goal)) _ _
     (and_from _ _ (still_few less given most_facts (omega (arith, le, same)) o.0)
     (and_from _ _
     (facts_left before inner (kept ++ next_objects s superposing.sorts_copied) (grown s superposing.sorts_copied) kind (goal_of shown) less given (grown y superposing.sorts_copied) (grown z superposing.sorts_copied) (omega (arith, le, same)) p.0)
@@ -231,12 +231,12 @@ terms_left before (Hence lit cert rest) kept s facts goal m n y z le h =
     either (λ x. few_terms before m y (erased x)) (is_kept before (Hence lit cert rest) s facts (wants before rest s (joined facts lit) goal)) _ _
     (and_from _ _ (still_few few many most_terms (omega (arith, le, e)) p.0) (terms_left before rest kept s (joined facts lit) goal few many y z (omega (arith, le, e)) p.1))
     (terms_left before rest kept s (joined facts lit) goal m many y z (omega (arith, le)) p.1)
-terms_left before (Make form names certs rest) kept s facts goal m n y z le h =
-    let after = joined_all facts (gives_of_construction form s) in
-    let wide = grown s (sorts_made form) in
-    either (λ x. few_terms before m y (erased x)) (is_kept before (Make form names certs rest) s facts (wants before rest wide after goal)) _ _
-    (terms_left before rest (kept ++ next_objects s (sorts_made form)) wide after goal m n (grown y (sorts_made form)) (grown z (sorts_made form)) le h)
-    (terms_left before rest kept wide after goal m n y (grown z (sorts_made form)) le h)
+terms_left before (Make construction names certs rest) kept s facts goal m n y z le h =
+    let after = joined_all facts (gives_of_construction construction s) in
+    let wide = grown s (sorts_made construction) in
+    either (λ x. few_terms before m y (erased x)) (is_kept before (Make construction names certs rest) s facts (wants before rest wide after goal)) _ _
+    (terms_left before rest (kept ++ next_objects s (sorts_made construction)) wide after goal m n (grown y (sorts_made construction)) (grown z (sorts_made construction)) le h)
+    (terms_left before rest kept wide after goal m n y (grown z (sorts_made construction)) le h)
 terms_left before (Apply theorem args names certs rest) kept s facts goal m n y z le h =
     let here = Apply theorem args names certs rest in
     let t = theorem_at before theorem in
@@ -258,18 +258,18 @@ terms_left before (Claim shown inner rest) kept s facts goal m n y z le h =
     (and_from _ _ (terms_left before inner kept s facts (goal_of shown) m n y z le p.0)
     (and_from _ _ (still_few few many most_terms (omega (arith, le, e)) q.0) (terms_left before rest kept s (joined_all facts shown) goal few many y z (omega (arith, le, e)) q.1)))
     (terms_left before rest kept s (joined_all facts shown) goal m many y z (omega (arith, le)) q.1)
-terms_left before (Superposed form names shown certs inner rest) kept s facts goal m n y z le h =
-    let kind = joined_all facts (superposing.gives_of_superposition form s) in
-    let given = n + count_monomials (superposing.gives_of_superposition form z) in
-    let less = m + count_monomials (superposing.gives_of_superposition (superpose_at kept form) y) in
-    let same : count_monomials (superposing.gives_of_superposition (superpose_at kept form) y) ≡ count_monomials (superposing.gives_of_superposition form z) = refl in
+terms_left before (Superposed superposition names shown certs inner rest) kept s facts goal m n y z le h =
+    let kind = joined_all facts (superposing.gives_of_superposition superposition s) in
+    let given = n + count_monomials (superposing.gives_of_superposition superposition z) in
+    let less = m + count_monomials (superposing.gives_of_superposition (superpose_at kept superposition) y) in
+    let same : count_monomials (superposing.gives_of_superposition (superpose_at kept superposition) y) ≡ count_monomials (superposing.gives_of_superposition superposition z) = refl in
     let many = n + count_monomials shown in
     let few = m + count_monomials (map (lit_among_kept kept) shown) in
     let e = lits_monos kept shown in
     let o = and_parts (leb given most_terms) (few_terms before given (grown z superposing.sorts_copied) (erased inner) && (leb many most_terms && few_terms before many z (erased rest))) h in
     let p = and_parts (few_terms before given (grown z superposing.sorts_copied) (erased inner)) (leb many most_terms && few_terms before many z (erased rest)) o.1 in
     let q = and_parts (leb many most_terms) (few_terms before many z (erased rest)) p.1 in
-    either (λ x. few_terms before m y (erased x)) (is_kept before (Superposed form names shown certs inner rest) s facts (wants before rest s (joined_all facts shown) goal)) _ _
+    either (λ x. few_terms before m y (erased x)) (is_kept before (Superposed superposition names shown certs inner rest) s facts (wants before rest s (joined_all facts shown) goal)) _ _
     (and_from _ _ (still_few less given most_terms (omega (arith, le, same)) o.0)
     (and_from _ _
     (terms_left before inner (kept ++ next_objects s superposing.sorts_copied) (grown s superposing.sorts_copied) kind (goal_of shown) less given (grown y superposing.sorts_copied) (grown z superposing.sorts_copied) (omega (arith, le, same)) p.0)
@@ -297,11 +297,11 @@ blanks_left before (Cite by rest) kept s facts goal h =
 blanks_left before (Hence lit cert rest) kept s facts goal h =
     let r = blanks_left before rest kept s (joined facts lit) goal h in
     either (λ x. few_blanks (erased x)) (is_kept before (Hence lit cert rest) s facts (wants before rest s (joined facts lit) goal)) _ _ r r
-blanks_left before (Make form names certs rest) kept s facts goal h =
-    let after = joined_all facts (gives_of_construction form s) in
-    either (λ x. few_blanks (erased x)) (is_kept before (Make form names certs rest) s facts (wants before rest (grown s (sorts_made form)) after goal)) _ _
-    (blanks_left before rest (kept ++ next_objects s (sorts_made form)) (grown s (sorts_made form)) after goal h)
-    (blanks_left before rest kept (grown s (sorts_made form)) after goal h)
+blanks_left before (Make construction names certs rest) kept s facts goal h =
+    let after = joined_all facts (gives_of_construction construction s) in
+    either (λ x. few_blanks (erased x)) (is_kept before (Make construction names certs rest) s facts (wants before rest (grown s (sorts_made construction)) after goal)) _ _
+    (blanks_left before rest (kept ++ next_objects s (sorts_made construction)) (grown s (sorts_made construction)) after goal h)
+    (blanks_left before rest kept (grown s (sorts_made construction)) after goal h)
 blanks_left before (Apply theorem args names certs rest) kept s facts goal h =
     let here = Apply theorem args names certs rest in
     let new = (theorem_at before theorem).made in
@@ -314,11 +314,11 @@ blanks_left before (Claim shown inner rest) kept s facts goal h =
     let q = and_parts (few_blanks (erased inner)) (few_blanks (erased rest)) h in
     let r = blanks_left before rest kept s (joined_all facts shown) goal q.1 in
     either (λ x. few_blanks (erased x)) (is_kept before (Claim shown inner rest) s facts (wants before rest s (joined_all facts shown) goal)) _ _ (and_from _ _ (blanks_left before inner kept s facts (goal_of shown) q.0) r) r
-blanks_left before (Superposed form names shown certs inner rest) kept s facts goal h =
+blanks_left before (Superposed superposition names shown certs inner rest) kept s facts goal h =
     let q = and_parts (few_blanks (erased inner)) (few_blanks (erased rest)) h in
     let r = blanks_left before rest kept s (joined_all facts shown) goal q.1 in
-    let kind = joined_all facts (superposing.gives_of_superposition form s) in
-    either (λ x. few_blanks (erased x)) (is_kept before (Superposed form names shown certs inner rest) s facts (wants before rest s (joined_all facts shown) goal)) _ _
+    let kind = joined_all facts (superposing.gives_of_superposition superposition s) in
+    either (λ x. few_blanks (erased x)) (is_kept before (Superposed superposition names shown certs inner rest) s facts (wants before rest s (joined_all facts shown) goal)) _ _
     (and_from _ _ (blanks_left before inner (kept ++ next_objects s superposing.sorts_copied) (grown s superposing.sorts_copied) kind (goal_of shown) q.0) r) r
 blanks_left before (Qed objects certs) kept s facts goal h = refl
 blanks_left before (Contradiction against) kept s facts goal h = refl
@@ -377,12 +377,12 @@ version_left v before (Hence lit cert rest) kept s facts goal h =
     let p = and_parts (option_map_or (is_cert_of v) cert true) (has_certs_of v rest) h in
     let r = version_left v before rest kept s (joined facts lit) goal p.1 in
     either (has_certs_of v) (is_kept before (Hence lit cert rest) s facts (wants before rest s (joined facts lit) goal)) _ _ (and_from _ _ (any_cert_stays v kept cert ∙ p.0) r) r
-version_left v before (Make form names certs rest) kept s facts goal h =
-    let after = joined_all facts (gives_of_construction form s) in
+version_left v before (Make construction names certs rest) kept s facts goal h =
+    let after = joined_all facts (gives_of_construction construction s) in
     let p = and_parts (list_all (is_cert_of v) certs) (has_certs_of v rest) h in
-    either (has_certs_of v) (is_kept before (Make form names certs rest) s facts (wants before rest (grown s (sorts_made form)) after goal)) _ _
-    (and_from _ _ (certs_stay v kept certs ∙ p.0) (version_left v before rest (kept ++ next_objects s (sorts_made form)) (grown s (sorts_made form)) after goal p.1))
-    (version_left v before rest kept (grown s (sorts_made form)) after goal p.1)
+    either (has_certs_of v) (is_kept before (Make construction names certs rest) s facts (wants before rest (grown s (sorts_made construction)) after goal)) _ _
+    (and_from _ _ (certs_stay v kept certs ∙ p.0) (version_left v before rest (kept ++ next_objects s (sorts_made construction)) (grown s (sorts_made construction)) after goal p.1))
+    (version_left v before rest kept (grown s (sorts_made construction)) after goal p.1)
 version_left v before (Apply theorem args names certs rest) kept s facts goal h =
     let here = Apply theorem args names certs rest in
     let new = (theorem_at before theorem).made in
@@ -395,12 +395,12 @@ version_left v before (Claim shown inner rest) kept s facts goal h =
     let q = and_parts (has_certs_of v inner) (has_certs_of v rest) h in
     let r = version_left v before rest kept s (joined_all facts shown) goal q.1 in
     either (has_certs_of v) (is_kept before (Claim shown inner rest) s facts (wants before rest s (joined_all facts shown) goal)) _ _ (and_from _ _ (version_left v before inner kept s facts (goal_of shown) q.0) r) r
-version_left v before (Superposed form names shown certs inner rest) kept s facts goal h =
+version_left v before (Superposed superposition names shown certs inner rest) kept s facts goal h =
     let p = and_parts (list_all (is_cert_of v) certs) (has_certs_of v inner && has_certs_of v rest) h in
     let q = and_parts (has_certs_of v inner) (has_certs_of v rest) p.1 in
     let r = version_left v before rest kept s (joined_all facts shown) goal q.1 in
-    let kind = joined_all facts (superposing.gives_of_superposition form s) in
-    either (has_certs_of v) (is_kept before (Superposed form names shown certs inner rest) s facts (wants before rest s (joined_all facts shown) goal)) _ _
+    let kind = joined_all facts (superposing.gives_of_superposition superposition s) in
+    either (has_certs_of v) (is_kept before (Superposed superposition names shown certs inner rest) s facts (wants before rest s (joined_all facts shown) goal)) _ _
     (and_from _ _ (certs_stay v kept certs ∙ p.0) (and_from _ _ (version_left v before inner (kept ++ next_objects s superposing.sorts_copied) (grown s superposing.sorts_copied) kind (goal_of shown) q.0) r)) r
 version_left v before (Qed objects certs) kept s facts goal h = certs_stay v kept certs ∙ h
 version_left v before (Contradiction against) kept s facts goal h = against_stays v kept against ∙ h
@@ -414,10 +414,10 @@ pub depth_erased : (d : Script) → depth (erased d) ≡ depth d
 unfolding depth erased
 depth_erased (Cite by rest) = depth_erased rest
 depth_erased (Hence lit cert rest) = depth_erased rest
-depth_erased (Make form names certs rest) = depth_erased rest
+depth_erased (Make construction names certs rest) = depth_erased rest
 depth_erased (Apply theorem args names certs rest) = depth_erased rest
 depth_erased (Claim shown inner rest) = rw (depth_erased inner, depth_erased rest) refl
-depth_erased (Superposed form names shown certs inner rest) = rw (depth_erased inner, depth_erased rest) refl
+depth_erased (Superposed superposition names shown certs inner rest) = rw (depth_erased inner, depth_erased rest) refl
 depth_erased (Qed objects certs) = refl
 depth_erased (Contradiction against) = refl
 depth_erased (Cases lit first second) = rw (depth_erased first, depth_erased second) refl

@@ -129,13 +129,13 @@ names_left before (Cite by rest) kept s facts goal less ns f h =
 names_left before (Hence lit cert rest) kept s facts goal less ns f h =
     let r = names_left before rest kept s (joined facts lit) goal less ns f h in
     either (λ x. NewNamesFit before less (erased x)) (is_kept before (Hence lit cert rest) s facts (wants before rest s (joined facts lit) goal)) _ _ r r
-names_left before (Make form names certs rest) kept s facts goal less ns f h =
-    let after = joined_all facts (gives_of_construction form s) in
-    let wide = grown s (sorts_made form) in
-    let both = both_named less ns (sorts_made form) names f in
-    either (λ x. NewNamesFit before less (erased x)) (is_kept before (Make form names certs rest) s facts (wants before rest wide after goal)) _ _
-    (still_fresh less ns [] names f h.0, h.1, still_few (named less (sorts_made form) names) (named ns (sorts_made form) names) both h.2, names_left before rest (kept ++ next_objects s (sorts_made form)) wide after goal (named less (sorts_made form) names) (named ns (sorts_made form) names) both h.3)
-    (names_left before rest kept wide after goal less (named ns (sorts_made form) names) (wider less ns (sorts_made form) names f) h.3)
+names_left before (Make construction names certs rest) kept s facts goal less ns f h =
+    let after = joined_all facts (gives_of_construction construction s) in
+    let wide = grown s (sorts_made construction) in
+    let both = both_named less ns (sorts_made construction) names f in
+    either (λ x. NewNamesFit before less (erased x)) (is_kept before (Make construction names certs rest) s facts (wants before rest wide after goal)) _ _
+    (still_fresh less ns [] names f h.0, h.1, still_few (named less (sorts_made construction) names) (named ns (sorts_made construction) names) both h.2, names_left before rest (kept ++ next_objects s (sorts_made construction)) wide after goal (named less (sorts_made construction) names) (named ns (sorts_made construction) names) both h.3)
+    (names_left before rest kept wide after goal less (named ns (sorts_made construction) names) (wider less ns (sorts_made construction) names f) h.3)
 names_left before (Apply theorem args names certs rest) kept s facts goal less ns f h =
     let here = Apply theorem args names certs rest in
     let new = (theorem_at before theorem).made in
@@ -148,11 +148,11 @@ names_left before (Apply theorem args names certs rest) kept s facts goal less n
 names_left before (Claim shown inner rest) kept s facts goal less ns f h =
     let r = names_left before rest kept s (joined_all facts shown) goal less ns f h.1 in
     either (λ x. NewNamesFit before less (erased x)) (is_kept before (Claim shown inner rest) s facts (wants before rest s (joined_all facts shown) goal)) _ _ (names_left before inner kept s facts (goal_of shown) less ns f h.0, r) r
-names_left before (Superposed form names shown certs inner rest) kept s facts goal less ns f h =
+names_left before (Superposed superposition names shown certs inner rest) kept s facts goal less ns f h =
     let r = names_left before rest kept s (joined_all facts shown) goal less ns f h.4 in
-    let kind = joined_all facts (superposing.gives_of_superposition form s) in
+    let kind = joined_all facts (superposing.gives_of_superposition superposition s) in
     let both = both_named less ns superposing.sorts_copied names f in
-    either (λ x. NewNamesFit before less (erased x)) (is_kept before (Superposed form names shown certs inner rest) s facts (wants before rest s (joined_all facts shown) goal)) _ _ (
+    either (λ x. NewNamesFit before less (erased x)) (is_kept before (Superposed superposition names shown certs inner rest) s facts (wants before rest s (joined_all facts shown) goal)) _ _ (
       still_fresh less ns [] names f h.0,
       h.1,
       still_few (named less superposing.sorts_copied names) (named ns superposing.sorts_copied names) both h.2,

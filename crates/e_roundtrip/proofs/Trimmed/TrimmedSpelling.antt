@@ -30,7 +30,7 @@ use Rattle.e_deriv.proofs.Versions.{good_of_version}
 use Rattle.e_line.specs.Limits.{count_monomials}
 use Rattle.e_names.specs.TitledStatements.{TitledStatement, stated_by}
 use Rattle.e_book.specs.TheoremViews.{TheoremView}
-use Rattle.e_book.specs.Fits.{Fits, has_good_literals}
+use Rattle.e_book.specs.Fits.{Fits, has_well_formed_literals}
 use Rattle.e_names.specs.HasSpelling.{is_named_by_title}
 use Rattle.e_book.specs.HasSpelling.{HasSpelling, is_plain, names_theorems}
 use Rattle.e_book.proofs.fit_theorems.Fitting.{small_statement}
@@ -39,7 +39,7 @@ use Rattle.e_read.specs.Text.{at_start, piece_from}
 use Rattle.e_read.proofs.Bridge.{derives}
 use Rattle.e_trim.specs.Trimmed.{declared_of, joins_at, lit_among_kept, is_kept, wants, trimmed_from, trimmed}
 use Rattle.e_trim.proofs.kept_scripts.Shorter.{trimmed_shorter}
-use Rattle.e_trim.proofs.kept_scripts.WholeScripts.{trimmed_certified}
+use Rattle.e_trim.proofs.kept_scripts.CertifiedDerivations.{trimmed_certified}
 use Rattle.e_judgement.proofs.WithCertificates.{size_erased}
 use Rattle.e_roundtrip.specs.Laws.{TrimmedHasSpelling}
 use Rattle.e_roundtrip.specs.Written.{CanBeVerified}
@@ -59,10 +59,10 @@ theorems_left known before (Cite by rest) kept s facts goal h =
 theorems_left known before (Hence lit cert rest) kept s facts goal h =
     let r = theorems_left known before rest kept s (joined facts lit) goal h in
     either (λ x. names_theorems known (erased x)) (is_kept before (Hence lit cert rest) s facts (wants before rest s (joined facts lit) goal)) _ _ r r
-theorems_left known before (Make form names certs rest) kept s facts goal h =
-    either (λ x. names_theorems known (erased x)) (is_kept before (Make form names certs rest) s facts (wants before rest (grown s (sorts_made form)) (joined_all facts (gives_of_construction form s)) goal)) _ _
-    (theorems_left known before rest (kept ++ next_objects s (sorts_made form)) (grown s (sorts_made form)) (joined_all facts (gives_of_construction form s)) goal h)
-    (theorems_left known before rest kept (grown s (sorts_made form)) (joined_all facts (gives_of_construction form s)) goal h)
+theorems_left known before (Make construction names certs rest) kept s facts goal h =
+    either (λ x. names_theorems known (erased x)) (is_kept before (Make construction names certs rest) s facts (wants before rest (grown s (sorts_made construction)) (joined_all facts (gives_of_construction construction s)) goal)) _ _
+    (theorems_left known before rest (kept ++ next_objects s (sorts_made construction)) (grown s (sorts_made construction)) (joined_all facts (gives_of_construction construction s)) goal h)
+    (theorems_left known before rest kept (grown s (sorts_made construction)) (joined_all facts (gives_of_construction construction s)) goal h)
 theorems_left known before (Apply theorem args names certs rest) kept s facts goal h =
     let here = Apply theorem args names certs rest in
     let new = (theorem_at before theorem).made in
@@ -76,11 +76,11 @@ theorems_left known before (Claim shown inner rest) kept s facts goal h =
     let r = theorems_left known before rest kept s (joined_all facts shown) goal p.1 in
     either (λ x. names_theorems known (erased x)) (is_kept before (Claim shown inner rest) s facts (wants before rest s (joined_all facts shown) goal)) _ _
     (and_from _ _ (theorems_left known before inner kept s facts (goal_of shown) p.0) r) r
-theorems_left known before (Superposed form names shown certs inner rest) kept s facts goal h =
+theorems_left known before (Superposed superposition names shown certs inner rest) kept s facts goal h =
     let p = and_parts (names_theorems known (erased inner)) (names_theorems known (erased rest)) h in
     let r = theorems_left known before rest kept s (joined_all facts shown) goal p.1 in
-    either (λ x. names_theorems known (erased x)) (is_kept before (Superposed form names shown certs inner rest) s facts (wants before rest s (joined_all facts shown) goal)) _ _
-    (and_from _ _ (theorems_left known before inner (kept ++ next_objects s superposing.sorts_copied) (grown s superposing.sorts_copied) (joined_all facts (superposing.gives_of_superposition form s)) (goal_of shown) p.0) r) r
+    either (λ x. names_theorems known (erased x)) (is_kept before (Superposed superposition names shown certs inner rest) s facts (wants before rest s (joined_all facts shown) goal)) _ _
+    (and_from _ _ (theorems_left known before inner (kept ++ next_objects s superposing.sorts_copied) (grown s superposing.sorts_copied) (joined_all facts (superposing.gives_of_superposition superposition s)) (goal_of shown) p.0) r) r
 theorems_left known before (Qed objects certs) kept s facts goal h = refl
 theorems_left known before (Contradiction against) kept s facts goal h = refl
 theorems_left known before (Cases lit first second) kept s facts goal h =
@@ -101,12 +101,12 @@ plain_left before (Cite by rest) kept s facts goal h =
 plain_left before (Hence lit cert rest) kept s facts goal h =
     let r = plain_left before rest kept s (joined facts lit) goal h in
     either (λ x. is_plain (erased x)) (is_kept before (Hence lit cert rest) s facts (wants before rest s (joined facts lit) goal)) _ _ r r
-plain_left before (Make form names certs rest) kept s facts goal h =
+plain_left before (Make construction names certs rest) kept s facts goal h =
     let p = and_parts (list_all is_name names) (is_plain (erased rest)) h in
-    let after = joined_all facts (gives_of_construction form s) in
-    either (λ x. is_plain (erased x)) (is_kept before (Make form names certs rest) s facts (wants before rest (grown s (sorts_made form)) after goal)) _ _
-    (and_from (list_all is_name names) _ p.0 (plain_left before rest (kept ++ next_objects s (sorts_made form)) (grown s (sorts_made form)) after goal p.1))
-    (plain_left before rest kept (grown s (sorts_made form)) after goal p.1)
+    let after = joined_all facts (gives_of_construction construction s) in
+    either (λ x. is_plain (erased x)) (is_kept before (Make construction names certs rest) s facts (wants before rest (grown s (sorts_made construction)) after goal)) _ _
+    (and_from (list_all is_name names) _ p.0 (plain_left before rest (kept ++ next_objects s (sorts_made construction)) (grown s (sorts_made construction)) after goal p.1))
+    (plain_left before rest kept (grown s (sorts_made construction)) after goal p.1)
 plain_left before (Apply theorem args names certs rest) kept s facts goal h =
     let here = Apply theorem args names certs rest in
     let new = (theorem_at before theorem).made in
@@ -121,13 +121,13 @@ plain_left before (Claim shown inner rest) kept s facts goal h =
     let r = plain_left before rest kept s (joined_all facts shown) goal q.1 in
     either (λ x. is_plain (erased x)) (is_kept before (Claim shown inner rest) s facts (wants before rest s (joined_all facts shown) goal)) _ _
     (and_from _ _ (some_left kept shown p.0) (and_from _ _ (plain_left before inner kept s facts (goal_of shown) q.0) r)) r
-plain_left before (Superposed form names shown certs inner rest) kept s facts goal h =
+plain_left before (Superposed superposition names shown certs inner rest) kept s facts goal h =
     let o = and_parts (list_all is_name names) (nat_lt 0 (length shown) && (is_plain (erased inner) && is_plain (erased rest))) h in
     let p = and_parts (nat_lt 0 (length shown)) (is_plain (erased inner) && is_plain (erased rest)) o.1 in
     let q = and_parts (is_plain (erased inner)) (is_plain (erased rest)) p.1 in
     let r = plain_left before rest kept s (joined_all facts shown) goal q.1 in
-    let kind = joined_all facts (superposing.gives_of_superposition form s) in
-    either (λ x. is_plain (erased x)) (is_kept before (Superposed form names shown certs inner rest) s facts (wants before rest s (joined_all facts shown) goal)) _ _
+    let kind = joined_all facts (superposing.gives_of_superposition superposition s) in
+    either (λ x. is_plain (erased x)) (is_kept before (Superposed superposition names shown certs inner rest) s facts (wants before rest s (joined_all facts shown) goal)) _ _
     (and_from (list_all is_name names) _ o.0 (and_from _ _ (some_left kept shown p.0) (and_from _ _ (plain_left before inner (kept ++ next_objects s superposing.sorts_copied) (grown s superposing.sorts_copied) kind (goal_of shown) q.0) r))) r
 plain_left before (Qed objects certs) kept s facts goal h = refl
 plain_left before (Contradiction against) kept s facts goal h = refl
@@ -147,7 +147,7 @@ states known t h = (and_parts (is_statement (stated t.statement)) (is_small (all
 abbrev left_of : List TitledStatement → TheoremView → Script
 left_of known t = trimmed (stated_by known) (stated t.statement) t.script
 
-trimmed_fits : (known : List TitledStatement) (t : TheoremView) → Fits known (record t { script = erased t.script }) → has_good_literals t.script ≡ true → Certified (stated_by known) (stated t.statement) (left_of known t) → Fits known (record t { script = erased (left_of known t) })
+trimmed_fits : (known : List TitledStatement) (t : TheoremView) → Fits known (record t { script = erased t.script }) → has_well_formed_literals t.script ≡ true → Certified (stated_by known) (stated t.statement) (left_of known t) → Fits known (record t { script = erased (left_of known t) })
 trimmed_fits known t h good c =
     let before = stated_by known in
     let st = stated t.statement in
@@ -214,7 +214,7 @@ trimmed_can_be_verified known last t lines after small read c =
     let plain = trimmed_has_spelling known t small own.plain own.version c in
     let still = trimmed_certified before st d (are_statements before small) (states known t own.plain) own.version c in
     let first : has_certs_of One left ≡ true = version_left One before d (declared_of st) (scope_of st) (facts_of_statement st) (goal_of_statement st) own.version in
-    let literals : has_good_literals left ≡ true = sym (erased_literals left) ∙ plain.fits.good_script in
+    let literals : has_well_formed_literals left ≡ true = sym (erased_literals left) ∙ plain.fits.good_script in
     record {
       spelled = record { plain = plain; formed = certified_formed before st left still (written_well left literals (good_of_version One left first)); version = first };
       certified = still;

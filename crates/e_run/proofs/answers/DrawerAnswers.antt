@@ -2,7 +2,7 @@
 use Rattle.std.proofs.Common.{◌≡◌, ◌⊎◌, inl, inr, ℕ, ◌+◌, ◌≤◌, false, true≢false, List, [], length, take, Option, Some, None, Result, Ok, Err, refl, sym, ap, subst, ◌∙◌, arith}
 use Rattle.e_text.specs.Lines.{LineView}
 use Rattle.e_text.specs.declared.line.LineFault.{LineFault}
-use Rattle.e_text.proofs.WholeLines.{lines_of-take}
+use Rattle.e_text.proofs.LinesOfTexts.{lines_of-take}
 use Rattle.e_line.specs.declared.fault.BookFault.{BookFault}
 use Rattle.e_line.specs.declared.fault.BookFault.TheVariants as faults
 use Rattle.e_line.specs.Reading.{◌>>=◌}
@@ -20,7 +20,7 @@ use Rattle.e_run.specs.inner.BookResults.{ClosesWith}
 use Rattle.e_run.specs.VerifierAnswers.{IsFailure}
 use Rattle.e_run.specs.DrawerAnswers.{FigureAnswer, DrawsAndWrites, DrawsText, lacks_memory, figure_answer, AnswersFigure}
 use Rattle.e_run.proofs.answers.Wrote.{closed_wrote}
-use Rattle.e_run.proofs.outcomes.WholeBook.{short_by_size}
+use Rattle.e_run.proofs.outcomes.AcceptedBooks.{short_by_size}
 
 -- what is written last is all that is written
 pub drawn_closed : (text : List ℕ) (old new : Option (List ℕ)) (last : List ℕ) (answer result : Status) → FigureAnswer text answer last → ClosesWith old new last answer result → DrawsAndWrites text old new result

@@ -1,7 +1,7 @@
 -- What is answered on a generated book.
 use Rattle.std.proofs.Common.{◌≡◌, inl, inr, ℕ, ◌≤◌, List, [], Option, Some, refl, sym, ap, subst, ◌∙◌, arith}
 use Rattle.e_io.specs.Bytes.{Grew}
-use Rattle.e_text.proofs.WholeLines.{lines_of-take}
+use Rattle.e_text.proofs.LinesOfTexts.{lines_of-take}
 use Rattle.e_deriv.specs.declared.stop.Stop.TheVariants as stops
 use Rattle.e_names.specs.declared.known.Known.{Known}
 use Rattle.e_generate.specs.Generated.{generated_text}
@@ -23,7 +23,7 @@ use Rattle.e_run.proofs.answers.Wrote.{closed_wrote}
 use Rattle.e_run.proofs.written_texts.LastLinesWritten.{grew_all}
 use Rattle.e_run.proofs.written_texts.VerifiedText.{verified_text}
 use Rattle.e_run.proofs.outcomes.OneOutcome.{outcome_is_one}
-use Rattle.e_run.proofs.outcomes.WholeBook.{good_accepted}
+use Rattle.e_run.proofs.outcomes.AcceptedBooks.{good_accepted}
 use Rattle.e_run.proofs.title_counts.Titles.{accepted_titles}
 use Rattle.e_run.proofs.title_counts.GeneratedTitles.{generated_titles}
 use Rattle.e_book.specs.Grammar.{Rest}

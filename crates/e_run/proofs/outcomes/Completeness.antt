@@ -73,9 +73,9 @@ wide_line before x (Apply theorem pattern names certs rest) Match w h =
     (wide_choice (theorem_at before theorem) x.scope x.facts pattern w h.1)
 wide_line before x (Cite by rest) (Literal l) w h = some_wide before x l w h
 wide_line before x (Hence lit cert rest) (Literal l) w h = some_wide before x l w h
-wide_line before x (Make form names certs rest) (Literal l) w h = some_wide before x l w h
+wide_line before x (Make construction names certs rest) (Literal l) w h = some_wide before x l w h
 wide_line before x (Claim shown inner rest) (Literal l) w h = some_wide before x l w h
-wide_line before x (Superposed form names shown certs inner rest) (Literal l) w h = some_wide before x l w h
+wide_line before x (Superposed superposition names shown certs inner rest) (Literal l) w h = some_wide before x l w h
 wide_line before x (Qed objects certs) (Literal l) w h = some_wide before x l w h
 wide_line before x (Cases lit first second) (Literal l) w h = some_wide before x l w h
 wide_line before x here Match w h = absurd h

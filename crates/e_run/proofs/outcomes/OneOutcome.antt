@@ -15,7 +15,7 @@ use Rattle.e_names.specs.Titled.{Titled}
 use Rattle.e_book.specs.Definitions.{BookItem, OfTheorem, OfNotion, item_from}
 use Rattle.e_book.specs.Grammar.{Rest}
 use Rattle.e_run.specs.Outcome.{and_theorem, and_notion, IsLicensed, Defines, AreDefined, Takes, BookOutcome, Accepted, Unlicensed, Faulty, StopsAt, OutcomeAt, IsOutcome, end_line_number}
-use Rattle.e_run.proofs.outcomes.WholeBook.{same_found}
+use Rattle.e_run.proofs.outcomes.AcceptedBooks.{same_found}
 
 -- what reading gives
 abbrev pub Answer : Type 0

@@ -7,7 +7,7 @@ use Rattle.e_io.specs.Bytes.{ReadsBytes, Grew}
 use Rattle.e_text.specs.Lines.{Bounds, Spot, HaveNoFault, IsClosed, IsOpen, lines_of, spot_after}
 use Rattle.e_text.proofs.Fronts.{lines_of-front}
 use Rattle.e_text.proofs.ClosedTexts.{closed_both, closed_after, then_good, good_both, fault_is_last, then_some}
-use Rattle.e_text.proofs.WholeLines.{lines_of-take}
+use Rattle.e_text.proofs.LinesOfTexts.{lines_of-take}
 use Rattle.e_book.specs.declared.coming.Coming.{Coming}
 use Rattle.e_book.specs.Definitions.{BookItem}
 use Rattle.e_book.specs.inner.Machine.{at_end}
@@ -29,7 +29,7 @@ use Rattle.e_run.specs.Taken.{TookFew, AllTaken, OfWholeLines, HandledAll}
 use Rattle.e_run.specs.inner.Handled.{AllBlocks, HandledBlocks, TextResultIs}
 use Rattle.e_run.proofs.progress.TakenBooks.{tied, reaches_first, reaches_as, off_here}
 use Rattle.e_run.proofs.progress.TakenBytes.{TakenSoFar, taken_more, taken_of, taken_map, all_of}
-use Rattle.e_run.proofs.outcomes.WholeBook.{all_is_short}
+use Rattle.e_run.proofs.outcomes.AcceptedBooks.{all_is_short}
 use Rattle.e_run.proofs.written_texts.LastLinesWritten.{grew_all}
 
 abbrev bounds : Bounds

@@ -17,13 +17,13 @@ use Rattle.e_text.specs.Names.{is_digit}
 use Rattle.e_text.specs.Numerals.{is_numeral}
 use Rattle.e_text.specs.Tokens.{is_blank, has_bytes, is_token, tokens_of}
 use Rattle.e_text.proofs.FirstLine.{then_lines, split_more, parts_of, seen-checked}
-use Rattle.e_text.proofs.WholeLines.{next_spot}
+use Rattle.e_text.proofs.LinesOfTexts.{next_spot}
 use Rattle.e_text.proofs.TokenWords.{tokens_of-spaced}
 use Rattle.e_text.proofs.NumeralWords.{is_numeral-decimal}
 use Rattle.e_generate.specs.Generated.{numbers, point, segment, between, points_to, points_line, given_between_line, plus_segment, show_sum, show_less, apply_previous_line, earlier, turned, run, cites, hence_line, last, statement, proof, generated_theorem_text, generated_text}
 use Rattle.e_run.specs.Outcome.{lines_of_book}
 use Rattle.e_run.proofs.title_counts.Titles.{has_title, one_if, titles}
-use Rattle.e_run.proofs.outcomes.WholeBook.{good_rest}
+use Rattle.e_run.proofs.outcomes.AcceptedBooks.{good_rest}
 use Rattle.e_book.specs.Grammar.{Rest}
 
 -- ---- the first word of a line

@@ -40,7 +40,7 @@ use Rattle.e_line.proofs.base.Bound.{bind_ok, ok_is, read_ok}
 use Rattle.e_line.proofs.base.Choices.{either, passed, of_reading}
 use Rattle.e_names.proofs.titles.FreshTitles.{was_free}
 use Rattle.e_run.specs.Outcome.{and_theorem, and_notion, Defines, Takes, Accepted, IsOutcome, end_line_number}
-use Rattle.e_run.proofs.outcomes.WholeBook.{at_end_found, by_found, by_none, by_skip}
+use Rattle.e_run.proofs.outcomes.AcceptedBooks.{at_end_found, by_found, by_none, by_skip}
 use Rattle.e_run.proofs.written_texts.VerifiedText.{known_grows}
 
 -- the words of a line with a title
@@ -112,9 +112,9 @@ cited ws =
     (read_on (names_of parts.0) (λ ns. diagram_lit_of parts.1 >>= λ l. read_ok (rawlines.By r.0 ns l)) (λ ns. read_on (diagram_lit_of parts.1) (λ l. read_ok (rawlines.By r.0 ns l)) (λ l. tt)))
     tt)
 
-alone : (ws : List (List ℕ)) (form : RawLine) → IsNoTitle (Ok form) → IsNoTitle (bare ws form)
+alone : (ws : List (List ℕ)) (raw_line : RawLine) → IsNoTitle (Ok raw_line) → IsNoTitle (bare ws raw_line)
 unfolding bare
-alone ws form h = read_on (end_at ws) (λ none. read_ok form) (λ none. h)
+alone ws raw_line h = read_on (end_at ws) (λ none. read_ok raw_line) (λ none. h)
 
 no_title : (w : List ℕ) (ws : List (List ℕ)) → bytes_eq w (codes "theorem") ≡ false → IsNoTitle (raw_line_named w ws)
 unfolding raw_line_named

@@ -9,7 +9,7 @@ use Rattle.e_deriv.specs.Script.{Script, erased}
 use Rattle.e_deriv.specs.Goal.{goal_of_statement, facts_of_statement}
 use Rattle.e_deriv.specs.Versions.{has_certs_of}
 use Rattle.e_deriv.proofs.Versions.{good_of_version}
-use Rattle.e_book.specs.Fits.{has_good_literals}
+use Rattle.e_book.specs.Fits.{has_well_formed_literals}
 use Rattle.e_names.specs.TitledStatements.{TitledStatement, stated_by}
 use Rattle.e_book.specs.TheoremViews.{TheoremView}
 use Rattle.e_book.specs.HasSpelling.{HasSpelling}
@@ -40,7 +40,7 @@ placed_spelled v known last lines after t read certified second =
     let same : erased (placed known t) ≡ erased t.script = numbered_erased bs t.script (scope_of st) (facts_of_statement st) (goal_of_statement st) in
     let plain : HasSpelling known (record t { script = erased (placed known t) }) = subst (λ (s : Script). HasSpelling known (record t { script = s })) (sym same) own.plain in
     let still = numbered_certified bs t.script (scope_of st) (facts_of_statement st) (goal_of_statement st) certified in
-    let literals : has_good_literals (placed known t) ≡ true = sym (erased_literals (placed known t)) ∙ plain.fits.good_script in
+    let literals : has_well_formed_literals (placed known t) ≡ true = sym (erased_literals (placed known t)) ∙ plain.fits.good_script in
     record {
       spelled = record {
         plain = plain;

@@ -115,12 +115,12 @@ constant_same Not = refl
 pub constraint_entry : (ts : List Term) (r : Row) (c : ℕ) → AreOnce ts → FormNamed ts r.form → c < length ts + 1
     → constraint_row (named_constraint ts r) c ≡ entry (record { row = r; down = false }) (column ts c)
 constraint_entry ts r zero o h l =
-    omega (arith, sums, form_constant ts r.form h, constant_same r.says, *ℤ_comm (constant_of (constraint_sense r.says)) (pos 1), one_mul (constant_of (constraint_sense r.says)), ap (λ v. constant_of (constraint_sense r.says) *ℤ v) (unit-same 0))
+    omega (arith, sums, form_constant ts r.form h, constant_same r.sense, *ℤ_comm (constant_of (constraint_sense r.sense)) (pos 1), one_mul (constant_of (constraint_sense r.sense)), ap (λ v. constant_of (constraint_sense r.sense) *ℤ v) (unit-same 0))
 constraint_entry ts r (suc c) o h l =
-    omega (arith, sums, form_column ts r.form c o h (omega (arith, l)), ap (λ v. constant_of (constraint_sense r.says) *ℤ v) (unit-other 0 (suc c) (λ q. omega (arith, q))), *ℤ-zero (constant_of (constraint_sense r.says)))
+    omega (arith, sums, form_column ts r.form c o h (omega (arith, l)), ap (λ v. constant_of (constraint_sense r.sense) *ℤ v) (unit-other 0 (suc c) (λ q. omega (arith, q))), *ℤ-zero (constant_of (constraint_sense r.sense)))
 
 -- the same for the constraint that says that the form is less than 0, turned round, whose constant is -1
-pub negative_entry : (ts : List Term) (r : Row) (c : ℕ) → r.says ≡ Not → AreOnce ts → FormNamed ts r.form → c < length ts + 1
+pub negative_entry : (ts : List Term) (r : Row) (c : ℕ) → r.sense ≡ Not → AreOnce ts → FormNamed ts r.form → c < length ts + 1
     → neg_ℤ (constraint_row (negative_constraint (named_constraint ts r)) c) ≡ entry (record { row = r; down = true }) (column ts c)
 negative_entry ts r zero e o h l =
     omega (arith, sums, negated_at (named_form ts r.form) 0, form_constant ts r.form h, ap (λ v. pos 1 *ℤ v) (unit-same 0), one_mul (pos 1), ap (λ s. constant s true) e)
@@ -136,7 +136,7 @@ within_cond false w l ls h g i d n = g i d n
 
 pub within_constraints : (b : Bool) (ts : List Term) (rows : List Row) → AllNamed ts rows → AllFormsWithin (length ts + 1) (named_constraints b ts rows)
 within_constraints b ts [] h i d n = absurd (omega (arith, n))
-within_constraints b ts (r ∷ rs) h i d n = within_cond (keeps b r.says) (length ts + 1) (named_constraint ts r) (named_constraints b ts rs) (within_named ts r.form h.0) (within_constraints b ts rs h.1) i d n
+within_constraints b ts (r ∷ rs) h i d n = within_cond (keeps b r.sense) (length ts + 1) (named_constraint ts r) (named_constraints b ts rs) (within_named ts r.form h.0) (within_constraints b ts rs h.1) i d n
 
 count_cond : (k : Bool) (l : Constraint) (ls : List Constraint) (n : ℕ) → length ls ≤ n → length (cond k (l ∷ ls) ls) ≤ n + 1
 count_cond true l ls n h = omega (arith, h)
@@ -144,7 +144,7 @@ count_cond false l ls n h = omega (arith, h)
 
 pub count_constraints : (b : Bool) (ts : List Term) (rows : List Row) → length (named_constraints b ts rows) ≤ length rows
 count_constraints b ts [] = omega arith
-count_constraints b ts (r ∷ rs) = omega (arith, count_cond (keeps b r.says) (named_constraint ts r) (named_constraints b ts rs) (length rs) (count_constraints b ts rs))
+count_constraints b ts (r ∷ rs) = omega (arith, count_cond (keeps b r.sense) (named_constraint ts r) (named_constraints b ts rs) (length rs) (count_constraints b ts rs))
 
 more_cond : (k : Bool) (l : Constraint) (ls : List Constraint) → (k ≡ true → l.sense ≡ SenseMore) → ((i : ℕ) (d : Constraint) → i < length ls → (get_or ls i d).sense ≡ SenseMore)
     → (i : ℕ) (d : Constraint) → i < length (cond k (l ∷ ls) ls) → (get_or (cond k (l ∷ ls) ls) i d).sense ≡ SenseMore
@@ -160,7 +160,7 @@ kept_not Not h = refl
 
 pub more_constraints : (ts : List Term) (rows : List Row) (i : ℕ) (d : Constraint) → i < length (named_constraints true ts rows) → (get_or (named_constraints true ts rows) i d).sense ≡ SenseMore
 more_constraints ts [] i d n = absurd (omega (arith, n))
-more_constraints ts (r ∷ rs) i d n = more_cond (keeps true r.says) (named_constraint ts r) (named_constraints true ts rs) (λ e. ap constraint_sense (kept_not r.says e)) (more_constraints ts rs) i d n
+more_constraints ts (r ∷ rs) i d n = more_cond (keeps true r.sense) (named_constraint ts r) (named_constraints true ts rs) (λ e. ap constraint_sense (kept_not r.sense e)) (more_constraints ts rs) i d n
 
 -- a form over some columns is one over more
 forms_wider : (n w : ℕ) (constraints : List Constraint) → n ≤ w → AllFormsWithin n constraints → AllFormsWithin w constraints

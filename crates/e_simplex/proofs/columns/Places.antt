@@ -11,7 +11,7 @@ use Rattle.e_literal.specs.declared.object.Term.TheVariants.{Right}
 use Rattle.e_literal.specs.Same.{term_eq}
 use Rattle.e_literal.specs.Rows.{Row, Summands}
 use Rattle.e_fraction.specs.declared.row.Row.{Row as GivenRow}
-use Rattle.e_fraction.specs.Views.{seen, all_seen}
+use Rattle.e_fraction.specs.Views.{view_of_row, views_of_rows}
 use Rattle.e_simplex.specs.declared.constraints.Monomial.{Monomial}
 use Rattle.e_simplex.specs.declared.constraints.Constraint.{Constraint}
 use Rattle.e_simplex.specs.declared.constraints.ConstraintSense.{ConstraintSense}
@@ -121,13 +121,13 @@ pub form_more : (ts : List Term) (form : Summands) (k : ℕ) (d : ℤ × Term) �
     → FormNamed ts (take (k + 1) form)
 form_more ts form k d l h i = subst (FormNamed ts) (sym (take_more form k d l)) (form_push ts (take k form) (get_or form k d) h i)
 
-all_push : (ts : List Term) (rows : List GivenRow) (r : GivenRow) → AllNamed ts (all_seen rows) → FormNamed ts r.form → AllNamed ts (all_seen (rows ++ r ∷ []))
+all_push : (ts : List Term) (rows : List GivenRow) (r : GivenRow) → AllNamed ts (views_of_rows rows) → FormNamed ts r.form → AllNamed ts (views_of_rows (rows ++ r ∷ []))
 all_push ts [] r h i = (i, tt)
 all_push ts (q ∷ qs) r h i = (h.0, all_push ts qs r h.1 i)
 
-pub all_more : (ts : List Term) (rows : List GivenRow) (k : ℕ) (d : GivenRow) → k < length rows → AllNamed ts (all_seen (take k rows)) → FormNamed ts (get_or rows k d).form
-    → AllNamed ts (all_seen (take (k + 1) rows))
-all_more ts rows k d l h i = subst (λ v. AllNamed ts (all_seen v)) (sym (take_more rows k d l)) (all_push ts (take k rows) (get_or rows k d) h i)
+pub all_more : (ts : List Term) (rows : List GivenRow) (k : ℕ) (d : GivenRow) → k < length rows → AllNamed ts (views_of_rows (take k rows)) → FormNamed ts (get_or rows k d).form
+    → AllNamed ts (views_of_rows (take (k + 1) rows))
+all_more ts rows k d l h i = subst (λ v. AllNamed ts (views_of_rows v)) (sym (take_more rows k d l)) (all_push ts (take k rows) (get_or rows k d) h i)
 
 -- ---- what is named
 
@@ -136,7 +136,7 @@ named_at ts [] k d l h = absurd (omega (arith, l))
 named_at ts (p ∷ ps) zero d l h = h.0
 named_at ts (p ∷ ps) (suc k) d l h = named_at ts ps k d (omega (arith, l)) h.1
 
-pub row_named : (ts : List Term) (rows : List GivenRow) (i : ℕ) (d : GivenRow) → i < length rows → AllNamed ts (all_seen rows) → FormNamed ts (get_or rows i d).form
+pub row_named : (ts : List Term) (rows : List GivenRow) (i : ℕ) (d : GivenRow) → i < length rows → AllNamed ts (views_of_rows rows) → FormNamed ts (get_or rows i d).form
 row_named ts [] i d l h = absurd (omega (arith, l))
 row_named ts (r ∷ rs) zero d l h = h.0
 row_named ts (r ∷ rs) (suc i) d l h = row_named ts rs i d (omega (arith, l)) h.1
@@ -152,30 +152,30 @@ named_more ts form k d old new x n l e f a b =
     ∙ sym (named_push ts (take k form) (get_or form k d)) ∙ ap (named_form ts) (sym (take_more form k d l))
 
 constraints_push : (b : Bool) (ts : List Term) (rows : List GivenRow) (r : GivenRow)
-    → named_constraints b ts (all_seen (rows ++ r ∷ [])) ≡ named_constraints b ts (all_seen rows) ++ cond (keeps b (seen r).says) (named_constraint ts (seen r) ∷ []) []
+    → named_constraints b ts (views_of_rows (rows ++ r ∷ [])) ≡ named_constraints b ts (views_of_rows rows) ++ cond (keeps b (view_of_row r).sense) (named_constraint ts (view_of_row r) ∷ []) []
 constraints_push b ts [] r = refl
-constraints_push b ts (q ∷ qs) r = by (keeps b (seen q).says) (constraints_push b ts qs r)
+constraints_push b ts (q ∷ qs) r = by (keeps b (view_of_row q).sense) (constraints_push b ts qs r)
   where
-    by : (k : Bool) → named_constraints b ts (all_seen (qs ++ r ∷ [])) ≡ named_constraints b ts (all_seen qs) ++ cond (keeps b (seen r).says) (named_constraint ts (seen r) ∷ []) []
-        → cond k (named_constraint ts (seen q) ∷ named_constraints b ts (all_seen (qs ++ r ∷ []))) (named_constraints b ts (all_seen (qs ++ r ∷ [])))
-        ≡ cond k (named_constraint ts (seen q) ∷ named_constraints b ts (all_seen qs)) (named_constraints b ts (all_seen qs)) ++ cond (keeps b (seen r).says) (named_constraint ts (seen r) ∷ []) []
-    by true e = ap (λ v. named_constraint ts (seen q) ∷ v) e
+    by : (k : Bool) → named_constraints b ts (views_of_rows (qs ++ r ∷ [])) ≡ named_constraints b ts (views_of_rows qs) ++ cond (keeps b (view_of_row r).sense) (named_constraint ts (view_of_row r) ∷ []) []
+        → cond k (named_constraint ts (view_of_row q) ∷ named_constraints b ts (views_of_rows (qs ++ r ∷ []))) (named_constraints b ts (views_of_rows (qs ++ r ∷ [])))
+        ≡ cond k (named_constraint ts (view_of_row q) ∷ named_constraints b ts (views_of_rows qs)) (named_constraints b ts (views_of_rows qs)) ++ cond (keeps b (view_of_row r).sense) (named_constraint ts (view_of_row r) ∷ []) []
+    by true e = ap (λ v. named_constraint ts (view_of_row q) ∷ v) e
     by false e = e
 
-pub constraints_more : (b : Bool) (ts : List Term) (rows : List GivenRow) (i : ℕ) (d : GivenRow) (old new : List Constraint) (l : Constraint) → i < length rows → old ≡ named_constraints b ts (all_seen (take i rows))
-    → new ≡ old ++ l ∷ [] → keeps b (seen (get_or rows i d)).says ≡ true → l.sense ≡ constraint_sense (seen (get_or rows i d)).says → l.form ≡ named_form ts (get_or rows i d).form
-    → new ≡ named_constraints b ts (all_seen (take (i + 1) rows))
+pub constraints_more : (b : Bool) (ts : List Term) (rows : List GivenRow) (i : ℕ) (d : GivenRow) (old new : List Constraint) (l : Constraint) → i < length rows → old ≡ named_constraints b ts (views_of_rows (take i rows))
+    → new ≡ old ++ l ∷ [] → keeps b (view_of_row (get_or rows i d)).sense ≡ true → l.sense ≡ constraint_sense (view_of_row (get_or rows i d)).sense → l.form ≡ named_form ts (get_or rows i d).form
+    → new ≡ named_constraints b ts (views_of_rows (take (i + 1) rows))
 constraints_more b ts rows i d old new l here e f k g h =
     f ∙ ap₂ {A = List Constraint} {B = Constraint} (λ u v. u ++ v ∷ []) e (ap₂ {A = ConstraintSense} {B = List Monomial} (λ u v. let m : Constraint = record { sense = u; form = v } in m) g h)
-    ∙ ap (λ v. named_constraints b ts (all_seen (take i rows)) ++ cond v (named_constraint ts (seen (get_or rows i d)) ∷ []) []) (sym k)
-    ∙ sym (constraints_push b ts (take i rows) (get_or rows i d)) ∙ ap (λ v. named_constraints b ts (all_seen v)) (sym (take_more rows i d here))
+    ∙ ap (λ v. named_constraints b ts (views_of_rows (take i rows)) ++ cond v (named_constraint ts (view_of_row (get_or rows i d)) ∷ []) []) (sym k)
+    ∙ sym (constraints_push b ts (take i rows) (get_or rows i d)) ∙ ap (λ v. named_constraints b ts (views_of_rows v)) (sym (take_more rows i d here))
 
-pub constraints_same : (b : Bool) (ts : List Term) (rows : List GivenRow) (i : ℕ) (d : GivenRow) (old : List Constraint) → i < length rows → old ≡ named_constraints b ts (all_seen (take i rows))
-    → keeps b (seen (get_or rows i d)).says ≡ false → old ≡ named_constraints b ts (all_seen (take (i + 1) rows))
+pub constraints_same : (b : Bool) (ts : List Term) (rows : List GivenRow) (i : ℕ) (d : GivenRow) (old : List Constraint) → i < length rows → old ≡ named_constraints b ts (views_of_rows (take i rows))
+    → keeps b (view_of_row (get_or rows i d)).sense ≡ false → old ≡ named_constraints b ts (views_of_rows (take (i + 1) rows))
 constraints_same b ts rows i d old here e k =
-    e ∙ sym (no_more (named_constraints b ts (all_seen (take i rows))))
-    ∙ ap (λ v. named_constraints b ts (all_seen (take i rows)) ++ cond v (named_constraint ts (seen (get_or rows i d)) ∷ []) []) (sym k)
-    ∙ sym (constraints_push b ts (take i rows) (get_or rows i d)) ∙ ap (λ v. named_constraints b ts (all_seen v)) (sym (take_more rows i d here))
+    e ∙ sym (no_more (named_constraints b ts (views_of_rows (take i rows))))
+    ∙ ap (λ v. named_constraints b ts (views_of_rows (take i rows)) ++ cond v (named_constraint ts (view_of_row (get_or rows i d)) ∷ []) []) (sym k)
+    ∙ sym (constraints_push b ts (take i rows) (get_or rows i d)) ∙ ap (λ v. named_constraints b ts (views_of_rows v)) (sym (take_more rows i d here))
   where
     no_more : (vs : List Constraint) → vs ++ [] ≡ vs
     no_more [] = refl
@@ -212,8 +212,8 @@ form_continued ts us (p ∷ ps) c h =
 pub constraints_continued : (b : Bool) (ts us : List Term) (rows : List Row) → Continues ts us → AllNamed ts rows → named_constraints b us rows ≡ named_constraints b ts rows
 constraints_continued b ts us [] c h = refl
 constraints_continued b ts us (r ∷ rs) c h =
-    ap₂ {A = Constraint} {B = List Constraint} (λ l ls. cond (keeps b r.says) (l ∷ ls) ls)
-    (ap (λ v. let m : Constraint = record { sense = constraint_sense r.says; form = v } in m) (form_continued ts us r.form c h.0)) (constraints_continued b ts us rs c h.1)
+    ap₂ {A = Constraint} {B = List Constraint} (λ l ls. cond (keeps b r.sense) (l ∷ ls) ls)
+    (ap (λ v. let m : Constraint = record { sense = constraint_sense r.sense; form = v } in m) (form_continued ts us r.form c h.0)) (constraints_continued b ts us rs c h.1)
 
 pub all_continued : (ts us : List Term) (rows : List Row) → Continues ts us → AllNamed ts rows → AllNamed us rows
 all_continued ts us rows c h = all_grown ts us rows (continues_in ts us c) h
@@ -226,7 +226,7 @@ all_named_append ts (x ∷ xs) ys h g = (h.0, all_named_append ts xs ys h.1 g)
 
 pub constraints_append : (b : Bool) (ts : List Term) (xs ys : List Row) → named_constraints b ts (xs ++ ys) ≡ named_constraints b ts xs ++ named_constraints b ts ys
 constraints_append b ts [] ys = refl
-constraints_append b ts (x ∷ xs) ys = by (keeps b x.says) (constraints_append b ts xs ys)
+constraints_append b ts (x ∷ xs) ys = by (keeps b x.sense) (constraints_append b ts xs ys)
   where
     by : (k : Bool) → named_constraints b ts (xs ++ ys) ≡ named_constraints b ts xs ++ named_constraints b ts ys
         → cond k (named_constraint ts x ∷ named_constraints b ts (xs ++ ys)) (named_constraints b ts (xs ++ ys)) ≡ cond k (named_constraint ts x ∷ named_constraints b ts xs) (named_constraints b ts xs) ++ named_constraints b ts ys

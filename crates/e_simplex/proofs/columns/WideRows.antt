@@ -39,27 +39,27 @@ own_rows ts (s ∷ ss) = own_row ts s ∷ own_rows ts ss
 -- the rows that do not say `not 0`
 abbrev mains : List Row → List SignedRow
 mains [] = []
-mains (r ∷ rs) = cond (keeps true r.says) (mains rs) (signed r false ∷ mains rs)
+mains (r ∷ rs) = cond (keeps true r.sense) (mains rs) (signed r false ∷ mains rs)
 
 -- these and the one at the place k among those that do
 abbrev with_one : List Row → ℕ → Bool → List SignedRow
 with_one [] k d = []
-with_one (r ∷ rs) zero d = cond (keeps true r.says) (signed r d ∷ mains rs) (signed r false ∷ with_one rs zero d)
-with_one (r ∷ rs) (suc k) d = cond (keeps true r.says) (with_one rs k d) (signed r false ∷ with_one rs (suc k) d)
+with_one (r ∷ rs) zero d = cond (keeps true r.sense) (signed r d ∷ mains rs) (signed r false ∷ with_one rs zero d)
+with_one (r ∷ rs) (suc k) d = cond (keeps true r.sense) (with_one rs k d) (signed r false ∷ with_one rs (suc k) d)
 
 -- these and those at two places
 abbrev with_two : List Row → ℕ → Bool → ℕ → Bool → List SignedRow
 with_two [] k d j e = []
 with_two (r ∷ rs) zero d zero e = []
-with_two (r ∷ rs) zero d (suc j) e = cond (keeps true r.says) (signed r d ∷ with_one rs j e) (signed r false ∷ with_two rs zero d (suc j) e)
-with_two (r ∷ rs) (suc k) d zero e = cond (keeps true r.says) (signed r e ∷ with_one rs k d) (signed r false ∷ with_two rs (suc k) d zero e)
-with_two (r ∷ rs) (suc k) d (suc j) e = cond (keeps true r.says) (with_two rs k d j e) (signed r false ∷ with_two rs (suc k) d (suc j) e)
+with_two (r ∷ rs) zero d (suc j) e = cond (keeps true r.sense) (signed r d ∷ with_one rs j e) (signed r false ∷ with_two rs zero d (suc j) e)
+with_two (r ∷ rs) (suc k) d zero e = cond (keeps true r.sense) (signed r e ∷ with_one rs k d) (signed r false ∷ with_two rs (suc k) d zero e)
+with_two (r ∷ rs) (suc k) d (suc j) e = cond (keeps true r.sense) (with_two rs k d j e) (signed r false ∷ with_two rs (suc k) d (suc j) e)
 
 -- ---- the constraints
 
 rows_main : (ts : List Term) (rows : List Row) → rows_of (named_constraints false ts rows) ≡ own_rows ts (mains rows)
 rows_main ts [] = refl
-rows_main ts (r ∷ rs) = by r.says r (rows_main ts rs)
+rows_main ts (r ∷ rs) = by r.sense r (rows_main ts rs)
   where
     by : (s : Sense) (q : Row) → rows_of (named_constraints false ts rs) ≡ own_rows ts (mains rs)
         → rows_of (cond (keeps false s) (named_constraint ts q ∷ named_constraints false ts rs) (named_constraints false ts rs)) ≡ own_rows ts (cond (keeps true s) (mains rs) (signed q false ∷ mains rs))
@@ -98,9 +98,9 @@ module _ (ts : List Term) (n size : ℕ) where
       → HasWideMinor (xs ++ (own_rows ts (mains rows) ++ row_as d (get_or (named_constraints true ts rows) k e) ∷ [])) n size → HasWideMinor (xs ++ own_rows ts (with_one rows k d)) n size
   wide_one [] k d e xs l h = absurd (omega (arith, l))
   wide_one (r ∷ rs) zero d e xs l h =
-      put_one (keeps true r.says) r (named_constraint ts r) (named_constraints true ts rs) (mains rs) [] (with_one rs zero d) xs d e refl l (λ ys m g. wide_one rs zero d e ys m g) h
+      put_one (keeps true r.sense) r (named_constraint ts r) (named_constraints true ts rs) (mains rs) [] (with_one rs zero d) xs d e refl l (λ ys m g. wide_one rs zero d e ys m g) h
   wide_one (r ∷ rs) (suc k) d e xs l h =
-      skip_one (keeps true r.says) r (named_constraint ts r) (named_constraints true ts rs) (mains rs) (with_one rs k d) (with_one rs (suc k) d) xs k d e l
+      skip_one (keeps true r.sense) r (named_constraint ts r) (named_constraints true ts rs) (mains rs) (with_one rs k d) (with_one rs (suc k) d) xs k d e l
       (λ ys m g. wide_one rs k d e ys m g) (λ ys m g. wide_one rs (suc k) d e ys m g) h
 
   -- ---- two rows put last
@@ -124,7 +124,7 @@ module _ (ts : List Term) (n size : ℕ) where
       → HasWideMinor (xs ++ own_rows ts (with_two rows k d j e)) n size
   wide_two [] k d j e f xs l m a h = absurd (omega (arith, l))
   wide_two (r ∷ rs) zero d zero e f xs l m a h = absurd (a refl)
-  wide_two (r ∷ rs) zero d (suc j) e f xs l m a h = by (keeps true r.says) l m h (λ ys g. wide_one rs j e f ys g) (λ ys g i w. wide_two rs zero d (suc j) e f ys g i a w)
+  wide_two (r ∷ rs) zero d (suc j) e f xs l m a h = by (keeps true r.sense) l m h (λ ys g. wide_one rs j e f ys g) (λ ys g i w. wide_two rs zero d (suc j) e f ys g i a w)
     where
       by : (b : Bool) → 0 < length (cond b (named_constraint ts r ∷ named_constraints true ts rs) (named_constraints true ts rs)) → suc j < length (cond b (named_constraint ts r ∷ named_constraints true ts rs) (named_constraints true ts rs))
           → HasWideMinor (xs ++ (own_rows ts (cond b (mains rs) (signed r false ∷ mains rs)) ++ row_as d (get_or (cond b (named_constraint ts r ∷ named_constraints true ts rs) (named_constraints true ts rs)) 0 f)
@@ -144,7 +144,7 @@ module _ (ts : List Term) (n size : ℕ) where
           go_on xs (own_rows ts (with_two rs zero d (suc j) e)) (own_row ts (signed r false))
           (two (xs ++ own_row ts (signed r false) ∷ []) p q
           (go_back xs (own_rows ts (mains rs) ++ row_as d (get_or (named_constraints true ts rs) 0 f) ∷ row_as e (get_or (named_constraints true ts rs) (suc j) f) ∷ []) (own_row ts (signed r false)) g))
-  wide_two (r ∷ rs) (suc k) d zero e f xs l m a h = by (keeps true r.says) l m h (λ ys g. wide_one rs k d f ys g) (λ ys g i w. wide_two rs (suc k) d zero e f ys g i a w)
+  wide_two (r ∷ rs) (suc k) d zero e f xs l m a h = by (keeps true r.sense) l m h (λ ys g. wide_one rs k d f ys g) (λ ys g i w. wide_two rs (suc k) d zero e f ys g i a w)
     where
       by : (b : Bool) → suc k < length (cond b (named_constraint ts r ∷ named_constraints true ts rs) (named_constraints true ts rs)) → 0 < length (cond b (named_constraint ts r ∷ named_constraints true ts rs) (named_constraints true ts rs))
           → HasWideMinor (xs ++ (own_rows ts (cond b (mains rs) (signed r false ∷ mains rs)) ++ row_as d (get_or (cond b (named_constraint ts r ∷ named_constraints true ts rs) (named_constraints true ts rs)) (suc k) f)
@@ -165,7 +165,7 @@ module _ (ts : List Term) (n size : ℕ) where
           (two (xs ++ own_row ts (signed r false) ∷ []) p q
           (go_back xs (own_rows ts (mains rs) ++ row_as d (get_or (named_constraints true ts rs) (suc k) f) ∷ row_as e (get_or (named_constraints true ts rs) 0 f) ∷ []) (own_row ts (signed r false)) g))
   wide_two (r ∷ rs) (suc k) d (suc j) e f xs l m a h =
-      by (keeps true r.says) l m h (λ ys g i w. wide_two rs k d j e f ys g i (λ q. a (ap suc q)) w) (λ ys g i w. wide_two rs (suc k) d (suc j) e f ys g i a w)
+      by (keeps true r.sense) l m h (λ ys g i w. wide_two rs k d j e f ys g i (λ q. a (ap suc q)) w) (λ ys g i w. wide_two rs (suc k) d (suc j) e f ys g i a w)
     where
       by : (b : Bool) → suc k < length (cond b (named_constraint ts r ∷ named_constraints true ts rs) (named_constraints true ts rs)) → suc j < length (cond b (named_constraint ts r ∷ named_constraints true ts rs) (named_constraints true ts rs))
           → HasWideMinor (xs ++ (own_rows ts (cond b (mains rs) (signed r false ∷ mains rs)) ++ row_as d (get_or (cond b (named_constraint ts r ∷ named_constraints true ts rs) (named_constraints true ts rs)) (suc k) f)
@@ -246,52 +246,52 @@ part_none (r ∷ rs) = inl (part_none rs)
 
 part_mains : (rows : List Row) → IsPart (map row_of (mains rows)) rows
 part_mains [] = refl
-part_mains (r ∷ rs) = part_cond (keeps true r.says) false r rs (mains rs) (mains rs) (part_mains rs) (part_mains rs)
+part_mains (r ∷ rs) = part_cond (keeps true r.sense) false r rs (mains rs) (mains rs) (part_mains rs) (part_mains rs)
 
 part_one : (rows : List Row) (k : ℕ) (d : Bool) → IsPart (map row_of (with_one rows k d)) rows
 part_one [] k d = refl
-part_one (r ∷ rs) zero d = part_both (keeps true r.says) d false r rs (mains rs) (with_one rs zero d) (part_mains rs) (part_one rs zero d)
-part_one (r ∷ rs) (suc k) d = part_cond (keeps true r.says) false r rs (with_one rs k d) (with_one rs (suc k) d) (part_one rs k d) (part_one rs (suc k) d)
+part_one (r ∷ rs) zero d = part_both (keeps true r.sense) d false r rs (mains rs) (with_one rs zero d) (part_mains rs) (part_one rs zero d)
+part_one (r ∷ rs) (suc k) d = part_cond (keeps true r.sense) false r rs (with_one rs k d) (with_one rs (suc k) d) (part_one rs k d) (part_one rs (suc k) d)
 
 part_two : (rows : List Row) (k : ℕ) (d : Bool) (j : ℕ) (e : Bool) → IsPart (map row_of (with_two rows k d j e)) rows
 part_two [] k d j e = refl
 part_two (r ∷ rs) zero d zero e = part_none (r ∷ rs)
-part_two (r ∷ rs) zero d (suc j) e = part_both (keeps true r.says) d false r rs (with_one rs j e) (with_two rs zero d (suc j) e) (part_one rs j e) (part_two rs zero d (suc j) e)
-part_two (r ∷ rs) (suc k) d zero e = part_both (keeps true r.says) e false r rs (with_one rs k d) (with_two rs (suc k) d zero e) (part_one rs k d) (part_two rs (suc k) d zero e)
-part_two (r ∷ rs) (suc k) d (suc j) e = part_cond (keeps true r.says) false r rs (with_two rs k d j e) (with_two rs (suc k) d (suc j) e) (part_two rs k d j e) (part_two rs (suc k) d (suc j) e)
+part_two (r ∷ rs) zero d (suc j) e = part_both (keeps true r.sense) d false r rs (with_one rs j e) (with_two rs zero d (suc j) e) (part_one rs j e) (part_two rs zero d (suc j) e)
+part_two (r ∷ rs) (suc k) d zero e = part_both (keeps true r.sense) e false r rs (with_one rs k d) (with_two rs (suc k) d zero e) (part_one rs k d) (part_two rs (suc k) d zero e)
+part_two (r ∷ rs) (suc k) d (suc j) e = part_cond (keeps true r.sense) false r rs (with_two rs k d j e) (with_two rs (suc k) d (suc j) e) (part_two rs k d j e) (part_two rs (suc k) d (suc j) e)
 
 -- ---- and have the entries of the rows
 
 abbrev AllOk : List Term → List SignedRow → Type 0
 AllOk ts [] = Unit {0}
-AllOk ts (s ∷ ss) = (FormNamed ts s.row.form × (s.down ≡ true → s.row.says ≡ Not)) × AllOk ts ss
+AllOk ts (s ∷ ss) = (FormNamed ts s.row.form × (s.down ≡ true → s.row.sense ≡ Not)) × AllOk ts ss
 
 ok_cond : (b : Bool) (ts : List Term) (r : Row) (ms qs : List SignedRow) → FormNamed ts r.form → AllOk ts ms → AllOk ts qs → AllOk ts (cond b ms (signed r false ∷ qs))
 ok_cond true ts r ms qs f h g = h
 ok_cond false ts r ms qs f h g = ((f, λ e. absurd (true≢false (sym e))), g)
 
-ok_both : (b : Bool) (ts : List Term) (d : Bool) (r : Row) (ms qs : List SignedRow) → (b ≡ true → r.says ≡ Not) → FormNamed ts r.form → AllOk ts ms → AllOk ts qs
+ok_both : (b : Bool) (ts : List Term) (d : Bool) (r : Row) (ms qs : List SignedRow) → (b ≡ true → r.sense ≡ Not) → FormNamed ts r.form → AllOk ts ms → AllOk ts qs
     → AllOk ts (cond b (signed r d ∷ ms) (signed r false ∷ qs))
 ok_both true ts d r ms qs n f h g = ((f, λ e. n refl), h)
 ok_both false ts d r ms qs n f h g = ((f, λ e. absurd (true≢false (sym e))), g)
 
 ok_mains : (ts : List Term) (rows : List Row) → AllNamed ts rows → AllOk ts (mains rows)
 ok_mains ts [] h = tt
-ok_mains ts (r ∷ rs) h = ok_cond (keeps true r.says) ts r (mains rs) (mains rs) h.0 (ok_mains ts rs h.1) (ok_mains ts rs h.1)
+ok_mains ts (r ∷ rs) h = ok_cond (keeps true r.sense) ts r (mains rs) (mains rs) h.0 (ok_mains ts rs h.1) (ok_mains ts rs h.1)
 
 ok_one : (ts : List Term) (rows : List Row) (k : ℕ) (d : Bool) → AllNamed ts rows → AllOk ts (with_one rows k d)
 ok_one ts [] k d h = tt
-ok_one ts (r ∷ rs) zero d h = ok_both (keeps true r.says) ts d r (mains rs) (with_one rs zero d) (kept_not r.says) h.0 (ok_mains ts rs h.1) (ok_one ts rs zero d h.1)
-ok_one ts (r ∷ rs) (suc k) d h = ok_cond (keeps true r.says) ts r (with_one rs k d) (with_one rs (suc k) d) h.0 (ok_one ts rs k d h.1) (ok_one ts rs (suc k) d h.1)
+ok_one ts (r ∷ rs) zero d h = ok_both (keeps true r.sense) ts d r (mains rs) (with_one rs zero d) (kept_not r.sense) h.0 (ok_mains ts rs h.1) (ok_one ts rs zero d h.1)
+ok_one ts (r ∷ rs) (suc k) d h = ok_cond (keeps true r.sense) ts r (with_one rs k d) (with_one rs (suc k) d) h.0 (ok_one ts rs k d h.1) (ok_one ts rs (suc k) d h.1)
 
 ok_two : (ts : List Term) (rows : List Row) (k : ℕ) (d : Bool) (j : ℕ) (e : Bool) → AllNamed ts rows → AllOk ts (with_two rows k d j e)
 ok_two ts [] k d j e h = tt
 ok_two ts (r ∷ rs) zero d zero e h = tt
-ok_two ts (r ∷ rs) zero d (suc j) e h = ok_both (keeps true r.says) ts d r (with_one rs j e) (with_two rs zero d (suc j) e) (kept_not r.says) h.0 (ok_one ts rs j e h.1) (ok_two ts rs zero d (suc j) e h.1)
-ok_two ts (r ∷ rs) (suc k) d zero e h = ok_both (keeps true r.says) ts e r (with_one rs k d) (with_two rs (suc k) d zero e) (kept_not r.says) h.0 (ok_one ts rs k d h.1) (ok_two ts rs (suc k) d zero e h.1)
-ok_two ts (r ∷ rs) (suc k) d (suc j) e h = ok_cond (keeps true r.says) ts r (with_two rs k d j e) (with_two rs (suc k) d (suc j) e) h.0 (ok_two ts rs k d j e h.1) (ok_two ts rs (suc k) d (suc j) e h.1)
+ok_two ts (r ∷ rs) zero d (suc j) e h = ok_both (keeps true r.sense) ts d r (with_one rs j e) (with_two rs zero d (suc j) e) (kept_not r.sense) h.0 (ok_one ts rs j e h.1) (ok_two ts rs zero d (suc j) e h.1)
+ok_two ts (r ∷ rs) (suc k) d zero e h = ok_both (keeps true r.sense) ts e r (with_one rs k d) (with_two rs (suc k) d zero e) (kept_not r.sense) h.0 (ok_one ts rs k d h.1) (ok_two ts rs (suc k) d zero e h.1)
+ok_two ts (r ∷ rs) (suc k) d (suc j) e h = ok_cond (keeps true r.sense) ts r (with_two rs k d j e) (with_two rs (suc k) d (suc j) e) h.0 (ok_two ts rs k d j e h.1) (ok_two ts rs (suc k) d (suc j) e h.1)
 
-own_entry : (ts : List Term) (d : Bool) (r : Row) (c : ℕ) → AreOnce ts → FormNamed ts r.form → (d ≡ true → r.says ≡ Not) → c < length ts + 1
+own_entry : (ts : List Term) (d : Bool) (r : Row) (c : ℕ) → AreOnce ts → FormNamed ts r.form → (d ≡ true → r.sense ≡ Not) → c < length ts + 1
     → row_as d (named_constraint ts r) c ≡ entry (signed r d) (column ts c)
 own_entry ts true r c o h n l = negative_entry ts r c (n refl) o h l
 own_entry ts false r c o h n l = constraint_entry ts r c o h l
@@ -326,7 +326,7 @@ module _ (ts : List Term) (rows : List Row) (o : AreOnce ts) (a : AllNamed ts ro
       (wide_two ts (length ts + 1) (2 ^ 63) rows k d j false e [] l m n h)
 
   one_constraint : Constraint
-  one_constraint = named_constraint ts (record { says = More; form = [] })
+  one_constraint = named_constraint ts (record { sense = More; form = [] })
 
   rows_of_one : (f : Constraint) → rows_of (named_constraints false ts rows ++ f ∷ []) ≡ own_rows ts (mains rows) ++ constraint_row f ∷ []
   rows_of_one f = rows_append (named_constraints false ts rows) (f ∷ []) ∙ ap (λ v. v ++ constraint_row f ∷ []) (rows_main ts rows)

@@ -28,8 +28,8 @@ use Rattle.e_simplex.proofs.columns.Places.{term_at}
 
 -- ---- the constraints of one row more
 
-pub main_cons : (ts : List Term) (r : Row) (rs : List Row) → named_constraints false ts (r ∷ rs) ≡ cond (keeps true r.says) (named_constraints false ts rs) (named_constraint ts r ∷ named_constraints false ts rs)
-main_cons ts r rs = by r.says
+pub main_cons : (ts : List Term) (r : Row) (rs : List Row) → named_constraints false ts (r ∷ rs) ≡ cond (keeps true r.sense) (named_constraints false ts rs) (named_constraint ts r ∷ named_constraints false ts rs)
+main_cons ts r rs = by r.sense
   where
     by : (s : Sense) → cond (keeps false s) (named_constraint ts r ∷ named_constraints false ts rs) (named_constraints false ts rs) ≡ cond (keeps true s) (named_constraints false ts rs) (named_constraint ts r ∷ named_constraints false ts rs)
     by Zero = refl
@@ -83,10 +83,10 @@ module _ (ts : List Term) (values : List ℤ) (v : Term → ℕ) (same : Values 
       → ((j : ℕ) (d : Constraint) → j < length (named_constraints true ts rows) → value_of_monomials (get_or (named_constraints true ts rows) j d).form values ≢ pos 0) → Satisfy v rows
   satisfied [] a h g = tt
   satisfied (r ∷ rs) a h g =
-      by (keeps true r.says) refl
+      by (keeps true r.sense) refl
       (subst (λ ls. (i : ℕ) (d : Constraint) → i < length ls → ConstraintHolds (get_or ls i d).sense (value_of_monomials (get_or ls i d).form values)) (main_cons ts r rs) h) g (λ p q. satisfied rs a.1 p q)
     where
-      by : (b : Bool) → keeps true r.says ≡ b
+      by : (b : Bool) → keeps true r.sense ≡ b
           → ((i : ℕ) (d : Constraint) → i < length (cond b (named_constraints false ts rs) (named_constraint ts r ∷ named_constraints false ts rs))
           → ConstraintHolds (get_or (cond b (named_constraints false ts rs) (named_constraint ts r ∷ named_constraints false ts rs)) i d).sense (value_of_monomials (get_or (cond b (named_constraints false ts rs) (named_constraint ts r ∷ named_constraints false ts rs)) i d).form values))
           → ((j : ℕ) (d : Constraint) → j < length (cond b (named_constraint ts r ∷ named_constraints true ts rs) (named_constraints true ts rs)) → value_of_monomials (get_or (cond b (named_constraint ts r ∷ named_constraints true ts rs) (named_constraints true ts rs)) j d).form values ≢ pos 0)
@@ -94,12 +94,12 @@ module _ (ts : List Term) (values : List ℤ) (v : Term → ℕ) (same : Values 
           → ((j : ℕ) (d : Constraint) → j < length (named_constraints true ts rs) → value_of_monomials (get_or (named_constraints true ts rs) j d).form values ≢ pos 0) → Satisfy v rs)
           → Satisfy v (r ∷ rs)
       by true e p q ih = (
-        subst (λ s. IsSo s (Rattle.e_literal.specs.Solution.form_value r.form v)) (sym (kept_not r.says e)) (λ z. q 0 (named_constraint ts r) (omega arith) (sym (form_same ts r.form values v same a.0) ∙ z)),
+        subst (λ s. IsSo s (Rattle.e_literal.specs.Solution.form_value r.form v)) (sym (kept_not r.sense e)) (λ z. q 0 (named_constraint ts r) (omega arith) (sym (form_same ts r.form values v same a.0) ∙ z)),
         ih p (λ j d l. q (suc j) d (omega (arith, l))),
       )
       by false e p q ih = (
-        so_of r.says (Rattle.e_literal.specs.Solution.form_value r.form v) e
-            (subst (ConstraintHolds (constraint_sense r.says)) (sym (form_same ts r.form values v same a.0)) (p 0 (named_constraint ts r) (omega arith))),
+        so_of r.sense (Rattle.e_literal.specs.Solution.form_value r.form v) e
+            (subst (ConstraintHolds (constraint_sense r.sense)) (sym (form_same ts r.form values v same a.0)) (p 0 (named_constraint ts r) (omega arith))),
         ih (λ i d l. p (suc i) d (omega (arith, l))) q,
       )
 
@@ -116,24 +116,24 @@ module _ (ts : List Term) (values : List ℤ) (v : Term → ℕ) (same : Values 
   constraints_hold [] a s i d l = absurd (omega (arith, l))
   constraints_hold (r ∷ rs) a s i d l =
       subst (λ ls. (i : ℕ) (d : Constraint) → i < length ls → ConstraintHolds (get_or ls i d).sense (value_of_monomials (get_or ls i d).form values)) (sym (main_cons ts r rs))
-      (by (keeps true r.says) refl (constraints_hold rs a.1 s.1)) i d l
+      (by (keeps true r.sense) refl (constraints_hold rs a.1 s.1)) i d l
     where
-      by : (b : Bool) → keeps true r.says ≡ b
+      by : (b : Bool) → keeps true r.sense ≡ b
           → ((i : ℕ) (d : Constraint) → i < length (named_constraints false ts rs) → ConstraintHolds (get_or (named_constraints false ts rs) i d).sense (value_of_monomials (get_or (named_constraints false ts rs) i d).form values))
           → (i : ℕ) (d : Constraint) → i < length (cond b (named_constraints false ts rs) (named_constraint ts r ∷ named_constraints false ts rs))
           → ConstraintHolds (get_or (cond b (named_constraints false ts rs) (named_constraint ts r ∷ named_constraints false ts rs)) i d).sense (value_of_monomials (get_or (cond b (named_constraints false ts rs) (named_constraint ts r ∷ named_constraints false ts rs)) i d).form values)
       by true e h i d l = h i d l
-      by false e h zero d l = subst (ConstraintHolds (constraint_sense r.says)) (form_same ts r.form values v same a.0) (holds_of r.says (Rattle.e_literal.specs.Solution.form_value r.form v) e s.0)
+      by false e h zero d l = subst (ConstraintHolds (constraint_sense r.sense)) (form_same ts r.form values v same a.0) (holds_of r.sense (Rattle.e_literal.specs.Solution.form_value r.form v) e s.0)
       by false e h (suc i) d l = h i d (omega (arith, l))
 
   forms_differ : (rows : List Row) → AllNamed ts rows → Satisfy v rows → (j : ℕ) (d : Constraint) → j < length (named_constraints true ts rows) → value_of_monomials (get_or (named_constraints true ts rows) j d).form values ≢ pos 0
   forms_differ [] a s j d l = absurd (omega (arith, l))
-  forms_differ (r ∷ rs) a s j d l = by (keeps true r.says) refl j l (forms_differ rs a.1 s.1)
+  forms_differ (r ∷ rs) a s j d l = by (keeps true r.sense) refl j l (forms_differ rs a.1 s.1)
     where
-      by : (b : Bool) → keeps true r.says ≡ b → (i : ℕ) → i < length (cond b (named_constraint ts r ∷ named_constraints true ts rs) (named_constraints true ts rs))
+      by : (b : Bool) → keeps true r.sense ≡ b → (i : ℕ) → i < length (cond b (named_constraint ts r ∷ named_constraints true ts rs) (named_constraints true ts rs))
           → ((i : ℕ) (d : Constraint) → i < length (named_constraints true ts rs) → value_of_monomials (get_or (named_constraints true ts rs) i d).form values ≢ pos 0)
           → value_of_monomials (get_or (cond b (named_constraint ts r ∷ named_constraints true ts rs) (named_constraints true ts rs)) i d).form values ≢ pos 0
-      by true e zero m h = λ z. (subst (λ u. IsSo u (Rattle.e_literal.specs.Solution.form_value r.form v)) (kept_not r.says e) s.0) (form_same ts r.form values v same a.0 ∙ z)
+      by true e zero m h = λ z. (subst (λ u. IsSo u (Rattle.e_literal.specs.Solution.form_value r.form v)) (kept_not r.sense e) s.0) (form_same ts r.form values v same a.0 ∙ z)
       by true e (suc i) m h = h i d (omega (arith, m))
       by false e i m h = h i d m
 

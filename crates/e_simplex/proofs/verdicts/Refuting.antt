@@ -9,7 +9,7 @@ use Rattle.e_literal.specs.declared.object.Term.{Term}
 use Rattle.e_literal.specs.Rows.{Row, Sense, Zero, AtLeast, More, Not, Summands, coefficient, negative}
 use Rattle.e_literal.specs.Absurd.{total}
 use Rattle.e_fraction.specs.declared.row.Row.{Row as GivenRow}
-use Rattle.e_fraction.specs.Views.{seen, all_seen}
+use Rattle.e_fraction.specs.Views.{view_of_row, views_of_rows}
 use Rattle.e_simplex.specs.declared.constraints.Constraint.{Constraint}
 use Rattle.e_simplex.specs.declared.constraints.Monomial.{Monomial}
 use Rattle.e_simplex.specs.declared.constraints.ConstraintSense.{ConstraintSense}
@@ -42,47 +42,47 @@ use Rattle.e_simplex.proofs.columns.Places.{term_at}
 
 abbrev pub with_form : (Summands → Summands) → List Row → ℕ → List Row
 with_form g [] k = []
-with_form g (r ∷ rs) zero = cond (keeps true r.says) (record { says = More; form = g r.form } ∷ rs) (r ∷ with_form g rs zero)
-with_form g (r ∷ rs) (suc k) = cond (keeps true r.says) (r ∷ with_form g rs k) (r ∷ with_form g rs (suc k))
+with_form g (r ∷ rs) zero = cond (keeps true r.sense) (record { sense = More; form = g r.form } ∷ rs) (r ∷ with_form g rs zero)
+with_form g (r ∷ rs) (suc k) = cond (keeps true r.sense) (r ∷ with_form g rs k) (r ∷ with_form g rs (suc k))
 
 same_form : Summands → Summands
 same_form f = f
 
-as_more_is : (rows : List GivenRow) (p k : ℕ) → IsNotAt (all_seen rows) p → count_nots (all_seen (take p rows)) ≡ k → as_more (all_seen rows) p ≡ with_form (λ f. f) (all_seen rows) k
+as_more_is : (rows : List GivenRow) (p k : ℕ) → IsNotAt (views_of_rows rows) p → count_nots (views_of_rows (take p rows)) ≡ k → as_more (views_of_rows rows) p ≡ with_form (λ f. f) (views_of_rows rows) k
 as_more_is [] p k h e = absurd h
 as_more_is (r ∷ rs) zero k h e =
-    sym (ap (λ b. cond b (record { says = More; form = (seen r).form } ∷ all_seen rs) (seen r ∷ with_form (λ f. f) (all_seen rs) zero)) (ap (keeps true) h))
-    ∙ ap (with_form (λ f. f) (all_seen (r ∷ rs))) e
-as_more_is (r ∷ rs) (suc p) k h e = by (keeps true (seen r).says) refl (λ j q. as_more_is rs p j h q) k e
+    sym (ap (λ b. cond b (record { sense = More; form = (view_of_row r).form } ∷ views_of_rows rs) (view_of_row r ∷ with_form (λ f. f) (views_of_rows rs) zero)) (ap (keeps true) h))
+    ∙ ap (with_form (λ f. f) (views_of_rows (r ∷ rs))) e
+as_more_is (r ∷ rs) (suc p) k h e = by (keeps true (view_of_row r).sense) refl (λ j q. as_more_is rs p j h q) k e
   where
-    by : (b : Bool) → keeps true (seen r).says ≡ b → ((j : ℕ) → count_nots (all_seen (take p rs)) ≡ j → as_more (all_seen rs) p ≡ with_form (λ f. f) (all_seen rs) j)
-        → (k : ℕ) → cond b (suc (count_nots (all_seen (take p rs)))) (count_nots (all_seen (take p rs))) ≡ k
-        → seen r ∷ as_more (all_seen rs) p ≡ with_form (λ f. f) (all_seen (r ∷ rs)) k
+    by : (b : Bool) → keeps true (view_of_row r).sense ≡ b → ((j : ℕ) → count_nots (views_of_rows (take p rs)) ≡ j → as_more (views_of_rows rs) p ≡ with_form (λ f. f) (views_of_rows rs) j)
+        → (k : ℕ) → cond b (suc (count_nots (views_of_rows (take p rs)))) (count_nots (views_of_rows (take p rs))) ≡ k
+        → view_of_row r ∷ as_more (views_of_rows rs) p ≡ with_form (λ f. f) (views_of_rows (r ∷ rs)) k
     by true q ih zero f = absurd (omega (arith, f))
-    by true q ih (suc k) f = ap (λ v. seen r ∷ v) (ih k (omega (arith, f)))
-        ∙ sym (ap (λ b. cond b (seen r ∷ with_form (λ f. f) (all_seen rs) k) (seen r ∷ with_form (λ f. f) (all_seen rs) (suc k))) q)
-    by false q ih zero f = ap (λ v. seen r ∷ v) (ih zero f)
-        ∙ sym (ap (λ b. cond b (record { says = More; form = (seen r).form } ∷ all_seen rs) (seen r ∷ with_form (λ f. f) (all_seen rs) zero)) q)
-    by false q ih (suc k) f = ap (λ v. seen r ∷ v) (ih (suc k) f)
-        ∙ sym (ap (λ b. cond b (seen r ∷ with_form (λ f. f) (all_seen rs) k) (seen r ∷ with_form (λ f. f) (all_seen rs) (suc k))) q)
+    by true q ih (suc k) f = ap (λ v. view_of_row r ∷ v) (ih k (omega (arith, f)))
+        ∙ sym (ap (λ b. cond b (view_of_row r ∷ with_form (λ f. f) (views_of_rows rs) k) (view_of_row r ∷ with_form (λ f. f) (views_of_rows rs) (suc k))) q)
+    by false q ih zero f = ap (λ v. view_of_row r ∷ v) (ih zero f)
+        ∙ sym (ap (λ b. cond b (record { sense = More; form = (view_of_row r).form } ∷ views_of_rows rs) (view_of_row r ∷ with_form (λ f. f) (views_of_rows rs) zero)) q)
+    by false q ih (suc k) f = ap (λ v. view_of_row r ∷ v) (ih (suc k) f)
+        ∙ sym (ap (λ b. cond b (view_of_row r ∷ with_form (λ f. f) (views_of_rows rs) k) (view_of_row r ∷ with_form (λ f. f) (views_of_rows rs) (suc k))) q)
 
-as_less_is : (rows : List GivenRow) (p k : ℕ) → IsNotAt (all_seen rows) p → count_nots (all_seen (take p rows)) ≡ k → as_less (all_seen rows) p ≡ with_form negative (all_seen rows) k
+as_less_is : (rows : List GivenRow) (p k : ℕ) → IsNotAt (views_of_rows rows) p → count_nots (views_of_rows (take p rows)) ≡ k → as_less (views_of_rows rows) p ≡ with_form negative (views_of_rows rows) k
 as_less_is [] p k h e = absurd h
 as_less_is (r ∷ rs) zero k h e =
-    sym (ap (λ b. cond b (record { says = More; form = negative (seen r).form } ∷ all_seen rs) (seen r ∷ with_form negative (all_seen rs) zero)) (ap (keeps true) h))
-    ∙ ap (with_form negative (all_seen (r ∷ rs))) e
-as_less_is (r ∷ rs) (suc p) k h e = by (keeps true (seen r).says) refl (λ j q. as_less_is rs p j h q) k e
+    sym (ap (λ b. cond b (record { sense = More; form = negative (view_of_row r).form } ∷ views_of_rows rs) (view_of_row r ∷ with_form negative (views_of_rows rs) zero)) (ap (keeps true) h))
+    ∙ ap (with_form negative (views_of_rows (r ∷ rs))) e
+as_less_is (r ∷ rs) (suc p) k h e = by (keeps true (view_of_row r).sense) refl (λ j q. as_less_is rs p j h q) k e
   where
-    by : (b : Bool) → keeps true (seen r).says ≡ b → ((j : ℕ) → count_nots (all_seen (take p rs)) ≡ j → as_less (all_seen rs) p ≡ with_form negative (all_seen rs) j)
-        → (k : ℕ) → cond b (suc (count_nots (all_seen (take p rs)))) (count_nots (all_seen (take p rs))) ≡ k
-        → seen r ∷ as_less (all_seen rs) p ≡ with_form negative (all_seen (r ∷ rs)) k
+    by : (b : Bool) → keeps true (view_of_row r).sense ≡ b → ((j : ℕ) → count_nots (views_of_rows (take p rs)) ≡ j → as_less (views_of_rows rs) p ≡ with_form negative (views_of_rows rs) j)
+        → (k : ℕ) → cond b (suc (count_nots (views_of_rows (take p rs)))) (count_nots (views_of_rows (take p rs))) ≡ k
+        → view_of_row r ∷ as_less (views_of_rows rs) p ≡ with_form negative (views_of_rows (r ∷ rs)) k
     by true q ih zero f = absurd (omega (arith, f))
-    by true q ih (suc k) f = ap (λ v. seen r ∷ v) (ih k (omega (arith, f)))
-        ∙ sym (ap (λ b. cond b (seen r ∷ with_form negative (all_seen rs) k) (seen r ∷ with_form negative (all_seen rs) (suc k))) q)
-    by false q ih zero f = ap (λ v. seen r ∷ v) (ih zero f)
-        ∙ sym (ap (λ b. cond b (record { says = More; form = negative (seen r).form } ∷ all_seen rs) (seen r ∷ with_form negative (all_seen rs) zero)) q)
-    by false q ih (suc k) f = ap (λ v. seen r ∷ v) (ih (suc k) f)
-        ∙ sym (ap (λ b. cond b (seen r ∷ with_form negative (all_seen rs) k) (seen r ∷ with_form negative (all_seen rs) (suc k))) q)
+    by true q ih (suc k) f = ap (λ v. view_of_row r ∷ v) (ih k (omega (arith, f)))
+        ∙ sym (ap (λ b. cond b (view_of_row r ∷ with_form negative (views_of_rows rs) k) (view_of_row r ∷ with_form negative (views_of_rows rs) (suc k))) q)
+    by false q ih zero f = ap (λ v. view_of_row r ∷ v) (ih zero f)
+        ∙ sym (ap (λ b. cond b (record { sense = More; form = negative (view_of_row r).form } ∷ views_of_rows rs) (view_of_row r ∷ with_form negative (views_of_rows rs) zero)) q)
+    by false q ih (suc k) f = ap (λ v. view_of_row r ∷ v) (ih (suc k) f)
+        ∙ sym (ap (λ b. cond b (view_of_row r ∷ with_form negative (views_of_rows rs) k) (view_of_row r ∷ with_form negative (views_of_rows rs) (suc k))) q)
 
 -- ---- sums of constraints, with the weights from n on
 
@@ -132,7 +132,7 @@ module _ (ts : List Term) (ws : List ℤ) (last : ℤ) (t : Term) (x : ℕ) (sam
   total_none : (rows : List Row) (n : ℕ) → AllNamed ts rows → total (each_weighed rows (row_multipliers rows ws n zero last)) t ≡ constraints_total (named_constraints false ts rows) ws n x
   total_none [] n a = refl
   total_none (r ∷ rs) n a =
-      by (keeps true r.says) (λ m. total_none rs m a.1) ∙ sym (ap (λ v. constraints_total v ws n x) (main_cons ts r rs))
+      by (keeps true r.sense) (λ m. total_none rs m a.1) ∙ sym (ap (λ v. constraints_total v ws n x) (main_cons ts r rs))
     where
       by : (b : Bool) → ((m : ℕ) → total (each_weighed rs (row_multipliers rs ws m zero last)) t ≡ constraints_total (named_constraints false ts rs) ws m x)
           → total (each_weighed (r ∷ rs) (cond b (pos 0 ∷ row_multipliers rs ws n zero last) (get_or ws n (pos 0) ∷ row_multipliers rs ws (suc n) zero last))) t
@@ -145,19 +145,19 @@ module _ (ts : List Term) (ws : List ℤ) (last : ℤ) (t : Term) (x : ℕ) (sam
         → total (each_weighed (with_form g rows k) (row_multipliers rows ws n (suc k) last)) t ≡ constraints_total (named_constraints false ts rows) ws n x +ℤ last *ℤ form_at (h (get_or (named_constraints true ts rows) k d).form) x
     total_one [] k n d a l = absurd (omega (arith, l))
     total_one (r ∷ rs) zero n d a l =
-        by (keeps true r.says) l (λ m p. total_one rs zero m d a.1 p)
+        by (keeps true r.sense) l (λ m p. total_one rs zero m d a.1 p)
         ∙ sym (ap (λ v. constraints_total v ws n x +ℤ last *ℤ form_at (h (get_or (named_constraints true ts (r ∷ rs)) 0 d).form) x) (main_cons ts r rs))
       where
         by : (b : Bool) → 0 < length (cond b (named_constraint ts r ∷ named_constraints true ts rs) (named_constraints true ts rs))
             → ((m : ℕ) → 0 < length (named_constraints true ts rs) → total (each_weighed (with_form g rs zero) (row_multipliers rs ws m 1 last)) t
             ≡ constraints_total (named_constraints false ts rs) ws m x +ℤ last *ℤ form_at (h (get_or (named_constraints true ts rs) 0 d).form) x)
-            → total (each_weighed (cond b (record { says = More; form = g r.form } ∷ rs) (r ∷ with_form g rs zero)) (cond b (last ∷ row_multipliers rs ws n zero last) (get_or ws n (pos 0) ∷ row_multipliers rs ws (suc n) 1 last))) t
+            → total (each_weighed (cond b (record { sense = More; form = g r.form } ∷ rs) (r ∷ with_form g rs zero)) (cond b (last ∷ row_multipliers rs ws n zero last) (get_or ws n (pos 0) ∷ row_multipliers rs ws (suc n) 1 last))) t
             ≡ constraints_total (cond b (named_constraints false ts rs) (named_constraint ts r ∷ named_constraints false ts rs)) ws n x +ℤ last *ℤ form_at (h (get_or (cond b (named_constraint ts r ∷ named_constraints true ts rs) (named_constraints true ts rs)) 0 d).form) x
         by true p ih = omega (arith, sums, ap (λ v. last *ℤ v) (turned r.form a.0), total_none rs n a.1)
         by false p ih = omega (arith, sums, ap (λ v. get_or ws n (pos 0) *ℤ v) (same r.form a.0), ih (suc n) p)
     total_one (r ∷ rs) (suc k) n d a l =
-        ap (λ e. total (each_weighed (with_form g (r ∷ rs) (suc k)) (cond (keeps true r.says) (cond e last (pos 0) ∷ row_multipliers rs ws n (suc k) last) (get_or ws n (pos 0) ∷ row_multipliers rs ws (suc n) (suc (suc k)) last))) t) (eqb_more k)
-        ∙ by (keeps true r.says) l (λ m p. total_one rs k m d a.1 p) (λ m p. total_one rs (suc k) m d a.1 p)
+        ap (λ e. total (each_weighed (with_form g (r ∷ rs) (suc k)) (cond (keeps true r.sense) (cond e last (pos 0) ∷ row_multipliers rs ws n (suc k) last) (get_or ws n (pos 0) ∷ row_multipliers rs ws (suc n) (suc (suc k)) last))) t) (eqb_more k)
+        ∙ by (keeps true r.sense) l (λ m p. total_one rs k m d a.1 p) (λ m p. total_one rs (suc k) m d a.1 p)
         ∙ sym (ap (λ v. constraints_total v ws n x +ℤ last *ℤ form_at (h (get_or (named_constraints true ts (r ∷ rs)) (suc k) d).form) x) (main_cons ts r rs))
       where
         by : (b : Bool) → suc k < length (cond b (named_constraint ts r ∷ named_constraints true ts rs) (named_constraints true ts rs))
@@ -222,70 +222,70 @@ more_of Not e h = absurd (true≢false e)
 module _ (ts : List Term) (ws : List ℤ) (last : ℤ) where
   taken_none : (rows : List Row) (n : ℕ) → AllWeigh (named_constraints false ts rows) ws n → AreMultipliers rows (row_multipliers rows ws n zero last)
   taken_none [] n h = tt
-  taken_none (r ∷ rs) n h = by (keeps true r.says) refl (subst (λ v. AllWeigh v ws n) (main_cons ts r rs) h) (λ m p. taken_none rs m p)
+  taken_none (r ∷ rs) n h = by (keeps true r.sense) refl (subst (λ v. AllWeigh v ws n) (main_cons ts r rs) h) (λ m p. taken_none rs m p)
     where
-      by : (b : Bool) → keeps true r.says ≡ b → AllWeigh (cond b (named_constraints false ts rs) (named_constraint ts r ∷ named_constraints false ts rs)) ws n
+      by : (b : Bool) → keeps true r.sense ≡ b → AllWeigh (cond b (named_constraints false ts rs) (named_constraint ts r ∷ named_constraints false ts rs)) ws n
           → ((m : ℕ) → AllWeigh (named_constraints false ts rs) ws m → AreMultipliers rs (row_multipliers rs ws m zero last))
           → AreMultipliers (r ∷ rs) (cond b (pos 0 ∷ row_multipliers rs ws n zero last) (get_or ws n (pos 0) ∷ row_multipliers rs ws (suc n) zero last))
-      by true e p ih = (subst (λ s. MayTake s (pos 0)) (sym (kept_not r.says e)) refl, ih n p)
-      by false e p ih = (take_of r.says (get_or ws n (pos 0)) e p.0, ih (suc n) p.1)
+      by true e p ih = (subst (λ s. MayTake s (pos 0)) (sym (kept_not r.sense e)) refl, ih n p)
+      by false e p ih = (take_of r.sense (get_or ws n (pos 0)) e p.0, ih (suc n) p.1)
 
   taken_one : (g : Summands → Summands) (rows : List Row) (k n : ℕ) → pos 0 ≤ℤ last → AllWeigh (named_constraints false ts rows) ws n → AreMultipliers (with_form g rows k) (row_multipliers rows ws n (suc k) last)
   taken_one g [] k n z h = tt
-  taken_one g (r ∷ rs) zero n z h = by (keeps true r.says) refl (subst (λ v. AllWeigh v ws n) (main_cons ts r rs) h) (λ m p. taken_one g rs zero m z p)
+  taken_one g (r ∷ rs) zero n z h = by (keeps true r.sense) refl (subst (λ v. AllWeigh v ws n) (main_cons ts r rs) h) (λ m p. taken_one g rs zero m z p)
     where
-      by : (b : Bool) → keeps true r.says ≡ b → AllWeigh (cond b (named_constraints false ts rs) (named_constraint ts r ∷ named_constraints false ts rs)) ws n
+      by : (b : Bool) → keeps true r.sense ≡ b → AllWeigh (cond b (named_constraints false ts rs) (named_constraint ts r ∷ named_constraints false ts rs)) ws n
           → ((m : ℕ) → AllWeigh (named_constraints false ts rs) ws m → AreMultipliers (with_form g rs zero) (row_multipliers rs ws m 1 last))
-          → AreMultipliers (cond b (record { says = More; form = g r.form } ∷ rs) (r ∷ with_form g rs zero)) (cond b (last ∷ row_multipliers rs ws n zero last) (get_or ws n (pos 0) ∷ row_multipliers rs ws (suc n) 1 last))
+          → AreMultipliers (cond b (record { sense = More; form = g r.form } ∷ rs) (r ∷ with_form g rs zero)) (cond b (last ∷ row_multipliers rs ws n zero last) (get_or ws n (pos 0) ∷ row_multipliers rs ws (suc n) 1 last))
       by true e p ih = (z, taken_none rs n p)
-      by false e p ih = (take_of r.says (get_or ws n (pos 0)) e p.0, ih (suc n) p.1)
+      by false e p ih = (take_of r.sense (get_or ws n (pos 0)) e p.0, ih (suc n) p.1)
   taken_one g (r ∷ rs) (suc k) n z h =
-      subst (λ e. AreMultipliers (with_form g (r ∷ rs) (suc k)) (cond (keeps true r.says) (cond e last (pos 0) ∷ row_multipliers rs ws n (suc k) last) (get_or ws n (pos 0) ∷ row_multipliers rs ws (suc n) (suc (suc k)) last)))
-      (sym (eqb_more k)) (by (keeps true r.says) refl (subst (λ v. AllWeigh v ws n) (main_cons ts r rs) h) (λ m p. taken_one g rs k m z p) (λ m p. taken_one g rs (suc k) m z p))
+      subst (λ e. AreMultipliers (with_form g (r ∷ rs) (suc k)) (cond (keeps true r.sense) (cond e last (pos 0) ∷ row_multipliers rs ws n (suc k) last) (get_or ws n (pos 0) ∷ row_multipliers rs ws (suc n) (suc (suc k)) last)))
+      (sym (eqb_more k)) (by (keeps true r.sense) refl (subst (λ v. AllWeigh v ws n) (main_cons ts r rs) h) (λ m p. taken_one g rs k m z p) (λ m p. taken_one g rs (suc k) m z p))
     where
-      by : (b : Bool) → keeps true r.says ≡ b → AllWeigh (cond b (named_constraints false ts rs) (named_constraint ts r ∷ named_constraints false ts rs)) ws n
+      by : (b : Bool) → keeps true r.sense ≡ b → AllWeigh (cond b (named_constraints false ts rs) (named_constraint ts r ∷ named_constraints false ts rs)) ws n
           → ((m : ℕ) → AllWeigh (named_constraints false ts rs) ws m → AreMultipliers (with_form g rs k) (row_multipliers rs ws m (suc k) last))
           → ((m : ℕ) → AllWeigh (named_constraints false ts rs) ws m → AreMultipliers (with_form g rs (suc k)) (row_multipliers rs ws m (suc (suc k)) last))
           → AreMultipliers (cond b (r ∷ with_form g rs k) (r ∷ with_form g rs (suc k))) (cond b (pos 0 ∷ row_multipliers rs ws n (suc k) last) (get_or ws n (pos 0) ∷ row_multipliers rs ws (suc n) (suc (suc k)) last))
-      by true e p ih jh = (subst (λ s. MayTake s (pos 0)) (sym (kept_not r.says e)) refl, ih n p)
-      by false e p ih jh = (take_of r.says (get_or ws n (pos 0)) e p.0, jh (suc n) p.1)
+      by true e p ih jh = (subst (λ s. MayTake s (pos 0)) (sym (kept_not r.sense e)) refl, ih n p)
+      by false e p ih jh = (take_of r.sense (get_or ws n (pos 0)) e p.0, jh (suc n) p.1)
 
   more_none : (rows : List Row) (n : ℕ) → HasMore (named_constraints false ts rows) ws n → TakesMore rows (row_multipliers rows ws n zero last)
   more_none [] n h = h
-  more_none (r ∷ rs) n h = by (keeps true r.says) refl (subst (λ v. HasMore v ws n) (main_cons ts r rs) h) (λ m p. more_none rs m p)
+  more_none (r ∷ rs) n h = by (keeps true r.sense) refl (subst (λ v. HasMore v ws n) (main_cons ts r rs) h) (λ m p. more_none rs m p)
     where
-      by : (b : Bool) → keeps true r.says ≡ b → HasMore (cond b (named_constraints false ts rs) (named_constraint ts r ∷ named_constraints false ts rs)) ws n
+      by : (b : Bool) → keeps true r.sense ≡ b → HasMore (cond b (named_constraints false ts rs) (named_constraint ts r ∷ named_constraints false ts rs)) ws n
           → ((m : ℕ) → HasMore (named_constraints false ts rs) ws m → TakesMore rs (row_multipliers rs ws m zero last))
           → TakesMore (r ∷ rs) (cond b (pos 0 ∷ row_multipliers rs ws n zero last) (get_or ws n (pos 0) ∷ row_multipliers rs ws (suc n) zero last))
       by true e p ih = inr (ih n p)
-      by false e (inl p) ih = inl (more_of r.says e p.0, p.1)
+      by false e (inl p) ih = inl (more_of r.sense e p.0, p.1)
       by false e (inr p) ih = inr (ih (suc n) p)
 
   more_one : (g : Summands → Summands) (rows : List Row) (k n : ℕ) → k < length (named_constraints true ts rows) → HasMore (named_constraints false ts rows) ws n ⊎ (pos 1 ≤ℤ last)
       → TakesMore (with_form g rows k) (row_multipliers rows ws n (suc k) last)
   more_one g [] k n l h = absurd (omega (arith, l))
-  more_one g (r ∷ rs) zero n l h = by (keeps true r.says) refl l (subst (λ v. HasMore v ws n ⊎ (pos 1 ≤ℤ last)) (main_cons ts r rs) h) (λ m q p. more_one g rs zero m q p)
+  more_one g (r ∷ rs) zero n l h = by (keeps true r.sense) refl l (subst (λ v. HasMore v ws n ⊎ (pos 1 ≤ℤ last)) (main_cons ts r rs) h) (λ m q p. more_one g rs zero m q p)
     where
-      by : (b : Bool) → keeps true r.says ≡ b → 0 < length (cond b (named_constraint ts r ∷ named_constraints true ts rs) (named_constraints true ts rs))
+      by : (b : Bool) → keeps true r.sense ≡ b → 0 < length (cond b (named_constraint ts r ∷ named_constraints true ts rs) (named_constraints true ts rs))
           → HasMore (cond b (named_constraints false ts rs) (named_constraint ts r ∷ named_constraints false ts rs)) ws n ⊎ (pos 1 ≤ℤ last)
           → ((m : ℕ) → 0 < length (named_constraints true ts rs) → HasMore (named_constraints false ts rs) ws m ⊎ (pos 1 ≤ℤ last) → TakesMore (with_form g rs zero) (row_multipliers rs ws m 1 last))
-          → TakesMore (cond b (record { says = More; form = g r.form } ∷ rs) (r ∷ with_form g rs zero)) (cond b (last ∷ row_multipliers rs ws n zero last) (get_or ws n (pos 0) ∷ row_multipliers rs ws (suc n) 1 last))
+          → TakesMore (cond b (record { sense = More; form = g r.form } ∷ rs) (r ∷ with_form g rs zero)) (cond b (last ∷ row_multipliers rs ws n zero last) (get_or ws n (pos 0) ∷ row_multipliers rs ws (suc n) 1 last))
       by true e q (inl p) ih = inr (more_none rs n p)
       by true e q (inr p) ih = inl (refl, p)
-      by false e q (inl (inl p)) ih = inl (more_of r.says e p.0, p.1)
+      by false e q (inl (inl p)) ih = inl (more_of r.sense e p.0, p.1)
       by false e q (inl (inr p)) ih = inr (ih (suc n) q (inl p))
       by false e q (inr p) ih = inr (ih (suc n) q (inr p))
   more_one g (r ∷ rs) (suc k) n l h =
-      subst (λ e. TakesMore (with_form g (r ∷ rs) (suc k)) (cond (keeps true r.says) (cond e last (pos 0) ∷ row_multipliers rs ws n (suc k) last) (get_or ws n (pos 0) ∷ row_multipliers rs ws (suc n) (suc (suc k)) last)))
-      (sym (eqb_more k)) (by (keeps true r.says) refl l (subst (λ v. HasMore v ws n ⊎ (pos 1 ≤ℤ last)) (main_cons ts r rs) h) (λ m q p. more_one g rs k m q p) (λ m q p. more_one g rs (suc k) m q p))
+      subst (λ e. TakesMore (with_form g (r ∷ rs) (suc k)) (cond (keeps true r.sense) (cond e last (pos 0) ∷ row_multipliers rs ws n (suc k) last) (get_or ws n (pos 0) ∷ row_multipliers rs ws (suc n) (suc (suc k)) last)))
+      (sym (eqb_more k)) (by (keeps true r.sense) refl l (subst (λ v. HasMore v ws n ⊎ (pos 1 ≤ℤ last)) (main_cons ts r rs) h) (λ m q p. more_one g rs k m q p) (λ m q p. more_one g rs (suc k) m q p))
     where
-      by : (b : Bool) → keeps true r.says ≡ b → suc k < length (cond b (named_constraint ts r ∷ named_constraints true ts rs) (named_constraints true ts rs))
+      by : (b : Bool) → keeps true r.sense ≡ b → suc k < length (cond b (named_constraint ts r ∷ named_constraints true ts rs) (named_constraints true ts rs))
           → HasMore (cond b (named_constraints false ts rs) (named_constraint ts r ∷ named_constraints false ts rs)) ws n ⊎ (pos 1 ≤ℤ last)
           → ((m : ℕ) → k < length (named_constraints true ts rs) → HasMore (named_constraints false ts rs) ws m ⊎ (pos 1 ≤ℤ last) → TakesMore (with_form g rs k) (row_multipliers rs ws m (suc k) last))
           → ((m : ℕ) → suc k < length (named_constraints true ts rs) → HasMore (named_constraints false ts rs) ws m ⊎ (pos 1 ≤ℤ last) → TakesMore (with_form g rs (suc k)) (row_multipliers rs ws m (suc (suc k)) last))
           → TakesMore (cond b (r ∷ with_form g rs k) (r ∷ with_form g rs (suc k))) (cond b (pos 0 ∷ row_multipliers rs ws n (suc k) last) (get_or ws n (pos 0) ∷ row_multipliers rs ws (suc n) (suc (suc k)) last))
       by true e q p ih jh = inr (ih n (omega (arith, q)) p)
-      by false e q (inl (inl p)) ih jh = inl (more_of r.says e p.0, p.1)
+      by false e q (inl (inl p)) ih jh = inl (more_of r.sense e p.0, p.1)
       by false e q (inl (inr p)) ih jh = inr (jh (suc n) q (inl p))
       by false e q (inr p) ih jh = inr (jh (suc n) q (inr p))
 
@@ -302,14 +302,14 @@ sized_cons m ms h g (suc i) l = g i (omega (arith, l))
 sized_row_multipliers : (rows : List Row) (ws : List ℤ) (n k : ℕ) (last : ℤ) → ((i : ℕ) → unsigned_abs (get_or ws i (pos 0)) ≤ 2 ^ 80) → unsigned_abs last ≤ 2 ^ 80
     → (i : ℕ) → i < length (row_multipliers rows ws n k last) → unsigned_abs (get_or (row_multipliers rows ws n k last) i (pos 0)) ≤ 2 ^ 80
 sized_row_multipliers [] ws n k last h g i l = absurd (omega (arith, l))
-sized_row_multipliers (r ∷ rs) ws n zero last h g i l = by (keeps true r.says) (sized_row_multipliers rs ws n zero last h g) (sized_row_multipliers rs ws (suc n) zero last h g) i l
+sized_row_multipliers (r ∷ rs) ws n zero last h g i l = by (keeps true r.sense) (sized_row_multipliers rs ws n zero last h g) (sized_row_multipliers rs ws (suc n) zero last h g) i l
   where
     by : (b : Bool) → ((i : ℕ) → i < length (row_multipliers rs ws n zero last) → unsigned_abs (get_or (row_multipliers rs ws n zero last) i (pos 0)) ≤ 2 ^ 80) → ((i : ℕ) → i < length (row_multipliers rs ws (suc n) zero last) → unsigned_abs (get_or (row_multipliers rs ws (suc n) zero last) i (pos 0)) ≤ 2 ^ 80)
         → (i : ℕ) → i < length (cond b (pos 0 ∷ row_multipliers rs ws n zero last) (get_or ws n (pos 0) ∷ row_multipliers rs ws (suc n) zero last))
         → unsigned_abs (get_or (cond b (pos 0 ∷ row_multipliers rs ws n zero last) (get_or ws n (pos 0) ∷ row_multipliers rs ws (suc n) zero last)) i (pos 0)) ≤ 2 ^ 80
     by true p q = sized_cons (pos 0) (row_multipliers rs ws n zero last) (omega arith) p
     by false p q = sized_cons (get_or ws n (pos 0)) (row_multipliers rs ws (suc n) zero last) (h n) q
-sized_row_multipliers (r ∷ rs) ws n (suc k) last h g i l = by (keeps true r.says) (sized_row_multipliers rs ws n k last h g) (sized_row_multipliers rs ws (suc n) (suc k) last h g) i l
+sized_row_multipliers (r ∷ rs) ws n (suc k) last h g i l = by (keeps true r.sense) (sized_row_multipliers rs ws n k last h g) (sized_row_multipliers rs ws (suc n) (suc k) last h g) i l
   where
     head : (b : Bool) → unsigned_abs (cond b last (pos 0)) ≤ 2 ^ 80
     head true = g
@@ -395,45 +395,45 @@ module _ (ts : List Term) (rows : List Row) (ws : List ℤ) (k : ℕ) (d l : Con
 
 nots_are : (ts : List Term) (rows : List Row) → length (named_constraints true ts rows) ≡ count_nots rows
 nots_are ts [] = refl
-nots_are ts (r ∷ rs) = by (keeps true r.says) (nots_are ts rs)
+nots_are ts (r ∷ rs) = by (keeps true r.sense) (nots_are ts rs)
   where
     by : (b : Bool) → length (named_constraints true ts rs) ≡ count_nots rs → length (cond b (named_constraint ts r ∷ named_constraints true ts rs) (named_constraints true ts rs)) ≡ cond b (suc (count_nots rs)) (count_nots rs)
     by true e = ap suc e
     by false e = e
 
 -- both signs of a row that says `not 0`
-module _ (ts : List Term) (rows : List GivenRow) (k : ℕ) (above below : List ℤ) (o : AreOnce ts) (a : AllNamed ts (all_seen rows))
-    (h : AreBothRefuted (length ts + 1) (named_constraints false ts (all_seen rows)) (named_constraints true ts (all_seen rows)) k above below) where
+module _ (ts : List Term) (rows : List GivenRow) (k : ℕ) (above below : List ℤ) (o : AreOnce ts) (a : AllNamed ts (views_of_rows rows))
+    (h : AreBothRefuted (length ts + 1) (named_constraints false ts (views_of_rows rows)) (named_constraints true ts (views_of_rows rows)) k above below) where
   pub some_constraint : Constraint
   some_constraint = record { sense = SenseMore; form = [] }
 
-  pub is_below : k < count_nots (all_seen rows)
-  is_below = omega (arith, h.here, nots_are ts (all_seen rows))
+  pub is_below : k < count_nots (views_of_rows rows)
+  is_below = omega (arith, h.here, nots_are ts (views_of_rows rows))
 
-  pub above_long : length above ≡ length (named_constraints false ts (all_seen rows)) + 1
-  above_long = (h.above_absurd some_constraint).shape ∙ length_push (named_constraints false ts (all_seen rows)) (get_or (named_constraints true ts (all_seen rows)) k some_constraint)
+  pub above_long : length above ≡ length (named_constraints false ts (views_of_rows rows)) + 1
+  above_long = (h.above_absurd some_constraint).shape ∙ length_push (named_constraints false ts (views_of_rows rows)) (get_or (named_constraints true ts (views_of_rows rows)) k some_constraint)
 
-  pub below_long : length below ≡ length (named_constraints false ts (all_seen rows)) + 1
-  below_long = (h.below_absurd some_constraint).shape ∙ length_push (named_constraints false ts (all_seen rows)) (negative_constraint (get_or (named_constraints true ts (all_seen rows)) k some_constraint))
+  pub below_long : length below ≡ length (named_constraints false ts (views_of_rows rows)) + 1
+  below_long = (h.below_absurd some_constraint).shape ∙ length_push (named_constraints false ts (views_of_rows rows)) (negative_constraint (get_or (named_constraints true ts (views_of_rows rows)) k some_constraint))
 
-  pub both_refute : (p m n : ℕ) (xs ys : List ℤ) → IsNotAt (all_seen rows) p → count_nots (all_seen (take p rows)) ≡ k → m + 1 ≡ length above → n + 1 ≡ length below
-      → xs ≡ row_multipliers (all_seen rows) above 0 (k + 1) (get_or above m (pos 0)) → ys ≡ row_multipliers (all_seen rows) below 0 (k + 1) (get_or below n (pos 0)) → RefutesBoth (all_seen rows) p xs ys
+  pub both_refute : (p m n : ℕ) (xs ys : List ℤ) → IsNotAt (views_of_rows rows) p → count_nots (views_of_rows (take p rows)) ≡ k → m + 1 ≡ length above → n + 1 ≡ length below
+      → xs ≡ row_multipliers (views_of_rows rows) above 0 (k + 1) (get_or above m (pos 0)) → ys ≡ row_multipliers (views_of_rows rows) below 0 (k + 1) (get_or below n (pos 0)) → RefutesBoth (views_of_rows rows) p xs ys
   both_refute p m n xs ys i c e f u v = record {
     is_not = i;
-    above_refutes = subst (Refutes (as_more (all_seen rows) p)) (sym (u ∙ ap (λ j. row_multipliers (all_seen rows) above 0 j (get_or above m (pos 0))) (omega arith)))
-        (subst (λ rs. Refutes rs (row_multipliers (all_seen rows) above 0 (suc k) (get_or above m (pos 0)))) (sym (as_more_is rows p k i c))
-        (refutes_form ts (all_seen rows) above k some_constraint (get_or (named_constraints true ts (all_seen rows)) k some_constraint) m (λ s. s) (λ s. s) o a h.here (omega (arith, e, above_long)) refl
-        (more_constraints ts (all_seen rows) k some_constraint h.here) (within_constraints true ts (all_seen rows) a k some_constraint h.here) (λ t s q. coefficient_is ts s t o q) (h.above_absurd some_constraint)));
-    below_refutes = subst (Refutes (as_less (all_seen rows) p)) (sym (v ∙ ap (λ j. row_multipliers (all_seen rows) below 0 j (get_or below n (pos 0))) (omega arith)))
-        (subst (λ rs. Refutes rs (row_multipliers (all_seen rows) below 0 (suc k) (get_or below n (pos 0)))) (sym (as_less_is rows p k i c))
-        (refutes_form ts (all_seen rows) below k some_constraint (negative_constraint (get_or (named_constraints true ts (all_seen rows)) k some_constraint)) n negative negated o a h.here (omega (arith, f, below_long)) refl
-        refl (negative_within (length ts + 1) (get_or (named_constraints true ts (all_seen rows)) k some_constraint) (within_constraints true ts (all_seen rows) a k some_constraint h.here))
+    above_refutes = subst (Refutes (as_more (views_of_rows rows) p)) (sym (u ∙ ap (λ j. row_multipliers (views_of_rows rows) above 0 j (get_or above m (pos 0))) (omega arith)))
+        (subst (λ rs. Refutes rs (row_multipliers (views_of_rows rows) above 0 (suc k) (get_or above m (pos 0)))) (sym (as_more_is rows p k i c))
+        (refutes_form ts (views_of_rows rows) above k some_constraint (get_or (named_constraints true ts (views_of_rows rows)) k some_constraint) m (λ s. s) (λ s. s) o a h.here (omega (arith, e, above_long)) refl
+        (more_constraints ts (views_of_rows rows) k some_constraint h.here) (within_constraints true ts (views_of_rows rows) a k some_constraint h.here) (λ t s q. coefficient_is ts s t o q) (h.above_absurd some_constraint)));
+    below_refutes = subst (Refutes (as_less (views_of_rows rows) p)) (sym (v ∙ ap (λ j. row_multipliers (views_of_rows rows) below 0 j (get_or below n (pos 0))) (omega arith)))
+        (subst (λ rs. Refutes rs (row_multipliers (views_of_rows rows) below 0 (suc k) (get_or below n (pos 0)))) (sym (as_less_is rows p k i c))
+        (refutes_form ts (views_of_rows rows) below k some_constraint (negative_constraint (get_or (named_constraints true ts (views_of_rows rows)) k some_constraint)) n negative negated o a h.here (omega (arith, f, below_long)) refl
+        refl (negative_within (length ts + 1) (get_or (named_constraints true ts (views_of_rows rows)) k some_constraint) (within_constraints true ts (views_of_rows rows) a k some_constraint h.here))
         (λ t s q. coefficient_negative s t ∙ ap neg_ℤ (coefficient_is ts s t o q) ∙ sym (negated_at (named_form ts s) (suc (place_of ts t)))) (h.below_absurd some_constraint)));
   }
 
 -- ---- one answer where there is a solution, and another where there is none
 
-pub length_seen : (rows : List GivenRow) → length (all_seen rows) ≡ length rows
+pub length_seen : (rows : List GivenRow) → length (views_of_rows rows) ≡ length rows
 length_seen [] = refl
 length_seen (r ∷ rs) = ap suc (length_seen rs)
 

@@ -4,7 +4,7 @@ use Rattle.std.proofs.lemmas.List.{take_more}
 use Rattle.std.proofs.lemmas.Bool.{cases_eq, eq-eqb, ne_eqb}
 use lib.IntN.{ℤ, pos}
 use Rattle.e_fraction.specs.declared.row.Row.{Row as GivenRow}
-use Rattle.e_fraction.specs.Views.{seen, all_seen}
+use Rattle.e_fraction.specs.Views.{view_of_row, views_of_rows}
 use Rattle.e_simplex.specs.Naming.{keeps}
 use Rattle.e_simplex.specs.Answer.{IsNotAt}
 use Rattle.e_simplex.specs.inner.RowMultipliers.{row_multipliers, count_nots, multiplier_of_row}
@@ -25,9 +25,9 @@ eqb_turned a = elim (cases_eq a 0) [
 eqb_none : (a : ℕ) → eqb (suc a) 0 ≡ eqb (suc (suc a)) 0
 eqb_none a = ne_eqb (suc a) 0 (λ q. omega (arith, q)) ∙ sym (ne_eqb (suc (suc a)) 0 (λ q. omega (arith, q)))
 
-nots_push : (rows : List GivenRow) (r : GivenRow) → count_nots (all_seen (rows ++ r ∷ [])) ≡ cond (keeps true (seen r).says) (suc (count_nots (all_seen rows))) (count_nots (all_seen rows))
+nots_push : (rows : List GivenRow) (r : GivenRow) → count_nots (views_of_rows (rows ++ r ∷ [])) ≡ cond (keeps true (view_of_row r).sense) (suc (count_nots (views_of_rows rows))) (count_nots (views_of_rows rows))
 nots_push [] r = refl
-nots_push (q ∷ qs) r = by (keeps true (seen q).says) (keeps true (seen r).says) (count_nots (all_seen qs)) (count_nots (all_seen (qs ++ r ∷ []))) (nots_push qs r)
+nots_push (q ∷ qs) r = by (keeps true (view_of_row q).sense) (keeps true (view_of_row r).sense) (count_nots (views_of_rows qs)) (count_nots (views_of_rows (qs ++ r ∷ []))) (nots_push qs r)
   where
     by : (a b : Bool) (m n : ℕ) → n ≡ cond b (suc m) m → cond a (suc n) n ≡ cond b (suc (cond a (suc m) m)) (cond a (suc m) m)
     by true true m n e = ap suc e
@@ -35,88 +35,88 @@ nots_push (q ∷ qs) r = by (keeps true (seen q).says) (keeps true (seen r).says
     by false true m n e = e
     by false false m n e = e
 
-pub nots_more : (rows : List GivenRow) (i : ℕ) (d : GivenRow) (old : ℕ) → i < length rows → old ≡ count_nots (all_seen (take i rows))
-    → cond (keeps true (seen (get_or rows i d)).says) (suc old) old ≡ count_nots (all_seen (take (i + 1) rows))
+pub nots_more : (rows : List GivenRow) (i : ℕ) (d : GivenRow) (old : ℕ) → i < length rows → old ≡ count_nots (views_of_rows (take i rows))
+    → cond (keeps true (view_of_row (get_or rows i d)).sense) (suc old) old ≡ count_nots (views_of_rows (take (i + 1) rows))
 nots_more rows i d old l e =
-    ap (λ v. cond (keeps true (seen (get_or rows i d)).says) (suc v) v) e ∙ sym (nots_push (take i rows) (get_or rows i d))
-    ∙ ap (λ v. count_nots (all_seen v)) (sym (take_more rows i d l))
+    ap (λ v. cond (keeps true (view_of_row (get_or rows i d)).sense) (suc v) v) e ∙ sym (nots_push (take i rows) (get_or rows i d))
+    ∙ ap (λ v. count_nots (views_of_rows v)) (sym (take_more rows i d l))
 
-pub nots_most : (rows : List GivenRow) → count_nots (all_seen rows) ≤ length rows
+pub nots_most : (rows : List GivenRow) → count_nots (views_of_rows rows) ≤ length rows
 nots_most [] = omega arith
-nots_most (q ∷ qs) = by (keeps true (seen q).says) (nots_most qs)
+nots_most (q ∷ qs) = by (keeps true (view_of_row q).sense) (nots_most qs)
   where
-    by : (b : Bool) → count_nots (all_seen qs) ≤ length qs → cond b (suc (count_nots (all_seen qs))) (count_nots (all_seen qs)) ≤ suc (length qs)
+    by : (b : Bool) → count_nots (views_of_rows qs) ≤ length qs → cond b (suc (count_nots (views_of_rows qs))) (count_nots (views_of_rows qs)) ≤ suc (length qs)
     by true h = omega (arith, h)
     by false h = omega (arith, h)
 
 -- m rows do not say `not 0`
-row_multipliers_push : (rows : List GivenRow) (r : GivenRow) (ws : List ℤ) (n k m : ℕ) (last : ℤ) → m + count_nots (all_seen rows) ≡ length rows
-    → row_multipliers (all_seen (rows ++ r ∷ [])) ws n k last
-    ≡ row_multipliers (all_seen rows) ws n k last ++ multiplier_of_row (keeps true (seen r).says) (count_nots (all_seen rows)) k last (get_or ws (n + m) (pos 0)) ∷ []
-row_multipliers_push [] r ws n zero m last h = by (keeps true (seen r).says)
+row_multipliers_push : (rows : List GivenRow) (r : GivenRow) (ws : List ℤ) (n k m : ℕ) (last : ℤ) → m + count_nots (views_of_rows rows) ≡ length rows
+    → row_multipliers (views_of_rows (rows ++ r ∷ [])) ws n k last
+    ≡ row_multipliers (views_of_rows rows) ws n k last ++ multiplier_of_row (keeps true (view_of_row r).sense) (count_nots (views_of_rows rows)) k last (get_or ws (n + m) (pos 0)) ∷ []
+row_multipliers_push [] r ws n zero m last h = by (keeps true (view_of_row r).sense)
   where
     by : (b : Bool) → cond b (pos 0 ∷ []) (get_or ws n (pos 0) ∷ []) ≡ multiplier_of_row b 0 0 last (get_or ws (n + m) (pos 0)) ∷ []
     by true = refl
     by false = ap (λ v. get_or ws v (pos 0) ∷ []) (omega (arith, h))
-row_multipliers_push [] r ws n (suc k) m last h = by (keeps true (seen r).says)
+row_multipliers_push [] r ws n (suc k) m last h = by (keeps true (view_of_row r).sense)
   where
     by : (b : Bool) → cond b (cond (eqb k 0) last (pos 0) ∷ []) (get_or ws n (pos 0) ∷ []) ≡ multiplier_of_row b 0 (suc k) last (get_or ws (n + m) (pos 0)) ∷ []
     by true = ap (λ v. cond v last (pos 0) ∷ []) (eqb_turned k ∙ eqb_suc 0 k)
     by false = ap (λ v. get_or ws v (pos 0) ∷ []) (omega (arith, h))
-row_multipliers_push (q ∷ qs) r ws n zero m last h = by (keeps true (seen q).says) h (λ p j g. row_multipliers_push qs r ws p zero j last g)
+row_multipliers_push (q ∷ qs) r ws n zero m last h = by (keeps true (view_of_row q).sense) h (λ p j g. row_multipliers_push qs r ws p zero j last g)
   where
-    by : (b : Bool) → m + cond b (suc (count_nots (all_seen qs))) (count_nots (all_seen qs)) ≡ suc (length qs)
-        → ((p j : ℕ) → j + count_nots (all_seen qs) ≡ length qs → row_multipliers (all_seen (qs ++ r ∷ [])) ws p zero last
-        ≡ row_multipliers (all_seen qs) ws p zero last ++ multiplier_of_row (keeps true (seen r).says) (count_nots (all_seen qs)) zero last (get_or ws (p + j) (pos 0)) ∷ [])
-        → cond b (pos 0 ∷ row_multipliers (all_seen (qs ++ r ∷ [])) ws n zero last) (get_or ws n (pos 0) ∷ row_multipliers (all_seen (qs ++ r ∷ [])) ws (suc n) zero last)
-        ≡ cond b (pos 0 ∷ row_multipliers (all_seen qs) ws n zero last) (get_or ws n (pos 0) ∷ row_multipliers (all_seen qs) ws (suc n) zero last)
-        ++ multiplier_of_row (keeps true (seen r).says) (cond b (suc (count_nots (all_seen qs))) (count_nots (all_seen qs))) zero last (get_or ws (n + m) (pos 0)) ∷ []
+    by : (b : Bool) → m + cond b (suc (count_nots (views_of_rows qs))) (count_nots (views_of_rows qs)) ≡ suc (length qs)
+        → ((p j : ℕ) → j + count_nots (views_of_rows qs) ≡ length qs → row_multipliers (views_of_rows (qs ++ r ∷ [])) ws p zero last
+        ≡ row_multipliers (views_of_rows qs) ws p zero last ++ multiplier_of_row (keeps true (view_of_row r).sense) (count_nots (views_of_rows qs)) zero last (get_or ws (p + j) (pos 0)) ∷ [])
+        → cond b (pos 0 ∷ row_multipliers (views_of_rows (qs ++ r ∷ [])) ws n zero last) (get_or ws n (pos 0) ∷ row_multipliers (views_of_rows (qs ++ r ∷ [])) ws (suc n) zero last)
+        ≡ cond b (pos 0 ∷ row_multipliers (views_of_rows qs) ws n zero last) (get_or ws n (pos 0) ∷ row_multipliers (views_of_rows qs) ws (suc n) zero last)
+        ++ multiplier_of_row (keeps true (view_of_row r).sense) (cond b (suc (count_nots (views_of_rows qs))) (count_nots (views_of_rows qs))) zero last (get_or ws (n + m) (pos 0)) ∷ []
     by true g ih = ap (λ v. pos 0 ∷ v) (ih n m (omega (arith, g)))
-        ∙ ap (λ v. (pos 0 ∷ row_multipliers (all_seen qs) ws n zero last) ++ cond (keeps true (seen r).says) (cond v last (pos 0)) (get_or ws (n + m) (pos 0)) ∷ []) (eqb_none (count_nots (all_seen qs)))
+        ∙ ap (λ v. (pos 0 ∷ row_multipliers (views_of_rows qs) ws n zero last) ++ cond (keeps true (view_of_row r).sense) (cond v last (pos 0)) (get_or ws (n + m) (pos 0)) ∷ []) (eqb_none (count_nots (views_of_rows qs)))
     by false g ih = none m g
       where
-        none : (i : ℕ) → i + count_nots (all_seen qs) ≡ suc (length qs)
-            → get_or ws n (pos 0) ∷ row_multipliers (all_seen (qs ++ r ∷ [])) ws (suc n) zero last
-            ≡ (get_or ws n (pos 0) ∷ row_multipliers (all_seen qs) ws (suc n) zero last) ++ multiplier_of_row (keeps true (seen r).says) (count_nots (all_seen qs)) zero last (get_or ws (n + i) (pos 0)) ∷ []
+        none : (i : ℕ) → i + count_nots (views_of_rows qs) ≡ suc (length qs)
+            → get_or ws n (pos 0) ∷ row_multipliers (views_of_rows (qs ++ r ∷ [])) ws (suc n) zero last
+            ≡ (get_or ws n (pos 0) ∷ row_multipliers (views_of_rows qs) ws (suc n) zero last) ++ multiplier_of_row (keeps true (view_of_row r).sense) (count_nots (views_of_rows qs)) zero last (get_or ws (n + i) (pos 0)) ∷ []
         none zero f = absurd (omega (arith, f, nots_most qs))
         none (suc i) f = ap (λ v. get_or ws n (pos 0) ∷ v) (ih (suc n) i (omega (arith, f)))
-            ∙ ap (λ v. (get_or ws n (pos 0) ∷ row_multipliers (all_seen qs) ws (suc n) zero last) ++ multiplier_of_row (keeps true (seen r).says) (count_nots (all_seen qs)) zero last (get_or ws v (pos 0)) ∷ []) (omega arith)
-row_multipliers_push (q ∷ qs) r ws n (suc k) m last h = by (keeps true (seen q).says) h (λ p j g. row_multipliers_push qs r ws p k j last g) (λ p j g. row_multipliers_push qs r ws p (suc k) j last g)
+            ∙ ap (λ v. (get_or ws n (pos 0) ∷ row_multipliers (views_of_rows qs) ws (suc n) zero last) ++ multiplier_of_row (keeps true (view_of_row r).sense) (count_nots (views_of_rows qs)) zero last (get_or ws v (pos 0)) ∷ []) (omega arith)
+row_multipliers_push (q ∷ qs) r ws n (suc k) m last h = by (keeps true (view_of_row q).sense) h (λ p j g. row_multipliers_push qs r ws p k j last g) (λ p j g. row_multipliers_push qs r ws p (suc k) j last g)
   where
-    by : (b : Bool) → m + cond b (suc (count_nots (all_seen qs))) (count_nots (all_seen qs)) ≡ suc (length qs)
-        → ((p j : ℕ) → j + count_nots (all_seen qs) ≡ length qs → row_multipliers (all_seen (qs ++ r ∷ [])) ws p k last
-        ≡ row_multipliers (all_seen qs) ws p k last ++ multiplier_of_row (keeps true (seen r).says) (count_nots (all_seen qs)) k last (get_or ws (p + j) (pos 0)) ∷ [])
-        → ((p j : ℕ) → j + count_nots (all_seen qs) ≡ length qs → row_multipliers (all_seen (qs ++ r ∷ [])) ws p (suc k) last
-        ≡ row_multipliers (all_seen qs) ws p (suc k) last ++ multiplier_of_row (keeps true (seen r).says) (count_nots (all_seen qs)) (suc k) last (get_or ws (p + j) (pos 0)) ∷ [])
-        → cond b (cond (eqb k 0) last (pos 0) ∷ row_multipliers (all_seen (qs ++ r ∷ [])) ws n k last) (get_or ws n (pos 0) ∷ row_multipliers (all_seen (qs ++ r ∷ [])) ws (suc n) (suc k) last)
-        ≡ cond b (cond (eqb k 0) last (pos 0) ∷ row_multipliers (all_seen qs) ws n k last) (get_or ws n (pos 0) ∷ row_multipliers (all_seen qs) ws (suc n) (suc k) last)
-        ++ multiplier_of_row (keeps true (seen r).says) (cond b (suc (count_nots (all_seen qs))) (count_nots (all_seen qs))) (suc k) last (get_or ws (n + m) (pos 0)) ∷ []
+    by : (b : Bool) → m + cond b (suc (count_nots (views_of_rows qs))) (count_nots (views_of_rows qs)) ≡ suc (length qs)
+        → ((p j : ℕ) → j + count_nots (views_of_rows qs) ≡ length qs → row_multipliers (views_of_rows (qs ++ r ∷ [])) ws p k last
+        ≡ row_multipliers (views_of_rows qs) ws p k last ++ multiplier_of_row (keeps true (view_of_row r).sense) (count_nots (views_of_rows qs)) k last (get_or ws (p + j) (pos 0)) ∷ [])
+        → ((p j : ℕ) → j + count_nots (views_of_rows qs) ≡ length qs → row_multipliers (views_of_rows (qs ++ r ∷ [])) ws p (suc k) last
+        ≡ row_multipliers (views_of_rows qs) ws p (suc k) last ++ multiplier_of_row (keeps true (view_of_row r).sense) (count_nots (views_of_rows qs)) (suc k) last (get_or ws (p + j) (pos 0)) ∷ [])
+        → cond b (cond (eqb k 0) last (pos 0) ∷ row_multipliers (views_of_rows (qs ++ r ∷ [])) ws n k last) (get_or ws n (pos 0) ∷ row_multipliers (views_of_rows (qs ++ r ∷ [])) ws (suc n) (suc k) last)
+        ≡ cond b (cond (eqb k 0) last (pos 0) ∷ row_multipliers (views_of_rows qs) ws n k last) (get_or ws n (pos 0) ∷ row_multipliers (views_of_rows qs) ws (suc n) (suc k) last)
+        ++ multiplier_of_row (keeps true (view_of_row r).sense) (cond b (suc (count_nots (views_of_rows qs))) (count_nots (views_of_rows qs))) (suc k) last (get_or ws (n + m) (pos 0)) ∷ []
     by true g ih jh = ap (λ v. cond (eqb k 0) last (pos 0) ∷ v) (ih n m (omega (arith, g)))
-        ∙ ap (λ v. (cond (eqb k 0) last (pos 0) ∷ row_multipliers (all_seen qs) ws n k last) ++ cond (keeps true (seen r).says) (cond v last (pos 0)) (get_or ws (n + m) (pos 0)) ∷ []) (eqb_suc (suc (count_nots (all_seen qs))) k)
+        ∙ ap (λ v. (cond (eqb k 0) last (pos 0) ∷ row_multipliers (views_of_rows qs) ws n k last) ++ cond (keeps true (view_of_row r).sense) (cond v last (pos 0)) (get_or ws (n + m) (pos 0)) ∷ []) (eqb_suc (suc (count_nots (views_of_rows qs))) k)
     by false g ih jh = none m g
       where
-        none : (i : ℕ) → i + count_nots (all_seen qs) ≡ suc (length qs)
-            → get_or ws n (pos 0) ∷ row_multipliers (all_seen (qs ++ r ∷ [])) ws (suc n) (suc k) last
-            ≡ (get_or ws n (pos 0) ∷ row_multipliers (all_seen qs) ws (suc n) (suc k) last) ++ multiplier_of_row (keeps true (seen r).says) (count_nots (all_seen qs)) (suc k) last (get_or ws (n + i) (pos 0)) ∷ []
+        none : (i : ℕ) → i + count_nots (views_of_rows qs) ≡ suc (length qs)
+            → get_or ws n (pos 0) ∷ row_multipliers (views_of_rows (qs ++ r ∷ [])) ws (suc n) (suc k) last
+            ≡ (get_or ws n (pos 0) ∷ row_multipliers (views_of_rows qs) ws (suc n) (suc k) last) ++ multiplier_of_row (keeps true (view_of_row r).sense) (count_nots (views_of_rows qs)) (suc k) last (get_or ws (n + i) (pos 0)) ∷ []
         none zero f = absurd (omega (arith, f, nots_most qs))
         none (suc i) f = ap (λ v. get_or ws n (pos 0) ∷ v) (jh (suc n) i (omega (arith, f)))
-            ∙ ap (λ v. (get_or ws n (pos 0) ∷ row_multipliers (all_seen qs) ws (suc n) (suc k) last) ++ multiplier_of_row (keeps true (seen r).says) (count_nots (all_seen qs)) (suc k) last (get_or ws v (pos 0)) ∷ []) (omega arith)
+            ∙ ap (λ v. (get_or ws n (pos 0) ∷ row_multipliers (views_of_rows qs) ws (suc n) (suc k) last) ++ multiplier_of_row (keeps true (view_of_row r).sense) (count_nots (views_of_rows qs)) (suc k) last (get_or ws v (pos 0)) ∷ []) (omega arith)
 
 pub row_multipliers_more : (rows : List GivenRow) (i : ℕ) (d : GivenRow) (ws : List ℤ) (k m nots : ℕ) (last v : ℤ) (old new : List ℤ) → i < length rows → m + nots ≡ i
-    → nots ≡ count_nots (all_seen (take i rows)) → length (take i rows) ≡ i
-    → old ≡ row_multipliers (all_seen (take i rows)) ws 0 k last → new ≡ old ++ v ∷ []
-    → v ≡ multiplier_of_row (keeps true (seen (get_or rows i d)).says) nots k last (get_or ws m (pos 0)) → new ≡ row_multipliers (all_seen (take (i + 1) rows)) ws 0 k last
+    → nots ≡ count_nots (views_of_rows (take i rows)) → length (take i rows) ≡ i
+    → old ≡ row_multipliers (views_of_rows (take i rows)) ws 0 k last → new ≡ old ++ v ∷ []
+    → v ≡ multiplier_of_row (keeps true (view_of_row (get_or rows i d)).sense) nots k last (get_or ws m (pos 0)) → new ≡ row_multipliers (views_of_rows (take (i + 1) rows)) ws 0 k last
 row_multipliers_more rows i d ws k m nots last v old new l h c t e f g =
-    f ∙ ap₂ {A = List ℤ} {B = ℤ} (λ a b. a ++ b ∷ []) e (g ∙ ap (λ s. multiplier_of_row (keeps true (seen (get_or rows i d)).says) s k last (get_or ws m (pos 0))) c
-    ∙ ap (λ j. multiplier_of_row (keeps true (seen (get_or rows i d)).says) (count_nots (all_seen (take i rows))) k last (get_or ws j (pos 0))) (omega arith))
+    f ∙ ap₂ {A = List ℤ} {B = ℤ} (λ a b. a ++ b ∷ []) e (g ∙ ap (λ s. multiplier_of_row (keeps true (view_of_row (get_or rows i d)).sense) s k last (get_or ws m (pos 0))) c
+    ∙ ap (λ j. multiplier_of_row (keeps true (view_of_row (get_or rows i d)).sense) (count_nots (views_of_rows (take i rows))) k last (get_or ws j (pos 0))) (omega arith))
     ∙ sym (row_multipliers_push (take i rows) (get_or rows i d) ws 0 k m last (omega (arith, h, c, t)))
-    ∙ ap (λ a. row_multipliers (all_seen a) ws 0 k last) (sym (take_more rows i d l))
+    ∙ ap (λ a. row_multipliers (views_of_rows a) ws 0 k last) (sym (take_more rows i d l))
 
 -- ---- the place of a row that says `not 0`
 
-pub is_not_at : (rows : List GivenRow) (i : ℕ) (d : GivenRow) → i < length rows → keeps true (seen (get_or rows i d)).says ≡ true → IsNotAt (all_seen rows) i
+pub is_not_at : (rows : List GivenRow) (i : ℕ) (d : GivenRow) → i < length rows → keeps true (view_of_row (get_or rows i d)).sense ≡ true → IsNotAt (views_of_rows rows) i
 is_not_at [] i d l h = absurd (omega (arith, l))
-is_not_at (r ∷ rs) zero d l h = kept_not (seen r).says h
+is_not_at (r ∷ rs) zero d l h = kept_not (view_of_row r).sense h
 is_not_at (r ∷ rs) (suc i) d l h = is_not_at rs i d (omega (arith, l)) h
 
 pub count_most : (b : Bool) (s i : ℕ) → s ≤ i → cond b (suc s) s ≤ i + 1

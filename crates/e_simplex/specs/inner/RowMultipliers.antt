@@ -8,16 +8,16 @@ use Rattle.e_simplex.specs.Naming.{keeps}
 abbrev pub row_multipliers : List Row → List ℤ → ℕ → ℕ → ℤ → List ℤ
 row_multipliers [] ws n k last = []
 row_multipliers (r ∷ rs) ws n zero last =
-    cond (keeps true r.says) (pos 0 ∷ row_multipliers rs ws n zero last)
+    cond (keeps true r.sense) (pos 0 ∷ row_multipliers rs ws n zero last)
     (get_or ws n (pos 0) ∷ row_multipliers rs ws (suc n) zero last)
 row_multipliers (r ∷ rs) ws n (suc k) last =
-    cond (keeps true r.says) (cond (eqb k 0) last (pos 0) ∷ row_multipliers rs ws n k last)
+    cond (keeps true r.sense) (cond (eqb k 0) last (pos 0) ∷ row_multipliers rs ws n k last)
     (get_or ws n (pos 0) ∷ row_multipliers rs ws (suc n) (suc k) last)
 
 -- how many rows say `not 0`
 abbrev pub count_nots : List Row → ℕ
 count_nots [] = 0
-count_nots (r ∷ rs) = cond (keeps true r.says) (suc (count_nots rs)) (count_nots rs)
+count_nots (r ∷ rs) = cond (keeps true r.sense) (suc (count_nots rs)) (count_nots rs)
 
 abbrev pub multiplier_of_row : Bool → ℕ → ℕ → ℤ → ℤ → ℤ
 multiplier_of_row is_not seen k last weight =

@@ -35,9 +35,10 @@ use Rattle.e_names.specs.TitledStatements.{TitledStatement, theorem_of}
 use Rattle.e_book.specs.TheoremViews.{TheoremView}
 use Rattle.e_text.specs.Tokens.{spaced}
 use Rattle.e_line.specs.Canonical.{lit_words, sort_word, line_of}
-use Rattle.e_names.specs.Canonical.{raw_of, rule_name, name_of_object, by_form, hence_form}
-use Rattle.e_names.specs.Canonical.{let_form, apply_form, claim_form, superpose_form, cases_form}
-use Rattle.e_names.specs.Canonical.{else_form, qed_form, contradiction_form, end_form}
+use Rattle.e_names.specs.Canonical.{raw_of, rule_name, name_of_object, by_raw_line, hence_raw_line}
+use Rattle.e_names.specs.Canonical.{let_raw_line, apply_raw_line, claim_raw_line}
+use Rattle.e_names.specs.Canonical.{superpose_raw_line, cases_raw_line, else_raw_line, qed_raw_line}
+use Rattle.e_names.specs.Canonical.{contradiction_raw_line, end_raw_line}
 use Rattle.e_book.specs.Canonical.{declared_objects, made_objects, names_of_proof, text_of}
 use Rattle.e_spell.specs.declared.declarations.Role.{Role}
 use Rattle.e_spell.specs.declared.declarations.Role.TheVariants.{Declared, Made}
@@ -111,13 +112,14 @@ abbrev pub contradiction_text : Names → Option Against → List ℕ
 contradiction_text ns None = []
 contradiction_text ns (Some a) = against_text ns a
 
--- a line with its end
-abbrev pub form_text : RawLine → List ℕ
-form_text f = line_of f ++ 10 ∷ []
+-- a raw line as it is spelled, with its end
+abbrev pub raw_line_text : RawLine → List ℕ
+raw_line_text f = line_of f ++ 10 ∷ []
 
 -- the line of a superposition
 unfoldable pub superposition_text : Names → Superpose → List (List ℕ) → List Lit → List ℕ
-superposition_text ns form names shown = form_text (superpose_form ns form names shown)
+superposition_text ns superposition names shown =
+    raw_line_text (superpose_raw_line ns superposition names shown)
 
 -- the lines of a script with its certificates
 unfoldable pub script_text : List TitledStatement → Names → Script → List ℕ
@@ -125,28 +127,29 @@ script_text known ns d = text_of (script_lines known ns d)
 
 -- a step with its certificates, and the block inside it
 abbrev pub step_text : List TitledStatement → Names → PlainStep → List ℕ
-step_text known ns (Cited by) = form_text (by_form ns by)
+step_text known ns (Cited by) = raw_line_text (by_raw_line ns by)
 step_text known ns (Inferred lit cert) =
-    form_text (hence_form ns lit) ++ certs_text ns (option_to_list cert)
-step_text known ns (MadeStep form names certs) =
-    form_text (let_form ns form names) ++ certs_text ns certs
+    raw_line_text (hence_raw_line ns lit) ++ certs_text ns (option_to_list cert)
+step_text known ns (MadeStep construction names certs) =
+    raw_line_text (let_raw_line ns construction names) ++ certs_text ns certs
 step_text known ns (Applied theorem args names certs) =
-    form_text (apply_form known ns theorem args names) ++ certs_text ns certs
+    raw_line_text (apply_raw_line known ns theorem args names) ++ certs_text ns certs
 step_text known ns (Claimed shown inner) =
-    form_text (claim_form ns shown) ++ script_text known ns inner
-step_text known ns (Copied form names shown certs inner) =
-    superposition_text ns form names shown
+    raw_line_text (claim_raw_line ns shown) ++ script_text known ns inner
+step_text known ns (Copied superposition names shown certs inner) =
+    superposition_text ns superposition names shown
     ++ (certs_text ns certs ++ script_text known (named ns superposing.sorts_copied names) inner)
 
 -- the names in scope after a step: those of an inner block are gone
 abbrev pub names_after_step : List TitledStatement → Names → PlainStep → Names
 names_after_step known ns (Cited by) = ns
 names_after_step known ns (Inferred lit cert) = ns
-names_after_step known ns (MadeStep form names certs) = named ns (sorts_made form) names
+names_after_step known ns (MadeStep construction names certs) =
+    named ns (sorts_made construction) names
 names_after_step known ns (Applied theorem args names certs) =
     named ns (theorem_of known theorem).made names
 names_after_step known ns (Claimed shown inner) = ns
-names_after_step known ns (Copied form names shown certs inner) = ns
+names_after_step known ns (Copied superposition names shown certs inner) = ns
 
 -- and after several
 abbrev pub names_after : List TitledStatement → Names → List PlainStep → Names
@@ -159,19 +162,19 @@ steps_text known ns (s ∷ steps) =
     step_text known ns s ++ steps_text known (names_after_step known ns s) steps
 
 abbrev pub qed_text : Names → List Obj → List Cert → List ℕ
-qed_text ns objects cs = form_text (qed_form ns objects) ++ certs_text ns cs
+qed_text ns objects cs = raw_line_text (qed_raw_line ns objects) ++ certs_text ns cs
 
 abbrev pub contradicted_text : Names → Option Against → List ℕ
-contradicted_text ns against = form_text contradiction_form ++ contradiction_text ns against
+contradicted_text ns against = raw_line_text contradiction_raw_line ++ contradiction_text ns against
 
 -- two blocks after the line of a split
 abbrev pub split_text : List TitledStatement → Names → Lit → Script → Script → List ℕ
 split_text known ns lit first second =
-    form_text (cases_form ns lit)
-    ++ (script_text known ns first ++ (form_text else_form ++ script_text known ns second))
+    raw_line_text (cases_raw_line ns lit)
+    ++ (script_text known ns first ++ (raw_line_text else_raw_line ++ script_text known ns second))
 
 abbrev pub proof_text : List TitledStatement → Names → Script → List ℕ
-proof_text known ns d = script_text known ns d ++ form_text end_form
+proof_text known ns d = script_text known ns d ++ raw_line_text end_raw_line
 
 -- the first words of a line of objects
 abbrev pub role_words : Role → Sort → List ℕ

@@ -67,7 +67,7 @@ says_step false x y e = (refl, some_is x y e)
 unless_moves : (kept : List Obj) (r now : Option Row) → Moves kept r now → Moves kept (unless_not r) (unless_not now)
 unless_moves kept None now h x e = none_some x e
 unless_moves kept (Some r) now h x e =
-    let s = says_step (says_differ r.says) r x e in
+    let s = says_step (says_differ r.sense) r x e in
     let m = h r refl in (
       ap unless_not m.0 ∙ ap (λ b. cond b None (Some (moved kept r))) s.0 ∙ ap (λ y. Some (moved kept y)) s.1,
       subst (OverRow kept) s.1 m.1,
@@ -88,8 +88,8 @@ goal_moves kept None h x e = none_some x e
 goal_moves kept (Some l) h x e = lit_moves kept (negation l) (h l refl) x e
 
 -- the row of one term
-term_row : (kept : List Obj) (says : Sense) (t : Term) (n : ℤ) → AllKept kept (objects_of_term t) → Rattle.e_literal.specs.Rows.row says (times n (term_at (kept_before kept Point) t) ∷ []) ≡ moved kept (Rattle.e_literal.specs.Rows.row says (times n t ∷ []))
-term_row kept says t n o = row_moves kept says (times n t ∷ []) (over_term kept t o, tt)
+term_row : (kept : List Obj) (sense : Sense) (t : Term) (n : ℤ) → AllKept kept (objects_of_term t) → Rattle.e_literal.specs.Rows.row sense (times n (term_at (kept_before kept Point) t) ∷ []) ≡ moved kept (Rattle.e_literal.specs.Rows.row sense (times n t ∷ []))
+term_row kept sense t n o = row_moves kept sense (times n t ∷ []) (over_term kept t o, tt)
 
 over_term_row : (kept : List Obj) (t : Term) (n : ℤ) → AllKept kept (objects_of_term t) → OverForm (OfSort kept Point) (Rattle.e_literal.specs.Rows.normal_summands (times n t ∷ []))
 over_term_row kept t n o = over_normal (OfSort kept Point) (times n t ∷ []) (over_term kept t o, tt)
@@ -228,10 +228,10 @@ differing_of_moves kept facts now looked wanted name v st g c = λ x e. none_som
 differing_moves : (kept : List Obj) (facts now looked : List Lit) (wanted : Option Lit) (name : RowName) → is_name_of version.One name ≡ true → Stays kept facts now looked → ((l : Lit) → wanted ≡ Some l → OverLit kept l)
     → Covered kept looked (of_row facts wanted name) → Moves kept (differing facts wanted name) (differing now (wanted_at kept wanted) (trimmed.row_name_among_kept kept name))
 differing_moves kept facts now looked wanted name v st g c x e =
-    let a = and_then_is (λ (r : Row). cond (says_differ r.says) (Some r) None) (differing_of facts wanted name) x e in
-    let s = differs_step (says_differ a.0.says) a.0 x a.2 in
+    let a = and_then_is (λ (r : Row). cond (says_differ r.sense) (Some r) None) (differing_of facts wanted name) x e in
+    let s = differs_step (says_differ a.0.sense) a.0 x a.2 in
     let m = differing_of_moves kept facts now looked wanted name v st g c a.0 a.1 in (
-      ap (λ o. option_and_then (λ (r : Row). cond (says_differ r.says) (Some r) None) o) m.0 ∙ ap (λ b. cond b (Some (moved kept a.0)) None) s.0 ∙ ap (λ r. Some (moved kept r)) s.1,
+      ap (λ o. option_and_then (λ (r : Row). cond (says_differ r.sense) (Some r) None) o) m.0 ∙ ap (λ b. cond b (Some (moved kept a.0)) None) s.0 ∙ ap (λ r. Some (moved kept r)) s.1,
       subst (OverRow kept) s.1 m.1,
     )
 
@@ -241,7 +241,7 @@ above_moves kept r o x e = let is = some_is (above_row r) x e in (ap (λ y. Some
 below_moves : (kept : List Obj) (r : Row) → OverRow kept r → Moves kept (Some (below_row r)) (Some (below_row (moved kept r)))
 below_moves kept r o x e =
     let is = some_is (below_row r) x e in (
-      ap (λ f. Some (record { says = More; form = f })) (negative_at (kept_before kept Point) r.form) ∙ ap (λ y. Some (moved kept y)) is,
+      ap (λ f. Some (record { sense = More; form = f })) (negative_at (kept_before kept Point) r.form) ∙ ap (λ y. Some (moved kept y)) is,
       subst (OverRow kept) is (over_negative (OfSort kept Point) r.form o),
     )
 

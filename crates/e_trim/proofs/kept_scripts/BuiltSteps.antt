@@ -154,14 +154,14 @@ small_claim before shown inner s r =
       small = subst (λ d. inner_test (λ y. is_small y.scope) before d s r.small.facts ≡ true) e (all_parts (λ y. is_small y.scope) before (ClaimBlock shown inner) r.rest x r.small.goal r.small.small).1;
     }
 
-pub small_superposed : (before : List StatementView) (form : Superpose) (names : List (List ℕ)) (shown : List Lit) (certs : List Cert) (inner : Box Block Global) (s : Scope) → IsSmallStep before (SuperposedBlock form names shown certs inner) s
+pub small_superposed : (before : List StatementView) (superposition : Superpose) (names : List (List ℕ)) (shown : List Lit) (certs : List Cert) (inner : Box Block Global) (s : Scope) → IsSmallStep before (SuperposedBlock superposition names shown certs inner) s
     → AreSmall before (script_of inner.value) (grown s superposing.sorts_copied)
-small_superposed before form names shown certs inner s r =
+small_superposed before superposition names shown certs inner s r =
     let x : StepState = record { scope = s; facts = r.small.facts } in
-    let step = SuperposedBlock form names shown certs inner in
-    let e = step_script-Superposed form names shown certs inner r.rest in
+    let step = SuperposedBlock superposition names shown certs inner in
+    let e = step_script-Superposed superposition names shown certs inner r.rest in
     record {
-      facts = joined_all r.small.facts (superposing.gives_of_superposition form s);
+      facts = joined_all r.small.facts (superposing.gives_of_superposition superposition s);
       goal = goal_of shown;
       small = subst (λ d. inner_test (λ y. is_small y.scope) before d s r.small.facts ≡ true) e (all_parts (λ y. is_small y.scope) before step r.rest x r.small.goal r.small.small).1;
     }
@@ -180,14 +180,14 @@ first_small : (d : Script) (s : Scope) (before : List StatementView) (facts : Li
 unfolding placed_steps
 first_small (Cite x rest) s before facts goal h = (and_parts (is_small s) (list_all (λ (y : PlacedStep). is_small y.scope) (placed_steps before rest rest s (joined facts x.lit) goal)) h).0
 first_small (Hence lit cert rest) s before facts goal h = (and_parts (is_small s) (list_all (λ (y : PlacedStep). is_small y.scope) (placed_steps before rest rest s (joined facts lit) goal)) h).0
-first_small (Make form names certs rest) s before facts goal h = (and_parts (is_small s) (list_all (λ (y : PlacedStep). is_small y.scope) (placed_steps before rest rest (grown s (sorts_made form)) (joined_all facts (gives_of_construction form s)) goal)) h).0
+first_small (Make construction names certs rest) s before facts goal h = (and_parts (is_small s) (list_all (λ (y : PlacedStep). is_small y.scope) (placed_steps before rest rest (grown s (sorts_made construction)) (joined_all facts (gives_of_construction construction s)) goal)) h).0
 first_small (Apply theorem args names certs rest) s before facts goal h =
     (and_parts (is_small s) (list_all (λ (y : PlacedStep). is_small y.scope) (placed_steps before rest rest (grown s (theorem_at before theorem).made) (joined_all facts (gives_of_use (theorem_at before theorem) (args_of (Apply theorem args names certs rest)) s)) goal)) h).0
 first_small (Claim shown inner rest) s before facts goal h =
     (and_parts (is_small s) (list_all (λ (y : PlacedStep). is_small y.scope) (placed_steps before inner inner s facts (goal_of shown) ++ placed_steps before rest rest s (joined_all facts shown) goal)) h).0
-first_small (Superposed form names shown certs inner rest) s before facts goal h =
+first_small (Superposed superposition names shown certs inner rest) s before facts goal h =
     (and_parts (is_small s)
-    (list_all (λ (y : PlacedStep). is_small y.scope) (placed_steps before inner inner (grown s superposing.sorts_copied) (joined_all facts (superposing.gives_of_superposition form s)) (goal_of shown) ++ placed_steps before rest rest s (joined_all facts shown) goal)) h).0
+    (list_all (λ (y : PlacedStep). is_small y.scope) (placed_steps before inner inner (grown s superposing.sorts_copied) (joined_all facts (superposing.gives_of_superposition superposition s)) (goal_of shown) ++ placed_steps before rest rest s (joined_all facts shown) goal)) h).0
 first_small (Qed objects certs) s before facts goal h = (and_parts (is_small s) true h).0
 first_small (Contradiction against) s before facts goal h = (and_parts (is_small s) true h).0
 first_small (Cases lit first second) s before facts goal h =
@@ -208,10 +208,10 @@ pub few_makes : (before : List StatementView) (step : Step) (rest : Script) → 
 unfolding step_script
 few_makes before (CiteStep by) rest h = omega arith
 few_makes before (HenceStep lit cert) rest h = omega arith
-few_makes before (MakeStep form names certs) rest h = let n = few_made form in omega (arith, n)
+few_makes before (MakeStep construction names certs) rest h = let n = few_made construction in omega (arith, n)
 few_makes before (ApplyStep theorem args names certs) rest h = small_among before theorem h
 few_makes before (ClaimStep shown p0 n0 row0 close0) rest h = omega arith
-few_makes before (SuperposedStep form names shown certs p0 n0 row0 close0) rest h = omega arith
+few_makes before (SuperposedStep superposition names shown certs p0 n0 row0 close0) rest h = omega arith
 
 -- so they all have numbers of 16 bits
 pub room : (s : Scope) (n : ℕ) → is_small s ≡ true → n < 2 ^ 15 → (s.points + n < 2 ^ 16) × (s.lines + n < 2 ^ 16) × (s.circles + n < 2 ^ 16)

@@ -44,12 +44,12 @@ hence_built before kept step lit new cert now s pile is e f =
     subst (λ st. StepIsBuilt before kept st s pile pile (HenceStep new now)) (sym is)
     (λ rest more facts under h. (ap (λ x. Hence x now more) e ∙ ap (λ x. Hence (lit_among_kept kept lit) x more) f, h ∙ append-nil under))
 
-pub make_built : (before : List StatementView) (kept : List Obj) (step : Step) (form new : Construction) (names same : List (List ℕ)) (certs now : List Cert) (s : Scope) (pile : List Bool) → step ≡ MakeStep form names certs → new ≡ construction_among_kept kept form → same ≡ names → now ≡ map (cert_at kept) certs
+pub make_built : (before : List StatementView) (kept : List Obj) (step : Step) (construction new : Construction) (names same : List (List ℕ)) (certs now : List Cert) (s : Scope) (pile : List Bool) → step ≡ MakeStep construction names certs → new ≡ construction_among_kept kept construction → same ≡ names → now ≡ map (cert_at kept) certs
     → StepIsBuilt before kept step s pile pile (MakeStep new same now)
 unfolding step_script
-make_built before kept step form new names same certs now s pile is e n f =
+make_built before kept step construction new names same certs now s pile is e n f =
     subst (λ st. StepIsBuilt before kept st s pile pile (MakeStep new same now)) (sym is)
-    (λ rest more facts under h. (ap (λ x. Make x same now more) e ∙ ap (λ x. Make (construction_among_kept kept form) x now more) n ∙ ap (λ x. Make (construction_among_kept kept form) names x more) f, h ∙ append-nil under))
+    (λ rest more facts under h. (ap (λ x. Make x same now more) e ∙ ap (λ x. Make (construction_among_kept kept construction) x now more) n ∙ ap (λ x. Make (construction_among_kept kept construction) names x more) f, h ∙ append-nil under))
 
 pub apply_built : (before : List StatementView) (kept : List Obj) (step : Step) (theorem : ℕ) (args new : List (Option Obj)) (names same : List (List ℕ)) (certs now : List Cert) (s : Scope) (pile : List Bool) → step ≡ ApplyStep theorem args names certs → new ≡ args_at kept args → same ≡ names
     → now ≡ map (cert_at kept) certs → StepIsBuilt before kept step s pile pile (ApplyStep theorem new same now)
@@ -74,31 +74,31 @@ claim_built before kept step made shown new inner block s pile left is e script 
     let r = claim_done before kept shown new inner block s pile left e built rest more facts under (h ∙ ap (λ d. under ++ step_flags before d s facts) old) in
     (script more ∙ r.0 ∙ ap (λ d. kept_step before kept d s facts more) (sym old), r.1))
 
-superposed_done : (before : List StatementView) (kept wide : List Obj) (form : Superpose) (now : Superpose) (names same : List (List ℕ)) (shown new : List Lit) (certs cs : List Cert) (inner : Box Block Global) (block : Block) (s : Scope) (pile left : List Bool)
-    → wide ≡ kept ++ next_objects s superposing.sorts_copied → now ≡ superpose_at kept form → same ≡ names → new ≡ map (lit_among_kept kept) shown → cs ≡ map (cert_at kept) certs
+superposed_done : (before : List StatementView) (kept wide : List Obj) (superposition : Superpose) (now : Superpose) (names same : List (List ℕ)) (shown new : List Lit) (certs cs : List Cert) (inner : Box Block Global) (block : Block) (s : Scope) (pile left : List Bool)
+    → wide ≡ kept ++ next_objects s superposing.sorts_copied → now ≡ superpose_at kept superposition → same ≡ names → new ≡ map (lit_among_kept kept) shown → cs ≡ map (cert_at kept) certs
     → BlockIsBuilt before wide (script_of inner.value) (grown s superposing.sorts_copied) pile left block
-    → (rest more : Script) (facts : List Lit) (under : List Bool) → pile ≡ under ++ step_flags before (Superposed form names shown certs (script_of inner.value) rest) s facts
-    → (Superposed now same new cs (script_of block) more ≡ kept_step before kept (Superposed form names shown certs (script_of inner.value) rest) s facts more) × (left ≡ under)
-superposed_done before kept wide form now names same shown new certs cs inner block s pile left w f n e g built rest more facts under h =
-    let opened = joined_all facts (superposing.gives_of_superposition form s) in
+    → (rest more : Script) (facts : List Lit) (under : List Bool) → pile ≡ under ++ step_flags before (Superposed superposition names shown certs (script_of inner.value) rest) s facts
+    → (Superposed now same new cs (script_of block) more ≡ kept_step before kept (Superposed superposition names shown certs (script_of inner.value) rest) s facts more) × (left ≡ under)
+superposed_done before kept wide superposition now names same shown new certs cs inner block s pile left w f n e g built rest more facts under h =
+    let opened = joined_all facts (superposing.gives_of_superposition superposition s) in
     let r = built opened (goal_of shown) under h in (
       ap (λ x. Superposed x same new cs (script_of block) more) f
-          ∙ ap (λ x. Superposed (superpose_at kept form) x new cs (script_of block) more) n
-          ∙ ap (λ x. Superposed (superpose_at kept form) names x cs (script_of block) more) e
-          ∙ ap (λ x. Superposed (superpose_at kept form) names (map (lit_among_kept kept) shown) x (script_of block) more) g
-          ∙ ap (λ x. Superposed (superpose_at kept form) names (map (lit_among_kept kept) shown) (map (cert_at kept) certs) x more)
+          ∙ ap (λ x. Superposed (superpose_at kept superposition) x new cs (script_of block) more) n
+          ∙ ap (λ x. Superposed (superpose_at kept superposition) names x cs (script_of block) more) e
+          ∙ ap (λ x. Superposed (superpose_at kept superposition) names (map (lit_among_kept kept) shown) x (script_of block) more) g
+          ∙ ap (λ x. Superposed (superpose_at kept superposition) names (map (lit_among_kept kept) shown) (map (cert_at kept) certs) x more)
           (r.0 ∙ ap (λ ks. trimmed_from before ks (script_of inner.value) (grown s superposing.sorts_copied) opened (goal_of shown)) w),
       r.1,
     )
 
-pub superposed_built : (before : List StatementView) (kept wide : List Obj) (step made : Step) (form now : Superpose) (names same : List (List ℕ)) (shown new : List Lit) (certs cs : List Cert) (inner : Box Block Global) (block : Block) (s : Scope) (pile left : List Bool)
-    → step ≡ SuperposedBlock form names shown certs inner → wide ≡ kept ++ next_objects s superposing.sorts_copied → now ≡ superpose_at kept form → same ≡ names → new ≡ map (lit_among_kept kept) shown → cs ≡ map (cert_at kept) certs
+pub superposed_built : (before : List StatementView) (kept wide : List Obj) (step made : Step) (superposition now : Superpose) (names same : List (List ℕ)) (shown new : List Lit) (certs cs : List Cert) (inner : Box Block Global) (block : Block) (s : Scope) (pile left : List Bool)
+    → step ≡ SuperposedBlock superposition names shown certs inner → wide ≡ kept ++ next_objects s superposing.sorts_copied → now ≡ superpose_at kept superposition → same ≡ names → new ≡ map (lit_among_kept kept) shown → cs ≡ map (cert_at kept) certs
     → ((more : Script) → step_script made more ≡ Superposed now same new cs (script_of block) more) → BlockIsBuilt before wide (script_of inner.value) (grown s superposing.sorts_copied) pile left block → StepIsBuilt before kept step s pile left made
-superposed_built before kept wide step made form now names same shown new certs cs inner block s pile left is w f n e g script built =
+superposed_built before kept wide step made superposition now names same shown new certs cs inner block s pile left is w f n e g script built =
     subst (λ st. StepIsBuilt before kept st s pile left made) (sym is)
     (λ rest more facts under h.
-    let old = step_script-Superposed form names shown certs inner rest in
-    let r = superposed_done before kept wide form now names same shown new certs cs inner block s pile left w f n e g built rest more facts under (h ∙ ap (λ d. under ++ step_flags before d s facts) old) in
+    let old = step_script-Superposed superposition names shown certs inner rest in
+    let r = superposed_done before kept wide superposition now names same shown new certs cs inner block s pile left w f n e g built rest more facts under (h ∙ ap (λ d. under ++ step_flags before d s facts) old) in
     (script more ∙ r.0 ∙ ap (λ d. kept_step before kept d s facts more) (sym old), r.1))
 
 -- ---- closes

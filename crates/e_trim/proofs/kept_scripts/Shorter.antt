@@ -31,10 +31,10 @@ shorter (Cite by rest) before kept s facts goal =
 shorter (Hence lit cert rest) before kept s facts goal =
     let r = shorter rest before kept s (joined facts lit) goal in
     either (is_kept before (Hence lit cert rest) s facts (wants before rest s (joined facts lit) goal)) _ _ (Hence lit cert rest) (omega (arith, r.0), r.1) (omega (arith, r.0), r.1)
-shorter (Make form names certs rest) before kept s facts goal =
-    let one = shorter rest before (kept ++ next_objects s (sorts_made form)) (grown s (sorts_made form)) (joined_all facts (gives_of_construction form s)) goal in
-    let other = shorter rest before kept (grown s (sorts_made form)) (joined_all facts (gives_of_construction form s)) goal in
-    either (is_kept before (Make form names certs rest) s facts (wants before rest (grown s (sorts_made form)) (joined_all facts (gives_of_construction form s)) goal)) _ _ (Make form names certs rest) (omega (arith, one.0), one.1) (omega (arith, other.0), other.1)
+shorter (Make construction names certs rest) before kept s facts goal =
+    let one = shorter rest before (kept ++ next_objects s (sorts_made construction)) (grown s (sorts_made construction)) (joined_all facts (gives_of_construction construction s)) goal in
+    let other = shorter rest before kept (grown s (sorts_made construction)) (joined_all facts (gives_of_construction construction s)) goal in
+    either (is_kept before (Make construction names certs rest) s facts (wants before rest (grown s (sorts_made construction)) (joined_all facts (gives_of_construction construction s)) goal)) _ _ (Make construction names certs rest) (omega (arith, one.0), one.1) (omega (arith, other.0), other.1)
 shorter (Apply theorem args names certs rest) before kept s facts goal =
     let here = Apply theorem args names certs rest in
     let new = (theorem_at before theorem).made in
@@ -45,10 +45,10 @@ shorter (Claim shown inner rest) before kept s facts goal =
     let i = shorter inner before kept s facts (goal_of shown) in
     let r = shorter rest before kept s (joined_all facts shown) goal in
     either (is_kept before (Claim shown inner rest) s facts (wants before rest s (joined_all facts shown) goal)) _ _ (Claim shown inner rest) (omega (arith, i.0, r.0), omega (arith, i.1, r.1)) (omega (arith, r.0), omega (arith, r.1))
-shorter (Superposed form names shown certs inner rest) before kept s facts goal =
-    let i = shorter inner before (kept ++ next_objects s superposing.sorts_copied) (grown s superposing.sorts_copied) (joined_all facts (superposing.gives_of_superposition form s)) (goal_of shown) in
+shorter (Superposed superposition names shown certs inner rest) before kept s facts goal =
+    let i = shorter inner before (kept ++ next_objects s superposing.sorts_copied) (grown s superposing.sorts_copied) (joined_all facts (superposing.gives_of_superposition superposition s)) (goal_of shown) in
     let r = shorter rest before kept s (joined_all facts shown) goal in
-    either (is_kept before (Superposed form names shown certs inner rest) s facts (wants before rest s (joined_all facts shown) goal)) _ _ (Superposed form names shown certs inner rest)
+    either (is_kept before (Superposed superposition names shown certs inner rest) s facts (wants before rest s (joined_all facts shown) goal)) _ _ (Superposed superposition names shown certs inner rest)
     (omega (arith, i.0, r.0), omega (arith, i.1, r.1)) (omega (arith, r.0), omega (arith, r.1))
 shorter (Qed objects certs) before kept s facts goal = (omega arith, omega arith)
 shorter (Contradiction against) before kept s facts goal = (omega arith, omega arith)

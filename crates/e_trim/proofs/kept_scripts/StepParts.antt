@@ -59,9 +59,9 @@ nothing_at [] k h = refl
 nothing_at (t ∷ before) zero h = absurd (omega (arith, h))
 nothing_at (t ∷ before) (suc k) h = nothing_at before k (omega (arith, h))
 
-pub made_by_form : (before : List StatementView) (step : Step) (form : Construction) (names : List (List ℕ)) (certs : List Cert) (rest : Script) → step ≡ MakeStep form names certs → makes_at before (step_script step rest) ≡ sorts_made form
+pub made_by_form : (before : List StatementView) (step : Step) (construction : Construction) (names : List (List ℕ)) (certs : List Cert) (rest : Script) → step ≡ MakeStep construction names certs → makes_at before (step_script step rest) ≡ sorts_made construction
 unfolding step_script
-made_by_form before step form names certs rest is = ap (λ s. makes_at before (step_script s rest)) is
+made_by_form before step construction names certs rest is = ap (λ s. makes_at before (step_script s rest)) is
 
 pub made_by_theorem : (before : List StatementView) (step : Step) (theorem : ℕ) (args : List (Option Obj)) (names : List (List ℕ)) (certs : List Cert) (rest : Script) → step ≡ ApplyStep theorem args names certs
     → makes_at before (step_script step rest) ≡ (theorem_at before theorem).made
@@ -110,9 +110,9 @@ pub hence_joins : (before : List StatementView) (step : Step) (lit : Lit) (cert 
 unfolding step_script
 hence_joins before step lit cert rest s is = ap (λ x. joins_at before (step_script x rest) s) is
 
-pub make_joins : (before : List StatementView) (step : Step) (form : Construction) (names : List (List ℕ)) (certs : List Cert) (rest : Script) (s : Scope) → step ≡ MakeStep form names certs → joins_at before (step_script step rest) s ≡ gives_of_construction form s
+pub make_joins : (before : List StatementView) (step : Step) (construction : Construction) (names : List (List ℕ)) (certs : List Cert) (rest : Script) (s : Scope) → step ≡ MakeStep construction names certs → joins_at before (step_script step rest) s ≡ gives_of_construction construction s
 unfolding step_script
-make_joins before step form names certs rest s is = ap (λ x. joins_at before (step_script x rest) s) is
+make_joins before step construction names certs rest s is = ap (λ x. joins_at before (step_script x rest) s) is
 
 pub apply_joins : (before : List StatementView) (step : Step) (theorem : ℕ) (args : List (Option Obj)) (names : List (List ℕ)) (certs : List Cert) (rest : Script) (s : Scope) → step ≡ ApplyStep theorem args names certs
     → joins_at before (step_script step rest) s ≡ gives_of_use (theorem_at before theorem) (written args) s
@@ -122,10 +122,10 @@ apply_joins before step theorem args names certs rest s is = ap (λ x. joins_at 
 pub claim_joins : (before : List StatementView) (step : Step) (shown : List Lit) (inner : Box Block Global) (rest : Script) (s : Scope) → step ≡ ClaimBlock shown inner → joins_at before (step_script step rest) s ≡ shown
 claim_joins before step shown inner rest s is = ap (λ x. joins_at before (step_script x rest) s) is ∙ ap (λ d. joins_at before d s) (step_script-Claim shown inner rest)
 
-pub superposed_joins : (before : List StatementView) (step : Step) (form : Superpose) (names : List (List ℕ)) (shown : List Lit) (certs : List Cert) (inner : Box Block Global) (rest : Script) (s : Scope) → step ≡ SuperposedBlock form names shown certs inner
+pub superposed_joins : (before : List StatementView) (step : Step) (superposition : Superpose) (names : List (List ℕ)) (shown : List Lit) (certs : List Cert) (inner : Box Block Global) (rest : Script) (s : Scope) → step ≡ SuperposedBlock superposition names shown certs inner
     → joins_at before (step_script step rest) s ≡ shown
-superposed_joins before step form names shown certs inner rest s is =
-    ap (λ x. joins_at before (step_script x rest) s) is ∙ ap (λ d. joins_at before d s) (step_script-Superposed form names shown certs inner rest)
+superposed_joins before step superposition names shown certs inner rest s is =
+    ap (λ x. joins_at before (step_script x rest) s) is ∙ ap (λ d. joins_at before d s) (step_script-Superposed superposition names shown certs inner rest)
 
 -- ---- the script of a step, by its form
 
@@ -137,9 +137,9 @@ pub hence_script : (step : Step) (lit : Lit) (cert : Option Cert) (rest : Script
 unfolding step_script
 hence_script step lit cert rest is = sym (ap (λ x. step_script x rest) is)
 
-pub make_script : (step : Step) (form : Construction) (names : List (List ℕ)) (certs cs : List Cert) (rest : Script) → step ≡ MakeStep form names certs → cs ≡ certs → Make form names cs rest ≡ step_script step rest
+pub make_script : (step : Step) (construction : Construction) (names : List (List ℕ)) (certs cs : List Cert) (rest : Script) → step ≡ MakeStep construction names certs → cs ≡ certs → Make construction names cs rest ≡ step_script step rest
 unfolding step_script
-make_script step form names certs cs rest is e = ap (λ x. Make form names x rest) e ∙ sym (ap (λ x. step_script x rest) is)
+make_script step construction names certs cs rest is e = ap (λ x. Make construction names x rest) e ∙ sym (ap (λ x. step_script x rest) is)
 
 pub apply_script : (step : Step) (theorem : ℕ) (args as' : List (Option Obj)) (names : List (List ℕ)) (certs cs : List Cert) (rest : Script) → step ≡ ApplyStep theorem args names certs → as' ≡ args → cs ≡ certs → Apply theorem as' names cs rest ≡ step_script step rest
 unfolding step_script
@@ -148,11 +148,11 @@ apply_script step theorem args as' names certs cs rest is f e = ap (λ x. Apply 
 pub claim_script : (step : Step) (shown : List Lit) (inner : Box Block Global) (rest : Script) → step ≡ ClaimBlock shown inner → Claim shown (script_of inner.value) rest ≡ step_script step rest
 claim_script step shown inner rest is = sym (ap (λ x. step_script x rest) is ∙ step_script-Claim shown inner rest)
 
-pub superposed_script : (step : Step) (form : Superpose) (names : List (List ℕ)) (shown ls : List Lit) (certs cs : List Cert) (inner : Box Block Global) (rest : Script) → step ≡ SuperposedBlock form names shown certs inner → ls ≡ shown → cs ≡ certs
-    → Superposed form names ls cs (script_of inner.value) rest ≡ step_script step rest
-superposed_script step form names shown ls certs cs inner rest is f e =
-    ap (λ x. Superposed form names x cs (script_of inner.value) rest) f ∙ ap (λ x. Superposed form names shown x (script_of inner.value) rest) e
-    ∙ sym (ap (λ x. step_script x rest) is ∙ step_script-Superposed form names shown certs inner rest)
+pub superposed_script : (step : Step) (superposition : Superpose) (names : List (List ℕ)) (shown ls : List Lit) (certs cs : List Cert) (inner : Box Block Global) (rest : Script) → step ≡ SuperposedBlock superposition names shown certs inner → ls ≡ shown → cs ≡ certs
+    → Superposed superposition names ls cs (script_of inner.value) rest ≡ step_script step rest
+superposed_script step superposition names shown ls certs cs inner rest is f e =
+    ap (λ x. Superposed superposition names x cs (script_of inner.value) rest) f ∙ ap (λ x. Superposed superposition names shown x (script_of inner.value) rest) e
+    ∙ sym (ap (λ x. step_script x rest) is ∙ step_script-Superposed superposition names shown certs inner rest)
 
 pub qed_script : (close : Close) (objects os : List Obj) (certs cs : List Cert) → close ≡ QedClose objects certs → os ≡ objects → cs ≡ certs → Qed os cs ≡ close_script close
 unfolding close_script

@@ -16,10 +16,10 @@ pub one_line : (d : Script) → 1 ≤ size d
 unfolding size
 one_line (Cite by rest) = omega arith
 one_line (Hence lit cert rest) = omega arith
-one_line (Make form names certs rest) = omega arith
+one_line (Make construction names certs rest) = omega arith
 one_line (Apply theorem args names certs rest) = omega arith
 one_line (Claim shown inner rest) = omega arith
-one_line (Superposed form names shown certs inner rest) = omega arith
+one_line (Superposed superposition names shown certs inner rest) = omega arith
 one_line (Qed objects certs) = omega arith
 one_line (Contradiction against) = omega arith
 one_line (Cases lit first second) = omega arith
@@ -29,19 +29,19 @@ pub size_step : (step : Step) (rest : Script) → size (step_script step rest) +
 unfolding size step_script
 size_step (CiteStep by) rest = omega arith
 size_step (HenceStep lit cert) rest = omega arith
-size_step (MakeStep form names certs) rest = omega arith
+size_step (MakeStep construction names certs) rest = omega arith
 size_step (ApplyStep theorem args names certs) rest = omega arith
 size_step (ClaimStep shown p0 n0 row0 close0) rest = omega arith
-size_step (SuperposedStep form names shown certs p0 n0 row0 close0) rest = omega arith
+size_step (SuperposedStep superposition names shown certs p0 n0 row0 close0) rest = omega arith
 
 pub size_own : (step : Step) → 2 ≤ size (step_script step (Qed [] []))
 unfolding size step_script
 size_own (CiteStep by) = omega arith
 size_own (HenceStep lit cert) = omega arith
-size_own (MakeStep form names certs) = omega arith
+size_own (MakeStep construction names certs) = omega arith
 size_own (ApplyStep theorem args names certs) = omega arith
 size_own (ClaimStep shown p0 n0 row0 close0) = omega arith
-size_own (SuperposedStep form names shown certs p0 n0 row0 close0) = omega arith
+size_own (SuperposedStep superposition names shown certs p0 n0 row0 close0) = omega arith
 
 pub size_claim : (shown : List Lit) (inner : Box Block Global) → size (step_script (ClaimBlock shown inner) (Qed [] [])) ≡ size (script_of inner.value) + 2
 size_claim shown inner =
@@ -49,9 +49,9 @@ size_claim shown inner =
     let b = size-Qed [] [] in
     omega (arith, a, b)
 
-pub size_superposed : (form : Superpose) (names : List (List ℕ)) (shown : List Lit) (certs : List Cert) (inner : Box Block Global) → size (step_script (SuperposedBlock form names shown certs inner) (Qed [] [])) ≡ size (script_of inner.value) + 2
-size_superposed form names shown certs inner =
-    let a = ap size (step_script-Superposed form names shown certs inner (Qed [] [])) ∙ size-Superposed form names shown certs (script_of inner.value) (Qed [] []) in
+pub size_superposed : (superposition : Superpose) (names : List (List ℕ)) (shown : List Lit) (certs : List Cert) (inner : Box Block Global) → size (step_script (SuperposedBlock superposition names shown certs inner) (Qed [] [])) ≡ size (script_of inner.value) + 2
+size_superposed superposition names shown certs inner =
+    let a = ap size (step_script-Superposed superposition names shown certs inner (Qed [] [])) ∙ size-Superposed superposition names shown certs (script_of inner.value) (Qed [] []) in
     let b = size-Qed [] [] in
     omega (arith, a, b)
 
@@ -77,10 +77,10 @@ step_falls step rest whole e =
 pub claim_falls : (step : Step) (shown : List Lit) (inner : Box Block Global) (block : Block) → step ≡ ClaimBlock shown inner → block ≡ inner.value → size (step_script step (Qed [] [])) ≡ size (script_of block) + 2
 claim_falls step shown inner block is e = ap (λ s. size (step_script s (Qed [] []))) is ∙ size_claim shown inner ∙ ap (λ x. size (script_of x) + 2) (sym e)
 
-pub superposed_falls : (step : Step) (form : Superpose) (names : List (List ℕ)) (shown : List Lit) (certs : List Cert) (inner : Box Block Global) (block : Block) → step ≡ SuperposedBlock form names shown certs inner → block ≡ inner.value
+pub superposed_falls : (step : Step) (superposition : Superpose) (names : List (List ℕ)) (shown : List Lit) (certs : List Cert) (inner : Box Block Global) (block : Block) → step ≡ SuperposedBlock superposition names shown certs inner → block ≡ inner.value
     → size (step_script step (Qed [] [])) ≡ size (script_of block) + 2
-superposed_falls step form names shown certs inner block is e =
-    ap (λ s. size (step_script s (Qed [] []))) is ∙ size_superposed form names shown certs inner ∙ ap (λ x. size (script_of x) + 2) (sym e)
+superposed_falls step superposition names shown certs inner block is e =
+    ap (λ s. size (step_script s (Qed [] []))) is ∙ size_superposed superposition names shown certs inner ∙ ap (λ x. size (script_of x) + 2) (sym e)
 
 pub first_falls : (close : Close) (lit : Lit) (first second : Box Block Global) (block : Block) → close ≡ CasesBlock lit first second → block ≡ first.value → size (script_of block) + 2 ≤ size (close_script close)
 first_falls close lit first second block is e =

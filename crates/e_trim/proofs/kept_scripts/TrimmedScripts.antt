@@ -41,7 +41,7 @@ use Rattle.e_construct.specs.declared.superpose.Superpose.{Superpose}
 use Rattle.e_construct.specs.Superposing as superposing
 use Rattle.e_construct.specs.declared.construction.Construction.{Construction}
 use Rattle.e_construct.specs.Shapes.{Avoids, NoObject, AnyObject, AnyApartFrom}
-use Rattle.e_construct.specs.Construct.{row_of_construction, sorts_of, avoids_well, fits_construction as fits_form, needs_of_construction as needs_of_form, sorts_made, gives_of_construction}
+use Rattle.e_construct.specs.Construct.{row_of_construction, sorts_of, avoids_well, fits_construction, needs_of_construction, sorts_made, gives_of_construction}
 
 -- ---- certified from a script on
 
@@ -314,10 +314,10 @@ contradiction_goes before kept s facts goal (Some a) v h now goal' r =
 
 -- ---- make
 
-form_in : (s : Scope) (form : Construction) → fits_form form s ≡ true → AllIn s (form.args ++ form.avoid)
-form_in s form h =
-    let p = and_parts (are_of_sorts s (sorts_of (row_of_construction form).args) form.args) (avoids_well s (row_of_construction form).avoids form.avoid) h in
-    both_in s form.args form.avoid (args_in_scope s (sorts_of (row_of_construction form).args) form.args p.0) (avoided_in s (row_of_construction form).avoids form.avoid p.1)
+form_in : (s : Scope) (construction : Construction) → fits_construction construction s ≡ true → AllIn s (construction.args ++ construction.avoid)
+form_in s construction h =
+    let p = and_parts (are_of_sorts s (sorts_of (row_of_construction construction).args) construction.args) (avoids_well s (row_of_construction construction).avoids construction.avoid) h in
+    both_in s construction.args construction.avoid (args_in_scope s (sorts_of (row_of_construction construction).args) construction.args p.0) (avoided_in s (row_of_construction construction).avoids construction.avoid p.1)
   where
     args_in_scope : (s : Scope) (xs : List Sort) (os : List Obj) → are_of_sorts s xs os ≡ true → AllIn s os
     args_in_scope s [] [] e o i = absurd i
@@ -334,25 +334,25 @@ form_in s form h =
     avoided_in s AnyObject os e = listed_in s os e
     avoided_in s (AnyApartFrom x) os e = listed_in s os e
 
-pub make_goes : (before : List StatementView) (kept : List Obj) (s : Scope) (facts : List Lit) (goal : Goal) (form : Construction) (names : List (List ℕ)) (certs : List Cert) (rest : Script)
-    → list_all (is_cert_of version.One) certs ≡ true → is_certified before (as_step (Make form names certs rest) s facts goal) ≡ true
-    → ((more : List Obj) → Goes before more (grown s (sorts_made form)) (joined_all facts (gives_of_construction form s)) goal (wants before rest (grown s (sorts_made form)) (joined_all facts (gives_of_construction form s)) goal)
-    (trimmed_from before more rest (grown s (sorts_made form)) (joined_all facts (gives_of_construction form s)) goal))
-    → Goes before kept s facts goal (wants before (Make form names certs rest) s facts goal) (trimmed_from before kept (Make form names certs rest) s facts goal)
+pub make_goes : (before : List StatementView) (kept : List Obj) (s : Scope) (facts : List Lit) (goal : Goal) (construction : Construction) (names : List (List ℕ)) (certs : List Cert) (rest : Script)
+    → list_all (is_cert_of version.One) certs ≡ true → is_certified before (as_step (Make construction names certs rest) s facts goal) ≡ true
+    → ((more : List Obj) → Goes before more (grown s (sorts_made construction)) (joined_all facts (gives_of_construction construction s)) goal (wants before rest (grown s (sorts_made construction)) (joined_all facts (gives_of_construction construction s)) goal)
+    (trimmed_from before more rest (grown s (sorts_made construction)) (joined_all facts (gives_of_construction construction s)) goal))
+    → Goes before kept s facts goal (wants before (Make construction names certs rest) s facts goal) (trimmed_from before kept (Make construction names certs rest) s facts goal)
 unfolding wants trimmed_from placed_steps
-make_goes before kept s facts goal form names certs rest v h more now goal' r = by (is_kept before here s facts w) refl r
+make_goes before kept s facts goal construction names certs rest v h more now goal' r = by (is_kept before here s facts w) refl r
   where
     here : Script
-    here = Make form names certs rest
+    here = Make construction names certs rest
 
     new : List Sort
-    new = sorts_made form
+    new = sorts_made construction
 
     wide : List Obj
     wide = kept ++ next_objects s new
 
     after : List Lit
-    after = joined_all facts (gives_of_construction form s)
+    after = joined_all facts (gives_of_construction construction s)
 
     w : Wants
     w = wants before rest (grown s new) after goal
@@ -361,34 +361,34 @@ make_goes before kept s facts goal form names certs rest v h more now goal' r = 
     own = of_step before (as_step here s facts goal)
 
     named : List Obj
-    named = form.args ++ form.avoid
+    named = construction.args ++ construction.avoid
 
     t : Script
     t = trimmed_from before wide rest (grown s new) after goal
 
     by : (b : Bool) → is_kept before here s facts w ≡ b → Ready kept s facts now goal goal' (cond b (both w (both own no_wants)) w)
-        → certified_from before (cond b (Make (construction_among_kept kept form) names (map (cert_at kept) certs) t) (trimmed_from before kept rest (grown s new) after goal)) (scope_kept kept) now goal' ≡ true
+        → certified_from before (cond b (Make (construction_among_kept kept construction) names (map (cert_at kept) certs) t) (trimmed_from before kept rest (grown s new) after goal)) (scope_kept kept) now goal' ≡ true
     by true e k =
         let line_ready = first kept s facts now goal goal' own no_wants (second kept s facts now goal goal' w (both own no_wants) k) in
-        let looked = of_certs facts (needs_of_form form) certs in
-        let p = and_parts (fits_form form s) (certify_all s facts (needs_of_form form) certs && true) h in
-        let q = and_parts (certify_all s facts (needs_of_form form) certs) true p.1 in
-        let scopes = both_in s named (looked.objects ++ []) (form_in s form p.0) (both_in s looked.objects [] (certs_scope s facts facts (needs_of_form form) certs q.0) (λ o i. absurd i)) in
+        let looked = of_certs facts (needs_of_construction construction) certs in
+        let p = and_parts (fits_construction construction s) (certify_all s facts (needs_of_construction construction) certs && true) h in
+        let q = and_parts (certify_all s facts (needs_of_construction construction) certs) true p.1 in
+        let scopes = both_in s named (looked.objects ++ []) (form_in s construction p.0) (both_in s looked.objects [] (certs_scope s facts facts (needs_of_construction construction) certs q.0) (λ o i. absurd i)) in
         let c = covered kept s facts now goal goal' own line_ready scopes in
         let objects = (cover_left kept own.lits (needed named) (both looked no_wants) c).objects in
         let own_certs = cover_left kept own.lits looked no_wants (cover_right kept own.lits (needed named) (both looked no_wants) c) in
-        let done = certs_stay kept s facts now own.lits (needs_of_form form) certs v line_ready.stays (needs_over kept s form p.0 objects) own_certs q.0 in
-        let given = gives_at kept s form line_ready.bound objects p.0 in
-        let next = more wide (joined_all now (map (lit_among_kept wide) (gives_of_construction form s))) goal'
-        (made_ready kept s new facts now (gives_of_construction form s) goal goal' w (gives_over kept s form p.0 objects) (first kept s facts now goal goal' w (both own no_wants) k)) in
-        and_from (is_certified before (as_step (Make (construction_among_kept kept form) names (map (cert_at kept) certs) t) (scope_kept kept) now goal')) _
-        (and_from (fits_form (construction_among_kept kept form) (scope_kept kept)) _ (fits_at kept s form p.0 objects)
-        (and_from _ true (ap (λ ls. certify_all (scope_kept kept) now ls (map (cert_at kept) certs)) (needs_at kept s form p.0) ∙ done) refl))
-        (ap (λ z. certified_from before t z (joined_all now (gives_of_construction (construction_among_kept kept form) (scope_kept kept))) goal') (sym (scope_more kept s new))
+        let done = certs_stay kept s facts now own.lits (needs_of_construction construction) certs v line_ready.stays (needs_over kept s construction p.0 objects) own_certs q.0 in
+        let given = gives_at kept s construction line_ready.bound objects p.0 in
+        let next = more wide (joined_all now (map (lit_among_kept wide) (gives_of_construction construction s))) goal'
+        (made_ready kept s new facts now (gives_of_construction construction s) goal goal' w (gives_over kept s construction p.0 objects) (first kept s facts now goal goal' w (both own no_wants) k)) in
+        and_from (is_certified before (as_step (Make (construction_among_kept kept construction) names (map (cert_at kept) certs) t) (scope_kept kept) now goal')) _
+        (and_from (fits_construction (construction_among_kept kept construction) (scope_kept kept)) _ (fits_at kept s construction p.0 objects)
+        (and_from _ true (ap (λ ls. certify_all (scope_kept kept) now ls (map (cert_at kept) certs)) (needs_at kept s construction p.0) ∙ done) refl))
+        (ap (λ z. certified_from before t z (joined_all now (gives_of_construction (construction_among_kept kept construction) (scope_kept kept))) goal') (sym (scope_more kept s new))
         ∙ ap (λ ls. certified_from before t (scope_kept wide) (joined_all now ls) goal') given ∙ next)
     by false e k =
-        let p = or_parts (list_any (supplies facts w) (gives_of_construction form s)) (list_any (is_needed w) (next_objects s new)) e in
-        more kept now goal' (unmade_ready kept s new facts now (gives_of_construction form s) goal goal' w p.0 p.1 k)
+        let p = or_parts (list_any (supplies facts w) (gives_of_construction construction s)) (list_any (is_needed w) (next_objects s new)) e in
+        more kept now goal' (unmade_ready kept s new facts now (gives_of_construction construction s) goal goal' w p.0 p.1 k)
 
 -- ---- superpose
 
@@ -404,21 +404,21 @@ superposed_in s x h = sorted_in s (sorts_of superposing.superposed_args) (superp
     sorted_in s (x ∷ xs) (y ∷ os) e o (inr i) =
         let p = and_parts (same_sort x y.sort) (is_in_scope s y && are_of_sorts s xs os) e in sorted_in s xs os (and_parts (is_in_scope s y) (are_of_sorts s xs os) p.1).1 o i
 
-pub superposed_goes : (before : List StatementView) (kept : List Obj) (s : Scope) (facts : List Lit) (goal : Goal) (form : Superpose) (names : List (List ℕ)) (shown : List Lit) (certs : List Cert) (inner rest : Script)
-    → list_all (is_cert_of version.One) certs ≡ true → is_certified before (as_step (Superposed form names shown certs inner rest) s facts goal) ≡ true
-    → Goes before (kept ++ next_objects s superposing.sorts_copied) (grown s superposing.sorts_copied) (joined_all facts (superposing.gives_of_superposition form s)) (goal_of shown)
-    (wants before inner (grown s superposing.sorts_copied) (joined_all facts (superposing.gives_of_superposition form s)) (goal_of shown))
-    (trimmed_from before (kept ++ next_objects s superposing.sorts_copied) inner (grown s superposing.sorts_copied) (joined_all facts (superposing.gives_of_superposition form s)) (goal_of shown))
+pub superposed_goes : (before : List StatementView) (kept : List Obj) (s : Scope) (facts : List Lit) (goal : Goal) (superposition : Superpose) (names : List (List ℕ)) (shown : List Lit) (certs : List Cert) (inner rest : Script)
+    → list_all (is_cert_of version.One) certs ≡ true → is_certified before (as_step (Superposed superposition names shown certs inner rest) s facts goal) ≡ true
+    → Goes before (kept ++ next_objects s superposing.sorts_copied) (grown s superposing.sorts_copied) (joined_all facts (superposing.gives_of_superposition superposition s)) (goal_of shown)
+    (wants before inner (grown s superposing.sorts_copied) (joined_all facts (superposing.gives_of_superposition superposition s)) (goal_of shown))
+    (trimmed_from before (kept ++ next_objects s superposing.sorts_copied) inner (grown s superposing.sorts_copied) (joined_all facts (superposing.gives_of_superposition superposition s)) (goal_of shown))
     → Goes before kept s (joined_all facts shown) goal (wants before rest s (joined_all facts shown) goal) (trimmed_from before kept rest s (joined_all facts shown) goal)
-    → Goes before kept s facts goal (wants before (Superposed form names shown certs inner rest) s facts goal) (trimmed_from before kept (Superposed form names shown certs inner rest) s facts goal)
+    → Goes before kept s facts goal (wants before (Superposed superposition names shown certs inner rest) s facts goal) (trimmed_from before kept (Superposed superposition names shown certs inner rest) s facts goal)
 unfolding wants trimmed_from placed_steps
-superposed_goes before kept s facts goal form names shown certs inner rest one h block more now goal' r = by (is_kept before here s facts w) refl r
+superposed_goes before kept s facts goal superposition names shown certs inner rest one h block more now goal' r = by (is_kept before here s facts w) refl r
   where
     here : Script
-    here = Superposed form names shown certs inner rest
+    here = Superposed superposition names shown certs inner rest
 
     given : List Lit
-    given = superposing.gives_of_superposition form s
+    given = superposing.gives_of_superposition superposition s
 
     wide : List Obj
     wide = kept ++ next_objects s superposing.sorts_copied
@@ -442,39 +442,39 @@ superposed_goes before kept s facts goal form names shown certs inner rest one h
     shown' = map (lit_among_kept kept) shown
 
     named : List Obj
-    named = superposing.objects_of form ++ objects_of_lits shown
+    named = superposing.objects_of superposition ++ objects_of_lits shown
 
     by : (b : Bool) → is_kept before here s facts w ≡ b → Ready kept s facts now goal goal' (cond b (both w (both own (wants_outside s facts v))) w)
-        → certified_from before (cond b (Superposed (superpose_at kept form) names shown' (map (cert_at kept) certs) i t) t) (scope_kept kept) now goal' ≡ true
+        → certified_from before (cond b (Superposed (superpose_at kept superposition) names shown' (map (cert_at kept) certs) i t) t) (scope_kept kept) now goal' ≡ true
     by true e k =
         let line_and_block = second kept s facts now goal goal' w (both own (wants_outside s facts v)) k in
         let line_ready = first kept s facts now goal goal' own (wants_outside s facts v) line_and_block in
-        let looked = of_certs facts (superposing.needs_of_superposition form) certs in
-        let p = and_parts (superposing.fits_superposition form s && are_over s shown) (certify_all s facts (superposing.needs_of_superposition form) certs && true) h in
-        let f = and_parts (superposing.fits_superposition form s) (are_over s shown) p.0 in
-        let q = and_parts (certify_all s facts (superposing.needs_of_superposition form) certs) true p.1 in
-        let scopes = both_in s named (looked.objects ++ []) (both_in s (superposing.objects_of form) (objects_of_lits shown) (superposed_in s form f.0) (lits_in s shown f.1))
-        (both_in s looked.objects [] (certs_scope s facts facts (superposing.needs_of_superposition form) certs q.0) (λ o j. absurd j)) in
+        let looked = of_certs facts (superposing.needs_of_superposition superposition) certs in
+        let p = and_parts (superposing.fits_superposition superposition s && are_over s shown) (certify_all s facts (superposing.needs_of_superposition superposition) certs && true) h in
+        let f = and_parts (superposing.fits_superposition superposition s) (are_over s shown) p.0 in
+        let q = and_parts (certify_all s facts (superposing.needs_of_superposition superposition) certs) true p.1 in
+        let scopes = both_in s named (looked.objects ++ []) (both_in s (superposing.objects_of superposition) (objects_of_lits shown) (superposed_in s superposition f.0) (lits_in s shown f.1))
+        (both_in s looked.objects [] (certs_scope s facts facts (superposing.needs_of_superposition superposition) certs q.0) (λ o j. absurd j)) in
         let c = covered kept s facts now goal goal' own line_ready scopes in
         let objects = (cover_left kept own.lits (needed named) (both looked no_wants) c).objects in
-        let args : AllKept kept (superposing.objects_of form) = λ o j. objects o (in_left o (superposing.objects_of form) (objects_of_lits shown) j) in
-        let over : OverLits kept shown = λ l j o m. objects o (in_right o (superposing.objects_of form) (objects_of_lits shown) (in_flat (λ (x : Lit). objects_of_atom x.atom) l o shown j m)) in
+        let args : AllKept kept (superposing.objects_of superposition) = λ o j. objects o (in_left o (superposing.objects_of superposition) (objects_of_lits shown) j) in
+        let over : OverLits kept shown = λ l j o m. objects o (in_right o (superposing.objects_of superposition) (objects_of_lits shown) (in_flat (λ (x : Lit). objects_of_atom x.atom) l o shown j m)) in
         let own_certs = cover_left kept own.lits looked no_wants (cover_right kept own.lits (needed named) (both looked no_wants) c) in
-        let done = certs_stay kept s facts now own.lits (superposing.needs_of_superposition form) certs one line_ready.stays (superposition_needs_over kept s form f.0 args) own_certs q.0 in
-        let gives' = superposition_gives kept s form line_ready.bound args f.0 in
+        let done = certs_stay kept s facts now own.lits (superposing.needs_of_superposition superposition) certs one line_ready.stays (superposition_needs_over kept s superposition f.0 args) own_certs q.0 in
+        let gives' = superposition_gives kept s superposition line_ready.bound args f.0 in
         let inner_ready = inside kept s facts now goal goal' v (second kept s facts now goal goal' own (wants_outside s facts v) line_and_block) in
         let goes : GoalGoes kept s (goal_of shown) (goal_of shown') = inl (record { shown = shown; before = refl; after = refl; over = over }) in
-        let opened = made_ready kept s superposing.sorts_copied facts now given (goal_of shown) (goal_of shown') v (superposition_gives_over kept s form f.0 args) (with_goal kept s facts now goal goal' (goal_of shown) (goal_of shown') v goes inner_ready) in
+        let opened = made_ready kept s superposing.sorts_copied facts now given (goal_of shown) (goal_of shown') v (superposition_gives_over kept s superposition f.0 args) (with_goal kept s facts now goal goal' (goal_of shown) (goal_of shown') v goes inner_ready) in
         let block_done = block (joined_all now (map (lit_among_kept wide) given)) (goal_of shown') opened in
         let next = more (joined_all now shown') goal' (joined_ready kept s facts now shown goal goal' w over (first kept s facts now goal goal' w (both own (wants_outside s facts v)) k)) in
-        and_from (is_certified before (as_step (Superposed (superpose_at kept form) names shown' (map (cert_at kept) certs) i t) (scope_kept kept) now goal'))
-        (list_all (is_certified before) (placed_steps before i i (grown (scope_kept kept) superposing.sorts_copied) (joined_all now (superposing.gives_of_superposition (superpose_at kept form) (scope_kept kept))) (goal_of shown') ++ placed_steps before t t (scope_kept kept) (joined_all now shown') goal'))
-        (and_from (superposing.fits_superposition (superpose_at kept form) (scope_kept kept) && are_over (scope_kept kept) shown') (certify_all (scope_kept kept) now (superposing.needs_of_superposition (superpose_at kept form)) (map (cert_at kept) certs) && true)
-        (and_from (superposing.fits_superposition (superpose_at kept form) (scope_kept kept)) (are_over (scope_kept kept) shown') (superposition_fits kept s form f.0 args) (lits_scope kept shown over))
-        (and_from (certify_all (scope_kept kept) now (superposing.needs_of_superposition (superpose_at kept form)) (map (cert_at kept) certs)) true (ap (λ ls. certify_all (scope_kept kept) now ls (map (cert_at kept) certs)) (superposition_needs kept s form f.0) ∙ done) refl))
-        (list_all-append (is_certified before) (placed_steps before i i (grown (scope_kept kept) superposing.sorts_copied) (joined_all now (superposing.gives_of_superposition (superpose_at kept form) (scope_kept kept))) (goal_of shown')) (placed_steps before t t (scope_kept kept) (joined_all now shown') goal')
-        ∙ and_from (certified_from before i (grown (scope_kept kept) superposing.sorts_copied) (joined_all now (superposing.gives_of_superposition (superpose_at kept form) (scope_kept kept))) (goal_of shown')) (certified_from before t (scope_kept kept) (joined_all now shown') goal')
-        (ap (λ z. certified_from before i z (joined_all now (superposing.gives_of_superposition (superpose_at kept form) (scope_kept kept))) (goal_of shown')) (sym (scope_more kept s superposing.sorts_copied))
+        and_from (is_certified before (as_step (Superposed (superpose_at kept superposition) names shown' (map (cert_at kept) certs) i t) (scope_kept kept) now goal'))
+        (list_all (is_certified before) (placed_steps before i i (grown (scope_kept kept) superposing.sorts_copied) (joined_all now (superposing.gives_of_superposition (superpose_at kept superposition) (scope_kept kept))) (goal_of shown') ++ placed_steps before t t (scope_kept kept) (joined_all now shown') goal'))
+        (and_from (superposing.fits_superposition (superpose_at kept superposition) (scope_kept kept) && are_over (scope_kept kept) shown') (certify_all (scope_kept kept) now (superposing.needs_of_superposition (superpose_at kept superposition)) (map (cert_at kept) certs) && true)
+        (and_from (superposing.fits_superposition (superpose_at kept superposition) (scope_kept kept)) (are_over (scope_kept kept) shown') (superposition_fits kept s superposition f.0 args) (lits_scope kept shown over))
+        (and_from (certify_all (scope_kept kept) now (superposing.needs_of_superposition (superpose_at kept superposition)) (map (cert_at kept) certs)) true (ap (λ ls. certify_all (scope_kept kept) now ls (map (cert_at kept) certs)) (superposition_needs kept s superposition f.0) ∙ done) refl))
+        (list_all-append (is_certified before) (placed_steps before i i (grown (scope_kept kept) superposing.sorts_copied) (joined_all now (superposing.gives_of_superposition (superpose_at kept superposition) (scope_kept kept))) (goal_of shown')) (placed_steps before t t (scope_kept kept) (joined_all now shown') goal')
+        ∙ and_from (certified_from before i (grown (scope_kept kept) superposing.sorts_copied) (joined_all now (superposing.gives_of_superposition (superpose_at kept superposition) (scope_kept kept))) (goal_of shown')) (certified_from before t (scope_kept kept) (joined_all now shown') goal')
+        (ap (λ z. certified_from before i z (joined_all now (superposing.gives_of_superposition (superpose_at kept superposition) (scope_kept kept))) (goal_of shown')) (sym (scope_more kept s superposing.sorts_copied))
         ∙ ap (λ ls. certified_from before i (scope_kept wide) (joined_all now ls) (goal_of shown')) gives' ∙ block_done)
         next)
     by false e k =

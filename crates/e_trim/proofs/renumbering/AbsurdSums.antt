@@ -52,13 +52,13 @@ module _ (p : ℕ → ℕ) (K : ℕ → Type 0) (keeps : Keeps p K) where
       ap (λ n. int_eq n (pos 0) && list_all (λ t. int_eq (total (map (weighed_at p K keeps) ws) t) (pos 0)) (map (term_at p) ts)) (total_stays p K keeps ws t h k.0)
       ∙ ap (λ b. int_eq (total ws t) (pos 0) && b) (cancel_at ws ts h k.1)
 
-  signs_at : (ws : List Weighed) → list_all (λ (w : Weighed). allows_multiplier w.row.says w.multiplier) (map (weighed_at p K keeps) ws) ≡ list_all (λ (w : Weighed). allows_multiplier w.row.says w.multiplier) ws
+  signs_at : (ws : List Weighed) → list_all (λ (w : Weighed). allows_multiplier w.row.sense w.multiplier) (map (weighed_at p K keeps) ws) ≡ list_all (λ (w : Weighed). allows_multiplier w.row.sense w.multiplier) ws
   signs_at [] = refl
-  signs_at (w ∷ ws) = ap (λ b. allows_multiplier w.row.says w.multiplier && b) (signs_at ws)
+  signs_at (w ∷ ws) = ap (λ b. allows_multiplier w.row.sense w.multiplier && b) (signs_at ws)
 
-  strict_at : (ws : List Weighed) → list_any (λ (w : Weighed). is_strict w.row.says w.multiplier) (map (weighed_at p K keeps) ws) ≡ list_any (λ (w : Weighed). is_strict w.row.says w.multiplier) ws
+  strict_at : (ws : List Weighed) → list_any (λ (w : Weighed). is_strict w.row.sense w.multiplier) (map (weighed_at p K keeps) ws) ≡ list_any (λ (w : Weighed). is_strict w.row.sense w.multiplier) ws
   strict_at [] = refl
-  strict_at (w ∷ ws) = ap (λ b. is_strict w.row.says w.multiplier || b) (strict_at ws)
+  strict_at (w ∷ ws) = ap (λ b. is_strict w.row.sense w.multiplier || b) (strict_at ws)
 
   pub absurd_stays : (ws : List Weighed) → OverRows p K keeps ws → is_absurd (map (weighed_at p K keeps) ws) ≡ is_absurd ws
   absurd_stays ws h =

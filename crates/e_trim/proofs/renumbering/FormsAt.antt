@@ -49,7 +49,7 @@ module _ (p : ℕ → ℕ) (K : ℕ → Type 0) (keeps : Keeps p K) where
       ∙ ap (λ n. cond (term_eq q.1 t) q.0 (pos 0) +ℤ n) (coefficient_stays form t h.1 k)
 
   abbrev pub row_at : Row → Row
-  row_at r = record { says = r.says; form = form_at p r.form }
+  row_at r = record { sense = r.sense; form = form_at p r.form }
 
   abbrev pub weighed_at : Weighed → Weighed
   weighed_at w = record { multiplier = w.multiplier; row = row_at w.row }

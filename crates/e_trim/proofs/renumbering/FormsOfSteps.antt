@@ -20,7 +20,7 @@ use Rattle.e_literal.specs.declared.literal.Lit.{Lit}
 use Rattle.e_literal.specs.Literal.{obj, count_of, is_in_scope, objects_of_atom, all_in_scope}
 use Rattle.e_literal.specs.Scopes.{same_sort, nothing, with_one, grown, next_objects, are_of_sorts}
 use Rattle.e_literal.specs.Rename.{renamed, term_at, mono_at, atom_at, number_at, same_obj, image_in, paired, has_images}
-use Rattle.e_literal.specs.Use.{StatementView, scope_of, image, are_arguments}
+use Rattle.e_literal.specs.Use.{StatementView, scope_of, image_in_use, are_arguments}
 use Rattle.e_literal.proofs.Sorts.{same_sort_is, same_obj_is}
 use Rattle.e_construct.specs.declared.construction.Construction.{Construction}
 use Rattle.e_construct.specs.declared.construction.Shape.{Shape}
@@ -142,12 +142,12 @@ avoids_at kept s NoObject os h k = ap (λ n. eqb n 0) (length-map os (obj_at kep
 avoids_at kept s AnyObject os h k = objects_scope kept os k
 avoids_at kept s (AnyApartFrom o) os h k = objects_scope kept os k
 
-pub fits_at : (kept : List Obj) (s : Scope) (form : Construction) → fits_construction form s ≡ true → AllKept kept (form.args ++ form.avoid) → fits_construction (construction_among_kept kept form) (scope_kept kept) ≡ true
-fits_at kept s form h k =
-    let r = row_of_construction form in
-    let p = and_parts (are_of_sorts s (sorts_of r.args) form.args) (avoids_well s r.avoids form.avoid) h in
-    and_from (are_of_sorts (scope_kept kept) (sorts_of r.args) (map (obj_at kept) form.args)) (avoids_well (scope_kept kept) r.avoids (map (obj_at kept) form.avoid))
-    (of_sorts_at kept s (sorts_of r.args) form.args p.0 (λ o i. k o (in_left o form.args form.avoid i))) (avoids_at kept s r.avoids form.avoid p.1 (λ o i. k o (in_right o form.args form.avoid i)))
+pub fits_at : (kept : List Obj) (s : Scope) (construction : Construction) → fits_construction construction s ≡ true → AllKept kept (construction.args ++ construction.avoid) → fits_construction (construction_among_kept kept construction) (scope_kept kept) ≡ true
+fits_at kept s construction h k =
+    let r = row_of_construction construction in
+    let p = and_parts (are_of_sorts s (sorts_of r.args) construction.args) (avoids_well s r.avoids construction.avoid) h in
+    and_from (are_of_sorts (scope_kept kept) (sorts_of r.args) (map (obj_at kept) construction.args)) (avoids_well (scope_kept kept) r.avoids (map (obj_at kept) construction.avoid))
+    (of_sorts_at kept s (sorts_of r.args) construction.args p.0 (λ o i. k o (in_left o construction.args construction.avoid i))) (avoids_at kept s r.avoids construction.avoid p.1 (λ o i. k o (in_right o construction.args construction.avoid i)))
 
 sort_stays : (kept : List Obj) (s : Sort) (os : List Obj) → of_sort s (map (obj_at kept) os) ≡ map (obj_at kept) (of_sort s os)
 sort_stays kept s [] = refl
@@ -217,16 +217,16 @@ apart_at kept r (AnyApartFrom o) args os s h =
     ∙ unequals_at kept (argument r args o) (of_sort o.sort os) (λ y i. q.1 ∙ are_of_sort o.sort os y i)
 
 -- what it needs, over the kept objects
-pub needs_at : (kept : List Obj) (s : Scope) (form : Construction) → fits_construction form s ≡ true → needs_of_construction (construction_among_kept kept form) ≡ map (lit_among_kept kept) (needs_of_construction form)
-needs_at kept s form h =
-    let r = row_of_construction form in
-    let p = and_parts (are_of_sorts s (sorts_of r.args) form.args) (avoids_well s r.avoids form.avoid) h in
-    let z = sorts_are s (sorts_of r.args) form.args p.0 in
-    let q = and_parts (list_all (speaks_of r.args) r.needs) (list_all (speaks_of (r.args ++ r.made)) r.gives && avoids_closed r r.avoids) (closed form.shape) in
+pub needs_at : (kept : List Obj) (s : Scope) (construction : Construction) → fits_construction construction s ≡ true → needs_of_construction (construction_among_kept kept construction) ≡ map (lit_among_kept kept) (needs_of_construction construction)
+needs_at kept s construction h =
+    let r = row_of_construction construction in
+    let p = and_parts (are_of_sorts s (sorts_of r.args) construction.args) (avoids_well s r.avoids construction.avoid) h in
+    let z = sorts_are s (sorts_of r.args) construction.args p.0 in
+    let q = and_parts (list_all (speaks_of r.args) r.needs) (list_all (speaks_of (r.args ++ r.made)) r.gives && avoids_closed r r.avoids) (closed construction.shape) in
     let w = and_parts (list_all (speaks_of (r.args ++ r.made)) r.gives) (avoids_closed r r.avoids) q.1 in
-    ap (λ ls. ls ++ needs_of_avoided r.avoids (argument r (map (obj_at kept) form.args)) (map (obj_at kept) form.avoid)) (at_vars kept r.args form.args r.needs z q.0)
-    ∙ ap (λ ls. map (lit_among_kept kept) (map (renamed (image_in (paired r.args form.args))) r.needs) ++ ls) (apart_at kept r r.avoids form.args form.avoid z w.1)
-    ∙ sym (map-append (lit_among_kept kept) (map (renamed (image_in (paired r.args form.args))) r.needs) (needs_of_avoided r.avoids (argument r form.args) form.avoid))
+    ap (λ ls. ls ++ needs_of_avoided r.avoids (argument r (map (obj_at kept) construction.args)) (map (obj_at kept) construction.avoid)) (at_vars kept r.args construction.args r.needs z q.0)
+    ∙ ap (λ ls. map (lit_among_kept kept) (map (renamed (image_in (paired r.args construction.args))) r.needs) ++ ls) (apart_at kept r r.avoids construction.args construction.avoid z w.1)
+    ∙ sym (map-append (lit_among_kept kept) (map (renamed (image_in (paired r.args construction.args))) r.needs) (needs_of_avoided r.avoids (argument r construction.args) construction.avoid))
 
 -- old objects keep their numbers
 pub object_stays : (kept : List Obj) (s : Scope) (made : List Sort) (o : Obj) → Bound s kept → In o kept → obj_at (kept ++ next_objects s made) o ≡ obj_at kept o
@@ -304,20 +304,20 @@ avoided_at kept s r AnyObject os b k h w = kept_avoided kept s r.made os b k h
 avoided_at kept s r (AnyApartFrom o) os b k h w = kept_avoided kept s r.made os b k (and_parts (begins_with_point r.made) (is_var r.args o) h).0
 
 -- what it gives, over the kept objects and the new ones
-pub gives_at : (kept : List Obj) (s : Scope) (form : Construction) → Bound s kept → AllKept kept (form.args ++ form.avoid) → fits_construction form s ≡ true
-    → gives_of_construction (construction_among_kept kept form) (scope_kept kept) ≡ map (lit_among_kept (kept ++ next_objects s (sorts_made form))) (gives_of_construction form s)
-gives_at kept s form b k h =
-    let r = row_of_construction form in
-    let more = kept ++ next_objects s (sorts_made form) in
-    let p = and_parts (are_of_sorts s (sorts_of r.args) form.args) (avoids_well s r.avoids form.avoid) h in
-    let z = sorts_are s (sorts_of r.args) form.args p.0 in
-    let q = and_parts (list_all (speaks_of r.args) r.needs) (list_all (speaks_of (r.args ++ r.made)) r.gives && avoids_closed r r.avoids) (closed form.shape) in
+pub gives_at : (kept : List Obj) (s : Scope) (construction : Construction) → Bound s kept → AllKept kept (construction.args ++ construction.avoid) → fits_construction construction s ≡ true
+    → gives_of_construction (construction_among_kept kept construction) (scope_kept kept) ≡ map (lit_among_kept (kept ++ next_objects s (sorts_made construction))) (gives_of_construction construction s)
+gives_at kept s construction b k h =
+    let r = row_of_construction construction in
+    let more = kept ++ next_objects s (sorts_made construction) in
+    let p = and_parts (are_of_sorts s (sorts_of r.args) construction.args) (avoids_well s r.avoids construction.avoid) h in
+    let z = sorts_are s (sorts_of r.args) construction.args p.0 in
+    let q = and_parts (list_all (speaks_of r.args) r.needs) (list_all (speaks_of (r.args ++ r.made)) r.gives && avoids_closed r r.avoids) (closed construction.shape) in
     let w = and_parts (list_all (speaks_of (r.args ++ r.made)) r.gives) (avoids_closed r r.avoids) q.1 in
-    let own = at_new_vars kept s r.args r.made form.args r.gives b (λ o i. k o (in_left o form.args form.avoid i)) z w.0 in
-    ap (λ ls. ls ++ gives_of_avoided (next_objects (scope_kept kept) (sorts r.made)) (map (obj_at kept) form.avoid)) own
-    ∙ ap (λ ls. map (lit_among_kept more) (map (renamed (image_in (paired r.args form.args ++ paired r.made (made_by_row r s)))) r.gives) ++ ls)
-    (avoided_at kept s r r.avoids form.avoid b (λ o i. k o (in_right o form.args form.avoid i)) w.1 p.1)
-    ∙ sym (map-append (lit_among_kept more) (map (renamed (image_in (paired r.args form.args ++ paired r.made (made_by_row r s)))) r.gives) (gives_of_avoided (made_by_row r s) form.avoid))
+    let own = at_new_vars kept s r.args r.made construction.args r.gives b (λ o i. k o (in_left o construction.args construction.avoid i)) z w.0 in
+    ap (λ ls. ls ++ gives_of_avoided (next_objects (scope_kept kept) (sorts r.made)) (map (obj_at kept) construction.avoid)) own
+    ∙ ap (λ ls. map (lit_among_kept more) (map (renamed (image_in (paired r.args construction.args ++ paired r.made (made_by_row r s)))) r.gives) ++ ls)
+    (avoided_at kept s r r.avoids construction.avoid b (λ o i. k o (in_right o construction.args construction.avoid i)) w.1 p.1)
+    ∙ sym (map-append (lit_among_kept more) (map (renamed (image_in (paired r.args construction.args ++ paired r.made (made_by_row r s)))) r.gives) (gives_of_avoided (made_by_row r s) construction.avoid))
 
 -- ---- superposition
 
@@ -354,8 +354,8 @@ superposition_gives kept s x b k h =
 -- ---- uses
 
 -- the images of a use are pairs
-pub use_pairs : (t : StatementView) (args : List Obj) (s : Scope) (ls : List Lit) → are_arguments t s args ≡ true → map (renamed (image t args s)) ls ≡ map (renamed (image_in (paired (sources t) (targets t args s)))) ls
-use_pairs t args s ls h = same_images (image t args s) (image_in (paired (sources t) (targets t args s))) ls (λ o. sym (imaged t args s o h))
+pub use_pairs : (t : StatementView) (args : List Obj) (s : Scope) (ls : List Lit) → are_arguments t s args ≡ true → map (renamed (image_in_use t args s)) ls ≡ map (renamed (image_in (paired (sources t) (targets t args s)))) ls
+use_pairs t args s ls h = same_images (image_in_use t args s) (image_in (paired (sources t) (targets t args s))) ls (λ o. sym (imaged t args s o h))
 
 pub map_targets : (kept : List Obj) (t : StatementView) (args : List Obj) (s : Scope) → Bound s kept → AllKept kept args
     → map (obj_at (kept ++ next_objects s t.made)) (targets t args s) ≡ targets t (map (obj_at kept) args) (scope_kept kept)
@@ -420,7 +420,7 @@ arguments_at kept t s args h k = of_sorts_at kept s t.declared args h k
 
 -- literals of a statement at a use, over the kept objects and the new ones
 pub use_at : (kept : List Obj) (t : StatementView) (s : Scope) (args : List Obj) (ls : List Lit) → Bound s kept → AllKept kept args → are_arguments t s args ≡ true → list_all (all_in_scope (grown (scope_of t) t.made)) ls ≡ true
-    → map (renamed (image t (map (obj_at kept) args) (scope_kept kept))) ls ≡ map (lit_among_kept (kept ++ next_objects s t.made)) (map (renamed (image t args s)) ls)
+    → map (renamed (image_in_use t (map (obj_at kept) args) (scope_kept kept))) ls ≡ map (lit_among_kept (kept ++ next_objects s t.made)) (map (renamed (image_in_use t args s)) ls)
 use_at kept t s args ls b k h spoken =
     let more = kept ++ next_objects s t.made in
     use_pairs t (map (obj_at kept) args) (scope_kept kept) ls (arguments_at kept t s args h k)
@@ -554,16 +554,16 @@ apart_over kept r (AnyApartFrom o) args os z h k j =
     let q = argument_at kept r args o z v in
     over_map kept (unequal (argument r args o)) (of_sort o.sort os) (λ y i. unequal_over kept (argument r args o) y (k (argument r args o) (argument_in r args o z v)) (j y (in_sorted o.sort os y i)) (q.1 ∙ are_of_sort o.sort os y i))
 
-pub needs_over : (kept : List Obj) (s : Scope) (form : Construction) → fits_construction form s ≡ true → AllKept kept (form.args ++ form.avoid) → OverLits kept (needs_of_construction form)
-needs_over kept s form h k =
-    let r = row_of_construction form in
-    let p = and_parts (are_of_sorts s (sorts_of r.args) form.args) (avoids_well s r.avoids form.avoid) h in
-    let z = sorts_are s (sorts_of r.args) form.args p.0 in
-    let q = and_parts (list_all (speaks_of r.args) r.needs) (list_all (speaks_of (r.args ++ r.made)) r.gives && avoids_closed r r.avoids) (closed form.shape) in
+pub needs_over : (kept : List Obj) (s : Scope) (construction : Construction) → fits_construction construction s ≡ true → AllKept kept (construction.args ++ construction.avoid) → OverLits kept (needs_of_construction construction)
+needs_over kept s construction h k =
+    let r = row_of_construction construction in
+    let p = and_parts (are_of_sorts s (sorts_of r.args) construction.args) (avoids_well s r.avoids construction.avoid) h in
+    let z = sorts_are s (sorts_of r.args) construction.args p.0 in
+    let q = and_parts (list_all (speaks_of r.args) r.needs) (list_all (speaks_of (r.args ++ r.made)) r.gives && avoids_closed r r.avoids) (closed construction.shape) in
     let w = and_parts (list_all (speaks_of (r.args ++ r.made)) r.gives) (avoids_closed r r.avoids) q.1 in
-    over_append kept (map (renamed (image_in (paired r.args form.args))) r.needs) (needs_of_avoided r.avoids (argument r form.args) form.avoid)
-    (vars_over kept r.args form.args r.needs z q.0 (λ o i. k o (in_left o form.args form.avoid i)))
-    (apart_over kept r r.avoids form.args form.avoid z w.1 (λ o i. k o (in_left o form.args form.avoid i)) (λ o i. k o (in_right o form.args form.avoid i)))
+    over_append kept (map (renamed (image_in (paired r.args construction.args))) r.needs) (needs_of_avoided r.avoids (argument r construction.args) construction.avoid)
+    (vars_over kept r.args construction.args r.needs z q.0 (λ o i. k o (in_left o construction.args construction.avoid i)))
+    (apart_over kept r r.avoids construction.args construction.avoid z w.1 (λ o i. k o (in_left o construction.args construction.avoid i)) (λ o i. k o (in_right o construction.args construction.avoid i)))
 
 off_over : (kept : List Obj) (s : Scope) (new os : List Obj) → AllKept kept os → begins_with_point new ≡ true → OverLits (kept ++ next_objects s (sorts new)) (gives_of_avoided (next_objects s (sorts new)) os)
 off_over kept s [] os k h = absurd (true≢false (sym h))
@@ -591,16 +591,16 @@ new_vars_over kept s vars new args ls k z h =
     = λ o i. elim (in_either o args next i) [ inl j ↦ in_left o kept next (k o j) | inr j ↦ in_right o kept next j ] in
     subst (λ ps. OverLits (kept ++ next) (map (renamed (image_in ps)) ls)) (pairs_both vars new args next z) (vars_over (kept ++ next) (vars ++ new) (args ++ next) ls same_sorts h over)
 
-pub gives_over : (kept : List Obj) (s : Scope) (form : Construction) → fits_construction form s ≡ true → AllKept kept (form.args ++ form.avoid) → OverLits (kept ++ next_objects s (sorts_made form)) (gives_of_construction form s)
-gives_over kept s form h k =
-    let r = row_of_construction form in
-    let p = and_parts (are_of_sorts s (sorts_of r.args) form.args) (avoids_well s r.avoids form.avoid) h in
-    let z = sorts_are s (sorts_of r.args) form.args p.0 in
-    let q = and_parts (list_all (speaks_of r.args) r.needs) (list_all (speaks_of (r.args ++ r.made)) r.gives && avoids_closed r r.avoids) (closed form.shape) in
+pub gives_over : (kept : List Obj) (s : Scope) (construction : Construction) → fits_construction construction s ≡ true → AllKept kept (construction.args ++ construction.avoid) → OverLits (kept ++ next_objects s (sorts_made construction)) (gives_of_construction construction s)
+gives_over kept s construction h k =
+    let r = row_of_construction construction in
+    let p = and_parts (are_of_sorts s (sorts_of r.args) construction.args) (avoids_well s r.avoids construction.avoid) h in
+    let z = sorts_are s (sorts_of r.args) construction.args p.0 in
+    let q = and_parts (list_all (speaks_of r.args) r.needs) (list_all (speaks_of (r.args ++ r.made)) r.gives && avoids_closed r r.avoids) (closed construction.shape) in
     let w = and_parts (list_all (speaks_of (r.args ++ r.made)) r.gives) (avoids_closed r r.avoids) q.1 in
-    over_append (kept ++ next_objects s (sorts_made form)) (map (renamed (image_in (paired r.args form.args ++ paired r.made (made_by_row r s)))) r.gives) (gives_of_avoided (made_by_row r s) form.avoid)
-    (new_vars_over kept s r.args r.made form.args r.gives (λ o i. k o (in_left o form.args form.avoid i)) z w.0)
-    (avoided_over kept s r r.avoids form.avoid (λ o i. k o (in_right o form.args form.avoid i)) w.1 p.1)
+    over_append (kept ++ next_objects s (sorts_made construction)) (map (renamed (image_in (paired r.args construction.args ++ paired r.made (made_by_row r s)))) r.gives) (gives_of_avoided (made_by_row r s) construction.avoid)
+    (new_vars_over kept s r.args r.made construction.args r.gives (λ o i. k o (in_left o construction.args construction.avoid i)) z w.0)
+    (avoided_over kept s r r.avoids construction.avoid (λ o i. k o (in_right o construction.args construction.avoid i)) w.1 p.1)
 
 pub superposition_needs_over : (kept : List Obj) (s : Scope) (x : Superpose) → superposing.fits_superposition x s ≡ true → AllKept kept (superposing.objects_of x) → OverLits kept (superposing.needs_of_superposition x)
 superposition_needs_over kept s x h k =

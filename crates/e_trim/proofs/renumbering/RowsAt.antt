@@ -59,8 +59,8 @@ pub over_normal : (K : ℕ → Type 0) (form : Summands) → OverForm K form →
 over_normal K [] h = tt
 over_normal K (q ∷ form) h = over_step K (not (is_degenerate q.1)) q form h.0 (over_normal K form h.1)
 
-pub row_moves : (kept : List Obj) (says : Sense) (form : Summands) → OverForm (OfSort kept Point) form → row says (form_at (kept_before kept Point) form) ≡ moved kept (row says form)
-row_moves kept says form h = ap (λ f. record { says = says; form = f }) (normal_stays (kept_before kept Point) (OfSort kept Point) (keeps kept) form h)
+pub row_moves : (kept : List Obj) (sense : Sense) (form : Summands) → OverForm (OfSort kept Point) form → row sense (form_at (kept_before kept Point) form) ≡ moved kept (row sense form)
+row_moves kept sense form h = ap (λ f. record { sense = sense; form = f }) (normal_stays (kept_before kept Point) (OfSort kept Point) (keeps kept) form h)
 
 difference_at : (p : ℕ → ℕ) (x y : List Mono) → plus (map (mono_at p) x) ++ minus (map (mono_at p) y) ≡ form_at p (plus x ++ minus y)
 difference_at p x y =
@@ -70,20 +70,20 @@ over_difference : (kept : List Obj) (x y : List Mono) → AllKept kept (objects_
 over_difference kept x y h k =
     over_both (OfSort kept Point) (plus x) (minus y) (over_plus (OfSort kept Point) x (over_sum kept x h)) (over_minus (OfSort kept Point) y (over_sum kept y k))
 
-difference_moves : (kept : List Obj) (says : Sense) (x y : List Mono) → AllKept kept (objects_of_sum x) → AllKept kept (objects_of_sum y)
-    → row says (plus (map (mono_at (kept_before kept Point)) x) ++ minus (map (mono_at (kept_before kept Point)) y)) ≡ moved kept (row says (plus x ++ minus y))
-difference_moves kept says x y h k = ap (row says) (difference_at (kept_before kept Point) x y) ∙ row_moves kept says (plus x ++ minus y) (over_difference kept x y h k)
+difference_moves : (kept : List Obj) (sense : Sense) (x y : List Mono) → AllKept kept (objects_of_sum x) → AllKept kept (objects_of_sum y)
+    → row sense (plus (map (mono_at (kept_before kept Point)) x) ++ minus (map (mono_at (kept_before kept Point)) y)) ≡ moved kept (row sense (plus x ++ minus y))
+difference_moves kept sense x y h k = ap (row sense) (difference_at (kept_before kept Point) x y) ∙ row_moves kept sense (plus x ++ minus y) (over_difference kept x y h k)
 
 -- ---- the row of a literal
 
 some_is : {X : Type 0} (x y : X) → Some x ≡ Some y → x ≡ y
 some_is x y e = cc
 
-one_row : (kept : List Obj) (says : Sense) (x y : List Mono) (r : Row) → AllKept kept (objects_of_sum x) → AllKept kept (objects_of_sum y) → Some (row says (plus x ++ minus y)) ≡ Some r
-    → (Some (row says (plus (map (mono_at (kept_before kept Point)) x) ++ minus (map (mono_at (kept_before kept Point)) y))) ≡ Some (moved kept r)) × OverRow kept r
-one_row kept says x y r h k e =
-    let is = some_is (row says (plus x ++ minus y)) r e in (
-      ap Some (difference_moves kept says x y h k ∙ ap (moved kept) is),
+one_row : (kept : List Obj) (sense : Sense) (x y : List Mono) (r : Row) → AllKept kept (objects_of_sum x) → AllKept kept (objects_of_sum y) → Some (row sense (plus x ++ minus y)) ≡ Some r
+    → (Some (row sense (plus (map (mono_at (kept_before kept Point)) x) ++ minus (map (mono_at (kept_before kept Point)) y))) ≡ Some (moved kept r)) × OverRow kept r
+one_row kept sense x y r h k e =
+    let is = some_is (row sense (plus x ++ minus y)) r e in (
+      ap Some (difference_moves kept sense x y h k ∙ ap (moved kept) is),
       subst (OverRow kept) is (over_normal (OfSort kept Point) (plus x ++ minus y) (over_difference kept x y h k)),
     )
 

@@ -79,9 +79,9 @@ pub hence_plain : (before : List StatementView) (step : Step) (lit : Lit) (cert 
 unfolding step_script
 hence_plain before step lit cert x is rest = (ap (λ s. inside_of before (step_script s rest) x.scope x.facts) is, ap (λ s. step_flags before (step_script s rest) x.scope x.facts) is)
 
-pub make_plain : (before : List StatementView) (step : Step) (form : Construction) (names : List (List ℕ)) (certs : List Cert) (x : StepState) → step ≡ MakeStep form names certs → NoneInside before step x
+pub make_plain : (before : List StatementView) (step : Step) (construction : Construction) (names : List (List ℕ)) (certs : List Cert) (x : StepState) → step ≡ MakeStep construction names certs → NoneInside before step x
 unfolding step_script
-make_plain before step form names certs x is rest = (ap (λ s. inside_of before (step_script s rest) x.scope x.facts) is, ap (λ s. step_flags before (step_script s rest) x.scope x.facts) is)
+make_plain before step construction names certs x is rest = (ap (λ s. inside_of before (step_script s rest) x.scope x.facts) is, ap (λ s. step_flags before (step_script s rest) x.scope x.facts) is)
 
 pub apply_plain : (before : List StatementView) (step : Step) (theorem : ℕ) (args : List (Option Obj)) (names : List (List ℕ)) (certs : List Cert) (x : StepState) → step ≡ ApplyStep theorem args names certs → NoneInside before step x
 unfolding step_script
@@ -108,11 +108,11 @@ claim_inside before step shown inner x rest is =
     let e = ap (λ s. step_script s rest) is ∙ step_script-Claim shown inner rest in
     (ap (λ d. inside_of before d x.scope x.facts) e, ap (λ d. step_flags before d x.scope x.facts) e)
 
-pub superposed_inside : (before : List StatementView) (step : Step) (form : Superpose) (names : List (List ℕ)) (shown : List Lit) (certs : List Cert) (inner : Box Block Global) (x : StepState) (rest : Script) → step ≡ SuperposedBlock form names shown certs inner
-    → (inside_of before (step_script step rest) x.scope x.facts ≡ wants_outside x.scope x.facts (wants before (script_of inner.value) (grown x.scope superposing.sorts_copied) (joined_all x.facts (superposing.gives_of_superposition form x.scope)) (goal_of shown)))
-    × (step_flags before (step_script step rest) x.scope x.facts ≡ flags_of before (script_of inner.value) (grown x.scope superposing.sorts_copied) (joined_all x.facts (superposing.gives_of_superposition form x.scope)) (goal_of shown))
-superposed_inside before step form names shown certs inner x rest is =
-    let e = ap (λ s. step_script s rest) is ∙ step_script-Superposed form names shown certs inner rest in
+pub superposed_inside : (before : List StatementView) (step : Step) (superposition : Superpose) (names : List (List ℕ)) (shown : List Lit) (certs : List Cert) (inner : Box Block Global) (x : StepState) (rest : Script) → step ≡ SuperposedBlock superposition names shown certs inner
+    → (inside_of before (step_script step rest) x.scope x.facts ≡ wants_outside x.scope x.facts (wants before (script_of inner.value) (grown x.scope superposing.sorts_copied) (joined_all x.facts (superposing.gives_of_superposition superposition x.scope)) (goal_of shown)))
+    × (step_flags before (step_script step rest) x.scope x.facts ≡ flags_of before (script_of inner.value) (grown x.scope superposing.sorts_copied) (joined_all x.facts (superposing.gives_of_superposition superposition x.scope)) (goal_of shown))
+superposed_inside before step superposition names shown certs inner x rest is =
+    let e = ap (λ s. step_script s rest) is ∙ step_script-Superposed superposition names shown certs inner rest in
     (ap (λ d. inside_of before d x.scope x.facts) e, ap (λ d. step_flags before d x.scope x.facts) e)
 
 pub inside_wants : (before : List StatementView) (step : Step) (x : StepState) (old mid inside new : Wants) → LineWants before step x old mid → ((rest : Script) → inside_of before (step_script step rest) x.scope x.facts ≡ inside) → new ≡ both mid inside
@@ -207,7 +207,7 @@ few_copies sorts e = let n : length sorts ≡ 2 = ap length e in omega (arith, n
 pub plain_of : (before : List StatementView) (step : Step) (x : StepState)
     → ((by : By) × (step ≡ CiteStep by))
     ⊎ (((lit : Lit) × (cert : Option Cert) × (step ≡ HenceStep lit cert))
-    ⊎ (((form : Construction) × (names : List (List ℕ)) × (certs : List Cert) × (step ≡ MakeStep form names certs))
+    ⊎ (((construction : Construction) × (names : List (List ℕ)) × (certs : List Cert) × (step ≡ MakeStep construction names certs))
     ⊎ ((theorem : ℕ) × (args : List (Option Obj)) × (names : List (List ℕ)) × (certs : List Cert) × (step ≡ ApplyStep theorem args names certs))))
     → NoneInside before step x
 plain_of before step x (inl e) = cite_plain before step e.0 x e.1

@@ -25,10 +25,10 @@ pub places-step : (s : Step) (rest : Script) → places_of (step_script s rest) 
 unfolding places_of step_script
 places-step (CiteStep by) rest = refl
 places-step (HenceStep lit cert) rest = refl
-places-step (MakeStep form names certs) rest = refl
+places-step (MakeStep construction names certs) rest = refl
 places-step (ApplyStep theorem args names certs) rest = refl
 places-step (ClaimStep shown p0 n0 row0 close0) rest = sym (append_assoc (places_of (row_script row0 (close_script close0))) [] (places_of rest))
-places-step (SuperposedStep form names shown certs p0 n0 row0 close0) rest = sym (append_assoc (places_of (row_script row0 (close_script close0))) [] (places_of rest))
+places-step (SuperposedStep superposition names shown certs p0 n0 row0 close0) rest = sym (append_assoc (places_of (row_script row0 (close_script close0))) [] (places_of rest))
 
 pub noted_step : (ps : List ℕ) (s : Step) (rest : Script) → noted_all (noted_all ps (places_of_step s)) (places_of rest) ≡ noted_all ps (places_of (step_script s rest))
 noted_step ps s rest = sym (noted-append ps (places_of_step s) (places_of rest)) ∙ ap (noted_all ps) (sym (places-step s rest))
@@ -43,9 +43,9 @@ pub places-Hence : (lit : Lit) (cert : Option Cert) (rest : Script) → places_o
 unfolding places_of
 places-Hence lit cert rest = refl
 
-pub places-Make : (form : Construction) (names : List (List ℕ)) (certs : List Cert) (rest : Script) → places_of (Make form names certs rest) ≡ places_of rest
+pub places-Make : (construction : Construction) (names : List (List ℕ)) (certs : List Cert) (rest : Script) → places_of (Make construction names certs rest) ≡ places_of rest
 unfolding places_of
-places-Make form names certs rest = refl
+places-Make construction names certs rest = refl
 
 pub places-Apply : (theorem : ℕ) (args : List (Option Obj)) (names : List (List ℕ)) (certs : List Cert) (rest : Script) → places_of (Apply theorem args names certs rest) ≡ theorem ∷ places_of rest
 unfolding places_of
@@ -55,9 +55,9 @@ pub places-Claim : (shown : List Lit) (inner : Script) (rest : Script) → place
 unfolding places_of
 places-Claim shown inner rest = refl
 
-pub places-Superposed : (form : Superpose) (names : List (List ℕ)) (shown : List Lit) (certs : List Cert) (inner : Script) (rest : Script) → places_of (Superposed form names shown certs inner rest) ≡ places_of inner ++ places_of rest
+pub places-Superposed : (superposition : Superpose) (names : List (List ℕ)) (shown : List Lit) (certs : List Cert) (inner : Script) (rest : Script) → places_of (Superposed superposition names shown certs inner rest) ≡ places_of inner ++ places_of rest
 unfolding places_of
-places-Superposed form names shown certs inner rest = refl
+places-Superposed superposition names shown certs inner rest = refl
 
 pub places-Qed : (objects : List Obj) (certs : List Cert) → places_of (Qed objects certs) ≡ []
 unfolding places_of

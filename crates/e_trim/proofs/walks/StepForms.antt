@@ -38,8 +38,8 @@ use Rattle.e_trim.specs.declared.step_state.StepState.{StepState}
 -- so are the lines of the block inside of a step
 abbrev pub inner_test : (PlacedStep → Bool) → List StatementView → Script → Scope → List Lit → Bool
 inner_test p before (Claim shown inner rest) s facts = list_all p (placed_steps before inner inner s facts (goal_of shown))
-inner_test p before (Superposed form names shown certs inner rest) s facts =
-    list_all p (placed_steps before inner inner (grown s superposing.sorts_copied) (joined_all facts (superposing.gives_of_superposition form s)) (goal_of shown))
+inner_test p before (Superposed superposition names shown certs inner rest) s facts =
+    list_all p (placed_steps before inner inner (grown s superposing.sorts_copied) (joined_all facts (superposing.gives_of_superposition superposition s)) (goal_of shown))
 inner_test p before d s facts = true
 
 abbrev lines_test : (PlacedStep → Bool) → List StatementView → Script → StepState → Goal → Bool
@@ -55,14 +55,14 @@ pub step_lines : (p : PlacedStep → Bool) (before : List StatementView) (step :
 unfolding placed_steps step_script
 step_lines p before (CiteStep by) rest x goal = refl
 step_lines p before (HenceStep lit cert) rest x goal = refl
-step_lines p before (MakeStep form names certs) rest x goal = refl
+step_lines p before (MakeStep construction names certs) rest x goal = refl
 step_lines p before (ApplyStep theorem args names certs) rest x goal = refl
 step_lines p before (ClaimStep shown p0 n0 row0 close0) rest x goal =
     let inner = inner_of (step_script (ClaimStep shown p0 n0 row0 close0) rest) in
     both_lists p (p (as_step (Claim shown inner rest) x.scope x.facts goal)) (placed_steps before inner inner x.scope x.facts (goal_of shown)) (placed_steps before rest rest x.scope (joined_all x.facts shown) goal)
-step_lines p before (SuperposedStep form names shown certs p0 n0 row0 close0) rest x goal =
-    let inner = inner_of (step_script (SuperposedStep form names shown certs p0 n0 row0 close0) rest) in
-    both_lists p (p (as_step (Superposed form names shown certs inner rest) x.scope x.facts goal)) (placed_steps before inner inner (grown x.scope superposing.sorts_copied) (joined_all x.facts (superposing.gives_of_superposition form x.scope)) (goal_of shown))
+step_lines p before (SuperposedStep superposition names shown certs p0 n0 row0 close0) rest x goal =
+    let inner = inner_of (step_script (SuperposedStep superposition names shown certs p0 n0 row0 close0) rest) in
+    both_lists p (p (as_step (Superposed superposition names shown certs inner rest) x.scope x.facts goal)) (placed_steps before inner inner (grown x.scope superposing.sorts_copied) (joined_all x.facts (superposing.gives_of_superposition superposition x.scope)) (goal_of shown))
     (placed_steps before rest rest x.scope (joined_all x.facts shown) goal)
 
 -- all of a step's lines are so: its own, those of its block, and those after it
@@ -95,11 +95,11 @@ claim_ready before shown inner x r =
       scopes = subst (λ d. inner_test (λ y. is_small y.scope) before d x.scope x.facts ≡ true) e (all_parts (λ y. is_small y.scope) before (ClaimBlock shown inner) r.rest x r.goal r.ready.scopes).1;
     }
 
-pub superposed_ready : (before : List StatementView) (form : Superpose) (names : List (List ℕ)) (shown : List Lit) (certs : List Cert) (inner : Box Block Global) (x : StepState) → IsReadyToTrim before (SuperposedBlock form names shown certs inner) x
-    → IsReady before (script_of inner.value) (grown x.scope superposing.sorts_copied) (joined_all x.facts (superposing.gives_of_superposition form x.scope)) (goal_of shown)
-superposed_ready before form names shown certs inner x r =
-    let step = SuperposedBlock form names shown certs inner in
-    let e = step_script-Superposed form names shown certs inner r.rest in
+pub superposed_ready : (before : List StatementView) (superposition : Superpose) (names : List (List ℕ)) (shown : List Lit) (certs : List Cert) (inner : Box Block Global) (x : StepState) → IsReadyToTrim before (SuperposedBlock superposition names shown certs inner) x
+    → IsReady before (script_of inner.value) (grown x.scope superposing.sorts_copied) (joined_all x.facts (superposing.gives_of_superposition superposition x.scope)) (goal_of shown)
+superposed_ready before superposition names shown certs inner x r =
+    let step = SuperposedBlock superposition names shown certs inner in
+    let e = step_script-Superposed superposition names shown certs inner r.rest in
     record {
       forms = subst (λ d. inner_test (fits before) before d x.scope x.facts ≡ true) e (all_parts (fits before) before step r.rest x r.goal r.ready.forms).1;
       scopes = subst (λ d. inner_test (λ y. is_small y.scope) before d x.scope x.facts ≡ true) e (all_parts (λ y. is_small y.scope) before step r.rest x r.goal r.ready.scopes).1;
@@ -145,10 +145,10 @@ pub wants_step : (before : List StatementView) (step : Step) (rest : Script) (x 
 unfolding wants step_script
 wants_step before (CiteStep by) rest x goal = refl
 wants_step before (HenceStep lit cert) rest x goal = refl
-wants_step before (MakeStep form names certs) rest x goal = refl
+wants_step before (MakeStep construction names certs) rest x goal = refl
 wants_step before (ApplyStep theorem args names certs) rest x goal = refl
 wants_step before (ClaimStep shown p0 n0 row0 close0) rest x goal = refl
-wants_step before (SuperposedStep form names shown certs p0 n0 row0 close0) rest x goal = refl
+wants_step before (SuperposedStep superposition names shown certs p0 n0 row0 close0) rest x goal = refl
 
 -- ---- its flags
 
@@ -160,10 +160,10 @@ pub flags_step : (before : List StatementView) (step : Step) (rest : Script) (x 
 unfolding flags_of step_script
 flags_step before (CiteStep by) rest x goal = refl
 flags_step before (HenceStep lit cert) rest x goal = refl
-flags_step before (MakeStep form names certs) rest x goal = refl
+flags_step before (MakeStep construction names certs) rest x goal = refl
 flags_step before (ApplyStep theorem args names certs) rest x goal = refl
 flags_step before (ClaimStep shown p0 n0 row0 close0) rest x goal = refl
-flags_step before (SuperposedStep form names shown certs p0 n0 row0 close0) rest x goal = refl
+flags_step before (SuperposedStep superposition names shown certs p0 n0 row0 close0) rest x goal = refl
 
 -- ---- what is left of it
 
@@ -189,14 +189,14 @@ trimmed_step before kept (HenceStep lit cert) rest x goal =
     let after = joined x.facts lit in
     no_more kept (λ ks. Hence (lit_among_kept kept lit) (option_map (cert_at kept) cert) (trimmed_from before ks rest x.scope after goal)) (trimmed_from before kept rest x.scope after goal)
     (is_kept before (Hence lit cert rest) x.scope x.facts (wants before rest x.scope after goal))
-trimmed_step before kept (MakeStep form names certs) rest x goal = refl
+trimmed_step before kept (MakeStep construction names certs) rest x goal = refl
 trimmed_step before kept (ApplyStep theorem args names certs) rest x goal = refl
 trimmed_step before kept (ClaimStep shown p0 n0 row0 close0) rest x goal =
     let here = step_script (ClaimStep shown p0 n0 row0 close0) rest in
     let after = joined_all x.facts shown in
     no_more kept (λ ks. kept_step before kept here x.scope x.facts (trimmed_from before ks rest x.scope after goal)) (trimmed_from before kept rest x.scope after goal) (is_kept before here x.scope x.facts (wants before rest x.scope after goal))
-trimmed_step before kept (SuperposedStep form names shown certs p0 n0 row0 close0) rest x goal =
-    let here = step_script (SuperposedStep form names shown certs p0 n0 row0 close0) rest in
+trimmed_step before kept (SuperposedStep superposition names shown certs p0 n0 row0 close0) rest x goal =
+    let here = step_script (SuperposedStep superposition names shown certs p0 n0 row0 close0) rest in
     let after = joined_all x.facts shown in
     no_more kept (λ ks. kept_step before kept here x.scope x.facts (trimmed_from before ks rest x.scope after goal)) (trimmed_from before kept rest x.scope after goal) (is_kept before here x.scope x.facts (wants before rest x.scope after goal))
 

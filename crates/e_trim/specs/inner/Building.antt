@@ -37,19 +37,19 @@ abbrev pub kept_step : List StatementView → List Obj → Script → Scope → 
 kept_step before kept (Cite by rest) s facts more = Cite (by_at kept by) more
 kept_step before kept (Hence lit cert rest) s facts more =
     Hence (lit_among_kept kept lit) (option_map (cert_at kept) cert) more
-kept_step before kept (Make form names certs rest) s facts more =
-    Make (construction_among_kept kept form) names (map (cert_at kept) certs) more
+kept_step before kept (Make construction names certs rest) s facts more =
+    Make (construction_among_kept kept construction) names (map (cert_at kept) certs) more
 kept_step before kept (Apply theorem args names certs rest) s facts more =
     Apply theorem (args_at kept args) names (map (cert_at kept) certs) more
 kept_step before kept (Claim shown inner rest) s facts more =
     Claim (map (lit_among_kept kept) shown)
     (trimmed_from before kept inner s facts (goal_of shown)) more
-kept_step before kept (Superposed form names shown certs inner rest) s facts more =
-    Superposed (superpose_at kept form) names (map (lit_among_kept kept) shown)
+kept_step before kept (Superposed superposition names shown certs inner rest) s facts more =
+    Superposed (superpose_at kept superposition) names (map (lit_among_kept kept) shown)
     (map (cert_at kept) certs)
     (trimmed_from before (kept ++ next_objects s superposing.sorts_copied) inner
     (grown s superposing.sorts_copied)
-    (joined_all facts (superposing.gives_of_superposition form s)) (goal_of shown))
+    (joined_all facts (superposing.gives_of_superposition superposition s)) (goal_of shown))
     more
 kept_step before kept close s facts more = more
 

@@ -32,12 +32,13 @@ flags_of before (Hence lit cert rest) s facts goal =
     let after = joined facts lit in
     flags_of before rest s after goal
     ++ flag (is_kept before (Hence lit cert rest) s facts (wants before rest s after goal)) []
-flags_of before (Make form names certs rest) s facts goal =
-    let after = joined_all facts (gives_of_construction form s) in
-    let wide = grown s (sorts_made form) in
+flags_of before (Make construction names certs rest) s facts goal =
+    let after = joined_all facts (gives_of_construction construction s) in
+    let wide = grown s (sorts_made construction) in
     flags_of before rest wide after goal
     ++ flag
-    (is_kept before (Make form names certs rest) s facts (wants before rest wide after goal)) []
+    (is_kept before (Make construction names certs rest) s facts
+    (wants before rest wide after goal)) []
 flags_of before (Apply theorem args names certs rest) s facts goal =
     let here = Apply theorem args names certs rest in
     let after = joined_all facts (joins_at before here s) in
@@ -49,11 +50,11 @@ flags_of before (Claim shown inner rest) s facts goal =
     flags_of before rest s after goal
     ++ flag (is_kept before (Claim shown inner rest) s facts (wants before rest s after goal))
     (flags_of before inner s facts (goal_of shown))
-flags_of before (Superposed form names shown certs inner rest) s facts goal =
+flags_of before (Superposed superposition names shown certs inner rest) s facts goal =
     let after = joined_all facts shown in
-    let opened = joined_all facts (superposing.gives_of_superposition form s) in
+    let opened = joined_all facts (superposing.gives_of_superposition superposition s) in
     flags_of before rest s after goal
-    ++ flag (is_kept before (Superposed form names shown certs inner rest) s facts
+    ++ flag (is_kept before (Superposed superposition names shown certs inner rest) s facts
     (wants before rest s after goal))
     (flags_of before inner (grown s superposing.sorts_copied) opened (goal_of shown))
 flags_of before (Qed objects certs) s facts goal = []
@@ -66,15 +67,15 @@ flags_of before (Cases lit first second) s facts goal =
 abbrev pub inside_of : List StatementView → Script → Scope → List Lit → Wants
 inside_of before (Claim shown inner rest) s facts =
     wants_outside s facts (wants before inner s facts (goal_of shown))
-inside_of before (Superposed form names shown certs inner rest) s facts =
+inside_of before (Superposed superposition names shown certs inner rest) s facts =
     wants_outside s facts (wants before inner (grown s superposing.sorts_copied)
-    (joined_all facts (superposing.gives_of_superposition form s)) (goal_of shown))
+    (joined_all facts (superposing.gives_of_superposition superposition s)) (goal_of shown))
 inside_of before _ s facts = no_wants
 
 -- the flags of the block inside of a step
 abbrev pub step_flags : List StatementView → Script → Scope → List Lit → List Bool
 step_flags before (Claim shown inner rest) s facts = flags_of before inner s facts (goal_of shown)
-step_flags before (Superposed form names shown certs inner rest) s facts =
+step_flags before (Superposed superposition names shown certs inner rest) s facts =
     flags_of before inner (grown s superposing.sorts_copied)
-    (joined_all facts (superposing.gives_of_superposition form s)) (goal_of shown)
+    (joined_all facts (superposing.gives_of_superposition superposition s)) (goal_of shown)
 step_flags before _ s facts = []

@@ -21,7 +21,6 @@ use Rattle.e_trim.specs.Trimmed.{joins_at, makes_at, is_kept, as_step, wants_wit
 use Rattle.e_trim.specs.inner.Flags.{flag, inside_of, step_flags}
 use Rattle.e_trim.specs.declared.step_state.StepState.{StepState}
 use Rattle.e_trim.specs.declared.step_state.Checkpoint.{Checkpoint}
-use Rattle.e_trim.specs.declared.step_state.Goal.{Goal as CodeGoal}
 
 -- before the first step of a statement's proof
 abbrev pub start_of : StatementView → StepState
@@ -37,10 +36,6 @@ restored outer x = record { scope = outer.scope; facts = take outer.facts x.fact
 -- with objects of these sorts in scope, and these literals for facts
 abbrev pub opened : List Sort → List Lit → StepState → StepState
 opened sorts lits x = record { scope = grown x.scope sorts; facts = joined_all x.facts lits }
-
--- the goal that the code writes
-abbrev pub goal_view : CodeGoal → Goal
-goal_view g = record { made = g.made.now; shown = g.shown.now }
 
 -- the form of each step fits, and at most 1,000 objects of each sort are in scope before it
 pub record IsReady (before : List StatementView) (d : Script) (s : Scope) (facts : List Lit)

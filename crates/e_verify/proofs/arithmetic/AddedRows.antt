@@ -27,10 +27,10 @@ abbrev pub weigh : ℤ → Row → Weighed
 weigh m r = record { multiplier = m; row = r }
 
 abbrev good_signs : List Weighed → Bool
-good_signs ws = list_all (λ w. allows_multiplier w.row.says w.multiplier) ws
+good_signs ws = list_all (λ w. allows_multiplier w.row.sense w.multiplier) ws
 
 abbrev some_strict : List Weighed → Bool
-some_strict ws = list_any (λ w. is_strict w.row.says w.multiplier) ws
+some_strict ws = list_any (λ w. is_strict w.row.sense w.multiplier) ws
 
 -- ---- the rows that are named
 
@@ -60,7 +60,7 @@ and_false : (a b : Bool) → b ≡ false → (a && b) ≡ false
 and_false true b h = h
 and_false false b h = refl
 
-bad_signs : (p : Place) (xs : List (ℤ × RowName)) (i : ℕ) (d : ℤ × RowName) (r : Row) → i < length xs → row_named p (get_or xs i d).1 ≡ Some r → allows_multiplier r.says (get_or xs i d).0 ≡ false
+bad_signs : (p : Place) (xs : List (ℤ × RowName)) (i : ℕ) (d : ℤ × RowName) (r : Row) → i < length xs → row_named p (get_or xs i d).1 ≡ Some r → allows_multiplier r.sense (get_or xs i d).0 ≡ false
     → option_map_or good_signs (weighed_rows p xs) false ≡ false
 bad_signs p [] i d r h e k = absurd (omega (arith, h))
 bad_signs p (x ∷ xs) zero d r h e k = ap (λ o. option_map_or good_signs (option_and_then (λ q. option_map (λ rs. weigh x.0 q ∷ rs) (weighed_rows p xs)) o) false) e ∙ by (weighed_rows p xs)
@@ -73,7 +73,7 @@ bad_signs p (x ∷ xs) (suc i) d r h e k = by (row_named p x.1) (weighed_rows p 
     by : (o : Option Row) (w : Option (List Weighed)) → option_map_or good_signs w false ≡ false → option_map_or good_signs (option_and_then (λ q. option_map (λ rs. weigh x.0 q ∷ rs) w) o) false ≡ false
     by None w h = refl
     by (Some q) None h = refl
-    by (Some q) (Some ws) h = and_false (allows_multiplier q.says x.0) (good_signs ws) h
+    by (Some q) (Some ws) h = and_false (allows_multiplier q.sense x.0) (good_signs ws) h
 
 -- ---- terms that cancel
 
@@ -134,8 +134,8 @@ total_more [] w t = omega (arith, sums)
 total_more (v ∷ ws) w t = omega (arith, sums, total_more ws w t)
 
 pub one_added : (p : Place) (xs : List (ℤ × RowName)) (i : ℕ) (x : ℤ × RowName) (es after : List (ℕ × ℤ)) (strict now new : Bool) (row : CodeRow) → i < length xs → x ≡ get_or xs i x → IsAdded p (take i xs) i es strict
-    → row_named p x.1 ≡ Some (row_view row) → ((t : Term) → total_at after t ≡ total_at es t +ℤ x.0 *ℤ coefficient (row_view row).form t) → allows_multiplier (row_view row).says x.0 ≡ true
-    → now ≡ is_strict (row_view row).says x.0 → new ≡ (strict || now) → is_small_row row ≡ true → unsigned_abs x.0 ≤ 2 ^ 80 → IsAdded p (take (i + 1) xs) (i + 1) after new
+    → row_named p x.1 ≡ Some (row_view row) → ((t : Term) → total_at after t ≡ total_at es t +ℤ x.0 *ℤ coefficient (row_view row).form t) → allows_multiplier (row_view row).sense x.0 ≡ true
+    → now ≡ is_strict (row_view row).sense x.0 → new ≡ (strict || now) → is_small_row row ≡ true → unsigned_abs x.0 ≤ 2 ^ 80 → IsAdded p (take (i + 1) xs) (i + 1) after new
 one_added p xs i x es after strict now new row h is a e f g k n small m =
     let r = row_view row in
     record {
@@ -143,9 +143,9 @@ one_added p xs i x es after strict now new row h is a e f g k n small m =
       named = ap (weighed_rows p) (take_more xs i x h ∙ ap (λ y. take i xs ++ y ∷ []) (sym is)) ∙ named_more p (take i xs) x r e ∙ ap (option_map (λ ws. ws ++ weigh x.0 r ∷ [])) a.named;
       sum = λ t. f t ∙ ap (λ z. z +ℤ x.0 *ℤ coefficient r.form t) (a.sum t) ∙ sym (total_more a.rows (weigh x.0 r) t);
       size = λ t. omega (arith, ap unsigned_abs (f t), a.size t, abs_sum (total_at es t) (x.0 *ℤ coefficient r.form t), product_size x.0 (coefficient r.form t) (2 ^ 80) 64000000 m (row_size row t small));
-      signs = list_all-append (λ (w : Weighed). allows_multiplier w.row.says w.multiplier) a.rows (weigh x.0 r ∷ []) ∙ ap (λ b. b && (allows_multiplier r.says x.0 && true)) a.signs ∙ and-true (allows_multiplier r.says x.0) ∙ g;
-      has_strict = n ∙ ap (λ b. b || now) a.has_strict ∙ ap (λ b. some_strict a.rows || b) (k ∙ sym (or-false (is_strict r.says x.0)))
-          ∙ sym (list_any-append (λ (w : Weighed). is_strict w.row.says w.multiplier) a.rows (weigh x.0 r ∷ []));
+      signs = list_all-append (λ (w : Weighed). allows_multiplier w.row.sense w.multiplier) a.rows (weigh x.0 r ∷ []) ∙ ap (λ b. b && (allows_multiplier r.sense x.0 && true)) a.signs ∙ and-true (allows_multiplier r.sense x.0) ∙ g;
+      has_strict = n ∙ ap (λ b. b || now) a.has_strict ∙ ap (λ b. some_strict a.rows || b) (k ∙ sym (or-false (is_strict r.sense x.0)))
+          ∙ sym (list_any-append (λ (w : Weighed). is_strict w.row.sense w.multiplier) a.rows (weigh x.0 r ∷ []));
     }
 
 -- ---- what the sum comes to
@@ -153,10 +153,10 @@ one_added p xs i x es after strict now new row h is a e f g k n small m =
 pub not_named : (p : Place) (xs : List (ℤ × RowName)) (i : ℕ) (x : ℤ × RowName) → i < length xs → x ≡ get_or xs i x → row_named p x.1 ≡ None → refutes p xs ≡ false
 not_named p xs i x h is e = ap (λ o. is_limited_sum xs && option_map_or is_absurd o false) (unnamed p xs i x h (ap (λ y. row_named p y.1) (sym is) ∙ e)) ∙ and_false (is_limited_sum xs) false refl
 
-pub bad_sign : (p : Place) (xs : List (ℤ × RowName)) (i : ℕ) (x : ℤ × RowName) (r : Row) → i < length xs → x ≡ get_or xs i x → row_named p x.1 ≡ Some r → allows_multiplier r.says x.0 ≡ false → refutes p xs ≡ false
+pub bad_sign : (p : Place) (xs : List (ℤ × RowName)) (i : ℕ) (x : ℤ × RowName) (r : Row) → i < length xs → x ≡ get_or xs i x → row_named p x.1 ≡ Some r → allows_multiplier r.sense x.0 ≡ false → refutes p xs ≡ false
 bad_sign p xs i x r h is e k =
     and_false (is_limited_sum xs) (option_map_or is_absurd (weighed_rows p xs) false)
-    (by (weighed_rows p xs) (bad_signs p xs i x r h (ap (λ y. row_named p y.1) (sym is) ∙ e) (ap (λ y. allows_multiplier r.says y.0) (sym is) ∙ k)))
+    (by (weighed_rows p xs) (bad_signs p xs i x r h (ap (λ y. row_named p y.1) (sym is) ∙ e) (ap (λ y. allows_multiplier r.sense y.0) (sym is) ∙ k)))
   where
     by : (w : Option (List Weighed)) → option_map_or good_signs w false ≡ false → option_map_or is_absurd w false ≡ false
     by None h = refl

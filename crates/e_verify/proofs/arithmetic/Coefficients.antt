@@ -175,14 +175,14 @@ added_top row u t a m x y is e f =
           mul_add m (single (pos 2) Right t) (single (neg_ℤ (pos 1)) u t),
         )
 
-pub added_sums : (row : Row) (says : RowSense) (x y : Bor (List Mono)) (turned : Bool) (t : Term) (a m n z : ℤ) → row ≡ Sums says x y turned → n ≡ (if turned then neg_ℤ m else m)
+pub added_sums : (row : Row) (sense : RowSense) (x y : Bor (List Mono)) (turned : Bool) (t : Term) (a m n z : ℤ) → row ≡ Sums sense x y turned → n ≡ (if turned then neg_ℤ m else m)
     → z ≡ a +ℤ n *ℤ coefficient (normal_summands (plus x.now ++ minus y.now)) t → z ≡ a +ℤ m *ℤ coefficient (row_view row).form t
-added_sums row says x y turned t a m n z is e f = by turned e ∙ ap (λ r. a +ℤ m *ℤ coefficient (row_view r).form t) (sym is)
+added_sums row sense x y turned t a m n z is e f = by turned e ∙ ap (λ r. a +ℤ m *ℤ coefficient (row_view r).form t) (sym is)
   where
     form : Summands
     form = normal_summands (plus x.now ++ minus y.now)
 
-    by : (b : Bool) → n ≡ (if b then neg_ℤ m else m) → z ≡ a +ℤ m *ℤ coefficient (row_view (Sums says x y b)).form t
+    by : (b : Bool) → n ≡ (if b then neg_ℤ m else m) → z ≡ a +ℤ m *ℤ coefficient (row_view (Sums sense x y b)).form t
     by true e = f ∙ ap (λ k. a +ℤ k *ℤ coefficient form t) e ∙ ap (λ k. a +ℤ k) (neg_mul m (coefficient form t) ∙ sym (mul_neg m (coefficient form t)) ∙ ap (λ k. m *ℤ k) (sym (coefficient_negative form t)))
     by false e = f ∙ ap (λ k. a +ℤ k *ℤ coefficient form t) e
 
@@ -192,7 +192,7 @@ sum_bound ms t h =
     omega (arith, few, sum_size ms t (and_right (nat_le (length ms) 32) (has_low ms) h))
 
 pub row_size : (row : Row) (t : Term) → is_small_row row ≡ true → unsigned_abs (coefficient (row_view row).form t) ≤ 64000000
-row_size (Sums says x y turned) t h = by turned
+row_size (Sums sense x y turned) t h = by turned
   where
     form : Summands
     form = normal_summands (plus x.now ++ minus y.now)
@@ -210,7 +210,7 @@ row_size (Sums says x y turned) t h = by turned
           sum_bound y.now t (and_right (are_small_monomials x.now) (are_small_monomials y.now) h),
         )
 
-    by : (b : Bool) → unsigned_abs (coefficient (row_view (Sums says x y b)).form t) ≤ 64000000
+    by : (b : Bool) → unsigned_abs (coefficient (row_view (Sums sense x y b)).form t) ≤ 64000000
     by true = omega (arith, ap unsigned_abs (coefficient_negative form t), size_negative (coefficient form t), inside)
     by false = inside
 row_size (Pos u) t h = omega (arith, single_size 1 u t)

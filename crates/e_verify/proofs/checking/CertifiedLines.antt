@@ -38,7 +38,7 @@ use mathlib.Core.Bool.{and-false}
 use Rattle.e_theorem.specs.declared.statement.Statement.{Statement}
 use Rattle.e_theorem.specs.Statements.{stated, all_stated}
 use Rattle.e_verify.specs.declared.step_state.StepState.{StepState}
-use Rattle.e_verify.specs.inner.StepStates.{with_facts, state_after_make}
+use Rattle.e_verify.specs.inner.StepStates.{state_with_facts, state_after_make}
 use Rattle.e_verify.specs.Checking.{IsChecked}
 use Rattle.e_literal.specs.Use.{are_arguments, needs_of_use, gives_of_use, is_statement}
 use Rattle.e_literal.proofs.Sorts.{same_obj_self}
@@ -84,17 +84,17 @@ cited_is s facts by lits needs kind args lit inst one is =
     let d = diagram_rule by.rule (rule_of_instance by.rule by.args lits inst) kind in
     ap (has_all facts) is ∙ rw (d, args, lit, inst, one) refl
 
-pub checked_cite : (before : List StatementView) (by : By) (x after : StepState) (b : Bool) → is_well_formed by.lit ≡ true → b ≡ (is_citation x.scope by && is_cited x.facts by) → after ≡ with_facts (joined x.facts by.lit) x → IsChecked before (Cite by) x after b
+pub checked_cite : (before : List StatementView) (by : By) (x after : StepState) (b : Bool) → is_well_formed by.lit ≡ true → b ≡ (is_citation x.scope by && is_cited x.facts by) → after ≡ state_with_facts (joined x.facts by.lit) x → IsChecked before (Cite by) x after b
 checked_cite before by x after b f t e =
-    checked before (Cite by) x (with_facts (joined x.facts by.lit) x) after b (λ rest goal. t) (cite_lines before by x) (stay_joined x.facts by.lit) (λ g. joined_formed x.facts by.lit g f) e
+    checked before (Cite by) x (state_with_facts (joined x.facts by.lit) x) after b (λ rest goal. t) (cite_lines before by x) (stay_joined x.facts by.lit) (λ g. joined_formed x.facts by.lit g f) e
 
 -- ---- a hence
 
 pub checked_hence : (before : List StatementView) (lit : Lit) (given : Option Cert) (cert : Cert) (x after : StepState) → is_well_formed lit ≡ true → given ≡ Some cert → all_in_scope x.scope lit ≡ true → certifies x.scope x.facts lit cert ≡ true
-    → after ≡ with_facts (joined x.facts lit) x → IsChecked before (Hence lit given) x after true
+    → after ≡ state_with_facts (joined x.facts lit) x → IsChecked before (Hence lit given) x after true
 checked_hence before lit given cert x after f is h k e =
     subst (λ o. IsChecked before (Hence lit o) x after true) (sym is)
-    (checked before (Hence lit (Some cert)) x (with_facts (joined x.facts lit) x) after true (λ rest goal. rw (h, k) refl) (hence_lines before lit (Some cert) x) (stay_joined x.facts lit) (λ g. joined_formed x.facts lit g f) e)
+    (checked before (Hence lit (Some cert)) x (state_with_facts (joined x.facts lit) x) after true (λ rest goal. rw (h, k) refl) (hence_lines before lit (Some cert) x) (stay_joined x.facts lit) (λ g. joined_formed x.facts lit g f) e)
 
 -- ---- a construction
 
@@ -103,17 +103,17 @@ each p q f [] h = refl
 each p q f (x ∷ xs) h =
     ap (λ b. b && list_all q xs) (f x (and_left (p x && q x) (list_all (λ x. p x && q x) xs) h)) ∙ each p q f xs (and_right (p x && q x) (list_all (λ x. p x && q x) xs) h)
 
-pub make_formed : (form : Construction) (s : Scope) → fits_construction form s ≡ true → list_all is_well_formed (needs_of_construction form) ≡ true
-make_formed form s h = each (all_in_scope s) is_well_formed (λ l k. and_right (all_in_scope s l) (is_well_formed l) k) (needs_of_construction form) (needs_good form s h)
+pub make_formed : (construction : Construction) (s : Scope) → fits_construction construction s ≡ true → list_all is_well_formed (needs_of_construction construction) ≡ true
+make_formed construction s h = each (all_in_scope s) is_well_formed (λ l k. and_right (all_in_scope s l) (is_well_formed l) k) (needs_of_construction construction) (needs_good construction s h)
 
-pub checked_make : (before : List StatementView) (form : Construction) (names : List (List ℕ)) (certs : List Cert) (x after : StepState) → fits_construction form x.scope ≡ true → certify_all x.scope x.facts (needs_of_construction form) certs ≡ true
-    → after ≡ state_after_make form x → IsChecked before (Make form names certs) x after true
-checked_make before form names certs x after h k e =
-    checked before (Make form names certs) x (state_after_make form x) after true (λ rest goal. rw (h, k) refl) (make_lines before form names certs x) (stay_all x.facts (gives_of_construction form x.scope))
-    (λ g. all_joined_formed x.facts (gives_of_construction form x.scope) g (make_gives_formed form x.scope h)) e
+pub checked_make : (before : List StatementView) (construction : Construction) (names : List (List ℕ)) (certs : List Cert) (x after : StepState) → fits_construction construction x.scope ≡ true → certify_all x.scope x.facts (needs_of_construction construction) certs ≡ true
+    → after ≡ state_after_make construction x → IsChecked before (Make construction names certs) x after true
+checked_make before construction names certs x after h k e =
+    checked before (Make construction names certs) x (state_after_make construction x) after true (λ rest goal. rw (h, k) refl) (make_lines before construction names certs x) (stay_all x.facts (gives_of_construction construction x.scope))
+    (λ g. all_joined_formed x.facts (gives_of_construction construction x.scope) g (make_gives_formed construction x.scope h)) e
 
-pub few_new : (s : Scope) (form : Construction) (n : ℕ) → is_small s ≡ true → n ≡ length (sorts_made form) → (s.points + n < 2 ^ 16) × (s.lines + n < 2 ^ 16) × (s.circles + n < 2 ^ 16)
-few_new s form n h e = let f = few_of_small s h in (omega (arith, f.points, e, few_made form), omega (arith, f.lines, e, few_made form), omega (arith, f.circles, e, few_made form))
+pub few_new : (s : Scope) (construction : Construction) (n : ℕ) → is_small s ≡ true → n ≡ length (sorts_made construction) → (s.points + n < 2 ^ 16) × (s.lines + n < 2 ^ 16) × (s.circles + n < 2 ^ 16)
+few_new s construction n h e = let f = few_of_small s h in (omega (arith, f.points, e, few_made construction), omega (arith, f.lines, e, few_made construction), omega (arith, f.circles, e, few_made construction))
 
 -- ---- an application
 
@@ -204,21 +204,21 @@ few_new_of s t h k =
 
 -- ---- a superposition
 
-pub superposed_formed : (form : Superpose) (s : Scope) → superposing.fits_superposition form s ≡ true → list_all is_well_formed (superposing.needs_of_superposition form) ≡ true
-superposed_formed form s h = each (all_in_scope s) is_well_formed (λ l k. and_right (all_in_scope s l) (is_well_formed l) k) (superposing.needs_of_superposition form) (superposition_needs_good form s h)
+pub superposed_formed : (superposition : Superpose) (s : Scope) → superposing.fits_superposition superposition s ≡ true → list_all is_well_formed (superposing.needs_of_superposition superposition) ≡ true
+superposed_formed superposition s h = each (all_in_scope s) is_well_formed (λ l k. and_right (all_in_scope s l) (is_well_formed l) k) (superposing.needs_of_superposition superposition) (superposition_needs_good superposition s h)
 
 pub few_copies : (s : Scope) (n : ℕ) → is_small s ≡ true → n ≡ length superposing.sorts_copied → (s.points + n < 2 ^ 16) × (s.lines + n < 2 ^ 16) × (s.circles + n < 2 ^ 16)
 few_copies s n h e = let f = few_of_small s h in (omega (arith, f.points, e), omega (arith, f.lines, e), omega (arith, f.circles, e))
 
-pub superposed_certified : (form : Superpose) (shown : List Lit) (certs : List Cert) (x : StepState) → superposing.fits_superposition form x.scope ≡ true → are_over x.scope shown ≡ true
-    → certify_all x.scope x.facts (superposing.needs_of_superposition form) certs ≡ true → (before : List StatementView) (names : List (List ℕ)) (inner rest : Script) (goal : Goal)
-    → true ≡ is_certified before (step_in_state (Superposed form names shown certs inner rest) x goal)
-superposed_certified form shown certs x h k m before names inner rest goal = rw (h, k, m) refl
+pub superposed_certified : (superposition : Superpose) (shown : List Lit) (certs : List Cert) (x : StepState) → superposing.fits_superposition superposition x.scope ≡ true → are_over x.scope shown ≡ true
+    → certify_all x.scope x.facts (superposing.needs_of_superposition superposition) certs ≡ true → (before : List StatementView) (names : List (List ℕ)) (inner rest : Script) (goal : Goal)
+    → true ≡ is_certified before (step_in_state (Superposed superposition names shown certs inner rest) x goal)
+superposed_certified superposition shown certs x h k m before names inner rest goal = rw (h, k, m) refl
 
 -- where it is certified it fits
-pub superposed_fits : (before : List StatementView) (form : Superpose) (names : List (List ℕ)) (shown : List Lit) (certs : List Cert) (inner rest : Script) (x : StepState) (goal : Goal)
-    → true ≡ is_certified before (step_in_state (Superposed form names shown certs inner rest) x goal) → superposing.fits_superposition form x.scope ≡ true
-superposed_fits before form names shown certs inner rest x goal h =
-    let fit = superposing.fits_superposition form x.scope && are_over x.scope shown in
-    let cert = certify_all x.scope x.facts (superposing.needs_of_superposition form) certs && true in
-    and_left (superposing.fits_superposition form x.scope) (are_over x.scope shown) (and_left fit cert (sym h))
+pub superposed_fits : (before : List StatementView) (superposition : Superpose) (names : List (List ℕ)) (shown : List Lit) (certs : List Cert) (inner rest : Script) (x : StepState) (goal : Goal)
+    → true ≡ is_certified before (step_in_state (Superposed superposition names shown certs inner rest) x goal) → superposing.fits_superposition superposition x.scope ≡ true
+superposed_fits before superposition names shown certs inner rest x goal h =
+    let fit = superposing.fits_superposition superposition x.scope && are_over x.scope shown in
+    let cert = certify_all x.scope x.facts (superposing.needs_of_superposition superposition) certs && true in
+    and_left (superposing.fits_superposition superposition x.scope) (are_over x.scope shown) (and_left fit cert (sym h))

@@ -18,25 +18,25 @@ use Rattle.e_deriv.specs.PlacedSteps.{PlacedStep, placed_steps, theorem_at}
 use Rattle.e_deriv.specs.Parts.{written}
 use Rattle.e_deriv.specs.Certified.{is_certified}
 use Rattle.e_verify.specs.declared.step_state.StepState.{StepState}
-use Rattle.e_verify.specs.inner.StepStates.{with_facts, state_after_make, state_after_superposed}
+use Rattle.e_verify.specs.inner.StepStates.{state_with_facts, state_after_make, state_after_superposed}
 use Rattle.e_verify.specs.Checking.{step_in_state, steps_in_state, IsChecked, KeepsFirstFacts}
 use Rattle.e_verify.proofs.checking.FormedFacts.{all_formed}
 
 pub cite_lines : (before : List StatementView) (by : By) (x : StepState) (rest : Script) (goal : Goal)
-    → steps_in_state before (Cite by rest) x goal ≡ step_in_state (Cite by rest) x goal ∷ steps_in_state before rest (with_facts (joined x.facts by.lit) x) goal
+    → steps_in_state before (Cite by rest) x goal ≡ step_in_state (Cite by rest) x goal ∷ steps_in_state before rest (state_with_facts (joined x.facts by.lit) x) goal
 unfolding placed_steps
 cite_lines before by x rest goal = refl
 
 pub hence_lines : (before : List StatementView) (lit : Lit) (cert : Option Cert) (x : StepState) (rest : Script) (goal : Goal)
-    → steps_in_state before (Hence lit cert rest) x goal ≡ step_in_state (Hence lit cert rest) x goal ∷ steps_in_state before rest (with_facts (joined x.facts lit) x) goal
+    → steps_in_state before (Hence lit cert rest) x goal ≡ step_in_state (Hence lit cert rest) x goal ∷ steps_in_state before rest (state_with_facts (joined x.facts lit) x) goal
 unfolding placed_steps
 hence_lines before lit cert x rest goal = refl
 
 -- after a construction
-pub make_lines : (before : List StatementView) (form : Construction) (names : List (List ℕ)) (certs : List Cert) (x : StepState) (rest : Script) (goal : Goal)
-    → steps_in_state before (Make form names certs rest) x goal ≡ step_in_state (Make form names certs rest) x goal ∷ steps_in_state before rest (state_after_make form x) goal
+pub make_lines : (before : List StatementView) (construction : Construction) (names : List (List ℕ)) (certs : List Cert) (x : StepState) (rest : Script) (goal : Goal)
+    → steps_in_state before (Make construction names certs rest) x goal ≡ step_in_state (Make construction names certs rest) x goal ∷ steps_in_state before rest (state_after_make construction x) goal
 unfolding placed_steps
-make_lines before form names certs x rest goal = refl
+make_lines before construction names certs x rest goal = refl
 
 -- after an application
 abbrev pub after_apply : StatementView → List Obj → StepState → StepState
@@ -49,15 +49,15 @@ apply_lines before theorem args names certs x rest goal = refl
 
 pub claim_lines : (before : List StatementView) (shown : List Lit) (inner : Script) (x : StepState) (rest : Script) (goal : Goal)
     → steps_in_state before (Claim shown inner rest) x goal
-    ≡ step_in_state (Claim shown inner rest) x goal ∷ (steps_in_state before inner x (goal_of shown) ++ steps_in_state before rest (with_facts (joined_all x.facts shown) x) goal)
+    ≡ step_in_state (Claim shown inner rest) x goal ∷ (steps_in_state before inner x (goal_of shown) ++ steps_in_state before rest (state_with_facts (joined_all x.facts shown) x) goal)
 unfolding placed_steps
 claim_lines before shown inner x rest goal = refl
 
-pub superposed_lines : (before : List StatementView) (form : Superpose) (names : List (List ℕ)) (shown : List Lit) (certs : List Cert) (inner : Script) (x : StepState) (rest : Script) (goal : Goal)
-    → steps_in_state before (Superposed form names shown certs inner rest) x goal
-    ≡ step_in_state (Superposed form names shown certs inner rest) x goal ∷ (steps_in_state before inner (state_after_superposed form x) (goal_of shown) ++ steps_in_state before rest (with_facts (joined_all x.facts shown) x) goal)
+pub superposed_lines : (before : List StatementView) (superposition : Superpose) (names : List (List ℕ)) (shown : List Lit) (certs : List Cert) (inner : Script) (x : StepState) (rest : Script) (goal : Goal)
+    → steps_in_state before (Superposed superposition names shown certs inner rest) x goal
+    ≡ step_in_state (Superposed superposition names shown certs inner rest) x goal ∷ (steps_in_state before inner (state_after_superposed superposition x) (goal_of shown) ++ steps_in_state before rest (state_with_facts (joined_all x.facts shown) x) goal)
 unfolding placed_steps
-superposed_lines before form names shown certs inner x rest goal = refl
+superposed_lines before superposition names shown certs inner x rest goal = refl
 
 pub qed_lines : (before : List StatementView) (objects : List Obj) (certs : List Cert) (x : StepState) (goal : Goal) → steps_in_state before (Qed objects certs) x goal ≡ step_in_state (Qed objects certs) x goal ∷ []
 unfolding placed_steps
@@ -69,7 +69,7 @@ contradiction_lines before against x goal = refl
 
 pub cases_lines : (before : List StatementView) (lit : Lit) (first second : Script) (x : StepState) (goal : Goal)
     → steps_in_state before (Cases lit first second) x goal
-    ≡ step_in_state (Cases lit first second) x goal ∷ (steps_in_state before first (with_facts (joined x.facts lit) x) goal ++ steps_in_state before second (with_facts (joined x.facts (negation lit)) x) goal)
+    ≡ step_in_state (Cases lit first second) x goal ∷ (steps_in_state before first (state_with_facts (joined x.facts lit) x) goal ++ steps_in_state before second (state_with_facts (joined x.facts (negation lit)) x) goal)
 unfolding placed_steps
 cases_lines before lit first second x goal = refl
 
@@ -78,10 +78,10 @@ pub some_lines : (before : List StatementView) (d : Script) (x : StepState) (goa
 unfolding placed_steps
 some_lines before (Cite by rest) x goal = (_, refl)
 some_lines before (Hence lit cert rest) x goal = (_, refl)
-some_lines before (Make form names certs rest) x goal = (_, refl)
+some_lines before (Make construction names certs rest) x goal = (_, refl)
 some_lines before (Apply theorem args names certs rest) x goal = (_, refl)
 some_lines before (Claim shown inner rest) x goal = (_, refl)
-some_lines before (Superposed form names shown certs inner rest) x goal = (_, refl)
+some_lines before (Superposed superposition names shown certs inner rest) x goal = (_, refl)
 some_lines before (Qed objects certs) x goal = (_, refl)
 some_lines before (Contradiction against) x goal = (_, refl)
 some_lines before (Cases lit first second) x goal = (_, refl)

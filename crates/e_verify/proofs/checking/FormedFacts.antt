@@ -50,12 +50,12 @@ each p (l ∷ ls) h =
     ap (λ b. b && all_formed ls) (and_right (p l) (is_well_formed l) (and_left (p l && is_well_formed l) (list_all (λ l. p l && is_well_formed l) ls) h))
     ∙ each p ls (and_right (p l && is_well_formed l) (list_all (λ l. p l && is_well_formed l) ls) h)
 
-pub make_gives_formed : (form : Construction) (s : Scope) → fits_construction form s ≡ true → all_formed (gives_of_construction form s) ≡ true
-make_gives_formed form s h = each (all_in_scope (grown s (sorts_made form))) (gives_of_construction form s) (gives_good form s h)
+pub make_gives_formed : (construction : Construction) (s : Scope) → fits_construction construction s ≡ true → all_formed (gives_of_construction construction s) ≡ true
+make_gives_formed construction s h = each (all_in_scope (grown s (sorts_made construction))) (gives_of_construction construction s) (gives_good construction s h)
 
 pub use_gives_formed : (t : StatementView) (args : List Obj) (s : Scope) → is_small_statement t ≡ true → are_arguments t s args ≡ true → all_formed (gives_of_use t args s) ≡ true
 use_gives_formed t args s h k =
     each (all_in_scope (grown s t.made)) (gives_of_use t args s) (use_gives_good t args s (and_left (is_statement t) (is_small (all_objects t)) h) k)
 
-pub superposed_gives_formed : (form : Superpose) (s : Scope) → superposing.fits_superposition form s ≡ true → all_formed (superposing.gives_of_superposition form s) ≡ true
-superposed_gives_formed form s h = each (all_in_scope (grown s superposing.sorts_copied)) (superposing.gives_of_superposition form s) (superposition_gives form s h)
+pub superposed_gives_formed : (superposition : Superpose) (s : Scope) → superposing.fits_superposition superposition s ≡ true → all_formed (superposing.gives_of_superposition superposition s) ≡ true
+superposed_gives_formed superposition s h = each (all_in_scope (grown s superposing.sorts_copied)) (superposing.gives_of_superposition superposition s) (superposition_gives superposition s h)

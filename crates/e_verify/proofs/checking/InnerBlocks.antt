@@ -31,7 +31,7 @@ use Rattle.e_verify.specs.declared.reject.Reject.{Reject}
 use Rattle.e_verify.specs.declared.reject.Reject.TheVariants.{Bad}
 use Rattle.e_verify.specs.declared.step_state.StepState.{StepState}
 use Rattle.e_verify.specs.declared.step_state.Checkpoint.{Checkpoint}
-use Rattle.e_verify.specs.inner.StepStates.{with_facts, state_after_superposed, checkpoint_of, restored}
+use Rattle.e_verify.specs.inner.StepStates.{state_with_facts, state_after_superposed, checkpoint_of_state, state_restored}
 use Rattle.e_clause.specs.Written.{is_writable_cert, is_writable_against}
 use Rattle.e_verify.specs.Checking.{step_in_state, verdict_at, RejectIs, IsCheckable, IsCheckableStep, AreCheckable, KeepsFirstFacts, AreVerified, StepsReject, StepRejects}
 use Rattle.e_verify.proofs.checking.FirstLines.{some_lines, qed_lines, contradiction_lines}
@@ -102,8 +102,8 @@ cite_is s by is rest = ap (λ t. step_script t rest) is ∙ step_script-Cite by 
 pub hence_is : (s : Step) (lit : Lit) (cert : Option Cert) → s ≡ HenceStep lit cert → (rest : Script) → step_script s rest ≡ Hence lit cert rest
 hence_is s lit cert is rest = ap (λ t. step_script t rest) is ∙ step_script-Hence lit cert rest
 
-pub make_is : (s : Step) (form : Construction) (names : List (List ℕ)) (certs : List Cert) → s ≡ MakeStep form names certs → (rest : Script) → step_script s rest ≡ Make form names certs rest
-make_is s form names certs is rest = ap (λ t. step_script t rest) is ∙ step_script-Make form names certs rest
+pub make_is : (s : Step) (construction : Construction) (names : List (List ℕ)) (certs : List Cert) → s ≡ MakeStep construction names certs → (rest : Script) → step_script s rest ≡ Make construction names certs rest
+make_is s construction names certs is rest = ap (λ t. step_script t rest) is ∙ step_script-Make construction names certs rest
 
 pub apply_is : (s : Step) (theorem : ℕ) (args : List (Option Obj)) (names : List (List ℕ)) (certs : List Cert) → s ≡ ApplyStep theorem args names certs → (rest : Script) → step_script s rest ≡ Apply theorem args names certs rest
 apply_is s theorem args names certs is rest = ap (λ t. step_script t rest) is ∙ step_script-Apply theorem args names certs rest
@@ -118,9 +118,9 @@ pub hence_parts : (before : List StatementView) (s : Step) (lit : Lit) (cert : O
 hence_parts before s lit cert x n is r =
     let w = hence_written lit cert r.rest (subst (λ d. IsCheckable before d x r.goal n) (hence_is s lit cert is r.rest) r.ready).written in (w.0, w.1)
 
-pub make_parts : (before : List StatementView) (s : Step) (form : Construction) (names : List (List ℕ)) (certs seen : List Cert) (x : StepState) (n : ℕ) → s ≡ MakeStep form names certs → seen ≡ certs → IsCheckableStep before s x n → list_all is_writable_cert seen ≡ true
-make_parts before s form names certs seen x n is same r =
-    ap (list_all is_writable_cert) same ∙ (make_written form names certs r.rest (subst (λ d. IsCheckable before d x r.goal n) (make_is s form names certs is r.rest) r.ready).written).0
+pub make_parts : (before : List StatementView) (s : Step) (construction : Construction) (names : List (List ℕ)) (certs seen : List Cert) (x : StepState) (n : ℕ) → s ≡ MakeStep construction names certs → seen ≡ certs → IsCheckableStep before s x n → list_all is_writable_cert seen ≡ true
+make_parts before s construction names certs seen x n is same r =
+    ap (list_all is_writable_cert) same ∙ (make_written construction names certs r.rest (subst (λ d. IsCheckable before d x r.goal n) (make_is s construction names certs is r.rest) r.ready).written).0
 
 pub apply_parts : (before : List StatementView) (s : Step) (theorem : ℕ) (args : List (Option Obj)) (names : List (List ℕ)) (certs seen : List Cert) (x : StepState) (n : ℕ) → s ≡ ApplyStep theorem args names certs → seen ≡ certs → IsCheckableStep before s x n
     → list_all is_writable_cert seen ≡ true
@@ -129,8 +129,8 @@ apply_parts before s theorem args names certs seen x n is same r =
 
 -- ---- blocks that are left
 
-pub restored_is : (o : Checkpoint) (x z y : StepState) → o ≡ checkpoint_of x → KeepsFirstFacts x z → y ≡ restored o z → y ≡ x
-restored_is o x z y e k is = is ∙ ap (λ m. restored m z) e ∙ ap (λ fs. with_facts fs x) k
+pub restored_is : (o : Checkpoint) (x z y : StepState) → o ≡ checkpoint_of_state x → KeepsFirstFacts x z → y ≡ state_restored o z → y ≡ x
+restored_is o x z y e k is = is ∙ ap (λ m. state_restored m z) e ∙ ap (λ fs. state_with_facts fs x) k
 
 -- ---- lines as the code has them
 
@@ -188,61 +188,61 @@ pub claim_stops : (before : List StatementView) (shown : List Lit) (inner : Scri
 claim_stops before shown inner x n e h k rest goal = claim_rejected before shown inner rest x goal n e h k
 
 pub claim_done : (before : List StatementView) (shown : List Lit) (inner : Script) (x z y after : StepState) (o : Checkpoint) (n m : ℕ) → are_over x.scope shown ≡ true → verdict_at before inner x (goal_of shown) (n + 1) ≡ Ok m
-    → o ≡ checkpoint_of x → KeepsFirstFacts x z → y ≡ restored o z → after ≡ with_facts (joined_all y.facts shown) y → AreVerified before (Claim shown inner) x n after m
+    → o ≡ checkpoint_of_state x → KeepsFirstFacts x z → y ≡ state_restored o z → after ≡ state_with_facts (joined_all y.facts shown) y → AreVerified before (Claim shown inner) x n after m
 claim_done before shown inner x z y after o n m h v e k left end =
     let p = passed_claim before shown inner x n m h v in
-    let back = end ∙ ap (λ w. with_facts (joined_all w.facts shown) w) (restored_is o x z y e k left) in
+    let back = end ∙ ap (λ w. state_with_facts (joined_all w.facts shown) w) (restored_is o x z y e k left) in
     subst (λ w. AreVerified before (Claim shown inner) x n w m) (sym back) p
 
 -- ---- a superposition
 
-pub superposed_is : (s : Step) (form : Superpose) (names : List (List ℕ)) (shown over : List Lit) (certs seen : List Cert) (inner : Box Block Global) (block : Block) → s ≡ SuperposedStep form names shown certs inner
-    → over ≡ shown → seen ≡ certs → block ≡ inner.value → (rest : Script) → step_script s rest ≡ Superposed form names over seen (script_of block) rest
-superposed_is s form names shown over certs seen inner block is like same at rest =
-    ap (λ t. step_script t rest) is ∙ step_script-Superposed form names shown certs inner rest ∙ ap (λ ls. Superposed form names ls certs (script_of inner.value) rest) (sym like)
-    ∙ ap (λ cs. Superposed form names over cs (script_of inner.value) rest) (sym same) ∙ ap (λ b. Superposed form names over seen (script_of b) rest) (sym at)
+pub superposed_is : (s : Step) (superposition : Superpose) (names : List (List ℕ)) (shown over : List Lit) (certs seen : List Cert) (inner : Box Block Global) (block : Block) → s ≡ SuperposedStep superposition names shown certs inner
+    → over ≡ shown → seen ≡ certs → block ≡ inner.value → (rest : Script) → step_script s rest ≡ Superposed superposition names over seen (script_of block) rest
+superposed_is s superposition names shown over certs seen inner block is like same at rest =
+    ap (λ t. step_script t rest) is ∙ step_script-Superposed superposition names shown certs inner rest ∙ ap (λ ls. Superposed superposition names ls certs (script_of inner.value) rest) (sym like)
+    ∙ ap (λ cs. Superposed superposition names over cs (script_of inner.value) rest) (sym same) ∙ ap (λ b. Superposed superposition names over seen (script_of b) rest) (sym at)
 
-pub superposed_parts : (before : List StatementView) (form : Superpose) (names : List (List ℕ)) (shown : List Lit) (certs : List Cert) (inner : Script) (x : StepState) (n : ℕ) → AreCheckable before (Superposed form names shown certs inner) x n
+pub superposed_parts : (before : List StatementView) (superposition : Superpose) (names : List (List ℕ)) (shown : List Lit) (certs : List Cert) (inner : Script) (x : StepState) (n : ℕ) → AreCheckable before (Superposed superposition names shown certs inner) x n
     → list_all is_writable_cert certs ≡ true
-superposed_parts before form names shown certs inner x n r = (superposed_written form names shown certs inner r.rest r.ready.written).1
+superposed_parts before superposition names shown certs inner x n r = (superposed_written superposition names shown certs inner r.rest r.ready.written).1
 
-pub superposed_ready : (before : List StatementView) (form : Superpose) (names : List (List ℕ)) (shown : List Lit) (certs : List Cert) (inner : Script) (x z : StepState) (n : ℕ) → z ≡ state_after_superposed form x → superposing.fits_superposition form x.scope ≡ true
-    → AreCheckable before (Superposed form names shown certs inner) x n → IsCheckable before inner z (goal_of shown) (n + 1)
-superposed_ready before form names shown certs inner x z n begun fit r =
-    subst (λ w. IsCheckable before inner w (goal_of shown) (n + 1)) (sym begun) (superposed_inner before form names shown certs inner r.rest x r.goal n fit r.ready)
+pub superposed_ready : (before : List StatementView) (superposition : Superpose) (names : List (List ℕ)) (shown : List Lit) (certs : List Cert) (inner : Script) (x z : StepState) (n : ℕ) → z ≡ state_after_superposed superposition x → superposing.fits_superposition superposition x.scope ≡ true
+    → AreCheckable before (Superposed superposition names shown certs inner) x n → IsCheckable before inner z (goal_of shown) (n + 1)
+superposed_ready before superposition names shown certs inner x z n begun fit r =
+    subst (λ w. IsCheckable before inner w (goal_of shown) (n + 1)) (sym begun) (superposed_inner before superposition names shown certs inner r.rest x r.goal n fit r.ready)
 
 -- what the code tests before the block of a superposition
 abbrev pub IsTested : List StatementView → Superpose → List Lit → List Cert → StepState → Bool → Type 0
-IsTested before form shown certs x b = (names : List (List ℕ)) (inner rest : Script) (goal : Goal) → b ≡ is_certified before (step_in_state (Superposed form names shown certs inner rest) x goal)
+IsTested before superposition shown certs x b = (names : List (List ℕ)) (inner rest : Script) (goal : Goal) → b ≡ is_certified before (step_in_state (Superposed superposition names shown certs inner rest) x goal)
 
-head_as : (before : List StatementView) (form : Superpose) (names : List (List ℕ)) (shown : List Lit) (certs : List Cert) (x : StepState) (b c : Bool) → b ≡ c → IsTested before form shown certs x b → IsHead before form names shown certs x c
-head_as before form names shown certs x b c is h inner rest goal = sym is ∙ h names inner rest goal
+head_as : (before : List StatementView) (superposition : Superpose) (names : List (List ℕ)) (shown : List Lit) (certs : List Cert) (x : StepState) (b c : Bool) → b ≡ c → IsTested before superposition shown certs x b → IsHead before superposition names shown certs x c
+head_as before superposition names shown certs x b c is h inner rest goal = sym is ∙ h names inner rest goal
 
 -- what is tested and certified fits
-pub tested_fits : (before : List StatementView) (form : Superpose) (shown : List Lit) (certs : List Cert) (x : StepState) (b : Bool) → b ≡ true → IsTested before form shown certs x b → superposing.fits_superposition form x.scope ≡ true
-tested_fits before form shown certs x b is h =
-    superposed_fits before form [] shown certs (Qed [] []) (Qed [] []) x (goal_of []) (sym is ∙ h [] (Qed [] []) (Qed [] []) (goal_of []))
+pub tested_fits : (before : List StatementView) (superposition : Superpose) (shown : List Lit) (certs : List Cert) (x : StepState) (b : Bool) → b ≡ true → IsTested before superposition shown certs x b → superposing.fits_superposition superposition x.scope ≡ true
+tested_fits before superposition shown certs x b is h =
+    superposed_fits before superposition [] shown certs (Qed [] []) (Qed [] []) x (goal_of []) (sym is ∙ h [] (Qed [] []) (Qed [] []) (goal_of []))
 
-pub superposed_fails : (before : List StatementView) (form : Superpose) (shown : List Lit) (certs : List Cert) (inner : Script) (x : StepState) (n : ℕ) (b : Bool) → b ≡ false → IsTested before form shown certs x b
-    → (names : List (List ℕ)) → StepsReject before (Superposed form names shown certs inner) x n (Bad n)
-superposed_fails before form shown certs inner x n b f h names rest goal =
-    bad_line before (Superposed form names shown certs inner rest) x goal n (sym (head_as before form names shown certs x b false f h inner rest goal))
+pub superposed_fails : (before : List StatementView) (superposition : Superpose) (shown : List Lit) (certs : List Cert) (inner : Script) (x : StepState) (n : ℕ) (b : Bool) → b ≡ false → IsTested before superposition shown certs x b
+    → (names : List (List ℕ)) → StepsReject before (Superposed superposition names shown certs inner) x n (Bad n)
+superposed_fails before superposition shown certs inner x n b f h names rest goal =
+    bad_line before (Superposed superposition names shown certs inner rest) x goal n (sym (head_as before superposition names shown certs x b false f h inner rest goal))
 
-pub superposed_stops : (before : List StatementView) (form : Superpose) (shown : List Lit) (certs : List Cert) (inner : Script) (x z : StepState) (n : ℕ) (b : Bool) (e : Reject) → z ≡ state_after_superposed form x → b ≡ true → IsTested before form shown certs x b
-    → RejectIs (verdict_at before inner z (goal_of shown) (n + 1)) e → (names : List (List ℕ)) → StepsReject before (Superposed form names shown certs inner) x n e
-superposed_stops before form shown certs inner x z n b e begun t h k names rest goal =
-    superposed_rejected before form names shown certs inner rest x goal n e (head_as before form names shown certs x b true t h)
+pub superposed_stops : (before : List StatementView) (superposition : Superpose) (shown : List Lit) (certs : List Cert) (inner : Script) (x z : StepState) (n : ℕ) (b : Bool) (e : Reject) → z ≡ state_after_superposed superposition x → b ≡ true → IsTested before superposition shown certs x b
+    → RejectIs (verdict_at before inner z (goal_of shown) (n + 1)) e → (names : List (List ℕ)) → StepsReject before (Superposed superposition names shown certs inner) x n e
+superposed_stops before superposition shown certs inner x z n b e begun t h k names rest goal =
+    superposed_rejected before superposition names shown certs inner rest x goal n e (head_as before superposition names shown certs x b true t h)
     (subst (λ w. RejectIs (verdict_at before inner w (goal_of shown) (n + 1)) e) begun k)
 
-pub superposed_done : (before : List StatementView) (form : Superpose) (shown : List Lit) (certs : List Cert) (inner : Script) (x z w y after : StepState) (o : Checkpoint) (n m : ℕ) (b : Bool) → z ≡ state_after_superposed form x → b ≡ true
-    → IsTested before form shown certs x b → verdict_at before inner z (goal_of shown) (n + 1) ≡ Ok m → o ≡ checkpoint_of x → KeepsFirstFacts z w → y ≡ restored o w → after ≡ with_facts (joined_all y.facts shown) y
-    → (names : List (List ℕ)) → AreVerified before (Superposed form names shown certs inner) x n after m
-superposed_done before form shown certs inner x z w y after o n m b begun t h v e k left end names =
+pub superposed_done : (before : List StatementView) (superposition : Superpose) (shown : List Lit) (certs : List Cert) (inner : Script) (x z w y after : StepState) (o : Checkpoint) (n m : ℕ) (b : Bool) → z ≡ state_after_superposed superposition x → b ≡ true
+    → IsTested before superposition shown certs x b → verdict_at before inner z (goal_of shown) (n + 1) ≡ Ok m → o ≡ checkpoint_of_state x → KeepsFirstFacts z w → y ≡ state_restored o w → after ≡ state_with_facts (joined_all y.facts shown) y
+    → (names : List (List ℕ)) → AreVerified before (Superposed superposition names shown certs inner) x n after m
+superposed_done before superposition shown certs inner x z w y after o n m b begun t h v e k left end names =
     let v' = ap (λ q. verdict_at before inner q (goal_of shown) (n + 1)) (sym begun) ∙ v in
-    let p = passed_superposed before form names shown certs inner x n m (head_as before form names shown certs x b true t h) v' in
-    let kept = kept_on x z w (subst (KeepsFirstFacts x) (sym begun) (stay_all x.facts (superposing.gives_of_superposition form x.scope))) k in
-    let back = end ∙ ap (λ q. with_facts (joined_all q.facts shown) q) (restored_is o x w y e kept left) in
-    subst (λ q. AreVerified before (Superposed form names shown certs inner) x n q m) (sym back) p
+    let p = passed_superposed before superposition names shown certs inner x n m (head_as before superposition names shown certs x b true t h) v' in
+    let kept = kept_on x z w (subst (KeepsFirstFacts x) (sym begun) (stay_all x.facts (superposing.gives_of_superposition superposition x.scope))) k in
+    let back = end ∙ ap (λ q. state_with_facts (joined_all q.facts shown) q) (restored_is o x w y e kept left) in
+    subst (λ q. AreVerified before (Superposed superposition names shown certs inner) x n q m) (sym back) p
 
 -- ---- closes that are one line, as the code has them
 
@@ -297,13 +297,13 @@ split_fails before c lit first second x goal n is h =
     ap (λ d. verdict_at before d x goal n) (cases_is c lit first second is) ∙ cases_bad before lit (script_of first.value) (script_of second.value) x goal n h
 
 pub first_ready : (before : List StatementView) (c : Close) (lit : Lit) (first second : Box Block Global) (block : Block) (x z : StepState) (goal : Goal) (n : ℕ) → c ≡ CasesClose lit first second → block ≡ first.value
-    → z ≡ with_facts (joined x.facts lit) x → IsCheckable before (close_script c) x goal n → IsCheckable before (script_of block) z goal (n + 1)
+    → z ≡ state_with_facts (joined x.facts lit) x → IsCheckable before (close_script c) x goal n → IsCheckable before (script_of block) z goal (n + 1)
 first_ready before c lit first second block x z goal n is at begun r =
     let q = cases_first before lit (script_of first.value) (script_of second.value) x goal n (subst (λ d. IsCheckable before d x goal n) (cases_is c lit first second is) r) in
     subst (λ b. IsCheckable before (script_of b) z goal (n + 1)) (sym at) (subst (λ w. IsCheckable before (script_of first.value) w goal (n + 1)) (sym begun) q)
 
 pub first_stops : (before : List StatementView) (c : Close) (lit : Lit) (first second : Box Block Global) (block : Block) (x z : StepState) (goal : Goal) (n : ℕ) (e : Reject) → c ≡ CasesClose lit first second → block ≡ first.value
-    → z ≡ with_facts (joined x.facts lit) x → all_in_scope x.scope lit ≡ true → RejectIs (verdict_at before (script_of block) z goal (n + 1)) e → RejectIs (verdict_at before (close_script c) x goal n) e
+    → z ≡ state_with_facts (joined x.facts lit) x → all_in_scope x.scope lit ≡ true → RejectIs (verdict_at before (script_of block) z goal (n + 1)) e → RejectIs (verdict_at before (close_script c) x goal n) e
 first_stops before c lit first second block x z goal n e is at begun h k =
     reject_as (verdict_at before (close_script c) x goal n) (verdict_at before (Cases lit (script_of first.value) (script_of second.value)) x goal n) e (ap (λ d. verdict_at before d x goal n) (cases_is c lit first second is))
     (cases_rejected before lit (script_of first.value) (script_of second.value) x goal n e h
@@ -311,16 +311,16 @@ first_stops before c lit first second block x z goal n e is at begun h k =
 
 -- what holds after the first block
 pub record IsAfterFirst (before : List StatementView) (lit : Lit) (first : Script) (x : StepState) (goal : Goal) (n m : ℕ) (after : StepState) : Type 0 where
-  pub passed : verdict_at before first (with_facts (joined x.facts lit) x) goal (n + 1) ≡ Ok m
-  pub begun : after ≡ with_facts (joined x.facts (negation lit)) x
+  pub passed : verdict_at before first (state_with_facts (joined x.facts lit) x) goal (n + 1) ≡ Ok m
+  pub begun : after ≡ state_with_facts (joined x.facts (negation lit)) x
 
-pub after_first : (before : List StatementView) (lit : Lit) (first : Box Block Global) (block : Block) (x z w y after : StepState) (o : Checkpoint) (goal : Goal) (n m : ℕ) → block ≡ first.value → z ≡ with_facts (joined x.facts lit) x
-    → verdict_at before (script_of block) z goal (n + 1) ≡ Ok m → o ≡ checkpoint_of x → KeepsFirstFacts z w → y ≡ restored o w → after ≡ with_facts (joined y.facts (negation lit)) y → IsAfterFirst before lit (script_of first.value) x goal n m after
+pub after_first : (before : List StatementView) (lit : Lit) (first : Box Block Global) (block : Block) (x z w y after : StepState) (o : Checkpoint) (goal : Goal) (n m : ℕ) → block ≡ first.value → z ≡ state_with_facts (joined x.facts lit) x
+    → verdict_at before (script_of block) z goal (n + 1) ≡ Ok m → o ≡ checkpoint_of_state x → KeepsFirstFacts z w → y ≡ state_restored o w → after ≡ state_with_facts (joined y.facts (negation lit)) y → IsAfterFirst before lit (script_of first.value) x goal n m after
 after_first before lit first block x z w y after o goal n m at begun v e k left end =
     let kept = kept_on x z w (subst (KeepsFirstFacts x) (sym begun) (stay_joined x.facts lit)) k in
     record {
       passed = ap (λ q. verdict_at before (script_of first.value) q goal (n + 1)) (sym begun) ∙ ap (λ b. verdict_at before (script_of b) z goal (n + 1)) (sym at) ∙ v;
-      begun = end ∙ ap (λ q. with_facts (joined q.facts (negation lit)) q) (restored_is o x w y e kept left);
+      begun = end ∙ ap (λ q. state_with_facts (joined q.facts (negation lit)) q) (restored_is o x w y e kept left);
     }
 
 pub second_ready : (before : List StatementView) (c : Close) (lit : Lit) (first second : Box Block Global) (block : Block) (x after : StepState) (goal : Goal) (n m : ℕ) → c ≡ CasesClose lit first second → block ≡ second.value

@@ -28,7 +28,7 @@ use Rattle.e_deriv.proofs.Stops.{lines_length}
 use Rattle.e_verify.specs.declared.reject.Reject.{Reject}
 use Rattle.e_verify.specs.declared.reject.Reject.TheVariants.{Bad, NoMemory}
 use Rattle.e_verify.specs.declared.step_state.StepState.{StepState}
-use Rattle.e_verify.specs.inner.StepStates.{with_facts, state_after_superposed}
+use Rattle.e_verify.specs.inner.StepStates.{state_with_facts, state_after_superposed}
 use Rattle.e_clause.specs.Written.{is_writable_cert, is_writable_against}
 use Rattle.e_deriv.specs.Written.{is_written_well}
 use Rattle.e_verify.specs.Checking.{step_in_state, steps_in_state, verdict_at, RejectIs, IsCheckable, IsChecked, AreVerified, StepRejects}
@@ -137,9 +137,9 @@ hence_written lit cert rest h =
     let k = and_right (is_well_formed lit) (c && is_written_well rest) h in
     (and_left (is_well_formed lit) (c && is_written_well rest) h, and_left c (is_written_well rest) k, and_right c (is_written_well rest) k)
 
-pub make_written : (form : Construction) (names : List (List ℕ)) (certs : List Cert) (rest : Script) → is_written_well (Make form names certs rest) ≡ true → (list_all is_writable_cert certs ≡ true) × (is_written_well rest ≡ true)
+pub make_written : (construction : Construction) (names : List (List ℕ)) (certs : List Cert) (rest : Script) → is_written_well (Make construction names certs rest) ≡ true → (list_all is_writable_cert certs ≡ true) × (is_written_well rest ≡ true)
 unfolding is_written_well
-make_written form names certs rest h = (and_left (list_all is_writable_cert certs) (is_written_well rest) h, and_right (list_all is_writable_cert certs) (is_written_well rest) h)
+make_written construction names certs rest h = (and_left (list_all is_writable_cert certs) (is_written_well rest) h, and_right (list_all is_writable_cert certs) (is_written_well rest) h)
 
 pub apply_written : (theorem : ℕ) (args : List (Option Obj)) (names : List (List ℕ)) (certs : List Cert) (rest : Script) → is_written_well (Apply theorem args names certs rest) ≡ true → (list_all is_writable_cert certs ≡ true) × (is_written_well rest ≡ true)
 unfolding is_written_well
@@ -153,10 +153,10 @@ claim_written shown inner rest h =
     let c = is_written_well rest in
     (and_left a (b && c) h, and_left b c (and_right a (b && c) h), and_right b c (and_right a (b && c) h))
 
-pub superposed_written : (form : Superpose) (names : List (List ℕ)) (shown : List Lit) (certs : List Cert) (inner rest : Script) → is_written_well (Superposed form names shown certs inner rest) ≡ true
+pub superposed_written : (superposition : Superpose) (names : List (List ℕ)) (shown : List Lit) (certs : List Cert) (inner rest : Script) → is_written_well (Superposed superposition names shown certs inner rest) ≡ true
     → (list_all is_well_formed shown ≡ true) × (list_all is_writable_cert certs ≡ true) × (is_written_well inner ≡ true) × (is_written_well rest ≡ true)
 unfolding is_written_well
-superposed_written form names shown certs inner rest h =
+superposed_written superposition names shown certs inner rest h =
     let a = list_all is_well_formed shown in
     let k = list_all is_writable_cert certs in
     let b = is_written_well inner in
@@ -193,8 +193,8 @@ cite_line by = record { written = λ rest h. (cite_written by rest h).1; size_is
 pub hence_line : (lit : Lit) (cert : Option Cert) → IsLine (Hence lit cert)
 hence_line lit cert = record { written = λ rest h. (hence_written lit cert rest h).2; size_is = size-Hence lit cert }
 
-pub make_line : (form : Construction) (names : List (List ℕ)) (certs : List Cert) → IsLine (Make form names certs)
-make_line form names certs = record { written = λ rest h. (make_written form names certs rest h).1; size_is = size-Make form names certs }
+pub make_line : (construction : Construction) (names : List (List ℕ)) (certs : List Cert) → IsLine (Make construction names certs)
+make_line construction names certs = record { written = λ rest h. (make_written construction names certs rest h).1; size_is = size-Make construction names certs }
 
 pub apply_line : (theorem : ℕ) (args : List (Option Obj)) (names : List (List ℕ)) (certs : List Cert) → IsLine (Apply theorem args names certs)
 apply_line theorem args names certs = record { written = λ rest h. (apply_written theorem args names certs rest h).1; size_is = size-Apply theorem args names certs }
@@ -254,16 +254,16 @@ claim_inner before shown inner rest x goal n r =
     let s = rest_small (step_in_state (Claim shown inner rest) x goal) _ (steps_in_state before (Claim shown inner rest) x goal) (claim_lines before shown inner x rest goal) r.scopes in
     record {
       written = w.1;
-      scopes = left_small (steps_in_state before inner x (goal_of shown)) (steps_in_state before rest (with_facts (joined_all x.facts shown) x) goal) s;
+      scopes = left_small (steps_in_state before inner x (goal_of shown)) (steps_in_state before rest (state_with_facts (joined_all x.facts shown) x) goal) s;
       facts = r.facts;
       shown = w.0;
       few = omega (arith, r.few, size-Claim shown inner rest);
     }
 
 pub passed_claim : (before : List StatementView) (shown : List Lit) (inner : Script) (x : StepState) (n m : ℕ) → are_over x.scope shown ≡ true → verdict_at before inner x (goal_of shown) (n + 1) ≡ Ok m
-    → AreVerified before (Claim shown inner) x n (with_facts (joined_all x.facts shown) x) m
+    → AreVerified before (Claim shown inner) x n (state_with_facts (joined_all x.facts shown) x) m
 passed_claim before shown inner x n m h e =
-    let after = with_facts (joined_all x.facts shown) x in
+    let after = state_with_facts (joined_all x.facts shown) x in
     let p = is_certified before in
     let A = steps_in_state before inner x (goal_of shown) in
     record {
@@ -289,7 +289,7 @@ pub claim_rejected : (before : List StatementView) (shown : List Lit) (inner res
 claim_rejected before shown inner rest x goal n e h k =
     let p = is_certified before in
     let A = steps_in_state before inner x (goal_of shown) in
-    let B = steps_in_state before rest (with_facts (joined_all x.facts shown) x) goal in
+    let B = steps_in_state before rest (state_with_facts (joined_all x.facts shown) x) goal in
     reject_as (verdict_at before (Claim shown inner rest) x goal n) (first_failure p (A ++ B) (n + 1)) e
     (ap (λ xs. first_failure p xs n) (claim_lines before shown inner x rest goal) ∙ pass_one p (step_in_state (Claim shown inner rest) x goal) (A ++ B) n (rw h refl))
     (reject_all p A B (n + 1) e k)
@@ -299,102 +299,102 @@ claim_bad before shown inner rest x goal n h = bad_line before (Claim shown inne
 
 -- ---- a superposition
 
-pub superposed_inner : (before : List StatementView) (form : Superpose) (names : List (List ℕ)) (shown : List Lit) (certs : List Cert) (inner rest : Script) (x : StepState) (goal : Goal) (n : ℕ)
-    → superposing.fits_superposition form x.scope ≡ true → IsCheckable before (Superposed form names shown certs inner rest) x goal n → IsCheckable before inner (state_after_superposed form x) (goal_of shown) (n + 1)
-superposed_inner before form names shown certs inner rest x goal n fit r =
-    let w = superposed_written form names shown certs inner rest r.written in
-    let d = Superposed form names shown certs inner rest in
-    let s = rest_small (step_in_state d x goal) _ (steps_in_state before d x goal) (superposed_lines before form names shown certs inner x rest goal) r.scopes in
+pub superposed_inner : (before : List StatementView) (superposition : Superpose) (names : List (List ℕ)) (shown : List Lit) (certs : List Cert) (inner rest : Script) (x : StepState) (goal : Goal) (n : ℕ)
+    → superposing.fits_superposition superposition x.scope ≡ true → IsCheckable before (Superposed superposition names shown certs inner rest) x goal n → IsCheckable before inner (state_after_superposed superposition x) (goal_of shown) (n + 1)
+superposed_inner before superposition names shown certs inner rest x goal n fit r =
+    let w = superposed_written superposition names shown certs inner rest r.written in
+    let d = Superposed superposition names shown certs inner rest in
+    let s = rest_small (step_in_state d x goal) _ (steps_in_state before d x goal) (superposed_lines before superposition names shown certs inner x rest goal) r.scopes in
     record {
       written = w.2;
-      scopes = left_small (steps_in_state before inner (state_after_superposed form x) (goal_of shown)) (steps_in_state before rest (with_facts (joined_all x.facts shown) x) goal) s;
-      facts = all_joined_formed x.facts (superposing.gives_of_superposition form x.scope) r.facts (superposed_gives_formed form x.scope fit);
+      scopes = left_small (steps_in_state before inner (state_after_superposed superposition x) (goal_of shown)) (steps_in_state before rest (state_with_facts (joined_all x.facts shown) x) goal) s;
+      facts = all_joined_formed x.facts (superposing.gives_of_superposition superposition x.scope) r.facts (superposed_gives_formed superposition x.scope fit);
       shown = w.0;
-      few = omega (arith, r.few, size-Superposed form names shown certs inner rest);
+      few = omega (arith, r.few, size-Superposed superposition names shown certs inner rest);
     }
 
 -- the superposition itself is certified, whatever its block is
 abbrev pub IsHead : List StatementView → Superpose → List (List ℕ) → List Lit → List Cert → StepState → Bool → Type 0
-IsHead before form names shown certs x b = (inner rest : Script) (goal : Goal) → b ≡ is_certified before (step_in_state (Superposed form names shown certs inner rest) x goal)
+IsHead before superposition names shown certs x b = (inner rest : Script) (goal : Goal) → b ≡ is_certified before (step_in_state (Superposed superposition names shown certs inner rest) x goal)
 
-pub passed_superposed : (before : List StatementView) (form : Superpose) (names : List (List ℕ)) (shown : List Lit) (certs : List Cert) (inner : Script) (x : StepState) (n m : ℕ) → IsHead before form names shown certs x true
-    → verdict_at before inner (state_after_superposed form x) (goal_of shown) (n + 1) ≡ Ok m → AreVerified before (Superposed form names shown certs inner) x n (with_facts (joined_all x.facts shown) x) m
-passed_superposed before form names shown certs inner x n m h e =
-    let after = with_facts (joined_all x.facts shown) x in
+pub passed_superposed : (before : List StatementView) (superposition : Superpose) (names : List (List ℕ)) (shown : List Lit) (certs : List Cert) (inner : Script) (x : StepState) (n m : ℕ) → IsHead before superposition names shown certs x true
+    → verdict_at before inner (state_after_superposed superposition x) (goal_of shown) (n + 1) ≡ Ok m → AreVerified before (Superposed superposition names shown certs inner) x n (state_with_facts (joined_all x.facts shown) x) m
+passed_superposed before superposition names shown certs inner x n m h e =
+    let after = state_with_facts (joined_all x.facts shown) x in
     let p = is_certified before in
-    let A = steps_in_state before inner (state_after_superposed form x) (goal_of shown) in
+    let A = steps_in_state before inner (state_after_superposed superposition x) (goal_of shown) in
     record {
       ready = λ rest goal r.
-          let d = Superposed form names shown certs inner rest in
-          let s = rest_small (step_in_state d x goal) _ (steps_in_state before d x goal) (superposed_lines before form names shown certs inner x rest goal) r.scopes in
+          let d = Superposed superposition names shown certs inner rest in
+          let s = rest_small (step_in_state d x goal) _ (steps_in_state before d x goal) (superposed_lines before superposition names shown certs inner x rest goal) r.scopes in
           record {
-            written = (superposed_written form names shown certs inner rest r.written).3;
+            written = (superposed_written superposition names shown certs inner rest r.written).3;
             scopes = right_small A (steps_in_state before rest after goal) s;
-            facts = all_joined_formed x.facts shown r.facts (superposed_written form names shown certs inner rest r.written).0;
+            facts = all_joined_formed x.facts shown r.facts (superposed_written superposition names shown certs inner rest r.written).0;
             shown = r.shown;
-            few = omega (arith, r.few, size-Superposed form names shown certs inner rest, size_of before inner (state_after_superposed form x) (goal_of shown) (n + 1) m e);
+            few = omega (arith, r.few, size-Superposed superposition names shown certs inner rest, size_of before inner (state_after_superposed superposition x) (goal_of shown) (n + 1) m e);
           };
       same = λ rest goal.
           let B = steps_in_state before rest after goal in
-          ap (λ xs. first_failure p xs n) (superposed_lines before form names shown certs inner x rest goal)
-          ∙ pass_one p (step_in_state (Superposed form names shown certs inner rest) x goal) (A ++ B) n (sym (h inner rest goal))
+          ap (λ xs. first_failure p xs n) (superposed_lines before superposition names shown certs inner x rest goal)
+          ∙ pass_one p (step_in_state (Superposed superposition names shown certs inner rest) x goal) (A ++ B) n (sym (h inner rest goal))
           ∙ pass_all p A B (n + 1) m e;
       kept = stay_all x.facts shown;
     }
 
-pub superposed_rejected : (before : List StatementView) (form : Superpose) (names : List (List ℕ)) (shown : List Lit) (certs : List Cert) (inner rest : Script) (x : StepState) (goal : Goal) (n : ℕ) (e : Reject)
-    → IsHead before form names shown certs x true → RejectIs (verdict_at before inner (state_after_superposed form x) (goal_of shown) (n + 1)) e → RejectIs (verdict_at before (Superposed form names shown certs inner rest) x goal n) e
-superposed_rejected before form names shown certs inner rest x goal n e h k =
+pub superposed_rejected : (before : List StatementView) (superposition : Superpose) (names : List (List ℕ)) (shown : List Lit) (certs : List Cert) (inner rest : Script) (x : StepState) (goal : Goal) (n : ℕ) (e : Reject)
+    → IsHead before superposition names shown certs x true → RejectIs (verdict_at before inner (state_after_superposed superposition x) (goal_of shown) (n + 1)) e → RejectIs (verdict_at before (Superposed superposition names shown certs inner rest) x goal n) e
+superposed_rejected before superposition names shown certs inner rest x goal n e h k =
     let p = is_certified before in
-    let A = steps_in_state before inner (state_after_superposed form x) (goal_of shown) in
-    let B = steps_in_state before rest (with_facts (joined_all x.facts shown) x) goal in
-    reject_as (verdict_at before (Superposed form names shown certs inner rest) x goal n) (first_failure p (A ++ B) (n + 1)) e
-    (ap (λ xs. first_failure p xs n) (superposed_lines before form names shown certs inner x rest goal) ∙ pass_one p (step_in_state (Superposed form names shown certs inner rest) x goal) (A ++ B) n (sym (h inner rest goal)))
+    let A = steps_in_state before inner (state_after_superposed superposition x) (goal_of shown) in
+    let B = steps_in_state before rest (state_with_facts (joined_all x.facts shown) x) goal in
+    reject_as (verdict_at before (Superposed superposition names shown certs inner rest) x goal n) (first_failure p (A ++ B) (n + 1)) e
+    (ap (λ xs. first_failure p xs n) (superposed_lines before superposition names shown certs inner x rest goal) ∙ pass_one p (step_in_state (Superposed superposition names shown certs inner rest) x goal) (A ++ B) n (sym (h inner rest goal)))
     (reject_all p A B (n + 1) e k)
 
 -- ---- a split
 
 pub cases_first : (before : List StatementView) (lit : Lit) (first second : Script) (x : StepState) (goal : Goal) (n : ℕ) → IsCheckable before (Cases lit first second) x goal n
-    → IsCheckable before first (with_facts (joined x.facts lit) x) goal (n + 1)
+    → IsCheckable before first (state_with_facts (joined x.facts lit) x) goal (n + 1)
 cases_first before lit first second x goal n r =
     let w = cases_written lit first second r.written in
     let s = rest_small (step_in_state (Cases lit first second) x goal) _ (steps_in_state before (Cases lit first second) x goal) (cases_lines before lit first second x goal) r.scopes in
     record {
       written = w.1;
-      scopes = left_small (steps_in_state before first (with_facts (joined x.facts lit) x) goal) (steps_in_state before second (with_facts (joined x.facts (negation lit)) x) goal) s;
+      scopes = left_small (steps_in_state before first (state_with_facts (joined x.facts lit) x) goal) (steps_in_state before second (state_with_facts (joined x.facts (negation lit)) x) goal) s;
       facts = joined_formed x.facts lit r.facts w.0;
       shown = r.shown;
       few = omega (arith, r.few, size-Cases lit first second);
     }
 
 pub cases_second : (before : List StatementView) (lit : Lit) (first second : Script) (x : StepState) (goal : Goal) (n m : ℕ) → IsCheckable before (Cases lit first second) x goal n
-    → verdict_at before first (with_facts (joined x.facts lit) x) goal (n + 1) ≡ Ok m → IsCheckable before second (with_facts (joined x.facts (negation lit)) x) goal m
+    → verdict_at before first (state_with_facts (joined x.facts lit) x) goal (n + 1) ≡ Ok m → IsCheckable before second (state_with_facts (joined x.facts (negation lit)) x) goal m
 cases_second before lit first second x goal n m r e =
     let w = cases_written lit first second r.written in
     let s = rest_small (step_in_state (Cases lit first second) x goal) _ (steps_in_state before (Cases lit first second) x goal) (cases_lines before lit first second x goal) r.scopes in
     record {
       written = w.2;
-      scopes = right_small (steps_in_state before first (with_facts (joined x.facts lit) x) goal) (steps_in_state before second (with_facts (joined x.facts (negation lit)) x) goal) s;
+      scopes = right_small (steps_in_state before first (state_with_facts (joined x.facts lit) x) goal) (steps_in_state before second (state_with_facts (joined x.facts (negation lit)) x) goal) s;
       facts = joined_formed x.facts (negation lit) r.facts w.0;
       shown = r.shown;
-      few = omega (arith, r.few, size-Cases lit first second, size_of before first (with_facts (joined x.facts lit) x) goal (n + 1) m e);
+      few = omega (arith, r.few, size-Cases lit first second, size_of before first (state_with_facts (joined x.facts lit) x) goal (n + 1) m e);
     }
 
 pub cases_same : (before : List StatementView) (lit : Lit) (first second : Script) (x : StepState) (goal : Goal) (n m : ℕ) → all_in_scope x.scope lit ≡ true
-    → verdict_at before first (with_facts (joined x.facts lit) x) goal (n + 1) ≡ Ok m
-    → verdict_at before (Cases lit first second) x goal n ≡ verdict_at before second (with_facts (joined x.facts (negation lit)) x) goal m
+    → verdict_at before first (state_with_facts (joined x.facts lit) x) goal (n + 1) ≡ Ok m
+    → verdict_at before (Cases lit first second) x goal n ≡ verdict_at before second (state_with_facts (joined x.facts (negation lit)) x) goal m
 cases_same before lit first second x goal n m h e =
     let p = is_certified before in
-    let A = steps_in_state before first (with_facts (joined x.facts lit) x) goal in
-    let B = steps_in_state before second (with_facts (joined x.facts (negation lit)) x) goal in
+    let A = steps_in_state before first (state_with_facts (joined x.facts lit) x) goal in
+    let B = steps_in_state before second (state_with_facts (joined x.facts (negation lit)) x) goal in
     ap (λ xs. first_failure p xs n) (cases_lines before lit first second x goal) ∙ pass_one p (step_in_state (Cases lit first second) x goal) (A ++ B) n (rw h refl) ∙ pass_all p A B (n + 1) m e
 
 pub cases_rejected : (before : List StatementView) (lit : Lit) (first second : Script) (x : StepState) (goal : Goal) (n : ℕ) (e : Reject) → all_in_scope x.scope lit ≡ true
-    → RejectIs (verdict_at before first (with_facts (joined x.facts lit) x) goal (n + 1)) e → RejectIs (verdict_at before (Cases lit first second) x goal n) e
+    → RejectIs (verdict_at before first (state_with_facts (joined x.facts lit) x) goal (n + 1)) e → RejectIs (verdict_at before (Cases lit first second) x goal n) e
 cases_rejected before lit first second x goal n e h k =
     let p = is_certified before in
-    let A = steps_in_state before first (with_facts (joined x.facts lit) x) goal in
-    let B = steps_in_state before second (with_facts (joined x.facts (negation lit)) x) goal in
+    let A = steps_in_state before first (state_with_facts (joined x.facts lit) x) goal in
+    let B = steps_in_state before second (state_with_facts (joined x.facts (negation lit)) x) goal in
     reject_as (verdict_at before (Cases lit first second) x goal n) (first_failure p (A ++ B) (n + 1)) e
     (ap (λ xs. first_failure p xs n) (cases_lines before lit first second x goal) ∙ pass_one p (step_in_state (Cases lit first second) x goal) (A ++ B) n (rw h refl))
     (reject_all p A B (n + 1) e k)

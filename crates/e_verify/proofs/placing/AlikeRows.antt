@@ -112,9 +112,9 @@ opposite_forms x y t = normal_coefficient y x t ∙ by (is_normal t) ∙ sym (ap
 
 -- they say the same of one form, or, where the second is turned, of opposite forms; then they say that it is 0, or that it is not
 pub record AreAlike (turned : Bool) (r s : Row) : Type 0 where
-  pub says : s.says ≡ r.says
+  pub sense : s.sense ≡ r.sense
   pub form : (t : Term) → coefficient s.form t ≡ cond turned (neg_ℤ (coefficient r.form t)) (coefficient r.form t)
-  pub sign : turned ≡ true → (r.says ≡ Zero) ⊎ (r.says ≡ Not)
+  pub sign : turned ≡ true → (r.sense ≡ Zero) ⊎ (r.sense ≡ Not)
 
 -- the rows of two equations that are the same
 equation_rows : (neg : Bool) (x y z w : List Mono) → (agree x y z w || agree x y w z) ≡ true
@@ -126,9 +126,9 @@ equation_rows neg x y z w h = by (have_one_form z w x y) refl
     says_so false = inl refl
 
     by : (b : Bool) → have_one_form z w x y ≡ b → AreAlike (not b) (row (cond neg Not Zero) (plus z ++ minus w)) (row (cond neg Not Zero) (plus x ++ minus y))
-    by true e = record { says = refl; form = λ t. sym (alike_forms z w x y e t); sign = λ k. absurd (true≢false (sym k)) }
+    by true e = record { sense = refl; form = λ t. sym (alike_forms z w x y e t); sign = λ k. absurd (true≢false (sym k)) }
     by false e = record {
-      says = refl;
+      sense = refl;
       form = λ t. elim (or_cases (agree x y z w) (agree x y w z) h) [
         | inl a ↦ absurd (true≢false (sym (all_alike_of_equal z w x y (λ u. sym (equal_of_agree x y z w a u))) ∙ e))
         | inr c ↦ same_form x y w z (equal_of_agree x y w z c) t ∙ opposite_forms z w t
@@ -161,13 +161,13 @@ alike_rows f l r h e =
     orders : (neg : Bool) (x y z w : List Mono) → agree x y z w ≡ true → (t : Row) → row_of_atom (MagLt z w) neg ≡ Some t → (s : Row) × (row_of_atom (MagLt x y) neg ≡ Some s) × AreAlike false t s
     orders true x y z w c t k =
         let is : row AtLeast (plus z ++ minus w) ≡ t = same_Some (row AtLeast (plus z ++ minus w)) t k in
-        (row AtLeast (plus x ++ minus y), refl, subst (λ u. AreAlike false u (row AtLeast (plus x ++ minus y))) is (record { says = refl; form = λ u. same_form x y z w (equal_of_agree x y z w c) u; sign = λ b. absurd (true≢false (sym b)) }))
+        (row AtLeast (plus x ++ minus y), refl, subst (λ u. AreAlike false u (row AtLeast (plus x ++ minus y))) is (record { sense = refl; form = λ u. same_form x y z w (equal_of_agree x y z w c) u; sign = λ b. absurd (true≢false (sym b)) }))
     orders false x y z w c t k =
         let is : row More (plus w ++ minus z) ≡ t = same_Some (row More (plus w ++ minus z)) t k in (
           row More (plus y ++ minus x),
           refl,
           subst (λ u. AreAlike false u (row More (plus y ++ minus x))) is (record {
-            says = refl;
+            sense = refl;
             form = λ u. same_form y x w z (λ v. let q = equal_of_agree x y z w c v in omega (arith, q)) u;
             sign = λ b. absurd (true≢false (sym b));
           }),

@@ -16,8 +16,8 @@ use Rattle.e_literal.proofs.Booleans.{and_left, and_right, or_not_left, or_not_r
 -- one share in each term, and taken away or added alike
 pub record HaveOneShare (w v : Weighed) : Type 0 where
   pub share : (t : Term) → v.multiplier *ℤ coefficient v.row.form t ≡ w.multiplier *ℤ coefficient w.row.form t
-  pub good : allows_multiplier v.row.says v.multiplier ≡ allows_multiplier w.row.says w.multiplier
-  pub strict : is_strict v.row.says v.multiplier ≡ is_strict w.row.says w.multiplier
+  pub good : allows_multiplier v.row.sense v.multiplier ≡ allows_multiplier w.row.sense w.multiplier
+  pub strict : is_strict v.row.sense v.multiplier ≡ is_strict w.row.sense w.multiplier
 
 abbrev pub AllHaveOneShare : List Weighed → List Weighed → Type 0
 AllHaveOneShare [] [] = Unit {0}
@@ -30,13 +30,13 @@ same_total [] (v ∷ vs) t h = absurd h
 same_total (w ∷ ws) [] t h = absurd h
 same_total (w ∷ ws) (v ∷ vs) t h = ap₂ {A = ℤ} {B = ℤ} (λ a b. a +ℤ b) (h.0.share t) (same_total ws vs t h.1)
 
-same_good : (ws vs : List Weighed) → AllHaveOneShare ws vs → list_all (λ w. allows_multiplier w.row.says w.multiplier) vs ≡ list_all (λ w. allows_multiplier w.row.says w.multiplier) ws
+same_good : (ws vs : List Weighed) → AllHaveOneShare ws vs → list_all (λ w. allows_multiplier w.row.sense w.multiplier) vs ≡ list_all (λ w. allows_multiplier w.row.sense w.multiplier) ws
 same_good [] [] h = refl
 same_good [] (v ∷ vs) h = absurd h
 same_good (w ∷ ws) [] h = absurd h
 same_good (w ∷ ws) (v ∷ vs) h = ap₂ {A = Bool} {B = Bool} (λ a b. a && b) h.0.good (same_good ws vs h.1)
 
-same_strict : (ws vs : List Weighed) → AllHaveOneShare ws vs → list_any (λ w. is_strict w.row.says w.multiplier) vs ≡ list_any (λ w. is_strict w.row.says w.multiplier) ws
+same_strict : (ws vs : List Weighed) → AllHaveOneShare ws vs → list_any (λ w. is_strict w.row.sense w.multiplier) vs ≡ list_any (λ w. is_strict w.row.sense w.multiplier) ws
 same_strict [] [] h = refl
 same_strict [] (v ∷ vs) h = absurd h
 same_strict (w ∷ ws) [] h = absurd h
@@ -95,8 +95,8 @@ cancel_everywhere f (t ∷ ts) h = ap₂ {A = Bool} {B = Bool} (λ a b. a && b) 
 pub absurd_together : (ws vs : List Weighed) → AllHaveOneShare ws vs → is_absurd ws ≡ true → is_absurd vs ≡ true
 absurd_together ws vs h a =
     let terms : Bool = list_all (λ t. int_eq (total ws t) (pos 0)) (terms_of_rows (map (λ (w : Weighed). w.row) ws)) in
-    let good : Bool = list_all (λ (w : Weighed). allows_multiplier w.row.says w.multiplier) ws in
-    let strict : Bool = list_any (λ (w : Weighed). is_strict w.row.says w.multiplier) ws in
+    let good : Bool = list_all (λ (w : Weighed). allows_multiplier w.row.sense w.multiplier) ws in
+    let strict : Bool = list_any (λ (w : Weighed). is_strict w.row.sense w.multiplier) ws in
     let none = all_cancel ws (and_left terms (good && strict) a) in
     let cancels = cancel_everywhere (total vs) (terms_of_rows (map (λ (w : Weighed). w.row) vs)) (λ t. same_total ws vs t h ∙ none t) in
     rw (cancels, same_good ws vs h, same_strict ws vs h) (and_right terms (good && strict) a)

@@ -25,7 +25,7 @@ use Rattle.e_clause.specs.declared.cert.Against.TheVariants.{Clash, Metric as Me
 use Rattle.e_clause.specs.Instance.{Inst}
 use Rattle.e_clause.specs.Versions.{is_name_of, is_sum_of, are_sums_of, is_part_of, is_cert_of, is_against_of}
 use Rattle.e_clause.specs.Written.{is_writable_name, is_writable_sum, are_writable_sums, is_writable_part, is_writable_cert, is_writable_against}
-use Rattle.e_construct.specs.Construct.{fits_construction as fits_form, sorts_made, gives_of_construction}
+use Rattle.e_construct.specs.Construct.{fits_construction, sorts_made, gives_of_construction}
 use Rattle.e_construct.specs.Superposing as superposing
 use Rattle.e_deriv.specs.Script.{Script, Cite, Hence, Make, Apply, Claim, Superposed, Qed, Contradiction, Cases, erased}
 use Rattle.e_deriv.specs.Goal.{Goal, goal_of, are_for}
@@ -76,11 +76,11 @@ numbered_certified before (Hence lit cert rest) s facts goal h =
         → is_certified before (placed_step (Hence lit (option_map (cert_with_places facts lit) c) placed) (Hence lit (option_map (cert_with_places facts lit) c) placed) s facts goal) ≡ true
     by None k = k
     by (Some c) k = with_certs (all_in_scope s lit) _ _ true (certs_certified s facts (lit ∷ []) (c ∷ [])) k
-numbered_certified before (Make form names certs rest) s facts goal h =
-    let first : Bool = is_certified before (placed_step (Make form names certs rest) (Make form names certs rest) s facts goal) in
-    let next : List PlacedStep = placed_steps before rest rest (grown s (sorts_made form)) (joined_all facts (gives_of_construction form s)) goal in
-    both_true _ _ (with_certs (fits_form form s) _ _ true (certs_certified s facts (needs before (placed_step (Make form names certs rest) (Make form names certs rest) s facts goal)) certs) (and_left first (are_certified before next) h))
-    (numbered_certified before rest (grown s (sorts_made form)) (joined_all facts (gives_of_construction form s)) goal (and_right first (are_certified before next) h))
+numbered_certified before (Make construction names certs rest) s facts goal h =
+    let first : Bool = is_certified before (placed_step (Make construction names certs rest) (Make construction names certs rest) s facts goal) in
+    let next : List PlacedStep = placed_steps before rest rest (grown s (sorts_made construction)) (joined_all facts (gives_of_construction construction s)) goal in
+    both_true _ _ (with_certs (fits_construction construction s) _ _ true (certs_certified s facts (needs before (placed_step (Make construction names certs rest) (Make construction names certs rest) s facts goal)) certs) (and_left first (are_certified before next) h))
+    (numbered_certified before rest (grown s (sorts_made construction)) (joined_all facts (gives_of_construction construction s)) goal (and_right first (are_certified before next) h))
 numbered_certified before (Apply theorem args names certs rest) s facts goal h =
     let t : StatementView = theorem_at before theorem in
     let first : Bool = is_certified before (placed_step (Apply theorem args names certs rest) (Apply theorem args names certs rest) s facts goal) in
@@ -96,15 +96,15 @@ numbered_certified before (Claim shown inner rest) s facts goal h =
     (all_both (is_certified before) (lines_of before (with_places before inner s facts (goal_of shown)) s facts (goal_of shown)) (lines_of before (with_places before rest s (joined_all facts shown) goal) s (joined_all facts shown) goal)
     (numbered_certified before inner s facts (goal_of shown) (all_left (is_certified before) within next later))
     (numbered_certified before rest s (joined_all facts shown) goal (all_right (is_certified before) within next later)))
-numbered_certified before (Superposed form names shown certs inner rest) s facts goal h =
-    let first : Bool = is_certified before (placed_step (Superposed form names shown certs inner rest) (Superposed form names shown certs inner rest) s facts goal) in
-    let within : List PlacedStep = placed_steps before inner inner (grown s superposing.sorts_copied) (joined_all facts (superposing.gives_of_superposition form s)) (goal_of shown) in
+numbered_certified before (Superposed superposition names shown certs inner rest) s facts goal h =
+    let first : Bool = is_certified before (placed_step (Superposed superposition names shown certs inner rest) (Superposed superposition names shown certs inner rest) s facts goal) in
+    let within : List PlacedStep = placed_steps before inner inner (grown s superposing.sorts_copied) (joined_all facts (superposing.gives_of_superposition superposition s)) (goal_of shown) in
     let next : List PlacedStep = placed_steps before rest rest s (joined_all facts shown) goal in
     let later = and_right first (are_certified before (within ++ next)) h in
-    both_true _ _ (with_certs (superposing.fits_superposition form s && are_over s shown) _ _ true (certs_certified s facts (superposing.needs_of_superposition form) certs) (and_left first (are_certified before (within ++ next)) h))
-    (all_both (is_certified before) (lines_of before (with_places before inner (grown s superposing.sorts_copied) (joined_all facts (superposing.gives_of_superposition form s)) (goal_of shown)) (grown s superposing.sorts_copied) (joined_all facts (superposing.gives_of_superposition form s)) (goal_of shown))
+    both_true _ _ (with_certs (superposing.fits_superposition superposition s && are_over s shown) _ _ true (certs_certified s facts (superposing.needs_of_superposition superposition) certs) (and_left first (are_certified before (within ++ next)) h))
+    (all_both (is_certified before) (lines_of before (with_places before inner (grown s superposing.sorts_copied) (joined_all facts (superposing.gives_of_superposition superposition s)) (goal_of shown)) (grown s superposing.sorts_copied) (joined_all facts (superposing.gives_of_superposition superposition s)) (goal_of shown))
     (lines_of before (with_places before rest s (joined_all facts shown) goal) s (joined_all facts shown) goal)
-    (numbered_certified before inner (grown s superposing.sorts_copied) (joined_all facts (superposing.gives_of_superposition form s)) (goal_of shown) (all_left (is_certified before) within next later))
+    (numbered_certified before inner (grown s superposing.sorts_copied) (joined_all facts (superposing.gives_of_superposition superposition s)) (goal_of shown) (all_left (is_certified before) within next later))
     (numbered_certified before rest s (joined_all facts shown) goal (all_right (is_certified before) within next later)))
 numbered_certified before (Qed objects certs) s facts goal h =
     let first : Bool = is_certified before (placed_step (Qed objects certs) (Qed objects certs) s facts goal) in
@@ -129,14 +129,14 @@ pub numbered_erased : (before : List StatementView) (d : Script) (s : Scope) (fa
 unfolding erased with_places
 numbered_erased before (Cite by rest) s facts goal = ap (Cite by) (numbered_erased before rest s (joined facts by.lit) goal)
 numbered_erased before (Hence lit cert rest) s facts goal = ap (Hence lit None) (numbered_erased before rest s (joined facts lit) goal)
-numbered_erased before (Make form names certs rest) s facts goal = ap (Make form names []) (numbered_erased before rest (grown s (sorts_made form)) (joined_all facts (gives_of_construction form s)) goal)
+numbered_erased before (Make construction names certs rest) s facts goal = ap (Make construction names []) (numbered_erased before rest (grown s (sorts_made construction)) (joined_all facts (gives_of_construction construction s)) goal)
 numbered_erased before (Apply theorem args names certs rest) s facts goal =
     ap (Apply theorem args names []) (numbered_erased before rest (grown s (theorem_at before theorem).made) (joined_all facts (gives_of_use (theorem_at before theorem) (written args) s)) goal)
 numbered_erased before (Claim shown inner rest) s facts goal =
     ap₂ {A = Script} {B = Script} (Claim shown) (numbered_erased before inner s facts (goal_of shown)) (numbered_erased before rest s (joined_all facts shown) goal)
-numbered_erased before (Superposed form names shown certs inner rest) s facts goal =
-    ap₂ {A = Script} {B = Script} (Superposed form names shown [])
-    (numbered_erased before inner (grown s superposing.sorts_copied) (joined_all facts (superposing.gives_of_superposition form s)) (goal_of shown)) (numbered_erased before rest s (joined_all facts shown) goal)
+numbered_erased before (Superposed superposition names shown certs inner rest) s facts goal =
+    ap₂ {A = Script} {B = Script} (Superposed superposition names shown [])
+    (numbered_erased before inner (grown s superposing.sorts_copied) (joined_all facts (superposing.gives_of_superposition superposition s)) (goal_of shown)) (numbered_erased before rest s (joined_all facts shown) goal)
 numbered_erased before (Qed objects certs) s facts goal = refl
 numbered_erased before (Contradiction against) s facts goal = refl
 numbered_erased before (Cases lit one two) s facts goal =
@@ -249,10 +249,10 @@ numbered_of_second before (Hence lit cert rest) s facts goal w h =
     by : (c : Option Cert) → option_map_or is_writable_cert c true ≡ true → option_map_or (is_cert_of version.Two) (option_map (cert_with_places facts lit) c) true ≡ true
     by None k = refl
     by (Some c) k = cert_of_second facts (few_of facts _ h) lit c k
-numbered_of_second before (Make form names certs rest) s facts goal w h =
-    let k = make_written form names certs rest w in
-    both_true _ _ (certs_of_second facts (few_of facts _ h) (needs before (placed_step (Make form names certs rest) (Make form names certs rest) s facts goal)) certs k.0)
-    (numbered_of_second before rest (grown s (sorts_made form)) (joined_all facts (gives_of_construction form s)) goal k.1 (and_right _ _ h))
+numbered_of_second before (Make construction names certs rest) s facts goal w h =
+    let k = make_written construction names certs rest w in
+    both_true _ _ (certs_of_second facts (few_of facts _ h) (needs before (placed_step (Make construction names certs rest) (Make construction names certs rest) s facts goal)) certs k.0)
+    (numbered_of_second before rest (grown s (sorts_made construction)) (joined_all facts (gives_of_construction construction s)) goal k.1 (and_right _ _ h))
 numbered_of_second before (Apply theorem args names certs rest) s facts goal w h =
     let k = apply_written theorem args names certs rest w in
     both_true _ _ (certs_of_second facts (few_of facts _ h) (needs before (placed_step (Apply theorem args names certs rest) (Apply theorem args names certs rest) s facts goal)) certs k.0)
@@ -264,13 +264,13 @@ numbered_of_second before (Claim shown inner rest) s facts goal w h =
     let k = claim_written shown inner rest w in
     both_true _ _ (numbered_of_second before inner s facts (goal_of shown) k.1 (all_left has_few within next later))
     (numbered_of_second before rest s (joined_all facts shown) goal k.2 (all_right has_few within next later))
-numbered_of_second before (Superposed form names shown certs inner rest) s facts goal w h =
-    let within : List PlacedStep = placed_steps before inner inner (grown s superposing.sorts_copied) (joined_all facts (superposing.gives_of_superposition form s)) (goal_of shown) in
+numbered_of_second before (Superposed superposition names shown certs inner rest) s facts goal w h =
+    let within : List PlacedStep = placed_steps before inner inner (grown s superposing.sorts_copied) (joined_all facts (superposing.gives_of_superposition superposition s)) (goal_of shown) in
     let next : List PlacedStep = placed_steps before rest rest s (joined_all facts shown) goal in
     let later = and_right (nat_lt (length facts) (2 ^ 32)) (list_all has_few (within ++ next)) h in
-    let k = superposed_written form names shown certs inner rest w in
-    both_true _ _ (certs_of_second facts (few_of facts _ h) (superposing.needs_of_superposition form) certs k.1)
-    (both_true _ _ (numbered_of_second before inner (grown s superposing.sorts_copied) (joined_all facts (superposing.gives_of_superposition form s)) (goal_of shown) k.2 (all_left has_few within next later))
+    let k = superposed_written superposition names shown certs inner rest w in
+    both_true _ _ (certs_of_second facts (few_of facts _ h) (superposing.needs_of_superposition superposition) certs k.1)
+    (both_true _ _ (numbered_of_second before inner (grown s superposing.sorts_copied) (joined_all facts (superposing.gives_of_superposition superposition s)) (goal_of shown) k.2 (all_left has_few within next later))
     (numbered_of_second before rest s (joined_all facts shown) goal k.3 (all_right has_few within next later)))
 numbered_of_second before (Qed objects certs) s facts goal w h =
     certs_of_second facts (few_of facts _ h) (needs before (placed_step (Qed objects certs) (Qed objects certs) s facts goal)) certs (qed_written objects certs w)

@@ -30,7 +30,7 @@ use Rattle.e_deriv.proofs.Scripts.{steps_at, steps_script-append, step_script-Ci
 use Rattle.e_deriv.proofs.Keeping.{stay_joined, stay_all}
 use Rattle.e_verify.specs.declared.step_state.StepState.{StepState}
 use Rattle.e_verify.specs.declared.step_state.Checkpoint.{Checkpoint}
-use Rattle.e_verify.specs.inner.StepStates.{with_facts, state_after_make, state_after_superposed, checkpoint_of, restored}
+use Rattle.e_verify.specs.inner.StepStates.{state_with_facts, state_after_make, state_after_superposed, checkpoint_of_state, state_restored}
 use Rattle.e_verify.specs.inner.Numbering.{has_few, HaveFew, IsNumberedStep, places_at}
 use Rattle.e_verify.specs.Checking.{step_in_state, steps_in_state, KeepsFirstFacts}
 use Rattle.e_verify.specs.Numbered.{cert_with_places, certs_with_places, against_with_places, with_places}
@@ -39,19 +39,19 @@ use Rattle.e_verify.proofs.checking.InnerBlocks.{kept_on, restored_is}
 
 -- ---- what is put at one line
 
-cite_places : (before : List StatementView) (by : By) (x : StepState) (rest : Script) (goal : Goal) → places_at before (Cite by rest) x goal ≡ Cite by (places_at before rest (with_facts (joined x.facts by.lit) x) goal)
+cite_places : (before : List StatementView) (by : By) (x : StepState) (rest : Script) (goal : Goal) → places_at before (Cite by rest) x goal ≡ Cite by (places_at before rest (state_with_facts (joined x.facts by.lit) x) goal)
 unfolding with_places
 cite_places before by x rest goal = refl
 
 hence_places : (before : List StatementView) (lit : Lit) (cert : Option Cert) (x : StepState) (rest : Script) (goal : Goal)
-    → places_at before (Hence lit cert rest) x goal ≡ Hence lit (option_map (cert_with_places x.facts lit) cert) (places_at before rest (with_facts (joined x.facts lit) x) goal)
+    → places_at before (Hence lit cert rest) x goal ≡ Hence lit (option_map (cert_with_places x.facts lit) cert) (places_at before rest (state_with_facts (joined x.facts lit) x) goal)
 unfolding with_places
 hence_places before lit cert x rest goal = refl
 
-make_places : (before : List StatementView) (form : Construction) (names : List (List ℕ)) (certs : List Cert) (x : StepState) (rest : Script) (goal : Goal)
-    → places_at before (Make form names certs rest) x goal ≡ Make form names (certs_with_places x.facts (construct.needs_of_construction form) certs) (places_at before rest (state_after_make form x) goal)
+make_places : (before : List StatementView) (construction : Construction) (names : List (List ℕ)) (certs : List Cert) (x : StepState) (rest : Script) (goal : Goal)
+    → places_at before (Make construction names certs rest) x goal ≡ Make construction names (certs_with_places x.facts (construct.needs_of_construction construction) certs) (places_at before rest (state_after_make construction x) goal)
 unfolding with_places
-make_places before form names certs x rest goal = refl
+make_places before construction names certs x rest goal = refl
 
 apply_places : (before : List StatementView) (theorem : ℕ) (args : List (Option Obj)) (names : List (List ℕ)) (certs : List Cert) (x : StepState) (rest : Script) (goal : Goal)
     → places_at before (Apply theorem args names certs rest) x goal
@@ -60,15 +60,15 @@ unfolding with_places
 apply_places before theorem args names certs x rest goal = refl
 
 claim_places : (before : List StatementView) (shown : List Lit) (inner : Script) (x : StepState) (rest : Script) (goal : Goal)
-    → places_at before (Claim shown inner rest) x goal ≡ Claim shown (places_at before inner x (goal_of shown)) (places_at before rest (with_facts (joined_all x.facts shown) x) goal)
+    → places_at before (Claim shown inner rest) x goal ≡ Claim shown (places_at before inner x (goal_of shown)) (places_at before rest (state_with_facts (joined_all x.facts shown) x) goal)
 unfolding with_places
 claim_places before shown inner x rest goal = refl
 
-superposed_places : (before : List StatementView) (form : Superpose) (names : List (List ℕ)) (shown : List Lit) (certs : List Cert) (inner : Script) (x : StepState) (rest : Script) (goal : Goal)
-    → places_at before (Superposed form names shown certs inner rest) x goal
-    ≡ Superposed form names shown (certs_with_places x.facts (superposing.needs_of_superposition form) certs) (places_at before inner (state_after_superposed form x) (goal_of shown)) (places_at before rest (with_facts (joined_all x.facts shown) x) goal)
+superposed_places : (before : List StatementView) (superposition : Superpose) (names : List (List ℕ)) (shown : List Lit) (certs : List Cert) (inner : Script) (x : StepState) (rest : Script) (goal : Goal)
+    → places_at before (Superposed superposition names shown certs inner rest) x goal
+    ≡ Superposed superposition names shown (certs_with_places x.facts (superposing.needs_of_superposition superposition) certs) (places_at before inner (state_after_superposed superposition x) (goal_of shown)) (places_at before rest (state_with_facts (joined_all x.facts shown) x) goal)
 unfolding with_places
-superposed_places before form names shown certs inner x rest goal = refl
+superposed_places before superposition names shown certs inner x rest goal = refl
 
 pub qed_places : (before : List StatementView) (objects : List Obj) (certs : List Cert) (x : StepState) (goal : Goal) → places_at before (Qed objects certs) x goal ≡ Qed objects (certs_with_places x.facts (goal_with goal objects) certs)
 unfolding with_places
@@ -79,7 +79,7 @@ unfolding with_places
 contradiction_places before against x goal = refl
 
 cases_places : (before : List StatementView) (lit : Lit) (first second : Script) (x : StepState) (goal : Goal)
-    → places_at before (Cases lit first second) x goal ≡ Cases lit (places_at before first (with_facts (joined x.facts lit) x) goal) (places_at before second (with_facts (joined x.facts (negation lit)) x) goal)
+    → places_at before (Cases lit first second) x goal ≡ Cases lit (places_at before first (state_with_facts (joined x.facts lit) x) goal) (places_at before second (state_with_facts (joined x.facts (negation lit)) x) goal)
 unfolding with_places
 cases_places before lit first second x goal = refl
 
@@ -97,34 +97,34 @@ few_close before d x goal few is = ap (list_all has_few) is ∙ ap₂ {A = Bool}
 
 -- ---- steps of one line
 
-pub cite_numbered : (before : List StatementView) (by : By) (x after : StepState) (s : Step) → s ≡ CiteStep by → after ≡ with_facts (joined x.facts by.lit) x → IsNumberedStep before (Cite by) x (step_script s) after
+pub cite_numbered : (before : List StatementView) (by : By) (x after : StepState) (s : Step) → s ≡ CiteStep by → after ≡ state_with_facts (joined x.facts by.lit) x → IsNumberedStep before (Cite by) x (step_script s) after
 cite_numbered before by x after s is end =
     subst (λ (y : StepState). IsNumberedStep before (Cite by) x (step_script s) y) (sym end)
     (record {
-      same = λ rest goal. cite_places before by x rest goal ∙ sym (ap (λ t. step_script t (places_at before rest (with_facts (joined x.facts by.lit) x) goal)) is ∙ step_script-Cite by _);
-      few = λ few rest goal h. few_line before (Cite by rest) x goal rest (with_facts (joined x.facts by.lit) x) few (cite_lines before by x rest goal) h;
+      same = λ rest goal. cite_places before by x rest goal ∙ sym (ap (λ t. step_script t (places_at before rest (state_with_facts (joined x.facts by.lit) x) goal)) is ∙ step_script-Cite by _);
+      few = λ few rest goal h. few_line before (Cite by rest) x goal rest (state_with_facts (joined x.facts by.lit) x) few (cite_lines before by x rest goal) h;
       kept = stay_joined x.facts by.lit;
     })
 
-pub hence_numbered : (before : List StatementView) (lit : Lit) (cert : Option Cert) (x after : StepState) (s : Step) → s ≡ HenceStep lit (option_map (cert_with_places x.facts lit) cert) → after ≡ with_facts (joined x.facts lit) x
+pub hence_numbered : (before : List StatementView) (lit : Lit) (cert : Option Cert) (x after : StepState) (s : Step) → s ≡ HenceStep lit (option_map (cert_with_places x.facts lit) cert) → after ≡ state_with_facts (joined x.facts lit) x
     → IsNumberedStep before (Hence lit cert) x (step_script s) after
 hence_numbered before lit cert x after s is end =
     subst (λ (y : StepState). IsNumberedStep before (Hence lit cert) x (step_script s) y) (sym end)
     (record {
-      same = λ rest goal. hence_places before lit cert x rest goal ∙ sym (ap (λ t. step_script t (places_at before rest (with_facts (joined x.facts lit) x) goal)) is ∙ step_script-Hence lit (option_map (cert_with_places x.facts lit) cert) _);
-      few = λ few rest goal h. few_line before (Hence lit cert rest) x goal rest (with_facts (joined x.facts lit) x) few (hence_lines before lit cert x rest goal) h;
+      same = λ rest goal. hence_places before lit cert x rest goal ∙ sym (ap (λ t. step_script t (places_at before rest (state_with_facts (joined x.facts lit) x) goal)) is ∙ step_script-Hence lit (option_map (cert_with_places x.facts lit) cert) _);
+      few = λ few rest goal h. few_line before (Hence lit cert rest) x goal rest (state_with_facts (joined x.facts lit) x) few (hence_lines before lit cert x rest goal) h;
       kept = stay_joined x.facts lit;
     })
 
-pub make_numbered : (before : List StatementView) (form : Construction) (names : List (List ℕ)) (certs : List Cert) (x after : StepState) (s : Step) → s ≡ MakeStep form names (certs_with_places x.facts (construct.needs_of_construction form) certs) → after ≡ state_after_make form x
-    → IsNumberedStep before (Make form names certs) x (step_script s) after
-make_numbered before form names certs x after s is end =
-    subst (λ (y : StepState). IsNumberedStep before (Make form names certs) x (step_script s) y) (sym end)
+pub make_numbered : (before : List StatementView) (construction : Construction) (names : List (List ℕ)) (certs : List Cert) (x after : StepState) (s : Step) → s ≡ MakeStep construction names (certs_with_places x.facts (construct.needs_of_construction construction) certs) → after ≡ state_after_make construction x
+    → IsNumberedStep before (Make construction names certs) x (step_script s) after
+make_numbered before construction names certs x after s is end =
+    subst (λ (y : StepState). IsNumberedStep before (Make construction names certs) x (step_script s) y) (sym end)
     (record {
-      same = λ rest goal. make_places before form names certs x rest goal
-          ∙ sym (ap (λ t. step_script t (places_at before rest (state_after_make form x) goal)) is ∙ step_script-Make form names (certs_with_places x.facts (construct.needs_of_construction form) certs) _);
-      few = λ few rest goal h. few_line before (Make form names certs rest) x goal rest (state_after_make form x) few (make_lines before form names certs x rest goal) h;
-      kept = stay_all x.facts (construct.gives_of_construction form x.scope);
+      same = λ rest goal. make_places before construction names certs x rest goal
+          ∙ sym (ap (λ t. step_script t (places_at before rest (state_after_make construction x) goal)) is ∙ step_script-Make construction names (certs_with_places x.facts (construct.needs_of_construction construction) certs) _);
+      few = λ few rest goal h. few_line before (Make construction names certs rest) x goal rest (state_after_make construction x) few (make_lines before construction names certs x rest goal) h;
+      kept = stay_all x.facts (construct.gives_of_construction construction x.scope);
     })
 
 pub apply_numbered : (before : List StatementView) (theorem : ℕ) (args : List (Option Obj)) (names : List (List ℕ)) (certs : List Cert) (x after : StepState) (s : Step)
@@ -151,15 +151,15 @@ pub ruleset placing = (common_steps, cite_numbered, hence_numbered, make_numbere
 -- ---- steps with a block inside
 
 -- back where the block was entered, with what it shows
-back_is : (o : Checkpoint) (x z after : StepState) (again shown : List Lit) → o ≡ checkpoint_of x → KeepsFirstFacts x z → again ≡ shown → after ≡ with_facts (joined_all (restored o z).facts again) (restored o z) → after ≡ with_facts (joined_all x.facts shown) x
+back_is : (o : Checkpoint) (x z after : StepState) (again shown : List Lit) → o ≡ checkpoint_of_state x → KeepsFirstFacts x z → again ≡ shown → after ≡ state_with_facts (joined_all (state_restored o z).facts again) (state_restored o z) → after ≡ state_with_facts (joined_all x.facts shown) x
 back_is o x z after again shown e k twice end =
-    end ∙ ap (λ w. with_facts (joined_all w.facts again) w) (restored_is o x z (restored o z) e k refl) ∙ ap (λ ls. with_facts (joined_all x.facts ls) x) twice
+    end ∙ ap (λ w. state_with_facts (joined_all w.facts again) w) (restored_is o x z (state_restored o z) e k refl) ∙ ap (λ ls. state_with_facts (joined_all x.facts ls) x) twice
 
 pub claim_numbered : (before : List StatementView) (shown : List Lit) (inner : Script) (numbered : Block) (x z after : StepState) (o : Checkpoint) (s : Step) → script_of numbered ≡ places_at before inner x (goal_of shown)
-    → HaveFew before inner x (goal_of shown) → o ≡ checkpoint_of x → KeepsFirstFacts x z → ((rest : Script) → step_script s rest ≡ Claim shown (script_of numbered) rest)
-    → after ≡ with_facts (joined_all (restored o z).facts shown) (restored o z) → IsNumberedStep before (Claim shown inner) x (step_script s) after
+    → HaveFew before inner x (goal_of shown) → o ≡ checkpoint_of_state x → KeepsFirstFacts x z → ((rest : Script) → step_script s rest ≡ Claim shown (script_of numbered) rest)
+    → after ≡ state_with_facts (joined_all (state_restored o z).facts shown) (state_restored o z) → IsNumberedStep before (Claim shown inner) x (step_script s) after
 claim_numbered before shown inner numbered x z after o s placed few e k made end =
-    let later : StepState = with_facts (joined_all x.facts shown) x in
+    let later : StepState = state_with_facts (joined_all x.facts shown) x in
     subst (λ (w : StepState). IsNumberedStep before (Claim shown inner) x (step_script s) w) (sym (back_is o x z after shown shown e k refl end))
     (record {
       same = λ rest goal.
@@ -170,24 +170,24 @@ claim_numbered before shown inner numbered x z after o s placed few e k made end
       kept = stay_all x.facts shown;
     })
 
-pub superposed_numbered : (before : List StatementView) (form : Superpose) (names : List (List ℕ)) (shown : List Lit) (certs placed : List Cert) (inner : Script) (numbered : Block) (x z w after : StepState) (o : Checkpoint) (s : Step)
-    → placed ≡ certs_with_places x.facts (superposing.needs_of_superposition form) certs → z ≡ state_after_superposed form x → script_of numbered ≡ places_at before inner z (goal_of shown) → HaveFew before inner z (goal_of shown)
-    → o ≡ checkpoint_of x → KeepsFirstFacts z w → ((rest : Script) → step_script s rest ≡ Superposed form names shown placed (script_of numbered) rest)
-    → after ≡ with_facts (joined_all (restored o w).facts shown) (restored o w) → IsNumberedStep before (Superposed form names shown certs inner) x (step_script s) after
-superposed_numbered before form names shown certs placed inner numbered x z w after o s put begun block_is few e k made end =
-    let kept = kept_on x z w (subst (KeepsFirstFacts x) (sym begun) (stay_all x.facts (superposing.gives_of_superposition form x.scope))) k in
-    let begin : StepState = state_after_superposed form x in
-    let later : StepState = with_facts (joined_all x.facts shown) x in
+pub superposed_numbered : (before : List StatementView) (superposition : Superpose) (names : List (List ℕ)) (shown : List Lit) (certs placed : List Cert) (inner : Script) (numbered : Block) (x z w after : StepState) (o : Checkpoint) (s : Step)
+    → placed ≡ certs_with_places x.facts (superposing.needs_of_superposition superposition) certs → z ≡ state_after_superposed superposition x → script_of numbered ≡ places_at before inner z (goal_of shown) → HaveFew before inner z (goal_of shown)
+    → o ≡ checkpoint_of_state x → KeepsFirstFacts z w → ((rest : Script) → step_script s rest ≡ Superposed superposition names shown placed (script_of numbered) rest)
+    → after ≡ state_with_facts (joined_all (state_restored o w).facts shown) (state_restored o w) → IsNumberedStep before (Superposed superposition names shown certs inner) x (step_script s) after
+superposed_numbered before superposition names shown certs placed inner numbered x z w after o s put begun block_is few e k made end =
+    let kept = kept_on x z w (subst (KeepsFirstFacts x) (sym begun) (stay_all x.facts (superposing.gives_of_superposition superposition x.scope))) k in
+    let begin : StepState = state_after_superposed superposition x in
+    let later : StepState = state_with_facts (joined_all x.facts shown) x in
     let block_placed : script_of numbered ≡ places_at before inner begin (goal_of shown) = block_is ∙ ap (λ q. places_at before inner q (goal_of shown)) begun in
     let block_few : HaveFew before inner begin (goal_of shown) = subst (λ q. HaveFew before inner q (goal_of shown)) begun few in
-    subst (λ (q : StepState). IsNumberedStep before (Superposed form names shown certs inner) x (step_script s) q) (sym (back_is o x w after shown shown e kept refl end))
+    subst (λ (q : StepState). IsNumberedStep before (Superposed superposition names shown certs inner) x (step_script s) q) (sym (back_is o x w after shown shown e kept refl end))
     (record {
       same = λ rest goal.
-          superposed_places before form names shown certs inner x rest goal
+          superposed_places before superposition names shown certs inner x rest goal
           ∙ sym (made (places_at before rest later goal)
-          ∙ ap₂ {A = List Cert} {B = Script} (λ ps d. Superposed form names shown ps d (places_at before rest later goal)) put block_placed);
+          ∙ ap₂ {A = List Cert} {B = Script} (λ ps d. Superposed superposition names shown ps d (places_at before rest later goal)) put block_placed);
       few = λ all rest goal h.
-          ap (list_all has_few) (superposed_lines before form names shown certs inner x rest goal)
+          ap (list_all has_few) (superposed_lines before superposition names shown certs inner x rest goal)
           ∙ ap₂ {A = Bool} {B = Bool} (λ a b. a && b) (few_first x all) (all_both has_few (steps_in_state before inner begin (goal_of shown)) (steps_in_state before rest later goal) block_few h);
       kept = stay_all x.facts shown;
     })
@@ -254,29 +254,29 @@ contradiction_few before c against x goal is few =
 -- ---- a split
 
 -- what holds after the first block
-pub after_cases : (x z w y after : StepState) (lit : Lit) (o : Checkpoint) → z ≡ with_facts (joined x.facts lit) x → o ≡ checkpoint_of x → KeepsFirstFacts z w → y ≡ restored o w → after ≡ with_facts (joined y.facts (negation lit)) y
-    → after ≡ with_facts (joined x.facts (negation lit)) x
+pub after_cases : (x z w y after : StepState) (lit : Lit) (o : Checkpoint) → z ≡ state_with_facts (joined x.facts lit) x → o ≡ checkpoint_of_state x → KeepsFirstFacts z w → y ≡ state_restored o w → after ≡ state_with_facts (joined y.facts (negation lit)) y
+    → after ≡ state_with_facts (joined x.facts (negation lit)) x
 after_cases x z w y after lit o begun e k left end =
     let kept = kept_on x z w (subst (KeepsFirstFacts x) (sym begun) (stay_joined x.facts lit)) k in
-    end ∙ ap (λ q. with_facts (joined q.facts (negation lit)) q) (restored_is o x w y e kept left)
+    end ∙ ap (λ q. state_with_facts (joined q.facts (negation lit)) q) (restored_is o x w y e kept left)
 
 pub cases_numbered : (before : List StatementView) (c : Close) (lit : Lit) (first second : Box Block Global) (b1 b2 n1 n2 : Block) (x z after : StepState) (goal : Goal)
-    → c ≡ CasesClose lit first second → b1 ≡ first.value → b2 ≡ second.value → z ≡ with_facts (joined x.facts lit) x → script_of n1 ≡ places_at before (script_of b1) z goal → after ≡ with_facts (joined x.facts (negation lit)) x
+    → c ≡ CasesClose lit first second → b1 ≡ first.value → b2 ≡ second.value → z ≡ state_with_facts (joined x.facts lit) x → script_of n1 ≡ places_at before (script_of b1) z goal → after ≡ state_with_facts (joined x.facts (negation lit)) x
     → script_of n2 ≡ places_at before (script_of b2) after goal → Cases lit (script_of n1) (script_of n2) ≡ places_at before (close_script c) x goal
 cases_numbered before c lit first second b1 b2 n1 n2 x z after goal is at1 at2 begun placed1 back placed2 =
-    let p1 : script_of n1 ≡ places_at before (script_of first.value) (with_facts (joined x.facts lit) x) goal =
-    placed1 ∙ ap (λ q. places_at before (script_of b1) q goal) begun ∙ ap (λ b. places_at before (script_of b) (with_facts (joined x.facts lit) x) goal) at1 in
-    let p2 : script_of n2 ≡ places_at before (script_of second.value) (with_facts (joined x.facts (negation lit)) x) goal =
-    placed2 ∙ ap (λ q. places_at before (script_of b2) q goal) back ∙ ap (λ b. places_at before (script_of b) (with_facts (joined x.facts (negation lit)) x) goal) at2 in
+    let p1 : script_of n1 ≡ places_at before (script_of first.value) (state_with_facts (joined x.facts lit) x) goal =
+    placed1 ∙ ap (λ q. places_at before (script_of b1) q goal) begun ∙ ap (λ b. places_at before (script_of b) (state_with_facts (joined x.facts lit) x) goal) at1 in
+    let p2 : script_of n2 ≡ places_at before (script_of second.value) (state_with_facts (joined x.facts (negation lit)) x) goal =
+    placed2 ∙ ap (λ q. places_at before (script_of b2) q goal) back ∙ ap (λ b. places_at before (script_of b) (state_with_facts (joined x.facts (negation lit)) x) goal) at2 in
     ap₂ {A = Script} {B = Script} (Cases lit) p1 p2 ∙ sym (cases_places before lit (script_of first.value) (script_of second.value) x goal)
     ∙ sym (ap (λ d. places_at before d x goal) (ap close_script is ∙ close_script-Cases lit first second))
 
 pub cases_few : (before : List StatementView) (c : Close) (lit : Lit) (first second : Box Block Global) (b1 b2 : Block) (x z after : StepState) (goal : Goal) → length x.facts < 2 ^ 32
-    → c ≡ CasesClose lit first second → b1 ≡ first.value → b2 ≡ second.value → z ≡ with_facts (joined x.facts lit) x → HaveFew before (script_of b1) z goal → after ≡ with_facts (joined x.facts (negation lit)) x → HaveFew before (script_of b2) after goal
+    → c ≡ CasesClose lit first second → b1 ≡ first.value → b2 ≡ second.value → z ≡ state_with_facts (joined x.facts lit) x → HaveFew before (script_of b1) z goal → after ≡ state_with_facts (joined x.facts (negation lit)) x → HaveFew before (script_of b2) after goal
     → HaveFew before (close_script c) x goal
 cases_few before c lit first second b1 b2 x z after goal all is at1 at2 begun few1 back few2 =
-    let one = with_facts (joined x.facts lit) x in
-    let two = with_facts (joined x.facts (negation lit)) x in
+    let one = state_with_facts (joined x.facts lit) x in
+    let two = state_with_facts (joined x.facts (negation lit)) x in
     ap (λ d. list_all has_few (steps_in_state before d x goal)) (ap close_script is ∙ close_script-Cases lit first second)
     ∙ ap (list_all has_few) (cases_lines before lit (script_of first.value) (script_of second.value) x goal)
     ∙ ap₂ {A = Bool} {B = Bool} (λ a b. a && b) (few_first x all)

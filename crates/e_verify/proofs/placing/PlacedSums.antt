@@ -31,13 +31,13 @@ cond_some true o a e = (refl, e)
 cond_some false o a e = absurd (none-some a e)
 
 -- a row that may stand in a sum
-kept_row : (o : Option Row) (r : Row) → unless_not o ≡ Some r → (o ≡ Some r) × (says_differ r.says ≡ false)
+kept_row : (o : Option Row) (r : Row) → unless_not o ≡ Some r → (o ≡ Some r) × (says_differ r.sense ≡ false)
 kept_row None r e = absurd (none-some r e)
-kept_row (Some x) r e = by (says_differ x.says) refl e
+kept_row (Some x) r e = by (says_differ x.sense) refl e
   where
-    by : (b : Bool) → says_differ x.says ≡ b → cond b None (Some x) ≡ Some r → (Some x ≡ Some r) × (says_differ r.says ≡ false)
+    by : (b : Bool) → says_differ x.sense ≡ b → cond b None (Some x) ≡ Some r → (Some x ≡ Some r) × (says_differ r.sense ≡ false)
     by true d k = absurd (none-some r k)
-    by false d k = (k, ap (λ (y : Row). says_differ y.says) (sym (same_Some x r k)) ∙ d)
+    by false d k = (k, ap (λ (y : Row). says_differ y.sense) (sym (same_Some x r k)) ∙ d)
 
 -- ---- one fact
 
@@ -50,26 +50,26 @@ fact_placed facts l r e =
     (s.0, ap (option_and_then row_of_lit) f.1 ∙ s.1, subst (λ b. AreAlike b r s.0) (sym (ap (λ (o : Option Lit). have_opposite_rows l.atom (unwrap_or o l).atom) f.1)) s.2)
 
 alike_self : (r : Row) → AreAlike false r r
-alike_self r = record { says = refl; form = λ t. refl; sign = λ k. absurd (true≢false (sym k)) }
+alike_self r = record { sense = refl; form = λ t. refl; sign = λ k. absurd (true≢false (sym k)) }
 
 -- the share in a sum stays
 one_share : (turned : Bool) (n : ℤ) (r s : Row) → AreAlike turned r s → HaveOneShare (record { multiplier = n; row = r }) (record { multiplier = cond turned (neg_ℤ n) n; row = s })
 one_share false n r s h = record {
   share = λ t. ap (λ z. n *ℤ z) (h.form t);
-  good = ap (λ x. allows_multiplier x n) h.says;
-  strict = ap (λ x. is_strict x n) h.says;
+  good = ap (λ x. allows_multiplier x n) h.sense;
+  strict = ap (λ x. is_strict x n) h.sense;
 }
 one_share true n r s h = record {
   share = λ t. ap (λ z. neg_ℤ n *ℤ z) (h.form t) ∙ omega (arith, sums, neg_mul n (neg_ℤ (coefficient r.form t)), mul_neg n (coefficient r.form t));
-  good = ap (λ x. allows_multiplier x (neg_ℤ n)) h.says ∙ signs (h.sign refl);
-  strict = ap (λ x. is_strict x (neg_ℤ n)) h.says ∙ stricts (h.sign refl);
+  good = ap (λ x. allows_multiplier x (neg_ℤ n)) h.sense ∙ signs (h.sign refl);
+  strict = ap (λ x. is_strict x (neg_ℤ n)) h.sense ∙ stricts (h.sign refl);
 }
   where
-    signs : (r.says ≡ Zero) ⊎ (r.says ≡ Not) → allows_multiplier r.says (neg_ℤ n) ≡ allows_multiplier r.says n
+    signs : (r.sense ≡ Zero) ⊎ (r.sense ≡ Not) → allows_multiplier r.sense (neg_ℤ n) ≡ allows_multiplier r.sense n
     signs (inl e) = ap (λ x. allows_multiplier x (neg_ℤ n)) e ∙ sym (ap (λ x. allows_multiplier x n) e)
     signs (inr e) = ap (λ x. allows_multiplier x (neg_ℤ n)) e ∙ sym (ap (λ x. allows_multiplier x n) e)
 
-    stricts : (r.says ≡ Zero) ⊎ (r.says ≡ Not) → is_strict r.says (neg_ℤ n) ≡ is_strict r.says n
+    stricts : (r.sense ≡ Zero) ⊎ (r.sense ≡ Not) → is_strict r.sense (neg_ℤ n) ≡ is_strict r.sense n
     stricts (inl e) = ap (λ x. is_strict x (neg_ℤ n)) e ∙ sym (ap (λ x. is_strict x n) e)
     stricts (inr e) = ap (λ x. is_strict x (neg_ℤ n)) e ∙ sym (ap (λ x. is_strict x n) e)
 
@@ -145,7 +145,7 @@ module _ (facts : List Lit) (swap : Bool) where
       named (Fact l) r e =
           let k = kept_row (fact_row facts l) r e in
           let s = fact_placed facts l r k.0 in
-          let may : says_differ s.0.says ≡ false = ap says_differ s.2.says ∙ k.1 in
+          let may : says_differ s.0.sense ≡ false = ap says_differ s.2.sense ∙ k.1 in
           (s.0, ap (row_named new) (by swap) ∙ ap unless_not s.1 ∙ ap (λ b. cond b None (Some s.0)) may, s.2)
         where
           by : (b : Bool) → side b (FactAt (place_of_same facts l)) ≡ FactAt (place_of_same facts l)
@@ -199,7 +199,7 @@ differing_placed : (facts : List Lit) (wanted : Option Lit) (name : RowName) (r 
 differing_placed facts wanted name r e = by (option_split (differing_of facts wanted name))
   where
     test : Row → Option Row
-    test x = cond (says_differ x.says) (Some x) None
+    test x = cond (says_differ x.sense) (Some x) None
 
     at : (name : RowName) (x : Row) → differing_of facts wanted name ≡ Some x → (s : Row) × (differing_of facts wanted (name_with_place facts name) ≡ Some s) × AreAlike (turns facts name) x s
     at (Fact l) x k = fact_placed facts l x k
@@ -215,26 +215,26 @@ differing_placed facts wanted name r e = by (option_split (differing_of facts wa
     by : (differing_of facts wanted name ≡ None) ⊎ (x : Row) × (differing_of facts wanted name ≡ Some x) → (s : Row) × (differing facts wanted (name_with_place facts name) ≡ Some s) × AreAlike (turns facts name) r s
     by (inl n) = absurd (none-some r (sym (ap (option_and_then test) n) ∙ e))
     by (inr m) =
-        let k = cond_some (says_differ m.0.says) (Some m.0) r (sym (ap (option_and_then test) m.1) ∙ e) in
+        let k = cond_some (says_differ m.0.sense) (Some m.0) r (sym (ap (option_and_then test) m.1) ∙ e) in
         let s = at name m.0 m.1 in
-        let differs : says_differ s.0.says ≡ true = ap says_differ s.2.says ∙ k.0 in
+        let differs : says_differ s.0.sense ≡ true = ap says_differ s.2.sense ∙ k.0 in
         (s.0, ap (option_and_then test) s.1 ∙ ap (λ b. cond b (Some s.0) None) differs, subst (λ x. AreAlike (turns facts name) x s.0) (same_Some m.0 r k.1) s.2)
 
 above_alike : (r s : Row) → AreAlike false r s → AreAlike false (above_row r) (above_row s)
-above_alike r s h = record { says = refl; form = h.form; sign = λ k. absurd (true≢false (sym k)) }
+above_alike r s h = record { sense = refl; form = h.form; sign = λ k. absurd (true≢false (sym k)) }
 
 below_alike : (r s : Row) → AreAlike false r s → AreAlike false (below_row r) (below_row s)
-below_alike r s h = record { says = refl; form = λ t. coefficient_negative s.form t ∙ ap neg_ℤ (h.form t) ∙ sym (coefficient_negative r.form t); sign = λ k. absurd (true≢false (sym k)) }
+below_alike r s h = record { sense = refl; form = λ t. coefficient_negative s.form t ∙ ap neg_ℤ (h.form t) ∙ sym (coefficient_negative r.form t); sign = λ k. absurd (true≢false (sym k)) }
 
 turned_above : (r s : Row) → AreAlike true r s → AreAlike false (above_row r) (below_row s)
 turned_above r s h = record {
-  says = refl;
+  sense = refl;
   form = λ t. coefficient_negative s.form t ∙ ap neg_ℤ (h.form t) ∙ omega (arith, sums);
   sign = λ k. absurd (true≢false (sym k));
 }
 
 turned_below : (r s : Row) → AreAlike true r s → AreAlike false (below_row r) (above_row s)
-turned_below r s h = record { says = refl; form = λ t. h.form t ∙ sym (coefficient_negative r.form t); sign = λ k. absurd (true≢false (sym k)) }
+turned_below r s h = record { sense = refl; form = λ t. h.form t ∙ sym (coefficient_negative r.form t); sign = λ k. absurd (true≢false (sym k)) }
 
 -- what the sums refute is refuted by them where they have places
 pub placed_refute : (facts : List Lit) (wanted : Option Lit) (s : Sums) → sums_refute facts wanted s ≡ true → sums_refute facts wanted (sums_with_places facts s) ≡ true

@@ -16,5 +16,5 @@ is_short c = are_small_monomials c.plus.now && are_small_monomials c.minus.now
 
 -- the sums of the row are small
 abbrev pub is_small_row : Row → Bool
-is_small_row (Sums says x y turned) = are_small_monomials x.now && are_small_monomials y.now
+is_small_row (Sums sense x y turned) = are_small_monomials x.now && are_small_monomials y.now
 is_small_row _ = true

@@ -8,25 +8,24 @@ use Rattle.e_construct.specs.declared.construction.Construction.{Construction}
 use Rattle.e_construct.specs.Construct.{sorts_made, gives_of_construction}
 use Rattle.e_construct.specs.declared.superpose.Superpose.{Superpose}
 use Rattle.e_construct.specs.Superposing as superposing
-use Rattle.e_deriv.specs.Goal.{Goal, facts_of_statement}
+use Rattle.e_deriv.specs.Goal.{facts_of_statement}
 use Rattle.e_verify.specs.declared.step_state.StepState.{StepState}
 use Rattle.e_verify.specs.declared.step_state.Checkpoint.{Checkpoint}
-use Rattle.e_verify.specs.declared.step_state.Goal.{Goal as CodeGoal}
 
 -- before the first step of a statement's proof
 abbrev pub state_at_start : StatementView → StepState
 state_at_start t = record { scope = scope_of t; facts = facts_of_statement t }
 
 -- with these facts in the place of its own
-abbrev pub with_facts : List Lit → StepState → StepState
-with_facts facts x = record x { facts = facts }
+abbrev pub state_with_facts : List Lit → StepState → StepState
+state_with_facts facts x = record x { facts = facts }
 
 -- after a construction
 abbrev pub state_after_make : Construction → StepState → StepState
-state_after_make form x =
+state_after_make construction x =
     record {
-      scope = grown x.scope (sorts_made form);
-      facts = joined_all x.facts (gives_of_construction form x.scope);
+      scope = grown x.scope (sorts_made construction);
+      facts = joined_all x.facts (gives_of_construction construction x.scope);
     }
 
 -- after a use of a statement that gives these literals
@@ -36,19 +35,15 @@ state_after_use t gives x =
 
 -- what the block of a superposition begins with
 abbrev pub state_after_superposed : Superpose → StepState → StepState
-state_after_superposed form x =
+state_after_superposed superposition x =
     record {
       scope = grown x.scope superposing.sorts_copied;
-      facts = joined_all x.facts (superposing.gives_of_superposition form x.scope);
+      facts = joined_all x.facts (superposing.gives_of_superposition superposition x.scope);
     }
 
-abbrev pub checkpoint_of : StepState → Checkpoint
-checkpoint_of x = record { scope = x.scope; facts = length x.facts }
+abbrev pub checkpoint_of_state : StepState → Checkpoint
+checkpoint_of_state x = record { scope = x.scope; facts = length x.facts }
 
 -- where a block was entered
-abbrev pub restored : Checkpoint → StepState → StepState
-restored outer x = record { scope = outer.scope; facts = take outer.facts x.facts }
-
--- the goal that the code writes
-abbrev pub block_goal : CodeGoal → Goal
-block_goal g = record { made = g.made.now; shown = g.shown.now }
+abbrev pub state_restored : Checkpoint → StepState → StepState
+state_restored outer x = record { scope = outer.scope; facts = take outer.facts x.facts }

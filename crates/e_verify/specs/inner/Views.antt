@@ -2,7 +2,7 @@
 use Rattle.std.specs.Prelude.{◌++◌, Bool, true, false}
 use Rattle.std.specs.Option.{option_map, option_copied}
 use Rattle.e_literal.specs.Rows.{Row, Sense, Summands, plus, minus, negative, normal_summands}
-use Rattle.e_literal.specs.Rows as says
+use Rattle.e_literal.specs.Rows as senses
 use Rattle.e_clause.specs.Sum.{Place}
 use Rattle.e_clause.specs.System.{pos_row, top_row, right_row, least_row}
 use Rattle.e_verify.specs.declared.rows.RowSense.{RowSense}
@@ -13,10 +13,10 @@ use Rattle.e_verify.specs.declared.rows.Row.TheVariants.{Sums, Pos, Top, Right, 
 use Rattle.e_verify.specs.declared.rows.RowScope.{RowScope}
 
 abbrev pub sense_view : RowSense → Sense
-sense_view Zero = says.Zero
-sense_view AtLeast = says.AtLeast
-sense_view More = says.More
-sense_view Not = says.Not
+sense_view Zero = senses.Zero
+sense_view AtLeast = senses.AtLeast
+sense_view More = senses.More
+sense_view Not = senses.Not
 
 -- the form, or minus the form
 abbrev pub form_turned : Bool → Summands → Summands
@@ -24,9 +24,9 @@ form_turned true form = negative form
 form_turned false form = form
 
 abbrev pub row_view : CodeRow → Row
-row_view (Sums said x y turned) =
+row_view (Sums sense x y turned) =
     record {
-      says = sense_view said;
+      sense = sense_view sense;
       form = form_turned turned (normal_summands (plus x.now ++ minus y.now));
     }
 row_view (Pos t) = pos_row t
@@ -37,7 +37,7 @@ row_view (Least t) = least_row t
 abbrev pub comparison_view : Comparison → Row
 comparison_view c =
     record {
-      says = sense_view c.says;
+      sense = sense_view c.sense;
       form = normal_summands (plus c.plus.now ++ minus c.minus.now);
     }
 

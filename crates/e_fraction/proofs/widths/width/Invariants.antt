@@ -2,8 +2,8 @@
 use Rattle.std.proofs.Common.{◌≡◌, take}
 use Rattle.e_literal.specs.Rows.{terms_of_rows}
 use Rattle.e_literal.specs.Width.{width_over}
-use Rattle.e_fraction.specs.Views.{all_seen}
+use Rattle.e_fraction.specs.Views.{views_of_rows}
 use Rattle.e_fraction.proofs.widths.width.Given as goal
 
 abbrev pub invariant-loop-i : goal.invariant-loop-i
-invariant-loop-i l = l.product ≡ width_over (all_seen l.rows) (terms_of_rows (all_seen (take l.i l.rows)))
+invariant-loop-i l = l.product ≡ width_over (views_of_rows l.rows) (terms_of_rows (views_of_rows (take l.i l.rows)))

@@ -1,7 +1,7 @@
 use Rattle.std.proofs.Common.{ap, ap₂, ◌∙◌}
 use Rattle.std.specs.Ordering.{ord_min}
 use Rattle.e_literal.specs.NormalForm.{form_cmp}
-use Rattle.e_literal.proofs.Kept.{lesser_is}
+use Rattle.e_literal.proofs.CoefficientMaps.{lesser_is}
 use Rattle.e_literal.proofs.joining.normal_up_to_sign.Goals as goal
 
 pub returns : goal.returns

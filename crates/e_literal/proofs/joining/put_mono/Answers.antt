@@ -1,5 +1,5 @@
 use Rattle.std.proofs.Common.{rules}
-use Rattle.e_literal.proofs.Kept.{put_nonzero}
+use Rattle.e_literal.proofs.CoefficientMaps.{put_nonzero}
 use Rattle.e_literal.proofs.joining.put_mono.Goals as goal
 
 pub returns : goal.returns

@@ -5,7 +5,7 @@ use Rattle.e_literal.specs.declared.object.Term.TheVariants.{Right}
 use Rattle.e_metric.specs.ListedTerms.{with_listed, distinct_terms}
 use Rattle.e_metric.specs.inner.Certificate.{certificate_sums}
 use Rattle.std.specs.Prelude.{option_copied}
-use Rattle.e_fraction.specs.Views.{all_seen}
+use Rattle.e_fraction.specs.Views.{views_of_rows}
 use Rattle.e_simplex.specs.Answer.{IsVerdict, AreValuesOf, IsRefuted, assigned}
 use Rattle.e_clause.specs.System.{system}
 use Rattle.e_metric.proofs.rows.RowOrder.{same_order}
@@ -26,22 +26,22 @@ certificate_of-certified-requires-clause-coefficients c = small_rows c.args.whic
 
 pub returns-in-Holds : goal.returns-in-Holds
 returns-in-Holds c =
-    let v : IsVerdict (all_seen c.deref.result.now) c.in_ok-values.field-0 = c.in_ok-values.ensures.verdict in
-    let h : AreValuesOf (all_seen c.deref.result.now) c.in-Holds.values = subst (IsVerdict (all_seen c.deref.result.now)) c.in-Holds.is v in
+    let v : IsVerdict (views_of_rows c.deref.result.now) c.in_ok-values.field-0 = c.in_ok-values.ensures.verdict in
+    let h : AreValuesOf (views_of_rows c.deref.result.now) c.in-Holds.values = subst (IsVerdict (views_of_rows c.deref.result.now)) c.in-Holds.is v in
     solved c.args.which c.args.facts.now (option_copied c.args.wanted) (system c.args.which c.args.facts.now (option_copied c.args.wanted)) (same_order (system c.args.which c.args.facts.now (option_copied c.args.wanted))) c.in_ok-named.named.items c.in_ok-named.ensures.rows c.in_ok-named.ensures.limited c.requires.facts c.requires.few c.requires.wanted c.deref.result.now (c.deref.ensures.value ∙ c.in_ok-names.ensures.rows) (assigned c.in-Holds.values) h.satisfy
 
 pub returns-in-TooWide : goal.returns-in-TooWide
 returns-in-TooWide c =
-    let v : IsVerdict (all_seen c.deref.result.now) c.in_ok-values.field-0 = c.in_ok-values.ensures.verdict in
-    let h : IsWide (all_seen c.deref.result.now) × (2 ^ 63 ≤ width (all_seen c.deref.result.now)) = subst (IsVerdict (all_seen c.deref.result.now)) c.in-TooWide.is v in
+    let v : IsVerdict (views_of_rows c.deref.result.now) c.in_ok-values.field-0 = c.in_ok-values.ensures.verdict in
+    let h : IsWide (views_of_rows c.deref.result.now) × (2 ^ 63 ≤ width (views_of_rows c.deref.result.now)) = subst (IsVerdict (views_of_rows c.deref.result.now)) c.in-TooWide.is v in
     has_width c.args.which c.args.facts.now (option_copied c.args.wanted) (system c.args.which c.args.facts.now (option_copied c.args.wanted)) (same_order (system c.args.which c.args.facts.now (option_copied c.args.wanted))) c.in_ok-named.named.items c.in_ok-named.ensures.rows c.in_ok-named.ensures.limited c.requires.facts c.requires.few c.requires.wanted c.deref.result.now (c.deref.ensures.value ∙ c.in_ok-names.ensures.rows) c.width.result
-    (c.width.ensures.value ∙ ap (λ rs. width (all_seen rs)) (c.deref-in-TooWide.ensures.value ∙ sym c.deref.ensures.value)
+    (c.width.ensures.value ∙ ap (λ rs. width (views_of_rows rs)) (c.deref-in-TooWide.ensures.value ∙ sym c.deref.ensures.value)
     ∙ system_width c.args.which c.args.facts.now (option_copied c.args.wanted) c.in_ok-named.named.items c.in_ok-named.ensures.rows c.deref.result.now (c.deref.ensures.value ∙ c.in_ok-names.ensures.rows)) h.0
 
 pub returns-in_ok-certified-in-Absurd : goal.returns-in_ok-certified-in-Absurd
 returns-in_ok-certified-in-Absurd c =
-    let v : IsVerdict (all_seen c.deref.result.now) c.in_ok-values.field-0 = c.in_ok-values.ensures.verdict in
-    let h : IsRefuted (all_seen c.deref.result.now) c.in-Absurd.absurdity = subst (IsVerdict (all_seen c.deref.result.now)) c.in-Absurd.is v in
+    let v : IsVerdict (views_of_rows c.deref.result.now) c.in_ok-values.field-0 = c.in_ok-values.ensures.verdict in
+    let h : IsRefuted (views_of_rows c.deref.result.now) c.in-Absurd.absurdity = subst (IsVerdict (views_of_rows c.deref.result.now)) c.in-Absurd.is v in
     refuted c.args.which c.args.facts.now (option_copied c.args.wanted) (system c.args.which c.args.facts.now (option_copied c.args.wanted)) (same_order (system c.args.which c.args.facts.now (option_copied c.args.wanted))) c.in_ok-named.named.items c.in_ok-named.ensures.rows c.in_ok-named.ensures.limited c.requires.facts c.requires.few c.requires.wanted c.deref.result.now (c.deref.ensures.value ∙ c.in_ok-names.ensures.rows)
     c.in_ok-names.names.items (with_listed (distinct_terms c.args.which c.args.facts.now (option_copied c.args.wanted)) (Right ∷ [])) c.in-Absurd.absurdity c.in_ok-certified-in-Absurd.field-0.sums
     c.in_ok-names.ensures.names refl h.refutes

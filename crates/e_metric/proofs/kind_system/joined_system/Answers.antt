@@ -3,7 +3,7 @@ use Rattle.std.specs.Prelude.{flat_map}
 use Rattle.e_literal.specs.Minor.{IsWide}
 use Rattle.e_literal.specs.Width.{width}
 use Rattle.e_clause.specs.System.{rows_of_term}
-use Rattle.e_fraction.specs.Views.{all_seen}
+use Rattle.e_fraction.specs.Views.{views_of_rows}
 use Rattle.e_simplex.specs.Preparing.{IsPreparedRows}
 use Rattle.e_metric.proofs.answers.SolvedSystems.{few_together, small_together, width_together}
 use Rattle.e_metric.proofs.answers.GrownSystems.{joined_solved}
@@ -17,7 +17,7 @@ with-requires-clause-coefficients c = small_together c.args.which c.args.facts.n
 
 pub returns-in_ok-width-in-TooWide : goal.returns-in_ok-width-in-TooWide
 returns-in_ok-width-in-TooWide c =
-    let h : IsWide (all_seen (c.args.solved_system.now.solved_rows ++ c.args.rows.now)) × (2 ^ 63 ≤ width (all_seen (c.args.solved_system.now.solved_rows ++ c.args.rows.now))) = subst (IsPreparedRows (c.args.solved_system.now.solved_rows ++ c.args.rows.now)) c.in-TooWide.is c.in_ok-with.ensures in
+    let h : IsWide (views_of_rows (c.args.solved_system.now.solved_rows ++ c.args.rows.now)) × (2 ^ 63 ≤ width (views_of_rows (c.args.solved_system.now.solved_rows ++ c.args.rows.now))) = subst (IsPreparedRows (c.args.solved_system.now.solved_rows ++ c.args.rows.now)) c.in-TooWide.is c.in_ok-with.ensures in
     width_together c.args.which c.args.facts.now None c.args.solved_system.now c.args.names.now c.args.rows.now c.requires.together c.requires.facts c.requires.few refl c.in_ok-width-in-TooWide.width c.in_ok-width-in-TooWide.ensures h.0
 
 pub certified-cert-requires-clause-refuted : goal.certified-cert-requires-clause-refuted

@@ -4,7 +4,7 @@ use Rattle.e_literal.specs.Width.{width}
 use Rattle.std.specs.Prelude.{flat_map}
 use Rattle.e_clause.specs.System.{rows_of_term, system}
 use Rattle.e_fraction.specs.Limits.{all_small}
-use Rattle.e_fraction.specs.Views.{all_seen}
+use Rattle.e_fraction.specs.Views.{views_of_rows}
 use Rattle.e_simplex.specs.Answer.{IsRefuted}
 use Rattle.e_simplex.specs.Preparing.{IsPreparedRows}
 use Rattle.e_literal.specs.declared.object.Term.TheVariants.{Right}
@@ -45,14 +45,14 @@ returns-in-SolvedRows c =
 
 pub returns-in-TooWide : goal.returns-in-TooWide
 returns-in-TooWide c =
-    let h : IsWide (all_seen c.in_ok-names.rows.items) × (2 ^ 63 ≤ width (all_seen c.in_ok-names.rows.items)) = subst (IsPreparedRows c.in_ok-names.rows.items) c.in-TooWide.is c.in_ok-prepare.ensures in
+    let h : IsWide (views_of_rows c.in_ok-names.rows.items) × (2 ^ 63 ≤ width (views_of_rows c.in_ok-names.rows.items)) = subst (IsPreparedRows c.in_ok-names.rows.items) c.in-TooWide.is c.in_ok-prepare.ensures in
     has_width c.args.which c.args.facts.now None (system c.args.which c.args.facts.now None) (same_order (system c.args.which c.args.facts.now None)) c.in_ok-named.named.items c.in_ok-named.ensures.rows c.in_ok-named.ensures.limited c.requires.facts c.requires.few refl c.in_ok-names.rows.items c.in_ok-names.ensures.rows c.width.result
-    (c.width.ensures.value ∙ ap (λ rs. width (all_seen rs)) (c.deref-in-TooWide.ensures.value ∙ c.in_ok-kept.ensures ∙ c.deref.ensures.value)
+    (c.width.ensures.value ∙ ap (λ rs. width (views_of_rows rs)) (c.deref-in-TooWide.ensures.value ∙ c.in_ok-kept.ensures ∙ c.deref.ensures.value)
     ∙ system_width c.args.which c.args.facts.now None c.in_ok-named.named.items c.in_ok-named.ensures.rows c.in_ok-names.rows.items c.in_ok-names.ensures.rows) h.0
 
 pub returns-in_ok-certified-in-Absurd : goal.returns-in_ok-certified-in-Absurd
 returns-in_ok-certified-in-Absurd c =
-    let h : IsRefuted (all_seen c.in_ok-names.rows.items) c.in-Absurd.absurdity = subst (IsPreparedRows c.in_ok-names.rows.items) c.in-Absurd.is c.in_ok-prepare.ensures in
+    let h : IsRefuted (views_of_rows c.in_ok-names.rows.items) c.in-Absurd.absurdity = subst (IsPreparedRows c.in_ok-names.rows.items) c.in-Absurd.is c.in_ok-prepare.ensures in
     refuted_named c.args.which c.args.facts.now None (system c.args.which c.args.facts.now None) (same_order (system c.args.which c.args.facts.now None)) c.in_ok-names.names.items c.in_ok-names.rows.items (named_of (system c.args.which c.args.facts.now None) c.in_ok-named.named.items c.in_ok-names.names.items c.in_ok-names.rows.items c.in_ok-named.ensures.rows c.in_ok-named.ensures.limited c.in_ok-names.ensures.names c.in_ok-names.ensures.rows) c.requires.facts c.requires.few refl
     (with_listed (distinct_terms c.args.which c.args.facts.now None) (Right ∷ [])) c.in-Absurd.absurdity c.in_ok-certified-in-Absurd.field-0.sums refl h.refutes
     (c.in_ok-certified-in-Absurd.ensures ∙ ap (λ rs. certificate_sums c.in_ok-names.names.items rs (with_listed (distinct_terms c.args.which c.args.facts.now None) (Right ∷ [])) c.in-Absurd.absurdity) (c.deref-in-Absurd.ensures.value ∙ c.in_ok-kept.ensures ∙ c.deref.ensures.value))

@@ -9,9 +9,9 @@ use Rattle.e_deriv.specs.declared.block.Close.TheViews.{the_lemmas}
 use Rattle.e_deriv.specs.declared.block.Step.TheVariants.{Cite, Hence, Make, Apply}
 use Rattle.e_deriv.specs.declared.block.Close.TheVariants.{Qed}
 use Rattle.e_deriv.specs.Script.{Claim as ClaimScript, Superposed as SuperposedScript, script_of, step_script, close_script, size}
-use Rattle.e_deriv.specs.Goal.{goal_of, are_for, goal_with}
+use Rattle.e_deriv.specs.Goal.{goal_of, are_for, goal_with, goal_view}
 use Rattle.e_construct.specs.Superposing as superposing
-use Rattle.e_prove.specs.inner.StepStates.{HasRoomForMore, goal_view, after_literal, after_superposed}
+use Rattle.e_prove.specs.inner.StepStates.{HasRoomForMore, after_literal, after_superposed}
 use Rattle.e_prove.specs.inner.Applications.{CanApply}
 use Rattle.e_prove.specs.inner.LicensedSteps.{IsLicensedStep, IsStopOfClose, IsStopOfStep}
 use Rattle.e_prove.specs.inner.PassedSteps.{IsReadyFor, IsReadyStep, IsDerivedFrom, IsPassed, StepsStop, StopsWithin}
@@ -339,15 +339,15 @@ prove_step-step_with_number-requires-in-Hence t c = let one = at_least (step_scr
 
 pub prove_step-make-answered-requires-clause-room : goal.prove_step-make-answered-requires-clause-room
 prove_step-make-answered-requires-clause-room t c =
-    make_room (all_stated c.args.before.now) c.in-Make.form c.in-Make.names c.in-Make.certs c.args.state.now c.args.number (subst (λ s. IsReadyStep (all_stated c.args.before.now) s c.args.state.now c.args.number) c.in-Make.is c.requires)
+    make_room (all_stated c.args.before.now) c.in-Make.construction c.in-Make.names c.in-Make.certs c.args.state.now c.args.number (subst (λ s. IsReadyStep (all_stated c.args.before.now) s c.args.state.now c.args.number) c.in-Make.is c.requires)
 
 pub prove_step-make-answered-requires-clause-needs : goal.prove_step-make-answered-requires-clause-needs
 prove_step-make-answered-requires-clause-needs t c =
-    (make_good (all_stated c.args.before.now) c.in-Make.form c.in-Make.names c.in-Make.certs c.args.state.now c.args.number (subst (λ s. IsReadyStep (all_stated c.args.before.now) s c.args.state.now c.args.number) c.in-Make.is c.requires)).needs
+    (make_good (all_stated c.args.before.now) c.in-Make.construction c.in-Make.names c.in-Make.certs c.args.state.now c.args.number (subst (λ s. IsReadyStep (all_stated c.args.before.now) s c.args.state.now c.args.number) c.in-Make.is c.requires)).needs
 
 pub prove_step-make-answered-requires-clause-after : goal.prove_step-make-answered-requires-clause-after
 prove_step-make-answered-requires-clause-after t c =
-    (make_good (all_stated c.args.before.now) c.in-Make.form c.in-Make.names c.in-Make.certs c.args.state.now c.args.number (subst (λ s. IsReadyStep (all_stated c.args.before.now) s c.args.state.now c.args.number) c.in-Make.is c.requires)).after
+    (make_good (all_stated c.args.before.now) c.in-Make.construction c.in-Make.names c.in-Make.certs c.args.state.now c.args.number (subst (λ s. IsReadyStep (all_stated c.args.before.now) s c.args.state.now c.args.number) c.in-Make.is c.requires)).after
 
 pub prove_step-step_with_number-requires-in-Make : goal.prove_step-step_with_number-requires-in-Make
 prove_step-step_with_number-requires-in-Make t c = let one = at_least (step_script c.args.step.now c.requires.rest) in omega (arith, one, c.requires.few)
@@ -384,14 +384,14 @@ prove_step-returns-in-Make-clause-ok t c =
     let x = c.args.state.now in
     let after = c.make-answered.new.state in
     subst (λ s. IfOk c.step_with_number-in-Make.result (λ p. IsPassed (all_stated c.args.before.now) (step_script s) x c.args.number (step_script p.step) after p.next)) (sym c.in-Make.is)
-    (numbered_passed (all_stated c.args.before.now) (Make c.in-Make.form c.in-Make.names c.in-Make.certs) x after c.args.number c.make-answered.result c.step_with_number-in-Make.result (make_one c.in-Make.form c.in-Make.names c.in-Make.certs)
-    (ok_map _ _ c.make-answered.result (λ d h. subst (λ ns. IsLicensedStep (all_stated c.args.before.now) (Make c.in-Make.form ns c.in-Make.certs) x d after) c.items.ensures (h (all_stated c.args.before.now) c.in-Make.certs)) c.make-answered.ensures.ok) c.step_with_number-in-Make.ensures.step c.step_with_number-in-Make.ensures.next)
+    (numbered_passed (all_stated c.args.before.now) (Make c.in-Make.construction c.in-Make.names c.in-Make.certs) x after c.args.number c.make-answered.result c.step_with_number-in-Make.result (make_one c.in-Make.construction c.in-Make.names c.in-Make.certs)
+    (ok_map _ _ c.make-answered.result (λ d h. subst (λ ns. IsLicensedStep (all_stated c.args.before.now) (Make c.in-Make.construction ns c.in-Make.certs) x d after) c.items.ensures (h (all_stated c.args.before.now) c.in-Make.certs)) c.make-answered.ensures.ok) c.step_with_number-in-Make.ensures.step c.step_with_number-in-Make.ensures.next)
 
 pub prove_step-returns-in-Make-clause-err : goal.prove_step-returns-in-Make-clause-err
 prove_step-returns-in-Make-clause-err t c =
     let x = c.args.state.now in
     numbered_stops (all_stated c.args.before.now) c.args.step.now x c.make-answered.new.state c.args.number c.make-answered.result c.step_with_number-in-Make.result
-    (err_map _ _ c.make-answered.result (λ h k. subst (λ s. IsStopOfStep (all_stated c.args.before.now) s x h) (sym c.in-Make.is) (subst (λ ns. IsStopOfStep (all_stated c.args.before.now) (Make c.in-Make.form ns c.in-Make.certs) x h) c.items.ensures (k (all_stated c.args.before.now) c.in-Make.certs))) c.make-answered.ensures.err)
+    (err_map _ _ c.make-answered.result (λ h k. subst (λ s. IsStopOfStep (all_stated c.args.before.now) s x h) (sym c.in-Make.is) (subst (λ ns. IsStopOfStep (all_stated c.args.before.now) (Make c.in-Make.construction ns c.in-Make.certs) x h) c.items.ensures (k (all_stated c.args.before.now) c.in-Make.certs))) c.make-answered.ensures.err)
     c.make-answered.ensures.kept c.step_with_number-in-Make.ensures.err
 
 -- ---- an application
@@ -532,8 +532,8 @@ prove_step-prove_superposed-requires t c =
       search (rules, the_lemmas),
       (
         y.certs,
-        ready_as (all_stated c.args.before.now) (SuperposedScript y.form c.items-in-Superposed.result.now c.items-in-Superposed-2.result.now y.certs (script_of c.deref-in-Superposed.result.now)) (step_script c.args.step.now) c.args.state.now c.args.number
-            (superposed_is c.args.step.now y.form y.names c.items-in-Superposed.result.now y.shown c.items-in-Superposed-2.result.now y.certs y.inner c.deref-in-Superposed.result.now y.is c.items-in-Superposed.ensures c.items-in-Superposed-2.ensures
+        ready_as (all_stated c.args.before.now) (SuperposedScript y.superposition c.items-in-Superposed.result.now c.items-in-Superposed-2.result.now y.certs (script_of c.deref-in-Superposed.result.now)) (step_script c.args.step.now) c.args.state.now c.args.number
+            (superposed_is c.args.step.now y.superposition y.names c.items-in-Superposed.result.now y.shown c.items-in-Superposed-2.result.now y.certs y.inner c.deref-in-Superposed.result.now y.is c.items-in-Superposed.ensures c.items-in-Superposed-2.ensures
             c.deref-in-Superposed.ensures) c.requires,
       ),
     )
@@ -542,9 +542,9 @@ pub prove_step-returns-in-Superposed-clause-ok : goal.prove_step-returns-in-Supe
 prove_step-returns-in-Superposed-clause-ok t c =
     let before = all_stated c.args.before.now in
     let y = c.in-Superposed in
-    let whole = λ (certs : List Cert). SuperposedScript y.form c.items-in-Superposed.result.now c.items-in-Superposed-2.result.now certs (script_of c.deref-in-Superposed.result.now) in
+    let whole = λ (certs : List Cert). SuperposedScript y.superposition c.items-in-Superposed.result.now c.items-in-Superposed-2.result.now certs (script_of c.deref-in-Superposed.result.now) in
     all_passed_as before (whole y.certs) (step_script c.args.step.now) c.args.state.now c.prove_superposed.new.state c.args.number c.prove_superposed.result
-    (superposed_is c.args.step.now y.form y.names c.items-in-Superposed.result.now y.shown c.items-in-Superposed-2.result.now y.certs y.inner c.deref-in-Superposed.result.now y.is c.items-in-Superposed.ensures c.items-in-Superposed-2.ensures
+    (superposed_is c.args.step.now y.superposition y.names c.items-in-Superposed.result.now y.shown c.items-in-Superposed-2.result.now y.certs y.inner c.deref-in-Superposed.result.now y.is c.items-in-Superposed.ensures c.items-in-Superposed-2.ensures
     c.deref-in-Superposed.ensures)
     (ok_with c.prove_superposed.result (λ p certs. IsPassed before (whole certs) c.args.state.now c.args.number (step_script p.step) c.prove_superposed.new.state p.next) y.certs c.prove_superposed.ensures.ok)
 
@@ -552,109 +552,109 @@ pub prove_step-returns-in-Superposed-clause-err : goal.prove_step-returns-in-Sup
 prove_step-returns-in-Superposed-clause-err t c =
     let before = all_stated c.args.before.now in
     let y = c.in-Superposed in
-    let whole = λ (certs : List Cert). SuperposedScript y.form c.items-in-Superposed.result.now c.items-in-Superposed-2.result.now certs (script_of c.deref-in-Superposed.result.now) in
+    let whole = λ (certs : List Cert). SuperposedScript y.superposition c.items-in-Superposed.result.now c.items-in-Superposed-2.result.now certs (script_of c.deref-in-Superposed.result.now) in
     all_stopped_as before (whole y.certs) (step_script c.args.step.now) c.args.state.now c.args.number c.prove_superposed.result
-    (superposed_is c.args.step.now y.form y.names c.items-in-Superposed.result.now y.shown c.items-in-Superposed-2.result.now y.certs y.inner c.deref-in-Superposed.result.now y.is c.items-in-Superposed.ensures c.items-in-Superposed-2.ensures
+    (superposed_is c.args.step.now y.superposition y.names c.items-in-Superposed.result.now y.shown c.items-in-Superposed-2.result.now y.certs y.inner c.deref-in-Superposed.result.now y.is c.items-in-Superposed.ensures c.items-in-Superposed-2.ensures
     c.deref-in-Superposed.ensures)
     (err_with c.prove_superposed.result (λ s certs. StepsStop before (whole certs) c.args.state.now c.args.number s) y.certs c.prove_superposed.ensures.err)
 
 pub prove_superposed-superpose-requires-clause-room : goal.prove_superposed-superpose-requires-clause-room
 prove_superposed-superpose-requires-clause-room t c =
-    let h = c.args.superposition.now in
+    let h = c.args.parts.now in
     let x = c.args.state.now in
-    let parts = superposed_begins (all_stated c.args.before.now) h.form.now h.names.now h.shown.now c.requires.0 (script_of c.args.inner.now) x c.args.number c.requires.1 in
+    let parts = superposed_begins (all_stated c.args.before.now) h.superposition.now h.names.now h.shown.now c.requires.0 (script_of c.args.inner.now) x c.args.number c.requires.1 in
     subst (λ z. HasRoomForMore z.context.scope) (sym c.in_ok-outer.ensures.held) (room_of_small x.context.scope parts.scope)
 
 pub prove_superposed-superpose-requires-clause-needs : goal.prove_superposed-superpose-requires-clause-needs
 prove_superposed-superpose-requires-clause-needs t c =
-    let h = c.args.superposition.now in
+    let h = c.args.parts.now in
     let x = c.args.state.now in
-    let parts = superposed_begins (all_stated c.args.before.now) h.form.now h.names.now h.shown.now c.requires.0 (script_of c.args.inner.now) x c.args.number c.requires.1 in
-    subst (λ z. are_well_formed_in z.context.scope (superposing.needs_of_superposition h.form.now) ≡ true) (sym c.in_ok-outer.ensures.held) parts.needs
+    let parts = superposed_begins (all_stated c.args.before.now) h.superposition.now h.names.now h.shown.now c.requires.0 (script_of c.args.inner.now) x c.args.number c.requires.1 in
+    subst (λ z. are_well_formed_in z.context.scope (superposing.needs_of_superposition h.superposition.now) ≡ true) (sym c.in_ok-outer.ensures.held) parts.needs
 
 pub prove_superposed-superpose-requires-clause-after : goal.prove_superposed-superpose-requires-clause-after
 prove_superposed-superpose-requires-clause-after t c =
     let before = all_stated c.args.before.now in
-    let h = c.args.superposition.now in
+    let h = c.args.parts.now in
     let x = c.args.state.now in
     let inner = script_of c.args.inner.now in
-    let parts = superposed_begins before h.form.now h.names.now h.shown.now c.requires.0 inner x c.args.number c.requires.1 in
-    let good = block_facts before inner (after_superposed h.form.now h.names.now x) (goal_of h.shown.now) parts.block in
-    subst (λ z. let after = after_superposed h.form.now h.names.now z in are_limited_facts after.context.scope after.context.facts ≡ true) (sym c.in_ok-outer.ensures.held) good
+    let parts = superposed_begins before h.superposition.now h.names.now h.shown.now c.requires.0 inner x c.args.number c.requires.1 in
+    let good = block_facts before inner (after_superposed h.superposition.now h.names.now x) (goal_of h.shown.now) parts.block in
+    subst (λ z. let after = after_superposed h.superposition.now h.names.now z in are_limited_facts after.context.scope after.context.facts ≡ true) (sym c.in_ok-outer.ensures.held) good
 
 pub prove_superposed-returns-in-Err-clause-err : goal.prove_superposed-returns-in-Err-clause-err
 prove_superposed-returns-in-Err-clause-err t c =
-    let h = c.args.superposition.now in
+    let h = c.args.parts.now in
     let x = c.args.state.now in
     let s = c.in-Err.step_stop in
     let hs = x.context.held ++ state_of x.context ∷ [] in
-    superposed_is_refused (all_stated c.args.before.now) h.form.now h.names.now h.shown.now (script_of c.args.inner.now) x c.superpose.new.state c.args.number s c.stop_at.result
-    (step_stops_outside hs x c.hold.new.self (superposing.needs_of_superposition h.form.now) s c.in_ok-outer.ensures.held c.in-Err.ensures.err)
+    superposed_is_refused (all_stated c.args.before.now) h.superposition.now h.names.now h.shown.now (script_of c.args.inner.now) x c.superpose.new.state c.args.number s c.stop_at.result
+    (step_stops_outside hs x c.hold.new.self (superposing.needs_of_superposition h.superposition.now) s c.in_ok-outer.ensures.held c.in-Err.ensures.err)
     (names_outside hs x c.hold.new.self c.superpose.new.state s c.in_ok-outer.ensures.held c.in-Err.ensures.kept) c.stop_at.ensures
 
 pub prove_superposed-overflow_add-number : goal.prove_superposed-overflow_add-number
 prove_superposed-overflow_add-number t c =
-    let h = c.args.superposition.now in
-    let few = superposed_numbers (all_stated c.args.before.now) h.form.now h.names.now h.shown.now c.requires.0 (script_of c.args.inner.now) c.args.state.now c.args.number c.requires.1 in
+    let h = c.args.parts.now in
+    let few = superposed_numbers (all_stated c.args.before.now) h.superposition.now h.names.now h.shown.now c.requires.0 (script_of c.args.inner.now) c.args.state.now c.args.number c.requires.1 in
     omega (arith, few)
 
 pub prove_superposed-prove_block-requires : goal.prove_superposed-prove_block-requires
 prove_superposed-prove_block-requires t c =
     let before = all_stated c.args.before.now in
-    let h = c.args.superposition.now in
+    let h = c.args.parts.now in
     let x = c.args.state.now in
     let inner = script_of c.args.inner.now in
     let hs = x.context.held ++ state_of x.context ∷ [] in
-    let parts = superposed_begins before h.form.now h.names.now h.shown.now c.requires.0 inner x c.args.number c.requires.1 in
-    let begun = c.in-Ok.ensures.after ∙ ap (after_superposed h.form.now h.names.now) c.in_ok-outer.ensures.held in (
+    let parts = superposed_begins before h.superposition.now h.names.now h.shown.now c.requires.0 inner x c.args.number c.requires.1 in
+    let begun = c.in-Ok.ensures.after ∙ ap (after_superposed h.superposition.now h.names.now) c.in_ok-outer.ensures.held in (
       search (rules, the_lemmas),
       (
-        ready_inside before inner (after_superposed h.form.now h.names.now x) c.superpose.new.state (goal_of h.shown.now) hs begun parts.block,
-        superposed_numbers before h.form.now h.names.now h.shown.now c.requires.0 inner x c.args.number c.requires.1,
+        ready_inside before inner (after_superposed h.superposition.now h.names.now x) c.superpose.new.state (goal_of h.shown.now) hs begun parts.block,
+        superposed_numbers before h.superposition.now h.names.now h.shown.now c.requires.0 inner x c.args.number c.requires.1,
       ),
     )
 
 pub prove_superposed-superposed-requires-clause-held : goal.prove_superposed-superposed-requires-clause-held
 prove_superposed-superposed-requires-clause-held t c =
-    let h = c.args.superposition.now in
-    let begun = c.in-Ok.ensures.after ∙ ap (after_superposed h.form.now h.names.now) c.in_ok-outer.ensures.held in
+    let h = c.args.parts.now in
+    let begun = c.in-Ok.ensures.after ∙ ap (after_superposed h.superposition.now h.names.now) c.in_ok-outer.ensures.held in
     some_held c.args.state.now c.prove_block.new.state (c.in-Ok-prove_block.ensures.kept ∙ ap (λ w. w.context.held) begun)
 
 pub prove_superposed-superposed-requires-clause-good : goal.prove_superposed-superposed-requires-clause-good
 prove_superposed-superposed-requires-clause-good t c =
     let before = all_stated c.args.before.now in
-    let h = c.args.superposition.now in
+    let h = c.args.parts.now in
     let x = c.args.state.now in
     let inner = script_of c.args.inner.now in
     let hs = x.context.held ++ state_of x.context ∷ [] in
-    let begun = c.in-Ok.ensures.after ∙ ap (after_superposed h.form.now h.names.now) c.in_ok-outer.ensures.held in
-    let derived = derived_outside before inner (after_superposed h.form.now h.names.now x) c.superpose.new.state (goal_of h.shown.now) (script_of c.in-Ok-prove_block.proved.block) hs begun c.in-Ok-prove_block.ensures.derived in
+    let begun = c.in-Ok.ensures.after ∙ ap (after_superposed h.superposition.now h.names.now) c.in_ok-outer.ensures.held in
+    let derived = derived_outside before inner (after_superposed h.superposition.now h.names.now x) c.superpose.new.state (goal_of h.shown.now) (script_of c.in-Ok-prove_block.proved.block) hs begun c.in-Ok-prove_block.ensures.derived in
     good_after x c.prove_block.new.state h.shown.now h.shown.now (c.in-Ok-prove_block.ensures.kept ∙ ap (λ w. w.context.held) begun) refl
-    (superposed_ends before h.form.now h.names.now h.shown.now c.requires.0 inner (script_of c.in-Ok-prove_block.proved.block) x c.args.number derived c.requires.1)
+    (superposed_ends before h.superposition.now h.names.now h.shown.now c.requires.0 inner (script_of c.in-Ok-prove_block.proved.block) x c.args.number derived c.requires.1)
 
 pub prove_superposed-returns-in-Ok-prove_block-clause-ok : goal.prove_superposed-returns-in-Ok-prove_block-clause-ok
 prove_superposed-returns-in-Ok-prove_block-clause-ok t c =
     let before = all_stated c.args.before.now in
-    let h = c.args.superposition.now in
+    let h = c.args.parts.now in
     let x = c.args.state.now in
     let inner = script_of c.args.inner.now in
     let hs = x.context.held ++ state_of x.context ∷ [] in
-    let certified = subst (λ z. certify_all z.context.scope z.context.facts (superposing.needs_of_superposition h.form.now) c.in-Ok.certs.items ≡ true) c.in_ok-outer.ensures.held c.in-Ok.ensures.certs in
-    let begun = c.in-Ok.ensures.after ∙ ap (after_superposed h.form.now h.names.now) c.in_ok-outer.ensures.held in
-    let derived = derived_outside before inner (after_superposed h.form.now h.names.now x) c.superpose.new.state (goal_of h.shown.now) (script_of c.in-Ok-prove_block.proved.block) hs begun c.in-Ok-prove_block.ensures.derived in
-    superposed_is_passed before h.form.now h.names.now h.shown.now c.in-Ok.certs.items inner x c.prove_block.new.state c.superposed.new.state c.args.number c.in_ok-outer.outer c.in-Ok-prove_block.proved c.superposed.result
-    (superposed_begins before h.form.now h.names.now h.shown.now c.requires.0 inner x c.args.number c.requires.1) (certified, c.in-Ok.ensures.written) derived c.in-Ok-prove_block.ensures.next c.in_ok-outer.ensures.names
+    let certified = subst (λ z. certify_all z.context.scope z.context.facts (superposing.needs_of_superposition h.superposition.now) c.in-Ok.certs.items ≡ true) c.in_ok-outer.ensures.held c.in-Ok.ensures.certs in
+    let begun = c.in-Ok.ensures.after ∙ ap (after_superposed h.superposition.now h.names.now) c.in_ok-outer.ensures.held in
+    let derived = derived_outside before inner (after_superposed h.superposition.now h.names.now x) c.superpose.new.state (goal_of h.shown.now) (script_of c.in-Ok-prove_block.proved.block) hs begun c.in-Ok-prove_block.ensures.derived in
+    superposed_is_passed before h.superposition.now h.names.now h.shown.now c.in-Ok.certs.items inner x c.prove_block.new.state c.superposed.new.state c.args.number c.in_ok-outer.outer c.in-Ok-prove_block.proved c.superposed.result
+    (superposed_begins before h.superposition.now h.names.now h.shown.now c.requires.0 inner x c.args.number c.requires.1) (certified, c.in-Ok.ensures.written) derived c.in-Ok-prove_block.ensures.next c.in_ok-outer.ensures.names
     (c.in-Ok-prove_block.ensures.kept ∙ ap (λ w. w.context.held) begun) c.superposed.ensures.step c.superposed.ensures.next c.superposed.ensures.after
 
 pub prove_superposed-returns-in-Err-prove_block-clause-err : goal.prove_superposed-returns-in-Err-prove_block-clause-err
 prove_superposed-returns-in-Err-prove_block-clause-err t c =
     let before = all_stated c.args.before.now in
-    let h = c.args.superposition.now in
+    let h = c.args.parts.now in
     let x = c.args.state.now in
     let inner = script_of c.args.inner.now in
     let hs = x.context.held ++ state_of x.context ∷ [] in
-    let certified = subst (λ z. certify_all z.context.scope z.context.facts (superposing.needs_of_superposition h.form.now) c.in-Ok.certs.items ≡ true) c.in_ok-outer.ensures.held c.in-Ok.ensures.certs in
-    let begun = c.in-Ok.ensures.after ∙ ap (after_superposed h.form.now h.names.now) c.in_ok-outer.ensures.held in
-    superposed_is_stopped before h.form.now h.names.now h.shown.now c.in-Ok.certs.items inner x c.args.number c.in-Err-prove_block.stop (superposed_begins before h.form.now h.names.now h.shown.now c.requires.0 inner x c.args.number c.requires.1)
+    let certified = subst (λ z. certify_all z.context.scope z.context.facts (superposing.needs_of_superposition h.superposition.now) c.in-Ok.certs.items ≡ true) c.in_ok-outer.ensures.held c.in-Ok.ensures.certs in
+    let begun = c.in-Ok.ensures.after ∙ ap (after_superposed h.superposition.now h.names.now) c.in_ok-outer.ensures.held in
+    superposed_is_stopped before h.superposition.now h.names.now h.shown.now c.in-Ok.certs.items inner x c.args.number c.in-Err-prove_block.stop (superposed_begins before h.superposition.now h.names.now h.shown.now c.requires.0 inner x c.args.number c.requires.1)
     (certified, c.in-Ok.ensures.written)
-    (stops_outside before inner (after_superposed h.form.now h.names.now x) c.superpose.new.state (goal_of h.shown.now) (c.args.number + 1) c.in-Err-prove_block.stop hs begun c.in-Err-prove_block.ensures.err)
+    (stops_outside before inner (after_superposed h.superposition.now h.names.now x) c.superpose.new.state (goal_of h.shown.now) (c.args.number + 1) c.in-Err-prove_block.stop hs begun c.in-Err-prove_block.ensures.err)

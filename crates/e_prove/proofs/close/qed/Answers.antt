@@ -3,7 +3,7 @@ use Rattle.std.proofs.lemmas.Result.{err_from_is_err_and}
 use Rattle.std.specs.Prelude.{IsTrue}
 use Rattle.e_clause.specs.Certify.{certify_all}
 use Rattle.e_clause.specs.LimitedFacts.{are_well_formed_in}
-use Rattle.e_prove.specs.inner.StepStates.{goal_view}
+use Rattle.e_deriv.specs.Goal.{goal_view}
 use Rattle.e_deriv.proofs.Sorts.{sorts_agree}
 use Rattle.e_prove.proofs.Closes.{closed_qed, qed_stops}
 use Rattle.e_prove.proofs.close.qed.Goals as goal

@@ -1,8 +1,8 @@
 use Rattle.std.proofs.Common.{◌≡◌, ◌∙◌, ap, length, arith}
 use Rattle.e_theorem.specs.Statements.{stated, all_stated}
 use Rattle.e_deriv.specs.Script.{script_of}
-use Rattle.e_prove.specs.inner.StepStates.{goal_view}
-use Rattle.e_prove.proofs.WholeProofs.{few_declared, given_good, made_fit, ready_at_start, goal_is, names_are, stop_is, place_is}
+use Rattle.e_deriv.specs.Goal.{goal_view}
+use Rattle.e_prove.proofs.ProofsOfStatements.{few_declared, given_good, made_fit, ready_at_start, goal_is, names_are, stop_is, place_is}
 use Rattle.e_prove.proofs.place.context_at.Goals as goal
 
 pub first-requires-clause-few : goal.first-requires-clause-few

@@ -4,8 +4,8 @@ use Rattle.e_clause.specs.LimitedFacts.{are_limited_facts}
 use Rattle.e_theorem.specs.Statements.{all_stated}
 use Rattle.e_deriv.specs.declared.block.Close.TheViews.{the_lemmas}
 use Rattle.e_deriv.specs.Script.{script_of, step_script, close_script, size}
-use Rattle.e_deriv.specs.Goal.{goal_of}
-use Rattle.e_prove.specs.inner.StepStates.{goal_view, after_literal, after_superposed}
+use Rattle.e_deriv.specs.Goal.{goal_of, goal_view}
+use Rattle.e_prove.specs.inner.StepStates.{after_literal, after_superposed}
 use Rattle.e_prove.specs.inner.PassedSteps.{IsReadyFor, IsReadyStep, IsDerivedFrom, IsFirstPassed, ReachesStep, StopsWithin}
 use Rattle.e_prove.proofs.LicensedLiterals.{err_map}
 use Rattle.e_prove.proofs.StopsInLists.{stop_before, stop_within, before_more}
@@ -205,29 +205,29 @@ pub enter_step-superpose-requires-clause-room : goal.enter_step-superpose-requir
 enter_step-superpose-requires-clause-room t c =
     let x = c.args.state.now in
     let y = c.in-Superposed in
-    let parts = superposed_parts (all_stated c.args.before.now) y.form y.names y.shown y.certs y.inner x c.args.number (subst (λ s. IsReadyStep (all_stated c.args.before.now) s x c.args.number) y.is c.requires.ready) in
+    let parts = superposed_parts (all_stated c.args.before.now) y.superposition y.names y.shown y.certs y.inner x c.args.number (subst (λ s. IsReadyStep (all_stated c.args.before.now) s x c.args.number) y.is c.requires.ready) in
     room_of_small x.context.scope parts.scope
 
 pub enter_step-superpose-requires-clause-needs : goal.enter_step-superpose-requires-clause-needs
 enter_step-superpose-requires-clause-needs t c =
     let x = c.args.state.now in
     let y = c.in-Superposed in
-    (superposed_parts (all_stated c.args.before.now) y.form y.names y.shown y.certs y.inner x c.args.number (subst (λ s. IsReadyStep (all_stated c.args.before.now) s x c.args.number) y.is c.requires.ready)).needs
+    (superposed_parts (all_stated c.args.before.now) y.superposition y.names y.shown y.certs y.inner x c.args.number (subst (λ s. IsReadyStep (all_stated c.args.before.now) s x c.args.number) y.is c.requires.ready)).needs
 
 pub enter_step-superpose-requires-clause-after : goal.enter_step-superpose-requires-clause-after
 enter_step-superpose-requires-clause-after t c =
     let x = c.args.state.now in
     let y = c.in-Superposed in
-    let parts = superposed_parts (all_stated c.args.before.now) y.form y.names y.shown y.certs y.inner x c.args.number (subst (λ s. IsReadyStep (all_stated c.args.before.now) s x c.args.number) y.is c.requires.ready) in
-    let good = block_facts (all_stated c.args.before.now) (script_of y.inner.value) (after_superposed y.form y.names x) (goal_of y.shown) parts.block in
-    subst (λ ns. let after = after_superposed y.form ns x in are_limited_facts after.context.scope after.context.facts ≡ true) (sym c.items-in-Superposed.ensures) good
+    let parts = superposed_parts (all_stated c.args.before.now) y.superposition y.names y.shown y.certs y.inner x c.args.number (subst (λ s. IsReadyStep (all_stated c.args.before.now) s x c.args.number) y.is c.requires.ready) in
+    let good = block_facts (all_stated c.args.before.now) (script_of y.inner.value) (after_superposed y.superposition y.names x) (goal_of y.shown) parts.block in
+    subst (λ ns. let after = after_superposed y.superposition ns x in are_limited_facts after.context.scope after.context.facts ≡ true) (sym c.items-in-Superposed.ensures) good
 
 pub enter_step-returns-in-Err-clause-err : goal.enter_step-returns-in-Err-clause-err
 enter_step-returns-in-Err-clause-err t c =
     let x = c.args.state.now in
     let y = c.in-Superposed in
     let h = c.in-Err.step_stop in
-    superposed_refused (all_stated c.args.before.now) c.args.step.now y.form y.names y.shown y.certs y.inner x c.superpose.new.state c.args.number h c.stop_at.result y.is c.in-Err.ensures.err
+    superposed_refused (all_stated c.args.before.now) c.args.step.now y.superposition y.names y.shown y.certs y.inner x c.superpose.new.state c.args.number h c.stop_at.result y.is c.in-Err.ensures.err
     (same_state_names x c.superpose.new.state h c.in-Err.ensures.kept) c.stop_at.ensures
 
 pub enter_step-returns-in-Err-clause-earlier : goal.enter_step-returns-in-Err-clause-earlier
@@ -242,12 +242,12 @@ enter_step-reach-requires-in-Superposed t c =
     let x = c.args.state.now in
     let y = c.in-Superposed in
     let ready = subst (λ s. IsReadyStep (all_stated c.args.before.now) s x c.args.number) y.is c.requires.ready in
-    let parts = superposed_parts (all_stated c.args.before.now) y.form y.names y.shown y.certs y.inner x c.args.number ready in
-    let few = superposed_lines (all_stated c.args.before.now) y.form y.names y.shown y.certs y.inner x c.args.number ready in
-    let begun = c.in-Ok.ensures.after ∙ ap (λ ns. after_superposed y.form ns x) c.items-in-Superposed.ensures in
+    let parts = superposed_parts (all_stated c.args.before.now) y.superposition y.names y.shown y.certs y.inner x c.args.number ready in
+    let few = superposed_lines (all_stated c.args.before.now) y.superposition y.names y.shown y.certs y.inner x c.args.number ready in
+    let begun = c.in-Ok.ensures.after ∙ ap (λ ns. after_superposed y.superposition ns x) c.items-in-Superposed.ensures in
     let same = ap (λ b. size (script_of b)) c.deref-in-Superposed.ensures in
     let rest = c.requires.ready.rest in
-    let count = ap (λ s. size (step_script s rest)) y.is ∙ superposed_count y.form y.names y.shown y.certs y.inner rest in (
+    let count = ap (λ s. size (step_script s rest)) y.is ∙ superposed_count y.superposition y.names y.shown y.certs y.inner rest in (
       search (rules, the_lemmas),
       (
         subst (λ b. IsReadyFor (all_stated c.args.before.now) (script_of b) c.superpose.new.state (goal_of c.items-in-Superposed-2.result.now)) (sym c.deref-in-Superposed.ensures)
@@ -267,10 +267,10 @@ pub enter_step-returns-in-Ok-clause-reached : goal.enter_step-returns-in-Ok-clau
 enter_step-returns-in-Ok-clause-reached t c =
     let x = c.args.state.now in
     let y = c.in-Superposed in
-    let begun = c.in-Ok.ensures.after ∙ ap (λ ns. after_superposed y.form ns x) c.items-in-Superposed.ensures in
+    let begun = c.in-Ok.ensures.after ∙ ap (λ ns. after_superposed y.superposition ns x) c.items-in-Superposed.ensures in
     on_ok_map _ _ c.reach-in-Superposed.result
-    (λ k. superposed_entered (all_stated c.args.before.now) c.args.step.now y.form y.names y.shown y.certs c.in-Ok.certs.items y.inner x c.reach-in-Superposed.new.state c.args.number c.args.target y.is
-    (superposed_parts (all_stated c.args.before.now) y.form y.names y.shown y.certs y.inner x c.args.number (subst (λ s. IsReadyStep (all_stated c.args.before.now) s x c.args.number) y.is c.requires.ready))
+    (λ k. superposed_entered (all_stated c.args.before.now) c.args.step.now y.superposition y.names y.shown y.certs c.in-Ok.certs.items y.inner x c.reach-in-Superposed.new.state c.args.number c.args.target y.is
+    (superposed_parts (all_stated c.args.before.now) y.superposition y.names y.shown y.certs y.inner x c.args.number (subst (λ s. IsReadyStep (all_stated c.args.before.now) s x c.args.number) y.is c.requires.ready))
     (c.in-Ok.ensures.certs, c.in-Ok.ensures.written)
     (subst (λ z. ReachesStep (all_stated c.args.before.now) (script_of y.inner.value) z (goal_of y.shown) (c.args.number + 1) c.args.target c.reach-in-Superposed.new.state) begun
     (subst (λ ls. ReachesStep (all_stated c.args.before.now) (script_of y.inner.value) c.superpose.new.state (goal_of ls) (c.args.number + 1) c.args.target c.reach-in-Superposed.new.state) c.items-in-Superposed-2.ensures
@@ -281,10 +281,10 @@ pub enter_step-returns-in-Ok-clause-err : goal.enter_step-returns-in-Ok-clause-e
 enter_step-returns-in-Ok-clause-err t c =
     let x = c.args.state.now in
     let y = c.in-Superposed in
-    let begun = c.in-Ok.ensures.after ∙ ap (λ ns. after_superposed y.form ns x) c.items-in-Superposed.ensures in
+    let begun = c.in-Ok.ensures.after ∙ ap (λ ns. after_superposed y.superposition ns x) c.items-in-Superposed.ensures in
     err_map _ _ c.reach-in-Superposed.result
-    (λ stop k. superposed_stopped (all_stated c.args.before.now) c.args.step.now y.form y.names y.shown y.certs c.in-Ok.certs.items y.inner x c.args.number stop y.is
-    (superposed_parts (all_stated c.args.before.now) y.form y.names y.shown y.certs y.inner x c.args.number (subst (λ s. IsReadyStep (all_stated c.args.before.now) s x c.args.number) y.is c.requires.ready))
+    (λ stop k. superposed_stopped (all_stated c.args.before.now) c.args.step.now y.superposition y.names y.shown y.certs c.in-Ok.certs.items y.inner x c.args.number stop y.is
+    (superposed_parts (all_stated c.args.before.now) y.superposition y.names y.shown y.certs y.inner x c.args.number (subst (λ s. IsReadyStep (all_stated c.args.before.now) s x c.args.number) y.is c.requires.ready))
     (c.in-Ok.ensures.certs, c.in-Ok.ensures.written)
     (subst (λ z. StopsWithin (all_stated c.args.before.now) (script_of y.inner.value) z (goal_of y.shown) (c.args.number + 1) stop) begun
     (subst (λ ls. StopsWithin (all_stated c.args.before.now) (script_of y.inner.value) c.superpose.new.state (goal_of ls) (c.args.number + 1) stop) c.items-in-Superposed-2.ensures

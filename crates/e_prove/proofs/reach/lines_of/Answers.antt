@@ -29,7 +29,7 @@ size-requires c =
 pub returns-in-Superposed : goal.returns-in-Superposed
 returns-in-Superposed c = λ rest.
     let y = c.in-Superposed in
-    let is = ap (λ s. size (step_script s rest)) y.is ∙ superposed_count y.form y.names y.shown y.certs y.inner rest in
+    let is = ap (λ s. size (step_script s rest)) y.is ∙ superposed_count y.superposition y.names y.shown y.certs y.inner rest in
     let same = ap (λ b. size (script_of b)) c.deref-in-Superposed.ensures in
     omega (arith, is, same, c.size-in-Superposed.ensures)
 
@@ -37,7 +37,7 @@ pub size-requires-in-Superposed : goal.size-requires-in-Superposed
 size-requires-in-Superposed c =
     let rest = one_line in
     let y = c.in-Superposed in
-    let is = ap (λ s. size (step_script s rest)) y.is ∙ superposed_count y.form y.names y.shown y.certs y.inner rest in
+    let is = ap (λ s. size (step_script s rest)) y.is ∙ superposed_count y.superposition y.names y.shown y.certs y.inner rest in
     let same = ap (λ b. size (script_of b)) c.deref-in-Superposed.ensures in
     omega (arith, is, same, c.requires rest)
 
@@ -52,6 +52,6 @@ pub overflow_add-result-in-Superposed : goal.overflow_add-result-in-Superposed
 overflow_add-result-in-Superposed c =
     let rest = one_line in
     let y = c.in-Superposed in
-    let is = ap (λ s. size (step_script s rest)) y.is ∙ superposed_count y.form y.names y.shown y.certs y.inner rest in
+    let is = ap (λ s. size (step_script s rest)) y.is ∙ superposed_count y.superposition y.names y.shown y.certs y.inner rest in
     let same = ap (λ b. size (script_of b)) c.deref-in-Superposed.ensures in
     omega (arith, is, same, c.size-in-Superposed.ensures, c.requires rest)

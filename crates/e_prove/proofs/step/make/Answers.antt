@@ -19,17 +19,17 @@ make-requires-clause-room c = subst (λ (b : Basis). HasRoomForMore b.scope) (sy
 
 pub make-requires-clause-after : goal.make-requires-clause-after
 make-requires-clause-after c =
-    let form = c.args.form.now in
-    subst (λ (b : Basis). are_limited_facts (grown b.scope (sorts_made form)) (joined_all b.facts (gives_of_construction form b.scope)) ≡ true)
+    let construction = c.args.construction.now in
+    subst (λ (b : Basis). are_limited_facts (grown b.scope (sorts_made construction)) (joined_all b.facts (gives_of_construction construction b.scope)) ≡ true)
     (sym c.in_ok-certs.ensures.kept) c.requires.after
 
 pub returns-in-Ok-clause-ok : goal.returns-in-Ok-clause-ok
 returns-in-Ok-clause-ok c before written =
     let x = c.args.state.now in
-    let form = c.args.form.now in
+    let construction = c.args.construction.now in
     let names = c.args.names.now in
     let certs = c.in_ok-certs.certs.items in
-    licensed_make before form c.in_ok-derived.derived names c.new.result written certs c.new-in-Ok.result c.in_ok-needs.needs.items x _
+    licensed_make before construction c.in_ok-derived.derived names c.new.result written certs c.new-in-Ok.result c.in_ok-needs.needs.items x _
     c.in_ok-derived.ensures (c.new.ensures ∙ c.in_ok-copied.ensures.items) c.new-in-Ok.ensures c.in_ok-needs.ensures
     (subst (λ ls. IsTrue (certify_all x.context.scope x.context.facts ls certs)) c.deref.ensures.value c.in_ok-certs.ensures.ok) c.in_ok-certs.ensures.written
-    (c.in-Ok.ensures ∙ ap (λ (b : Basis). after_make form names (record x { context = b })) c.in_ok-certs.ensures.kept)
+    (c.in-Ok.ensures ∙ ap (λ (b : Basis). after_make construction names (record x { context = b })) c.in_ok-certs.ensures.kept)

@@ -16,10 +16,10 @@ superpose-requires-clause-room c = subst (λ (b : Basis). HasRoomForMore b.scope
 
 pub superpose-requires-clause-after : goal.superpose-requires-clause-after
 superpose-requires-clause-after c =
-    let form = c.args.form.now in
-    subst (λ (b : Basis). are_limited_facts (grown b.scope superposing.sorts_copied) (joined_all b.facts (superposing.gives_of_superposition form b.scope)) ≡ true)
+    let superposition = c.args.superposition.now in
+    subst (λ (b : Basis). are_limited_facts (grown b.scope superposing.sorts_copied) (joined_all b.facts (superposing.gives_of_superposition superposition b.scope)) ≡ true)
     (sym c.in_ok-certs.ensures.kept) c.requires.after
 
 pub returns-in-Ok-clause-after : goal.returns-in-Ok-clause-after
 returns-in-Ok-clause-after c =
-    c.in-Ok.ensures ∙ ap (λ (b : Basis). after_superposed c.args.form.now c.args.names.now (record c.args.state.now { context = b })) c.in_ok-certs.ensures.kept
+    c.in-Ok.ensures ∙ ap (λ (b : Basis). after_superposed c.args.superposition.now c.args.names.now (record c.args.state.now { context = b })) c.in_ok-certs.ensures.kept

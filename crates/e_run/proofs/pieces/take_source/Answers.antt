@@ -8,7 +8,7 @@ use Rattle.e_run.specs.Taken.{OfWholeLines}
 use Rattle.e_run.specs.inner.Handled.{AllBlocks, HandledBlocks}
 use Rattle.e_run.proofs.progress.TakenBooks.{first_is_book}
 use Rattle.e_run.proofs.progress.TakenBytes.{taken_at_start, taken_all, taken_enough, taken_nothing, taken_then_failed, at_end, taken_of, all_of}
-use Rattle.e_run.proofs.outcomes.WholeBook.{never_all}
+use Rattle.e_run.proofs.outcomes.AcceptedBooks.{never_all}
 use Rattle.e_run.proofs.progress.ReadPieces.{read_first, off_now, count_is, read_state_more, ends_in_piece, took_in_piece, all_too_long, text_ends, no_read, if_all, handled_now}
 use Rattle.e_run.proofs.pieces.take_source.Goals as goal
 

@@ -1,7 +1,7 @@
 use Rattle.std.proofs.Common.{ap, arith, subst}
 use Rattle.std.specs.Prelude.{IfOk}
 use Rattle.e_text.specs.Lines.{Ahead}
-use Rattle.e_text.proofs.WholeLines.{length-lines_of}
+use Rattle.e_text.proofs.LinesOfTexts.{length-lines_of}
 use Rattle.e_run.specs.inner.Suggesting.{IsBookAnswer}
 use Rattle.e_run.proofs.suggester.answer_for.Goals as goal
 use Rattle.e_book.specs.Grammar.{Rest}

@@ -1,7 +1,7 @@
 use Rattle.std.proofs.Common.{◌≡◌, ◌∙◌, ℕ, List, Some, arith, ap, subst}
 use Rattle.std.specs.Prelude.{IfOk}
 use Rattle.e_text.specs.Lines.{Ahead}
-use Rattle.e_text.proofs.WholeLines.{length-lines_of}
+use Rattle.e_text.proofs.LinesOfTexts.{length-lines_of}
 use Rattle.e_generate.specs.Generated.{generated_text}
 use Rattle.e_run.specs.Input.{IsTextOf}
 use Rattle.e_run.specs.Outcome.{lines_of_book}

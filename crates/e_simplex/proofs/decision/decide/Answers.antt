@@ -1,5 +1,5 @@
 use Rattle.std.proofs.Common.{◌≡◌, ◌+◌, ◌<◌, ◌^◌, arith, ap, sym, ◌∙◌, subst, length, false, rules}
-use Rattle.e_fraction.specs.Views.{all_seen}
+use Rattle.e_fraction.specs.Views.{views_of_rows}
 use Rattle.e_simplex.specs.Naming.{named_constraints}
 use Rattle.e_simplex.specs.Constraints.{AllSmallConstraints}
 use Rattle.e_simplex.specs.Solved.{IsFit, IsTableOutcome}
@@ -11,20 +11,20 @@ pub solve_constraints-requires : goal.solve_constraints-requires
 solve_constraints-requires c =
     let ts = c.in_ok-terms.terms.items in
     let n : length c.in_ok-terms.terms.items < 2 ^ 63 = search rules in
-    let l : c.in_ok-constraints.constraints.items ≡ named_constraints false ts (all_seen c.args.rows.now)
-    = c.in_ok-constraints.ensures.value ∙ ap (λ v. named_constraints false v (all_seen c.args.rows.now)) c.deref.ensures.value in
+    let l : c.in_ok-constraints.constraints.items ≡ named_constraints false ts (views_of_rows c.args.rows.now)
+    = c.in_ok-constraints.ensures.value ∙ ap (λ v. named_constraints false v (views_of_rows c.args.rows.now)) c.deref.ensures.value in
     let k : c.len.result ≡ length ts = c.len.ensures ∙ c.in_ok-terms.terms.ok.0 in
     subst (λ v. IsFit (v + 1) c.in_ok-constraints.constraints.items) (sym k)
     (subst (IsFit (length ts + 1)) (sym l)
-    (fit_constraints ts (all_seen c.args.rows.now) (length ts + 1) (omega arith) (omega (arith, n)) (omega (arith, length_seen c.args.rows.now, c.requires.few)) c.in_ok-terms.ensures.all
+    (fit_constraints ts (views_of_rows c.args.rows.now) (length ts + 1) (omega arith) (omega (arith, n)) (omega (arith, length_seen c.args.rows.now, c.requires.few)) c.in_ok-terms.ensures.all
     (subst AllSmallConstraints l c.in_ok-constraints.ensures.small)))
 
 pub verdict_of-requires-clause-outcome : goal.verdict_of-requires-clause-outcome
 verdict_of-requires-clause-outcome c =
     let ts = c.in_ok-terms.terms.items in
     let n : length c.in_ok-terms.terms.items < 2 ^ 63 = search rules in
-    let l : c.in_ok-constraints.constraints.items ≡ named_constraints false c.deref-2.result.now (all_seen c.args.rows.now)
-    = c.in_ok-constraints.ensures.value ∙ ap (λ v. named_constraints false v (all_seen c.args.rows.now)) (c.deref.ensures.value ∙ sym c.deref-2.ensures.value) in
+    let l : c.in_ok-constraints.constraints.items ≡ named_constraints false c.deref-2.result.now (views_of_rows c.args.rows.now)
+    = c.in_ok-constraints.ensures.value ∙ ap (λ v. named_constraints false v (views_of_rows c.args.rows.now)) (c.deref.ensures.value ∙ sym c.deref-2.ensures.value) in
     let k : c.len.result ≡ length ts = c.len.ensures ∙ c.in_ok-terms.terms.ok.0 in (
       c.len.result + 1,
       omega (arith, k, ap length c.deref-2.ensures.value),
@@ -33,7 +33,7 @@ verdict_of-requires-clause-outcome c =
     )
 
 pub returns-clause-holds : goal.returns-clause-holds
-returns-clause-holds c = each_law_holds (all_seen c.args.rows.now) c.verdict_of.result c.verdict_of.ensures
+returns-clause-holds c = each_law_holds (views_of_rows c.args.rows.now) c.verdict_of.result c.verdict_of.ensures
 
 pub returns-clause-absurd : goal.returns-clause-absurd
-returns-clause-absurd c = each_law_absurd (all_seen c.args.rows.now) c.verdict_of.result c.verdict_of.ensures
+returns-clause-absurd c = each_law_absurd (views_of_rows c.args.rows.now) c.verdict_of.result c.verdict_of.ensures

@@ -1,6 +1,6 @@
 use Rattle.std.proofs.Common.{◌-◌, arith, length, get_or, pos, SFits, to_z-of_z, []}
 use mir.Syntax.{w128}
-use Rattle.e_fraction.specs.Views.{all_seen}
+use Rattle.e_fraction.specs.Views.{views_of_rows}
 use Rattle.e_simplex.proofs.verdicts.RowMultipliers.{nots_most}
 use Rattle.e_simplex.specs.declared.constraints.Constraint.{Constraint}
 use Rattle.e_simplex.specs.declared.constraints.ConstraintSense.TheVariants.{More}
@@ -47,5 +47,5 @@ returns c =
       refutes = both_refute c.requires.weights.terms c.args.rows.now c.args.k c.args.above.now c.args.below.now c.requires.weights.once c.requires.weights.named c.requires.weights.both
           c.place_of_not-row.result (length c.args.above.now - 1) (length c.args.below.now - 1) c.in_ok-above.above.items c.in_ok-below.below.items
           c.place_of_not-row.ensures.is_not c.place_of_not-row.ensures.before (omega (arith, al)) (omega (arith, bl)) ea eb;
-      none = λ s. none_two c.requires.weights.terms (all_seen c.args.rows.now) c.requires.weights.named s c.args.k c.args.above.now c.args.below.now c.requires.weights.both;
+      none = λ s. none_two c.requires.weights.terms (views_of_rows c.args.rows.now) c.requires.weights.named s c.args.k c.args.above.now c.args.below.now c.requires.weights.both;
     }

@@ -7,32 +7,32 @@ use Rattle.e_fraction.proofs.Sums.{small_row}
 use Rattle.e_simplex.specs.Constraints.{AllSmallConstraints}
 use Rattle.e_simplex.proofs.columns.Negatives.{small_push}
 use Rattle.e_simplex.proofs.columns.Places.{row_named, constraints_more, constraints_same}
-use Rattle.e_simplex.proofs.naming.constraints_where.Goals.{then-is_kept+in_ok-named_constraint+in_ok-push, else-is_kept}
+use Rattle.e_simplex.proofs.naming.constraints_where.Goals.{then-is_kept+in_ok-constraint_of_row+in_ok-push, else-is_kept}
 use Rattle.e_simplex.proofs.naming.constraints_where.Goals as goal
 
-pub named_constraint-requires-clause-named : goal.named_constraint-requires-clause-named
-named_constraint-requires-clause-named c =
+pub constraint_of_row-requires-clause-named : goal.constraint_of_row-requires-clause-named
+constraint_of_row-requires-clause-named c =
     subst (λ r. FormNamed c.args.terms.now r.form) (sym c.row-item.is)
     (row_named c.args.terms.now c.args.rows.now c.loop-row.row-index c.row-item.result c.loop-row-test.true c.requires.named)
 
-pub named_constraint-requires-clause-coefficients : goal.named_constraint-requires-clause-coefficients
-named_constraint-requires-clause-coefficients c =
+pub constraint_of_row-requires-clause-coefficients : goal.constraint_of_row-requires-clause-coefficients
+constraint_of_row-requires-clause-coefficients c =
     subst (λ r. has_small_coefficients r.form ≡ true) (sym c.row-item.is)
     (small_row c.args.rows.now c.loop-row.row-index c.row-item.result c.loop-row-test.true c.requires.coefficients)
 
 pub loop-row-preserved : goal.loop-row-preserved
 loop-row-preserved c = elim c.if-is_kept.branch [
-  | then-is_kept+in_ok-named_constraint+in_ok-push w ↦ (let new = ap (λ v. v.items) w.constraints-is ∙ w.in_ok-push.ensures.items in
+  | then-is_kept+in_ok-constraint_of_row+in_ok-push w ↦ (let new = ap (λ v. v.items) w.constraints-is ∙ w.in_ok-push.ensures.items in
       record {
-        value = constraints_more c.args.not c.args.terms.now c.args.rows.now c.loop-row.row-index c.row-item.result c.loop-row.constraints.items c.if-is_kept.constraints.items w.in_ok-named_constraint.field-0 c.loop-row-test.true c.loop-row.invariant.value
-            new (sym (ap (λ r. keeps c.args.not (sense_of r.kind)) c.row-item.is) ∙ sym c.is_kept.ensures ∙ w.if-is_kept.true)
-            (w.in_ok-named_constraint.ensures.sense ∙ ap (λ r. constraint_sense (sense_of r.kind)) c.row-item.is)
-            (w.in_ok-named_constraint.ensures.form ∙ ap (λ r. named_form c.args.terms.now r.form) c.row-item.is);
-        small = subst AllSmallConstraints (sym new) (small_push c.loop-row.constraints.items w.in_ok-named_constraint.field-0 c.loop-row.invariant.small w.in_ok-named_constraint.ensures.small);
+        value = constraints_more c.args.not c.args.terms.now c.args.rows.now c.loop-row.row-index c.row-item.result c.loop-row.constraints.items c.if-is_kept.constraints.items w.in_ok-constraint_of_row.field-0 c.loop-row-test.true c.loop-row.invariant.value
+            new (sym (ap (λ r. keeps c.args.not (sense_of r.sense)) c.row-item.is) ∙ sym c.is_kept.ensures ∙ w.if-is_kept.true)
+            (w.in_ok-constraint_of_row.ensures.sense ∙ ap (λ r. constraint_sense (sense_of r.sense)) c.row-item.is)
+            (w.in_ok-constraint_of_row.ensures.form ∙ ap (λ r. named_form c.args.terms.now r.form) c.row-item.is);
+        small = subst AllSmallConstraints (sym new) (small_push c.loop-row.constraints.items w.in_ok-constraint_of_row.field-0 c.loop-row.invariant.small w.in_ok-constraint_of_row.ensures.small);
       })
   | else-is_kept w ↦ record {
     value = ap (λ v. v.items) w.constraints-is
-        ∙ constraints_same c.args.not c.args.terms.now c.args.rows.now c.loop-row.row-index c.row-item.result c.loop-row.constraints.items c.loop-row-test.true c.loop-row.invariant.value (sym (ap (λ r. keeps c.args.not (sense_of r.kind)) c.row-item.is) ∙ sym c.is_kept.ensures ∙ w.if-is_kept.false);
+        ∙ constraints_same c.args.not c.args.terms.now c.args.rows.now c.loop-row.row-index c.row-item.result c.loop-row.constraints.items c.loop-row-test.true c.loop-row.invariant.value (sym (ap (λ r. keeps c.args.not (sense_of r.sense)) c.row-item.is) ∙ sym c.is_kept.ensures ∙ w.if-is_kept.false);
     small = subst AllSmallConstraints (sym (ap (λ v. v.items) w.constraints-is)) c.loop-row.invariant.small;
   }
 ]

@@ -1,11 +1,11 @@
 use Rattle.std.proofs.Common.{◌≡◌, take}
-use Rattle.e_fraction.specs.Views.{all_seen}
+use Rattle.e_fraction.specs.Views.{views_of_rows}
 use Rattle.e_simplex.specs.Naming.{named_constraints}
 use Rattle.e_simplex.specs.Constraints.{AllSmallConstraints}
 use Rattle.e_simplex.proofs.naming.constraints_where.Given as goal
 
 abbrev pub invariant-loop-row : goal.invariant-loop-row
 invariant-loop-row l = record {
-  value : l.constraints.items ≡ named_constraints l.not l.terms (all_seen (take l.row-index l.rows));
+  value : l.constraints.items ≡ named_constraints l.not l.terms (views_of_rows (take l.row-index l.rows));
   small : AllSmallConstraints l.constraints.items;
 }

@@ -1,5 +1,5 @@
 use Rattle.std.proofs.Common.{subst, take}
-use Rattle.e_fraction.specs.Views.{all_seen}
+use Rattle.e_fraction.specs.Views.{views_of_rows}
 use Rattle.e_simplex.specs.Naming.{FormNamed}
 use Rattle.e_simplex.proofs.columns.Places.{all_more, all_continued, continues_further}
 use Rattle.e_simplex.proofs.naming.terms_with.Goals as goal
@@ -12,7 +12,7 @@ loop-row-preserved c =
     let new = c.in_ok-all-2.all.items in
     record {
       once = c.in_ok-all-2.ensures.once;
-      all = all_more new rows i c.row-item.result c.loop-row-test.true (all_continued old new (all_seen (take i rows)) c.in_ok-all-2.ensures.continues c.loop-row.invariant.all)
+      all = all_more new rows i c.row-item.result c.loop-row-test.true (all_continued old new (views_of_rows (take i rows)) c.in_ok-all-2.ensures.continues c.loop-row.invariant.all)
           (subst (λ r. FormNamed new r.form) c.row-item.is c.in_ok-all-2.ensures.row);
       continues = continues_further c.args.terms.now old new c.loop-row.invariant.continues c.in_ok-all-2.ensures.continues;
     }

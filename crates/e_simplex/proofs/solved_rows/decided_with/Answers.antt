@@ -1,6 +1,6 @@
 use Rattle.std.proofs.Common.{◌≡◌, ◌<◌, ◌^◌, ap, arith, sym, ◌∙◌, subst, length, false, rules}
 use Rattle.std.proofs.lemmas.List.{nil_from_length}
-use Rattle.e_fraction.specs.Views.{all_seen}
+use Rattle.e_fraction.specs.Views.{views_of_rows}
 use Rattle.e_simplex.specs.Constraints.{AllSmallConstraints}
 use Rattle.e_simplex.specs.Naming.{AllNamed, named_constraints}
 use Rattle.e_simplex.specs.Solved.{IsSolved, IsTableOutcome, columns_of}
@@ -8,7 +8,7 @@ use Rattle.e_simplex.proofs.joined_rows.Extending.{named_both, fit_both, outcome
 use Rattle.e_simplex.proofs.solved_rows.decided_with.Goals as goal
 
 pub plain_constraints-requires-clause-named : goal.plain_constraints-requires-clause-named
-plain_constraints-requires-clause-named c = subst (λ v. AllNamed v (all_seen c.args.more.now)) (sym c.deref-2.ensures.value) c.in_ok-terms.ensures.all
+plain_constraints-requires-clause-named c = subst (λ v. AllNamed v (views_of_rows c.args.more.now)) (sym c.deref-2.ensures.value) c.in_ok-terms.ensures.all
 
 pub with_all-requires-clause-fit : goal.with_all-requires-clause-fit
 with_all-requires-clause-fit c =
@@ -18,14 +18,14 @@ with_all-requires-clause-fit c =
     let n : length s.columns.items < 2 ^ 63 = search rules in
     let e : c.deref-3.result.now ≡ c.in-Ok.constraints.items = c.deref-3.ensures.value in
     fit_both c.args.rows.now c.args.more.now c.args.terms.now ts s c.requires.table c.in_ok-terms.ensures.continues c.in_ok-terms.ensures.all
-    c.deref-3.result.now (e ∙ c.in-Ok.ensures.value ∙ ap (λ v. named_constraints false v (all_seen c.args.more.now)) c.deref-2.ensures.value)
+    c.deref-3.result.now (e ∙ c.in-Ok.ensures.value ∙ ap (λ v. named_constraints false v (views_of_rows c.args.more.now)) c.deref-2.ensures.value)
     room (omega (arith, n)) c.requires.few (subst AllSmallConstraints (sym e) c.in-Ok.ensures.small)
 
 pub verdict_of-requires-clause-named : goal.verdict_of-requires-clause-named
 verdict_of-requires-clause-named c =
     let ts = c.in_ok-terms.terms.items in
-    subst (λ v. AllNamed v (all_seen c.deref-4.result.now)) (sym c.deref-5.ensures.value)
-    (subst (λ v. AllNamed ts (all_seen v)) (sym (c.deref-4.ensures.value ∙ c.in_ok-all.ensures))
+    subst (λ v. AllNamed v (views_of_rows c.deref-4.result.now)) (sym c.deref-5.ensures.value)
+    (subst (λ v. AllNamed ts (views_of_rows v)) (sym (c.deref-4.ensures.value ∙ c.in_ok-all.ensures))
     (named_both c.args.rows.now c.args.more.now c.args.terms.now ts c.args.solved.now c.requires.table c.in_ok-terms.ensures.continues c.in_ok-terms.ensures.all))
 
 pub verdict_of-requires-clause-outcome : goal.verdict_of-requires-clause-outcome
@@ -37,18 +37,18 @@ verdict_of-requires-clause-outcome c =
       columns_of s,
       omega (arith, room, ap length c.deref-5.ensures.value),
       omega (arith, n),
-      subst (λ v. IsTableOutcome (columns_of s) (named_constraints false v (all_seen c.deref-4.result.now)) c.in-Ok-with_all.outcome) (sym c.deref-5.ensures.value)
-          (subst (λ v. IsTableOutcome (columns_of s) (named_constraints false ts (all_seen v)) c.in-Ok-with_all.outcome) (sym (c.deref-4.ensures.value ∙ c.in_ok-all.ensures))
+      subst (λ v. IsTableOutcome (columns_of s) (named_constraints false v (views_of_rows c.deref-4.result.now)) c.in-Ok-with_all.outcome) (sym c.deref-5.ensures.value)
+          (subst (λ v. IsTableOutcome (columns_of s) (named_constraints false ts (views_of_rows v)) c.in-Ok-with_all.outcome) (sym (c.deref-4.ensures.value ∙ c.in_ok-all.ensures))
           (outcome_both c.args.rows.now c.args.more.now c.args.terms.now ts s c.requires.table c.in_ok-terms.ensures.continues c.in_ok-terms.ensures.all
-          c.deref-3.result.now (c.deref-3.ensures.value ∙ c.in-Ok.ensures.value ∙ ap (λ v. named_constraints false v (all_seen c.args.more.now)) c.deref-2.ensures.value)
+          c.deref-3.result.now (c.deref-3.ensures.value ∙ c.in-Ok.ensures.value ∙ ap (λ v. named_constraints false v (views_of_rows c.args.more.now)) c.deref-2.ensures.value)
           c.in-Ok-with_all.outcome c.in-Ok-with_all.ensures)),
     )
 
 pub verdict_of_solved-requires-clause-named : goal.verdict_of_solved-requires-clause-named
 verdict_of_solved-requires-clause-named c =
     let ts = c.in_ok-terms.terms.items in
-    subst (λ v. AllNamed v (all_seen c.deref-then-is_empty.result.now)) (sym c.deref-then-is_empty-2.ensures.value)
-    (subst (λ v. AllNamed ts (all_seen v)) (sym (c.deref-then-is_empty.ensures.value ∙ c.in_ok-all.ensures))
+    subst (λ v. AllNamed v (views_of_rows c.deref-then-is_empty.result.now)) (sym c.deref-then-is_empty-2.ensures.value)
+    (subst (λ v. AllNamed ts (views_of_rows v)) (sym (c.deref-then-is_empty.ensures.value ∙ c.in_ok-all.ensures))
     (named_both c.args.rows.now c.args.more.now c.args.terms.now ts c.args.solved.now c.requires.table c.in_ok-terms.ensures.continues c.in_ok-terms.ensures.all))
 
 pub verdict_of_solved-requires-clause-room : goal.verdict_of_solved-requires-clause-room
@@ -65,8 +65,8 @@ verdict_of_solved-requires-clause-solved c =
     let ts = c.in_ok-terms.terms.items in
     let s = c.args.solved.now in
     let none : length c.in-Ok.constraints.items ≡ 0 = search rules in
-    subst (λ v. IsSolved (columns_of s) (named_constraints false v (all_seen c.deref-then-is_empty.result.now)) s) (sym c.deref-then-is_empty-2.ensures.value)
-    (subst (λ v. IsSolved (columns_of s) (named_constraints false ts (all_seen v)) s) (sym (c.deref-then-is_empty.ensures.value ∙ c.in_ok-all.ensures))
+    subst (λ v. IsSolved (columns_of s) (named_constraints false v (views_of_rows c.deref-then-is_empty.result.now)) s) (sym c.deref-then-is_empty-2.ensures.value)
+    (subst (λ v. IsSolved (columns_of s) (named_constraints false ts (views_of_rows v)) s) (sym (c.deref-then-is_empty.ensures.value ∙ c.in_ok-all.ensures))
     (solved_both c.args.rows.now c.args.more.now c.args.terms.now ts s c.requires.table c.in_ok-terms.ensures.continues c.in_ok-terms.ensures.all
-    c.in-Ok.constraints.items (c.in-Ok.ensures.value ∙ ap (λ v. named_constraints false v (all_seen c.args.more.now)) c.deref-2.ensures.value)
+    c.in-Ok.constraints.items (c.in-Ok.ensures.value ∙ ap (λ v. named_constraints false v (views_of_rows c.args.more.now)) c.deref-2.ensures.value)
     (nil_from_length c.in-Ok.constraints.items none)))

@@ -1,4 +1,4 @@
-use Rattle.e_text.proofs.WholeLines.{lines_of-take}
+use Rattle.e_text.proofs.LinesOfTexts.{lines_of-take}
 use Rattle.e_text.proofs.laws.one_byte_more_is_enough.Goals as goal
 
 pub returns : goal.returns

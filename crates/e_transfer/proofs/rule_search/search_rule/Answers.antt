@@ -14,4 +14,4 @@ loop-place-preserved c =
 pub returns : goal.returns
 returns c =
     let s = c.args.query.now in
-    none_of s.strength s.scope s.facts.now s.goal.now c.args.rule (row_of c.row-row.result.now) c.loop-place.place c.row-row.ensures (omega arith) c.loop-place.invariant
+    none_of s.strength s.scope s.facts.now s.goal.now c.args.rule (row_of c.table_row-row.result.now) c.loop-place.place c.table_row-row.ensures (omega arith) c.loop-place.invariant

@@ -173,10 +173,10 @@ pub build_step-returns-in-Make : goal.build_step-returns-in-Make
 build_step-returns-in-Make t c =
     let kept = c.args.kept.now in
     let y = c.in-Make in
-    let new = MakeStep (construction_among_kept kept y.form) c.items.result.now (map (cert_at kept) c.items-in-Make.result.now) in
+    let new = MakeStep (construction_among_kept kept y.construction) c.items.result.now (map (cert_at kept) c.items-in-Make.result.now) in
     ok_map (λ (made : Step). made ≡ new) (λ (made : Step). StepIsBuilt (all_stated c.args.before.now) kept c.args.step.now c.args.scope c.args.flags.now.items c.args.flags.now.items made) c.new_make.result
     (λ made e. subst (λ x. StepIsBuilt (all_stated c.args.before.now) kept c.args.step.now c.args.scope c.args.flags.now.items c.args.flags.now.items x) (sym e)
-    (make_built (all_stated c.args.before.now) kept c.args.step.now y.form (construction_among_kept kept y.form) y.names c.items.result.now y.certs (map (cert_at kept) c.items-in-Make.result.now) c.args.scope c.args.flags.now.items y.is refl c.items.ensures (ap (map (cert_at kept)) c.items-in-Make.ensures))) c.new_make.ensures
+    (make_built (all_stated c.args.before.now) kept c.args.step.now y.construction (construction_among_kept kept y.construction) y.names c.items.result.now y.certs (map (cert_at kept) c.items-in-Make.result.now) c.args.scope c.args.flags.now.items y.is refl c.items.ensures (ap (map (cert_at kept)) c.items-in-Make.ensures))) c.new_make.ensures
 
 pub build_step-returns-in-Apply : goal.build_step-returns-in-Apply
 build_step-returns-in-Apply t c =
@@ -224,11 +224,11 @@ build_step-grown-requires-clause-circles t c = (copies_room c.args.scope c.made-
 
 pub build_step-build_block-requires-in-Superposed : goal.build_step-build_block-requires-in-Superposed
 build_step-build_block-requires-in-Superposed t c = (
-  omega (arith, c.decreases, superposed_falls c.args.step.now c.in-Superposed.form c.in-Superposed.names c.in-Superposed.shown c.in-Superposed.certs c.in-Superposed.inner c.deref-in-Superposed.result.now c.in-Superposed.is c.deref-in-Superposed.ensures),
+  omega (arith, c.decreases, superposed_falls c.args.step.now c.in-Superposed.superposition c.in-Superposed.names c.in-Superposed.shown c.in-Superposed.certs c.in-Superposed.inner c.deref-in-Superposed.result.now c.in-Superposed.is c.deref-in-Superposed.ensures),
   (
     subst (λ x. AreSmall (all_stated c.args.before.now) (script_of c.deref-in-Superposed.result.now) x) (sym (c.grown.ensures ∙ ap (grown c.args.scope) c.made-copies.ensures))
         (subst (λ b. AreSmall (all_stated c.args.before.now) (script_of b) (grown c.args.scope superposing.sorts_copied)) (sym c.deref-in-Superposed.ensures)
-        (small_superposed (all_stated c.args.before.now) c.in-Superposed.form c.in-Superposed.names c.in-Superposed.shown c.in-Superposed.certs c.in-Superposed.inner c.args.scope (subst (λ st. IsSmallStep (all_stated c.args.before.now) st c.args.scope) c.in-Superposed.is c.requires.scopes))),
+        (small_superposed (all_stated c.args.before.now) c.in-Superposed.superposition c.in-Superposed.names c.in-Superposed.shown c.in-Superposed.certs c.in-Superposed.inner c.args.scope (subst (λ st. IsSmallStep (all_stated c.args.before.now) st c.args.scope) c.in-Superposed.is c.requires.scopes))),
     (c.requires.statements, more_few c.args.scope c.grown.result c.made-copies.result.now c.args.kept.now c.deref-in-Superposed-2.result.now c.grown.ensures (c.deref-in-Superposed-2.ensures.value ∙ c.in_ok-inside-in-Superposed.ensures) c.requires.few),
   ),
 )
@@ -241,13 +241,13 @@ build_step-returns-in_ok-inner-in-Superposed t c =
     let pile = c.args.flags.now.items in
     let left = c.build_block-in-Superposed.new.flags.items in
     let wide = c.deref-in-Superposed-2.result.now in
-    let form = superpose_at kept y.form in
+    let superposition = superpose_at kept y.superposition in
     let names = c.items-in-Superposed.result.now in
     let shown = map (lit_among_kept kept) c.items-in-Superposed-2.result.now in
     let certs = map (cert_at kept) c.items-in-Superposed-3.result.now in
     let block = c.in_ok-inner-in-Superposed.inner in
-    ok_map (λ (made : Step). (more : Script) → step_script made more ≡ Superposed form names shown certs (script_of block) more) (λ (made : Step). StepIsBuilt before kept c.args.step.now c.args.scope pile left made) c.new_superposition.result
-    (λ made script. superposed_built before kept wide c.args.step.now made y.form form y.names names y.shown shown y.certs certs y.inner block c.args.scope pile left y.is
+    ok_map (λ (made : Step). (more : Script) → step_script made more ≡ Superposed superposition names shown certs (script_of block) more) (λ (made : Step). StepIsBuilt before kept c.args.step.now c.args.scope pile left made) c.new_superposition.result
+    (λ made script. superposed_built before kept wide c.args.step.now made y.superposition superposition y.names names y.shown shown y.certs certs y.inner block c.args.scope pile left y.is
     (c.deref-in-Superposed-2.ensures.value ∙ c.in_ok-inside-in-Superposed.ensures ∙ ap (λ xs. kept ++ next_objects c.args.scope xs) c.made-copies.ensures) refl c.items-in-Superposed.ensures
     (ap (map (lit_among_kept kept)) c.items-in-Superposed-2.ensures) (ap (map (cert_at kept)) c.items-in-Superposed-3.ensures) script
     (boxed before wide c.deref-in-Superposed.result.now y.inner block (grown c.args.scope superposing.sorts_copied) c.grown.result pile left c.deref-in-Superposed.ensures (c.grown.ensures ∙ ap (grown c.args.scope) c.made-copies.ensures) c.in_ok-inner-in-Superposed.ensures)) c.new_superposition.ensures

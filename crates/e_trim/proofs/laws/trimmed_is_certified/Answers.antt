@@ -1,4 +1,4 @@
-use Rattle.e_trim.proofs.kept_scripts.WholeScripts.{trimmed_certified}
+use Rattle.e_trim.proofs.kept_scripts.CertifiedDerivations.{trimmed_certified}
 use Rattle.e_trim.proofs.laws.trimmed_is_certified.Goals as goal
 
 pub returns : goal.returns

@@ -4,7 +4,7 @@ use Rattle.e_literal.specs.declared.object.Sort.{Sort}
 use Rattle.e_literal.specs.Literal.{negation}
 use Rattle.e_literal.specs.Facts.{joined, joined_all}
 use Rattle.e_construct.specs.Superposing as superposing
-use Rattle.e_deriv.specs.Goal.{goal_of}
+use Rattle.e_deriv.specs.Goal.{goal_of, goal_view}
 use Rattle.e_deriv.specs.Fitting.{is_small, is_small_statement}
 use Rattle.e_trim.specs.declared.step_state.StepState.{StepState}
 use Rattle.e_trim.proofs.kept_scripts.StepParts.{and_so}
@@ -14,7 +14,7 @@ use Rattle.e_theorem.specs.Statements.{all_stated}
 use Rattle.e_deriv.specs.Script.{close_script, script_of, steps_script, size}
 use Rattle.e_trim.specs.Looked.{Wants, both}
 use Rattle.e_trim.specs.Trimmed.{wants_outside, wants}
-use Rattle.e_trim.specs.inner.StepState.{goal_view, IsReady, IsReadyToTrim}
+use Rattle.e_trim.specs.inner.StepState.{IsReady, IsReadyToTrim}
 use Rattle.e_trim.specs.inner.Flags.{flags_of}
 use Rattle.e_trim.proofs.walks.FirstSteps.{ok_map, on_ok, later_steps, whole_is}
 use Rattle.e_trim.proofs.kept_scripts.StepSizes.{rest_falls, step_falls, claim_falls, superposed_falls, first_falls, second_falls}
@@ -127,7 +127,7 @@ look_at_step-returns-in_ok-inside-in-Claim-clause-flags t c =
 
 pub look_at_step-look_inside-inside-requires : goal.look_at_step-look_inside-inside-requires
 look_at_step-look_inside-inside-requires t c = (
-  (let n = superposed_falls c.args.step.now c.in-Superposed.form c.in-Superposed.names c.in-Superposed.shown c.in-Superposed.certs c.in-Superposed.inner c.deref-in-Superposed.result.now c.in-Superposed.is c.deref-in-Superposed.ensures in omega (arith, c.decreases, n)),
+  (let n = superposed_falls c.args.step.now c.in-Superposed.superposition c.in-Superposed.names c.in-Superposed.shown c.in-Superposed.certs c.in-Superposed.inner c.deref-in-Superposed.result.now c.in-Superposed.is c.deref-in-Superposed.ensures in omega (arith, c.decreases, n)),
   (
     ready_small (all_stated c.args.before.now) c.args.step.now c.requires.ready.rest c.args.state.now c.requires.ready.goal c.requires.ready.ready,
     (
@@ -135,9 +135,9 @@ look_at_step-look_inside-inside-requires t c = (
       (
         subst (λ xs. IsReady (all_stated c.args.before.now) (script_of c.deref-in-Superposed.result.now) (grown c.args.state.now.scope xs) (joined_all c.args.state.now.facts c.deref-in-Superposed-2.result.now) (goal_of c.items-in-Superposed.result.now)) (sym c.made-made.ensures)
             (subst (λ fs. IsReady (all_stated c.args.before.now) (script_of c.deref-in-Superposed.result.now) (grown c.args.state.now.scope superposing.sorts_copied) (joined_all c.args.state.now.facts fs) (goal_of c.items-in-Superposed.result.now)) (sym (c.deref-in-Superposed-2.ensures.value ∙ c.in_ok-given-in-Superposed.ensures))
-            (subst (λ ls. IsReady (all_stated c.args.before.now) (script_of c.deref-in-Superposed.result.now) (grown c.args.state.now.scope superposing.sorts_copied) (joined_all c.args.state.now.facts (superposing.gives_of_superposition c.in-Superposed.form c.args.state.now.scope)) (goal_of ls)) (sym c.items-in-Superposed.ensures)
-            (subst (λ b. IsReady (all_stated c.args.before.now) (script_of b) (grown c.args.state.now.scope superposing.sorts_copied) (joined_all c.args.state.now.facts (superposing.gives_of_superposition c.in-Superposed.form c.args.state.now.scope)) (goal_of c.in-Superposed.shown)) (sym c.deref-in-Superposed.ensures)
-            (superposed_ready (all_stated c.args.before.now) c.in-Superposed.form c.in-Superposed.names c.in-Superposed.shown c.in-Superposed.certs c.in-Superposed.inner c.args.state.now (subst (λ st. IsReadyToTrim (all_stated c.args.before.now) st c.args.state.now) c.in-Superposed.is c.requires.ready))))),
+            (subst (λ ls. IsReady (all_stated c.args.before.now) (script_of c.deref-in-Superposed.result.now) (grown c.args.state.now.scope superposing.sorts_copied) (joined_all c.args.state.now.facts (superposing.gives_of_superposition c.in-Superposed.superposition c.args.state.now.scope)) (goal_of ls)) (sym c.items-in-Superposed.ensures)
+            (subst (λ b. IsReady (all_stated c.args.before.now) (script_of b) (grown c.args.state.now.scope superposing.sorts_copied) (joined_all c.args.state.now.facts (superposing.gives_of_superposition c.in-Superposed.superposition c.args.state.now.scope)) (goal_of c.in-Superposed.shown)) (sym c.deref-in-Superposed.ensures)
+            (superposed_ready (all_stated c.args.before.now) c.in-Superposed.superposition c.in-Superposed.names c.in-Superposed.shown c.in-Superposed.certs c.in-Superposed.inner c.args.state.now (subst (λ st. IsReadyToTrim (all_stated c.args.before.now) st c.args.state.now) c.in-Superposed.is c.requires.ready))))),
         c.requires.statements,
       ),
     ),
@@ -149,20 +149,20 @@ look_at_step-returns-in_ok-inside-in-Superposed-clause-wanted t c =
     let inside = c.in_ok-inside-in-Superposed.ensures.wanted ∙ ap (λ b. wants_outside c.args.state.now.scope c.args.state.now.facts (wants (all_stated c.args.before.now) (script_of b) (grown c.args.state.now.scope c.made-made.result.now) (joined_all c.args.state.now.facts c.deref-in-Superposed-2.result.now) (goal_of c.items-in-Superposed.result.now))) c.deref-in-Superposed.ensures
     ∙ ap (λ xs. wants_outside c.args.state.now.scope c.args.state.now.facts (wants (all_stated c.args.before.now) (script_of c.in-Superposed.inner.value) (grown c.args.state.now.scope xs) (joined_all c.args.state.now.facts c.deref-in-Superposed-2.result.now) (goal_of c.items-in-Superposed.result.now))) c.made-made.ensures
     ∙ ap (λ fs. wants_outside c.args.state.now.scope c.args.state.now.facts (wants (all_stated c.args.before.now) (script_of c.in-Superposed.inner.value) (grown c.args.state.now.scope superposing.sorts_copied) (joined_all c.args.state.now.facts fs) (goal_of c.items-in-Superposed.result.now))) (c.deref-in-Superposed-2.ensures.value ∙ c.in_ok-given-in-Superposed.ensures)
-    ∙ ap (λ ls. wants_outside c.args.state.now.scope c.args.state.now.facts (wants (all_stated c.args.before.now) (script_of c.in-Superposed.inner.value) (grown c.args.state.now.scope superposing.sorts_copied) (joined_all c.args.state.now.facts (superposing.gives_of_superposition c.in-Superposed.form c.args.state.now.scope)) (goal_of ls))) c.items-in-Superposed.ensures in
+    ∙ ap (λ ls. wants_outside c.args.state.now.scope c.args.state.now.facts (wants (all_stated c.args.before.now) (script_of c.in-Superposed.inner.value) (grown c.args.state.now.scope superposing.sorts_copied) (joined_all c.args.state.now.facts (superposing.gives_of_superposition c.in-Superposed.superposition c.args.state.now.scope)) (goal_of ls))) c.items-in-Superposed.ensures in
     and_so c.append-in-Superposed.result
     (λ h. inside_wants (all_stated c.args.before.now) c.args.step.now c.args.state.now c.args.out.now c.look_step.new.out c.in_ok-inside-in-Superposed.field-0 c.append-in-Superposed.new.self c.in_ok-look_step.ensures
-    (λ rest. (superposed_inside (all_stated c.args.before.now) c.args.step.now c.in-Superposed.form c.in-Superposed.names c.in-Superposed.shown c.in-Superposed.certs c.in-Superposed.inner c.args.state.now rest c.in-Superposed.is).0 ∙ sym inside) h) c.append-in-Superposed.ensures
+    (λ rest. (superposed_inside (all_stated c.args.before.now) c.args.step.now c.in-Superposed.superposition c.in-Superposed.names c.in-Superposed.shown c.in-Superposed.certs c.in-Superposed.inner c.args.state.now rest c.in-Superposed.is).0 ∙ sym inside) h) c.append-in-Superposed.ensures
 
 pub look_at_step-returns-in_ok-inside-in-Superposed-clause-flags : goal.look_at_step-returns-in_ok-inside-in-Superposed-clause-flags
 look_at_step-returns-in_ok-inside-in-Superposed-clause-flags t c =
     let inside = c.in_ok-inside-in-Superposed.ensures.flags ∙ ap (λ b. c.args.flags.now.items ++ flags_of (all_stated c.args.before.now) (script_of b) (grown c.args.state.now.scope c.made-made.result.now) (joined_all c.args.state.now.facts c.deref-in-Superposed-2.result.now) (goal_of c.items-in-Superposed.result.now)) c.deref-in-Superposed.ensures
     ∙ ap (λ xs. c.args.flags.now.items ++ flags_of (all_stated c.args.before.now) (script_of c.in-Superposed.inner.value) (grown c.args.state.now.scope xs) (joined_all c.args.state.now.facts c.deref-in-Superposed-2.result.now) (goal_of c.items-in-Superposed.result.now)) c.made-made.ensures
     ∙ ap (λ fs. c.args.flags.now.items ++ flags_of (all_stated c.args.before.now) (script_of c.in-Superposed.inner.value) (grown c.args.state.now.scope superposing.sorts_copied) (joined_all c.args.state.now.facts fs) (goal_of c.items-in-Superposed.result.now)) (c.deref-in-Superposed-2.ensures.value ∙ c.in_ok-given-in-Superposed.ensures)
-    ∙ ap (λ ls. c.args.flags.now.items ++ flags_of (all_stated c.args.before.now) (script_of c.in-Superposed.inner.value) (grown c.args.state.now.scope superposing.sorts_copied) (joined_all c.args.state.now.facts (superposing.gives_of_superposition c.in-Superposed.form c.args.state.now.scope)) (goal_of ls)) c.items-in-Superposed.ensures in
+    ∙ ap (λ ls. c.args.flags.now.items ++ flags_of (all_stated c.args.before.now) (script_of c.in-Superposed.inner.value) (grown c.args.state.now.scope superposing.sorts_copied) (joined_all c.args.state.now.facts (superposing.gives_of_superposition c.in-Superposed.superposition c.args.state.now.scope)) (goal_of ls)) c.items-in-Superposed.ensures in
     on_ok c.append-in-Superposed.result
-    (inside_flags (all_stated c.args.before.now) c.args.step.now c.args.state.now c.args.flags.now.items (flags_of (all_stated c.args.before.now) (script_of c.in-Superposed.inner.value) (grown c.args.state.now.scope superposing.sorts_copied) (joined_all c.args.state.now.facts (superposing.gives_of_superposition c.in-Superposed.form c.args.state.now.scope)) (goal_of c.in-Superposed.shown)) c.look_inside-inside.new.flags.items
-    (λ rest. (superposed_inside (all_stated c.args.before.now) c.args.step.now c.in-Superposed.form c.in-Superposed.names c.in-Superposed.shown c.in-Superposed.certs c.in-Superposed.inner c.args.state.now rest c.in-Superposed.is).1) inside)
+    (inside_flags (all_stated c.args.before.now) c.args.step.now c.args.state.now c.args.flags.now.items (flags_of (all_stated c.args.before.now) (script_of c.in-Superposed.inner.value) (grown c.args.state.now.scope superposing.sorts_copied) (joined_all c.args.state.now.facts (superposing.gives_of_superposition c.in-Superposed.superposition c.args.state.now.scope)) (goal_of c.in-Superposed.shown)) c.look_inside-inside.new.flags.items
+    (λ rest. (superposed_inside (all_stated c.args.before.now) c.args.step.now c.in-Superposed.superposition c.in-Superposed.names c.in-Superposed.shown c.in-Superposed.certs c.in-Superposed.inner c.args.state.now rest c.in-Superposed.is).1) inside)
 
 pub look_at_step-returns-in-Cite-clause-wanted : goal.look_at_step-returns-in-Cite-clause-wanted
 look_at_step-returns-in-Cite-clause-wanted t c = plain_wants (all_stated c.args.before.now) c.args.step.now c.args.state.now c.args.out.now c.look_step.new.out (plain_of (all_stated c.args.before.now) c.args.step.now c.args.state.now c.in-Cite.is) c.in_ok-look_step.ensures

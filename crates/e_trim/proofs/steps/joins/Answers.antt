@@ -29,7 +29,7 @@ returns-in-Hence c =
 
 pub returns-in_ok-gives-in-Make : goal.returns-in_ok-gives-in-Make
 returns-in_ok-gives-in-Make c rest =
-    c.new.ensures ∙ c.in_ok-gives-in-Make.ensures ∙ sym (make_joins (all_stated c.args.before.now) c.args.step.now c.in-Make.form c.in-Make.names c.in-Make.certs rest c.args.scope c.in-Make.is)
+    c.new.ensures ∙ c.in_ok-gives-in-Make.ensures ∙ sym (make_joins (all_stated c.args.before.now) c.args.step.now c.in-Make.construction c.in-Make.names c.in-Make.certs rest c.args.scope c.in-Make.is)
 
 pub returns-in_ok-needs-in-Apply : goal.returns-in_ok-needs-in-Apply
 returns-in_ok-needs-in-Apply c rest =

@@ -1,7 +1,8 @@
 use Rattle.std.proofs.Common.{sym, ap, ◌∙◌, subst, Some, None}
 use Rattle.e_literal.specs.Literal.{objects_of_atom}
 use Rattle.e_deriv.specs.Script.{Qed, Contradiction, Cases, close_script, script_of}
-use Rattle.e_trim.specs.inner.StepState.{CloseFits, goal_view}
+use Rattle.e_deriv.specs.Goal.{goal_view}
+use Rattle.e_trim.specs.inner.StepState.{CloseFits}
 use Rattle.e_trim.proofs.walks.Both.{both-none}
 use Rattle.e_trim.proofs.walks.LookedUp.{line_needs}
 use Rattle.e_trim.proofs.renumbering.Pairs.{sorts}

@@ -36,7 +36,7 @@ returns-in-Make c =
     let x = c.args.state.now in
     let a = c.in-Make in
     and_so c.look_make.result
-    (λ h rest goal. same_line before (Make a.form a.names c.items.result.now rest) (step_script step rest) x.scope x.facts goal c.args.out.now c.look_make.new.out (make_script step a.form a.names a.certs c.items.result.now rest a.is c.items.ensures) (h before a.names rest goal))
+    (λ h rest goal. same_line before (Make a.construction a.names c.items.result.now rest) (step_script step rest) x.scope x.facts goal c.args.out.now c.look_make.new.out (make_script step a.construction a.names a.certs c.items.result.now rest a.is c.items.ensures) (h before a.names rest goal))
     c.look_make.ensures
 
 pub returns-in-Apply : goal.returns-in-Apply
@@ -66,6 +66,6 @@ returns-in-Superposed c =
     let x = c.args.state.now in
     let a = c.in-Superposed in
     and_so c.look_superpose.result
-    (λ h rest goal. same_line before (Superposed a.form a.names c.items-in-Superposed.result.now c.items-in-Superposed-2.result.now (script_of a.inner.value) rest) (step_script step rest) x.scope x.facts goal c.args.out.now c.look_superpose.new.out
-    (superposed_script step a.form a.names a.shown c.items-in-Superposed.result.now a.certs c.items-in-Superposed-2.result.now a.inner rest a.is c.items-in-Superposed.ensures c.items-in-Superposed-2.ensures)
+    (λ h rest goal. same_line before (Superposed a.superposition a.names c.items-in-Superposed.result.now c.items-in-Superposed-2.result.now (script_of a.inner.value) rest) (step_script step rest) x.scope x.facts goal c.args.out.now c.look_superpose.new.out
+    (superposed_script step a.superposition a.names a.shown c.items-in-Superposed.result.now a.certs c.items-in-Superposed-2.result.now a.inner rest a.is c.items-in-Superposed.ensures c.items-in-Superposed-2.ensures)
     (h before a.names (script_of a.inner.value) rest goal)) c.look_superpose.ensures

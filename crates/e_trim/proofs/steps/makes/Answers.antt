@@ -5,7 +5,7 @@ use Rattle.e_trim.proofs.kept_scripts.StepParts.{made_by_form, made_by_theorem, 
 use Rattle.e_trim.proofs.steps.makes.Goals as goal
 
 pub returns-in-Make : goal.returns-in-Make
-returns-in-Make c rest = c.made.ensures ∙ sym (made_by_form (all_stated c.args.before.now) c.args.step.now c.in-Make.form c.in-Make.names c.in-Make.certs rest c.in-Make.is)
+returns-in-Make c rest = c.made.ensures ∙ sym (made_by_form (all_stated c.args.before.now) c.args.step.now c.in-Make.construction c.in-Make.names c.in-Make.certs rest c.in-Make.is)
 
 pub returns-in-Some : goal.returns-in-Some
 returns-in-Some c rest =

@@ -12,7 +12,7 @@ returns-in-Sums c =
     let more = simp to_z-of_z at c.add_difference.ensures in
     let turned = simp to_z-of_z at c.turned_by.ensures.value in
     let s = c.in-Sums in
-    on_ok c.add_difference.result more (λ h t. added_sums c.args.row s.says s.plus s.minus s.turned t (total_at c.args.totals.now t) c.args.multiplier c.turned_by.result (total_at c.add_difference.new.totals t) s.is turned (h t))
+    on_ok c.add_difference.result more (λ h t. added_sums c.args.row s.sense s.plus s.minus s.turned t (total_at c.args.totals.now t) c.args.multiplier c.turned_by.result (total_at c.add_difference.new.totals t) s.is turned (h t))
 
 pub returns-in_ok-add-in-Top : goal.returns-in_ok-add-in-Top
 returns-in_ok-add-in-Top c =

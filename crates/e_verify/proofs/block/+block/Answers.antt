@@ -3,7 +3,7 @@ use Rattle.std.proofs.lemmas.Result.{err_from_is_err_and}
 use Rattle.e_theorem.specs.Statements.{all_stated}
 use Rattle.e_deriv.specs.declared.block.Close.TheViews.{the_lemmas}
 use Rattle.e_deriv.specs.Script.{script_of, step_script, close_script, Cite, Hence, Make, Apply, Claim, Superposed}
-use Rattle.e_verify.specs.inner.StepStates.{block_goal}
+use Rattle.e_deriv.specs.Goal.{goal_view}
 use Rattle.e_verify.specs.Checking.{verdict_at, IsCheckable, IsChecked, AreVerified, StepsReject}
 use Rattle.e_deriv.proofs.Keeping.{all_stay}
 use Rattle.e_verify.proofs.checking.PassedLines.{cite_line, hence_line, make_line, apply_line, line_passed, line_rejected}
@@ -20,7 +20,7 @@ pub verify_block-verify_step-requires : goal.verify_block-verify_step-requires
 verify_block-verify_step-requires t c = (
   search (rules, the_lemmas),
   (
-    step_ready (all_stated c.args.before.now) c.args.block.now.steps.items c.deref-step-items.result.now (close_script c.args.block.now.close) c.loop-step.step-index c.step-item.result c.loop-step.state (block_goal c.args.goal.now) c.loop-step.number
+    step_ready (all_stated c.args.before.now) c.args.block.now.steps.items c.deref-step-items.result.now (close_script c.args.block.now.close) c.loop-step.step-index c.step-item.result c.loop-step.state (goal_view c.args.goal.now) c.loop-step.number
         c.deref-step-items.ensures.value c.loop-step-test.true c.step-item.is c.loop-step.invariant.ready,
     c.requires.statements,
   ),
@@ -30,8 +30,8 @@ pub verify_block-returns-in_err-number-clause-err : goal.verify_block-returns-in
 verify_block-returns-in_err-number-clause-err t c =
     let p = err_from_is_err_and c.from_residual.result c.from_residual.ensures.1 in
     rw (p.1, p.2)
-    (step_rejects (all_stated c.args.before.now) c.args.block.now.steps.items c.deref-step-items.result.now (close_script c.args.block.now.close) c.loop-step.step-index c.step-item.result c.loop-step.state (block_goal c.args.goal.now) c.loop-step.number
-    (verdict_at (all_stated c.args.before.now) (script_of c.args.block.now) c.args.state.now (block_goal c.args.goal.now) c.args.first) c.in_err-number.field-0.0
+    (step_rejects (all_stated c.args.before.now) c.args.block.now.steps.items c.deref-step-items.result.now (close_script c.args.block.now.close) c.loop-step.step-index c.step-item.result c.loop-step.state (goal_view c.args.goal.now) c.loop-step.number
+    (verdict_at (all_stated c.args.before.now) (script_of c.args.block.now) c.args.state.now (goal_view c.args.goal.now) c.args.first) c.in_err-number.field-0.0
     c.deref-step-items.ensures.value c.loop-step-test.true c.step-item.is c.loop-step.invariant.same c.in_err-number.ensures.err)
 
 pub verify_block-loop-step-preserved : goal.verify_block-loop-step-preserved
@@ -40,7 +40,7 @@ verify_block-loop-step-preserved t c =
     let items = c.args.block.now.steps.items in
     let seen = c.deref-step-items.result.now in
     let close = close_script c.args.block.now.close in
-    let g = block_goal c.args.goal.now in
+    let g = goal_view c.args.goal.now in
     record {
       same = step_same before items seen close c.loop-step.step-index c.step-item.result c.loop-step.state c.verify_step.new.state g c.loop-step.number c.in_ok-number.number
           (verdict_at before (script_of c.args.block.now) c.args.state.now g c.args.first) c.deref-step-items.ensures.value c.loop-step-test.true c.step-item.is c.loop-step.invariant.same c.in_ok-number.ensures.ok;
@@ -53,13 +53,13 @@ pub verify_block-verify_close-requires : goal.verify_block-verify_close-requires
 verify_block-verify_close-requires t c =
     let end = steps_end c.args.block.now.steps.items c.deref-step-items.result.now (close_script c.args.block.now.close) c.loop-step.step-index c.deref-step-items.ensures.value c.loop-step-test.false in (
       search (rules, the_lemmas),
-      (subst (λ d. IsCheckable (all_stated c.args.before.now) d c.loop-step.state (block_goal c.args.goal.now) c.loop-step.number) end c.loop-step.invariant.ready, c.requires.statements),
+      (subst (λ d. IsCheckable (all_stated c.args.before.now) d c.loop-step.state (goal_view c.args.goal.now) c.loop-step.number) end c.loop-step.invariant.ready, c.requires.statements),
     )
 
 pub verify_block-returns-clause-ok : goal.verify_block-returns-clause-ok
 verify_block-returns-clause-ok t c =
     let before = all_stated c.args.before.now in
-    let g = block_goal c.args.goal.now in
+    let g = goal_view c.args.goal.now in
     let close = close_script c.args.block.now.close in
     let end = steps_end c.args.block.now.steps.items c.deref-step-items.result.now close c.loop-step.step-index c.deref-step-items.ensures.value c.loop-step-test.false in
     ok_as c.verify_close.result (verdict_at before (script_of c.args.block.now) c.args.state.now g c.args.first) (verdict_at before close c.loop-step.state g c.loop-step.number)
@@ -72,7 +72,7 @@ verify_block-returns-clause-kept t c =
 pub verify_block-returns-clause-err : goal.verify_block-returns-clause-err
 verify_block-returns-clause-err t c =
     let before = all_stated c.args.before.now in
-    let g = block_goal c.args.goal.now in
+    let g = goal_view c.args.goal.now in
     let close = close_script c.args.block.now.close in
     let end = steps_end c.args.block.now.steps.items c.deref-step-items.result.now close c.loop-step.step-index c.deref-step-items.ensures.value c.loop-step-test.false in
     err_as c.verify_close.result (verdict_at before (script_of c.args.block.now) c.args.state.now g c.args.first) (verdict_at before close c.loop-step.state g c.loop-step.number)
@@ -141,21 +141,21 @@ verify_step-make-requires-clause-scope t c = small_step (all_stated c.args.befor
 pub verify_step-make-requires-clause-certs : goal.verify_step-make-requires-clause-certs
 verify_step-make-requires-clause-certs t c =
     let y = c.in-Make in
-    make_parts (all_stated c.args.before.now) c.args.step.now y.form y.names y.certs c.items.result.now c.args.state.now c.args.number y.is c.items.ensures c.requires.ready
+    make_parts (all_stated c.args.before.now) c.args.step.now y.construction y.names y.certs c.items.result.now c.args.state.now c.args.number y.is c.items.ensures c.requires.ready
 
 pub verify_step-returns-in_ok-make-in-Make-clause-ok : goal.verify_step-returns-in_ok-make-in-Make-clause-ok
 verify_step-returns-in_ok-make-in-Make-clause-ok t c =
     let before = all_stated c.args.before.now in
     let y = c.in-Make in
-    line_passed before c.args.step.now (Make y.form y.names y.certs) c.args.state.now c.make.new.state c.args.number c.in_ok-make-in-Make.field-0 c.verdict_of-in-Make.result (make_is c.args.step.now y.form y.names y.certs y.is) (make_line y.form y.names y.certs)
-    (subst (λ cs. IsChecked before (Make y.form y.names cs) c.args.state.now c.make.new.state c.in_ok-make-in-Make.field-0) c.items.ensures (c.in_ok-make-in-Make.ensures before y.names)) c.verdict_of-in-Make.ensures.ok
+    line_passed before c.args.step.now (Make y.construction y.names y.certs) c.args.state.now c.make.new.state c.args.number c.in_ok-make-in-Make.field-0 c.verdict_of-in-Make.result (make_is c.args.step.now y.construction y.names y.certs y.is) (make_line y.construction y.names y.certs)
+    (subst (λ cs. IsChecked before (Make y.construction y.names cs) c.args.state.now c.make.new.state c.in_ok-make-in-Make.field-0) c.items.ensures (c.in_ok-make-in-Make.ensures before y.names)) c.verdict_of-in-Make.ensures.ok
 
 pub verify_step-returns-in_ok-make-in-Make-clause-err : goal.verify_step-returns-in_ok-make-in-Make-clause-err
 verify_step-returns-in_ok-make-in-Make-clause-err t c =
     let before = all_stated c.args.before.now in
     let y = c.in-Make in
-    line_rejected before c.args.step.now (Make y.form y.names y.certs) c.args.state.now c.make.new.state c.args.number c.in_ok-make-in-Make.field-0 c.verdict_of-in-Make.result (make_is c.args.step.now y.form y.names y.certs y.is)
-    (subst (λ cs. IsChecked before (Make y.form y.names cs) c.args.state.now c.make.new.state c.in_ok-make-in-Make.field-0) c.items.ensures (c.in_ok-make-in-Make.ensures before y.names)) c.verdict_of-in-Make.ensures.err
+    line_rejected before c.args.step.now (Make y.construction y.names y.certs) c.args.state.now c.make.new.state c.args.number c.in_ok-make-in-Make.field-0 c.verdict_of-in-Make.result (make_is c.args.step.now y.construction y.names y.certs y.is)
+    (subst (λ cs. IsChecked before (Make y.construction y.names cs) c.args.state.now c.make.new.state c.in_ok-make-in-Make.field-0) c.items.ensures (c.in_ok-make-in-Make.ensures before y.names)) c.verdict_of-in-Make.ensures.err
 
 pub verify_step-apply-requires-clause-facts : goal.verify_step-apply-requires-clause-facts
 verify_step-apply-requires-clause-facts t c = formed_step (all_stated c.args.before.now) c.args.step.now c.args.state.now c.args.number c.requires.ready
@@ -240,10 +240,10 @@ verify_claim-returns-in_err-next-clause-err t c =
 -- ---- closes
 
 pub verify_close-verdict_of-requires : goal.verify_close-verdict_of-requires
-verify_close-verdict_of-requires t c = few_one (all_stated c.args.before.now) (close_script c.args.close.now) c.args.state.now (block_goal c.args.goal.now) c.args.number c.requires.ready
+verify_close-verdict_of-requires t c = few_one (all_stated c.args.before.now) (close_script c.args.close.now) c.args.state.now (goal_view c.args.goal.now) c.args.number c.requires.ready
 
 pub verify_close-verdict_of-requires-in-Contradiction : goal.verify_close-verdict_of-requires-in-Contradiction
-verify_close-verdict_of-requires-in-Contradiction t c = few_one (all_stated c.args.before.now) (close_script c.args.close.now) c.args.state.now (block_goal c.args.goal.now) c.args.number c.requires.ready
+verify_close-verdict_of-requires-in-Contradiction t c = few_one (all_stated c.args.before.now) (close_script c.args.close.now) c.args.state.now (goal_view c.args.goal.now) c.args.number c.requires.ready
 
 pub verify_close-qed-requires-clause-facts : goal.verify_close-qed-requires-clause-facts
 verify_close-qed-requires-clause-facts t c = c.requires.ready.facts
@@ -254,20 +254,20 @@ verify_close-qed-requires-clause-shown t c = c.requires.ready.shown
 pub verify_close-qed-requires-clause-certs : goal.verify_close-qed-requires-clause-certs
 verify_close-qed-requires-clause-certs t c =
     let y = c.in-Qed in
-    qed_parts (all_stated c.args.before.now) c.args.close.now y.objects y.certs c.items.result.now c.args.state.now (block_goal c.args.goal.now) c.args.number y.is c.items.ensures c.requires.ready
+    qed_parts (all_stated c.args.before.now) c.args.close.now y.objects y.certs c.items.result.now c.args.state.now (goal_view c.args.goal.now) c.args.number y.is c.items.ensures c.requires.ready
 
 pub verify_close-returns-in_ok-qed-in-Qed-clause-ok : goal.verify_close-returns-in_ok-qed-in-Qed-clause-ok
 verify_close-returns-in_ok-qed-in-Qed-clause-ok t c =
     let before = all_stated c.args.before.now in
     let y = c.in-Qed in
-    qed_ok before c.args.close.now y.objects c.items-objects.result.now y.certs c.items.result.now c.args.state.now (block_goal c.args.goal.now) c.args.number c.in_ok-qed-in-Qed.field-0 c.verdict_of.result y.is c.items-objects.ensures c.items.ensures
+    qed_ok before c.args.close.now y.objects c.items-objects.result.now y.certs c.items.result.now c.args.state.now (goal_view c.args.goal.now) c.args.number c.in_ok-qed-in-Qed.field-0 c.verdict_of.result y.is c.items-objects.ensures c.items.ensures
     (c.in_ok-qed-in-Qed.ensures before) c.verdict_of.ensures.ok
 
 pub verify_close-returns-in_ok-qed-in-Qed-clause-err : goal.verify_close-returns-in_ok-qed-in-Qed-clause-err
 verify_close-returns-in_ok-qed-in-Qed-clause-err t c =
     let before = all_stated c.args.before.now in
     let y = c.in-Qed in
-    qed_bad before c.args.close.now y.objects c.items-objects.result.now y.certs c.items.result.now c.args.state.now (block_goal c.args.goal.now) c.args.number c.in_ok-qed-in-Qed.field-0 c.verdict_of.result y.is c.items-objects.ensures c.items.ensures
+    qed_bad before c.args.close.now y.objects c.items-objects.result.now y.certs c.items.result.now c.args.state.now (goal_view c.args.goal.now) c.args.number c.in_ok-qed-in-Qed.field-0 c.verdict_of.result y.is c.items-objects.ensures c.items.ensures
     (c.in_ok-qed-in-Qed.ensures before) c.verdict_of.ensures.err
 
 pub verify_close-contradiction-requires-clause-facts : goal.verify_close-contradiction-requires-clause-facts
@@ -275,19 +275,19 @@ verify_close-contradiction-requires-clause-facts t c = c.requires.ready.facts
 
 pub verify_close-contradiction-requires-clause-against : goal.verify_close-contradiction-requires-clause-against
 verify_close-contradiction-requires-clause-against t c =
-    contradiction_parts (all_stated c.args.before.now) c.args.close.now c.in-Contradiction.against c.args.state.now (block_goal c.args.goal.now) c.args.number c.in-Contradiction.is c.requires.ready
+    contradiction_parts (all_stated c.args.before.now) c.args.close.now c.in-Contradiction.against c.args.state.now (goal_view c.args.goal.now) c.args.number c.in-Contradiction.is c.requires.ready
 
 pub verify_close-returns-in_ok-contradiction-in-Contradiction-clause-ok : goal.verify_close-returns-in_ok-contradiction-in-Contradiction-clause-ok
 verify_close-returns-in_ok-contradiction-in-Contradiction-clause-ok t c =
     let before = all_stated c.args.before.now in
-    contradiction_ok before c.args.close.now c.in-Contradiction.against c.args.state.now (block_goal c.args.goal.now) c.args.number c.in_ok-contradiction-in-Contradiction.field-0 c.verdict_of-in-Contradiction.result c.in-Contradiction.is
-    (c.in_ok-contradiction-in-Contradiction.ensures before (block_goal c.args.goal.now)) c.verdict_of-in-Contradiction.ensures.ok
+    contradiction_ok before c.args.close.now c.in-Contradiction.against c.args.state.now (goal_view c.args.goal.now) c.args.number c.in_ok-contradiction-in-Contradiction.field-0 c.verdict_of-in-Contradiction.result c.in-Contradiction.is
+    (c.in_ok-contradiction-in-Contradiction.ensures before (goal_view c.args.goal.now)) c.verdict_of-in-Contradiction.ensures.ok
 
 pub verify_close-returns-in_ok-contradiction-in-Contradiction-clause-err : goal.verify_close-returns-in_ok-contradiction-in-Contradiction-clause-err
 verify_close-returns-in_ok-contradiction-in-Contradiction-clause-err t c =
     let before = all_stated c.args.before.now in
-    contradiction_bad before c.args.close.now c.in-Contradiction.against c.args.state.now (block_goal c.args.goal.now) c.args.number c.in_ok-contradiction-in-Contradiction.field-0 c.verdict_of-in-Contradiction.result c.in-Contradiction.is
-    (c.in_ok-contradiction-in-Contradiction.ensures before (block_goal c.args.goal.now)) c.verdict_of-in-Contradiction.ensures.err
+    contradiction_bad before c.args.close.now c.in-Contradiction.against c.args.state.now (goal_view c.args.goal.now) c.args.number c.in_ok-contradiction-in-Contradiction.field-0 c.verdict_of-in-Contradiction.result c.in-Contradiction.is
+    (c.in_ok-contradiction-in-Contradiction.ensures before (goal_view c.args.goal.now)) c.verdict_of-in-Contradiction.ensures.err
 
 -- ---- a superposition
 
@@ -295,8 +295,8 @@ pub verify_step-verify_superposed-requires : goal.verify_step-verify_superposed-
 verify_step-verify_superposed-requires t c =
     let y = c.in-Superposed in
     let ready =
-    ready_as (all_stated c.args.before.now) (Superposed y.form y.names c.items-in-Superposed.result.now c.items-in-Superposed-2.result.now (script_of c.deref-in-Superposed.result.now)) (step_script c.args.step.now) c.args.state.now c.args.number
-    (superposed_is c.args.step.now y.form y.names y.shown c.items-in-Superposed.result.now y.certs c.items-in-Superposed-2.result.now y.inner c.deref-in-Superposed.result.now y.is c.items-in-Superposed.ensures c.items-in-Superposed-2.ensures
+    ready_as (all_stated c.args.before.now) (Superposed y.superposition y.names c.items-in-Superposed.result.now c.items-in-Superposed-2.result.now (script_of c.deref-in-Superposed.result.now)) (step_script c.args.step.now) c.args.state.now c.args.number
+    (superposed_is c.args.step.now y.superposition y.names y.shown c.items-in-Superposed.result.now y.certs c.items-in-Superposed-2.result.now y.inner c.deref-in-Superposed.result.now y.is c.items-in-Superposed.ensures c.items-in-Superposed-2.ensures
     c.deref-in-Superposed.ensures) c.requires.ready
     in (search (rules, the_lemmas), ((y.names, ready), c.requires.statements))
 
@@ -304,9 +304,9 @@ pub verify_step-returns-in-Superposed-clause-ok : goal.verify_step-returns-in-Su
 verify_step-returns-in-Superposed-clause-ok t c =
     let y = c.in-Superposed in
     let before = all_stated c.args.before.now in
-    let whole = λ (names : List (List ℕ)). Superposed y.form names c.items-in-Superposed.result.now c.items-in-Superposed-2.result.now (script_of c.deref-in-Superposed.result.now) in
+    let whole = λ (names : List (List ℕ)). Superposed y.superposition names c.items-in-Superposed.result.now c.items-in-Superposed-2.result.now (script_of c.deref-in-Superposed.result.now) in
     all_passed_as before (whole y.names) (step_script c.args.step.now) c.args.state.now c.verify_superposed.new.state c.args.number c.verify_superposed.result
-    (superposed_is c.args.step.now y.form y.names y.shown c.items-in-Superposed.result.now y.certs c.items-in-Superposed-2.result.now y.inner c.deref-in-Superposed.result.now y.is c.items-in-Superposed.ensures c.items-in-Superposed-2.ensures
+    (superposed_is c.args.step.now y.superposition y.names y.shown c.items-in-Superposed.result.now y.certs c.items-in-Superposed-2.result.now y.inner c.deref-in-Superposed.result.now y.is c.items-in-Superposed.ensures c.items-in-Superposed-2.ensures
     c.deref-in-Superposed.ensures)
     (ok_with c.verify_superposed.result (λ m names. AreVerified before (whole names) c.args.state.now c.args.number c.verify_superposed.new.state m) y.names c.verify_superposed.ensures.ok)
 
@@ -314,46 +314,46 @@ pub verify_step-returns-in-Superposed-clause-err : goal.verify_step-returns-in-S
 verify_step-returns-in-Superposed-clause-err t c =
     let y = c.in-Superposed in
     let before = all_stated c.args.before.now in
-    let whole = λ (names : List (List ℕ)). Superposed y.form names c.items-in-Superposed.result.now c.items-in-Superposed-2.result.now (script_of c.deref-in-Superposed.result.now) in
+    let whole = λ (names : List (List ℕ)). Superposed y.superposition names c.items-in-Superposed.result.now c.items-in-Superposed-2.result.now (script_of c.deref-in-Superposed.result.now) in
     all_rejected_as before (whole y.names) (step_script c.args.step.now) c.args.state.now c.args.number c.verify_superposed.result
-    (superposed_is c.args.step.now y.form y.names y.shown c.items-in-Superposed.result.now y.certs c.items-in-Superposed-2.result.now y.inner c.deref-in-Superposed.result.now y.is c.items-in-Superposed.ensures c.items-in-Superposed-2.ensures
+    (superposed_is c.args.step.now y.superposition y.names y.shown c.items-in-Superposed.result.now y.certs c.items-in-Superposed-2.result.now y.inner c.deref-in-Superposed.result.now y.is c.items-in-Superposed.ensures c.items-in-Superposed-2.ensures
     c.deref-in-Superposed.ensures)
     (err_with c.verify_superposed.result (λ e names. StepsReject before (whole names) c.args.state.now c.args.number e) y.names c.verify_superposed.ensures.err)
 
 pub verify_superposed-superpose-requires-clause-facts : goal.verify_superposed-superpose-requires-clause-facts
 verify_superposed-superpose-requires-clause-facts t c =
-    let h = c.args.superposition.now in
-    formed_lines (all_stated c.args.before.now) (Superposed h.form.now c.requires.ready.0 h.shown.now h.certs.now (script_of c.args.inner.now)) c.args.state.now c.args.number c.requires.ready.1
+    let h = c.args.parts.now in
+    formed_lines (all_stated c.args.before.now) (Superposed h.superposition.now c.requires.ready.0 h.shown.now h.certs.now (script_of c.args.inner.now)) c.args.state.now c.args.number c.requires.ready.1
 
 pub verify_superposed-superpose-requires-clause-scope : goal.verify_superposed-superpose-requires-clause-scope
 verify_superposed-superpose-requires-clause-scope t c =
-    let h = c.args.superposition.now in
-    small_lines (all_stated c.args.before.now) (Superposed h.form.now c.requires.ready.0 h.shown.now h.certs.now (script_of c.args.inner.now)) c.args.state.now c.args.number c.requires.ready.1
+    let h = c.args.parts.now in
+    small_lines (all_stated c.args.before.now) (Superposed h.superposition.now c.requires.ready.0 h.shown.now h.certs.now (script_of c.args.inner.now)) c.args.state.now c.args.number c.requires.ready.1
 
 pub verify_superposed-superpose-requires-clause-certs : goal.verify_superposed-superpose-requires-clause-certs
 verify_superposed-superpose-requires-clause-certs t c =
-    let h = c.args.superposition.now in
-    superposed_parts (all_stated c.args.before.now) h.form.now c.requires.ready.0 h.shown.now h.certs.now (script_of c.args.inner.now) c.args.state.now c.args.number c.requires.ready.1
+    let h = c.args.parts.now in
+    superposed_parts (all_stated c.args.before.now) h.superposition.now c.requires.ready.0 h.shown.now h.certs.now (script_of c.args.inner.now) c.args.state.now c.args.number c.requires.ready.1
 
 pub verify_superposed-returns-then-not-branch-clause-err : goal.verify_superposed-returns-then-not-branch-clause-err
 verify_superposed-returns-then-not-branch-clause-err t c =
     let before = all_stated c.args.before.now in
-    let h = c.args.superposition.now in
-    superposed_fails before h.form.now h.shown.now h.certs.now (script_of c.args.inner.now) c.args.state.now c.args.number c.in_ok-superpose.field-0 c.if-not-branch.true (c.in_ok-superpose.ensures.test before)
+    let h = c.args.parts.now in
+    superposed_fails before h.superposition.now h.shown.now h.certs.now (script_of c.args.inner.now) c.args.state.now c.args.number c.in_ok-superpose.field-0 c.if-not-branch.true (c.in_ok-superpose.ensures.test before)
 
 pub verify_superposed-overflow_add-number : goal.verify_superposed-overflow_add-number
 verify_superposed-overflow_add-number t c =
-    let h = c.args.superposition.now in
-    omega (arith, few_lines (all_stated c.args.before.now) (Superposed h.form.now c.requires.ready.0 h.shown.now h.certs.now (script_of c.args.inner.now)) c.args.state.now c.args.number c.requires.ready.1)
+    let h = c.args.parts.now in
+    omega (arith, few_lines (all_stated c.args.before.now) (Superposed h.superposition.now c.requires.ready.0 h.shown.now h.certs.now (script_of c.args.inner.now)) c.args.state.now c.args.number c.requires.ready.1)
 
 pub verify_superposed-verify_block-requires : goal.verify_superposed-verify_block-requires
 verify_superposed-verify_block-requires t c =
     let before = all_stated c.args.before.now in
-    let h = c.args.superposition.now in (
+    let h = c.args.parts.now in (
       search (rules, the_lemmas),
       (
-        superposed_ready before h.form.now c.requires.ready.0 h.shown.now h.certs.now (script_of c.args.inner.now) c.args.state.now c.superpose.new.state c.args.number (c.in_ok-superpose.ensures.after c.if-not-branch.false)
-            (tested_fits before h.form.now h.shown.now h.certs.now c.args.state.now c.in_ok-superpose.field-0 c.if-not-branch.false (c.in_ok-superpose.ensures.test before)) c.requires.ready.1,
+        superposed_ready before h.superposition.now c.requires.ready.0 h.shown.now h.certs.now (script_of c.args.inner.now) c.args.state.now c.superpose.new.state c.args.number (c.in_ok-superpose.ensures.after c.if-not-branch.false)
+            (tested_fits before h.superposition.now h.shown.now h.certs.now c.args.state.now c.in_ok-superpose.field-0 c.if-not-branch.false (c.in_ok-superpose.ensures.test before)) c.requires.ready.1,
         c.requires.statements,
       ),
     )
@@ -361,18 +361,18 @@ verify_superposed-verify_block-requires t c =
 pub verify_superposed-returns-clause-ok : goal.verify_superposed-returns-clause-ok
 verify_superposed-returns-clause-ok t c =
     let before = all_stated c.args.before.now in
-    let h = c.args.superposition.now in
-    superposed_done before h.form.now h.shown.now h.certs.now (script_of c.args.inner.now) c.args.state.now c.superpose.new.state c.verify_block.new.state c.restore.new.self c.assume_all.new.self c.checkpoint-outer.result c.args.number c.in_ok-next.next
+    let h = c.args.parts.now in
+    superposed_done before h.superposition.now h.shown.now h.certs.now (script_of c.args.inner.now) c.args.state.now c.superpose.new.state c.verify_block.new.state c.restore.new.self c.assume_all.new.self c.checkpoint-outer.result c.args.number c.in_ok-next.next
     c.in_ok-superpose.field-0 (c.in_ok-superpose.ensures.after c.if-not-branch.false) c.if-not-branch.false (c.in_ok-superpose.ensures.test before) c.in_ok-next.ensures.ok c.checkpoint-outer.ensures c.in_ok-next.ensures.kept c.restore.ensures
     c.in_ok-assume_all.ensures
 
 pub verify_superposed-returns-in_err-next-clause-err : goal.verify_superposed-returns-in_err-next-clause-err
 verify_superposed-returns-in_err-next-clause-err t c =
     let before = all_stated c.args.before.now in
-    let h = c.args.superposition.now in
+    let h = c.args.parts.now in
     let p = err_from_is_err_and c.from_residual-in_err-next.result c.from_residual-in_err-next.ensures.1 in
     rw (p.1, p.2)
-    (superposed_stops before h.form.now h.shown.now h.certs.now (script_of c.args.inner.now) c.args.state.now c.superpose.new.state c.args.number c.in_ok-superpose.field-0 c.in_err-next.field-0.0 (c.in_ok-superpose.ensures.after c.if-not-branch.false)
+    (superposed_stops before h.superposition.now h.shown.now h.certs.now (script_of c.args.inner.now) c.args.state.now c.superpose.new.state c.args.number c.in_ok-superpose.field-0 c.in_err-next.field-0.0 (c.in_ok-superpose.ensures.after c.if-not-branch.false)
     c.if-not-branch.false (c.in_ok-superpose.ensures.test before) c.in_err-next.ensures.err)
 
 -- ---- a split
@@ -380,17 +380,17 @@ verify_superposed-returns-in_err-next-clause-err t c =
 pub verify_close-returns-then-not-in_scope-clause-err : goal.verify_close-returns-then-not-in_scope-clause-err
 verify_close-returns-then-not-in_scope-clause-err t c =
     let y = c.in-Cases in
-    split_fails (all_stated c.args.before.now) c.args.close.now y.lit y.first y.second c.args.state.now (block_goal c.args.goal.now) c.args.number y.is (sym c.in_scope.ensures ∙ c.if-not-in_scope.true)
+    split_fails (all_stated c.args.before.now) c.args.close.now y.lit y.first y.second c.args.state.now (goal_view c.args.goal.now) c.args.number y.is (sym c.in_scope.ensures ∙ c.if-not-in_scope.true)
 
 pub verify_close-overflow_add-number : goal.verify_close-overflow_add-number
-verify_close-overflow_add-number t c = omega (arith, few_one (all_stated c.args.before.now) (close_script c.args.close.now) c.args.state.now (block_goal c.args.goal.now) c.args.number c.requires.ready)
+verify_close-overflow_add-number t c = omega (arith, few_one (all_stated c.args.before.now) (close_script c.args.close.now) c.args.state.now (goal_view c.args.goal.now) c.args.number c.requires.ready)
 
 pub verify_close-verify_block-requires : goal.verify_close-verify_block-requires
 verify_close-verify_block-requires t c =
     let y = c.in-Cases in (
       search (rules, the_lemmas),
       (
-        first_ready (all_stated c.args.before.now) c.args.close.now y.lit y.first y.second c.deref.result.now c.args.state.now c.assume.new.self (block_goal c.args.goal.now) c.args.number y.is c.deref.ensures c.in_ok-assume-in-Cases.ensures c.requires.ready,
+        first_ready (all_stated c.args.before.now) c.args.close.now y.lit y.first y.second c.deref.result.now c.args.state.now c.assume.new.self (goal_view c.args.goal.now) c.args.number y.is c.deref.ensures c.in_ok-assume-in-Cases.ensures c.requires.ready,
         c.requires.statements,
       ),
     )
@@ -400,14 +400,14 @@ verify_close-returns-in_err-next-in-Cases-clause-err t c =
     let y = c.in-Cases in
     let p = err_from_is_err_and c.from_residual-in_err-next-in-Cases.result c.from_residual-in_err-next-in-Cases.ensures.1 in
     rw (p.1, p.2)
-    (first_stops (all_stated c.args.before.now) c.args.close.now y.lit y.first y.second c.deref.result.now c.args.state.now c.assume.new.self (block_goal c.args.goal.now) c.args.number c.in_err-next-in-Cases.field-0.0 y.is c.deref.ensures c.in_ok-assume-in-Cases.ensures
+    (first_stops (all_stated c.args.before.now) c.args.close.now y.lit y.first y.second c.deref.result.now c.args.state.now c.assume.new.self (goal_view c.args.goal.now) c.args.number c.in_err-next-in-Cases.field-0.0 y.is c.deref.ensures c.in_ok-assume-in-Cases.ensures
     (sym c.in_scope.ensures ∙ c.if-not-in_scope.false) c.in_err-next-in-Cases.ensures.err)
 
 pub verify_close-verify_block-requires-in-Cases : goal.verify_close-verify_block-requires-in-Cases
 verify_close-verify_block-requires-in-Cases t c =
     let y = c.in-Cases in
     let before = all_stated c.args.before.now in
-    let g = block_goal c.args.goal.now in
+    let g = goal_view c.args.goal.now in
     let x = c.args.state.now in
     let b = after_first before y.lit y.first c.deref.result.now x c.assume.new.self c.verify_block.new.state c.restore.new.self c.assume_not.new.self c.checkpoint-outer.result g c.args.number c.in_ok-next-in-Cases.next c.deref.ensures c.in_ok-assume-in-Cases.ensures
     c.in_ok-next-in-Cases.ensures.ok c.checkpoint-outer.ensures c.in_ok-next-in-Cases.ensures.kept c.restore.ensures c.in_ok-assume_not-in-Cases.ensures in (
@@ -419,7 +419,7 @@ pub verify_close-returns-in_ok-assume_not-in-Cases-clause-ok : goal.verify_close
 verify_close-returns-in_ok-assume_not-in-Cases-clause-ok t c =
     let y = c.in-Cases in
     let before = all_stated c.args.before.now in
-    let g = block_goal c.args.goal.now in
+    let g = goal_view c.args.goal.now in
     let x = c.args.state.now in
     let b = after_first before y.lit y.first c.deref.result.now x c.assume.new.self c.verify_block.new.state c.restore.new.self c.assume_not.new.self c.checkpoint-outer.result g c.args.number c.in_ok-next-in-Cases.next c.deref.ensures c.in_ok-assume-in-Cases.ensures
     c.in_ok-next-in-Cases.ensures.ok c.checkpoint-outer.ensures c.in_ok-next-in-Cases.ensures.kept c.restore.ensures c.in_ok-assume_not-in-Cases.ensures in
@@ -430,7 +430,7 @@ pub verify_close-returns-in_ok-assume_not-in-Cases-clause-kept : goal.verify_clo
 verify_close-returns-in_ok-assume_not-in-Cases-clause-kept t c =
     let y = c.in-Cases in
     let before = all_stated c.args.before.now in
-    let g = block_goal c.args.goal.now in
+    let g = goal_view c.args.goal.now in
     let x = c.args.state.now in
     let b = after_first before y.lit y.first c.deref.result.now x c.assume.new.self c.verify_block.new.state c.restore.new.self c.assume_not.new.self c.checkpoint-outer.result g c.args.number c.in_ok-next-in-Cases.next c.deref.ensures c.in_ok-assume-in-Cases.ensures
     c.in_ok-next-in-Cases.ensures.ok c.checkpoint-outer.ensures c.in_ok-next-in-Cases.ensures.kept c.restore.ensures c.in_ok-assume_not-in-Cases.ensures in
@@ -440,7 +440,7 @@ pub verify_close-returns-in_ok-assume_not-in-Cases-clause-err : goal.verify_clos
 verify_close-returns-in_ok-assume_not-in-Cases-clause-err t c =
     let y = c.in-Cases in
     let before = all_stated c.args.before.now in
-    let g = block_goal c.args.goal.now in
+    let g = goal_view c.args.goal.now in
     let x = c.args.state.now in
     let b = after_first before y.lit y.first c.deref.result.now x c.assume.new.self c.verify_block.new.state c.restore.new.self c.assume_not.new.self c.checkpoint-outer.result g c.args.number c.in_ok-next-in-Cases.next c.deref.ensures c.in_ok-assume-in-Cases.ensures
     c.in_ok-next-in-Cases.ensures.ok c.checkpoint-outer.ensures c.in_ok-next-in-Cases.ensures.kept c.restore.ensures c.in_ok-assume_not-in-Cases.ensures in

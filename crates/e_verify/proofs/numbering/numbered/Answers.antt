@@ -17,7 +17,7 @@ use Rattle.e_verify.specs.declared.step_state.StepState.{StepState}
 use Rattle.e_verify.specs.Numbered.{derivation_with_places}
 use Rattle.e_verify.specs.inner.StepStates.{state_at_start}
 use Rattle.e_verify.specs.inner.Numbering.{HaveFew, places_at}
-use Rattle.e_verify.proofs.checking.WholeDerivations.{few_declared, few_more}
+use Rattle.e_verify.proofs.checking.DerivationsOfStatements.{few_declared, few_more}
 use Rattle.e_verify.proofs.placing.NumberedLines.{numbered_certified, numbered_erased, numbered_of_second}
 use Rattle.e_verify.proofs.numbering.numbered.Goals as goal
 

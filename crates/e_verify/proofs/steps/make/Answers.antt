@@ -7,11 +7,11 @@ use Rattle.e_verify.proofs.steps.make.Goals as goal
 
 pub certify_all-certified-requires-clause-lits : goal.certify_all-certified-requires-clause-lits
 certify_all-certified-requires-clause-lits c =
-    ap (list_all is_well_formed) (c.deref.ensures.value ∙ c.in_ok-needs.ensures) ∙ make_formed c.args.form.now c.args.state.now.scope (sym c.fits.ensures ∙ c.if-not-fits.false)
+    ap (list_all is_well_formed) (c.deref.ensures.value ∙ c.in_ok-needs.ensures) ∙ make_formed c.args.construction.now c.args.state.now.scope (sym c.fits.ensures ∙ c.if-not-fits.false)
 
 pub returns : goal.returns
 returns c before names =
     let x = c.args.state.now in
-    checked_make before c.args.form.now names c.args.certs.now x _ (sym c.fits.ensures ∙ c.if-not-fits.false)
+    checked_make before c.args.construction.now names c.args.certs.now x _ (sym c.fits.ensures ∙ c.if-not-fits.false)
     (ap (λ ls. certify_all x.scope x.facts ls c.args.certs.now) (sym (c.deref.ensures.value ∙ c.in_ok-needs.ensures)) ∙ sym c.in_ok-certified.ensures ∙ c.if-not-branch.false)
     c.in_ok-make.ensures

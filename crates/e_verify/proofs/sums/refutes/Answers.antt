@@ -20,7 +20,7 @@ returns-then-not-allows_sign c =
     let sign = simp to_z-of_z at c.allows_sign.ensures in
     sym (bad_sign p c.args.sum.now c.loop-multiplier.multiplier-index c.loop-multiplier-item.result (row_view c.in-Some.row) c.loop-multiplier-test.true c.loop-multiplier-item.is
     (sym c.row_named.ensures.row ∙ ap (option_map row_view) c.in-Some.is)
-    (ap (λ s. allows_multiplier s c.loop-multiplier-item.result.0) (sym c.says.ensures) ∙ sym sign ∙ c.if-not-allows_sign.true))
+    (ap (λ s. allows_multiplier s c.loop-multiplier-item.result.0) (sym c.sense.ensures) ∙ sym sign ∙ c.if-not-allows_sign.true))
 
 pub loop-multiplier-preserved : goal.loop-multiplier-preserved
 loop-multiplier-preserved c =
@@ -34,7 +34,7 @@ loop-multiplier-preserved c =
     = elim c.if-strict.branch [ then-strict w ↦ w.strict-is ∙ w.if-strict.true ∙ ap (λ b. b || c.is_strict-is_strict.result) (sym w.if-strict.true) | else-strict w ↦ w.strict-is ∙ ap (λ b. b || c.is_strict-is_strict.result) (sym w.if-strict.false) ] in
     one_added p c.args.sum.now c.loop-multiplier.multiplier-index x c.loop-multiplier.totals c.add_row.new.totals c.loop-multiplier.strict c.is_strict-is_strict.result c.if-strict.strict c.in-Some.row
     c.loop-multiplier-test.true c.loop-multiplier-item.is c.loop-multiplier.invariant (sym c.row_named.ensures.row ∙ ap (option_map row_view) c.in-Some.is) more
-    (ap (λ s. allows_multiplier s x.0) (sym c.says.ensures) ∙ sym sign ∙ c.if-not-allows_sign.false) (strict ∙ ap (λ s. is_strict s x.0) c.says-in-loop-multiplier.ensures) new c.in-Some.ensures.small
+    (ap (λ s. allows_multiplier s x.0) (sym c.sense.ensures) ∙ sym sign ∙ c.if-not-allows_sign.false) (strict ∙ ap (λ s. is_strict s x.0) c.sense-in-loop-multiplier.ensures) new c.in-Some.ensures.small
     (good_multiplier c.args.sum.now c.loop-multiplier.multiplier-index x (sym c.has_limited_size.ensures ∙ c.if-not-has_limited_size.false) c.loop-multiplier-test.true c.loop-multiplier-item.is)
 
 pub returns : goal.returns

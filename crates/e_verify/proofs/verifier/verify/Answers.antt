@@ -10,7 +10,7 @@ use Rattle.e_theorem.specs.Statements.{stated, all_stated}
 use Rattle.e_deriv.specs.Script.{script_of}
 use Rattle.e_deriv.specs.Goal.{Goal, goal_of_statement}
 use Rattle.e_verify.specs.Checking.{verdict_at}
-use Rattle.e_verify.proofs.checking.WholeDerivations.{same_verdict, start_ready, certified_of, few_declared, few_more}
+use Rattle.e_verify.proofs.checking.DerivationsOfStatements.{same_verdict, start_ready, certified_of, few_declared, few_more}
 use Rattle.e_verify.proofs.verifier.verify.Goals as goal
 
 abbrev as_goal : List Obj → List Lit → Goal

@@ -21,10 +21,10 @@ pub returns-in_err-end_superposition-in-Superpose-clause-value :
 returns-in_err-end_superposition-in-Superpose-clause-value c =
     let p = err_from_is_err_and c.from_residual-in_err-end_superposition-in-Superpose.result c.from_residual-in_err-end_superposition-in-Superpose.ensures.1 in
     let block = c.in-Ok.inner in
-    let form = c.in-Superpose.form in
+    let superposition = c.in-Superpose.superposition in
     let names = c.in-Superpose.names in
     let shown = c.in-Superpose.shown in
     let made = c.in-Ok.ensures in
     let bad = (c.in_err-end_superposition-in-Superpose).ensures in
-    rw (p.1, p.2) (resumed_fails c.args.self.now c.take_block.new.self c.end_superposition.new.self c.args.outer c.args.close shown (Copied form names shown [] block) block (kind.Superpose form names shown)
+    rw (p.1, p.2) (resumed_fails c.args.self.now c.take_block.new.self c.end_superposition.new.self c.args.outer c.args.close shown (Copied superposition names shown [] block) block (kind.Superpose superposition names shown)
     (c.in_err-end_superposition-in-Superpose).field-0.0 c.in-Superpose.is made.taken made.closed (λ again. refl) bad.value)

@@ -9,7 +9,7 @@ pub returns-clause-value : goal.returns-clause-value
 returns-clause-value c =
     let d = c.args.self.now in
     let raw = c.args.raw.now in
-    let form = c.in_ok-form.field-0.form in
-    let shown = c.in_ok-form.field-0.shown in
-    let is = superposed_is d raw form shown tt c.in_ok-form.ensures (grind arith) in
+    let superposition = c.in_ok-superposition.field-0.superposition in
+    let shown = c.in_ok-superposition.field-0.shown in
+    let is = superposed_is d raw superposition shown tt c.in_ok-superposition.ensures (grind arith) in
     subst (λ (r : Result TheoremParser FaultKind). Moves c.begin_copies-begun.result c.begin_copies-begun.new.self r) (grind (arith, is)) c.begin_copies-begun.ensures.value

@@ -1,6 +1,6 @@
 use Rattle.std.proofs.Common.{◌≡◌, ◌-◌, ◌<◌, suc, length, ◌∙◌, sym, arith}
 use Rattle.std.specs.Prelude.{IsSome, ◌↔◌}
-use Rattle.e_facts.proofs.Kept.{kept_pop_diagram, kept_pop_metric}
+use Rattle.e_facts.proofs.TablesOfFacts.{kept_pop_diagram, kept_pop_metric}
 use Rattle.e_facts.proofs.facts.Facts.pop.Goals as goal
 
 pub invariant_of-self : goal.invariant_of-self

@@ -1,6 +1,6 @@
 use Rattle.std.proofs.Common.{◌≡◌, false, ◌∙◌, ap}
 use Rattle.e_literal.specs.Facts.{has}
-use Rattle.e_facts.proofs.Kept.{kept_push_diagram}
+use Rattle.e_facts.proofs.TablesOfFacts.{kept_push_diagram}
 use Rattle.e_facts.proofs.facts.Facts.push_diagram.Goals as goal
 
 pub invariant_of-self-in_default : goal.invariant_of-self-in_default

@@ -1,6 +1,6 @@
 use Rattle.std.proofs.Common.{◌≡◌, false, ◌∙◌, ap, arith}
 use Rattle.e_literal.specs.Facts.{has}
-use Rattle.e_facts.proofs.Kept.{kept_push_metric}
+use Rattle.e_facts.proofs.TablesOfFacts.{kept_push_metric}
 use Rattle.e_facts.proofs.facts.Facts.push_metric.Goals as goal
 
 pub invariant_of-self-in_default : goal.invariant_of-self-in_default

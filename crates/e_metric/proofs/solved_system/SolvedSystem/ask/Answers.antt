@@ -1,7 +1,7 @@
 use Rattle.std.proofs.Common.{◌∙◌, ◌∷◌, [], ap, subst, map, Some}
 use Rattle.e_literal.specs.Same.{canonical}
 use Rattle.e_literal.specs.Solution.{Satisfy}
-use Rattle.e_fraction.specs.Views.{all_seen}
+use Rattle.e_fraction.specs.Views.{views_of_rows}
 use Rattle.e_simplex.specs.Answer.{assigned}
 use Rattle.e_metric.specs.AgreeingRows.{AreRows}
 use Rattle.e_metric.specs.inner.FurtherRows.{terms_added, further, value_of_fresh, values_extended}
@@ -23,7 +23,7 @@ returns-then-are_so c =
     c.values.result.now (map (λ t. (canonical t, value_of_fresh facts t)) c.deref-3.result.now) c.in_ok-values.values
     (c.in_ok-values.ensures ∙ ap (λ vs. values_extended facts vs c.deref-3.result.now) c.items.ensures)
     c.values.ensures
-    (subst (λ vs. Satisfy (assigned vs) (all_seen c.deref-4.result.now)) c.items-2.ensures (c.are_so.ensures c.if-are_so.true))
+    (subst (λ vs. Satisfy (assigned vs) (views_of_rows c.deref-4.result.now)) c.items-2.ensures (c.are_so.ensures c.if-are_so.true))
 
 pub decided-requires-clause-together : goal.decided-requires-clause-together
 decided-requires-clause-together c =

@@ -4,7 +4,7 @@ use Rattle.e_literal.specs.declared.object.Term.TheVariants.{Right}
 use Rattle.e_clause.specs.declared.cert.RowName.{RowName}
 use Rattle.e_fraction.specs.declared.row.Row.{Row as GivenRow}
 use Rattle.e_fraction.specs.Limits.{all_small}
-use Rattle.e_fraction.specs.Views.{all_seen}
+use Rattle.e_fraction.specs.Views.{views_of_rows}
 use Rattle.e_simplex.specs.Answer.{IsAbsurdity}
 use Rattle.e_metric.specs.ListedTerms.{with_listed, distinct_terms}
 use Rattle.e_metric.proofs.answers.SolvedSystems.{few_together, small_together, same_rows, as_many, refuted_together}
@@ -16,7 +16,7 @@ certificate_of-requires-clause-names c =
 
 pub certificate_of-requires-clause-refuted : goal.certificate_of-requires-clause-refuted
 certificate_of-requires-clause-refuted c =
-    subst (λ rs. IsAbsurdity (all_seen rs) c.args.absurdity.now) (sym (same_rows c.args.which c.args.facts.now (option_copied c.args.wanted) c.args.self.now c.args.names.now c.args.rows.now c.requires.together c.requires.facts c.requires.few c.requires.wanted c.deref.result.now (c.deref.ensures.value ∙ c.in_ok-rows.ensures))) c.requires.refuted.refutes
+    subst (λ rs. IsAbsurdity (views_of_rows rs) c.args.absurdity.now) (sym (same_rows c.args.which c.args.facts.now (option_copied c.args.wanted) c.args.self.now c.args.names.now c.args.rows.now c.requires.together c.requires.facts c.requires.few c.requires.wanted c.deref.result.now (c.deref.ensures.value ∙ c.in_ok-rows.ensures))) c.requires.refuted.refutes
 
 pub certificate_of-requires-clause-few : goal.certificate_of-requires-clause-few
 certificate_of-requires-clause-few c =

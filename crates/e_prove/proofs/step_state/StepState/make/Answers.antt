@@ -23,28 +23,28 @@ gives-requires-clause-circles c =
 
 pub grow-requires-clause-points : goal.grow-requires-clause-points
 grow-requires-clause-points c =
-    let few : length c.made.result.now ≤ 2 = subst (λ s. length s ≤ 2) (sym c.made.ensures) (few_made c.args.form.now) in
+    let few : length c.made.result.now ≤ 2 = subst (λ s. length s ≤ 2) (sym c.made.ensures) (few_made c.args.construction.now) in
     omega (arith, few, c.requires.room.points)
 
 pub grow-requires-clause-lines : goal.grow-requires-clause-lines
 grow-requires-clause-lines c =
-    let few : length c.made.result.now ≤ 2 = subst (λ s. length s ≤ 2) (sym c.made.ensures) (few_made c.args.form.now) in
+    let few : length c.made.result.now ≤ 2 = subst (λ s. length s ≤ 2) (sym c.made.ensures) (few_made c.args.construction.now) in
     omega (arith, few, c.requires.room.lines)
 
 pub grow-requires-clause-circles : goal.grow-requires-clause-circles
 grow-requires-clause-circles c =
-    let few : length c.made.result.now ≤ 2 = subst (λ s. length s ≤ 2) (sym c.made.ensures) (few_made c.args.form.now) in
+    let few : length c.made.result.now ≤ 2 = subst (λ s. length s ≤ 2) (sym c.made.ensures) (few_made c.args.construction.now) in
     omega (arith, few, c.requires.room.circles)
 
 pub join-requires : goal.join-requires
 join-requires c =
-    let form = c.args.form.now in
-    good_given form c.args.self.now.context c.grow.new.self.context c.made.result.now c.in_ok-given.given.items c.made.ensures
-    (c.in_ok-given.ensures ∙ ap (gives_of_construction form) c.scope-scope.ensures) c.in_ok-grow.ensures.scope c.requires.after
+    let construction = c.args.construction.now in
+    good_given construction c.args.self.now.context c.grow.new.self.context c.made.result.now c.in_ok-given.given.items c.made.ensures
+    (c.in_ok-given.ensures ∙ ap (gives_of_construction construction) c.scope-scope.ensures) c.in_ok-grow.ensures.scope c.requires.after
 
 pub returns : goal.returns
 returns c =
-    let form = c.args.form.now in
+    let construction = c.args.construction.now in
     on_ok_map _ _ c.join.result
-    (made_after form c.args.names.now c.args.self.now c.grow.new.self c.join.new.self c.made.result.now c.in_ok-given.given.items c.made.ensures
-    (c.in_ok-given.ensures ∙ ap (gives_of_construction form) c.scope-scope.ensures) c.in_ok-grow.ensures.scope c.in_ok-grow.ensures.names) c.join.ensures
+    (made_after construction c.args.names.now c.args.self.now c.grow.new.self c.join.new.self c.made.result.now c.in_ok-given.given.items c.made.ensures
+    (c.in_ok-given.ensures ∙ ap (gives_of_construction construction) c.scope-scope.ensures) c.in_ok-grow.ensures.scope c.in_ok-grow.ensures.names) c.join.ensures

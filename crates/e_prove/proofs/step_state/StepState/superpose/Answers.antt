@@ -27,13 +27,13 @@ grow-requires-clause-circles c =
 
 pub join-requires : goal.join-requires
 join-requires c =
-    let form = c.args.form.now in
-    good_superposed form c.args.self.now.context c.grow.new.self.context c.made.result.now c.in_ok-given.given.items c.made.ensures
-    (c.in_ok-given.ensures ∙ ap (superposing.gives_of_superposition form) c.scope-scope.ensures) c.in_ok-grow.ensures.scope c.requires.after
+    let superposition = c.args.superposition.now in
+    good_superposed superposition c.args.self.now.context c.grow.new.self.context c.made.result.now c.in_ok-given.given.items c.made.ensures
+    (c.in_ok-given.ensures ∙ ap (superposing.gives_of_superposition superposition) c.scope-scope.ensures) c.in_ok-grow.ensures.scope c.requires.after
 
 pub returns : goal.returns
 returns c =
-    let form = c.args.form.now in
+    let superposition = c.args.superposition.now in
     on_ok_map _ _ c.join.result
-    (superposed_after form c.args.names.now c.args.self.now c.grow.new.self c.join.new.self c.made.result.now c.in_ok-given.given.items c.made.ensures
-    (c.in_ok-given.ensures ∙ ap (superposing.gives_of_superposition form) c.scope-scope.ensures) c.in_ok-grow.ensures.scope c.in_ok-grow.ensures.names) c.join.ensures
+    (superposed_after superposition c.args.names.now c.args.self.now c.grow.new.self c.join.new.self c.made.result.now c.in_ok-given.given.items c.made.ensures
+    (c.in_ok-given.ensures ∙ ap (superposing.gives_of_superposition superposition) c.scope-scope.ensures) c.in_ok-grow.ensures.scope c.in_ok-grow.ensures.names) c.join.ensures

@@ -1,6 +1,6 @@
 use Rattle.std.proofs.Common.{ap, ◌∙◌, arith, length}
 use Rattle.e_text.specs.Lines.{Ahead}
-use Rattle.e_text.proofs.WholeLines.{length-lines_of}
+use Rattle.e_text.proofs.LinesOfTexts.{length-lines_of}
 use Rattle.e_run.proofs.progress.ReadPieces.{lines_at}
 use Rattle.e_run.proofs.pieces.Untaken.lines.Goals as goal
 

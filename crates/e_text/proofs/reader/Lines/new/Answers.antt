@@ -1,5 +1,5 @@
 use Rattle.std.proofs.Common.{◌+◌, ◌<◌, length, arith}
-use Rattle.e_text.proofs.WholeLines.{length-lines_of}
+use Rattle.e_text.proofs.LinesOfTexts.{length-lines_of}
 use Rattle.e_text.proofs.reader.Lines.new.Goals as goal
 
 pub at-requires-clause-lines_fit : goal.at-requires-clause-lines_fit

@@ -13,17 +13,17 @@ abbrev as_state : Scope → List Lit → StepState
 as_state s facts = record { scope = s; facts = facts }
 
 pub grown-self-requires-clause-points : goal.grown-self-requires-clause-points
-grown-self-requires-clause-points c = (few_new c.args.self.now.scope c.args.form.now (length c.made.result.now) c.requires (ap length c.made.ensures)).0
+grown-self-requires-clause-points c = (few_new c.args.self.now.scope c.args.construction.now (length c.made.result.now) c.requires (ap length c.made.ensures)).0
 
 pub grown-self-requires-clause-lines : goal.grown-self-requires-clause-lines
-grown-self-requires-clause-lines c = (few_new c.args.self.now.scope c.args.form.now (length c.made.result.now) c.requires (ap length c.made.ensures)).1
+grown-self-requires-clause-lines c = (few_new c.args.self.now.scope c.args.construction.now (length c.made.result.now) c.requires (ap length c.made.ensures)).1
 
 pub grown-self-requires-clause-circles : goal.grown-self-requires-clause-circles
-grown-self-requires-clause-circles c = (few_new c.args.self.now.scope c.args.form.now (length c.made.result.now) c.requires (ap length c.made.ensures)).2
+grown-self-requires-clause-circles c = (few_new c.args.self.now.scope c.args.construction.now (length c.made.result.now) c.requires (ap length c.made.ensures)).2
 
 pub returns : goal.returns
 returns c =
     let x = c.args.self.now in
     let facts = c.in_ok-join.ensures ∙ ap (joined_all x.facts) c.in_ok-given.ensures in
     let scope = c.grown-self.ensures ∙ ap (grown x.scope) c.made.ensures in
-    ap (λ (s : Scope). as_state s c.join.new.self) scope ∙ ap (as_state (grown x.scope (sorts_made c.args.form.now))) facts
+    ap (λ (s : Scope). as_state s c.join.new.self) scope ∙ ap (as_state (grown x.scope (sorts_made c.args.construction.now))) facts

@@ -35,7 +35,7 @@ use Rattle.e_names.specs.Fits.{is_diagram_atom, is_diagram_lit}
 use Rattle.e_line.specs.HasSpelling.{AreNames}
 use Rattle.e_line.proofs.base.Bound.{bind_ok, ok_is, read_ok, each_length}
 use Rattle.e_line.proofs.base.Choices.{passed}
-use Rattle.e_line.proofs.read_lines.FormsByWord.{OfEachForm, form_by_word}
+use Rattle.e_line.proofs.read_lines.RawLinesByWord.{OfEachForm, form_by_word}
 use Rattle.e_line.proofs.read_lines.SumsOfLiterals.{AtomSaid, LitsSaid, lit_said, lits_said, diagram_said}
 use Rattle.e_line.proofs.read_lines.TitlesOfWords.{words_count, names_said, title_said}
 

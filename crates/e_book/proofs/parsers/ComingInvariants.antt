@@ -41,7 +41,7 @@ use Rattle.e_names.specs.Canonical.{raw_of}
 use Rattle.e_book.specs.ParserViews.{entry_of_parser}
 use Rattle.e_book.specs.Steps.{allowed, declared, declares, shows, begun, begin, step}
 use Rattle.e_book.specs.Book.{is_last}
-use Rattle.e_line.specs.Items.{book_line_of, listing_form, is_show}
+use Rattle.e_line.specs.Items.{book_line_of, listing_raw_line, is_show}
 use Rattle.e_names.specs.Meanings.{items_in}
 use Rattle.e_book.specs.Grammar.{Rest, is_skipped, put_at}
 use Rattle.e_book.specs.Definitions.{BookItem, OfTheorem, OfNotion, Answer, has_notion_title, IsWellFormedItem}
@@ -56,7 +56,7 @@ use Rattle.e_names.proofs.read_lines.Citations.{counted}
 use Rattle.e_book.proofs.parsers.ParserInvariants.{keeps, keeps_begin, good_begun}
 use Rattle.e_book.proofs.fit_theorems.ReadSpelled.{Spelled, spelled_next, spelled_begin, done_spelled}
 use Rattle.e_book.proofs.parsers.SameTitle.{same_title, title_begun}
-use Rattle.e_names.proofs.read_lines.LiteralsOfForms.{Said, form_said}
+use Rattle.e_names.proofs.read_lines.LiteralsOfRawLines.{Said, form_said}
 use Rattle.e_line.proofs.read_lines.SumsOfLiterals.{LitsSaid}
 use Rattle.e_line.proofs.read_lines.ItemsOfWords.{ItemsSaid}
 use Rattle.e_names.proofs.read_lines.ItemsWritten.{items_said, items_some}
@@ -208,13 +208,13 @@ plain_kept known c e f g s h = plain_by c.defines known c e f refl g s h
 out_said : (known : Known) (d : TheoremParser) (line : Listing) (is : List RawItem) (w : RawLine × ℕ) → are_notions known.notions ≡ true → ListingSaid line → 0 < length is → ItemsSaid is → line_written_out known.notions d line is ≡ Ok w → Said w.0
 out_said known d line is w all head some said e =
     let ns = names_there d in
-    let out : List Lit × ℕ → RawLine × ℕ = λ p. (listing_form line (map (raw_of ns) p.0), p.1) in
+    let out : List Lit × ℕ → RawLine × ℕ = λ p. (listing_raw_line line (map (raw_of ns) p.0), p.1) in
     let r = bind_ok (is_ready d line) (λ ready. items_in known.notions ns 0 is >>= λ p. read_ok (out p)) w e in
     let p = bind_ok (items_in known.notions ns 0 is) (λ p. read_ok (out p)) w r.2 in
     subst (λ (x : RawLine × ℕ). Said x.0) (ok_is (out p.0) w p.2)
     (raw_line_of line (map (raw_of ns) p.0.0) head (items_some known.notions ns is p.0 all some p.1) (items_said known.notions ns 0 is p.0 all said p.1))
   where
-    raw_line_of : (line : Listing) (raws : List RawLit) → ListingSaid line → 0 < length raws → LitsSaid raws → Said (listing_form line raws)
+    raw_line_of : (line : Listing) (raws : List RawLit) → ListingSaid line → 0 < length raws → LitsSaid raws → Said (listing_raw_line line raws)
     raw_line_of listings.Given raws h n s = s
     raw_line_of listings.Show raws h n s = (n, s)
     raw_line_of listings.Claim raws h n s = (n, s)

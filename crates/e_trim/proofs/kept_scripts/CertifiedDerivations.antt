@@ -47,10 +47,10 @@ goes before st (Hence l cert rest) kept s facts goal v h =
     let n = and_parts (option_map_or (is_cert_of version.One) cert true) (has_certs_of version.One rest) v in
     let p = and_parts (is_certified before (as_step (Hence l cert rest) s facts goal)) (certified_from before rest s (joined facts l) goal) h in
     hence_goes before kept s facts goal l cert rest n.0 p.0 (goes before st rest kept s (joined facts l) goal n.1 p.1)
-goes before st (Make form names certs rest) kept s facts goal v h =
+goes before st (Make construction names certs rest) kept s facts goal v h =
     let n = and_parts (list_all (is_cert_of version.One) certs) (has_certs_of version.One rest) v in
-    let p = and_parts (is_certified before (as_step (Make form names certs rest) s facts goal)) (certified_from before rest (grown s (sorts_made form)) (joined_all facts (gives_of_construction form s)) goal) h in
-    make_goes before kept s facts goal form names certs rest n.0 p.0 (λ more. goes before st rest more (grown s (sorts_made form)) (joined_all facts (gives_of_construction form s)) goal n.1 p.1)
+    let p = and_parts (is_certified before (as_step (Make construction names certs rest) s facts goal)) (certified_from before rest (grown s (sorts_made construction)) (joined_all facts (gives_of_construction construction s)) goal) h in
+    make_goes before kept s facts goal construction names certs rest n.0 p.0 (λ more. goes before st rest more (grown s (sorts_made construction)) (joined_all facts (gives_of_construction construction s)) goal n.1 p.1)
 goes before st (Apply theorem args names certs rest) kept s facts goal v h =
     let n = and_parts (list_all (is_cert_of version.One) certs) (has_certs_of version.One rest) v in
     let here = Apply theorem args names certs rest in
@@ -62,14 +62,14 @@ goes before st (Claim shown inner rest) kept s facts goal v h =
     let p = and_parts (is_certified before (as_step (Claim shown inner rest) s facts goal)) (list_all (is_certified before) (placed_steps before inner inner s facts (goal_of shown) ++ placed_steps before rest rest s (joined_all facts shown) goal)) h in
     let q = and_parts (certified_from before inner s facts (goal_of shown)) (certified_from before rest s (joined_all facts shown) goal) (sym (list_all-append (is_certified before) (placed_steps before inner inner s facts (goal_of shown)) (placed_steps before rest rest s (joined_all facts shown) goal)) ∙ p.1) in
     claim_goes before kept s facts goal shown inner rest p.0 (goes before st inner kept s facts (goal_of shown) n.0 q.0) (goes before st rest kept s (joined_all facts shown) goal n.1 q.1)
-goes before st (Superposed form names shown certs inner rest) kept s facts goal v h =
+goes before st (Superposed superposition names shown certs inner rest) kept s facts goal v h =
     let n = and_parts (list_all (is_cert_of version.One) certs) (has_certs_of version.One inner && has_certs_of version.One rest) v in
     let m = and_parts (has_certs_of version.One inner) (has_certs_of version.One rest) n.1 in
-    let p = and_parts (is_certified before (as_step (Superposed form names shown certs inner rest) s facts goal)) (list_all (is_certified before) (placed_steps before inner inner (grown s superposing.sorts_copied) (joined_all facts (superposing.gives_of_superposition form s)) (goal_of shown) ++ placed_steps before rest rest s (joined_all facts shown) goal)) h in
-    let q = and_parts (certified_from before inner (grown s superposing.sorts_copied) (joined_all facts (superposing.gives_of_superposition form s)) (goal_of shown)) (certified_from before rest s (joined_all facts shown) goal)
-    (sym (list_all-append (is_certified before) (placed_steps before inner inner (grown s superposing.sorts_copied) (joined_all facts (superposing.gives_of_superposition form s)) (goal_of shown)) (placed_steps before rest rest s (joined_all facts shown) goal)) ∙ p.1) in
-    superposed_goes before kept s facts goal form names shown certs inner rest n.0 p.0
-    (goes before st inner (kept ++ next_objects s superposing.sorts_copied) (grown s superposing.sorts_copied) (joined_all facts (superposing.gives_of_superposition form s)) (goal_of shown) m.0 q.0) (goes before st rest kept s (joined_all facts shown) goal m.1 q.1)
+    let p = and_parts (is_certified before (as_step (Superposed superposition names shown certs inner rest) s facts goal)) (list_all (is_certified before) (placed_steps before inner inner (grown s superposing.sorts_copied) (joined_all facts (superposing.gives_of_superposition superposition s)) (goal_of shown) ++ placed_steps before rest rest s (joined_all facts shown) goal)) h in
+    let q = and_parts (certified_from before inner (grown s superposing.sorts_copied) (joined_all facts (superposing.gives_of_superposition superposition s)) (goal_of shown)) (certified_from before rest s (joined_all facts shown) goal)
+    (sym (list_all-append (is_certified before) (placed_steps before inner inner (grown s superposing.sorts_copied) (joined_all facts (superposing.gives_of_superposition superposition s)) (goal_of shown)) (placed_steps before rest rest s (joined_all facts shown) goal)) ∙ p.1) in
+    superposed_goes before kept s facts goal superposition names shown certs inner rest n.0 p.0
+    (goes before st inner (kept ++ next_objects s superposing.sorts_copied) (grown s superposing.sorts_copied) (joined_all facts (superposing.gives_of_superposition superposition s)) (goal_of shown) m.0 q.0) (goes before st rest kept s (joined_all facts shown) goal m.1 q.1)
 goes before st (Qed objects certs) kept s facts goal v h = qed_goes before kept s facts goal objects certs v (and_parts (is_certified before (as_step (Qed objects certs) s facts goal)) true h).0
 goes before st (Contradiction against) kept s facts goal v h = contradiction_goes before kept s facts goal against v (and_parts (is_certified before (as_step (Contradiction against) s facts goal)) true h).0
 goes before st (Cases l one other) kept s facts goal v h =

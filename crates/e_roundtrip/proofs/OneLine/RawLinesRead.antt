@@ -11,9 +11,9 @@ use Rattle.e_line.specs.Lets.{are_words_of, new_words, argument_words}
 use Rattle.e_line.specs.RawLines.{raw_line_of}
 use Rattle.e_line.proofs.base.Bound.{bind_ok, ok_is, read_ok}
 use Rattle.e_line.proofs.base.Choices.{passed}
-use Rattle.e_line.proofs.read_lines.FormsByWord.{OfEachForm, form_by_word}
+use Rattle.e_line.proofs.read_lines.RawLinesByWord.{OfEachForm, form_by_word}
 use Rattle.e_line.proofs.read_lines.SumsOfLiterals.{diagram_said}
-use Rattle.e_names.proofs.read_lines.LiteralsOfForms.{superpose_said}
+use Rattle.e_names.proofs.read_lines.LiteralsOfRawLines.{superpose_said}
 use Rattle.e_roundtrip.proofs.OneLine.LitsRead.{Signed, AllSigned, lit_signed, lits_signed}
 use Rattle.e_roundtrip.proofs.OneLine.LinePieces.{OneLine, let_line}
 

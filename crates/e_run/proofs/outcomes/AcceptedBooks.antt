@@ -9,7 +9,7 @@ use Rattle.e_text.specs.declared.line.LineFault.{LineFault}
 use Rattle.e_text.specs.Tokens.{tokens_of}
 use Rattle.e_text.specs.Lines.{is_lf, Bounds, Spot, LineView, HaveNoFault, checked, line_before_lf, ended, lines_of}
 use Rattle.e_text.proofs.FirstLine.{then_lines}
-use Rattle.e_text.proofs.WholeLines.{lines_of-closed, lines_of-open, next_spot}
+use Rattle.e_text.proofs.LinesOfTexts.{lines_of-closed, lines_of-open, next_spot}
 use Rattle.e_line.specs.declared.fault.BookFault.{BookFault}
 use Rattle.e_names.specs.declared.known.Known.{Known}
 use Rattle.e_line.specs.Reading.{◌>>=◌}

@@ -5,7 +5,7 @@ use mir.Syntax.{w64, w128}
 use Rattle.e_literal.specs.Rows.{coefficient}
 use Rattle.e_literal.proofs.Arith.{fits_wide}
 use Rattle.e_fraction.proofs.Sums.{product_size, small_coefficient}
-use Rattle.e_fraction.proofs.sum.weighed.Goals as goal
+use Rattle.e_fraction.proofs.sum.weigh.Goals as goal
 
 pub overflow_mul-result : goal.overflow_mul-result
 overflow_mul-result c =

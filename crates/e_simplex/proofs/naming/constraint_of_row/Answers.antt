@@ -5,11 +5,11 @@ use Rattle.e_literal.specs.declared.object.Term.{Term}
 use mir.Syntax.{w64}
 use Rattle.e_simplex.specs.Naming.{place_of, IsIn}
 use Rattle.std.proofs.Common.{◌≤◌}
-use Rattle.e_fraction.specs.Views.{seen}
+use Rattle.e_fraction.specs.Views.{view_of_row}
 use Rattle.e_simplex.proofs.verdicts.RowMultipliers.{take_done}
 use Rattle.e_simplex.proofs.columns.NamedConstraints.{small_like, small_constraint}
 use Rattle.e_simplex.proofs.columns.Places.{named_at, named_more}
-use Rattle.e_simplex.proofs.naming.named_constraint.Goals as goal
+use Rattle.e_simplex.proofs.naming.constraint_of_row.Goals as goal
 
 pub overflow_add-place : goal.overflow_add-place
 overflow_add-place c =
@@ -36,7 +36,7 @@ pub returns-clause-small : goal.returns-clause-small
 returns-clause-small c =
     let e = c.summands-summands.ensures.value in
     let done : length c.args.row.now.form ≤ c.loop-coefficient.coefficient-index = subst (λ v. length v ≤ c.loop-coefficient.coefficient-index) e c.loop-coefficient-test.false in
-    small_like (record { sense = c.sense.result; form = c.new.result }) (Rattle.e_simplex.specs.Naming.named_constraint c.args.terms.now (seen c.args.row.now))
+    small_like (record { sense = c.sense.result; form = c.new.result }) (Rattle.e_simplex.specs.Naming.named_constraint c.args.terms.now (view_of_row c.args.row.now))
     (c.new.ensures ∙ c.loop-coefficient.invariant ∙ ap (Rattle.e_simplex.specs.Naming.named_form c.args.terms.now) (take_done c.args.row.now.form c.loop-coefficient.coefficient-index done))
-    (small_constraint c.args.terms.now (seen c.args.row.now) c.requires.once c.requires.named c.requires.coefficients
+    (small_constraint c.args.terms.now (view_of_row c.args.row.now) c.requires.once c.requires.named c.requires.coefficients
     c.summands-summands.ensures.distinct (omega (arith, ap length e)))

@@ -25,7 +25,7 @@ use Rattle.e_line.specs.Limits.{most_facts, most_terms, count_monomials}
 use Rattle.e_line.specs.Superposes.{superpose_pieces}
 use Rattle.e_names.specs.TitledStatements.{TitledStatement, title_at}
 use Rattle.e_line.specs.Canonical.{filled, avoid_words, argument_word, made_words, lit_words, lits_words, line_of}
-use Rattle.e_names.specs.Canonical.{argument_name, name_at, name_of_object, raw_of, rule_name, placed_names, by_form, hence_form, let_form, apply_form, claim_form, superpose_form, qed_form, contradiction_form, cases_form, else_form, end_form}
+use Rattle.e_names.specs.Canonical.{argument_name, name_at, name_of_object, raw_of, rule_name, placed_names, by_raw_line, hence_raw_line, let_raw_line, apply_raw_line, claim_raw_line, superpose_raw_line, qed_raw_line, contradiction_raw_line, cases_raw_line, else_raw_line, end_raw_line}
 use Rattle.e_line.specs.HasSpelling.{AreNames}
 use Rattle.e_names.proofs.resolution.Lookups.{InOrder}
 use Rattle.e_roundtrip.proofs.Lengths.Rooms.{is_short, short_name, short_title, Room, room_none, room_more, room_word, room_append, room_line, IsShortLine}
@@ -39,15 +39,15 @@ word_lit : (word : List ℕ) (ns : Names) (l : Lit) → is_short 16 word ≡ tru
 word_lit word ns l h o g = room_word 16 2177 word (lit_words (raw_of ns l)) h (room_one ns l o g)
 
 -- an inference
-pub short_hence : (ns : Names) (l : Lit) → InOrder ns → is_well_formed l ≡ true → IsShortLine (line_of (hence_form ns l))
+pub short_hence : (ns : Names) (l : Lit) → InOrder ns → is_well_formed l ≡ true → IsShortLine (line_of (hence_raw_line ns l))
 short_hence ns l o g = room_line 2194 _ (omega arith) (word_lit (codes "hence") ns l refl o g)
 
 -- a split
-pub short_cases : (ns : Names) (l : Lit) → InOrder ns → is_well_formed l ≡ true → IsShortLine (line_of (cases_form ns l))
+pub short_cases : (ns : Names) (l : Lit) → InOrder ns → is_well_formed l ≡ true → IsShortLine (line_of (cases_raw_line ns l))
 short_cases ns l o g = room_line 2194 _ (omega arith) (word_lit (codes "cases") ns l refl o g)
 
 -- a citation
-pub short_by : (ns : Names) (b : By) → InOrder ns → is_well_formed b.lit ≡ true → length b.args ≤ 16 → IsShortLine (line_of (by_form ns b))
+pub short_by : (ns : Names) (b : By) → InOrder ns → is_well_formed b.lit ≡ true → length b.args ≤ 16 → IsShortLine (line_of (by_raw_line ns b))
 short_by ns b o g few =
     let n = 17 * length b.args in
     let args = map (name_of_object ns) b.args in
@@ -162,12 +162,12 @@ one_each s [] avoid le = absurd (omega (arith, le))
 one_each s (o ∷ os) avoid le = length-map avoid _
 
 -- it gives a literal for each object that it avoids
-pub avoided_give : (form : Construction) (s : Scope) → length form.avoid ≤ length (gives_of_construction form s)
-avoided_give form s =
-    let r = row_of_construction form in
-    let first : List Lit = map (renamed (image_in (paired r.args form.args ++ paired r.made (made_by_row r s)))) r.gives in
-    let last = gives_of_avoided (made_by_row r s) form.avoid in
-    omega (arith, length-append first last, one_each s r.made form.avoid (leb-true 1 (length r.made) (makes form.shape)))
+pub avoided_give : (construction : Construction) (s : Scope) → length construction.avoid ≤ length (gives_of_construction construction s)
+avoided_give construction s =
+    let r = row_of_construction construction in
+    let first : List Lit = map (renamed (image_in (paired r.args construction.args ++ paired r.made (made_by_row r s)))) r.gives in
+    let last = gives_of_avoided (made_by_row r s) construction.avoid in
+    omega (arith, length-append first last, one_each s r.made construction.avoid (leb-true 1 (length r.made) (makes construction.shape)))
 
 -- the avoided objects after their word
 room_avoided : (ns : List (List ℕ)) → AllWords ns → Room (6 + 17 * length ns) (avoid_words ns)
@@ -175,17 +175,17 @@ room_avoided [] h = room_more 0 6 [] (omega arith) room_none
 room_avoided (n ∷ ns) h = room_word 5 (17 * length (n ∷ ns)) (codes "avoid") (n ∷ ns) refl (room_words (n ∷ ns) h)
 
 -- a construction
-pub short_let : (ns : Names) (form : Construction) (names : List (List ℕ)) → InOrder ns → AreNames names → length form.avoid ≤ most_facts → IsShortLine (line_of (let_form ns form names))
-short_let ns form names o h few =
-    let avoid = map (name_of_object ns) form.avoid in
-    let args = map (name_of_object ns) form.args in
-    let ps = pieces form.shape in
-    let p = and_parts (list_all is_short_piece ps) (leb (length ps) 16) (short_pieces form.shape) in
+pub short_let : (ns : Names) (construction : Construction) (names : List (List ℕ)) → InOrder ns → AreNames names → length construction.avoid ≤ most_facts → IsShortLine (line_of (let_raw_line ns construction names))
+short_let ns construction names o h few =
+    let avoid = map (name_of_object ns) construction.avoid in
+    let args = map (name_of_object ns) construction.args in
+    let ps = pieces construction.shape in
+    let p = and_parts (list_all is_short_piece ps) (leb (length ps) 16) (short_pieces construction.shape) in
     let n = 17 * length ps in
     let m = 6 + 17 * length avoid in
-    room_line (3 + 1 + (n + m)) _ (omega (arith, few, leb-true (length ps) 16 p.1, length-map form.avoid (name_of_object ns)))
+    room_line (3 + 1 + (n + m)) _ (omega (arith, few, leb-true (length ps) 16 p.1, length-map construction.avoid (name_of_object ns)))
     (room_word 3 (n + m) (codes "let") _ refl (room_append n m (filled ps names args) (avoid_words avoid)
-    (room_filled ps names args p.0 (words_of_names names h) (words_of_objects ns form.args o)) (room_avoided avoid (words_of_objects ns form.avoid o))))
+    (room_filled ps names args p.0 (words_of_names names h) (words_of_objects ns construction.args o)) (room_avoided avoid (words_of_objects ns construction.avoid o))))
 
 -- ---- uses of earlier theorems
 
@@ -202,7 +202,7 @@ room_made (n ∷ ns) h = room_word 2 (17 * length (n ∷ ns)) (codes "as") (n �
 
 -- the use of an earlier theorem
 pub short_apply : (known : List TitledStatement) (ns : Names) (theorem : ℕ) (args : List (Option Obj)) (names : List (List ℕ)) → InOrder ns → is_title (title_at known theorem) ≡ true → AreNames names → length args ≤ 80 → length names ≤ 80
-    → IsShortLine (line_of (apply_form known ns theorem args names))
+    → IsShortLine (line_of (apply_raw_line known ns theorem args names))
 short_apply known ns theorem args names o t h few less =
     let words = map argument_word (map (argument_name ns) args) in
     let n = 17 * length words in
@@ -214,14 +214,14 @@ short_apply known ns theorem args names o t h few less =
 -- ---- lists of literals
 
 -- a claim
-pub short_claim : (ns : Names) (ls : List Lit) → InOrder ns → list_all is_well_formed ls ≡ true → length ls ≤ most_facts → count_monomials ls ≤ most_terms → IsShortLine (line_of (claim_form ns ls))
+pub short_claim : (ns : Names) (ls : List Lit) → InOrder ns → list_all is_well_formed ls ≡ true → length ls ≤ most_facts → count_monomials ls ≤ most_terms → IsShortLine (line_of (claim_raw_line ns ls))
 short_claim ns ls o g few less =
     let n = 67 * length ls + 66 * count_monomials ls in
     room_line (5 + 1 + n) _ (omega (arith, few, less)) (room_word 5 n (codes "claim") (lits_words (map (raw_of ns) ls)) refl (room_lits ns ls o g))
 
 -- the points and lines of a superposition
-words_of_placed : (ns : Names) (form : Superpose) → InOrder ns → AllWords (placed_names ns form)
-words_of_placed ns form o = (point _, (point _, (point _, (line _, (point _, (point _, (point _, (line _, tt))))))))
+words_of_placed : (ns : Names) (superposition : Superpose) → InOrder ns → AllWords (placed_names ns superposition)
+words_of_placed ns superposition o = (point _, (point _, (point _, (line _, (point _, (point _, (point _, (line _, tt))))))))
   where
     point : (i : ℕ) → is_short 16 (name_at ns.points i) ≡ true
     point i = short_at ns.points i o.point_names
@@ -230,19 +230,19 @@ words_of_placed ns form o = (point _, (point _, (point _, (line _, (point _, (po
     line i = short_at ns.lines i o.line_names
 
 -- a superposition
-pub short_superpose : (ns : Names) (form : Superpose) (names : List (List ℕ)) (ls : List Lit) → InOrder ns → AreNames names → list_all is_well_formed ls ≡ true → length ls ≤ most_facts → count_monomials ls ≤ most_terms
-    → IsShortLine (line_of (superpose_form ns form names ls))
-short_superpose ns form names ls o h g few less =
+pub short_superpose : (ns : Names) (superposition : Superpose) (names : List (List ℕ)) (ls : List Lit) → InOrder ns → AreNames names → list_all is_well_formed ls ≡ true → length ls ≤ most_facts → count_monomials ls ≤ most_terms
+    → IsShortLine (line_of (superpose_raw_line ns superposition names ls))
+short_superpose ns superposition names ls o h g few less =
     let n = 67 * length ls + 66 * count_monomials ls in
     let m = 17 * length superpose_pieces in
     room_line (9 + 1 + (m + n)) _ (omega (arith, few, less))
-    (room_word 9 (m + n) (codes "superpose") _ refl (room_append m n (filled superpose_pieces names (placed_names ns form)) (lits_words (map (raw_of ns) ls))
-    (room_filled superpose_pieces names (placed_names ns form) refl (words_of_names names h) (words_of_placed ns form o)) (room_lits ns ls o g)))
+    (room_word 9 (m + n) (codes "superpose") _ refl (room_append m n (filled superpose_pieces names (placed_names ns superposition)) (lits_words (map (raw_of ns) ls))
+    (room_filled superpose_pieces names (placed_names ns superposition) refl (words_of_names names h) (words_of_placed ns superposition o)) (room_lits ns ls o g)))
 
 -- ---- close lines
 
 -- the close line that shows the goal
-pub short_qed : (ns : Names) (os : List Obj) → InOrder ns → length os ≤ 80 → IsShortLine (line_of (qed_form ns os))
+pub short_qed : (ns : Names) (os : List Obj) → InOrder ns → length os ≤ 80 → IsShortLine (line_of (qed_raw_line ns os))
 short_qed ns os o few =
     let n = 17 * length os in
     room_line (3 + 1 + n) _ (omega (arith, few)) (room_word 3 n (codes "qed") (map (name_of_object ns) os) refl (room_objects ns os o))
@@ -251,11 +251,11 @@ short_qed ns os o few =
 one_word : (w : List ℕ) → is_short 16 w ≡ true → IsShortLine (joined_words (w ∷ []))
 one_word w h = room_line 17 (w ∷ []) (omega arith) (room_word 16 0 w [] h room_none)
 
-pub short_contradiction : IsShortLine (line_of contradiction_form)
+pub short_contradiction : IsShortLine (line_of contradiction_raw_line)
 short_contradiction = one_word (codes "contradiction") refl
 
-pub short_else : IsShortLine (line_of else_form)
+pub short_else : IsShortLine (line_of else_raw_line)
 short_else = one_word (codes "else") refl
 
-pub short_end : IsShortLine (line_of end_form)
+pub short_end : IsShortLine (line_of end_raw_line)
 short_end = one_word (codes "end") refl
