@@ -5,7 +5,7 @@ ghost use Rattle.e_deriv.specs.declared.block.Step.TheVariants.{Apply as ApplySt
 ghost use Rattle.e_deriv.specs.Script.{Script, script_of, step_script, close_script, erased};
 
 use crate::block::{Block, Close, Step};
-use crate::inner::{claim, split, superposition};
+use crate::inner::{claim, split, superpose};
 use e_clause::By;
 use e_construct::Construction;
 use e_literal::{Items, Lit, Obj, copy};
@@ -75,7 +75,7 @@ fn erase_step(alloc: Global, step: &Step) -> Result<Step, AllocError>
         } => {
             let inner = erase(alloc, inner)?;
             let certs = Items::empty(alloc);
-            superposition(
+            superpose(
                 alloc,
                 superposition,
                 names.items(),

@@ -30,7 +30,7 @@ pub fn claim(alloc: Global, shown: &[Lit], inner: Block) -> Result<Step, AllocEr
 
 /// A superposition with these certificates, with equal names and literals.
 #[tactic(auto, using(crate::proofs::Scripts::scripts))]
-pub fn superposition(
+pub fn superpose(
     alloc: Global,
     superposition: &Superpose,
     names: &[Name],

@@ -13,7 +13,7 @@ mod stop;
 pub use block::{Block, Close, Goal, Step, boxed};
 pub use e_clause::Against;
 pub use erasing::{copy_by, copy_construction, copy_lits, copy_names, erase};
-pub use inner::{claim, split, superposition};
+pub use inner::{claim, split, superpose};
 pub use laws::{
     certified_proves, context_is_one, licensed_has_no_stop, licensed_proves, proof_is_licensed,
     stop_is_one,

@@ -9,7 +9,7 @@ use crate::kept::CertQueue;
 use e_cert::{Certs, StepCerts};
 use e_clause::{Against, Cert};
 use e_deriv::{
-    Block, Close, Step, claim, copy_by, copy_construction, copy_names, split, superposition,
+    Block, Close, Step, claim, copy_by, copy_construction, copy_names, split, superpose,
 };
 use e_literal::{Items, copy};
 use std::alloc::{AllocError, Global};
@@ -134,7 +134,7 @@ fn fill_step(alloc: Global, step: &Step, queue: &mut CertQueue) -> Result<Step, 
         } => {
             let certs = next_certs(alloc, queue).into_items();
             match fill(alloc, inner, queue) {
-                Ok(inner) => superposition(
+                Ok(inner) => superpose(
                     alloc,
                     superposition,
                     names.items(),
