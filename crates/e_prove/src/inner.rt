@@ -9,10 +9,10 @@ use crate::block::{ProvedBlock, ProvedClose, ProvedStep};
 use crate::step_state::StepState;
 use e_clause::Cert;
 use e_construct::Superpose;
-use e_deriv::{Block, Close, Names, Step, Stop, boxed, copy_lits};
-use e_literal::{Items, Lit, copy};
+use e_deriv::{Names, Stop, claim, superpose};
+use e_literal::{Items, Lit};
 use e_text::Name;
-use std::alloc::{AllocError, Global};
+use std::alloc::Global;
 use std::mem;
 
 /// A superposition with its certificates, without its block.
@@ -21,54 +21,6 @@ pub struct Head<'a> {
     pub superposition: &'a Superpose,
     pub names: &'a [Name],
     pub certs: Vec<Cert>,
-}
-
-/// The block ends, and what it shows are facts where it was entered; hands out equal literals. It
-/// fails only out of memory; no clause says what holds then.
-fn show_after(
-    alloc: Global,
-    shown: &[Lit],
-    outer: Names,
-    state: &mut StepState,
-) -> Result<Items<Lit>, AllocError>
-    requires held { 0 < length state.old.context.held }
-    requires good { CanJoinLast shown.now state.old }
-    ensures shown { IfOk result (λ ls. ls ≡ shown.now) }
-    ensures after { OnOk result (IsLeftWith outer shown.now state.old state.new) }
-{
-    state.release_with(alloc, outer, shown)?;
-    copy_lits(alloc, shown)
-}
-
-/// The same, which hands out the block too, boxed.
-fn close_block(
-    alloc: Global,
-    shown: &[Lit],
-    block: Block,
-    outer: Names,
-    state: &mut StepState,
-) -> Result<(Items<Lit>, Box<Block>), AllocError>
-    requires held { 0 < length state.old.context.held }
-    requires good { CanJoinLast shown.now state.old }
-    ensures shown { IfOk result (λ p. p.0 ≡ shown.now) }
-    ensures block { IfOk result (λ p. p.1.value ≡ block) }
-    ensures after { OnOk result (IsLeftWith outer shown.now state.old state.new) }
-{
-    let inner = match Box::new(alloc, block) {
-        Ok(inner) => inner,
-        Err(failed) => {
-            mem::drop(failed);
-            mem::drop(outer);
-            return Err(AllocError);
-        }
-    };
-    match show_after(alloc, shown, outer, state) {
-        Ok(shown) => Ok((shown, inner)),
-        Err(error) => {
-            mem::drop(inner);
-            Err(error)
-        }
-    }
 }
 
 /// A claim whose block is proved: what it shows are facts where the block was entered.
@@ -89,9 +41,16 @@ pub fn claimed(
     ensures err { IfErr result (λ s. s ≡ NoMemory) }
 {
     let ProvedBlock { block, next } = proved;
-    let (shown, inner) = close_block(alloc, shown, block, outer, state)?;
-    let step = Step::Claim { shown, inner };
-    Ok(ProvedStep { step, next })
+    match state.release_with(alloc, outer, shown) {
+        Ok(()) => {
+            let step = claim(alloc, shown, block)?;
+            Ok(ProvedStep { step, next })
+        }
+        Err(_) => {
+            mem::drop(block);
+            Err(Stop::NoMemory)
+        }
+    }
 }
 
 /// A superposition whose block is proved: what it shows are facts where the block was entered.
@@ -119,27 +78,14 @@ pub fn superposed(
         certs,
     } = head;
     let ProvedBlock { block, next } = proved;
-    let names = match Vec::from_slice(alloc, names) {
-        Ok(names) => Items::new(names),
-        Err(_) => {
-            mem::drop(block);
-            mem::drop(certs);
-            mem::drop(outer);
-            return Err(Stop::NoMemory);
-        }
-    };
-    match close_block(alloc, shown, block, outer, state) {
-        Ok((shown, inner)) => {
-            let step = Step::Superposed {
-                superposition: *superposition,
-                names,
-                shown,
-                certs: Items::new(certs),
-                inner,
-            };
+    let certs = Items::new(certs);
+    match state.release_with(alloc, outer, shown) {
+        Ok(()) => {
+            let step = superpose(alloc, superposition, names, shown, certs, block)?;
             Ok(ProvedStep { step, next })
         }
         Err(_) => {
+            mem::drop(block);
             mem::drop(certs);
             Err(Stop::NoMemory)
         }
@@ -160,16 +106,6 @@ pub fn split(
     ensures err { IfErr result (λ s. s ≡ NoMemory) }
 {
     let next = second.next;
-    let (first, second) = boxed(alloc, first.block, second.block)?;
-    match copy(alloc, lit) {
-        Ok(lit) => {
-            let close = Close::Cases { lit, first, second };
-            Ok(ProvedClose { close, next })
-        }
-        Err(_) => {
-            mem::drop(first);
-            mem::drop(second);
-            Err(Stop::NoMemory)
-        }
-    }
+    let close = e_deriv::split(alloc, lit, first.block, second.block)?;
+    Ok(ProvedClose { close, next })
 }
