@@ -44,7 +44,13 @@ impl StepState {
     {
         let scope = grown(NOTHING, statement.declared.items());
         let names = names.first(alloc, scope)?;
-        let facts = facts_of(alloc, statement.given.items())?;
+        let facts = match facts_of(alloc, statement.given.items()) {
+            Ok(facts) => facts,
+            Err(error) => {
+                mem::drop(names);
+                return Err(error);
+            }
+        };
         match Context::new(alloc, scope, facts) {
             Ok(context) => Ok(StepState { context, names }),
             Err((facts, error)) => {
@@ -63,8 +69,8 @@ impl StepState {
         ensures held { OnOk result (self.new ≡ held_at self.old) }
     {
         self.context.solve(alloc)?;
-        let names = self.names.copy(alloc)?;
         self.context.hold()?;
+        let names = self.names.copy(alloc)?;
         Ok(names)
     }
 
