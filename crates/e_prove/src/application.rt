@@ -104,9 +104,9 @@ fn take_use(
     ensures after { OnOk result (state.new
         ≡ after_apply (stated statement.now) used.now.args application.now.names.now state.old) }
 {
-    let args = without_blanks(alloc, used.args.items())?;
     state.grow(statement.made.items(), application.names)?;
     state.join_equal(alloc, used.gives.items())?;
+    let args = without_blanks(alloc, used.args.items())?;
     Ok(args)
 }
 
