@@ -28,7 +28,7 @@ ghost use Rattle.e_deriv.specs.Goal.{goal_view};
 ghost use Rattle.e_verify.specs.inner.StepStates.{state_after_superposed};
 
 use crate::closes::goal_with;
-use crate::ending::{Head, claimed, split, superposed};
+use crate::ending::{Head, claimed, superposed};
 use crate::facts::Facts;
 use crate::places::{placed_against, placed_cert, placed_certs};
 use crate::step_state::StepState;
@@ -36,7 +36,7 @@ use crate::steps::all_written;
 use crate::verifier::begin;
 use e_clause::{Against, By, Cert};
 use e_construct::{Construction, Superpose};
-use e_deriv::{Block, Close, Goal, Step, copy_by, copy_construction};
+use e_deriv::{Block, Close, Goal, Step, copy_by, copy_construction, split};
 use e_literal::{Items, Lit, NOTHING, Obj, Scope, copy, grown, have_sorts_of, next_objects};
 use e_text::Name;
 use e_theorem::{Applied, Statement, UseFault, use_of};
