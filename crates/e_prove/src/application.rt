@@ -213,8 +213,15 @@ fn used_at(
 {
     match use_of(alloc, statement, args.items(), context.scope()) {
         Ok(Applied { needs, gives }) => {
-            let certs = licences(alloc, context, needs.items())?;
-            Ok(Use { args, certs, gives })
+            let answered = licences(alloc, context, needs.items());
+            mem::drop(needs);
+            match answered {
+                Ok(certs) => Ok(Use { args, certs, gives }),
+                Err(step_stop) => {
+                    mem::drop(gives);
+                    Err(step_stop)
+                }
+            }
         }
         Err(UseFault::BadArgs) => unreachable!(),
         Err(UseFault::NoMemory) => Err(StepStop::NoMemory),

@@ -1,5 +1,4 @@
 use Rattle.std.proofs.Common.{◌≡◌, sym, subst, true}
-use Rattle.std.proofs.lemmas.Result.{err_from_is_err_and}
 use Rattle.e_clause.specs.Certify.{certify_all}
 use Rattle.e_clause.specs.LimitedFacts.{are_well_formed_in}
 use Rattle.e_theorem.specs.Statements.{stated}
@@ -19,21 +18,20 @@ use_of-requires-clause-lines c = (room_for (stated c.args.statement.now) c.args.
 pub use_of-requires-clause-circles : goal.use_of-requires-clause-circles
 use_of-requires-clause-circles c = (room_for (stated c.args.statement.now) c.args.context.now.scope c.scope.result c.requires.statement c.requires.scope c.scope.ensures).circles
 
-pub licences-requires : goal.licences-requires
-licences-requires c =
+pub licences-answered-requires : goal.licences-answered-requires
+licences-answered-requires c =
     let x = c.args.context.now in
     let all = needs_there (stated c.args.statement.now) x.scope c.scope.result c.args.args c.items.result.now c.in-Ok.field-0.needs c.items-in-Ok.result.now c.items.ensures c.scope.ensures c.in-Ok.ensures.needs c.items-in-Ok.ensures in
     subst (λ ls. are_well_formed_in x.scope ls ≡ true) (sym all) c.requires.needs
 
-pub returns-in_err-certs-in-Ok-clause-err : goal.returns-in_err-certs-in-Ok-clause-err
-returns-in_err-certs-in-Ok-clause-err c =
+pub returns-in-Err-clause-err : goal.returns-in-Err-clause-err
+returns-in-Err-clause-err c =
     let x = c.args.context.now in
     let all = needs_there (stated c.args.statement.now) x.scope c.scope.result c.args.args c.items.result.now c.in-Ok.field-0.needs c.items-in-Ok.result.now c.items.ensures c.scope.ensures c.in-Ok.ensures.needs c.items-in-Ok.ensures in
-    let p = err_from_is_err_and c.from_residual.result c.from_residual.ensures.1 in
-    rw (p.1, p.2) (subst (λ ls. StepStopsAmong x ls c.in_err-certs-in-Ok.field-0.0) all c.in_err-certs-in-Ok.ensures.err)
+    subst (λ ls. StepStopsAmong x ls c.in-Err.step_stop) all c.in-Err.ensures.err
 
-pub returns-in_ok-certs-in-Ok-clause-certified : goal.returns-in_ok-certs-in-Ok-clause-certified
-returns-in_ok-certs-in-Ok-clause-certified c =
+pub returns-in-Ok-answered-clause-certified : goal.returns-in-Ok-answered-clause-certified
+returns-in-Ok-answered-clause-certified c =
     let x = c.args.context.now in
     let all = needs_there (stated c.args.statement.now) x.scope c.scope.result c.args.args c.items.result.now c.in-Ok.field-0.needs c.items-in-Ok.result.now c.items.ensures c.scope.ensures c.in-Ok.ensures.needs c.items-in-Ok.ensures in
-    subst (λ ls. certify_all x.scope x.facts ls c.in_ok-certs-in-Ok.certs.items ≡ true) all c.in_ok-certs-in-Ok.ensures.ok
+    subst (λ ls. certify_all x.scope x.facts ls c.in-Ok-answered.certs.items ≡ true) all c.in-Ok-answered.ensures.ok
