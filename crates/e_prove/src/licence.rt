@@ -31,10 +31,16 @@ pub fn licensed(alloc: Global, context: &mut Context, lit: &Lit) -> Result<Cert,
     let answer = context.licence(alloc, lit)?;
     match answer {
         Licensed::Yes(cert) => Ok(cert),
-        Licensed::No(values) => {
-            let wanted = Wanted::Literal(copy(alloc, lit)?);
-            Err(StepStop::Lacks { wanted, values })
-        }
+        Licensed::No(values) => match copy(alloc, lit) {
+            Ok(lit) => {
+                let wanted = Wanted::Literal(lit);
+                Err(StepStop::Lacks { wanted, values })
+            }
+            Err(_) => {
+                mem::drop(values);
+                Err(StepStop::NoMemory)
+            }
+        },
         Licensed::TooWide(width) => {
             let wanted = Wanted::Literal(copy(alloc, lit)?);
             Err(StepStop::TooWide { wanted, width })

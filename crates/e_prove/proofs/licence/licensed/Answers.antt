@@ -4,11 +4,11 @@ use Rattle.e_licence.specs.Licences.{IsLicence}
 use Rattle.e_prove.proofs.LicensedLiterals.{one_lacks, one_too_wide}
 use Rattle.e_prove.proofs.licence.licensed.Goals as goal
 
-pub returns-in_ok-copy-in-No-clause-err : goal.returns-in_ok-copy-in-No-clause-err
-returns-in_ok-copy-in-No-clause-err c =
+pub returns-in-Ok-clause-err : goal.returns-in-Ok-clause-err
+returns-in-Ok-clause-err c =
     let x = c.args.context.now in
     let l = c.args.lit.now in
-    one_lacks x l _ c.in-No.values (ap Literal c.in_ok-copy-in-No.ensures) (subst (IsLicence x l) c.in-No.is c.in_ok-answer.ensures.licence)
+    one_lacks x l _ c.in-No.values (ap Literal c.in-Ok.ensures) (subst (IsLicence x l) c.in-No.is c.in_ok-answer.ensures.licence)
 
 pub returns-in_ok-copy-in-TooWide-clause-err : goal.returns-in_ok-copy-in-TooWide-clause-err
 returns-in_ok-copy-in-TooWide-clause-err c =
