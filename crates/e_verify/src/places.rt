@@ -8,6 +8,7 @@ use crate::instances::{instance_of, negated_others};
 use e_clause::{Against, Cert, MetricCert, Part, RowName, Sum, Sums, TransferCert};
 use e_literal::{Atom, Items, Lit, Mono, agree_at, copy, is_degenerate};
 use std::alloc::{AllocError, Global};
+use std::mem;
 
 /// The name of a row by its place, and whether the row that it had is opposite.
 #[derive(Drop)]
@@ -74,10 +75,9 @@ fn placed_name(facts: &Facts, name: &RowName) -> Result<Placed, AllocError>
     match name {
         RowName::Fact(lit) => {
             let place = place_among(facts, lit)?;
-            Ok(Placed {
-                name: RowName::FactAt(place),
-                turned: is_turned(facts, place, lit)?,
-            })
+            let turned = is_turned(facts, place, lit)?;
+            let name = RowName::FactAt(place);
+            Ok(Placed { name, turned })
         }
         RowName::Goal => Ok(as_it_is(RowName::Goal)),
         RowName::Pos(term) => Ok(as_it_is(RowName::Pos(*term))),
@@ -108,13 +108,16 @@ fn placed_row(
 ) -> Result<(i128, RowName), AllocError>
     ensures { IfOk result (λ x. x ≡ Numbered.row_with_place facts.now (multiplier, name.now)) }
 {
-    let placed = placed_name(facts, name)?;
-    if !placed.turned {
-        return Ok((multiplier, placed.name));
+    let Placed { name, turned } = placed_name(facts, name)?;
+    if !turned {
+        return Ok((multiplier, name));
     }
     match multiplier.checked_neg() {
-        Some(opposite) => Ok((opposite, placed.name)),
-        None => Err(AllocError),
+        Some(opposite) => Ok((opposite, name)),
+        None => {
+            mem::drop(name);
+            Err(AllocError)
+        }
     }
 }
 
@@ -127,7 +130,13 @@ fn placed_sum(
 {
     let mut rows = Vec::new(alloc);
     for row in sum {
-        rows.push(placed_row(facts, row.0, &row.1)?)?;
+        match placed_row(facts, row.0, &row.1) {
+            Ok(placed) => rows.push(placed)?,
+            Err(error) => {
+                mem::drop(rows);
+                return Err(error);
+            }
+        }
     }
     Ok(rows)
 }
