@@ -189,16 +189,49 @@ fn two_sums(
     ensures { IfOk result
         (λ s. s ≡ Numbered.two_placed differs.turned differs.name above.items below.items) }
 {
-    let (above, below) = if differs.turned {
-        (swapped(alloc, below)?, swapped(alloc, above)?)
+    let Placed { name, turned } = differs;
+    let sides = if turned {
+        exchanged(alloc, above, below)
     } else {
-        (above, below)
+        Ok((above, below))
     };
-    Ok(Sums::Two {
-        differs: differs.name,
-        above: Sum::new(above),
-        below: Sum::new(below),
-    })
+    match sides {
+        Ok((above, below)) => Ok(Sums::Two {
+            differs: name,
+            above: Sum::new(above),
+            below: Sum::new(below),
+        }),
+        Err(error) => {
+            mem::drop(name);
+            Err(error)
+        }
+    }
+}
+
+/// The two sums, each in the place of the other, where the form that is said not to be 0 has
+/// changed its sign.
+fn exchanged(
+    alloc: Global,
+    above: Vec<(i128, RowName)>,
+    below: Vec<(i128, RowName)>,
+) -> Result<(Vec<(i128, RowName)>, Vec<(i128, RowName)>), AllocError>
+    ensures first { IfOk result (λ p. p.0.items ≡ Numbered.sides_swapped below.items) }
+    ensures second { IfOk result (λ p. p.1.items ≡ Numbered.sides_swapped above.items) }
+{
+    let first = match swapped(alloc, below) {
+        Ok(first) => first,
+        Err(error) => {
+            mem::drop(above);
+            return Err(error);
+        }
+    };
+    match swapped(alloc, above) {
+        Ok(second) => Ok((first, second)),
+        Err(error) => {
+            mem::drop(first);
+            Err(error)
+        }
+    }
 }
 
 fn placed_metric(alloc: Global, facts: &Facts, cert: &MetricCert) -> Result<MetricCert, AllocError>
