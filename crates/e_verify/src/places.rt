@@ -320,8 +320,13 @@ pub fn placed_certs(
     ensures { IfOk result (λ cs. cs ≡ Numbered.certs_with_places facts.now lits.now certs.now) }
 {
     let mut out = Vec::new(alloc);
-    put_certs(alloc, facts, lits, certs, &mut out)?;
-    Ok(Items::new(out))
+    match put_certs(alloc, facts, lits, certs, &mut out) {
+        Ok(()) => Ok(Items::new(out)),
+        Err(error) => {
+            mem::drop(out);
+            Err(error)
+        }
+    }
 }
 
 /// Puts the certificates last, each for its literal.
