@@ -149,6 +149,7 @@ fn sum_after(alloc: Global, sums: OpenSums) -> Result<OpenSums, LineError>
         OpenSums::Above(differs, sum) => {
             if sum.len() == 0 {
                 mem::drop(differs);
+                mem::drop(sum);
                 return Err(malformed());
             }
             Ok(OpenSums::Below(differs, sum, Rows::new(alloc)))
@@ -167,6 +168,7 @@ fn sums_ended(sums: OpenSums) -> Result<Sums, LineError>
     match sums {
         OpenSums::One(sum) => {
             if sum.len() == 0 {
+                mem::drop(sum);
                 return Err(malformed());
             }
             Ok(Sums::One(sum.into_sum()))
@@ -174,6 +176,8 @@ fn sums_ended(sums: OpenSums) -> Result<Sums, LineError>
         OpenSums::Below(differs, above, sum) => {
             if sum.len() == 0 {
                 mem::drop(differs);
+                mem::drop(above);
+                mem::drop(sum);
                 return Err(malformed());
             }
             Ok(Sums::Two {
