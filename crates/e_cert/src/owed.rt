@@ -556,7 +556,10 @@ fn kept_of(due: Obligation) -> Result<Option<StepCerts>, LineError>
             certs,
             transfer: None,
         } => {
-            if certs.len() < wanted.len() {
+            let is_short = certs.len() < wanted.len();
+            mem::drop(wanted);
+            if is_short {
+                mem::drop(certs);
                 return Err(malformed());
             }
             Ok(Some(StepCerts::Certs(certs)))
