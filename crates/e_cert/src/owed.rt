@@ -5,7 +5,7 @@ ghost use Rattle.e_clause.specs.declared.cert.Part.TheVariants as parts;
 ghost use Rattle.e_line.specs.Reading.{Gives, Moves};
 ghost use Rattle.e_names.specs.Scope.{FewNames};
 ghost use Rattle.e_cert.specs.Owed.{fact_in, row_in, with_row, row_put, sum_begun};
-ghost use Rattle.e_cert.specs.Owed.{differs_put, sums_ended, has_more, certificate, transfer_put};
+ghost use Rattle.e_cert.specs.Owed.{differs_put, sums_ended, certificate};
 ghost use Rattle.e_cert.specs.Owed.{part_put, metric_put, takes_metric, clash_put, transfer_rule};
 ghost use Rattle.e_cert.specs.Owed.{count_others, transfer_at, open_transfer_in, transfer_begun};
 ghost use Rattle.e_cert.specs.Owed.{with_sums_ended, after_cert_line, kept_of, finish_certs};
@@ -292,66 +292,6 @@ impl OpenTransfer {
     }
 }
 
-/// The transfer is a certificate once it has all its parts.
-fn transfer_put(
-    wanted: Items<Lit>,
-    certs: Certs,
-    transfer: OpenTransfer,
-) -> Result<Obligation, LineError>
-    ensures { Gives (λ d. d) result (transfer_put wanted certs transfer) }
-{
-    let mut certs = certs;
-    if transfer.parts.len() != transfer.owed {
-        return Ok(Obligation::Literals {
-            wanted,
-            certs,
-            transfer: Some(transfer),
-        });
-    }
-    let OpenTransfer {
-        rule,
-        args,
-        parts,
-        ..
-    } = transfer;
-    certs.push(Cert::Transfer(TransferCert { rule, args, parts }))?;
-    Ok(Obligation::Literals {
-        wanted,
-        certs,
-        transfer: None,
-    })
-}
-
-/// A transfer is begun for the next literal.
-fn transfer_begun(
-    alloc: Global,
-    names: &Names,
-    due: Obligation,
-    title: Title,
-    raws: &[Name],
-) -> Result<Obligation, LineError>
-    requires { FewNames names.now }
-    ensures { Gives (λ d. d) result (transfer_begun names.now due title raws.now) }
-{
-    match due {
-        Obligation::Literals {
-            wanted,
-            certs,
-            transfer: None,
-        } => {
-            let Some(next) = wanted.items().get(certs.len()) else {
-                return Err(malformed());
-            };
-            let transfer = transfer_in(alloc, names, next, title, raws)?;
-            transfer_put(wanted, certs, transfer)
-        }
-        other => {
-            mem::drop(other);
-            Err(malformed())
-        }
-    }
-}
-
 impl Obligation {
     /// What needs no rule certifies a part of the transfer that is begun, and else the next
     /// literal. After an error no clause says what is owed, here and in what follows.
@@ -421,9 +361,32 @@ impl Obligation {
         requires { FewNames names.now }
         ensures { Moves result self.new (transfer_begun names.now self.old title raws.now) }
     {
-        let due = mem::replace(self, Obligation::Nothing);
-        let due = transfer_begun(alloc, names, due, title, raws)?;
-        mem::drop(mem::replace(self, due));
+        let Obligation::Literals {
+            wanted,
+            certs,
+            transfer,
+        } = self
+        else {
+            return Err(malformed());
+        };
+        if transfer.is_some() {
+            return Err(malformed());
+        }
+        let Some(next) = wanted.items().get(certs.len()) else {
+            return Err(malformed());
+        };
+        let begun = transfer_in(alloc, names, next, title, raws)?;
+        if begun.parts.len() != begun.owed {
+            mem::drop(mem::replace(transfer, Some(begun)));
+            return Ok(());
+        }
+        let OpenTransfer {
+            rule,
+            args,
+            parts,
+            ..
+        } = begun;
+        certs.push(Cert::Transfer(TransferCert { rule, args, parts }))?;
         Ok(())
     }
 }
