@@ -199,7 +199,13 @@ fn pass_first(
         (after_literal lit.now state.old) (goal_view goal.now) first) }
 {
     let outer = state.hold(alloc)?;
-    state.assume(alloc, lit)?;
+    match state.assume(alloc, lit) {
+        Ok(()) => {}
+        Err(_) => {
+            mem::drop(outer);
+            return Err(Stop::NoMemory);
+        }
+    }
     match prove_block(alloc, before, block, goal, state, first) {
         Ok(proved) => mem::drop(proved),
         Err(stop) => {

@@ -7,7 +7,7 @@ use Rattle.e_theorem.specs.Statements.{all_stated}
 use Rattle.e_deriv.specs.Script.{script_of}
 use Rattle.e_deriv.specs.Goal.{goal_view}
 use Rattle.e_prove.specs.inner.StepStates.{after_literal}
-use Rattle.e_prove.proofs.PassedSteps.{stops_as_memory}
+use Rattle.e_prove.proofs.PassedSteps.{stops_for_memory, stops_as_memory}
 use Rattle.e_prove.proofs.ReadySteps.{block_facts}
 use Rattle.e_prove.proofs.HeldStates.{ready_inside, derived_outside, stops_outside, some_held, left_is}
 use Rattle.e_prove.proofs.reach.pass_first.Goals as goal
@@ -22,51 +22,51 @@ pub prove_block-requires-clause-ready : goal.prove_block-requires-clause-ready
 prove_block-requires-clause-ready c =
     let x = c.args.state.now in
     let hs = x.context.held ++ state_of x.context ∷ [] in
-    let entered = c.in_ok-assume.ensures ∙ ap (after_literal c.args.lit.now) c.in_ok-outer.ensures.held in
+    let entered = c.in-Ok.ensures ∙ ap (after_literal c.args.lit.now) c.in_ok-outer.ensures.held in
     ready_inside (all_stated c.args.before.now) (script_of c.args.block.now) (after_literal c.args.lit.now x) c.assume.new.self (goal_view c.args.goal.now) hs entered c.requires.ready
 
 pub release-requires : goal.release-requires
 release-requires c =
     let x = c.args.state.now in
-    let entered = c.in_ok-assume.ensures ∙ ap (after_literal c.args.lit.now) c.in_ok-outer.ensures.held in
-    some_held x c.prove_block.new.state (c.in-Ok.ensures.kept ∙ ap (λ w. w.context.held) entered)
+    let entered = c.in-Ok.ensures ∙ ap (after_literal c.args.lit.now) c.in_ok-outer.ensures.held in
+    some_held x c.prove_block.new.state (c.in-Ok-prove_block.ensures.kept ∙ ap (λ w. w.context.held) entered)
 
 pub assume_not-requires : goal.assume_not-requires
 assume_not-requires c =
     let x = c.args.state.now in
     let hs = x.context.held ++ state_of x.context ∷ [] in
-    let entered = c.in_ok-assume.ensures ∙ ap (after_literal c.args.lit.now) c.in_ok-outer.ensures.held in
-    let back = left_is c.in_ok-outer.outer x c.prove_block.new.state c.release.new.self c.in_ok-outer.ensures.names (c.in-Ok.ensures.kept ∙ ap (λ w. w.context.held) entered) c.release.ensures in
+    let entered = c.in-Ok.ensures ∙ ap (after_literal c.args.lit.now) c.in_ok-outer.ensures.held in
+    let back = left_is c.in_ok-outer.outer x c.prove_block.new.state c.release.new.self c.in_ok-outer.ensures.names (c.in-Ok-prove_block.ensures.kept ∙ ap (λ w. w.context.held) entered) c.release.ensures in
     subst (λ y. are_limited_facts y.context.scope (joined y.context.facts (negation c.args.lit.now)) ≡ true) (sym back)
-    (c.requires.second (script_of c.in-Ok.proved.block)
-    (derived_outside (all_stated c.args.before.now) (script_of c.args.block.now) (after_literal c.args.lit.now x) c.assume.new.self (goal_view c.args.goal.now) (script_of c.in-Ok.proved.block) hs entered c.in-Ok.ensures.derived))
+    (c.requires.second (script_of c.in-Ok-prove_block.proved.block)
+    (derived_outside (all_stated c.args.before.now) (script_of c.args.block.now) (after_literal c.args.lit.now x) c.assume.new.self (goal_view c.args.goal.now) (script_of c.in-Ok-prove_block.proved.block) hs entered c.in-Ok-prove_block.ensures.derived))
 
 pub returns-clause-passed : goal.returns-clause-passed
 returns-clause-passed c =
     let x = c.args.state.now in
     let hs = x.context.held ++ state_of x.context ∷ [] in
-    let entered = c.in_ok-assume.ensures ∙ ap (after_literal c.args.lit.now) c.in_ok-outer.ensures.held in
-    let back = left_is c.in_ok-outer.outer x c.prove_block.new.state c.release.new.self c.in_ok-outer.ensures.names (c.in-Ok.ensures.kept ∙ ap (λ w. w.context.held) entered) c.release.ensures in
+    let entered = c.in-Ok.ensures ∙ ap (after_literal c.args.lit.now) c.in_ok-outer.ensures.held in
+    let back = left_is c.in_ok-outer.outer x c.prove_block.new.state c.release.new.self c.in_ok-outer.ensures.names (c.in-Ok-prove_block.ensures.kept ∙ ap (λ w. w.context.held) entered) c.release.ensures in
     record {
-      derived = script_of c.in-Ok.proved.block;
-      is_derived = derived_outside (all_stated c.args.before.now) (script_of c.args.block.now) (after_literal c.args.lit.now x) c.assume.new.self (goal_view c.args.goal.now) (script_of c.in-Ok.proved.block) hs entered c.in-Ok.ensures.derived;
+      derived = script_of c.in-Ok-prove_block.proved.block;
+      is_derived = derived_outside (all_stated c.args.before.now) (script_of c.args.block.now) (after_literal c.args.lit.now x) c.assume.new.self (goal_view c.args.goal.now) (script_of c.in-Ok-prove_block.proved.block) hs entered c.in-Ok-prove_block.ensures.derived;
       is_after = c.in_ok-assume_not.ensures ∙ ap (after_literal (negation c.args.lit.now)) back;
     }
 
-pub returns-in-Err-clause-err : goal.returns-in-Err-clause-err
-returns-in-Err-clause-err c =
+pub returns-in-Err-prove_block-clause-err : goal.returns-in-Err-prove_block-clause-err
+returns-in-Err-prove_block-clause-err c =
     let x = c.args.state.now in
     let hs = x.context.held ++ state_of x.context ∷ [] in
-    let entered = c.in_ok-assume.ensures ∙ ap (after_literal c.args.lit.now) c.in_ok-outer.ensures.held in
-    stops_outside (all_stated c.args.before.now) (script_of c.args.block.now) (after_literal c.args.lit.now x) c.assume.new.self (goal_view c.args.goal.now) c.args.first c.in-Err.stop hs entered c.in-Err.ensures.err
+    let entered = c.in-Ok.ensures ∙ ap (after_literal c.args.lit.now) c.in_ok-outer.ensures.held in
+    stops_outside (all_stated c.args.before.now) (script_of c.args.block.now) (after_literal c.args.lit.now x) c.assume.new.self (goal_view c.args.goal.now) c.args.first c.in-Err-prove_block.stop hs entered c.in-Err-prove_block.ensures.err
 
 pub returns-in_err-outer-clause-err : goal.returns-in_err-outer-clause-err
 returns-in_err-outer-clause-err c =
     stops_as_memory (all_stated c.args.before.now) (script_of c.args.block.now) (after_literal c.args.lit.now c.args.state.now) (goal_view c.args.goal.now) c.args.first c.from_residual.result (search rules)
 
-pub returns-in_err-assume-clause-err : goal.returns-in_err-assume-clause-err
-returns-in_err-assume-clause-err c =
-    stops_as_memory (all_stated c.args.before.now) (script_of c.args.block.now) (after_literal c.args.lit.now c.args.state.now) (goal_view c.args.goal.now) c.args.first c.from_residual-in_err-assume.result (search rules)
+pub returns-in-Err-clause-err : goal.returns-in-Err-clause-err
+returns-in-Err-clause-err c =
+    stops_for_memory (all_stated c.args.before.now) (script_of c.args.block.now) (after_literal c.args.lit.now c.args.state.now) (goal_view c.args.goal.now) c.args.first
 
 pub returns-in_err-assume_not-clause-err : goal.returns-in_err-assume_not-clause-err
 returns-in_err-assume_not-clause-err c =
