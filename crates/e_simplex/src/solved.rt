@@ -10,6 +10,7 @@ use crate::solve::End;
 use crate::table::Table;
 use e_literal::Items;
 use std::alloc::{AllocError, Global};
+use std::mem;
 
 /// What comes of constraints: every one is satisfied, or multipliers refute them, or a minor is
 /// large.
@@ -185,16 +186,31 @@ impl Table {
         requires begun { IsBegunTable (columns_of self) (constraints_of self) self }
         ensures { IfOk result (IsTableOutcome (columns_of self) (constraints_of self)) }
     {
-        let fits = self.add_rows(alloc)?;
+        let fits = match self.add_rows(alloc) {
+            Ok(fits) => fits,
+            Err(error) => {
+                mem::drop(self);
+                return Err(error);
+            }
+        };
         if !fits {
+            mem::drop(self);
             return Ok(Outcome::TooWide);
         }
-        match self.solve_and_free(alloc)? {
-            End::TooWide => Ok(Outcome::TooWide),
-            End::Feasible => Ok(Outcome::Holds(self)),
-            End::Infeasible(row) => {
-                let found = self.weights(alloc, row)?;
-                Ok(Outcome::Absurd(found))
+        match self.solve_and_free(alloc) {
+            Ok(End::Feasible) => Ok(Outcome::Holds(self)),
+            Ok(End::Infeasible(row)) => {
+                let found = self.weights(alloc, row);
+                mem::drop(self);
+                Ok(Outcome::Absurd(found?))
+            }
+            Ok(End::TooWide) => {
+                mem::drop(self);
+                Ok(Outcome::TooWide)
+            }
+            Err(error) => {
+                mem::drop(self);
+                Err(error)
             }
         }
     }
