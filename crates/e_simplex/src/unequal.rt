@@ -15,6 +15,7 @@ use crate::solved::Outcome;
 use crate::table::Table;
 use e_literal::Items;
 use std::alloc::{AllocError, Global};
+use std::mem;
 
 /// Values at which the form is not 0, or multipliers that refute that it is more, and that it is
 /// less.
@@ -64,16 +65,20 @@ pub fn try_both(alloc: Global, solved: &Table, constraint: &Constraint) -> Resul
 {
     match solved.with(alloc, constraint)? {
         Outcome::Holds(more) => {
-            let found = more.values(alloc)?;
-            Ok(Tried::Found(found))
+            let found = more.values(alloc);
+            mem::drop(more);
+            Ok(Tried::Found(found?))
         }
         Outcome::TooWide => Ok(Tried::TooWide),
         Outcome::Absurd(above) => {
             let negated = negative(alloc, constraint)?;
-            match solved.with(alloc, &negated)? {
+            let outcome = solved.with(alloc, &negated);
+            mem::drop(negated);
+            match outcome? {
                 Outcome::Holds(more) => {
-                    let found = more.values(alloc)?;
-                    Ok(Tried::Found(found))
+                    let found = more.values(alloc);
+                    mem::drop(more);
+                    Ok(Tried::Found(found?))
                 }
                 Outcome::TooWide => Ok(Tried::TooWide),
                 Outcome::Absurd(below) => Ok(Tried::BothRefuted(above, below)),
