@@ -107,15 +107,25 @@ fn with_values(
         (named_constraints false terms.items (views_of_rows rows.items)) solved }
     ensures { IfOk result (IsPreparedRows rows.items) }
 {
-    match verdict_of_solved(alloc, &rows, &terms, &solved)? {
-        Verdict::TooWide => Ok(Prepared::TooWide),
-        Verdict::Absurd(absurdity) => Ok(Prepared::Absurd(absurdity)),
-        Verdict::Holds(values) => Ok(Prepared::SolvedRows(SolvedRows {
+    match verdict_of_solved(alloc, &rows, &terms, &solved) {
+        Ok(Verdict::Holds(values)) => Ok(Prepared::SolvedRows(SolvedRows {
             rows,
             terms,
             solved,
             values,
         })),
+        Ok(Verdict::Absurd(absurdity)) => {
+            mem::drop(solved);
+            Ok(Prepared::Absurd(absurdity))
+        }
+        Ok(Verdict::TooWide) => {
+            mem::drop(solved);
+            Ok(Prepared::TooWide)
+        }
+        Err(error) => {
+            mem::drop(solved);
+            Err(error)
+        }
     }
 }
 

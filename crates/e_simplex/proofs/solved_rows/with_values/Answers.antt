@@ -20,8 +20,8 @@ verdict_of_solved-requires-clause-solved c =
 
 pub invariant_of-result : goal.invariant_of-result
 invariant_of-result c =
-    let h = rw c.in-Holds.is at c.in_ok-verdict_of_solved.ensures in
+    let h = rw c.in-Ok-Holds.field-0-is at c.in-Ok-Holds.ensures in
     record {
       table = record { once = c.requires.once; named = c.requires.named; solved = c.requires.solved };
-      satisfied = subst (λ v. AreValuesOf (views_of_rows v) c.in-Holds.values) c.deref.ensures.value h;
+      satisfied = subst (λ v. AreValuesOf (views_of_rows v) c.in-Ok-Holds.values) c.deref.ensures.value h;
     }
