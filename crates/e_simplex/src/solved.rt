@@ -1,6 +1,6 @@
 //! Tables in which every row is satisfied, and what comes of more constraints.
 
-ghost use Rattle.std.specs.Prelude.{◌≡◌, ◌+◌, ◌^◌, ◌<◌, ◌++◌, ◌∷◌, [], length, IfOk};
+ghost use Rattle.std.specs.Prelude.{◌≡◌, ◌+◌, ◌^◌, ◌<◌, ◌++◌, ◌∷◌, [], length, IfOk, OnOk};
 ghost use Rattle.e_simplex.specs.Constraints.{numbers_from, FixedTo};
 ghost use Rattle.e_simplex.specs.Solved.{IsBegunTable, IsSolved, IsSolvedAs, IsTableOutcome, IsFit};
 ghost use Rattle.e_simplex.specs.Solved.{constraints_of, columns_of};
@@ -65,6 +65,20 @@ fn copy_of_constraint(alloc: Global, constraint: &Constraint) -> Result<Constrai
     })
 }
 
+/// Adds equal constraints.
+fn add_copies(
+    alloc: Global,
+    all: &mut Vec<Constraint>,
+    constraints: &[Constraint],
+) -> Result<(), AllocError>
+    ensures { OnOk result (all.new.items ≡ all.old.items ++ constraints.now) }
+{
+    for constraint in constraints {
+        all.push(copy_of_constraint(alloc, constraint)?)?;
+    }
+    Ok(())
+}
+
 /// The constraints, and more.
 fn constraints_with(
     alloc: Global,
@@ -74,12 +88,8 @@ fn constraints_with(
     ensures { IfOk result (λ v. v.items ≡ constraints.now ++ more.now) }
 {
     let mut all = Vec::with_capacity(alloc, constraints.len().saturating_add(more.len()))?;
-    for old in constraints {
-        all.push(copy_of_constraint(alloc, old)?)?;
-    }
-    for further in more {
-        all.push(copy_of_constraint(alloc, further)?)?;
-    }
+    add_copies(alloc, &mut all, constraints)?;
+    add_copies(alloc, &mut all, more)?;
     Ok(all)
 }
 
@@ -91,9 +101,7 @@ fn copies_of_constraints(
     ensures { IfOk result (λ v. v.items ≡ constraints.now) }
 {
     let mut all = Vec::with_capacity(alloc, constraints.len())?;
-    for constraint in constraints {
-        all.push(copy_of_constraint(alloc, constraint)?)?;
-    }
+    add_copies(alloc, &mut all, constraints)?;
     Ok(all)
 }
 

@@ -1,6 +1,7 @@
 //! Rows that are solved once, and asked about with further rows.
 
-ghost use Rattle.std.specs.Prelude.{◌≡◌, ℕ, ◌++◌, ◌+◌, ◌<◌, ◌≤◌, ◌^◌, length, IfOk, IsTrue, false};
+ghost use Rattle.std.specs.Prelude.{◌≡◌, ℕ, ◌++◌, ◌+◌, ◌<◌, ◌≤◌, ◌^◌, length, IfOk, OnOk};
+ghost use Rattle.std.specs.Prelude.{IsTrue, false};
 ghost use Rattle.e_literal.specs.Minor.{IsWide};
 ghost use Rattle.e_literal.specs.Solution.{HasSolution};
 ghost use Rattle.e_fraction.specs.Limits.{most_rows_of_system, all_small};
@@ -65,14 +66,22 @@ fn copy_of_row(alloc: Global, row: &Row) -> Result<Row, AllocError>
     })
 }
 
+/// Adds equal rows.
+fn add_copies(alloc: Global, all: &mut Vec<Row>, rows: &[Row]) -> Result<(), AllocError>
+    ensures { OnOk result (all.new.items ≡ all.old.items ++ rows.now) }
+{
+    for row in rows {
+        all.push(copy_of_row(alloc, row)?)?;
+    }
+    Ok(())
+}
+
 /// Equal rows.
 fn copies_of_rows(alloc: Global, rows: &[Row]) -> Result<Vec<Row>, AllocError>
     ensures { IfOk result (λ v. v.items ≡ rows.now) }
 {
     let mut all = Vec::with_capacity(alloc, rows.len())?;
-    for row in rows {
-        all.push(copy_of_row(alloc, row)?)?;
-    }
+    add_copies(alloc, &mut all, rows)?;
     Ok(all)
 }
 
@@ -81,12 +90,8 @@ fn rows_with(alloc: Global, rows: &[Row], more: &[Row]) -> Result<Vec<Row>, Allo
     ensures { IfOk result (λ v. v.items ≡ rows.now ++ more.now) }
 {
     let mut all = Vec::with_capacity(alloc, rows.len().saturating_add(more.len()))?;
-    for old in rows {
-        all.push(copy_of_row(alloc, old)?)?;
-    }
-    for further in more {
-        all.push(copy_of_row(alloc, further)?)?;
-    }
+    add_copies(alloc, &mut all, rows)?;
+    add_copies(alloc, &mut all, more)?;
     Ok(all)
 }
 
