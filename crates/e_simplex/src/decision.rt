@@ -19,6 +19,7 @@ use crate::table::Table;
 use e_fraction::Row;
 use e_literal::{Term, Values};
 use std::alloc::{AllocError, Global};
+use std::mem;
 
 /// Multipliers of the rows that show that no values satisfy them: one list, or, for the row at
 /// `row`, which says `not 0`, one list that counts it as more than 0 and one that counts it as
@@ -161,5 +162,7 @@ pub fn decide(alloc: Global, rows: &[Row]) -> Result<Verdict, AllocError>
     let terms = terms_of(alloc, rows)?;
     let constraints = plain_constraints(alloc, &terms, rows)?;
     let outcome = solve_constraints(alloc, constraints, terms.len() + 1)?;
-    verdict_of(alloc, rows, &terms, &outcome)
+    let verdict = verdict_of(alloc, rows, &terms, &outcome);
+    mem::drop(outcome);
+    verdict
 }

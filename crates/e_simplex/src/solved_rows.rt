@@ -192,7 +192,9 @@ fn decided_with(
             return Err(error);
         }
     };
-    verdict_of(alloc, &all, &terms, &outcome)
+    let verdict = verdict_of(alloc, &all, &terms, &outcome);
+    mem::drop(outcome);
+    verdict
 }
 
 /// Solves rows whose table is solved and further rows, from the solved table. Where those have more

@@ -19,8 +19,8 @@ solve_constraints-requires c =
     (fit_constraints ts (views_of_rows c.args.rows.now) (length ts + 1) (omega arith) (omega (arith, n)) (omega (arith, length_seen c.args.rows.now, c.requires.few)) c.in_ok-terms.ensures.all
     (subst AllSmallConstraints l c.in_ok-constraints.ensures.small)))
 
-pub verdict_of-requires-clause-outcome : goal.verdict_of-requires-clause-outcome
-verdict_of-requires-clause-outcome c =
+pub verdict_of-verdict-requires-clause-outcome : goal.verdict_of-verdict-requires-clause-outcome
+verdict_of-verdict-requires-clause-outcome c =
     let ts = c.in_ok-terms.terms.items in
     let n : length c.in_ok-terms.terms.items < 2 ^ 63 = search rules in
     let l : c.in_ok-constraints.constraints.items ≡ named_constraints false c.deref-2.result.now (views_of_rows c.args.rows.now)
@@ -33,7 +33,7 @@ verdict_of-requires-clause-outcome c =
     )
 
 pub returns-clause-holds : goal.returns-clause-holds
-returns-clause-holds c = each_law_holds (views_of_rows c.args.rows.now) c.verdict_of.result c.verdict_of.ensures
+returns-clause-holds c = each_law_holds (views_of_rows c.args.rows.now) c.verdict_of-verdict.result c.verdict_of-verdict.ensures
 
 pub returns-clause-absurd : goal.returns-clause-absurd
-returns-clause-absurd c = each_law_absurd (views_of_rows c.args.rows.now) c.verdict_of.result c.verdict_of.ensures
+returns-clause-absurd c = each_law_absurd (views_of_rows c.args.rows.now) c.verdict_of-verdict.result c.verdict_of-verdict.ensures

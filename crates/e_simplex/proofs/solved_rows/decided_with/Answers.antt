@@ -21,15 +21,15 @@ with_all-requires-clause-fit c =
     c.deref-3.result.now (e ∙ c.in-Ok.ensures.value ∙ ap (λ v. named_constraints false v (views_of_rows c.args.more.now)) c.deref-2.ensures.value)
     room (omega (arith, n)) c.requires.few (subst AllSmallConstraints (sym e) c.in-Ok.ensures.small)
 
-pub verdict_of-requires-clause-named : goal.verdict_of-requires-clause-named
-verdict_of-requires-clause-named c =
+pub verdict_of-verdict-requires-clause-named : goal.verdict_of-verdict-requires-clause-named
+verdict_of-verdict-requires-clause-named c =
     let ts = c.in_ok-terms.terms.items in
     subst (λ v. AllNamed v (views_of_rows c.deref-4.result.now)) (sym c.deref-5.ensures.value)
     (subst (λ v. AllNamed ts (views_of_rows v)) (sym (c.deref-4.ensures.value ∙ c.in_ok-all.ensures))
     (named_both c.args.rows.now c.args.more.now c.args.terms.now ts c.args.solved.now c.requires.table c.in_ok-terms.ensures.continues c.in_ok-terms.ensures.all))
 
-pub verdict_of-requires-clause-outcome : goal.verdict_of-requires-clause-outcome
-verdict_of-requires-clause-outcome c =
+pub verdict_of-verdict-requires-clause-outcome : goal.verdict_of-verdict-requires-clause-outcome
+verdict_of-verdict-requires-clause-outcome c =
     let ts = c.in_ok-terms.terms.items in
     let s = c.args.solved.now in
     let room : length ts < columns_of s = omega (arith, c.if-width-len.false, c.width.ensures, c.len.ensures ∙ c.in_ok-terms.terms.ok.0) in
