@@ -166,8 +166,9 @@ pub fn joined_answer(
                         angles,
                         areas,
                     };
-                    let values = counterexample(alloc, facts, wanted, &solutions)?;
-                    Ok(Metric::No(values))
+                    let values = counterexample(alloc, facts, wanted, &solutions);
+                    mem::drop(solutions);
+                    Ok(Metric::No(values?))
                 }
                 other => Ok(other),
             },
