@@ -22,6 +22,7 @@ use crate::unify::{Binding, unify};
 use crate::walk::{Verdict, search};
 use e_clause::{Row, Rule, TRANSFER_RULES, TransferCert};
 use std::alloc::{AllocError, Global};
+use std::mem;
 
 /// The instances that have the goal at a place of the clause, and whose variables are bound so.
 fn search_with_bindings(
@@ -49,7 +50,9 @@ fn search_with_bindings(
         areas: place_of_areas(row),
     };
     let mut chosen = Vec::new(alloc);
-    match search(alloc, &task, &plan.spans, &mut chosen)? {
+    let found = search(alloc, &task, &plan.spans, &mut chosen);
+    mem::drop(plan);
+    match found? {
         Verdict::Yes(Some(cert)) => Ok(Verdict::Yes(cert)),
         Verdict::Yes(None) => unreachable!(),
         Verdict::No => Ok(Verdict::No),
