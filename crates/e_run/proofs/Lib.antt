@@ -1,5 +1,1 @@
-pub mod progress
-pub mod written_texts
-pub mod outcomes
-pub mod title_counts
-pub mod answers
+pub mod SpelledProofs

@@ -7,8 +7,9 @@ use Rattle.e_book.specs.Grammar.{Rest}
 use Rattle.e_literal.specs.declared.object.Term.{Term}
 use Rattle.e_deriv.specs.declared.stop.Wanted.{Wanted}
 use Rattle.e_deriv.specs.declared.names.Names.{Names}
-use Rattle.e_run.specs.Outcome.{BookOutcome, Unlicensed, Begins, IsOutcome, IsOutcomeOf, HasWide}
-use Rattle.e_run.specs.Answers.{Refuses, Widens}
+use Rattle.e_commands.specs.Outcome.{BookOutcome, Unlicensed, Begins, IsOutcome, IsOutcomeOf}
+use Rattle.e_commands.specs.Outcome.{HasWide}
+use Rattle.e_commands.specs.Answers.{Refuses, Widens}
 
 -- where the next theorem is refused, the book's outcome is that stop
 abbrev pub RefusalIsOutcome : Type 0

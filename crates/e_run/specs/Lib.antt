@@ -1,17 +1,4 @@
 pub mod Words
-pub mod Input
-pub mod Outcome
-pub mod LastLines
-pub mod Wrote
-pub mod Answers
 pub mod Proofs
-pub mod Taken
-pub mod VerifierAnswers
-pub mod Rewrites
-pub mod DrawerAnswers
-pub mod MadeBooks
-pub mod Trials
-pub mod SuggesterAnswers
 pub mod Runs
 pub mod Laws
-pub mod inner

@@ -4,8 +4,8 @@
 use Rattle.std.specs.Prelude.{◌≡◌, ℕ, List, Option, Some}
 use Rattle.e_io.specs.Bytes.{Grew}
 use Rattle.e_roundtrip.specs.Written.{SpellsProofs}
-use Rattle.e_run.specs.declared.status.Status.{Status}
-use Rattle.e_run.specs.declared.status.Status.TheVariants as status
+use Rattle.e_commands.specs.declared.status.Status.{Status}
+use Rattle.e_commands.specs.declared.status.Status.TheVariants as status
 
 -- where a book is accepted, what was written spells proofs
 abbrev pub WroteProofs : Option (List ℕ) → Option (List ℕ) → Status → Type 0

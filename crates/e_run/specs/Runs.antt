@@ -1,21 +1,21 @@
 -- What holds of a run, command by command, by the bytes left in the source, those written to the
 -- sink, and the answer. One more command is one more case of each.
 use Rattle.std.specs.Prelude.{ℕ, List, Option}
-use Rattle.e_run.specs.declared.status.Status.{Status}
+use Rattle.e_commands.specs.declared.status.Status.{Status}
 use Rattle.e_run.specs.declared.command.Command.{Command}
 use Rattle.e_run.specs.declared.command.Command.TheVariants.{Check, Verify, Figure, Rewrite, Make}
 use Rattle.e_run.specs.declared.command.Command.TheVariants.{Suggest, Trial, Unknown}
-use Rattle.e_run.specs.Answers.{Answers, AnswersUsage, ChecksBook, IsAccepted, IsDrawn, IsReadFault}
-use Rattle.e_run.specs.Answers.{IsVerified}
-use Rattle.e_run.specs.DrawerAnswers.{AnswersFigure, DrawsText}
-use Rattle.e_run.specs.Input.{IsAtEnd}
-use Rattle.e_run.specs.MadeBooks.{Makes}
+use Rattle.e_commands.specs.Answers.{Answers, AnswersUsage, ChecksBook, IsAccepted, IsDrawn}
+use Rattle.e_commands.specs.Answers.{IsReadFault, IsVerified}
+use Rattle.e_commands.specs.DrawerAnswers.{AnswersFigure, DrawsText}
+use Rattle.e_commands.specs.Input.{IsAtEnd}
+use Rattle.e_commands.specs.MadeBooks.{Makes}
 use Rattle.e_run.specs.Proofs.{ReadProofs, RewroteProofs, WroteProofs}
-use Rattle.e_run.specs.Rewrites.{AnswersRewrite, IsRewritten, RewritesText}
-use Rattle.e_run.specs.SuggesterAnswers.{AnswersSuggest, SuggestsBook}
-use Rattle.e_run.specs.Taken.{HandledAll, TookFew}
-use Rattle.e_run.specs.Trials.{AnswersTrial, HasCount, Tries}
-use Rattle.e_run.specs.VerifierAnswers.{AnswersText, VerifiesText}
+use Rattle.e_commands.specs.Rewrites.{AnswersRewrite, IsRewritten, RewritesText}
+use Rattle.e_commands.specs.SuggesterAnswers.{AnswersSuggest, SuggestsBook}
+use Rattle.e_commands.specs.Taken.{HandledAll, TookFew}
+use Rattle.e_commands.specs.Trials.{AnswersTrial, HasCount, Tries}
+use Rattle.e_commands.specs.VerifierAnswers.{AnswersText, VerifiesText}
 
 -- what was written of an accepted book, and of a text that is upgraded or trimmed, and a text that
 -- is verified, spell proofs

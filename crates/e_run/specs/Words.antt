@@ -7,7 +7,7 @@ use Rattle.e_text.specs.Numerals.{number_of}
 use Rattle.e_run.specs.declared.command.Command.{Command}
 use Rattle.e_run.specs.declared.command.Command.TheVariants.{Check, Verify, Figure, Rewrite, Make}
 use Rattle.e_run.specs.declared.command.Command.TheVariants.{Suggest, Trial, Unknown}
-use Rattle.e_run.specs.declared.command.Job.TheVariants.{Upgrade, Trim, Uses}
+use Rattle.e_commands.specs.declared.rewriting.Job.TheVariants.{Upgrade, Trim, Uses}
 
 -- how many theorems: a numeral from 1 to 500
 abbrev pub theorem_count_of : List ℕ → Option ℕ

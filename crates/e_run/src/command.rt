@@ -4,6 +4,7 @@ ghost use Rattle.e_line.specs.Limits.{most_theorems};
 ghost use Rattle.e_run.specs.Words.{theorem_count_of, step_of, plain_command, counted_command};
 ghost use Rattle.e_run.specs.Words.{placed_command, command_of, OfCount, OfStep};
 
+use e_commands::Job;
 use e_text::{Title, number};
 
 /// The most theorems of a generated book.
@@ -11,17 +12,6 @@ const MOST_THEOREMS: u128 = 500;
 
 /// The most steps of a theorem.
 const MOST_STEPS: u128 = 1024;
-
-/// What is written of a derivation text that is verified, theorem by theorem.
-#[derive(Clone, Copy)]
-pub enum Job {
-    /// The block of the theorem with its derivation in the second version.
-    Upgrade,
-    /// The block of the theorem with its derivation without the steps that nothing needs.
-    Trim,
-    /// The line of the theorem, with the titles of those that it applies.
-    Uses,
-}
 
 /// What a run is asked for.
 #[derive(Clone, Copy)]

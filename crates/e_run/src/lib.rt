@@ -2,26 +2,10 @@
 //! writes.
 #![tactic(auto)]
 
-mod blocks;
-mod book;
-mod checker;
 mod command;
-mod drawer;
-mod input;
 mod laws;
-mod maker;
-mod output;
-mod pieces;
-mod rewriter;
-mod rewriting;
 mod runner;
-mod status;
-mod store;
-mod suggester;
-mod suggestions;
-mod trial;
-mod verifier;
 
+pub use e_commands::{Status, exit_code};
 pub use laws::{books_have_one_outcome, refusal_is_outcome, too_wide_is_wide};
 pub use runner::run;
-pub use status::{Status, exit_code};

@@ -1,19 +1,12 @@
 //! The top call.
 ghost use Rattle.std.specs.Prelude.{◌≡◌, ◌≤◌, IsFalse, map, string_bytes};
 ghost use Rattle.e_io.specs.Bytes.{Rose};
-ghost use Rattle.e_run.specs.Answers.{IsReadFault, IsWriteFault};
+ghost use Rattle.e_commands.specs.Answers.{IsReadFault, IsWriteFault};
 ghost use Rattle.e_run.specs.Runs.{HasProofs, IsDue, Runs, TakesOf};
 ghost use Rattle.e_run.specs.Words.{command_of, reads};
 
-use crate::checker::{check, close};
 use crate::command::{Command, command_of};
-use crate::drawer::figure;
-use crate::maker::make;
-use crate::rewriter::rewrite;
-use crate::status::Status;
-use crate::suggester::suggest;
-use crate::trial::trial;
-use crate::verifier::verify;
+use e_commands::{Status, check, close, figure, make, rewrite, suggest, trial, verify};
 use e_io::{Sink, Source};
 use std::alloc::Global;
 

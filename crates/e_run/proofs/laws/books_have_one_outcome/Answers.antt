@@ -1,5 +1,5 @@
-use Rattle.e_run.specs.Outcome.{lines_of_book}
-use Rattle.e_run.proofs.outcomes.OneOutcome.{outcome_is_one}
+use Rattle.e_commands.specs.Outcome.{lines_of_book}
+use Rattle.e_commands.proofs.outcomes.OneOutcome.{outcome_is_one}
 use Rattle.e_run.proofs.laws.books_have_one_outcome.Goals as goal
 
 pub returns : goal.returns

@@ -1,4 +1,4 @@
-use Rattle.e_run.proofs.outcomes.Completeness.{stops_so}
+use Rattle.e_commands.proofs.outcomes.Completeness.{stops_so}
 use Rattle.e_run.proofs.laws.refusal_is_outcome.Goals as goal
 
 pub returns : goal.returns

@@ -1,4 +1,4 @@
-use Rattle.e_run.proofs.outcomes.Completeness.{widens_so}
+use Rattle.e_commands.proofs.outcomes.Completeness.{widens_so}
 use Rattle.e_run.proofs.laws.too_wide_is_wide.Goals as goal
 
 pub returns : goal.returns

@@ -2,12 +2,13 @@ use Rattle.std.proofs.Common.{◌∙◌, ◌≤◌, sym, subst}
 use Rattle.e_run.specs.declared.command.Command.{Command}
 use Rattle.e_run.specs.Runs.{HasProofs, Runs, IsDue, TakesOf}
 use Rattle.e_run.specs.Words.{OfCount, OfStep}
-use Rattle.e_run.proofs.outcomes.Completeness.{answers, answers_usage}
-use Rattle.e_run.proofs.answers.Trials.{answers_trial, tried_count}
-use Rattle.e_run.proofs.answers.VerifierAnswers.{wrote_proofs, read_proofs, answers_text}
-use Rattle.e_run.proofs.answers.DrawerAnswers.{answers_figure}
-use Rattle.e_run.proofs.answers.SuggesterAnswers.{answers_suggest}
-use Rattle.e_run.proofs.written_texts.RewrittenTexts.{answers_rewrite, rewritten_proofs}
+use Rattle.e_commands.proofs.outcomes.Completeness.{answers, answers_usage}
+use Rattle.e_commands.proofs.answers.Trials.{answers_trial, tried_count}
+use Rattle.e_commands.proofs.answers.VerifierAnswers.{answers_text}
+use Rattle.e_commands.proofs.answers.DrawerAnswers.{answers_figure}
+use Rattle.e_commands.proofs.answers.SuggesterAnswers.{answers_suggest}
+use Rattle.e_commands.proofs.written_texts.RewrittenTexts.{answers_rewrite}
+use Rattle.e_run.proofs.SpelledProofs.{wrote_proofs, read_proofs, rewritten_proofs}
 use Rattle.e_run.proofs.runner.run.Goals as goal
 
 pub returns-in-Check-clause-proofs : goal.returns-in-Check-clause-proofs

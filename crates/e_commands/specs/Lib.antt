@@ -1,0 +1,13 @@
+pub mod Input
+pub mod Outcome
+pub mod LastLines
+pub mod Wrote
+pub mod Answers
+pub mod Taken
+pub mod VerifierAnswers
+pub mod Rewrites
+pub mod DrawerAnswers
+pub mod MadeBooks
+pub mod Trials
+pub mod SuggesterAnswers
+pub mod inner

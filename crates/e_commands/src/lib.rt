@@ -1,0 +1,30 @@
+//! The commands of `elements`: what each of them takes of its source, what it writes, and what it
+//! answers.
+#![tactic(auto)]
+
+mod blocks;
+mod book;
+mod checker;
+mod drawer;
+mod input;
+mod maker;
+mod output;
+mod pieces;
+mod rewriter;
+mod rewriting;
+mod status;
+mod store;
+mod suggester;
+mod suggestions;
+mod trial;
+mod verifier;
+
+pub use checker::{check, close};
+pub use drawer::figure;
+pub use maker::make;
+pub use rewriter::rewrite;
+pub use rewriting::Job;
+pub use status::{Status, exit_code};
+pub use suggester::suggest;
+pub use trial::trial;
+pub use verifier::verify;

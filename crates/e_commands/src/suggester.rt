@@ -1,0 +1,306 @@
+//! `suggest`: which earlier theorems may be applied at a step of a theorem.
+ghost use Rattle.std.specs.Prelude.{◌≡◌, ◌≤◌, ◌<◌, ◌^◌, ◌++◌, [], length, false, IfOk, IsTrue};
+ghost use Rattle.std.specs.List.{list_all};
+ghost use Rattle.std.specs.Str.{bytes_eq};
+ghost use Rattle.e_io.specs.Bytes.{Rose};
+ghost use Rattle.e_theorem.specs.Statements.{stated};
+ghost use Rattle.e_deriv.specs.Script.{script_of};
+ghost use Rattle.e_deriv.specs.Fitting.{IsFitting, is_small_statement};
+ghost use Rattle.e_book.specs.Definitions.{OfTheorem, view_of, IsWellFormedItem};
+ghost use Rattle.e_book.specs.Definitions.{HasWellFormedView, IsFittingItem};
+ghost use Rattle.e_book.specs.TheoremViews.{entry_of};
+ghost use Rattle.e_names.specs.TitledStatements.{stated_by};
+ghost use Rattle.e_names.specs.Taken.{nothing_known};
+ghost use Rattle.e_commands.specs.Answers.{IsReadFault, IsWriteFault};
+ghost use Rattle.e_commands.specs.declared.status.Status.TheVariants.{Fault, NoStep, Suggested};
+ghost use Rattle.e_commands.specs.LastLines.{fault_line, no_step_line, suggested_line};
+ghost use Rattle.e_commands.specs.DrawerAnswers.{lacks_memory};
+ghost use Rattle.e_commands.specs.Outcome.{lines_of_book};
+ghost use Rattle.e_commands.specs.SuggesterAnswers.{SuggestsBook};
+ghost use Rattle.e_commands.specs.inner.Suggesting.{AnswersAt, AnswersNext, PassesNext};
+ghost use Rattle.e_commands.specs.inner.Suggesting.{IsBookAnswer, IsStopAnswer, is_out_of_memory};
+
+use crate::blocks::keep;
+use crate::checker::{close, stop_answer};
+use crate::drawer::lacks_memory;
+use crate::input::{InputFault, LONGEST_LINE, MOST_BYTES, read_text};
+use crate::output::{fault, suggested};
+use crate::status::Status;
+use crate::suggestions::{Listed, list_theorems};
+use crate::trial::Answer;
+use e_book::{Item, Theorem, next_item};
+use e_deriv::{Stop, Wanted, size};
+use e_io::{Sink, Source};
+use e_line::BookFault;
+use e_names::{Known, Theorems};
+use e_prove::{Place, context_at, prove};
+use e_spell::spell_stop;
+use e_text::{Lines, Title};
+use std::alloc::{AllocError, Global};
+use std::mem;
+
+/// That there is no such step.
+fn no_step(alloc: Global) -> Result<Answer, AllocError>
+    ensures { IfOk result (λ a. (a.status ≡ NoStep) × (a.line.items ≡ no_step_line)) }
+{
+    let line = Vec::from_slice(alloc, b"no step\n")?;
+    Ok(Answer {
+        status: Status::NoStep,
+        line,
+    })
+}
+
+/// A fault other than out of memory.
+fn faulty(alloc: Global, at: BookFault) -> Result<Answer, AllocError>
+    ensures { IfOk result
+        (λ a. (lacks_memory at ≡ false) × (a.status ≡ Fault at) × (a.line.items ≡ fault_line at)) }
+{
+    if lacks_memory(at) {
+        return Err(AllocError);
+    }
+    let line = fault(alloc, &at)?;
+    Ok(Answer {
+        status: Status::Fault(at),
+        line,
+    })
+}
+
+/// Whether the stop is out of memory, which says nothing of the book.
+fn is_out_of_memory(stop: &Stop) -> bool
+    ensures { result ≡ is_out_of_memory stop.now }
+{
+    matches!(stop, Stop::NoMemory)
+}
+
+/// A stop other than out of memory.
+fn stopped(alloc: Global, title: Title, stop: Stop) -> Result<Answer, AllocError>
+    ensures { IfOk result (λ a. IsStopAnswer title stop a.status a.line.items) }
+{
+    if is_out_of_memory(&stop) {
+        mem::drop(stop);
+        return Err(AllocError);
+    }
+    match spell_stop(alloc, title, &stop) {
+        Ok(line) => Ok(Answer {
+            status: stop_answer(title, stop),
+            line,
+        }),
+        Err(error) => {
+            mem::drop(stop);
+            Err(error)
+        }
+    }
+}
+
+/// What is suggested, with the last line.
+fn with_last_line(
+    alloc: Global,
+    text: Vec<u8>,
+    lines: u32,
+    more: bool,
+) -> Result<Answer, AllocError>
+    ensures { IfOk result (λ a. (a.status ≡ Suggested lines more)
+        × (a.line.items ≡ text.items ++ suggested_line lines more)) }
+{
+    let mut text = text;
+    let last = suggested(alloc, lines, more)?;
+    text.extend_from_slice(&last)?;
+    Ok(Answer {
+        status: Status::Suggested { lines, more },
+        line: text,
+    })
+}
+
+/// What may be applied at a place, which is this step of the theorem with this title. All is found
+/// before anything is written.
+fn answer_at(
+    alloc: Global,
+    known: &Theorems,
+    place: &mut Place,
+    title: Title,
+    step: u32,
+) -> Result<Answer, AllocError>
+    requires { IsTrue (list_all is_small_statement (stated_by known.now)) }
+    ensures { IfOk result (λ a. AnswersAt place.old.names place.old.context.scope
+        place.old.context.facts known.now title step a.status a.line.items) }
+{
+    place.context.solve(alloc)?;
+    let mut text = Vec::new(alloc);
+    match list_theorems(alloc, known, place, &mut text)? {
+        Listed::All(lines) => with_last_line(alloc, text, lines as u32, false),
+        Listed::Full(lines) => with_last_line(alloc, text, lines as u32, true),
+        Listed::TooWide(width) => {
+            let names = place.names.copy(alloc)?;
+            let stop = Stop::TooWide {
+                step,
+                wanted: Wanted::Match,
+                width,
+                names,
+            };
+            stopped(alloc, title, stop)
+        }
+    }
+}
+
+/// The answer on the theorem that has the title. Whether it has the step is asked before any step
+/// is licensed.
+fn answer_on(
+    alloc: Global,
+    known: &Theorems,
+    theorem: &Theorem,
+    step: u32,
+) -> Result<Answer, AllocError>
+    requires small { IsTrue (list_all is_small_statement (stated_by known.now)) }
+    requires fitting { IsFitting (stated_by known.now) (stated theorem.now.statement)
+        (script_of theorem.now.block) }
+    requires first { 1 ≤ step }
+    ensures { IfOk result (λ a. AnswersNext known.now
+        (entry_of theorem.now) theorem.now.title step a.status a.line.items) }
+{
+    let steps = size(&theorem.block);
+    if steps < step {
+        return no_step(alloc);
+    }
+    let mut place = match context_at(alloc, known.statements(), theorem, step) {
+        Ok(place) => place,
+        Err(stop) => return stopped(alloc, theorem.title, stop),
+    };
+    let answer = answer_at(alloc, known, &mut place, theorem.title, step);
+    mem::drop(place);
+    answer
+}
+
+/// Whether the theorem has this title.
+fn has_title(theorem: &Theorem, title: Title) -> bool
+    ensures { result ≡ bytes_eq theorem.now.title title }
+{
+    theorem.title.bytes() == title.bytes()
+}
+
+/// A theorem with another title is licensed, and then it is known. The answer on the one with the
+/// title, and on a stop.
+fn pass_theorem(
+    alloc: Global,
+    known: &mut Known,
+    theorem: Theorem,
+    title: Title,
+    step: u32,
+) -> Result<Option<Answer>, AllocError>
+    requires small { IsTrue (list_all is_small_statement (stated_by known.old.theorems)) }
+    requires good { IsWellFormedItem known.old (OfTheorem (entry_of theorem)) }
+    requires fitting { IsFitting (stated_by known.old.theorems) (stated theorem.statement)
+        (script_of theorem.block) }
+    requires states { IsTrue (is_small_statement (stated theorem.statement)) }
+    requires first { 1 ≤ step }
+    ensures { IfOk result
+        (PassesNext known.old (OfTheorem (entry_of theorem)) title step known.new) }
+{
+    if has_title(&theorem, title) {
+        let answer = answer_on(alloc, &known.theorems, &theorem, step);
+        mem::drop(theorem);
+        return Ok(Some(answer?));
+    }
+    match prove(alloc, known.theorems.statements(), &theorem) {
+        Ok(derivation) => mem::drop(derivation),
+        Err(stop) => {
+            let answer = stopped(alloc, theorem.title, stop);
+            mem::drop(theorem);
+            return Ok(Some(answer?));
+        }
+    }
+    keep(known, theorem)?;
+    Ok(None)
+}
+
+/// A definition is known from its last line on; a theorem is passed, or answered.
+fn pass_item(
+    alloc: Global,
+    known: &mut Known,
+    item: Item,
+    title: Title,
+    step: u32,
+) -> Result<Option<Answer>, AllocError>
+    requires small { IsTrue (list_all is_small_statement (stated_by known.old.theorems)) }
+    requires good { HasWellFormedView known.old item }
+    requires fitting { IsFittingItem known.old item }
+    requires first { 1 ≤ step }
+    ensures { IfOk result (PassesNext known.old (view_of item) title step known.new) }
+{
+    match item {
+        Item::Theorem(theorem) => pass_theorem(alloc, known, theorem, title, step),
+        Item::Notion(name, notion) => {
+            known.add_notion(name, notion)?;
+            Ok(None)
+        }
+    }
+}
+
+/// The answer to a book whose lines are all there: its theorems are read and licensed up to the one
+/// with the title.
+fn answer_to(
+    alloc: Global,
+    lines: &mut Lines,
+    known: &mut Known,
+    title: Title,
+    step: u32,
+) -> Result<Answer, AllocError>
+    requires first { lines.old.line ≡ 1 }
+    requires few { length lines.old.lines < 2 ^ 31 }
+    requires none { known.old ≡ nothing_known }
+    requires step { 1 ≤ step }
+    ensures { IfOk result (λ a. IsBookAnswer lines.old.lines title step a.status a.line.items) }
+{
+    loop {
+        let item = match next_item(alloc, lines, known) {
+            Ok(Some(item)) => item,
+            Ok(None) => return no_step(alloc),
+            Err(at) => return faulty(alloc, at),
+        };
+        match pass_item(alloc, known, item, title, step)? {
+            None => {}
+            Some(answer) => return Ok(answer),
+        }
+    }
+}
+
+/// The answer to a book.
+fn answer_for(alloc: Global, text: &[u8], title: Title, step: u32) -> Result<Answer, AllocError>
+    requires few { length text.now < 2 ^ 31 }
+    requires step { 1 ≤ step }
+    ensures { IfOk result
+        (λ a. IsBookAnswer (lines_of_book text.now) title step a.status a.line.items) }
+{
+    let mut lines = Lines::new(text, LONGEST_LINE, MOST_BYTES as u64);
+    let mut known = Known::new(alloc);
+    let answer = answer_to(alloc, &mut lines, &mut known, title, step);
+    mem::drop(known);
+    answer
+}
+
+/// Reads a book from a source, and writes to a sink what may be applied before a step of the
+/// theorem with a title. Nothing is written before all of it was read and all was found.
+pub fn suggest<S: Source, K: Sink>(
+    alloc: Global,
+    title: Title,
+    step: u32,
+    source: &mut S,
+    sink: &mut K,
+) -> Status
+    requires { 1 ≤ step }
+    ensures suggests { SuggestsBook title step (S.left source.old) (K.written sink.old)
+        (K.written sink.new) result }
+    ensures read_rises { S.faults source.old ≤ S.faults source.new }
+    ensures read_cause { IsReadFault result → Rose (S.faults source.old) (S.faults source.new) }
+    ensures write_rises { K.faults sink.old ≤ K.faults sink.new }
+    ensures write_cause { IsWriteFault result → Rose (K.faults sink.old) (K.faults sink.new) }
+{
+    let text = match read_text(alloc, source, MOST_BYTES) {
+        Ok(text) => text,
+        Err(InputFault::ReadFault) => return close(sink, b"read fault\n", Status::ReadFault),
+        Err(InputFault::NoMemory) => return close(sink, b"no memory\n", Status::NoMemory),
+    };
+    match answer_for(alloc, &text, title, step) {
+        Ok(Answer { status, line }) => close(sink, &line, status),
+        Err(_) => close(sink, b"no memory\n", Status::NoMemory),
+    }
+}

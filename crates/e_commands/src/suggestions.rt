@@ -1,0 +1,147 @@
+//! What is suggested at a place: a line for each choice of arguments for each theorem.
+ghost use Rattle.std.specs.Prelude.{◌≡◌, ◌++◌, ◌∷◌, [], map, IfOk, IsTrue, OnOk};
+ghost use Rattle.std.specs.List.{list_all};
+ghost use Rattle.e_literal.specs.Use.{is_statement};
+ghost use Rattle.e_theorem.specs.Statements.{stated};
+ghost use Rattle.e_deriv.specs.Fitting.{is_small_statement};
+ghost use Rattle.e_names.specs.TitledStatements.{stated_by};
+ghost use Rattle.e_line.specs.Canonical.{argument_word};
+ghost use Rattle.e_names.specs.Canonical.{name_of_object};
+ghost use Rattle.e_book.specs.Canonical.{text_of};
+ghost use Rattle.e_commands.specs.SuggesterAnswers.{apply_line, apply_lines};
+ghost use Rattle.e_commands.specs.inner.Suggesting.{IsListed, IsListedOne};
+
+use e_deriv::Names;
+use e_line::put_apply;
+use e_literal::{Items, Obj};
+use e_names::{Theorems, name_of_object};
+use e_prove::Place;
+use e_suggest::{Suggested, all};
+use e_text::{Name, Title, end_line};
+use e_theorem::Statement;
+use std::alloc::{AllocError, Global};
+use std::mem;
+
+/// The most lines that are suggested.
+const MOST_LINES: usize = 1000;
+
+/// The most declared objects of a theorem that is asked.
+const MOST_DECLARED: usize = 6;
+
+/// What was written of the theorems.
+#[derive(Clone, Copy)]
+pub enum Listed {
+    /// This many lines, and none is left out.
+    All(usize),
+    /// This many lines, and some are left out.
+    Full(usize),
+    /// A choice is too wide, and this is the width.
+    TooWide(u128),
+}
+
+/// The names of arguments, none of them a blank.
+fn names_of_choice(
+    alloc: Global,
+    names: &Names,
+    args: &[Obj],
+) -> Result<Items<Option<Name>>, AllocError>
+    ensures { IfOk result (λ n. map argument_word n ≡ map (name_of_object names.now) args.now) }
+{
+    let mut found = Vec::new(alloc);
+    for object in args {
+        found.push(Some(name_of_object(names, *object)))?;
+    }
+    Ok(Items::new(found))
+}
+
+/// A line that applies a theorem.
+fn put_application(
+    alloc: Global,
+    out: &mut Vec<u8>,
+    title: Title,
+    names: &Names,
+    args: &[Obj],
+) -> Result<(), AllocError>
+    ensures { OnOk result
+        (out.new.items ≡ out.old.items ++ (apply_line title names.now args.now ++ 10 ∷ [])) }
+{
+    let args = names_of_choice(alloc, names, args)?;
+    let put = put_apply(out, title.bytes(), args.items(), &[]);
+    mem::drop(args);
+    put?;
+    end_line(out)
+}
+
+/// A line for each choice of arguments.
+fn put_applications(
+    alloc: Global,
+    out: &mut Vec<u8>,
+    title: Title,
+    names: &Names,
+    choices: &[Items<Obj>],
+) -> Result<(), AllocError>
+    ensures { OnOk result
+        (out.new.items ≡ out.old.items ++ text_of (apply_lines title names.now choices.now)) }
+{
+    for choice in choices {
+        put_application(alloc, out, title, names, choice.items())?;
+    }
+    Ok(())
+}
+
+/// The lines of one theorem, at most this many. One of more than six declared objects is passed
+/// over.
+fn list_theorem(
+    alloc: Global,
+    title: Title,
+    statement: &Statement,
+    place: &Place,
+    left: usize,
+    out: &mut Vec<u8>,
+) -> Result<Listed, AllocError>
+    requires { IsTrue (is_statement (stated statement.now)) }
+    ensures { IfOk result (IsListedOne place.now.names place.now.context.scope
+        place.now.context.facts title (stated statement.now) left out.old.items out.new.items) }
+{
+    let declared = statement.declared.len();
+    if declared > MOST_DECLARED {
+        return Ok(Listed::All(0));
+    }
+    match all(alloc, &place.context, statement, left)? {
+        Suggested::Found { choices, more } => {
+            put_applications(alloc, out, title, &place.names, choices.items())?;
+            let count = choices.len();
+            if more {
+                Ok(Listed::Full(count))
+            } else {
+                Ok(Listed::All(count))
+            }
+        }
+        Suggested::TooWide(width) => Ok(Listed::TooWide(width)),
+    }
+}
+
+/// The lines of all theorems in order, at most 1,000.
+pub fn list_theorems(
+    alloc: Global,
+    known: &Theorems,
+    place: &Place,
+    out: &mut Vec<u8>,
+) -> Result<Listed, AllocError>
+    requires small { IsTrue (list_all is_small_statement (stated_by known.now)) }
+    requires empty { out.old.items ≡ [] }
+    ensures { IfOk result (IsListed place.now.names place.now.context.scope place.now.context.facts
+        known.now out.new.items) }
+{
+    let mut count = 0;
+    for at in 0..known.len() {
+        let title = known.title(at);
+        let statement = known.statement(at);
+        match list_theorem(alloc, title, statement, place, MOST_LINES - count, out)? {
+            Listed::All(lines) => count += lines,
+            Listed::Full(lines) => return Ok(Listed::Full(count + lines)),
+            Listed::TooWide(width) => return Ok(Listed::TooWide(width)),
+        }
+    }
+    Ok(Listed::All(count))
+}

@@ -1,4 +1,0 @@
-use Rattle.e_run.proofs.pieces.blocks_of_source.Goals as goal
-
-pub take_source-ended-requires : goal.take_source-ended-requires
-take_source-ended-requires g c = c.new-book.ensures

@@ -1,7 +1,0 @@
-use Rattle.e_run.proofs.rewriting.trimmed_block.Goals as goal
-
-pub trim-requires : goal.trim-requires
-trim-requires c = rw c.statements.ensures c.requires
-
-pub returns : goal.returns
-returns c = rw (rw c.statements.ensures at c.in_ok-trimmed.ensures.trimmed) at c.spell-block.ensures
