@@ -258,7 +258,7 @@ def check_program(top):
         for name in ("docs/answers.md", "docs/claims.md"):
             if not re.search(rf"`{command}\b", read(top / name)):
                 yield top / name, 1, f"the command {command} is not told"
-    code = read(top / "crates/e_run/src/status.rt")
+    code = read(top / "crates/e_commands/src/status.rt")
     code = code[code.index("fn exit_code") :]
     exits = {}
     for arms, status in re.findall(r"((?:\s*\|?\s*Status::\w+(?: \{ \.\. \}|\(_\))?)+) => (\d+),", code):

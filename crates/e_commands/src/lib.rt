@@ -16,7 +16,7 @@ mod status;
 mod store;
 mod suggester;
 mod suggestions;
-mod trial;
+mod trier;
 mod verifier;
 
 pub use checker::{check, close};
@@ -26,5 +26,5 @@ pub use rewriter::rewrite;
 pub use rewriting::Job;
 pub use status::{Status, exit_code};
 pub use suggester::suggest;
-pub use trial::trial;
+pub use trier::trial;
 pub use verifier::verify;

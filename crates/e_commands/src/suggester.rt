@@ -27,7 +27,7 @@ use crate::input::{InputFault, LONGEST_LINE, MOST_BYTES, read_text};
 use crate::output::{fault, suggested};
 use crate::status::Status;
 use crate::suggestions::{Listed, list_theorems};
-use crate::trial::Answer;
+use crate::trier::Answer;
 use e_book::{Item, Theorem, next_item};
 use e_deriv::{Stop, Wanted, size};
 use e_io::{Sink, Source};

@@ -38,7 +38,7 @@ use Rattle.e_prove.specs.Places.{IsStepPlace}
 use Rattle.e_prove.specs.Stops.{StopIs, HasNames, IsStopBefore}
 use Rattle.e_prove.specs.declared.place.Place.{Place}
 use Rattle.e_spell.specs.Spelling.{stop_text, too_wide_text, IsStop}
-use Rattle.e_commands.specs.declared.trial.Answer.{Answer}
+use Rattle.e_commands.specs.declared.trier.Answer.{Answer}
 use Rattle.e_commands.specs.declared.status.Status.{Status}
 use Rattle.e_commands.specs.declared.status.Status.TheVariants as status
 use Rattle.e_commands.specs.Answers.{IsReadFault, IsWriteFault}

@@ -22,7 +22,7 @@ use Rattle.e_spell.specs.Spelling.{too_wide_text, stop_text, IsStop}
 use Rattle.e_suggest.specs.Suggestions.{SomeArgsAreTooWide}
 use Rattle.e_commands.specs.declared.status.Status.{Status}
 use Rattle.e_commands.specs.declared.status.Status.TheVariants as status
-use Rattle.e_commands.specs.declared.trial.Answer.{Answer}
+use Rattle.e_commands.specs.declared.trier.Answer.{Answer}
 use Rattle.e_commands.specs.declared.suggestions.Listed.{Listed}
 use Rattle.e_commands.specs.declared.suggestions.Listed.TheVariants as listed
 use Rattle.e_commands.specs.Answers.{IsReadFault}

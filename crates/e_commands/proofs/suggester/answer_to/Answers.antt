@@ -2,7 +2,7 @@ use Rattle.std.proofs.Common.{◌≡◌, ℕ, ◌+◌, ◌∙◌, length, arith,
 use Rattle.e_names.specs.declared.known.Known.{Known}
 use Rattle.e_book.specs.Definitions.{item_from, view_of}
 use Rattle.e_book.specs.Grammar.{last_line, BookFails}
-use Rattle.e_commands.specs.declared.trial.Answer.{Answer}
+use Rattle.e_commands.specs.declared.trier.Answer.{Answer}
 use Rattle.e_commands.specs.Outcome.{end_line_number}
 use Rattle.e_commands.specs.inner.Suggesting.{IsOnWay, PassesTitles}
 use Rattle.e_commands.proofs.answers.SuggesterAnswers.{way_start, no_step_here, faulty_here}

@@ -4,7 +4,7 @@ use Rattle.e_commands.specs.LastLines.{no_memory_line}
 use Rattle.e_commands.specs.Outcome.{lines_of_book}
 use Rattle.e_commands.specs.declared.status.Status.TheVariants as status
 use Rattle.e_commands.proofs.answers.Trials.{closed_answered}
-use Rattle.e_commands.proofs.trial.trial.Goals as goal
+use Rattle.e_commands.proofs.trier.trial.Goals as goal
 
 pub returns-in-Err-clause-tries : goal.returns-in-Err-clause-tries
 returns-in-Err-clause-tries g c =

@@ -3,12 +3,12 @@ use Rattle.std.specs.Prelude.{IfOk}
 use Rattle.e_io.specs.Bytes.{Grew}
 use Rattle.e_commands.specs.declared.blocks.BookResult.{BookResult}
 use Rattle.e_commands.specs.declared.status.Status.TheVariants as status
-use Rattle.e_commands.specs.declared.trial.Answer.{Answer}
+use Rattle.e_commands.specs.declared.trier.Answer.{Answer}
 use Rattle.e_commands.specs.LastLines.{head_line, tried_line}
 use Rattle.e_commands.specs.inner.BookResults.{BookResultIs, last_lines}
 use Rattle.e_commands.specs.Trials.{IsTrial, TrialAnswer}
 use Rattle.e_commands.proofs.answers.Trials.{is_other, result_answered, accepted_tried, accepted_verified, tried_answered}
-use Rattle.e_commands.proofs.trial.answer_to.Goals as goal
+use Rattle.e_commands.proofs.trier.answer_to.Goals as goal
 use Rattle.e_book.specs.Grammar.{Rest}
 
 answered_if : {E : Type 0} → (lines : Rest) (n s : ℕ) (r : Result Answer E) → IsTrial lines n s

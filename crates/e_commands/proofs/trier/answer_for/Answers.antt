@@ -7,7 +7,7 @@ use Rattle.e_commands.specs.Input.{IsTextOf}
 use Rattle.e_commands.specs.Outcome.{lines_of_book}
 use Rattle.e_commands.specs.Trials.{TrialAnswer}
 use Rattle.e_commands.proofs.answers.Trials.{book_lines}
-use Rattle.e_commands.proofs.trial.answer_for.Goals as goal
+use Rattle.e_commands.proofs.trier.answer_for.Goals as goal
 use Rattle.e_book.specs.Grammar.{Rest}
 
 pub answer_to-requires-clause-few : goal.answer_to-requires-clause-few
