@@ -17,7 +17,7 @@ use Rattle.e_deriv.specs.Script.{Script, Cite, Hence, Make, Apply, Claim, Superp
 use Rattle.e_deriv.specs.Script.{Contradiction, Cases, size, depth}
 use Rattle.e_deriv.specs.PlacedSteps.{theorem_at, proof_steps}
 use Rattle.e_deriv.specs.Naming.{named, declared_names}
-use Rattle.e_deriv.specs.Fitting.{all_objects, form_fits}
+use Rattle.e_deriv.specs.Fitting.{all_objects, fits_with_blanks}
 use Rattle.e_line.specs.Limits.{most_of, most_steps, most_depth, most_facts, most_terms}
 use Rattle.e_line.specs.Limits.{most_blanks, monomials, count_monomials}
 use Rattle.e_names.specs.TitledStatements.{TitledStatement, is_known, stated_by}
@@ -157,7 +157,7 @@ pub record Fits (known : List TitledStatement) (t : TheoremView) : Type 0 where
   pub good_script : IsTrue (has_well_formed_literals t.script)
   -- each step of the script has objects of the right sorts, all in scope where it is, whatever
   -- its blanks are filled with; each theorem that it uses is an earlier one
-  pub script : IsTrue (list_all (λ x. form_fits (stated_by known) x x.here)
+  pub script : IsTrue (list_all (λ x. fits_with_blanks (stated_by known) x x.here)
       (proof_steps (stated_by known) (stated t.statement) t.script t.script))
   pub new_names : NewNamesFit (stated_by known)
       (declared_names (stated t.statement) t.names) t.script

@@ -159,7 +159,7 @@ impl Reading {
 
     /// Takes lines up to the end of a theorem or a definition, or all that are there.
     ///
-    /// That what ends has its form, as `read` says, follows from this contract: the loop need not
+    /// That what ends is well formed, as `read` says, follows from this contract: the loop need not
     /// carry it along.
     fn read_lines(
         &mut self,

@@ -151,14 +151,14 @@ cert_line_text cert_line = joined_words (codes "|" ∷ cert_line_words cert_line
 
 -- ---- versions
 
--- the row has a form in this version: that of a fact has a literal in the first, and a place in the
--- second
+-- the row may come in this version: a fact is cited by its literal in the first, and by its place
+-- in the second
 abbrev pub row_is_of : Version → RawRow → Bool
 row_is_of v (rows.Fact l) = by_literals v
 row_is_of v (rows.FactAt k) = by_places v
 row_is_of v row = true
 
--- the line has a form in this version
+-- the line may come in this version
 abbrev pub cert_line_is_of : Version → CertLine → Bool
 cert_line_is_of v certlines.Fact = by_literals v
 cert_line_is_of v (certlines.FactAt k) = by_places v

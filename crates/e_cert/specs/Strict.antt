@@ -1,4 +1,4 @@
--- Lines of certificates that are spelled as their form is.
+-- Lines of certificates that have the one spelling of what they say.
 use Rattle.std.specs.Prelude.{ℕ, Bool, true, ◌&&◌, List, Result, Ok, Err, if◌then◌else◌}
 use Rattle.std.specs.Str.{bytes_eq}
 use Rattle.e_line.specs.declared.fault.FaultKind.{FaultKind}
@@ -20,7 +20,7 @@ is_strict_cert_line (certlines.Differs r) = is_strict_row r
 is_strict_cert_line (certlines.Row m r) = is_strict_row r
 is_strict_cert_line cert_line = true
 
--- the form of a line of a certificate that is spelled so, where these are the words after its sign
+-- what a line of a certificate says that is spelled so, where these are the words after its sign
 unfoldable pub exact_cert_line : List ℕ → List (List ℕ) → Result CertLine FaultKind
 exact_cert_line line words =
     cert_line_of words

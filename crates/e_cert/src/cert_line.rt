@@ -269,7 +269,7 @@ fn cert_line_named(alloc: Global, word: &[u8], rest: &[&[u8]]) -> Result<CertLin
     row_cert_line_of(alloc, word, rest)
 }
 
-/// The form of a line of a certificate, by the words after its sign alone.
+/// What a line of a certificate says, by the words after its sign alone.
 #[tactic(auto, unfolding(crate::specs::CertLines::cert_line_of))]
 pub(crate) fn cert_line_of(alloc: Global, words: &[&[u8]]) -> Result<CertLine, LineError>
     ensures { Gives (λ m. m) result (cert_line_of (texts words.now)) }
@@ -294,7 +294,7 @@ fn by_places(version: Version) -> bool
     matches!(version, Version::Two)
 }
 
-/// Whether the row has a form in this version.
+/// Whether the row may come in this version.
 fn row_is_of(version: Version, row: &RawRow) -> bool
     ensures { result ≡ row_is_of version row.now }
 {
@@ -305,7 +305,7 @@ fn row_is_of(version: Version, row: &RawRow) -> bool
     }
 }
 
-/// Whether the line has a form in this version.
+/// Whether the line may come in this version.
 pub fn cert_line_is_of(version: Version, cert_line: &CertLine) -> bool
     ensures { result ≡ cert_line_is_of version cert_line.now }
 {

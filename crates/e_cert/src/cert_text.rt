@@ -1,4 +1,4 @@
-//! The line of each form of certificate, spelled with the names that it has.
+//! The line of each part of a certificate, spelled with the names that it has.
 ghost use Rattle.std.specs.Prelude.{◌≡◌, ◌++◌, ◌∷◌, [], codes, decimal, OnOk};
 ghost use Rattle.e_text.specs.Tokens.{spaced};
 ghost use Rattle.e_line.specs.Canonical.{term_words};

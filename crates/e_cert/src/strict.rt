@@ -1,4 +1,4 @@
-//! Lines of certificates that are spelled as their form is.
+//! Lines of certificates that have the one spelling of what they say.
 ghost use Rattle.std.specs.Prelude.{◌≡◌, IfOk};
 ghost use Rattle.e_line.specs.Reading.{texts, Gives};
 ghost use Rattle.e_cert.specs.CertLines.{cert_line_text};
@@ -39,7 +39,7 @@ fn cert_line_text(alloc: Global, cert_line: &CertLine, room: usize) -> Result<Ve
     Ok(line)
 }
 
-/// The form of a line of a certificate that is spelled as this form is, where these are the words
+/// What a line of a certificate says that has the one spelling of it, where these are the words
 /// after its sign.
 #[tactic(auto, unfolding(crate::specs::Strict::exact_cert_line))]
 pub fn exact_cert_line(alloc: Global, line: &[u8], words: &[&[u8]]) -> Result<CertLine, LineError>

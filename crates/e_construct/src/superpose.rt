@@ -139,7 +139,7 @@ fn equal(alloc: Global, x: Term, y: Term) -> Result<Lit, AllocError>
 
 /// The sum of one term.
 fn one(alloc: Global, term: Term) -> Result<Form, AllocError>
-    ensures { IfOk result (λ form. form ≡ Superposing.one term) }
+    ensures { IfOk result (λ sum. sum ≡ Superposing.one term) }
 {
     Ok(Form::new(vec![in alloc; Mono { coeff: 1, term }]?))
 }

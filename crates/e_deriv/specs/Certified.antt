@@ -34,7 +34,7 @@ other_checks (Contradiction (Some against)) s facts = certifies_against s facts 
 other_checks (Contradiction None) s facts = false
 other_checks _ s facts = true
 
--- the step's form fits, and its certificates certify its needs
+-- the step fits, and its certificates certify its needs
 abbrev pub is_certified : List StatementView → PlacedStep → Bool
 is_certified before x =
     fits before x && (certify_all x.scope x.facts (needs before x) (certs_of x.here)

@@ -22,12 +22,12 @@ is_small s = nat_le s.points 1000 && (nat_le s.lines 1000 && nat_le s.circles 10
 abbrev pub is_small_statement : StatementView → Bool
 is_small_statement t = is_statement t && is_small (all_objects t)
 
--- the step's form fits where it is, whatever its blanks are filled with: the theorem that it
--- applies is one of those before, and the arguments that are written are of its sorts and in scope
-abbrev pub form_fits : List StatementView → PlacedStep → Script → Bool
-form_fits before x (Apply theorem pattern names certs rest) =
+-- the step fits where it is, whatever its blanks are filled with: the theorem that it applies is
+-- one of those before, and the arguments that are written are of its sorts and in scope
+abbrev pub fits_with_blanks : List StatementView → PlacedStep → Script → Bool
+fits_with_blanks before x (Apply theorem pattern names certs rest) =
     nat_lt theorem (length before) && is_pattern (theorem_at before theorem) x.scope pattern
-form_fits before x _ = fits before x
+fits_with_blanks before x _ = fits before x
 
 -- up to the first step whose blanks are filled amiss, the facts before each step are in scope and
 -- well formed, and their terms are few; so are the literals that it needs
@@ -38,14 +38,13 @@ LitsFit before (x ∷ xs) =
     × (IsTrue (fits before x)
     → IsTrue (are_well_formed_in x.scope (needs before x)) × LitsFit before xs)
 
--- the form of each step fits, and so do the literals, however blanks are filled; there are at most
--- 1,024 steps, and at most 32 blocks are one inside the other; before each step at most 1,000
--- objects of each sort are in scope, and no statement has more, so that every object has a number
--- of 16 bits
+-- each step fits, and so do the literals, however blanks are filled; there are at most 1,024 steps,
+-- and at most 32 blocks are one inside the other; before each step at most 1,000 objects of each
+-- sort are in scope, and no statement has more, so that every object has a number of 16 bits
 pub record IsFitting (before : List StatementView) (t : StatementView)
     (script : Script) : Type 0 where
   pub forms :
-      IsTrue (list_all (λ x. form_fits before x x.here) (proof_steps before t script script))
+      IsTrue (list_all (λ x. fits_with_blanks before x x.here) (proof_steps before t script script))
   pub lits : (filled : Script) → LitsFit before (proof_steps before t script filled)
   pub scopes : IsTrue (list_all (λ x. is_small x.scope) (proof_steps before t script script))
   pub statements : IsTrue (list_all is_small_statement before)

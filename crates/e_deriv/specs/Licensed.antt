@@ -17,7 +17,7 @@ use Rattle.e_deriv.specs.Parts.{has_no_blank}
 use Rattle.e_deriv.specs.PlacedSteps.{PlacedStep, theorem_at, proof_steps}
 use Rattle.e_deriv.specs.Steps.{fits, needs, needs_as_written, is_cited}
 
--- beside its form and its needs: a citation's instance gives the literal; the arguments of an
+-- beside that it fits, and its needs: a citation's instance gives the literal; the arguments of an
 -- application are the least good choice for its blanks; at a contradiction the facts contradict
 -- each other
 abbrev pub OtherConditions : List StatementView → Script → Scope → List Lit → List Obj → Type 0

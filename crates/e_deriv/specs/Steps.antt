@@ -1,5 +1,5 @@
--- What has to be so at a step beside what it has to be allowed: its objects are in scope, its form
--- fits. What it needs.
+-- What has to be so at a step beside what it has to be allowed: its objects are in scope,
+-- and are as many and of the sorts that it takes. What it needs.
 use Rattle.std.specs.Prelude.{ℕ, List, [], ◌∷◌, length, Bool, true, ◌&&◌, nat_lt, Option}
 use Rattle.std.specs.List.{list_all}
 use Rattle.e_literal.specs.declared.object.Obj.{Obj}
@@ -26,8 +26,7 @@ abbrev pub is_applied : List StatementView → ℕ → Scope → List (Option Ob
 is_applied before theorem s pattern args =
     nat_lt theorem (length before) && is_choice (theorem_at before theorem) s pattern args
 
--- the step's form fits where it is; what a superposition shows does not speak of the copied
--- points
+-- the step fits where it is; what a superposition shows does not speak of the copied points
 abbrev pub fits_at : List StatementView → Script → Scope → Goal → List Obj → Bool
 fits_at before (Cite by rest) s goal args = is_citation s by
 fits_at before (Hence lit cert rest) s goal args = all_in_scope s lit

@@ -1,5 +1,5 @@
 -- The judgement of a derivation text: its theorems are taken one after another, up to the first
--- block in which a line has no form at its place or is not certified.
+-- block in which a line is malformed at its place or is not certified.
 use Rattle.std.specs.Prelude.{◌≡◌, ◌⊎◌, ℕ, ◌+◌, Bool, ◌&&◌, List, [], ◌∷◌, ◌++◌, length, codes}
 use Rattle.std.specs.Prelude.{Option, Some, None, Result, Ok, Err, if◌then◌else◌}
 use Rattle.std.specs.Str.{bytes_eq}
@@ -55,18 +55,18 @@ EndsThere v last known lines j =
     (rest : Rest) × (piece_from known last (at_start v) lines ≡ Ok (Last, rest))
     × (j ≡ JudgedAfter (length known) rest)
 
--- a line of the next block has no form at its place
+-- a line of the next block is malformed at its place
 abbrev pub BreaksThere : Version → ℕ → List TitledStatement → Rest → Judgement → Type 0
 BreaksThere v last known lines j =
     (line : ℕ) × (piece_from known last (at_start v) lines ≡ Err line) × (j ≡ Garbled line)
 
--- each line of the next block has a form, and this is the first that is not certified
+-- no line of the next block is malformed, and this is the first step that is not certified
 abbrev pub FailsThere : Version → ℕ → List TitledStatement → Rest → Judgement → Type 0
 FailsThere v last known lines j =
     (t : TheoremView) × (after : Rest) × (step : ℕ) × ReadsNext v last known lines t after
     × (verdict (stated_by known) (stated t.statement) t.script ≡ Err step) × (j ≡ Bad t.title step)
 
--- with this known, these lines end so
+-- after the theorems `known`, these lines have this judgement
 abbrev pub Closes : Version → ℕ → List TitledStatement → Rest → Judgement → Type 0
 Closes v last known lines j =
     EndsThere v last known lines j

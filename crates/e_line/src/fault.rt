@@ -83,7 +83,7 @@ impl<T: Drop> From<AllocFailed<T>> for LineError {
 #[derive(Clone, Copy, Debug, PartialEq, Eq, Error)]
 pub enum BookFault {
     /// The line is malformed at its place, or has a wrong number of names.
-    #[error("line {line} has no form here")]
+    #[error("line {line} is malformed here")]
     Malformed { line: u32 },
     /// A name that is not in scope, or a rule, a theorem or a definition that there is not.
     #[error("line {line} uses an unknown name")]

@@ -36,7 +36,7 @@ use Rattle.e_deriv.specs.declared.stop.Wanted.TheVariants.{Literal, Match, Contr
 use Rattle.e_prove.specs.declared.step_state.StepState.{StepState}
 use Rattle.e_prove.specs.inner.StepStates.{after_literal, after_superposed, after_block}
 use Rattle.e_prove.specs.inner.StopsOfSteps.{StepStopsAt, StepStopsAmong}
-use Rattle.e_prove.specs.inner.LicensedSteps.{step_from_basis, has_form}
+use Rattle.e_prove.specs.inner.LicensedSteps.{step_from_basis, fits_here}
 use Rattle.e_prove.specs.inner.PassedSteps.{IsReadyFor, IsDerivedFrom, Arrival, IsReachedIn, ReachesWithin, StopsWithin, IsPassed}
 use Rattle.e_prove.proofs.StopsInLists.{reached_after, reached_left, reached_right, stops_by, names_length, all_both, lits_first, lits_second}
 use Rattle.e_deriv.specs.Versions.{has_certs_of}
@@ -60,11 +60,11 @@ claim_ready before shown inner rest x goal r =
     let y = step_from_basis (Claim shown inner rest) (Claim shown inner rest) x.context goal in
     let one = placed_steps before inner inner s facts (goal_of shown) in
     let other = placed_steps before rest rest s (joined_all facts shown) goal in
-    let over = and_left (has_form before y) (list_all (has_form before) (one ++ other)) r.forms in
+    let over = and_left (fits_here before y) (list_all (fits_here before) (one ++ other)) r.forms in
     record {
       over = over;
       block = record {
-        forms = all_left (has_form before) one other (and_right (has_form before y) (list_all (has_form before) (one ++ other)) r.forms);
+        forms = all_left (fits_here before) one other (and_right (fits_here before y) (list_all (fits_here before) (one ++ other)) r.forms);
         lits = λ w. lits_first before (placed_steps before inner w s facts (goal_of shown)) other ((r.lits (Claim shown w rest)).1 over).1;
         scopes = all_left few_before one other (and_right (few_before y) (list_all few_before (one ++ other)) r.scopes);
         statements = r.statements;
@@ -80,9 +80,9 @@ claim_rest before shown inner derived rest x goal d r =
     let y = step_from_basis (Claim shown inner rest) (Claim shown inner rest) x.context goal in
     let one = placed_steps before inner inner s facts (goal_of shown) in
     let other = placed_steps before rest rest s (joined_all facts shown) goal in
-    let over = and_left (has_form before y) (list_all (has_form before) (one ++ other)) r.forms in
+    let over = and_left (fits_here before y) (list_all (fits_here before) (one ++ other)) r.forms in
     record {
-      forms = all_right (has_form before) one other (and_right (has_form before y) (list_all (has_form before) (one ++ other)) r.forms);
+      forms = all_right (fits_here before) one other (and_right (fits_here before y) (list_all (fits_here before) (one ++ other)) r.forms);
       lits = λ w. lits_second before (placed_steps before inner derived s facts (goal_of shown)) (placed_steps before rest w s (joined_all facts shown) goal) d.licensed ((r.lits (Claim shown derived w)).1 over).1;
       scopes = all_right few_before one other (and_right (few_before y) (list_all few_before (one ++ other)) r.scopes);
       statements = r.statements;
@@ -191,14 +191,14 @@ superposed_ready before superposition names shown certs inner rest x goal r =
     let given = joined_all facts (superposing.gives_of_superposition superposition s) in
     let one = placed_steps before inner inner t given (goal_of shown) in
     let other = placed_steps before rest rest s (joined_all facts shown) goal in
-    let form_fits = and_left (has_form before y) (list_all (has_form before) (one ++ other)) r.forms in
+    let fits_with_blanks = and_left (fits_here before y) (list_all (fits_here before) (one ++ other)) r.forms in
     record {
-      fits = and_left (superposing.fits_superposition superposition s) (are_over s shown) form_fits;
-      over = and_right (superposing.fits_superposition superposition s) (are_over s shown) form_fits;
-      needs = ((r.lits here).1 form_fits).0;
+      fits = and_left (superposing.fits_superposition superposition s) (are_over s shown) fits_with_blanks;
+      over = and_right (superposing.fits_superposition superposition s) (are_over s shown) fits_with_blanks;
+      needs = ((r.lits here).1 fits_with_blanks).0;
       block = record {
-        forms = all_left (has_form before) one other (and_right (has_form before y) (list_all (has_form before) (one ++ other)) r.forms);
-        lits = λ w. lits_first before (placed_steps before inner w t given (goal_of shown)) other ((r.lits (Superposed superposition names shown certs w rest)).1 form_fits).1;
+        forms = all_left (fits_here before) one other (and_right (fits_here before y) (list_all (fits_here before) (one ++ other)) r.forms);
+        lits = λ w. lits_first before (placed_steps before inner w t given (goal_of shown)) other ((r.lits (Superposed superposition names shown certs w rest)).1 fits_with_blanks).1;
         scopes = all_left few_before one other (and_right (few_before y) (list_all few_before (one ++ other)) r.scopes);
         statements = r.statements;
       };
@@ -217,12 +217,12 @@ superposed_rest before superposition names shown certs inner derived rest x goal
     let given = joined_all facts (superposing.gives_of_superposition superposition s) in
     let one = placed_steps before inner inner t given (goal_of shown) in
     let other = placed_steps before rest rest s (joined_all facts shown) goal in
-    let form_fits = and_left (has_form before y) (list_all (has_form before) (one ++ other)) r.forms in
+    let fits_with_blanks = and_left (fits_here before y) (list_all (fits_here before) (one ++ other)) r.forms in
     record {
-      forms = all_right (has_form before) one other (and_right (has_form before y) (list_all (has_form before) (one ++ other)) r.forms);
+      forms = all_right (fits_here before) one other (and_right (fits_here before y) (list_all (fits_here before) (one ++ other)) r.forms);
       lits = λ w.
           lits_second before (placed_steps before inner derived t given (goal_of shown)) (placed_steps before rest w s (joined_all facts shown) goal) d.licensed
-          ((r.lits (Superposed superposition names shown certs derived w)).1 form_fits).1;
+          ((r.lits (Superposed superposition names shown certs derived w)).1 fits_with_blanks).1;
       scopes = all_right few_before one other (and_right (few_before y) (list_all few_before (one ++ other)) r.scopes);
       statements = r.statements;
     }
@@ -358,11 +358,11 @@ split_ready before lit first second x goal r =
     let y = step_from_basis (Cases lit first second) (Cases lit first second) x.context goal in
     let one = placed_steps before first first s (joined facts lit) goal in
     let other = placed_steps before second second s (joined facts (negation lit)) goal in
-    let over = and_left (has_form before y) (list_all (has_form before) (one ++ other)) r.forms in
+    let over = and_left (fits_here before y) (list_all (fits_here before) (one ++ other)) r.forms in
     record {
       over = over;
       one = record {
-        forms = all_left (has_form before) one other (and_right (has_form before y) (list_all (has_form before) (one ++ other)) r.forms);
+        forms = all_left (fits_here before) one other (and_right (fits_here before y) (list_all (fits_here before) (one ++ other)) r.forms);
         lits = λ w. lits_first before (placed_steps before first w s (joined facts lit) goal) other ((r.lits (Cases lit w second)).1 over).1;
         scopes = all_left few_before one other (and_right (few_before y) (list_all few_before (one ++ other)) r.scopes);
         statements = r.statements;
@@ -379,9 +379,9 @@ split_other before lit first second derived x goal d r =
     let y = step_from_basis (Cases lit first second) (Cases lit first second) x.context goal in
     let one = placed_steps before first first s (joined facts lit) goal in
     let other = placed_steps before second second s (joined facts (negation lit)) goal in
-    let over = and_left (has_form before y) (list_all (has_form before) (one ++ other)) r.forms in
+    let over = and_left (fits_here before y) (list_all (fits_here before) (one ++ other)) r.forms in
     record {
-      forms = all_right (has_form before) one other (and_right (has_form before y) (list_all (has_form before) (one ++ other)) r.forms);
+      forms = all_right (fits_here before) one other (and_right (fits_here before y) (list_all (fits_here before) (one ++ other)) r.forms);
       lits = λ w. lits_second before (placed_steps before first derived s (joined facts lit) goal) (placed_steps before second w s (joined facts (negation lit)) goal) d.licensed ((r.lits (Cases lit derived w)).1 over).1;
       scopes = all_right few_before one other (and_right (few_before y) (list_all few_before (one ++ other)) r.scopes);
       statements = r.statements;

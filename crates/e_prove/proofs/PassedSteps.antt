@@ -26,9 +26,9 @@ use Rattle.e_prove.specs.declared.step_state.StepState.{StepState}
 use Rattle.e_prove.specs.declared.block.ProvedStep.{ProvedStep}
 use Rattle.e_prove.specs.declared.block.ProvedClose.{ProvedClose}
 use Rattle.e_prove.specs.inner.StopsOfSteps.{StepStopsAt, UnlessNoMemory, StopOf, IsWithNumber}
-use Rattle.e_prove.specs.inner.LicensedSteps.{IsLicensedStep, IsStopOfStep, IsLicensedClose, IsStopOfClose, step_from_basis, steps_from_basis, has_form}
+use Rattle.e_prove.specs.inner.LicensedSteps.{IsLicensedStep, IsStopOfStep, IsLicensedClose, IsStopOfClose, step_from_basis, steps_from_basis, fits_here}
 use Rattle.e_prove.specs.inner.PassedSteps.{IsReadyFor, IsDerivedFrom, KeepsHeld, Arrival, Stands, IsReachedIn, StopIn, ReachesWithin, ReachesStep, StopsWithin, IsPassed, StepStops}
-use Rattle.e_prove.proofs.StopsInLists.{reached_first, reached_after, stop_first, stops_by, stop_before, tests_again, form_is_blind, scope_is_blind}
+use Rattle.e_prove.proofs.StopsInLists.{reached_first, reached_after, stop_first, stops_by, stop_before, tests_again, fits_here_is_blind, scope_is_blind}
 
 -- ---- nothing licensed yet, and one thing after another
 
@@ -75,11 +75,11 @@ more_certified : (before : List StatementView) (x : PlacedStep) (xs all : List P
 more_certified before x xs all e h k = subst (λ ys. list_all (is_certified before) ys ≡ true) (sym e) (and_from (is_certified before x) (list_all (is_certified before) xs) h k)
 
 -- a step that is ready has its form, whatever its blanks are filled with
-pub has_form_first : (before : List StatementView) (d f : Script) (x : StepState) (goal : Goal) (xs : List PlacedStep) → steps_from_basis before d f x.context goal ≡ step_from_basis d f x.context goal ∷ xs → IsReadyFor before d x goal →
-    has_form before (step_from_basis d f x.context goal) ≡ true
-has_form_first before d f x goal xs e r =
-    first_is (has_form before) (step_from_basis d f x.context goal) xs (steps_from_basis before d f x.context goal) e
-    (tests_again before (has_form before) (form_is_blind before) d f d x.context.scope x.context.facts x.context.facts goal ∙ r.forms)
+pub fits_here_first : (before : List StatementView) (d f : Script) (x : StepState) (goal : Goal) (xs : List PlacedStep) → steps_from_basis before d f x.context goal ≡ step_from_basis d f x.context goal ∷ xs → IsReadyFor before d x goal →
+    fits_here before (step_from_basis d f x.context goal) ≡ true
+fits_here_first before d f x goal xs e r =
+    first_is (fits_here before) (step_from_basis d f x.context goal) xs (steps_from_basis before d f x.context goal) e
+    (tests_again before (fits_here before) (fits_here_is_blind before) d f d x.context.scope x.context.facts x.context.facts goal ∙ r.forms)
 
 -- what is found after a licensed step
 licensed_reaches : (before : List StatementView) (step derived : Step) (x after : StepState) (n : ℕ) (rest : Script) (goal : Goal) (a : Arrival) (i : ℕ) (names : Names) → IsLicensedStep before step x derived after →
@@ -89,7 +89,7 @@ licensed_reaches before step derived x after n rest goal a i names j r h =
     let f = step_script derived h.filled in
     let y = step_from_basis e f x.context goal in
     let ys = steps_from_basis before rest h.filled after.context goal in
-    let form = has_form_first before e f x goal ys (j.next rest h.filled goal) r in
+    let form = fits_here_first before e f x goal ys (j.next rest h.filled goal) r in
     record {
       filled = f;
       reached =
@@ -111,10 +111,10 @@ passed_of_licensed before step derived x after n one j =
           let s = x.context.scope in
           let facts = x.context.facts in
           record {
-            forms = rest_are (has_form before) y ys all (j.next rest rest goal) (tests_again before (has_form before) (form_is_blind before) d f d s facts facts goal ∙ r.forms);
+            forms = rest_are (fits_here before) y ys all (j.next rest rest goal) (tests_again before (fits_here before) (fits_here_is_blind before) d f d s facts facts goal ∙ r.forms);
             lits = λ w.
                 let g = step_script derived w in
-                let form = has_form_first before d g x goal (steps_from_basis before rest w after.context goal) (j.next rest w goal) r in
+                let form = fits_here_first before d g x goal (steps_from_basis before rest w after.context goal) (j.next rest w goal) r in
                 ((subst (LitsFit before) (j.next rest w goal) (r.lits g)).1 (j.licensed rest w goal form).fits).1;
             scopes = rest_are (λ z. is_small z.scope) y ys all (j.next rest rest goal) (tests_again before (λ z. is_small z.scope) scope_is_blind d f d s facts facts goal ∙ r.scopes);
             statements = r.statements;
@@ -122,7 +122,7 @@ passed_of_licensed before step derived x after n one j =
       derives = λ rest more goal r d.
           let e = step_script step rest in
           let f = step_script derived more in
-          let form = has_form_first before e f x goal (steps_from_basis before rest more after.context goal) (j.next rest more goal) r in
+          let form = fits_here_first before e f x goal (steps_from_basis before rest more after.context goal) (j.next rest more goal) r in
           record {
             licensed = subst (AllLicensed before) (sym (j.next rest more goal)) (j.licensed rest more goal form, d.licensed);
             certified = more_certified before (step_from_basis f f x.context goal) (steps_from_basis before more more after.context goal) (steps_from_basis before f f x.context goal) (j.derived_next more goal) (j.certified rest more goal form) d.certified;

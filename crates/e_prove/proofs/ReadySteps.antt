@@ -32,7 +32,7 @@ use Rattle.e_deriv.proofs.Scripts.{step_script-Claim, step_script-Superposed}
 use Rattle.e_deriv.proofs.Smallness.{few_of_small}
 use Rattle.e_prove.specs.declared.step_state.StepState.{StepState}
 use Rattle.e_prove.specs.inner.StepStates.{HasRoomForMore, after_make, after_literal}
-use Rattle.e_prove.specs.inner.LicensedSteps.{steps_from_basis, step_from_basis, has_form}
+use Rattle.e_prove.specs.inner.LicensedSteps.{steps_from_basis, step_from_basis, fits_here}
 use Rattle.e_prove.specs.inner.PassedSteps.{IsReadyFor, IsReadyStep}
 use Rattle.e_prove.specs.inner.Applications.{LitsFitAt, CanApply}
 use Rattle.e_prove.proofs.PassedSteps.{lines_begin, first_is}
@@ -62,16 +62,16 @@ pub record LineReady (s : Scope) (needed : List Lit) (next : StepState) : Type 0
   pub after : are_limited_facts next.context.scope next.context.facts ≡ true
 
 -- the first step of a script that is ready has its form
-form_first : (before : List StatementView) (here : Script) (x : StepState) (goal : Goal) → IsReadyFor before here x goal → has_form before (step_from_basis here here x.context goal) ≡ true
-form_first before here x goal r =
+fits_first : (before : List StatementView) (here : Script) (x : StepState) (goal : Goal) → IsReadyFor before here x goal → fits_here before (step_from_basis here here x.context goal) ≡ true
+fits_first before here x goal r =
     let begun = lines_begin before here here x.context.scope x.context.facts goal in
-    first_is (has_form before) (step_from_basis here here x.context goal) begun.0 (steps_from_basis before here here x.context goal) begun.1 r.forms
+    first_is (fits_here before) (step_from_basis here here x.context goal) begun.0 (steps_from_basis before here here x.context goal) begun.1 r.forms
 
 cite_lits : (before : List StatementView) (by : By) (rest : Script) (x : StepState) (goal : Goal) → IsReadyFor before (Cite by rest) x goal → are_limited_facts x.context.scope (joined x.context.facts by.lit) ≡ true
 unfolding placed_steps
 cite_lits before by rest x goal r =
     let here = Cite by rest in
-    first_facts before rest rest x.context.scope (joined x.context.facts by.lit) goal ((r.lits here).1 (form_first before here x goal r)).1
+    first_facts before rest rest x.context.scope (joined x.context.facts by.lit) goal ((r.lits here).1 (fits_first before here x goal r)).1
 
 pub cite_good : (before : List StatementView) (by : By) (x : StepState) (n : ℕ) → IsReadyStep before (CiteStep by) x n → are_limited_facts x.context.scope (joined x.context.facts by.lit) ≡ true
 unfolding step_script
@@ -81,7 +81,7 @@ hence_lits : (before : List StatementView) (lit : Lit) (cert : Option Cert) (res
 unfolding placed_steps
 hence_lits before lit cert rest x goal r =
     let here = Hence lit cert rest in
-    let both = (r.lits here).1 (form_first before here x goal r) in
+    let both = (r.lits here).1 (fits_first before here x goal r) in
     record { needs = both.0; after = first_facts before rest rest x.context.scope (joined x.context.facts lit) goal both.1 }
 
 pub hence_good : (before : List StatementView) (lit : Lit) (cert : Option Cert) (x : StepState) (n : ℕ) → IsReadyStep before (HenceStep lit cert) x n → LineReady x.context.scope (lit ∷ []) (after_literal lit x)
@@ -97,7 +97,7 @@ unfolding placed_steps
 make_lits before construction names certs rest x goal r =
     let s = x.context.scope in
     let here = Make construction names certs rest in
-    let both = (r.lits here).1 (form_first before here x goal r) in
+    let both = (r.lits here).1 (fits_first before here x goal r) in
     record { needs = both.0; after = first_facts before rest rest (grown s (sorts_made construction)) (joined_all x.context.facts (gives_of_construction construction s)) goal both.1 }
 
 pub make_good : (before : List StatementView) (construction : Construction) (names : List (List ℕ)) (certs : List Cert) (x : StepState) (n : ℕ) → IsReadyStep before (MakeStep construction names certs) x n →
@@ -129,7 +129,7 @@ apply_lits before theorem pattern names certs rest x goal r lt args h =
     let s = x.context.scope in
     let f = Apply theorem (filled_in args) names certs rest in
     let os = written (filled_in args) in
-    let low : ltb theorem (length before) ≡ true = and_left (ltb theorem (length before)) (is_pattern t s pattern) (form_first before (Apply theorem pattern names certs rest) x goal r) in
+    let low : ltb theorem (length before) ≡ true = and_left (ltb theorem (length before)) (is_pattern t s pattern) (fits_first before (Apply theorem pattern names certs rest) x goal r) in
     let both = (r.lits f).1 (and_from (ltb theorem (length before)) (is_choice t s pattern os) low h) in
     record { needs = both.0; after = first_facts before rest rest (grown s t.made) (joined_all x.context.facts (gives_of_use t os s)) goal both.1 }
 
@@ -139,7 +139,7 @@ apply_can before theorem pattern names certs rest x goal r =
     let t = theorem_at before theorem in
     let s = x.context.scope in
     let here = Apply theorem pattern names certs rest in
-    let form = form_first before here x goal r in
+    let form = fits_first before here x goal r in
     let lt = ltb-true theorem (length before) (and_left (ltb theorem (length before)) (is_pattern t s pattern) form) in
     record {
       place = lt;

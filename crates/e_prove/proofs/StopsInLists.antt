@@ -29,7 +29,7 @@ use Rattle.e_prove.specs.declared.step_state.StepState.{StepState}
 use Rattle.e_prove.specs.declared.step_stop.StepStop.{StepStop}
 use Rattle.e_prove.specs.declared.step_stop.StepStop.TheVariants as step_stop
 use Rattle.e_prove.specs.inner.StopsOfSteps.{StepStopsAt, StopOf, stop_of}
-use Rattle.e_prove.specs.inner.LicensedSteps.{has_form}
+use Rattle.e_prove.specs.inner.LicensedSteps.{fits_here}
 use Rattle.e_prove.specs.Stops.{IsStopBefore}
 use Rattle.e_prove.specs.inner.PassedSteps.{Arrival, Halts, ArrivesAt, IsReachedIn, StopIn, ReachesWithin, StopsWithin}
 
@@ -229,10 +229,10 @@ tests_again before p b (Cases lit first second) f f' s facts facts' goal =
     (tests_again before p b second (rest_of f) (rest_of f') s (joined facts not_so) (joined facts' not_so) goal))
 
 -- whether a step has its form, and whether few objects are in scope before it
-pub form_is_blind : (before : List StatementView) → IsBlind (has_form before)
-form_is_blind before = record { same = by_form }
+pub fits_here_is_blind : (before : List StatementView) → IsBlind (fits_here before)
+fits_here_is_blind before = record { same = by_form }
   where
-    by_form : (here f f' : Script) (s : Scope) (facts facts' : List Lit) (goal : Goal) → has_form before (placed_step here f s facts goal) ≡ has_form before (placed_step here f' s facts' goal)
+    by_form : (here f f' : Script) (s : Scope) (facts facts' : List Lit) (goal : Goal) → fits_here before (placed_step here f s facts goal) ≡ fits_here before (placed_step here f' s facts' goal)
     by_form (Cite by rest) f f' s facts facts' goal = refl
     by_form (Hence lit cert rest) f f' s facts facts' goal = refl
     by_form (Make construction names certs rest) f f' s facts facts' goal = refl

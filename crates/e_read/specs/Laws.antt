@@ -37,7 +37,7 @@ DerivationsAreOfBooks =
     → ReadsAsBook known last t lines rest
 
 -- The lines begin with a front of which no line is wrong: read alone it only ends too soon. The
--- line after the front has no form at its place, whatever follows it, and has this number.
+-- line after the front is malformed at its place, whatever follows it, and has this number.
 pub record GarblesAt (v : Version) (known : List TitledStatement)
     (lines : List (Result LineView LineFault)) (n : ℕ) : Type 0 where
   pub front : List (Result LineView LineFault)

@@ -57,7 +57,7 @@ at_start v = record { version = v; parser = None; owed = owes_nothing; kept = []
 unfoldable pub with_cert_line : BlockParser → CertLine → Result BlockParser FaultKind
 with_cert_line r m = after_cert_line r.owed m >>= λ o. Ok (record r { owed = o })
 
--- a line of a certificate, which has a form in the version of the text
+-- a line of a certificate, which may come in the version of the text
 unfoldable pub certified : BlockParser → List ℕ → List (List ℕ) → Result BlockParser FaultKind
 certified r line words =
     exact_cert_line line words

@@ -39,7 +39,7 @@ pub enum Piece {
 pub enum TextFault {
     /// The first line that is malformed at its place; or, where the text ends too early, the line
     /// after its last.
-    #[error("line {line} has no form here")]
+    #[error("line {line} is malformed here")]
     Garbled { line: u64 },
     #[error("out of memory")]
     NoMemory,

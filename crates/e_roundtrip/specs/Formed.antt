@@ -1,5 +1,5 @@
--- When the certificates of a derivation have the form that lines of a text can have, whether they
--- certify or not.
+-- When the certificates of a derivation are such as lines of a text can say, whether they certify
+-- or not.
 use Rattle.std.specs.Prelude.{ℤ, ◌^◌, nat_lt, List, [], ◌∷◌, length, Bool, true, false, not, ◌&&◌}
 use Rattle.std.specs.Prelude.{◌==◌, Some, None, IsTrue}
 use Rattle.std.specs.Option.{option_map_or}

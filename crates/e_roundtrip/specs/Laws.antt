@@ -46,7 +46,8 @@ ReadTextIsSpelled =
     → piece_from known last (at_start v) lines ≡ Ok (Derived t, rest)
     → text_of_lines lines ≡ spelled known t t.script ++ text_of_lines rest
 
--- and the derivation can be spelled, by its form: so that form is the form of what is read
+-- and the derivation can be spelled, whether its certificates certify or not: so what can be
+-- spelled is what can be read
 abbrev pub ReadCanBeSpelled : Type 0
 ReadCanBeSpelled =
     (v : Version) (known : List TitledStatement) (last : ℕ) (t : TheoremView)
@@ -56,8 +57,8 @@ ReadCanBeSpelled =
 
 -- ---- what is spelled is read
 
--- a derivation that is certified, and whose certificates name literals that are well formed, has
--- the form
+-- a derivation that is certified, and whose certificates name literals that are well formed, is
+-- formed
 abbrev pub CertifiedIsFormed : Type 0
 CertifiedIsFormed =
     (before : List StatementView) (t : StatementView) (d : Script) → Certified before t d

@@ -22,8 +22,8 @@ ShowsEnded (Err f ∷ lines) (text ∷ texts) rest = ⊥
 ShowsEnded (Ok l ∷ lines) (text ∷ texts) rest =
     (l.bytes ≡ text) × (l.end ≡ Lf) × ShowsEnded lines texts rest
 
--- what a derivation of a theorem is that lines of a text of this version can spell, by its form
--- alone: whether its certificates certify is not asked
+-- what a derivation of a theorem is that lines of a text of this version can spell; whether its
+-- certificates certify is not asked
 pub record CanBeSpelled (v : Version) (known : List TitledStatement) (t : TheoremView)
     (d : Script) : Type 0 where
   -- the theorem has a spelling, with the derivation's script for its own

@@ -16,7 +16,8 @@ pub fn one_text_for_one_tree()
     ensures { ReadTextIsSpelled }
 {}
 
-/// What is read as a theorem with its derivation can be spelled, by its form.
+/// What is read as a theorem with its derivation can be spelled, whether its certificates certify
+/// or not.
 pub fn what_is_read_can_be_spelled()
     ensures { ReadCanBeSpelled }
 {}
@@ -27,7 +28,7 @@ pub fn spelled_is_read()
     ensures { SpelledIsRead }
 {}
 
-/// A derivation that is certified has the form that lines can have.
+/// A derivation that is certified has certificates such as lines can say.
 pub fn certified_is_formed()
     ensures { CertifiedIsFormed }
 {}

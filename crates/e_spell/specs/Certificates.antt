@@ -48,7 +48,7 @@ abbrev pub sum_lines : Names → List (ℤ × RowName) → List (List (List ℕ)
 sum_lines ns sum = (codes "|" ∷ codes "sum" ∷ []) ∷ map (row_line ns) sum
 
 -- the row that differs comes before its two sums. It is the goal's or a fact's: another one
--- certifies nothing and has no form in a text, and is written as a row all the same
+-- certifies nothing and is malformed in a text, and is written as a row all the same
 abbrev pub sums_lines : Names → Sums → List (List (List ℕ))
 sums_lines ns (One sum) = sum_lines ns sum
 sums_lines ns (Two differs above below) =

@@ -27,7 +27,7 @@ use Rattle.e_deriv.specs.Goal.{Goal, goal_of}
 use Rattle.e_deriv.specs.Parts.{rest_of, inner_of, args_of}
 use Rattle.e_deriv.specs.PlacedSteps.{PlacedStep, placed_steps, theorem_at}
 use Rattle.e_deriv.specs.Steps.{is_citation}
-use Rattle.e_deriv.specs.Fitting.{form_fits}
+use Rattle.e_deriv.specs.Fitting.{fits_with_blanks}
 use Rattle.e_deriv.specs.Naming.{named}
 use Rattle.e_line.specs.Limits.{most_depth, most_facts, most_terms, most_blanks, monomials, count_monomials}
 use Rattle.e_names.specs.Scope.{scope_of_names, fresh}
@@ -72,7 +72,7 @@ with_use at theorem names =
 
 -- the line's form fits, whatever its blanks are filled with
 abbrev pub line_fits : List StatementView → PlacedStep → Bool
-line_fits before x = form_fits before x x.here
+line_fits before x = fits_with_blanks before x x.here
 
 -- the made objects of the goal have these sorts
 abbrev pub Makes : Goal → List Sort → Type 0

@@ -11,7 +11,7 @@ use Rattle.e_deriv.specs.PlacedSteps.{PlacedStep, placed_step, placed_steps}
 use Rattle.e_deriv.specs.Naming.{names_of_steps}
 use Rattle.e_deriv.specs.Licensed.{Licensed, AllLicensed}
 use Rattle.e_deriv.specs.Certified.{is_certified}
-use Rattle.e_deriv.specs.Fitting.{form_fits}
+use Rattle.e_deriv.specs.Fitting.{fits_with_blanks}
 use Rattle.e_clause.specs.declared.cert.Version.TheVariants as version
 use Rattle.e_deriv.specs.Versions.{has_certs_of}
 use Rattle.e_licence.specs.Contexts.{Basis}
@@ -28,22 +28,22 @@ steps_from_basis before script filled x goal =
 abbrev pub step_from_basis : Script → Script → Basis → Goal → PlacedStep
 step_from_basis script filled x goal = placed_step script filled x.scope x.facts goal
 
--- the step's form fits, whatever its blanks are filled with
-abbrev pub has_form : List StatementView → PlacedStep → Bool
-has_form before y = form_fits before y y.here
+-- the placed step fits, whatever its blanks are filled with
+abbrev pub fits_here : List StatementView → PlacedStep → Bool
+fits_here before y = fits_with_blanks before y y.here
 
--- where the step has its form it is licensed, with its blanks filled as in the derived one, and the
--- derived one is certified; without certificates the derived one is the step with its blanks
+-- where the step fits it is licensed, with its blanks filled as in the derived one, and the derived
+-- one is certified; without certificates the derived one is the step with its blanks
 -- filled; its certificates name literals that are well formed; this holds after
 pub record IsLicensedStep (before : List StatementView) (step : Step) (x : StepState)
     (derived : Step) (after : StepState) : Type 0 where
   pub licensed : (rest more : Script) (goal : Goal) →
-      IsTrue (has_form before
+      IsTrue (fits_here before
       (step_from_basis (step_script step rest) (step_script derived more) x.context goal)) →
       Licensed before
       (step_from_basis (step_script step rest) (step_script derived more) x.context goal)
   pub certified : (rest more : Script) (goal : Goal) →
-      IsTrue (has_form before
+      IsTrue (fits_here before
       (step_from_basis (step_script step rest) (step_script derived more) x.context goal)) →
       IsTrue (is_certified before
       (step_from_basis (step_script derived more) (step_script derived more) x.context goal))

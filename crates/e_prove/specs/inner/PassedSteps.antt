@@ -25,14 +25,14 @@ use Rattle.e_prove.specs.declared.step_state.StepState.{StepState}
 use Rattle.e_prove.specs.Stops.{IsStopBefore}
 use Rattle.e_prove.specs.inner.StepStates.{after_literal}
 use Rattle.e_prove.specs.inner.StopsOfSteps.{StepStopsAt}
-use Rattle.e_prove.specs.inner.LicensedSteps.{steps_from_basis, has_form}
+use Rattle.e_prove.specs.inner.LicensedSteps.{steps_from_basis, fits_here}
 
--- each step of the script has its form in its place, and its literals fit, however blanks are
--- filled; there are numbers for all objects
+-- each step of the script fits in its place, and so do its literals, however blanks are filled;
+-- there are numbers for all objects
 pub record IsReadyFor (before : List StatementView) (script : Script) (x : StepState)
     (goal : Goal) : Type 0 where
   pub forms :
-      IsTrue (list_all (has_form before) (steps_from_basis before script script x.context goal))
+      IsTrue (list_all (fits_here before) (steps_from_basis before script script x.context goal))
   pub lits : (filled : Script)
       → LitsFit before (steps_from_basis before script filled x.context goal)
   pub scopes :

@@ -37,7 +37,7 @@ restored outer x = record { scope = outer.scope; facts = take outer.facts x.fact
 abbrev pub opened : List Sort → List Lit → StepState → StepState
 opened sorts lits x = record { scope = grown x.scope sorts; facts = joined_all x.facts lits }
 
--- the form of each step fits, and at most 1,000 objects of each sort are in scope before it
+-- each step fits, and at most 1,000 objects of each sort are in scope before it
 pub record IsReady (before : List StatementView) (d : Script) (s : Scope) (facts : List Lit)
     (goal : Goal) : Type 0 where
   pub forms : IsTrue (list_all (fits before) (placed_steps before d d s facts goal))
@@ -47,14 +47,14 @@ pub record IsReady (before : List StatementView) (d : Script) (s : Scope) (facts
 abbrev pub passed : List StatementView → Script → StepState → StepState
 passed before here x = opened (makes_at before here) (joins_at before here x.scope) x
 
--- with something after it and some goal the form of the step fits
+-- with something after it and some goal the step fits
 pub record StepFits (before : List StatementView) (step : Step) (s : Scope) : Type 0 where
   pub rest : Script
   pub goal : Goal
   pub fits :
       IsTrue (fits_at before (step_script step rest) s goal (args_of (step_script step rest)))
 
--- the form of the close fits
+-- the close fits
 abbrev pub CloseFits : Close → Scope → Goal → Type 0
 CloseFits close s goal =
     (before : List StatementView)
