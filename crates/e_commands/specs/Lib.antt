@@ -10,4 +10,5 @@ pub mod DrawerAnswers
 pub mod MadeBooks
 pub mod Trials
 pub mod SuggesterAnswers
+pub mod Laws
 pub mod inner

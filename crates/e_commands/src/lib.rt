@@ -7,6 +7,7 @@ mod book;
 mod checker;
 mod drawer;
 mod input;
+mod laws;
 mod maker;
 mod output;
 mod pieces;
@@ -21,6 +22,7 @@ mod verifier;
 
 pub use checker::{check, close};
 pub use drawer::figure;
+pub use laws::{books_have_one_outcome, refusal_is_outcome, too_wide_is_wide};
 pub use maker::make;
 pub use rewriter::rewrite;
 pub use rewriting::Job;

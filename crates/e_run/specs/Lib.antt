@@ -1,4 +1,3 @@
 pub mod Words
 pub mod Proofs
 pub mod Runs
-pub mod Laws

@@ -1,5 +1,5 @@
 //! What follows from the definitions of books and their outcomes.
-ghost use Rattle.e_run.specs.Laws.{BooksHaveOneOutcome, RefusalIsOutcome, TooWideIsWide};
+ghost use Rattle.e_commands.specs.Laws.{BooksHaveOneOutcome, RefusalIsOutcome, TooWideIsWide};
 
 /// A book has one outcome.
 pub fn books_have_one_outcome()

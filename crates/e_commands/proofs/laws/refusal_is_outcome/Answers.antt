@@ -1,5 +1,5 @@
 use Rattle.e_commands.proofs.outcomes.Completeness.{stops_so}
-use Rattle.e_run.proofs.laws.refusal_is_outcome.Goals as goal
+use Rattle.e_commands.proofs.laws.refusal_is_outcome.Goals as goal
 
 pub returns : goal.returns
 returns c =
