@@ -12,7 +12,7 @@ ghost use Rattle.e_line.specs.Reading.{some_names, two_names, three_names};
 
 use crate::fault::{FaultKind, LineError};
 use e_literal::{Items, Sort};
-use e_text::{Name, Title, is, tokens};
+use e_text::{Name, Title, Tokens, is};
 use std::alloc::{AllocError, Global};
 use std::marker::Model;
 
@@ -33,7 +33,7 @@ pub fn collected(alloc: Global, line: &[u8]) -> Result<Vec<&[u8]>, AllocError>
     ensures { IfOk result (λ v. texts v.items ≡ tokens_of line.now) }
 {
     let mut words = Vec::with_capacity(alloc, line.len() / 2 + 1)?;
-    for word in tokens(line) {
+    for word in Tokens::new(line) {
         words.push(word)?;
     }
     Ok(words)

@@ -2,7 +2,7 @@
 
 use crate::answer::Answer;
 use crate::rows::{bytes_of, number, quoted, two};
-use e_text::{Lines, Name, Title, name_read_again, numeral, reserved, title_read_again, tokens};
+use e_text::{Lines, Name, Title, Tokens, name_read_again, numeral, reserved, title_read_again};
 use std::alloc::{AllocError, Global};
 
 /// Puts what a text is read as: lines, tokens, a numeral, or a word.
@@ -59,7 +59,7 @@ fn put_lines_of(alloc: Global, out: &mut Answer, on: &str) -> Result<(), AllocEr
 
 fn put_tokens(alloc: Global, out: &mut Answer, text: &str) -> Result<(), AllocError> {
     let text = bytes_of(alloc, text)?;
-    for token in tokens(&text) {
+    for token in Tokens::new(&text) {
         out.text(token);
     }
     Ok(())
