@@ -8,6 +8,10 @@
 //! answer a slash ends a line, and the exit status comes last; of a long one only the end is
 //! printed.
 //!
+//! A row may go on with further texts, with ` => ` before each: the text is run with each of them in
+//! turn in the place of its `@`, and ` => ` stands between the answers. Of those that end in success
+//! only the last line is printed.
+//!
 //! `5 by 4` in the place of a call is call 5, from 0, where each other one moves four bytes; `each
 //! by 4` is each call in turn, run after run, and the answer is about all these runs. `nowhere` in
 //! the place of the call of the sink is a sink that keeps nothing.
@@ -29,6 +33,9 @@ const WRITTEN: usize = 16;
 
 /// The most bytes of an answer that is printed in full.
 const PRINTED: usize = 6_000;
+
+/// Which part of a row is the text, from 0.
+const TEXT: usize = 3;
 
 /// The part of a row between its marks.
 fn part<'a>(row: &'a str, number: usize) -> &'a str {
@@ -91,11 +98,11 @@ fn unfolded(alloc: Global, text: &str) -> Result<Vec<u8>, AllocError> {
     Ok(out)
 }
 
-/// The written bytes and the exit status, in one line.
-fn folded(alloc: Global, written: &[u8], exit: u8) -> Result<String, AllocError> {
+/// The written bytes and the exit status, in one line; of more bytes than these the last line alone.
+fn folded(alloc: Global, written: &[u8], exit: u8, most: usize) -> Result<String, AllocError> {
     let lines = str::from_utf8(written).unwrap_or("");
     let mut text = String::new(alloc);
-    if lines.len() > PRINTED {
+    if lines.len() > most {
         text.push_str(".. ")?;
         text.push_str(lines.lines().last().unwrap_or(""))?;
         text.push_str("/")?;
@@ -109,10 +116,41 @@ fn folded(alloc: Global, written: &[u8], exit: u8) -> Result<String, AllocError>
     Ok(text)
 }
 
-/// What the program answers to a row.
+/// What the program answers to the text of a row with this one in the place of its `@`: of what ends
+/// in success the last line.
+fn answer_with(alloc: Global, row: &str, filling: &str) -> Result<String, AllocError> {
+    let (front, back) = part(row, TEXT).split_once('@').unwrap_or(("", ""));
+    let text = format!(in alloc; "{front}{filling}{back}")?;
+    let words = words_of(alloc, part(row, 0))?;
+    let text = unfolded(alloc, text.as_str())?;
+    let asked = Asked { words, text };
+    let (reads, writes) = (
+        calls_of(part(row, 1), READ),
+        calls_of(part(row, 2), WRITTEN),
+    );
+    let answered = ran(alloc, &asked, reads, writes)?;
+    let most = if answered.exit == 0 { 0 } else { PRINTED };
+    folded(alloc, &answered.written, answered.exit, most)
+}
+
+/// What the program answers to the text of a row with each of the further texts in turn.
+fn answers_in_turn(alloc: Global, row: &str) -> Result<String, AllocError> {
+    let mut fillings = row.split(" => ");
+    fillings.nth(TEXT);
+    let mut answers = String::new(alloc);
+    for (place, filling) in fillings.enumerate() {
+        if place > 0 {
+            answers.push_str(" => ")?;
+        }
+        answers.push_str(answer_with(alloc, row, filling)?.as_str())?;
+    }
+    Ok(answers)
+}
+
+/// What the program answers to a row with one text.
 fn answer(alloc: Global, row: &str) -> Result<String, AllocError> {
     let words = words_of(alloc, part(row, 0))?;
-    let text = unfolded(alloc, part(row, 3))?;
+    let text = unfolded(alloc, part(row, TEXT))?;
     let asked = Asked { words, text };
     let (read, write) = (part(row, 1), part(row, 2));
     let (reads, writes) = (calls_of(read, READ), calls_of(write, WRITTEN));
@@ -124,7 +162,7 @@ fn answer(alloc: Global, row: &str) -> Result<String, AllocError> {
         over_no_sink(alloc, &asked, reads, writes)
     } else {
         let answered = ran(alloc, &asked, reads, writes)?;
-        folded(alloc, &answered.written, answered.exit)
+        folded(alloc, &answered.written, answered.exit, PRINTED)
     }
 }
 
@@ -133,6 +171,8 @@ fn main(rt: HostRuntime) -> io::Result<()> {
     for row in rows.split_terminator('\n') {
         if row.starts_with('*') {
             println!(rt; "{row}")?;
+        } else if part(row, TEXT).contains('@') {
+            println!(rt; "{}", answers_in_turn(rt.alloc(), row)?)?;
         } else {
             println!(rt; "{}", answer(rt.alloc(), row)?)?;
         }
