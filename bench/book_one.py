@@ -1,4 +1,4 @@
-"""Writes Book I of examples/ in another form, to standard output: `lean` or `blanks`.
+"""Writes Book I of library/ in another form, to standard output: `lean` or `blanks`.
 
 `lean` leaves out the steps that idle.txt names: without them the program finds by itself what the later lines need. `blanks` leaves an
 argument of `apply` that is a line or a circle blank, at most six on a line from the last on, but at the steps of KEPT, where the least
@@ -10,8 +10,12 @@ import os
 import subprocess
 import sys
 
+sys.dont_write_bytecode = True
+sys.path.insert(0, os.path.join(os.path.dirname(os.path.abspath(__file__)), "../tools"))
+import join  # noqa: E402
+
 HERE = os.path.dirname(os.path.abspath(__file__))
-BOOK = f"{HERE}/../examples/book-1.book"
+BOOK = f"{HERE}/../library/book-1"
 IDLE = f"{HERE}/idle.txt"
 STEPS = {"by", "hence", "let", "apply", "claim", "superpose", "qed", "contradiction", "cases"}
 KEPT = {("I.30.pts", 16), ("I.30.pts", 25), ("I.47", 17), ("I.47", 24), ("meets.parallel", 6)}
@@ -21,21 +25,20 @@ MOST_BLANKS = 6
 def theorems():
     """Each theorem's title, and its lines with their words and their steps' numbers, which are 0 before the proof and for no step."""
     title, lines, step = "", [], None
-    with open(BOOK, encoding="ascii") as book:
-        for line in book:
-            words = line.split()
-            if not words or words[0].startswith("#"):
-                continue
-            if words[0] == "theorem":
-                title, lines, step = words[1], [], None
-            is_step = step is not None and words[0] in STEPS
-            if is_step:
-                step += 1
-            lines.append((line, words, step if is_step else 0))
-            if words == ["proof"]:
-                step = 0
-            if words == ["end"]:
-                yield title, lines
+    for line in join.joined(BOOK).decode("ascii").splitlines(keepends=True):
+        words = line.split()
+        if not words or words[0].startswith("#"):
+            continue
+        if words[0] == "theorem":
+            title, lines, step = words[1], [], None
+        is_step = step is not None and words[0] in STEPS
+        if is_step:
+            step += 1
+        lines.append((line, words, step if is_step else 0))
+        if words == ["proof"]:
+            step = 0
+        if words == ["end"]:
+            yield title, lines
 
 
 def lean():

@@ -17,7 +17,8 @@ import tempfile
 from collections import namedtuple
 
 HERE = os.path.dirname(os.path.abspath(__file__))
-BOOK = f"{HERE}/../examples/book-1.book"
+JOINED = [sys.executable, f"{HERE}/../tools/join.py"]
+BOOK = [*JOINED, f"{HERE}/../library/book-1"]
 RUNS = 5
 LIMIT = 60  # processor seconds of a run
 # Counting takes some fifty times as long as the run: it has a limit of its own, and is not tried where the run took longer than this.
@@ -39,7 +40,7 @@ def rows():
     for shape in ("cancelling", "cancelling-strict"):
         for size in (10, 20, 30, 40):
             yield grown(shape, size, "unlicensed T 1")
-    yield Row("Book I", 93, ["check"], ["cat", BOOK], "accepted 93", True)
+    yield Row("Book I", 93, ["check"], BOOK, "accepted 93", True)
     for form in ("lean", "blanks"):
         yield Row(f"Book I, {form}", 93, ["check"], script("book_one.py", form), "accepted 93")
     for kind in range(REFUSED):
@@ -47,7 +48,7 @@ def rows():
         yield Row(f"refused, step {kind}", 2000, ["check"], made, "unlicensed T 1")
     for size in (50, 500):
         yield Row("trial", size, ["trial", str(size)], ["true"], f"trial {size} theorems {size}")
-    yield Row("verify, Book I", 93, ["verify"], ["cat", BOOK], "verified 93")
+    yield Row("verify, Book I", 93, ["verify"], BOOK, "verified 93")
     yield Row("verify, sums", 40, ["verify"], script("sums.py", "40"), "verified 40")
 
 

@@ -1,8 +1,7 @@
 #!/usr/bin/env bash
 # Checks every example book and figure against its stored answer: NAME.out has the last lines that the
 # program writes for NAME.book. The exit status has to be that of the answer, and where a book is
-# accepted, `verify` has to accept what `check` wrote of it. Euclid's Book I is joined from its files
-# in book-1/, which has to give book-1.book, byte for byte; and it is trimmed, and its uses listed.
+# accepted, `verify` has to accept what `check` wrote of it.
 #
 #     bash examples/check.sh
 #
@@ -76,8 +75,6 @@ try_book() {
 }
 
 for book in "$here"/*.book "$here"/refused/*.book "$here"/pitfalls/*.book "$here"/tutorial/*.book; do
-    # Book I takes longest, and is the same text as its files joined, below
-    [ "$book" = "$here/book-1.book" ] && continue
     try_book "${book#"$here"/}" "$book" "${book%.book}.out"
 done
 
@@ -94,51 +91,6 @@ for asked in "$here"/tutorial/*.suggest; do
         printf '%s\n' "$found" | sed 's/^/    /'
     fi
 done
-
-# Book I from its files
-: >"$work/joined.book"
-while read -r file; do
-    cat "$here/book-1/$file" >>"$work/joined.book" || fail "book-1/$file: it cannot be read"
-done <"$here/book-1/order.txt"
-listed=$(LC_ALL=C sort "$here/book-1/order.txt")
-there=$(cd "$here/book-1" && printf '%s\n' *.book | LC_ALL=C sort)
-if [ "$listed" = "$there" ]; then
-    pass
-else
-    fail "book-1/order.txt: it does not list each file of book-1/ once"
-fi
-if cmp -s "$work/joined.book" "$here/book-1.book"; then
-    pass
-else
-    fail "book-1.book: it is not book-1/ joined in the order of book-1/order.txt"
-fi
-try_book "book-1/, joined" "$work/joined.book" "$here/book-1.out"
-
-# What trim and uses write of Book I: docs/trimming.md has the numbers of steps and of bytes before and
-# after, and book-1/uses.out has the lines of uses, which are the same of the trimmed text
-"$program" check <"$work/joined.book" >"$work/text" 2>"$work/errors"
-"$program" trim <"$work/text" >"$work/short" 2>"$work/errors"
-step='^ *(by|hence|let|apply|claim|superpose|qed|contradiction|cases)( |$)'
-for text in text short; do
-    if "$program" uses <"$work/$text" 2>"$work/errors" | cmp -s - "$here/book-1/uses.out"; then
-        pass
-    else
-        fail "book-1/uses.out: uses writes other lines of the $text"
-    fi
-    steps=$(grep -cE "$step" "$work/$text")
-    told="| $steps | $(wc -c <"$work/$text") |"
-    if tr -d , <"$here/../docs/trimming.md" | grep -qF "$told"; then
-        pass
-    else
-        fail "docs/trimming.md: steps and bytes of Book I are $told"
-    fi
-done
-answer=$("$program" verify <"$work/short" 2>"$work/errors")
-if [ "$answer" = "$(sed s/accepted/verified/ "$here/book-1.out")" ]; then
-    pass
-else
-    fail "Book I, trimmed: verify answers '$answer'"
-fi
 
 # try_figure NAME FIGURE ANSWER: checks one figure text; all that is written is its answer
 try_figure() {

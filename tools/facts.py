@@ -18,9 +18,10 @@ Each check yields findings: a page, the number of a line, and what is wrong ther
 
 import re
 
+import join
 import rests
 
-PAGES = ["README.md", "CONTRIBUTING.md", "docs/*.md", "examples/*.md", "examples/*/*.md"]
+PAGES = ["README.md", "CONTRIBUTING.md", "docs/*.md", "examples/*.md", "library/**/*.md"]
 TABLES = "Incidence Sides Circles Equality Lengths Angles".split()
 EQUAL = {"eq_p", "eq_l", "eq_c", "sums_equal"}
 ATOMS = {"onc": "on", "same_side": "same-side", "meets_ll": "meets", "meets_lc": "meets", "meets_cc": "meets"}
@@ -325,8 +326,8 @@ def theorems_of(book):
 
 
 def check_book_one(top):
-    theorems = theorems_of(read(top / "examples/book-1.book"))
-    page = top / "examples/book-1/README.md"
+    theorems = theorems_of(join.joined(top / "library/book-1").decode())
+    page = top / "library/book-1/README.md"
     told = set()
     for number, cells in cells_of(read(page)):
         title = cells[1].strip("`")
@@ -337,14 +338,14 @@ def check_book_one(top):
                 yield page, number, f"{title} applies {' '.join(applied) or 'none'} and has {steps} steps"
     for title in sorted(set(theorems) - told):
         yield page, 1, f"no row for {title}"
-    page = top / "examples/book-1/uses.out"
+    page = top / "library/book-1/uses.out"
     lines = [" ".join(["uses", title, *applied]) for title, (applied, _) in theorems.items()]
     if read(page) != "\n".join([*lines, f"listed {len(theorems)}", ""]):
         yield page, 1, "not the lines of the book"
     count = f"{len(theorems)} theorems, {sum(steps for _, steps in theorems.values()):,} steps"
-    for name in ("examples/README.md", "examples/book-1/README.md"):
-        if count not in re.sub(r"\s+", " ", read(top / name)):
-            yield top / name, 1, f"Book I has {count}"
+    page = top / "library/book-1/README.md"
+    if count not in re.sub(r"\s+", " ", read(page)):
+        yield page, 1, f"Book I has {count}"
     page = top / "docs/trimming.md"
     text = read(page)
     table = rests.table({title: applied for title, (applied, _) in theorems.items()}, r"I\.[0-9]+")

@@ -5,8 +5,8 @@
 
 What it looks for:
 
-- A name in backticks, in README.md, CONTRIBUTING.md, CHANGELOG.md, docs/, examples/README.md and
-  the like, that is written as a path, a file, a crate, or an identifier of Rust or antt, and that
+- A name in backticks, in README.md, CONTRIBUTING.md, CHANGELOG.md, docs/, the pages of examples/ and
+  library/ and the like, that is written as a path, a file, a crate, or an identifier of Rust or antt, and that
   the tree does not have. What counts as which is told at `kind_of`.
 - A link to a file that is not there, or to a heading that is not.
 - A crate that is in one of crates.txt, README.md, docs/architecture.md and crates/ and not in
@@ -32,7 +32,7 @@ import facts  # noqa: E402
 
 TOP = Path(sys.argv[1] if sys.argv[1:] else Path(__file__).resolve().parent.parent).resolve()
 COLUMNS = 100
-PAGES = ["README.md", "CONTRIBUTING.md", "CHANGELOG.md", "docs/*.md", "examples/**/*.md"]
+PAGES = ["README.md", "CONTRIBUTING.md", "CHANGELOG.md", "docs/*.md", "examples/**/*.md", "library/**/*.md"]
 PAGES += ["editors/*.md", "bench/*.md"]
 WRAPPED = re.compile(r"[^/]*|(docs|editors)/[^/]*")  # pages whose lines are counted
 
