@@ -1,9 +1,9 @@
 #!/usr/bin/env bash
-# All measures, one after another. The program is the first word, or crates/elements/out/elements; the linear core is measured by
+# All measures, one after another. The program is the first word, or release/elements; the linear core is measured by
 # its own program, crates/linear_bench/out/linear_bench.
 set -eu
 here="$(cd "$(dirname "$0")" && pwd)"
-program="${1:-$here/../crates/elements/out/elements}"
+program="${1:-$here/../release/elements}"
 for measure in reading verifying trial licences blanks shapes; do
     printf '\n== %s\n' "$measure"
     "$here/$measure.sh" "$program"

@@ -142,4 +142,4 @@ def main(program):
 
 
 if __name__ == "__main__":
-    main(os.path.abspath(sys.argv[1] if len(sys.argv) > 1 else f"{HERE}/../crates/elements/out/elements"))
+    main(os.path.abspath(sys.argv[1] if len(sys.argv) > 1 else f"{HERE}/../release/elements"))

@@ -1,9 +1,9 @@
 #!/usr/bin/env bash
 # How the time and the memory of `elements check` grow with the book: books of 1, 2 and 4 MiB of accepted theorems.
-# The program is the first word, or crates/elements/out/elements. The ratio is that of processor times a doubling.
+# The program is the first word, or release/elements. The ratio is that of processor times a doubling.
 set -eu
 here="$(cd "$(dirname "$0")" && pwd)"
-program="${1:-$here/../crates/elements/out/elements}"
+program="${1:-$here/../release/elements}"
 room="$(mktemp -d)"
 trap 'rm -rf "$room"' EXIT
 for size in 1048576 2097152 4194304; do

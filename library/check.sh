@@ -6,14 +6,14 @@
 #
 #     bash library/check.sh
 #
-# The program is crates/elements/out/elements, or the one that the variable ELEMENTS names. The last line is
+# The program is release/elements, or the one that the variable ELEMENTS names. The last line is
 # `N passed, M failed`; the exit status is 0 only where nothing failed.
 set -u
 here=$(cd "$(dirname "$0")" && pwd) || exit 1
 tools=$here/../tools
-program=${ELEMENTS:-$here/../crates/elements/out/elements}
+program=${ELEMENTS:-$here/../release/elements}
 if [ ! -x "$program" ]; then
-    echo "no program at $program: build it by (cd crates/elements && rt run), or set ELEMENTS" >&2
+    echo "no program at $program" >&2
     echo "0 passed, 1 failed"
     exit 1
 fi

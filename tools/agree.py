@@ -24,7 +24,7 @@ sys.dont_write_bytecode = True
 import verify  # noqa: E402
 
 TOP = Path(__file__).resolve().parent.parent
-EXE = TOP / "crates/elements/out/elements"
+EXE = TOP / "release/elements"
 
 WORDS = """not on inside center between same-side meets = != < <= + 0 1 2 ; : | seg ang area right
 fact metric transfer clash sum differs goal pos top least above below made points lines circles given
