@@ -1,7 +1,8 @@
 #!/usr/bin/env python3
 """Facts that documents tell and the tree has: tools/lint.py asks that they agree.
 
-- docs/rules.md has the rules and the constructions of the definitions, row by row: `check_rules`.
+- docs/rules.md has the rules and the constructions of the definitions, row by row, and of each rule the axiom for which its
+  name stands: `check_rules`.
 - A number of rules, in any document, is that of the table: `check_counts`. So is the number of stored rows, and of
   reserved words.
 - The row of a crate in docs/architecture.md has the first sentence of its head comment, and its section in
@@ -23,6 +24,9 @@ import rests
 
 PAGES = ["README.md", "CONTRIBUTING.md", "docs/*.md", "examples/*.md", "library/**/*.md"]
 TABLES = "Incidence Sides Circles Equality Lengths Angles".split()
+# The groups of the article's axioms, by the letters that a rule's name begins with.
+AXIOMS = {"g": "Generality", "b": "Between", "s": "Same side", "p": "Pasch", "t": "Triple incidence", "c": "Circle"}
+AXIOMS |= {"x": "Intersection", "ds": "Diagram-segment", "da": "Diagram-angle", "dr": "Diagram-area", "m": "Metric"}
 EQUAL = {"eq_p", "eq_l", "eq_c", "sums_equal"}
 ATOMS = {"onc": "on", "same_side": "same-side", "meets_ll": "meets", "meets_lc": "meets", "meets_cc": "meets"}
 STEP = re.compile(r"(by|hence|let|apply|claim|superpose|qed|contradiction|cases)\b")
@@ -138,6 +142,15 @@ def shapes_of(top):
     return shapes
 
 
+def axiom_of(rule):
+    """The axiom of the article for which the name of a rule stands: `c2a` for Circle 2."""
+    match = re.fullmatch(r"([a-z]+)([0-9]+)[a-z]?", rule)
+    group = AXIOMS.get(match.group(1)) if match else None
+    if group is None or re.match(r"x[67]", rule):
+        return "none known"
+    return f"{group} {match.group(2)}"
+
+
 def check_rules(top):
     page = top / "docs/rules.md"
     text = read(page)
@@ -146,8 +159,10 @@ def check_rules(top):
     names = []
     for number, cells in cells_of(text):
         name = cells[0].strip("`")
-        if len(cells) == 5 and cells[0].startswith("`") and " " not in name:
+        if len(cells) == 6 and cells[0].startswith("`") and " " not in name:
             names.append(name)
+            if cells[5] != axiom_of(name):
+                yield page, number, f"the rule {name} is axiom '{axiom_of(name)}' by its name"
             variables = cells[1].strip("`").split()
             sorts = [sum(map(test, variables)) for test in (str.islower, "LMN".__contains__, "ABC".__contains__)]
             if rules.get(name) != [sorts, spans(cells[2]), spans(cells[3])]:
