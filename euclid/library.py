@@ -5,6 +5,7 @@ from __future__ import annotations
 import bisect
 import sys
 import tomllib
+from collections.abc import Mapping
 from dataclasses import dataclass, field
 from pathlib import Path
 
@@ -105,9 +106,12 @@ def shown(path: Path) -> Path:
         return path
 
 
-def load(paths: list[Path]) -> Library:
-    """The files and libraries of a command line, as one library."""
-    loader = Loader()
+def load(paths: list[Path], overlay: Mapping[Path, str] | None = None) -> Library:
+    """The files and libraries of a command line, as one library.
+
+    An overlay has texts that stand for those of files, as an editor has them; it is by full paths.
+    """
+    loader = Loader(overlay or {})
     for path in paths:
         if path.is_dir():
             loader.folder(path.resolve(), [], True)
@@ -119,7 +123,8 @@ def load(paths: list[Path]) -> Library:
 class Loader:
     """Takes each file once, before its first user."""
 
-    def __init__(self) -> None:
+    def __init__(self, overlay: Mapping[Path, str]) -> None:
+        self.overlay = overlay
         self.library = Library()
         self.taken: set[Path] = set()
         self.next = 1
@@ -196,7 +201,7 @@ class Loader:
         if where in self.taken:
             return
         self.taken.add(where)
-        text = read_text(path)
+        text = self.overlay[where] if where in self.overlay else read_text(path)
         self.bytes += len(text)
         if self.bytes > MOST_BYTES:
             raise Faulty(shown(path), f"the books have more than {MOST_BYTES:,} bytes together")
