@@ -1,0 +1,1 @@
+"""The tests: `python3 -m unittest discover -s euclid/tests -t .`"""
