@@ -11,7 +11,7 @@ from pathlib import Path
 
 from .reading import read_lines
 from .script import Book, Item, Theorem
-from .syntax import SourceLine, source_line
+from .syntax import SourceLine, lines_of
 
 MOST_BYTES = 4_194_304  # of the joined text, as `elements` has it
 CONFIG = "book.toml"
@@ -205,9 +205,7 @@ class Loader:
         self.bytes += len(text)
         if self.bytes > MOST_BYTES:
             raise Faulty(shown(path), f"the books have more than {MOST_BYTES:,} bytes together")
-        lines = [source_line(number, part) for number, part in enumerate(text.split("\n"), 1)]
-        if lines and lines[-1].text == "":
-            lines.pop()
+        lines = lines_of(text)
         self.library.files.append(SourceFile(where, text, lines, self.next))
         self.next += len(lines)
 

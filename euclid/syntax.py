@@ -85,10 +85,9 @@ def source_line(number: int, text: str) -> SourceLine:
 
 def lines_of(text: str) -> list[SourceLine]:
     """The lines of a text. A line ends with a line feed, perhaps with a carriage return before."""
-    parts = text.split("\n")
-    if parts and parts[-1] == "":
-        parts.pop()
-    return [source_line(number, part.removesuffix("\r")) for number, part in enumerate(parts, 1)]
+    *parts, last = text.split("\n")
+    ended = [part.removesuffix("\r") for part in parts] + ([last] if last else [])
+    return [source_line(number, part) for number, part in enumerate(ended, 1)]
 
 
 def is_name(word: str) -> bool:
