@@ -79,10 +79,12 @@ class BookReader:
 
     def item(self, lines: list[SourceLine], head: SourceLine) -> None:
         """Reads one item."""
-        reader = ItemReader(lines, head, self.book.known)
-        item = reader.read()
+        self.put(ItemReader(lines, head, self.book.known).read())
+
+    def put(self, item: Item) -> None:
+        """Takes an item into the book, and what it says into what is known."""
         self.book.items.append(item)
-        if item.fault is None:
+        if item.is_said():
             kind = self.book.known.theorems if isinstance(item, Theorem) else self.book.known.definitions
             kind[item.title] = item.statement
 

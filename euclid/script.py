@@ -158,6 +158,10 @@ class Item:
                 found.clear()
         return " ".join(found)
 
+    def is_said(self) -> bool:
+        """Whether its statement was read whole, so that others may speak of it."""
+        return self.fault is None
+
     @property
     def first(self) -> int:
         """The number of its first line, its comment left out."""
@@ -180,6 +184,9 @@ class Theorem(Item):
 
     proof: Block = field(default_factory=Block)
     proof_line: SourceLine | None = None
+
+    def is_said(self) -> bool:
+        return self.proof_line is not None
 
     def steps(self) -> list[Step]:
         """All steps, in order: the first has number 1."""
@@ -217,7 +224,7 @@ class Book:
         for each in self.items:
             if each is item:
                 break
-            if each.fault is None:
+            if each.is_said():
                 kind = known.theorems if isinstance(each, Theorem) else known.definitions
                 kind[each.title] = each.statement
         return known

@@ -8,6 +8,7 @@ from __future__ import annotations
 import re
 from dataclasses import dataclass
 from enum import StrEnum
+from functools import lru_cache
 
 RESERVED = frozenset(
     """theorem points lines circles given made show proof end by hence let apply as claim superpose
@@ -85,9 +86,15 @@ def source_line(number: int, text: str) -> SourceLine:
 
 def lines_of(text: str) -> list[SourceLine]:
     """The lines of a text. A line ends with a line feed, perhaps with a carriage return before."""
+    return list(lines_in(text))
+
+
+@lru_cache(maxsize=1024)
+def lines_in(text: str) -> tuple[SourceLine, ...]:
+    """The same, kept for when the text comes again."""
     *parts, last = text.split("\n")
     ended = [part.removesuffix("\r") for part in parts] + ([last] if last else [])
-    return [source_line(number, part) for number, part in enumerate(ended, 1)]
+    return tuple(source_line(number, part) for number, part in enumerate(ended, 1))
 
 
 def is_name(word: str) -> bool:
