@@ -15,6 +15,7 @@ from .syntax import SourceLine, lines_of
 
 MOST_BYTES = 4_194_304  # of the joined text, as `elements` has it
 CONFIG = "book.toml"
+STREAM = Path("-")  # standard input
 
 
 class Faulty(Exception):
@@ -72,7 +73,7 @@ class Library:
         """The place in a file of a line of the joined text; the last line's where there is none."""
         starts = [file.start for file in self.files]
         if not starts:
-            return Place(Path("-"), number, column)
+            return Place(STREAM, number, column)
         file = self.files[max(bisect.bisect_right(starts, number) - 1, 0)]
         return Place(shown(file.path), min(number - file.start + 1, max(len(file.lines), 1)), column)
 
@@ -133,7 +134,7 @@ class Loader:
     def beside(self, path: Path) -> None:
         """A file; where it is one of a library's, what comes before it there is taken first."""
         folder = path.resolve().parent
-        if path != Path("-") and (folder / CONFIG).is_file():
+        if path != STREAM and (folder / CONFIG).is_file():
             needs, files = self.config(folder)
             if path.resolve() in files:
                 for need in needs:
@@ -195,7 +196,7 @@ class Loader:
 
     def file(self, path: Path, is_own: bool) -> None:
         """One file."""
-        where = path.resolve() if path != Path("-") else path
+        where = path.resolve() if path != STREAM else path
         if is_own:
             self.library.own.add(where)
         if where in self.taken:
@@ -213,7 +214,7 @@ class Loader:
 def read_text(path: Path) -> str:
     """The text of a file, or of standard input for `-`; at most a little more than a book may have."""
     try:
-        if path == Path("-"):
+        if path == STREAM:
             data = sys.stdin.buffer.read(MOST_BYTES + 1)
         else:
             if path.is_dir():

@@ -5,7 +5,7 @@ from __future__ import annotations
 from collections.abc import Sequence
 from dataclasses import dataclass, field
 
-from .literals import Literal, Sort, renamed
+from .literals import Literal, Sort, renamed, spell, spell_all
 
 Objects = list[tuple[str, Sort]]  # names with their sorts, in order
 
@@ -30,6 +30,23 @@ class Statement:
         objects = self.declared + self.made
         names = {old: name for (old, _), name in zip(objects, [*arguments, *new])}
         return [renamed(literal, names) for literal in self.shown]
+
+    def use(self) -> str:
+        """The words after `apply` with which it is used at its own names."""
+        made = ["as", *(name for name, _ in self.made)] if self.made else []
+        return " ".join([self.title, *(name for name, _ in self.declared), *made])
+
+    def lines(self) -> list[str]:
+        """What is given and what is shown, a line each."""
+        given = [f"given {spell_all(self.given)}"] if self.given else []
+        return [*given, f"show {spell_all(self.shown)}"]
+
+    def data(self) -> dict[str, object]:
+        """It as an object of JSON."""
+        return {"title": self.title, "declared": [[name, sort.value] for name, sort in self.declared],
+                "given": [spell(each) for each in self.given],
+                "made": [[name, sort.value] for name, sort in self.made],
+                "shown": [spell(each) for each in self.shown]}
 
 
 @dataclass

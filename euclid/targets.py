@@ -79,6 +79,11 @@ def add_paths(parser: argparse.ArgumentParser) -> None:
                         help="files, or folders with a book.toml; where there is none, the folder you are in")
 
 
+def add_json(parser: argparse.ArgumentParser) -> None:
+    """The word for tools."""
+    parser.add_argument("--json", action="store_true", help="one object of JSON a line")
+
+
 def add_step(parser: argparse.ArgumentParser) -> None:
     """The words that name a step."""
     parser.add_argument("title", metavar="TITLE", help="the title of a theorem")
