@@ -6,11 +6,14 @@
 - A number of rules, in any document, is that of the table: `check_counts`. So is the number of stored rows, and of
   reserved words.
 - The row of a crate in docs/architecture.md has the first sentence of its head comment, and its section in
-  docs/proved.md names each of its public functions and laws; what README says carries its claim is in its code:
+  docs/proved.md names each of its public functions and laws; what the table there says carries its claim is in its code:
   `check_crates`.
 - The usage line, the exit statuses and the libraries that are trusted are those of the code: `check_program`.
 - The limits and the reserved words of docs/book.md are those of the code: `check_language`.
 - What Book I applies and rests on is what its `apply` lines say: `check_book_one`.
+- README has at most 150 lines, and says how many lines the second verifier has: `check_readme`.
+- The newest version of CHANGELOG.md is that of CITATION.cff, and of release/, or the program there is unreleased:
+  `check_versions`.
 - Pages of definitions and files of proofs, which docs/definitions.md and docs/proofs.md name without their suffix, are
   there: `check_files`.
 
@@ -23,6 +26,7 @@ import join
 import rests
 
 PAGES = ["README.md", "CONTRIBUTING.md", "docs/*.md", "examples/*.md", "library/**/*.md"]
+MOST_README_LINES = 150
 TABLES = "Incidence Sides Circles Equality Lengths Angles".split()
 # The groups of the article's axioms, by the letters that a rule's name begins with.
 AXIOMS = {"g": "Generality", "b": "Between", "s": "Same side", "p": "Pasch", "t": "Triple incidence", "c": "Circle"}
@@ -252,8 +256,7 @@ def check_crates(top):
         for name in public_names(top, crate):
             if section and not re.search(rf"\b{name}\b", section.group(1)):
                 yield page, line_of(text, section.group()), f"{crate} has the public function {name}"
-    page = top / "README.md"
-    for number, cells in cells_of(read(page)):
+    for number, cells in cells_of(text):
         crate = cells[0].strip("`")
         if len(cells) == 3 and crate in crates:
             code = "".join(read(path) for path in sorted((top / "crates" / crate / "src").glob("*.rt")))
@@ -267,11 +270,11 @@ def check_crates(top):
 
 def check_program(top):
     usage = re.search(r'"(usage: .*?)\\n"', read(top / "crates/e_run/src/runner.rt")).group(1)
-    for name in ("README.md", "docs/answers.md"):
-        if usage not in read(top / name).replace("\\|", "|"):
-            yield top / name, 1, f"the usage line is another one: {usage}"
+    page = top / "docs/answers.md"
+    if usage not in read(page).replace("\\|", "|"):
+        yield page, 1, f"the usage line is another one: {usage}"
     for command in re.findall(r"(\w+)(?: [A-Z]+)*(?: \||$)", usage.replace("usage: elements ", "")):
-        for name in ("docs/answers.md", "docs/claims.md"):
+        for name in ("README.md", "docs/answers.md", "docs/claims.md"):
             if not re.search(rf"`{command}\b", read(top / name)):
                 yield top / name, 1, f"the command {command} is not told"
     code = read(top / "crates/e_commands/src/status.rt")
@@ -290,7 +293,7 @@ def check_program(top):
         yield page, 1, f"the answer {name} is not told"
     listed = dict(re.findall(r"^(\w+):(.*)$", read(top / "crates.txt"), re.M))
     libraries = {name for names in listed.values() for name in names.split()} - set(listed)
-    page = top / "README.md"
+    page = top / "docs/claims.md"
     trusted = re.search(r"of its crates ((?:`\w+`[,.\s]*)+)", read(page))
     if not trusted or set(spans(trusted.group(1))) != libraries:
         yield page, 1, f"the libraries of crates.txt: {' '.join(sorted(libraries))}"
@@ -361,11 +364,46 @@ def check_book_one(top):
     page = top / "library/book-1/README.md"
     if count not in re.sub(r"\s+", " ", read(page)):
         yield page, 1, f"Book I has {count}"
+    page = top / "README.md"
+    if count.replace(", ", " and ") not in re.sub(r"\s+", " ", read(page)):
+        yield page, 1, f"Book I has {count}"
     page = top / "docs/trimming.md"
     text = read(page)
     table = rests.table({title: applied for title, (applied, _) in theorems.items()}, r"I\.[0-9]+")
     if "\n".join(table) not in text:
         yield page, line_of(text, table[0]), "what Book I rests on is not what tools/rests.py makes"
+
+
+# ---- README
+
+
+def check_readme(top):
+    page = top / "README.md"
+    text = read(page)
+    lines = text.count("\n")
+    if lines > MOST_README_LINES:
+        yield page, MOST_README_LINES + 1, f"{lines} lines: {MOST_README_LINES} are the most"
+    verifier = read(top / "tools/verify.py").count("\n")
+    if f"{verifier} lines of [Python](tools/verify.py)" not in re.sub(r"\s+", " ", text):
+        yield page, line_of(text, "lines of [Python]"), f"tools/verify.py has {verifier} lines"
+
+
+# ---- versions
+
+
+def check_versions(top):
+    page = top / "CHANGELOG.md"
+    version, date = re.search(r"^## ([0-9.]+), ([0-9-]+)$", read(page), re.M).groups()
+    page = top / "CITATION.cff"
+    for line in (f"version: {version}", f"date-released: {date}"):
+        if line not in read(page).split("\n"):
+            yield page, 1, f"the newest version of CHANGELOG.md has {line}"
+    page = top / "release/SHA256SUMS"
+    released = re.match(r"# elements (.*)", read(page)).group(1)
+    if released not in (version, "unreleased"):
+        yield page, 1, f"the newest version of CHANGELOG.md is {version}"
+    if released == "unreleased" and "\n## Unreleased\n" not in read(top / "CHANGELOG.md"):
+        yield top / "CHANGELOG.md", 1, "the program of release/ is unreleased: say what changed under Unreleased"
 
 
 # ---- files that are named without their suffix
@@ -394,4 +432,4 @@ def check_files(top):
                     yield page, number, f"no file of proofs: {word}"
 
 
-CHECKS = [check_rules, check_counts, check_crates, check_program, check_language, check_book_one, check_files]
+CHECKS = [check_rules, check_counts, check_crates, check_program, check_language, check_book_one, check_readme, check_versions, check_files]

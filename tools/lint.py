@@ -5,11 +5,11 @@
 
 What it looks for:
 
-- A name in backticks, in README.md, CONTRIBUTING.md, CHANGELOG.md, docs/, the pages of examples/ and
+- A name in backticks, in README.md and its like, docs/, the pages of examples/ and
   library/ and the like, that is written as a path, a file, a crate, or an identifier of Rust or antt, and that
   the tree does not have. What counts as which is told at `kind_of`.
 - A link to a file that is not there, or to a heading that is not.
-- A crate that is in one of crates.txt, README.md, docs/architecture.md and crates/ and not in
+- A crate that is in one of crates.txt, docs/proved.md, docs/architecture.md and crates/ and not in
   another, or that stands on other crates there.
 - docs/claim.txt, where it is not what tools/claim.py makes of the definitions.
 - A fact that a document tells otherwise than the tree has it: tools/facts.py says which.
@@ -33,8 +33,8 @@ import facts  # noqa: E402
 TOP = Path(sys.argv[1] if sys.argv[1:] else Path(__file__).resolve().parent.parent).resolve()
 COLUMNS = 100
 PAGES = ["README.md", "CONTRIBUTING.md", "CHANGELOG.md", "docs/*.md", "examples/**/*.md", "library/**/*.md"]
-PAGES += ["editors/*.md", "bench/*.md"]
-WRAPPED = re.compile(r"[^/]*|(docs|editors)/[^/]*")  # pages whose lines are counted
+PAGES += ["SECURITY.md", "editors/*.md", "bench/*.md", "release/*.md", ".github/**/*.md"]
+WRAPPED = re.compile(r"[^/]*|(docs|editors|release)/[^/]*")  # pages whose lines are counted
 
 # The suffixes of files that a document may name.
 SUFFIXES = "rt antt md book txt edit sh py text out json ebnf vim text".split()
@@ -188,7 +188,7 @@ def check_crates(findings):
     folders = {path.parent.name for path in TOP.glob("crates/*/src")}
     for name in sorted(set(listed) ^ folders):
         findings.append((crates_txt, listed.get(name, (1,))[0], f"in one of list and crates/: {name}"))
-    for page in (TOP / "README.md", TOP / "docs/architecture.md"):
+    for page in (TOP / "docs/proved.md", TOP / "docs/architecture.md"):
         if not page.exists():
             continue
         told = {}
