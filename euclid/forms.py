@@ -5,7 +5,7 @@ from __future__ import annotations
 from .literals import Diagram, Literal, Sort, Sorts, parse_literal, renamed
 from .rules import LETTERS, Construction, tables
 from .statements import Known, Objects
-from .syntax import Fault, FaultKind, is_name, malformed, split_at
+from .syntax import Fault, FaultKind, count_of, is_name, malformed, split_at
 
 
 def literals_in(words: list[str], start: int, sorts: Sorts, known: Known) -> list[Literal]:
@@ -28,7 +28,8 @@ def item_in(words: list[str], sorts: Sorts, known: Known) -> list[Literal]:
     meant = known.definitions[words[1]]
     names = words[2:]
     if len(names) != len(meant.declared):
-        raise malformed(f"`{words[1]}` takes {len(meant.declared)} names, and here are {len(names)}", 1)
+        letters = " ".join(name for name, _ in meant.declared)
+        raise malformed(f"`{words[1]}` takes {count_of(len(meant.declared), 'name')} ({letters}), not {len(names)}", 1)
     for at, (name, (_, sort)) in enumerate(zip(names, meant.declared), 2):
         check_object(name, sort, sorts, at)
     given = {old: new for (old, _), new in zip(meant.declared, names)}
@@ -68,8 +69,8 @@ def parse_by(words: list[str], sorts: Sorts) -> tuple[str, list[str], Literal]:
         said = "is a transfer rule, which `hence` finds by itself" if transfer else "is no rule"
         raise Fault(FaultKind.UNKNOWN_NAME, f"`{name}` {said}", min(1, len(words) - 1))
     if len(names) != len(rule.variables):
-        raise malformed(f"`{name}` takes {len(rule.variables)} names ({' '.join(rule.variables)}), "
-                        f"and here are {len(names)}", 1)
+        raise malformed(f"`{name}` takes {count_of(len(rule.variables), 'name')} ({' '.join(rule.variables)}), "
+                        f"not {len(names)}", 1)
     for place, (each, sort) in enumerate(zip(names, rule.sorts), 2):
         check_object(each, sort, sorts, place)
     try:
@@ -147,7 +148,7 @@ def parse_apply(words: list[str], sorts: Sorts, known: Known) -> tuple[str, list
     used = known.theorems[title]
     if len(arguments) != len(used.declared):
         letters = " ".join(name for name, _ in used.declared)
-        raise malformed(f"`{title}` takes {len(used.declared)} arguments ({letters}), and here are {len(arguments)}", 1)
+        raise malformed(f"`{title}` takes {count_of(len(used.declared), 'argument')} ({letters}), not {len(arguments)}", 1)
     if len(names) != len(used.made) or (at < len(words)) != bool(used.made):
         wanted = f"makes {len(used.made)} objects, named after `as`" if used.made else "makes nothing, so there is no `as`"
         raise malformed(f"`{title}` {wanted}", min(at, len(words) - 1))

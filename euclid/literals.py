@@ -38,6 +38,7 @@ PREDICATES: dict[str, tuple[tuple[Sort, ...], ...]] = {
 }
 TERMS = {"seg": 2, "ang": 3, "area": 3, "right": 0}
 KINDS = {"seg": "segment", "ang": "angle", "area": "area", "right": "angle"}
+WITH_ARTICLE = {"segment": "a segment", "angle": "an angle", "area": "an area"}
 NUMBERS = {2: "two", 3: "three"}
 RELATIONS = ("=", "!=", "<", "<=")
 
@@ -230,7 +231,7 @@ def parse_predicate(words: list[str], sorts: Sorts) -> Diagram:
     allowed = PREDICATES[word]
     count = len(allowed[0])
     if len(names) != count:
-        raise malformed(f"`{word}` takes {NUMBERS[count]} names, and here are {len(names)}",
+        raise malformed(f"`{word}` takes {NUMBERS[count]} names, not {len(names)}",
                         min(len(names), count) + 1 if len(names) > count else len(words))
     for at, name in enumerate(names, 1):
         if not is_name(name):
@@ -283,7 +284,7 @@ def parse_term(words: list[str], sorts: Sorts, start: int) -> Term:
     word, *names = words
     if len(names) != TERMS[word]:
         count = NUMBERS.get(TERMS[word], "no")
-        raise malformed(f"`{word}` takes {count} points, and here are {len(names)}", start)
+        raise malformed(f"`{word}` takes {count} points, not {len(names)}", start)
     for at, name in enumerate(names, 1):
         if not is_name(name):
             raise malformed(f"`{name}` is no name", start + at)
@@ -300,7 +301,7 @@ def check_kinds(words: list[str], monomials: Sum) -> None:
         raise malformed("a literal of magnitudes has a term")
     for at, kind in kinds:
         if kind != kinds[0][1]:
-            raise Fault(FaultKind.WRONG_SORT, f"a {kind} is not compared with a {kinds[0][1]}", at)
+            raise Fault(FaultKind.WRONG_SORT, f"{WITH_ARTICLE[kind]} is not compared with {WITH_ARTICLE[kinds[0][1]]}", at)
 
 
 def sort_of(name: str, sorts: Sorts, at: int) -> Sort:

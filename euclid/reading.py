@@ -9,7 +9,7 @@ from .literals import PLURALS, Sort, parse_literal
 from .script import (Apply, Block, Book, By, Cases, Claim, Contradiction, Definition, Hence, Item, Let, Qed,
                      Step, Superpose, Theorem)
 from .statements import Known, Objects, Statement
-from .syntax import Fault, FaultKind, SourceLine, is_title, lines_of, malformed
+from .syntax import Fault, FaultKind, SourceLine, count_of, is_title, lines_of, malformed
 
 MOST_DEPTH = 32  # blocks one inside the other, as `elements` has it
 STEPS = ("by", "hence", "let", "apply", "claim", "superpose", "qed", "contradiction", "cases")
@@ -112,7 +112,7 @@ class ItemReader:
                 self.proof(self.item)
             self.last_line()
         except Fault as fault:
-            self.item.fault = fault
+            self.item.fault, self.item.scope = fault, dict(self.sorts)
             ended = fault.kind == FaultKind.UNENDED
             self.item.fault_line = None if ended else self.lines[max(self.at - 1, 0)]
         return self.item
@@ -276,7 +276,7 @@ class ItemReader:
         """`qed`."""
         names = list(line.words[1:])
         if len(names) != len(made):
-            wanted = f"takes {len(made)} names, for the made objects" if made else "takes no names here"
+            wanted = f"takes {count_of(len(made), 'name')}, for what is made" if made else "takes no names here"
             raise malformed(f"`qed` {wanted}", min(len(names), len(made)) + (len(names) > len(made)))
         for at, (name, (_, sort)) in enumerate(zip(names, made), 1):
             if name not in self.sorts:

@@ -144,6 +144,7 @@ class Item:
     statement: Statement
     fault: Fault | None = None
     fault_line: SourceLine | None = None  # none where the text ends too early
+    scope: dict[str, Sort] = field(default_factory=dict)  # the objects at its fault
 
     @property
     def comment(self) -> str:

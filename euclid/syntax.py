@@ -97,6 +97,11 @@ def lines_in(text: str) -> tuple[SourceLine, ...]:
     return tuple(source_line(number, part) for number, part in enumerate(ended, 1))
 
 
+def count_of(number: int, word: str) -> str:
+    """`1 name`, `2 names`."""
+    return f"{number} {word}" + "s" * (number != 1)
+
+
 def is_name(word: str) -> bool:
     """Whether a word may be the name of an object."""
     return bool(NAME.match(word)) and word not in RESERVED
