@@ -11,6 +11,7 @@ from __future__ import annotations
 from collections.abc import Iterable, Sequence
 from typing import NamedTuple, Protocol
 
+from .clock import Clock
 from .codes import EQUALITY, KINDS, MOST_OBJECTS, SIGN, clauses, encode
 from .joins import Reason, Tables, giver, waker
 from .literals import CIRCLE, LINE, POINT, Sort
@@ -59,7 +60,8 @@ class Line(NamedTuple):
 class Closure:
     """The literals of diagrams that are known, each with its reason."""
 
-    def __init__(self) -> None:
+    def __init__(self, clock: Clock | None = None) -> None:
+        self.clock = clock or Clock()
         self.tables: Tables = []
         self.places: list[Tables] = []  # by predicate
         for _, sorts in KINDS:
@@ -152,6 +154,8 @@ class Closure:
         absurd = 0
         while self.taken < len(trail) and absurd < MOST_AFTER_CLASH and len(trail) < MOST_KNOWN:
             absurd += bool(self.clashes)
+            if self.taken % 64 == 0:
+                self.clock.check()
             code = trail[self.taken]
             self.taken += 1
             x, y, z = (code >> 12) & 63, (code >> 6) & 63, code & 63

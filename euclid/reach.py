@@ -11,6 +11,7 @@ from collections.abc import Iterable
 from typing import NamedTuple
 
 from . import magnitudes
+from .clock import Clock
 from .closure import TRANSFER, Closure, Line, Mark
 from .codes import EQUALITY, Coded, Comparison, Scope, Unknown, clauses, encode
 from .contexts import Context, Origin
@@ -32,17 +33,18 @@ class ReachMark(NamedTuple):
 class Reach:
     """What is in scope, the facts, and what follows."""
 
-    def __init__(self) -> None:
+    def __init__(self, clock: Clock | None = None) -> None:
         self.scope = Scope()
-        self.closure = Closure()
+        self.closure = Closure(clock)
         self.metric: dict[Comparison, int] = {}  # the metric facts, in order, with their levels
         self.origins: dict[Coded, Origin] = {}  # of facts; those of blocks that ended may be left
         self.answers: dict[tuple[Comparison | None, int, str], bool] = {}  # of arithmetic, for the same facts
 
     @classmethod
-    def of(cls, context: Context) -> Reach:
-        """The same as a context, which may be at any step. Raises `Unknown` where it is too large."""
-        reach = cls()
+    def of(cls, context: Context, clock: Clock | None = None) -> Reach:
+        """The same as a context, which may be at any step. Raises `Unknown` where it is too large,
+        and later `OutOfTime` where a clock was given."""
+        reach = cls(clock)
         for name, sort in context.sorts.items():
             reach.bring(name, sort)
         for fact in context.facts.values():

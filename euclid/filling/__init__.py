@@ -1,0 +1,1 @@
+"""Puts into proofs the lines that any reader sees: what the diagram shows, and plain sums."""

@@ -1,0 +1,298 @@
+"""Uses of earlier theorems from which a literal that a step needs may follow.
+
+A theorem that makes nothing is read as a rule: what it shows is matched with what is wanted, and
+its other objects come from a join over its given literals, those of diagrams against the closure,
+those of magnitudes by arithmetic. There are three ways: the theorem shows the literal itself; it
+shows a sum that is tied to it by facts; it shows something of the diagram from which it follows.
+All limits count work, not time, so what is found does not depend on the machine.
+"""
+
+from __future__ import annotations
+
+from collections.abc import Callable, Iterable, Iterator
+
+from ..codes import KINDS, RIGHT, SIGN, Coded, Comparison, Pattern, Quantity, coded, decode, negated, sum_at
+from ..literals import POINT, Sort
+from ..magnitudes import System, follows
+from ..reach import Reach
+from ..statements import Known
+from ..transfers import Bound, instances, matches, placed, placed_at
+from .joining import Join
+from .supply import Supplier
+from .theorems import Catalogue, Shape, Use
+from .ties import Ties, are_multiples
+
+EFFORTS = ((800, 8000), (8000, 30000))  # the work for one join, and for one theorem
+MOST_WORK = 300000  # for one literal: an object put at a place is one, and the simplex
+SIMPLEX = 40
+MOST_FOUND, MOST_OPEN = 60, 1  # uses of one join; and their sums that may still be missing
+MOST_TERMS = 24  # of the last facts, where they are to be made absurd
+MOST_DERIVED = 6  # transfers whose sums are wanted in place of a literal of diagrams
+MOST_VERDICTS, MOST_DRAWN = 150, 100  # times that the simplex is asked, and that the diagram is
+MIRRORED = {"between": (2, 1, 0), "same-side": (1, 0, 2), "=": (1, 0), "meets": (1, 0)}
+
+
+class TooMuch(Exception):
+    """The work for a literal is used up."""
+
+
+def mirrored(code: int) -> list[int]:
+    """The literal, and the one that says the same with its objects in another order."""
+    kind, _, objects = decode(code)
+    word, sorts = KINDS[kind]
+    order = MIRRORED.get(word)
+    if order is None or sorts[order[0]] != sorts[0]:
+        return [code]
+    other = code >> 18 << 18
+    for number, place in enumerate(order):
+        other |= objects[place] << (12 - 6 * number)
+    return [code] if other == code else [code, other]
+
+
+class Candidates:
+    """The uses for one literal at a time."""
+
+    def __init__(self, catalogue: Catalogue, known: Known, reach: Reach, supplier: Supplier) -> None:
+        self.catalogue, self.known, self.reach, self.supplier = catalogue, known, reach, supplier
+        self.closure = reach.closure
+        self.state: tuple[int, int, int] = (-1, -1, -1)
+        self.ties = Ties(reach)
+        self.answers: dict[Comparison, bool] = {}
+        self.nodes, self.share = EFFORTS[0]
+        self.work = 0  # what is left of it
+        self.gave_up = self.cut = False  # the work was used up; a join was cut short
+
+    def start(self) -> None:
+        """Begins with a literal."""
+        self.closure.saturate()
+        state = len(self.reach.metric), len(self.closure.trail), self.reach.scope.size()
+        if state != self.state:
+            self.state, self.ties, self.answers = state, Ties(self.reach), {}
+        self.work = MOST_WORK
+        self.gave_up = False
+
+    def shapes(self) -> list[Shape]:
+        """The theorems that may be used, the latest first."""
+        return self.catalogue.shapes(self.known)
+
+    # What shows it
+
+    def showing(self, item: Coded | None) -> list[Use]:
+        """The theorems that show it, or the sum with which a transfer gives it; of None, those that
+        show the negation of a fact."""
+        found: dict[Use, None] = {}
+        for wanted in self.targets(item):
+            for shape in self.shapes():
+                found.update(dict.fromkeys(self.uses(shape, shown_as(shape, wanted))))
+        return list(found)
+
+    def targets(self, item: Coded | None) -> list[Coded]:
+        """What may be shown in place of a literal."""
+        if item is None:
+            closure = self.closure
+            codes = [code ^ SIGN for code, level in closure.facts.items() if level == closure.level]
+            return [*map(negated, list(self.reach.metric)[-4:]), *codes[::-1][:12]]
+        if isinstance(item, Comparison):
+            return [item]
+        return [*mirrored(item), *self.derived(item)]
+
+    def derived(self, code: int) -> list[Comparison]:
+        """Sums with which a transfer gives a literal of diagrams."""
+        found: dict[Comparison, None] = {}
+        for number, made in enumerate(instances(code, self.closure)):
+            lacking = [item for item in made.metric if not self.holds(item)]
+            if len(lacking) == 1:
+                found[lacking[0]] = None
+            if len(found) >= MOST_DERIVED or number > 400:
+                break
+        return list(found)
+
+    # What is tied to it
+
+    def tied(self, item: Coded | None) -> list[Use]:
+        """The theorems that show a sum from which the wanted one follows by facts."""
+        found: dict[Use, None] = {}
+        wanted: list[Comparison | None] = [None]
+        if item is not None:
+            wanted = [item] if isinstance(item, Comparison) else [*self.derived(item)]
+        for sought in wanted:
+            if sought is not None:
+                self.ties.know(sought.quantities())
+            self.tied_to(sought, found)
+        return list(found)
+
+    def tied_to(self, sought: Comparison | None, found: dict[Use, None]) -> None:
+        """Adds those for one sum."""
+        parts = self.tied_terms(sought)
+        later: dict[Use, None] = {}
+        try:
+            for shape in self.shapes():
+                for use in self.uses(shape, touched(shape, parts)):
+                    if sought is None or not is_quick(use, sought):
+                        later[use] = None
+                    elif use not in found and self.gives_quickly(use, sought):
+                        found[use] = None
+        except TooMuch:
+            if not (later or found):
+                raise
+            self.gave_up = True
+        self.work = max(self.work, MOST_WORK // 4)
+        verdicts: dict[frozenset[object], bool] = {}
+        for use in sorted(later, key=Use.key):
+            if self.gives(use, sought, verdicts):
+                found[use] = None
+
+    def tied_terms(self, sought: Comparison | None) -> list[Quantity]:
+        """The terms of which a sum has one if the wanted one follows by it."""
+        if sought is None:
+            recent = {part: None for fact in list(self.reach.metric)[::-1]
+                      for part in sorted(fact.quantities()) if part != RIGHT}
+            return list(recent)[:MOST_TERMS]
+        residue = self.ties.residue(sought.form)
+        by_key = {key: sorted(part for part in self.ties.terms if key in self.ties.residue([(part, 1)]))
+                  for key in sorted(residue) if key != RIGHT}
+        if sought.says != "=":
+            return sorted({part for parts in by_key.values() for part in parts})
+        return min(by_key.values(), key=len, default=[])
+
+    def gives_quickly(self, use: Use, sought: Comparison) -> bool:
+        """Whether an equation follows from the equations that a use shows."""
+        shown = [sum_at(pattern, use.objects) for pattern in use.shape.shown_sums]
+        equations = [residue for residue in (self.ties.residue(item.form) for item in shown) if residue]
+        wanted = self.ties.residue(sought.form)
+        if any(are_multiples(residue, wanted) for residue in equations):
+            return True
+        if len(equations) < 2 or not wanted.keys() <= {part for residue in equations for part in residue}:
+            return False
+        system = System()
+        for residue in equations:
+            system.equate(residue)
+        return not system.reduced(wanted)
+
+    def gives(self, use: Use, sought: Comparison | None, verdicts: dict[frozenset[object], bool]) -> bool:
+        """Whether the wanted literal follows from the facts with what a use shows."""
+        shown = [sum_at(pattern, use.objects) for pattern in use.shape.shown_sums]
+        residues = [(item, self.ties.residue(item.form)) for item in shown]
+        new = [(item, residue) for item, residue in residues if item.says != "=" or residue]
+        key = frozenset((item.says, frozenset(residue.items())) for item, residue in new)
+        if not key:
+            return False
+        if key not in verdicts and len(verdicts) < MOST_VERDICTS:
+            tying = [Comparison("=", frozenset({**row, part: -p}.items()))
+                     for part, (p, row) in self.ties.system.solved.items()]
+            facts = [*self.reach.metric, *tying, *(item for item, _ in new)]
+            verdicts[key] = follows(sought, facts, self.reach.will_be_apart)
+            self.spend(SIMPLEX)
+        return verdicts.get(key, False)
+
+    # What shows something of the diagram
+
+    def drawing(self, item: Coded | None, draws: Callable[[Use, int], bool]) -> list[Use]:
+        """The theorems that show something new of the diagram, from which it may follow."""
+        near = objects_of(item)
+        found: dict[Use, None] = {}
+        for shape in self.shapes():
+            for pattern in shape.shown:
+                for use in self.uses(shape, near_places(shape, pattern, near), 0):
+                    if not self.closure.knows(coded(pattern, use.objects)):
+                        found[use] = None
+        uses = sorted(found, key=Use.key)
+        if isinstance(item, int):
+            code = item
+            return [use for use in uses[:MOST_DRAWN] if draws(use, code)]
+        return uses
+
+    # The join
+
+    def spend(self, work: int) -> None:
+        """Counts work; raises `TooMuch` where it is used up."""
+        self.supplier.clock.check()
+        self.work -= work
+        if self.work < 0:
+            raise TooMuch
+
+    def holds(self, item: Comparison) -> bool:
+        """Whether a sum holds here, as far as is quickly seen."""
+        if item in self.reach.metric:
+            return True
+        if item.says == "=":
+            return self.ties.equal(item)
+        if item not in self.answers:
+            self.spend(SIMPLEX)
+            will = self.reach.will_follow
+            self.answers[item] = will(item) or self.supplier.cheapest(item, will) is not None
+        return self.answers[item]
+
+    def uses(self, shape: Shape, starts: Iterable[Bound], most_open: int = MOST_OPEN) -> Iterator[Use]:
+        """The uses with these objects whose given literals hold, but for some of magnitudes."""
+        enough = self.work - self.share
+        for bound in starts:
+            self.spend(1)
+            join = Join(shape, self.closure, self.ties, self.holds, self.nodes, most_open)
+            found = 0
+            for objects, still_open in join.solutions(bound):
+                found += 1
+                yield self.use(shape, objects, still_open)
+                if found >= MOST_FOUND:
+                    self.cut = True
+                    break
+            self.spend(self.nodes - max(join.nodes, 0))
+            if join.nodes < 0 or self.work < enough:
+                self.cut = True
+            if self.work < enough:
+                return
+
+    def use(self, shape: Shape, objects: tuple[int, ...], still_open: int) -> Use:
+        """The theorem at these objects."""
+        lines = 1 + self.closure.lines_of(coded(pattern, objects) for pattern in shape.given)
+        pairs = list(zip(shape.sorts, objects))
+        return Use(lines, still_open, len(pairs) - len(set(pairs)), shape, objects)
+
+
+def shown_as(shape: Shape, wanted: Coded) -> Iterator[Bound]:
+    """Objects with which a theorem shows a literal."""
+    if isinstance(wanted, Comparison):
+        for pattern in shape.shown_sums:
+            yield from matches(pattern, wanted)
+        return
+    for each in shape.shown:
+        bound = placed_at(each, wanted)
+        if bound is not None:
+            yield bound
+
+
+def touched(shape: Shape, parts: list[Quantity]) -> Iterator[Bound]:
+    """Objects with which a sum that a theorem shows has one of the terms."""
+    seen = set()
+    for pattern in shape.shown_sums:
+        for part in parts:
+            for bound in placed(pattern, part):
+                key = tuple(sorted(bound.items()))
+                if key not in seen:
+                    seen.add(key)
+                    yield bound
+
+
+def is_quick(use: Use, sought: Comparison) -> bool:
+    """Whether equations are to give an equation."""
+    return sought.says == "=" and all(pattern.says == "=" for pattern in use.shape.shown_sums)
+
+
+def objects_of(item: Coded | None) -> list[tuple[Sort, int]]:
+    """The objects of a literal, with their sorts."""
+    if item is None:
+        return []
+    if isinstance(item, Comparison):
+        return sorted({(POINT, point) for part in item.quantities() for point in part[1:]})
+    kind, _, objects = decode(item)
+    return sorted(set(zip(KINDS[kind][1], objects)))
+
+
+def near_places(shape: Shape, pattern: Pattern, near: list[tuple[Sort, int]]) -> Iterator[Bound]:
+    """One of the objects put for each object of a literal that is shown."""
+    if not near:
+        yield {}
+    for place in sorted(set(pattern.places)):
+        for sort, number in near:
+            if sort == shape.sorts[place]:
+                yield {place: number}

@@ -1,0 +1,169 @@
+"""The objects of a theorem with which its given literals hold: a join with a look ahead."""
+
+from __future__ import annotations
+
+from collections.abc import Callable, Iterator
+
+from ..closure import Closure
+from ..codes import Comparison, coded, quantity, sum_at
+from ..transfers import Bound
+from .theorems import Shape, places_of
+from .ties import Ties
+
+NOBODY = 64  # stands at no place
+FREE = -1  # at a place that is not bound
+Choice = list[tuple[int, int]]  # places, each with an object
+Monomial = tuple[int, int, tuple[int, ...]]
+
+
+class Undo:
+    """What binding a place has changed."""
+
+    def __init__(self, place: int, is_open: int) -> None:
+        self.place, self.open = place, is_open
+        self.domains: list[tuple[int, int]] = []
+
+
+class Join:
+    """The objects of a theorem with which its given literals hold. Where all places but one of a
+    literal of diagrams are bound, the objects that may stand there are cut down at once."""
+
+    def __init__(self, shape: Shape, closure: Closure, ties: Ties, holds: Callable[[Comparison], bool], nodes: int,
+                 most_open: int) -> None:
+        self.shape, self.closure, self.ties, self.holds = shape, closure, ties, holds
+        self.nodes, self.most_open, self.open = nodes, most_open, 0
+        self.bound = [FREE] * len(shape.sorts)
+        self.domains = [self.closure.objects[sort] for sort in shape.sorts]
+        self.left = [len(set(pattern.places)) for pattern in shape.given]
+        self.left_sums = [len(places_of(pattern)) for pattern in shape.given_sums]
+
+    def solutions(self, bound: Bound) -> Iterator[tuple[tuple[int, ...], int]]:
+        """All objects with these at their places; and how many given sums do not hold."""
+        if all(self.bind(place, number, []) for place, number in bound.items()):
+            yield from self.rest()
+
+    def rest(self) -> Iterator[tuple[tuple[int, ...], int]]:
+        """All ways to bind the places that are open."""
+        if self.nodes < 0:
+            return
+        place, cost = self.narrowest()
+        if place is None:
+            yield tuple(self.bound), self.open
+            return
+        for choice in (cost > 3 and self.tied(cost)) or self.choices(place):
+            undone: list[Undo] = []
+            if all(self.put(*pair, undone) for pair in choice):
+                yield from self.rest()
+            self.undo(undone)
+
+    def choices(self, place: int) -> Iterator[Choice]:
+        """Each object for one place."""
+        objects = self.domains[place]
+        while objects:
+            yield [(place, (objects & -objects).bit_length() - 1)]
+            objects &= objects - 1
+
+    def put(self, place: int, number: int, undone: list[Undo]) -> bool:
+        """Puts an object at a place that may be bound; false where that is impossible."""
+        if self.bound[place] != FREE:
+            return self.bound[place] == number
+        return self.bind(place, number, undone)
+
+    def tied(self, most: float) -> list[Choice]:
+        """The ways to put a term for one of a given equation whose other term is bound, if they are
+        fewer than so many for each place."""
+        best: list[Choice] = []
+        for index, pattern in enumerate(self.shape.given_sums):
+            if self.left_sums[index] < 2 or pattern.says != "=" or len(pattern.monomials) != 2:
+                continue
+            for one, other in (pattern.monomials, pattern.monomials[::-1]):
+                free = {place for place in other[2] if self.bound[place] == FREE}
+                if len(free) < 2 or any(self.bound[place] == FREE for place in one[2]):
+                    continue
+                ways = self.ways(one, other)
+                if len(ways) < most ** len(free) and (not best or len(ways) < len(best)):
+                    best = ways or [[(other[2][0], NOBODY)]]
+        return best
+
+    def ways(self, one: Monomial, other: Monomial) -> list[Choice]:
+        """The ways to put an equal term at the second monomial."""
+        if one[0] != -other[0]:
+            return []
+        part = quantity(one[1], [self.bound[place] for place in one[2]])
+        places, ways = other[2], []
+        fixed = [(n, self.bound[place]) for n, place in enumerate(places) if self.bound[place] != FREE]
+        for points in self.ties.equal_points(part, other[1]):
+            if all(points[n] == number for n, number in fixed):
+                ways.append(list(zip(places, points)))
+        return ways
+
+    def bind(self, place: int, number: int, undone: list[Undo]) -> bool:
+        """Puts an object at a place; false where a given literal fails then."""
+        self.nodes -= 1
+        undo = Undo(place, self.open)
+        undone.append(undo)
+        self.bound[place] = number
+        given, sums = self.shape.at[place]
+        for index in given:
+            self.left[index] -= 1
+        for index in sums:
+            self.left_sums[index] -= 1
+        if number == NOBODY or not self.domains[place] >> number & 1:
+            return False
+        return all(self.may_hold(index, undo) for index in given) and all(map(self.may_be, sums))
+
+    def may_hold(self, index: int, undo: Undo) -> bool:
+        """Whether a given literal of the diagram may still hold; cuts down what its last open place
+        may have."""
+        pattern, bound = self.shape.given[index], self.bound
+        if self.left[index] == 0:
+            return self.closure.knows(coded(pattern, bound))
+        if self.left[index] > 1:
+            return True
+        free = [n for n, other in enumerate(pattern.places) if bound[other] == FREE]
+        if len(free) > 1:
+            return True
+        target = pattern.places[free[0]]
+        others = [bound[other] for other in pattern.places if other != target]
+        old = self.domains[target]
+        new = old & self.closure.beside(pattern.predicate, free[0], others)
+        if new != old:
+            undo.domains.append((target, old))
+            self.domains[target] = new
+        return bool(new)
+
+    def may_be(self, index: int) -> bool:
+        """Whether a given sum may hold, or not too many do not."""
+        pattern = self.shape.given_sums[index]
+        if self.left_sums[index] == 0:
+            if not self.holds(sum_at(pattern, self.bound)):
+                self.open += 1
+                return self.open <= self.most_open
+        return True
+
+    def undo(self, undone: list[Undo]) -> None:
+        """Takes back what was bound."""
+        for each in reversed(undone):
+            for target, old in reversed(each.domains):
+                self.domains[target] = old
+            self.open, self.bound[each.place] = each.open, FREE
+            given, sums = self.shape.at[each.place]
+            for index in given:
+                self.left[index] += 1
+            for index in sums:
+                self.left_sums[index] += 1
+
+    def narrowest(self) -> tuple[int | None, float]:
+        """The place to bind next, and about how many objects it may have."""
+        best, best_cost = None, 1e9
+        for place, domain in enumerate(self.domains):
+            if self.bound[place] != FREE:
+                continue
+            given, sums = self.shape.at[place]
+            cost = float(domain.bit_count())
+            if cost > 2 and any(self.left_sums[index] == 1 for index in sums):
+                cost = 1.5 + cost / 4
+            cost -= 0.01 * len(given)
+            if cost < best_cost:
+                best, best_cost = place, cost
+        return best, best_cost

@@ -1,0 +1,249 @@
+"""How a literal that a step needs comes to be allowed: the lines that go before the step.
+
+Each question is answered with whether it was found; the lines are written then, and their literals
+are facts. A line that rests on facts of an outer block alone is written before the inner one.
+"""
+
+from __future__ import annotations
+
+from collections.abc import Callable, Iterable
+from functools import partial
+from itertools import islice
+
+from .. import magnitudes
+from ..clock import Clock
+from ..closure import TRANSFER, Line
+from ..codes import SEG, SIGN, Coded, Comparison, decode, encode
+from ..literals import spell
+from ..reach import POINTS_EQUAL, Reach
+from ..transfers import Instance, instances, into_diagrams, worded
+from .chaining import Chainer
+from .page import INDENT, Page
+
+# The transfers into diagrams that have few instances: they are looked at before lines are written.
+QUICK = ("ms1", "ms2", "mr1", "ds3a", "ds4a", "da1b", "dr1a", "dr1b")
+MOST_INSTANCES, MOST_CHAINED, HARVESTS = 5000, 40, 3
+
+
+class Supplier:
+    """Writes on a page what a step lacks."""
+
+    def __init__(self, reach: Reach, page: Page, clock: Clock) -> None:
+        self.reach, self.page, self.clock = reach, page, clock
+        self.closure = reach.closure
+        self.chainer = Chainer(reach)
+
+    def need(self, item: Coded) -> bool:
+        """Makes the literal allowed."""
+        self.clock.check()
+        if self.is_allowed(item):
+            return True
+        if isinstance(item, Comparison):
+            return self.with_harvest(partial(self.need_metric, item))
+        return self.with_harvest(partial(self.need_diagram, item, False))
+
+    def fact(self, item: Coded) -> bool:
+        """Makes the literal a fact."""
+        self.clock.check()
+        if self.reach.has(item):
+            return True
+        if isinstance(item, Comparison):
+            return self.need(item) and self.hence(item)
+        return self.with_harvest(partial(self.need_diagram, item, True))
+
+    def with_harvest(self, attempt: Callable[[], bool]) -> bool:
+        """Tries, and tries again with what magnitudes say of the diagram."""
+        for _ in range(HARVESTS):
+            if attempt():
+                return True
+            if not self.harvest():
+                return False
+        return attempt()
+
+    def harvest(self) -> bool:
+        """Learns the literals of diagrams that follow from magnitudes by one transfer."""
+        self.closure.saturate()
+        before = len(self.closure.trail), len(self.closure.clashes)
+        parts = {part for fact in self.reach.metric for part in fact.quantities()}
+        for made in list(into_diagrams(parts, self.closure)):
+            self.clock.check()
+            if all(map(self.reach.will_follow, made.metric)):
+                self.closure.add_transfer(made)
+        return before != (len(self.closure.trail), len(self.closure.clashes))
+
+    def hence(self, item: Coded) -> bool:
+        """Writes the literal as a `hence` line."""
+        self.reach.add(item)
+        self.page.put("hence " + self.reach.spell(item))
+        return True
+
+    def is_turned_fact(self, item: Coded) -> bool:
+        """Whether two points differ because they do in the other order: by the rule `ms2`."""
+        if isinstance(item, Comparison):
+            return False
+        kind, positive, objects = decode(item)
+        return kind == POINTS_EQUAL and not positive and self.reach.apart(objects[0], objects[1])
+
+    # Diagrams
+
+    def need_diagram(self, code: int, as_fact: bool) -> bool:
+        """Makes a literal of the diagram allowed, or a fact."""
+        if self.closure.reach(code):
+            return self.cite([code])
+        if self.by_transfer(code):
+            return not as_fact or self.hence(code)
+        if self.closure.clashes:
+            return self.write(self.closure.clash_lines()) and self.claim(code, ["contradiction"])
+        if self.refute(code):
+            return True
+        return self.by_chained_transfer(code) and (not as_fact or self.hence(code))
+
+    def cite(self, codes: Iterable[int]) -> bool:
+        """Writes the lines with which known literals become facts."""
+        return self.write(self.reach.lines_to(codes))
+
+    def write(self, lines: list[Line]) -> bool:
+        """Writes lines of the closure."""
+        for line in lines:
+            if line.rule == TRANSFER and not self.need_premises(line.objects[0]):
+                return False
+            self.closure.add_fact(line.code, line.level)
+            self.page.put(self.reach.words_of(line), line.level)
+        return True
+
+    def need_premises(self, place: int) -> bool:
+        """Makes the metric premises of a transfer into the diagram follow."""
+        made = self.closure.transfers[place][0]
+        assert isinstance(made, Instance)
+        return all(map(self.need_arithmetic, made.metric))
+
+    def claim(self, item: int, block: list[str]) -> bool:
+        """Writes a claim of one literal with its block."""
+        self.page.put("claim " + self.reach.spell(item))
+        for text in block:
+            self.page.put(INDENT + text)
+        self.reach.add(item)
+        return True
+
+    def refute(self, code: int) -> bool:
+        """By two cases, of which the second is absurd."""
+        mark = self.closure.mark()
+        self.closure.add_fact(code ^ SIGN)
+        self.closure.saturate()
+        lines = self.closure.clash_lines() if self.closure.clashes else None
+        self.closure.back_to(mark)
+        if lines is None:
+            return False
+        if not self.write([line for line in lines if line.level <= mark.level]):
+            return False
+        block = [self.reach.words_of(line) for line in lines if line.level > mark.level]
+        cases = ["cases " + self.reach.spell(code), INDENT + "qed", "else"]
+        return self.claim(code, cases + [INDENT + text for text in [*block, "contradiction"]])
+
+    # Magnitudes
+
+    def need_metric(self, item: Comparison) -> bool:
+        """Makes a literal of magnitudes allowed."""
+        return (self.reach.follows(item) or self.by_transfer(item) or self.need_arithmetic(item)
+                or self.need_chain(item))
+
+    def by_transfer(self, item: Coded) -> bool:
+        """The shortest way by one transfer rule whose metric premises follow from the facts, or
+        will where points are said to differ."""
+        for follows in (self.reach.follows, self.reach.will_follow):
+            best = self.cheapest(item, follows)
+            if best:
+                return self.cite(best.diagram) and all(map(self.need_arithmetic, best.metric))
+        return False
+
+    def by_chained_transfer(self, code: int) -> bool:
+        """By one transfer rule whose metric premises are chained first."""
+        first = islice(instances(code, self.closure), MOST_CHAINED)
+        for made in sorted(first, key=lambda each: self.closure.lines_of(each.diagram)):
+            self.clock.check()
+            if all(self.reach.will_follow(m) or self.chainer.chosen(m) for m in made.metric):
+                return self.cite(made.diagram) and all(
+                    self.need_arithmetic(m) or self.need_chain(m) for m in made.metric)
+        return False
+
+    def is_allowed(self, item: Coded) -> bool:
+        """Whether a literal is allowed as the book stands."""
+        if self.reach.has(item) or self.is_turned_fact(item):
+            return True
+        if isinstance(item, Comparison) and self.reach.follows(item):
+            return True
+        names = None if isinstance(item, Comparison) else QUICK
+        return any(self.closure.lines_of(made.diagram) == 0 and all(map(self.reach.follows, made.metric))
+                   for made in instances(item, self.closure, names))
+
+    def may_follow(self, item: Coded) -> bool:
+        """Whether a literal is allowed, or will be where lines are put before the step."""
+        if self.is_allowed(item):
+            return True
+        if isinstance(item, Comparison):
+            return self.cheapest(item, self.reach.follows) is not None
+        return self.closure.reach(item)
+
+    def cheapest(self, item: Coded, follows: Callable[[Comparison], bool]) -> Instance | None:
+        """The transfer with the fewest lines whose metric premises follow."""
+        self.closure.saturate()
+        best, best_cost = None, 0
+        for number, made in enumerate(instances(item, self.closure)):
+            cost = self.closure.lines_of(made.diagram)
+            if (best is None or cost < best_cost) and all(map(follows, made.metric)):
+                best, best_cost = made, cost
+            if best and best_cost == 0 or number > MOST_INSTANCES:
+                break
+        return best
+
+    def need_arithmetic(self, item: Comparison | None) -> bool:
+        """Makes a literal, or for None a contradiction, follow by arithmetic; points that follow
+        to differ are first said to."""
+        if self.reach.follows(item):
+            return True
+        self.closure.saturate()
+        return self.reach.will_follow(item) and self.cite(self.needed_apart(item))
+
+    def need_chain(self, item: Comparison | None) -> bool:
+        """Makes a literal follow by transfers that are written as `hence` lines."""
+        self.closure.saturate()
+        chosen = self.chainer.chosen(item)
+        if chosen is None:
+            return False
+        for made in chosen:
+            if not (self.cite(made.diagram) and all(map(self.need_arithmetic, made.metric))):
+                return False
+            self.reach.add(made.item)
+            self.page.put("hence " + spell(worded(made, self.reach.scope)))
+        return self.need_arithmetic(item)
+
+    def needed_apart(self, item: Comparison | None) -> list[int]:
+        """Inequalities of points without any of which the literal does not follow."""
+        facts = magnitudes.related(item, self.reach.metric)
+        parts = {part for fact in [*facts, *([item] if item else [])] for part in fact.quantities()}
+        pairs = sorted((part[1], part[2]) for part in parts if part[0] == SEG)
+        needed = [pair for pair in pairs if self.reach.will_be_apart(*pair) and not self.reach.apart(*pair)]
+        for pair in list(needed):
+            fewer = [other for other in needed if other != pair]
+
+            def apart(a: int, b: int) -> bool:
+                return self.reach.apart(a, b) or (a, b) in fewer
+
+            if magnitudes.follows(item, facts, apart):
+                needed = fewer
+        return [encode(POINTS_EQUAL, False, pair) for pair in needed]
+
+    def contradiction(self) -> bool:
+        """Makes the facts contradict each other."""
+        self.clock.check()
+        return self.with_harvest(self.need_contradiction)
+
+    def need_contradiction(self) -> bool:
+        """One way to that."""
+        facts = self.closure.facts
+        if any(code ^ SIGN in facts for code in facts) or self.reach.follows(None):
+            return True
+        self.closure.saturate()
+        if self.closure.clashes:
+            return self.write(self.closure.clash_lines())
+        return self.need_arithmetic(None) or self.need_chain(None)
