@@ -13,6 +13,7 @@ What it looks for:
   another, or that stands on other crates there.
 - docs/claim.txt, where it is not what tools/claim.py makes of the definitions.
 - A fact that a document tells otherwise than the tree has it: tools/facts.py says which.
+- What a command of the companion prints, where a page shows it otherwise: tools/manual.py says how.
 - A line of prose with more than 100 columns. Rows of tables in docs/ are exempt, and so are lines
   of code, and links that cannot be broken.
 - A cell of a table with more than one sentence.
@@ -29,6 +30,7 @@ from pathlib import Path
 sys.dont_write_bytecode = True
 import claim  # noqa: E402
 import facts  # noqa: E402
+import manual  # noqa: E402
 
 TOP = Path(sys.argv[1] if sys.argv[1:] else Path(__file__).resolve().parent.parent).resolve()
 COLUMNS = 100
@@ -246,6 +248,7 @@ def main():
         check(findings)
     for check in facts.CHECKS:
         findings.extend(check(TOP))
+    findings.extend(manual.check(TOP))
     for page, number, what in sorted(findings, key=lambda finding: (str(finding[0]), finding[1])):
         print(f"{page.relative_to(TOP)}:{number}: {what}")
     print(f"lint: {len(findings)} findings")
