@@ -72,7 +72,7 @@ def tree_words():
         if ".git" in parts or "out" in parts:
             continue
         names.update((path.name, path.stem))
-        if path.suffix in (".rt", ".antt", ".edit", ".sh", ".book") or path.name == "crates.txt":
+        if path.suffix in (".rt", ".antt", ".edit", ".sh", ".book", ".py") or path.name == "crates.txt":
             text = path.read_text(encoding="utf-8", errors="replace")
             words.update(re.findall(r"[A-Za-z_][A-Za-z0-9_]*", text))
             words.update(re.findall(r"[A-Za-z_][A-Za-z0-9_-]*", text))

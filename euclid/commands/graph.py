@@ -4,6 +4,7 @@ from __future__ import annotations
 
 import argparse
 import sys
+import textwrap
 
 from ..checking import Checker, Outcomes, Verdict
 from ..graph import SUPERPOSE, Graph, graph_of
@@ -21,6 +22,8 @@ example: euclid graph --of I.32 library/book-1
 example: euclid graph --rule da5a library
 example: euclid graph --dot --of I.47 library/book-1 | dot -Tsvg > I.47.svg
 """
+
+COLUMNS = 100
 
 
 def arguments(parser: argparse.ArgumentParser) -> None:
@@ -69,8 +72,7 @@ def tell_all(here: Opened, graph: Graph, titles: list[str], is_json: bool) -> No
                       **{keys.get(name, name): row for name, row in rows.items()}})
             continue
         print(f"{place}: {title}")
-        for name, row in rows.items():
-            print(f"    {name:10} {len(row):3}  {' '.join(row)}".rstrip())
+        print("\n".join(row_lines("    ", rows)))
 
 
 def rule_lines(graph: Graph, rule: str, titles: list[str]) -> list[str]:
@@ -82,7 +84,17 @@ def rule_lines(graph: Graph, rule: str, titles: list[str]) -> list[str]:
     using = [title for title in titles if rule in graph.uses[title]]
     rows = {"use it": using, "rest on it": [each for each in titles if each in under],
             "do not": [each for each in titles if each not in under]}
-    return [f"{name:10} {len(row):3}  {' '.join(row)}".rstrip() for name, row in rows.items()]
+    return row_lines("", rows)
+
+
+def row_lines(indent: str, rows: dict[str, list[str]]) -> list[str]:
+    """Named lists with their lengths, as lines of text."""
+    found: list[str] = []
+    for name, row in rows.items():
+        front = f"{indent}{name:10} {len(row):3}  "
+        found += textwrap.wrap(" ".join(row), COLUMNS, initial_indent=front, subsequent_indent=" " * len(front),
+                               break_long_words=False, break_on_hyphens=False) or [front.rstrip()]
+    return found
 
 
 def dot_lines(graph: Graph, titles: list[str], with_below: bool) -> list[str]:
