@@ -7,11 +7,14 @@ import sys
 import tomllib
 from collections.abc import Mapping
 from dataclasses import dataclass, field
+from functools import cached_property
 from pathlib import Path
+from typing import TYPE_CHECKING
 
-from .reading import read_lines
-from .script import Book, Item, Theorem
 from .syntax import SourceLine, lines_of
+
+if TYPE_CHECKING:
+    from .script import Book, Item, Theorem
 
 MOST_BYTES = 4_194_304  # of the joined text, as `elements` has it
 CONFIG = "book.toml"
@@ -32,8 +35,21 @@ class SourceFile:
 
     path: Path
     text: str
-    lines: list[SourceLine]
     start: int = 1
+
+    @cached_property
+    def lines(self) -> list[SourceLine]:
+        """Its lines, with their numbers in it."""
+        return lines_of(self.text)
+
+    @property
+    def count(self) -> int:
+        """How many lines it has."""
+        return self.text.count("\n") + (self.text != "" and not self.text.endswith("\n"))
+
+    def joined(self) -> str:
+        """Its text, the last line ended too."""
+        return self.text if self.text.endswith("\n") or not self.text else self.text + "\n"
 
 
 @dataclass(frozen=True)
@@ -58,7 +74,7 @@ class Library:
 
     def text(self) -> str:
         """The joined text."""
-        return "".join(line.text + "\n" for file in self.files for line in file.lines)
+        return "".join(file.joined() for file in self.files)
 
     def lines(self) -> list[SourceLine]:
         """The lines of the joined text, with their numbers in it."""
@@ -67,6 +83,8 @@ class Library:
 
     def book(self) -> Book:
         """The tree of the joined text."""
+        from .reading import read_lines  # only where a tree is asked for: `check` mostly needs none
+
         return read_lines(self.lines())
 
     def place(self, number: int, column: int = 1) -> Place:
@@ -206,9 +224,9 @@ class Loader:
         self.bytes += len(text)
         if self.bytes > MOST_BYTES:
             raise Faulty(shown(path), f"the books have more than {MOST_BYTES:,} bytes together")
-        lines = lines_of(text)
-        self.library.files.append(SourceFile(where, text, lines, self.next))
-        self.next += len(lines)
+        file = SourceFile(where, text, self.next)
+        self.library.files.append(file)
+        self.next += file.count
 
 
 def read_text(path: Path) -> str:

@@ -2,7 +2,6 @@
 
 from __future__ import annotations
 
-import hashlib
 import os
 import resource
 import shutil
@@ -12,7 +11,7 @@ from dataclasses import dataclass
 from functools import lru_cache
 from pathlib import Path
 
-from .rules import TOP
+from .places import TOP
 
 SECONDS, MEGABYTES = 60.0, 2048
 PLACES = (TOP / "release" / "elements", TOP / "crates" / "elements" / "out" / "elements")
@@ -83,6 +82,8 @@ def run(words: Sequence[str], text: str | bytes, seconds: float = SECONDS, megab
 @lru_cache(maxsize=1)
 def version() -> str:
     """The program's version, where its sum is that of the release; else `unreleased` and its sum."""
+    import hashlib
+
     own = hashlib.sha256(program().read_bytes()).hexdigest()
     if SUMS.is_file():
         for line in SUMS.read_text(encoding="ascii").split("\n"):

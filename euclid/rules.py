@@ -10,9 +10,9 @@ from dataclasses import dataclass, field
 from functools import cached_property, lru_cache
 from pathlib import Path
 
+from .places import TOP
 from .literals import CIRCLE, LINE, POINT, Diagram, Literal, Sort, negation, parse_literal, renamed
 
-TOP = Path(__file__).resolve().parent.parent
 PAGE = TOP / "docs" / "rules.md"
 LETTERS = {letter: POINT for letter in "abcdefghpqxyz"} | {letter: CIRCLE for letter in "ABC"}
 LETTERS |= {letter: LINE for letter in "LMNK"}

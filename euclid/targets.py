@@ -2,9 +2,6 @@
 
 from __future__ import annotations
 
-import argparse
-import difflib
-from collections.abc import Iterable
 from dataclasses import dataclass
 from pathlib import Path
 
@@ -14,6 +11,9 @@ from .messages import Message, WrongUse, tell
 from .scratch import Scratch, Untried
 from .script import Book, Theorem
 from .syntax import SourceLine
+from .words import add_json, add_paths, add_step, close_to
+
+__all__ = ["Opened", "add_json", "add_paths", "add_step", "close_to", "opened"]
 
 
 @dataclass
@@ -71,35 +71,3 @@ def opened(paths: list[Path]) -> Opened:
     """The books and libraries of a command line; none means the library in the working folder."""
     library = load(paths or [Path(".")])
     return Opened(library, library.book())
-
-
-def add_paths(parser: argparse.ArgumentParser) -> None:
-    """The words that name books and libraries."""
-    parser.add_argument("paths", nargs="*", type=Path, metavar="BOOK|LIBRARY",
-                        help="files, or folders with a book.toml; where there is none, the folder you are in")
-
-
-def add_json(parser: argparse.ArgumentParser) -> None:
-    """The word for tools."""
-    parser.add_argument("--json", action="store_true", help="one object of JSON a line")
-
-
-def add_step(parser: argparse.ArgumentParser) -> None:
-    """The words that name a step."""
-    parser.add_argument("title", metavar="TITLE", help="the title of a theorem")
-    parser.add_argument("step", type=positive, metavar="STEP", help="the number of a step in it, from 1")
-
-
-def positive(word: str) -> int:
-    """A number of at least 1."""
-    if not word.isdigit() or not 1 <= int(word[:9]) <= 99_999:
-        raise argparse.ArgumentTypeError(f"`{word}` is no number of a step")
-    return int(word)
-
-
-def close_to(word: str, words: Iterable[str]) -> str:
-    """A hint at words that are like this one."""
-    found = difflib.get_close_matches(word, list(words), 3, 0.75)
-    return f"; did you mean {' or '.join(f'`{each}`' for each in found)}?" if found else ""
-
-

@@ -9,7 +9,7 @@ from .answers import check
 from .diagnose import Report
 from .checking import Verdict
 from .program import SECONDS, Missing, run
-from .rules import TOP
+from .places import TOP
 
 VERIFIER = TOP / "tools" / "verify.py"
 

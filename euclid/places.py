@@ -1,0 +1,5 @@
+"""Where the repository is."""
+
+from pathlib import Path
+
+TOP = Path(__file__).resolve().parent.parent
