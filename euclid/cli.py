@@ -12,7 +12,7 @@ from . import program
 from .library import Faulty, Place
 from .messages import FAILED, FAULTY, WRONG_USE, Message, WrongUse, tell
 
-COMMANDS = "check facts find fmt graph rename trim".split()
+COMMANDS = "check facts find fmt graph rename trim draw".split()
 
 
 class Command(Protocol):
