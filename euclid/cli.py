@@ -12,7 +12,7 @@ from . import program
 from .library import Faulty, Place
 from .messages import FAILED, FAULTY, WRONG_USE, Message, WrongUse, tell
 
-COMMANDS = "check facts find fmt graph rename trim draw".split()
+COMMANDS = "check facts find fmt graph rename trim draw fill strip".split()
 
 
 class Command(Protocol):

@@ -201,7 +201,7 @@ class Loader:
                 raise Faulty(shown(page), f"`{name}` is a list of texts", line_with(text, name))
             found[name] = [(folder / each).resolve() for each in entries]
             for path, entry in zip(found[name], entries):
-                there = path.is_dir() if name == "needs" else path.is_file()
+                there = path.is_dir() if name == "needs" else path in self.overlay or path.is_file()
                 if not there:
                     raise Faulty(shown(page), f"`{name}` names {entry}, which is not there", line_with(text, f'"{entry}"'))
         unknown = set(data) - {"title", "needs", "files"}

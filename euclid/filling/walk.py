@@ -14,6 +14,7 @@ from ..script import Apply, Block, By, Cases, Claim, Contradiction, Hence, Let, 
 from ..statements import Known, Objects
 from .applying import Applier
 from .blanks import match
+from .nearest import nearest
 from .page import Page, PageLine
 from .supply import Supplier
 from .theorems import Catalogue
@@ -41,6 +42,7 @@ class FilledTheorem:
     missing: list[Missing] = field(default_factory=list)
     applied: list[str] = field(default_factory=list)  # the `apply` lines that were put in
     stopped: str = ""  # why the walk ended early, in words
+    stopped_at: int = 0  # the number of the line where it did
 
     def is_whole(self) -> bool:
         """Whether nothing was left missing; whether it is accepted `elements` alone says."""
@@ -76,7 +78,7 @@ class ProofFiller:
 
     def __init__(self, theorem: Theorem, known: Known, clock: Clock, catalogue: Catalogue | None = None,
                  most_applied: int = 0) -> None:
-        self.theorem, self.known = theorem, known
+        self.theorem, self.known, self.clock = theorem, known, clock
         self.missing: list[Missing] = []
         self.reach, self.page = Reach(clock), Page()
         self.supplier = Supplier(self.reach, self.page, clock)
@@ -84,24 +86,25 @@ class ProofFiller:
         self.most_applied = most_applied  # how many theorems may be put in
         self.filled: dict[int, list[str]] = {}  # the arguments of `apply` steps with blanks
         self.place = 0  # of the author's next line
+        self.at = theorem.first  # the number of the line at hand
 
     def run(self) -> FilledTheorem:
         """All lines of the theorem, with what was missing."""
         stopped = ""
         try:
             self.walk()
-        except OutOfTime as fault:
+        except (OutOfTime, Unknown, Stopped) as fault:
             stopped = str(fault)
-        except (Unknown, Stopped) as fault:
-            stopped = str(fault)
+        at = self.at if stopped else 0
         self.page.step = 0
         self.keep_before(self.theorem.last + 1)
-        return FilledTheorem(self.theorem, self.page.lines, self.missing, list(self.applier.written), stopped)
+        return FilledTheorem(self.theorem, self.page.lines, self.missing, list(self.applier.written), stopped, at)
 
     def walk(self) -> None:
         """The whole proof."""
         statement, fault = self.theorem.statement, self.theorem.fault
         if fault is not None:
+            self.at = (self.theorem.fault_line or self.theorem.lines[-1]).number
             raise Stopped(fault.message)
         for name, sort in statement.declared:
             self.reach.bring(name, sort)
@@ -138,8 +141,9 @@ class ProofFiller:
         return self.applier.need(item, as_fact)
 
     def miss(self, step: Step, wanted: str, item: Coded | None = None) -> None:
-        """Notes what is missing."""
-        self.missing.append(Missing(step.line.number, step.number, wanted))
+        """Notes what is missing, and at the first place what comes nearest."""
+        why = [] if self.missing else nearest(item, self.reach, self.clock)
+        self.missing.append(Missing(step.line.number, step.number, wanted, why))
 
     def give(self, step: Step) -> None:
         """Writes the line of a step; what it brings is in scope, what it gives are facts."""
@@ -156,7 +160,7 @@ class ProofFiller:
         """The steps of a block, with its close."""
         for step in block.steps:
             self.keep_before(step.line.number)
-            self.page.indent, self.page.step = step.line.indent(), step.number
+            self.page.indent, self.page.step, self.at = step.line.indent(), step.number, step.line.number
             self.step(step, goal)
 
     def inner(self, block: Block, goal: Goal, opening: int, objects: Objects, literals: list[Literal]) -> int:

@@ -1,0 +1,105 @@
+"""`euclid fill`."""
+
+from __future__ import annotations
+
+import argparse
+import resource
+import sys
+from pathlib import Path
+
+from ..checking import Outcome, Verdict
+from ..filling.books import FilledBooks, fill_books
+from ..library import STREAM, shown
+from ..messages import ACCEPTED, FAILED, FAULTY, REFUSED, WrongUse, put_json, tell
+from ..syntax import count_of
+from ..targets import add_json, add_paths, close_to
+from ..writing import exchange
+
+HELP = """Puts the lines into proofs that any reader sees: what the diagram shows, and plain sums.
+
+The book goes to standard output, with the author's lines and comments as they are, and before a
+step the `by`, `hence` and `claim` lines that it needs. A `hence` line with a literal of the diagram
+is a wish: the `by` lines that give it take its place. What cannot be found is told, with what
+comes nearest, and that theorem stays as it is. Where a file NAME.sketch stands beside NAME.book, it
+is filled, and the book is what comes out.
+
+example: euclid fill library/book-1/I.05.book
+"""
+SECONDS, MEGABYTES = 30.0, 2048
+
+
+def arguments(parser: argparse.ArgumentParser) -> None:
+    """The words of the command."""
+    parser.add_argument("--write", action="store_true", help="write each book in its place, not to standard output")
+    parser.add_argument("--only", metavar="TITLE", action="append", default=[], help="this theorem alone; may be repeated")
+    parser.add_argument("--apply", action="store_true",
+                        help="where the figure does not give a literal, one use of an earlier theorem may be put in")
+    parser.add_argument("--seconds", type=float, default=SECONDS, metavar="N",
+                        help=f"give a theorem up after so many seconds (default {SECONDS:g})")
+    add_json(parser)
+    add_paths(parser)
+
+
+def run(args: argparse.Namespace) -> int:
+    """Fills, and asks `elements` of the outcome."""
+    resource.setrlimit(resource.RLIMIT_AS, (MEGABYTES << 20, resource.RLIM_INFINITY))
+    try:
+        found = fill_books(args.paths or [Path(".")], only=args.only, seconds=args.seconds,
+                           most_applied=1 if args.apply else 0)
+    except MemoryError:
+        print(f"euclid: out of memory, at {MEGABYTES} MB", file=sys.stderr)
+        return FAILED
+    titles = [item.title for item in found.library.own_items(found.book)]
+    for title in args.only:
+        if title not in titles:
+            raise WrongUse(f"no theorem here has the title `{title}`{close_to(title, titles)}")
+    if not args.write and not args.json and len(found.texts) != 1:
+        raise WrongUse(f"standard output takes one book, and here are {len(found.texts)}: use --write")
+    for message in found.messages():
+        tell(message)
+    if args.json:
+        tell_as_json(found)
+    put(found, args.write, args.json)
+    return status_of(found)
+
+
+def put(found: FilledBooks, is_write: bool, is_json: bool) -> None:
+    """Writes the books."""
+    for path, text in found.texts.items():
+        if path == STREAM or not is_write:
+            if not is_json:
+                sys.stdout.buffer.write(text.encode("latin-1"))
+        elif not path.is_file() or path.read_bytes() != text.encode("latin-1"):
+            exchange(path, text)
+            if not is_json:
+                print(shown(path))
+    if is_write and not is_json and STREAM not in found.texts:
+        accepted = sum(each.verdict == Verdict.ACCEPTED for each in own_outcomes(found))
+        print(f"{count_of(found.put_in(), 'line')} put in; {accepted} of {len(own_outcomes(found))} accepted")
+
+
+def own_outcomes(found: FilledBooks) -> list[Outcome]:
+    """What became of the theorems and definitions that were asked for."""
+    return [each for item, each in zip(found.book.items, found.outcomes.items) if found.library.is_own(item.first)]
+
+
+def status_of(found: FilledBooks) -> int:
+    """The exit status."""
+    verdicts = {each.verdict for each in own_outcomes(found)}
+    if Verdict.FAULTY in verdicts or found.outcomes.strays:
+        return FAULTY
+    return ACCEPTED if verdicts <= {Verdict.ACCEPTED} else REFUSED
+
+
+def tell_as_json(found: FilledBooks) -> None:
+    """One object for each theorem that was filled."""
+    verdicts = {item.title: each.verdict for item, each in zip(found.book.items, found.outcomes.items)}
+    for title, each in found.filled.items():
+        place = found.library.place(each.theorem.first)
+        put_json({
+            "title": title, "file": str(place.path), "line": place.line, "verdict": verdicts[title].value,
+            "put": [{"before": found.library.place(before).line, "lines": lines} for before, lines in each.under().items()],
+            "applied": each.applied,
+            "missing": [{"line": found.library.place(one.line).line, "step": one.step, "wanted": one.wanted,
+                         "nearest": one.why} for one in each.missing],
+            "stopped": each.stopped})
