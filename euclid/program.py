@@ -81,16 +81,13 @@ def run(words: Sequence[str], text: str | bytes, seconds: float = SECONDS, megab
 
 @lru_cache(maxsize=1)
 def version() -> str:
-    """The program's version, where its sum is that of the release; else `unreleased` and its sum."""
+    """The program's version, where its sum is that of the release; else `unreleased`; and its sum."""
     import hashlib
 
     own = hashlib.sha256(program().read_bytes()).hexdigest()
-    if SUMS.is_file():
-        for line in SUMS.read_text(encoding="ascii").split("\n"):
-            words = line.split()
-            if len(words) >= 2 and words[0] == own and words[1].endswith("elements"):
-                return f"{released() or 'released'} (sha256 {own[:12]})"
-    return f"unreleased (sha256 {own[:12]})"
+    said = SUMS.read_text(encoding="ascii").split() if SUMS.is_file() else []
+    name = said[2] if said[:2] == ["#", "elements"] and own in said else "unreleased"
+    return f"{name} (sha256 {own[:12]})"
 
 
 def released() -> str:
@@ -100,5 +97,5 @@ def released() -> str:
         for line in page.read_text(encoding="utf-8").split("\n"):
             words = line.strip("#[] ").split()
             if line.startswith("## ") and words and words[0].strip("[]")[:1].isdigit():
-                return words[0].strip("[]")
+                return words[0].strip("[],")
     return ""
