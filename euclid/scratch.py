@@ -206,7 +206,10 @@ class Writer:
             self.starts.append(len(self.lines))
             self.put(f"claim {NOTHING}")
             for line in trial:
-                self.put(line)
+                if line.split() == ["else"]:
+                    self.lines.append(line)
+                else:
+                    self.put(line)
             self.put("qed")
 
     def trial_of(self, answer: Answer, before: int) -> int:

@@ -8,11 +8,13 @@ import sys
 from pathlib import Path
 
 from ..checking import Outcome, Verdict
-from ..filling.books import FilledBooks, fill_books
-from ..library import STREAM, shown
+from ..filling.books import FilledBooks, fill_books, sketched, wanted
+from ..filling.ways import Ways, ways_at
+from ..library import STREAM, load, shown
 from ..messages import ACCEPTED, FAILED, FAULTY, REFUSED, WrongUse, put_json, tell
 from ..syntax import count_of
-from ..targets import add_json, add_paths, close_to
+from ..targets import Opened
+from ..words import add_json, add_paths, close_to, positive
 from ..writing import exchange
 
 HELP = """Puts the lines into proofs that any reader sees: what the diagram shows, and plain sums.
@@ -34,6 +36,8 @@ def arguments(parser: argparse.ArgumentParser) -> None:
     parser.add_argument("--only", metavar="TITLE", action="append", default=[], help="this theorem alone; may be repeated")
     parser.add_argument("--apply", action="store_true",
                         help="where the figure does not give a literal, one use of an earlier theorem may be put in")
+    parser.add_argument("--at", nargs=2, metavar=("TITLE", "STEP"),
+                        help="only list the ways to what this step lacks, those that `elements` accepts first")
     parser.add_argument("--seconds", type=float, default=SECONDS, metavar="N",
                         help=f"give a theorem up after so many seconds (default {SECONDS:g})")
     add_json(parser)
@@ -44,11 +48,16 @@ def run(args: argparse.Namespace) -> int:
     """Fills, and asks `elements` of the outcome."""
     resource.setrlimit(resource.RLIMIT_AS, (MEGABYTES << 20, resource.RLIM_INFINITY))
     try:
-        found = fill_books(args.paths or [Path(".")], only=args.only, seconds=args.seconds,
-                           most_applied=1 if args.apply else 0)
+        return list_ways(args) if args.at else fill(args)
     except MemoryError:
         print(f"euclid: out of memory, at {MEGABYTES} MB", file=sys.stderr)
         return FAILED
+
+
+def fill(args: argparse.Namespace) -> int:
+    """Fills the books."""
+    found = fill_books(args.paths or [Path(".")], only=args.only, seconds=args.seconds,
+                       most_applied=1 if args.apply else 0)
     titles = [item.title for item in found.library.own_items(found.book)]
     for title in args.only:
         if title not in titles:
@@ -61,6 +70,47 @@ def run(args: argparse.Namespace) -> int:
         tell_as_json(found)
     put(found, args.write, args.json)
     return status_of(found)
+
+
+def list_ways(args: argparse.Namespace) -> int:
+    """Lists ways to what a step lacks."""
+    paths, overlay = sketched(args.paths or [Path(".")])
+    library = load(paths, overlay)
+    here = Opened(library, library.book())
+    theorem, number = here.theorem(args.at[0]), number_of(args.at[1])
+    step = next((each for each in theorem.steps() if each.number == number), None)
+    if step is None:
+        raise WrongUse(f"`{theorem.title}` has {count_of(len(theorem.steps()), 'step')}, and no step {number}")
+    found = ways_at(here.book, theorem, number, seconds=args.seconds)
+    if args.json:
+        put_json({"title": theorem.title, "step": number, "wanted": found.wanted, "before": found.before,
+                  "ways": [{"ready": way.is_ready, "apply": way.applied, "lines": way.lines} for way in found.ways],
+                  "stopped": found.stopped})
+    else:
+        print("\n".join(listing(found, f"{here.message(step.line, 0, '').place}: step {number} of {theorem.title}")))
+    return ACCEPTED if not found.wanted or any(way.is_ready for way in found.ways) else REFUSED
+
+
+def listing(found: Ways, place: str) -> list[str]:
+    """The ways for people."""
+    if not found.wanted:
+        return [f"{place} lacks nothing" if not found.stopped else f"{place}: {found.stopped}"]
+    lines = [f"{place} lacks {wanted(found.wanted)}"]
+    if found.before:
+        lines += ["steps before it lack:", *("    " + line.strip() for line in found.before)]
+    for number, way in enumerate(found.ways, 1):
+        lines.append(f"{number}. {'ready' if way.is_ready else 'not accepted as it is'}")
+        lines += ["    " + line for line in way.lines or ["(nothing: it is allowed)"]]
+    lines += [] if found.ways else ["nothing was found that gives it"]
+    return lines + ([found.stopped] if found.stopped else [])
+
+
+def number_of(word: str) -> int:
+    """The number of a step."""
+    try:
+        return positive(word)
+    except argparse.ArgumentTypeError as error:
+        raise WrongUse(str(error)) from None
 
 
 def put(found: FilledBooks, is_write: bool, is_json: bool) -> None:

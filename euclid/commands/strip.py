@@ -10,7 +10,7 @@ from ..filling.sketches import SUFFIX
 from ..filling.stripping import StrippedBooks, strip_books
 from ..library import STREAM, shown
 from ..messages import ACCEPTED, REFUSED, Message, WrongUse, tell
-from ..targets import add_paths, close_to
+from ..words import add_paths, close_to
 from ..writing import exchange
 
 HELP = """Leaves out of proofs each line that `euclid fill` puts back: a proof at Euclid's length.

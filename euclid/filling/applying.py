@@ -7,6 +7,8 @@ theorem. A use stands before the outermost block that it can.
 from __future__ import annotations
 
 from collections.abc import Callable
+from dataclasses import dataclass
+from functools import partial
 
 from ..codes import Coded, Comparison, coded, encode, sum_at
 from ..magnitudes import follows
@@ -19,7 +21,20 @@ from .theorems import Catalogue, Use
 
 MOST_TRIED, MOST_GOOD = 12, 5  # uses that are tried, and good ones among which one is chosen
 MOST_TRIED_OPEN = 4
-Good = list[tuple[int, Use]]  # uses with which it is reached, each with its lines
+Reached = Callable[[], bool]
+
+
+@dataclass(frozen=True)
+class Good:
+    """A use with which a literal is reached, and the lines that it takes."""
+
+    use: Use
+    lines: list[str]
+
+    def key(self) -> tuple[int, int, int, tuple[int, ...]]:
+        """The fewest lines come first."""
+        _, _, twice, number, objects = self.use.key()
+        return len(self.lines), twice, number, objects
 
 
 class Applier:
@@ -32,18 +47,16 @@ class Applier:
         self.written: list[str] = []  # the lines that were put in
         self.first: Use | None = None  # the use to put in where one is needed first
         self.others: list[Use] | None = None  # those that would have done there
+        self.good: list[Good] = []  # what was found at the last place
+        self.ways = 3  # how many ways are tried
         self.way = self.from_way = 0  # the way that was successful; the first one to be tried
 
     def need(self, item: Coded | None, as_fact: bool = False) -> bool:
         """Makes a literal allowed, or for None the facts absurd, by one theorem."""
-        def reached() -> bool:
-            if item is None:
-                return self.supplier.contradiction()
-            return self.supplier.fact(item) if as_fact else self.supplier.need(item)
-
+        reached = partial(self.reached, item, as_fact)
         if self.first and not self.written:
             return self.put(self.first) and reached()
-        good = [use for _, use in self.best(item, reached, MOST_GOOD)]
+        good = [each.use for each in self.best(item, reached, MOST_GOOD)]
         if not good:
             return False
         if not self.written:
@@ -52,30 +65,38 @@ class Applier:
         self.put(good[0])
         return reached()
 
-    def best(self, item: Coded | None, reached: Callable[[], bool], most: int, all_ways: bool = False) -> Good:
-        """The uses with which it is reached, those of the fewest lines first, with their lines: all
-        of the first way that has any, or of all ways."""
+    def reached(self, item: Coded | None, as_fact: bool) -> bool:
+        """Makes it allowed without a theorem."""
+        if item is None:
+            return self.supplier.contradiction()
+        return self.supplier.fact(item) if as_fact else self.supplier.need(item)
+
+    def best(self, item: Coded | None, reached: Reached, most: int, all_ways: bool = False) -> list[Good]:
+        """The uses with which it is reached, those of the fewest lines first: all of the first way
+        that has any, or of all ways."""
         found = self.candidates
         found.start()
-        good: Good = []
+        self.good = []
         late: list[Use] = []
         try:
             for found.nodes, found.share in EFFORTS:
                 found.cut = False
-                for number in range(self.from_way, 3):
+                for number in range(self.from_way, self.ways):
                     uses = self.by_way(number, item)
                     late += [use for use in uses if use.open]
-                    known = {use for _, use in good}
+                    known = {each.use for each in self.good}
                     ready = [use for use in uses if not use.open and use not in known]
-                    good += self.tried(ready, reached, most - len(good))
-                    if len(good) >= (most if all_ways else 1):
+                    self.try_all(ready, reached, most)
+                    if len(self.good) >= (most if all_ways else 1):
                         self.way = number
-                        return good
+                        return self.good
                 if not found.cut:
                     break
         except TooMuch:
             found.gave_up = True
-        return good or self.tried(late, reached, 1, MOST_TRIED_OPEN)
+        if not self.good:
+            self.try_all(late, reached, 1, MOST_TRIED_OPEN)
+        return self.good
 
     def by_way(self, number: int, item: Coded | None) -> list[Use]:
         """The candidates of one of the three ways."""
@@ -85,16 +106,16 @@ class Applier:
             return self.candidates.tied(item)
         return self.candidates.drawing(item, self.draws)
 
-    def tried(self, uses: list[Use], reached: Callable[[], bool], most: int, most_tried: int = MOST_TRIED) -> Good:
-        """Those of some candidates with which it is reached."""
-        good: Good = []
-        for use in sorted(set(uses), key=Use.key)[: max(most_tried, 2 * most)]:
+    def try_all(self, uses: list[Use], reached: Reached, most: int, most_tried: int = MOST_TRIED) -> None:
+        """Adds those of some candidates with which it is reached, up to so many in all."""
+        start = len(self.good)
+        for use in sorted(set(uses), key=Use.key)[: max(most_tried, 2 * (most - start))]:
             lines = self.attempt(lambda: self.put(use) and reached())
             if lines is not None:
-                good.append((lines, use))
-                if len(good) >= most:
+                self.good.append(Good(use, lines))
+                if len(self.good) >= most:
                     break
-        return sorted(good, key=lambda pair: (pair[0], *pair[1].key()[2:]))
+        self.good[start:] = sorted(self.good[start:], key=Good.key)
 
     def draws(self, use: Use, code: int) -> bool:
         """Whether the diagram shows a literal with what a use shows of it."""
@@ -154,15 +175,16 @@ class Applier:
         return " ".join([use.shape.title, *(names[sort][number] for sort, number
                                             in zip(use.shape.sorts, use.objects))])
 
-    def attempt(self, action: Callable[[], bool]) -> int | None:
-        """How many lines an action writes, or None where it fails; all is undone."""
+    def attempt(self, action: Callable[[], bool]) -> list[str] | None:
+        """The lines that an action writes, or None where it fails; all is undone. Where blocks are
+        open only the number of the lines counts."""
         closure, page = self.closure, self.page
         mark = self.reach.mark()
         closure.level -= 1
         facts, sums, written = dict(closure.facts), dict(self.reach.metric), len(self.written)
         lines, openings = list(page.lines), list(page.openings)
         try:
-            return len(page.lines) - len(lines) if action() else None
+            return [line.text for line in page.lines[len(lines) :]] if action() else None
         finally:
             closure.facts = facts
             self.reach.back_to(mark)

@@ -86,6 +86,7 @@ class ProofFiller:
         self.most_applied = most_applied  # how many theorems may be put in
         self.filled: dict[int, list[str]] = {}  # the arguments of `apply` steps with blanks
         self.place = 0  # of the author's next line
+        self.last: int | None = None  # the number of the step before which the walk ends
         self.at = theorem.first  # the number of the line at hand
 
     def run(self) -> FilledTheorem:
@@ -99,6 +100,17 @@ class ProofFiller:
         self.page.step = 0
         self.keep_before(self.theorem.last + 1)
         return FilledTheorem(self.theorem, self.page.lines, self.missing, list(self.applier.written), stopped, at)
+
+    def run_to(self, number: int) -> list[PageLine]:
+        """All lines of the theorem, with what the steps before one lacked."""
+        self.last = number
+        try:
+            self.walk()
+        except (OutOfTime, Unknown, Stopped):
+            pass
+        self.page.step = 0
+        self.keep_before(self.theorem.last + 1)
+        return self.page.lines
 
     def walk(self) -> None:
         """The whole proof."""
@@ -161,6 +173,8 @@ class ProofFiller:
         for step in block.steps:
             self.keep_before(step.line.number)
             self.page.indent, self.page.step, self.at = step.line.indent(), step.number, step.line.number
+            if step.number == self.last:
+                raise Stopped("this is the step that was asked for")
             self.step(step, goal)
 
     def inner(self, block: Block, goal: Goal, opening: int, objects: Objects, literals: list[Literal]) -> int:
