@@ -12,7 +12,7 @@ from . import program
 from .library import Faulty, Place
 from .messages import FAILED, FAULTY, WRONG_USE, Message, WrongUse, tell
 
-COMMANDS = "check facts find fmt graph rename trim draw fill strip".split()
+COMMANDS = "check facts find fmt give graph rename trim draw fill strip".split()
 
 
 class Command(Protocol):
@@ -91,7 +91,7 @@ def dispatch(words: list[str]) -> int:
         return 0
     if words[0] not in COMMANDS:
         raise WrongUse(f"no command is named `{words[0]}`; the commands are {' '.join(COMMANDS)}")
-    args = parser_of(words[0]).parse_args(words[1:])
+    args = parser_of(words[0]).parse_intermixed_args(words[1:])
     status = command(words[0]).run(args)
     sys.stdout.flush()
     return status
