@@ -21,17 +21,19 @@ class Way:
     lines: list[str]
     lacks: list[Literal] = field(default_factory=list)
     is_ready: bool = False
+    by: str = ""  # the transfer rule that a line `hence` stands for
 
-    def words(self) -> str:
-        """For people."""
-        lines = " ; then ".join(f"`{line}`" for line in self.lines)
+    def text(self) -> list[str]:
+        """For people: a line, or one more for each further line of the book."""
         if self.is_ready:
-            return f"ready: {lines}"
-        return f"lacks {' and '.join(f'`{spell(each)}`' for each in self.lacks)}: {lines}"
+            first, *rest = self.lines
+            return [f"ready: {first}", *("       " + line for line in rest)]
+        by = f"by {self.by}, " if self.by else ""
+        return [f"near:  {'; '.join(self.lines)}   {by}lacks {' and '.join(f'`{spell(each)}`' for each in self.lacks)}"]
 
     def data(self) -> dict[str, object]:
         """As an object of JSON."""
-        return {"lines": self.lines, "ready": self.is_ready, "lacks": [spell(each) for each in self.lacks]}
+        return {"lines": self.lines, "ready": self.is_ready, "lacks": [spell(each) for each in self.lacks], "by": self.by}
 
 
 @dataclass
@@ -87,13 +89,13 @@ class Diagnosis:
         found = []
         line = line_of(library, self.number)
         if line.strip():
-            found += marked(line, self.start, self.end)
-        found += [way.words() for way in self.ways if way.is_ready]
+            found += marked(line, self.start, self.end)[: 1 if self.step else 2]
+        found += [text for way in self.ways if way.is_ready for text in way.text()]
         found += [self.reason] if self.reason else []
         for premise in self.premises:
             found += premise_lines(premise, library)
         found += self.sentences
-        found += [way.words() for way in self.ways if not way.is_ready]
+        found += [text for way in self.ways if not way.is_ready for text in way.text()]
         found += value_lines(self.values)
         return found
 
@@ -152,7 +154,8 @@ def premise_lines(premise: Premise, library: Library) -> list[str]:
         more = "its negation is known"
     elif premise.turned is not None:
         more = f"there is `{spell(premise.turned)}`"
-    return [f"missing  {said:34} {more}".rstrip(), *("         " + way.words() for way in premise.ways)]
+    return [f"missing  {said:34} {more}".rstrip(),
+            *("         " + text for way in premise.ways for text in way.text())]
 
 
 def premise_data(premise: Premise, library: Library) -> dict[str, object]:
